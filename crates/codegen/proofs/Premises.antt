@@ -6,6 +6,7 @@ use Rattle.std.proofs.Common.{◌⊎◌, inl, inr}
 use Rattle.std.specs.Prelude.{slice_index_or, nat_lt, Contains, All}
 use Rattle.std.specs.List.{list_all}
 use Rattle.std.proofs.lemmas.List.{length-map}
+use Rattle.std.proofs.lemmas.Bool.{and_parts}
 use Rattle.regalloc2_names.specs.Register.{Register, VirtualRegister}
 use Rattle.regalloc2_names.specs.declared.RegClass.{RegClass}
 use Rattle.regalloc2_names.specs.declared.OperandConstraint.TheVariants.{Any, Reg, Reuse}
@@ -34,7 +35,7 @@ use Rattle.codegen_ir.specs.declared.procedure.Procedure.{Procedure}
 use Rattle.codegen.specs.Emitted.{register_of, operation_at, emitted, label_of, start_of}
 use Rattle.codegen.specs.Target.{IsTarget}
 use Rattle.codegen.proofs.Premise.{IsGeneral, IsHere, IsRightHere, IsCountHere, IsCountRead, IsRead, CanMove, IsPlaced, IsPlain, IsEnd, IsEmitted}
-use Rattle.codegen.proofs.Procedures.{both, insts_are, registers_known, blocks_have}
+use Rattle.codegen.proofs.Procedures.{insts_are, registers_known, blocks_have}
 
 no_member : (rs : List Register) (r : Register) → rs ≡ [] → Contains rs r → ⊥
 no_member [] r e h = let less : h.0 < 0 = h.1 in omega arith
@@ -155,9 +156,9 @@ not_same m n less = pick (nat_eq m n) refl
 
 is_read : (vregs : ℕ) (o : Operation) → vregs < 2 ^ 30 → list_all (λ x. nat_lt x.vreg.number vregs) (operands_of o) ≡ true → IsRead o
 is_read vregs (Shifting o to left (CountIn v)) few h =
-    let uses : (nat_lt left.number vregs && (nat_lt v.number vregs && true)) ≡ true = (both _ _ h).1 in
-    let last : (nat_lt v.number vregs && true) ≡ true = (both _ _ uses).1 in
-    let known : nat_lt v.number vregs ≡ true = (both _ _ last).0 in
+    let uses : (nat_lt left.number vregs && (nat_lt v.number vregs && true)) ≡ true = (and_parts _ _ h).1 in
+    let last : (nat_lt v.number vregs && true) ≡ true = (and_parts _ _ uses).1 in
+    let known : nat_lt v.number vregs ≡ true = (and_parts _ _ last).0 in
     not_same v.number 1073741823 (let less : v.number < vregs = ltb-true _ _ known in omega arith)
 is_read vregs (Shifting o to left (CountOf n)) few h = tt
 is_read vregs o few h = tt

@@ -1,8 +1,9 @@
 -- What a procedure's function is, instruction by instruction and block by block.
-use Rattle.std.proofs.Common.{ℕ, zero, suc, ◌≡◌, ◌-◌, ◌<◌, ◌≤◌, Bool, true, false, ◌&&◌, List, [], ◌∷◌, length, map, refl, arith, leb-true}
+use Rattle.std.proofs.Common.{ℕ, zero, suc, ◌≡◌, ◌-◌, ◌<◌, ◌≤◌, true, false, List, [], ◌∷◌, length, map, refl, arith, leb-true}
 use Rattle.std.specs.Prelude.{slice_index_or, slice_get, nat_lt}
 use Rattle.std.specs.List.{list_all}
 use Rattle.std.proofs.lemmas.List.{length-map}
+use Rattle.std.proofs.lemmas.Bool.{and_parts}
 use Rattle.regalloc2_names.specs.Register.{Register}
 use Rattle.regalloc2_names.specs.RegisterSet.{has_register}
 use Rattle.regalloc2_function.specs.FunctionValue.{InstValue, no_inst, no_block, block_at, inst_at}
@@ -27,23 +28,18 @@ each_inst [] i less = absurd (omega arith)
 each_inst (l ∷ ls) zero less = record { operands = refl; clobbers = l.none; branches = refl; returns = refl }
 each_inst (l ∷ ls) (suc i) less = each_inst ls i (omega arith)
 
-pub both : (a b : Bool) → (a && b) ≡ true → (a ≡ true) × (b ≡ true)
-both true true e = (refl, refl)
-both true false e = absurd cc
-both false b e = absurd cc
-
 each_known : (n : ℕ) (lines : List Line) (i : ℕ) → list_all (knows_registers n) lines ≡ true → i < length lines →
     list_all (λ o. nat_lt o.vreg.number n) (operands_of (operation_at (operations_of lines) i)) ≡ true
 each_known n [] i h less = absurd (omega arith)
-each_known n (l ∷ ls) zero h less = (both _ _ h).0
-each_known n (l ∷ ls) (suc i) h less = each_known n ls i (both _ _ h).1 (omega arith)
+each_known n (l ∷ ls) zero h less = (and_parts _ _ h).0
+each_known n (l ∷ ls) (suc i) h less = each_known n ls i (and_parts _ _ h).1 (omega arith)
 
 each_block : (os : List Operation) (parts : List Part) (b : ℕ) → list_all (has_successors os) parts ≡ true → b < length parts →
     are_enough (length (slice_index_or (map block_of parts) b no_block).succs)
     (slice_get os ((slice_index_or (map block_of parts) b no_block).range.end - 1)) ≡ true
 each_block os [] b h less = absurd (omega arith)
-each_block os (p ∷ ps) zero h less = (both _ _ h).0
-each_block os (p ∷ ps) (suc b) h less = each_block os ps b (both _ _ h).1 (omega arith)
+each_block os (p ∷ ps) zero h less = (and_parts _ _ h).0
+each_block os (p ∷ ps) (suc b) h less = each_block os ps b (and_parts _ _ h).1 (omega arith)
 
 enough : (os : List Operation) (i count : ℕ) → i < length os → are_enough count (slice_get os i) ≡ true → wanted_by (operation_at os i) ≤ count
 enough [] i count less h = absurd (omega arith)

@@ -6,7 +6,6 @@
 #![tactic(auto)]
 
 use compile_program::{Task, UNUSABLE, answer, refuse_words};
-use std::alloc::AllocError;
 use std::env::{self, Env};
 use std::fs::File;
 use std::io::{self, BufWriter};
@@ -14,11 +13,7 @@ use std::process::ExitCode;
 
 /// The words after the program's name.
 fn words(rt: &(impl Env + AllocGlobal)) -> io::Result<Vec<String>> {
-    let mut words = Vec::new(rt.alloc());
-    for word in env::args(rt)?.skip(1) {
-        words.push(word).map_err(AllocError::from)?;
-    }
-    Ok(words)
+    Ok(env::args(rt)?.skip(1).collect(rt.alloc())?)
 }
 
 /// Does a task, and answers the status.

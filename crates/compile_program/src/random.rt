@@ -1,7 +1,8 @@
 //! Functions that look random, as texts.
 
-ghost use Rattle.std.specs.Prelude.{◌≡◌, ◌<◌};
+ghost use Rattle.std.specs.Prelude.{◌<◌};
 
+use super::numbers::Random;
 use std::alloc::{AllocError, Global};
 
 /// The operations of two numbers, additions more often than others.
@@ -31,31 +32,6 @@ const SHIFTS: [&str; 3] = ["shift_left", "shift_right", "signed_shift_right"];
 
 /// Where the conditions begin among the operations.
 const CONDITIONS: usize = 8;
-
-/// Numbers that look random, the same ones for the same seed.
-#[derive(Drop)]
-struct Random {
-    state: u64,
-}
-
-impl Random {
-    /// The next number.
-    fn next(&mut self) -> u64 {
-        self.state = self
-            .state
-            .wrapping_mul(6_364_136_223_846_793_005)
-            .wrapping_add(1_442_695_040_888_963_407);
-        self.state ^ (self.state >> 29)
-    }
-
-    /// The next number, below `count`.
-    fn below(&mut self, count: usize) -> usize
-        requires { 0 < count }
-        ensures { result < count }
-    {
-        (self.next() >> 33) as usize % count
-    }
-}
 
 /// A function that is being written. It takes three arguments.
 #[derive(Drop)]
@@ -248,7 +224,7 @@ impl Draft {
 /// The text of a function of three arguments that looks random, the same for the same seed. It ends whatever they are.
 pub fn random_program(alloc: Global, seed: u64) -> Result<String, AllocError> {
     let mut draft = Draft {
-        random: Random { state: seed },
+        random: Random::new(seed),
         text: String::from_str(alloc, "block0:\n")?,
         known: Vec::new(alloc),
         num_vregs: 0,

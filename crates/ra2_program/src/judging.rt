@@ -11,6 +11,7 @@ ghost use Rattle.ra2_program.specs.Text.{checked_line};
 
 use super::task::Task;
 use regalloc2::checker::{Checker, CheckerError};
+use regalloc2_checker::FaultLine;
 use regalloc2::{Algorithm, Function, MachineEnv, Output, RegallocOptions, run};
 use regalloc2_tool::listing::write_listing;
 use regalloc2_tool::refusal::number_of;
@@ -27,7 +28,8 @@ const OPTIONS: RegallocOptions = RegallocOptions {
 fn write_finding<A: Allocator, O: Write>(error: &CheckerError<A>, out: &mut O) -> io::Result<bool>
     ensures { IfOk result (λ b. (b ≡ false) × Appends (O.contents out.old) (O.contents out.new) (findings_text (error.now ∷ []))) }
 {
-    writeln!(out, "{error}")?;
+    let line = FaultLine(error);
+    writeln!(out, "{line}")?;
     Ok(false)
 }
 

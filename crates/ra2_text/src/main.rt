@@ -7,7 +7,6 @@
 mod program;
 mod task;
 
-use std::alloc::AllocError;
 use std::env::{self, Env};
 use std::fs::File;
 use std::io::{self, BufWriter};
@@ -19,11 +18,7 @@ const UNUSABLE: u8 = 2;
 
 /// The program's words, its name the first.
 fn words(rt: &(impl Env + AllocGlobal)) -> io::Result<Vec<String>> {
-    let mut words = Vec::new(rt.alloc());
-    for word in env::args(rt)? {
-        words.push(word).map_err(AllocError::from)?;
-    }
-    Ok(words)
+    Ok(env::args(rt)?.collect(rt.alloc())?)
 }
 
 /// Does a task, and answers the status.

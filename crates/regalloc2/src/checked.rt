@@ -18,6 +18,8 @@ use regalloc2_fastalloc::{RegallocOptions, run};
 use regalloc2_function::{Function, MachineEnv, Output};
 use regalloc2_names::RegAllocError;
 use std::alloc::{Allocator, Global};
+use std::error::Error;
+use std::fmt;
 
 /// Why a run that is checked gives no output.
 #[derive(Debug, Drop)]
@@ -29,6 +31,20 @@ pub enum CheckedRunError<A: Allocator = Global> {
     /// The checker ran out of memory.
     Unjudged,
 }
+
+impl<A: Allocator> fmt::Display for CheckedRunError<A> {
+    fn fmt<W: fmt::Write>(&self, f: &mut fmt::Formatter<W>) -> fmt::Result {
+        match self {
+            CheckedRunError::Refused(error) => write!(f, "no registers were allocated: {error}"),
+            CheckedRunError::Faults(errors) => {
+                write!(f, "the checker found faults in the output: {errors}")
+            }
+            CheckedRunError::Unjudged => write!(f, "the checker had no memory"),
+        }
+    }
+}
+
+impl<A: Allocator + fmt::Debug> Error for CheckedRunError<A> {}
 
 /// The error that the checker's errors come to: `Unjudged` exactly where they are `Memory` alone.
 fn error_of<A: Allocator>(errors: CheckerErrors<A>) -> CheckedRunError<A>

@@ -40,7 +40,9 @@ impl<A: Allocator> fmt::Display for AllocateError<A> {
                 write!(f, "the machine doesn't suit the function: {misfit}")
             }
             AllocateError::Refused(error) => write!(f, "no registers were allocated: {error}"),
-            AllocateError::Faults(_) => write!(f, "the checker found faults in the output"),
+            AllocateError::Faults(errors) => {
+                write!(f, "the checker found faults in the output: {errors}")
+            }
             AllocateError::Unjudged => write!(f, "the checker had no memory"),
         }
     }

@@ -22,11 +22,7 @@ use task::{Task, is_performed};
 
 /// The words after the program's name.
 fn words(rt: &(impl Env + AllocGlobal)) -> std::io::Result<Vec<String>> {
-    let mut words = Vec::new(rt.alloc());
-    for word in env::args(rt)?.skip(1) {
-        words.push(word).map_err(std::alloc::AllocError::from)?;
-    }
-    Ok(words)
+    Ok(env::args(rt)?.skip(1).collect(rt.alloc())?)
 }
 
 /// What the words ask for, and how many times.

@@ -1,8 +1,8 @@
 -- The edges out of blocks whose branches define are noted one after another, with what is stored behind them.
-use Rattle.std.proofs.Common.{ℕ, ◌≡◌, ◌+◌, ◌-◌, ◌<◌, ◌≤◌, ◌⊎◌, inl, inr, Bool, true, false, List, [], ◌∷◌, ◌++◌, length, refl, sym, ap, ◌∙◌, subst, arith}
+use Rattle.std.proofs.Common.{ℕ, ◌≡◌, ◌+◌, ◌-◌, ◌<◌, ◌≤◌, inl, inr, Bool, true, false, List, [], ◌∷◌, ◌++◌, length, refl, sym, ap, ◌∙◌, subst, arith}
 use Rattle.std.proofs.Common.{length-append, append_assoc, take, drop, length-drop}
 use Rattle.std.specs.Prelude.{Option, None, Some, IsSome, slice_index, slice_index_or, slice_range, Contains, ◌↔◌, ◌||◌}
-use Rattle.std.proofs.lemmas.Bool.{cases_eq, cases_lt, cases_Bool}
+use Rattle.std.proofs.lemmas.Bool.{cases_eq, cases_lt, cases_Bool, or_cases, or_left, or_right}
 use Rattle.std.proofs.lemmas.List.{get_or_append_left, get_or-append-add, drop-append-le, take-append-le}
 use Rattle.std.proofs.lemmas.List.Elements.{Contains-append_left, Contains-append_right, Contains-append_cases, Contains-get_or}
 use Rattle.std.proofs.Math.Seq.{drop-append_seam}
@@ -32,23 +32,11 @@ IsHeldAmong operands count r = (k : ℕ) × (k < count) × (fixed_definition (op
 abbrev pub Holds : List OperandValue → ℕ → PRegSet → Type 0
 Holds operands count held = (r : Register) → (has_register held r ≡ true) ↔ IsHeldAmong operands count r
 
-either_of : (a b : Bool) → (a || b) ≡ true → (a ≡ true) ⊎ (b ≡ true)
-either_of true b h = inl refl
-either_of false b h = inr h
-
-or_left : (a b : Bool) → a ≡ true → (a || b) ≡ true
-or_left true b h = refl
-or_left false b h = absurd cc
-
-or_right : (a b : Bool) → b ≡ true → (a || b) ≡ true
-or_right true b h = refl
-or_right false b h = h
-
 -- one fixed definition more
 pub holds_more : (ops : List OperandValue) (k : ℕ) (p : Register) (old new : PRegSet) → fixed_definition (op_at ops k) ≡ Some p →
     ((r : Register) → has_register new r ≡ is_register p r || has_register old r) → Holds ops k old → Holds ops (k + 1) new
 holds_more ops k p old new is now h r = (
-  λ t. elim (either_of (is_register p r) (has_register old r) (sym (now r) ∙ t)) [
+  λ t. elim (or_cases (is_register p r) (has_register old r) (sym (now r) ∙ t)) [
     | inl mine ↦ (k, omega arith, is ∙ ap Some (is_register-true p r mine))
     | inr was ↦ (let x = (h r).0 was in let lt = x.1 in (x.0, omega (arith, lt), x.2))
   ],

@@ -1,8 +1,10 @@
 -- Lemmas on the moves of a call that have been seen so far.
-use Rattle.std.proofs.Common.{ℕ, zero, suc, ◌≡◌, ◌≢◌, ◌<◌, ◌≤◌, ◌+◌, Bool, true, false, List, [], ◌∷◌, length, get_or, refl, sym, ap, ◌∙◌, inl, inr, ◌⊎◌}
+use Rattle.std.proofs.Common.{ℕ, ◌≡◌, ◌≢◌, ◌<◌, ◌≤◌, ◌+◌, true, false, length, get_or, refl, sym, ap, ◌∙◌, inl, inr, ◌⊎◌}
 use Rattle.std.proofs.Common.{⊎_elim, subst, arith, None, Some}
 use Rattle.std.specs.Prelude.{◌||◌}
-use Rattle.std.proofs.lemmas.Bool.{cases_lt}
+use Rattle.std.proofs.lemmas.Bool.{cases_lt, or_cases, or_left, or_right}
+use Rattle.std.proofs.lemmas.List.{get_or_default}
+use Rattle.regalloc2_index.proofs.Numbers.{below_or_last}
 use Rattle.regalloc2_names.specs.declared.sets.PRegSet.{PRegSet}
 use Rattle.regalloc2_names.specs.Place.{Place, NoPlace, InRegister, InSlot, is_place, slot_of_place}
 use Rattle.regalloc2_names.specs.PlaceBits.{index_of_place}
@@ -22,25 +24,15 @@ slot_there (InSlot n) s e = refl
 pub slot_not : (p : Place) → None ≡ slot_of_place p → (n : ℕ) → p ≢ InSlot n
 slot_not p e n is = let no : None ≡ Some n = e ∙ ap slot_of_place is in cc
 
--- a number below the next one is below this one or it
-pub split_more : (k n : ℕ) → k < n + 1 → (k < n) ⊎ (k ≡ n)
-split_more k n lt = ⊎_elim (λ l. inl l) (λ h. inr (omega arith)) (cases_lt k n)
-
 -- a number that isn't above another is below it or it
 pub split_le : (a b : ℕ) → a ≤ b → (a < b) ⊎ (a ≡ b)
 split_le a b le = ⊎_elim (λ l. inl l) (λ h. inr (omega arith)) (cases_lt a b)
-
--- inside a list it is no matter what stands for a missing element
-pub same_at : {X : Type 0} (xs : List X) (i : ℕ) (d e : X) → i < length xs → get_or xs i d ≡ get_or xs i e
-same_at [] i d e lt = absurd (omega arith)
-same_at (x ∷ xs) zero d e lt = refl
-same_at (x ∷ xs) (suc i) d e lt = same_at xs i d e (omega arith)
 
 -- a move of a list without fault is from a place and to one
 pub move_real : (ms : CallMoves) (k : ℕ) (m : Place × Place) → HasNone (length ms) (NamesNone ms) → k < length ms → m ≡ get_or ms k m →
     (m.0 ≢ NoPlace) × (m.1 ≢ NoPlace)
 move_real ms k m h lt is =
-    let e : m ≡ call_move ms k = is ∙ same_at ms k m (NoPlace, NoPlace) lt in (
+    let e : m ≡ call_move ms k = is ∙ get_or_default ms k m (NoPlace, NoPlace) lt in (
       (λ n. h k lt (inl (sym (ap (λ (x : Place × Place). x.0) e) ∙ n))),
       (λ n. h k lt (inr (sym (ap (λ (x : Place × Place). x.1) e) ∙ n))),
     )
@@ -59,7 +51,7 @@ named_here ms n p is = (n, (omega arith), is)
 
 -- a move more names a place, or an earlier one did
 pub named_split : (ms : CallMoves) (n : ℕ) (p : Place) → IsNamedBelow ms (n + 1) p → (source ms n ≡ p) ⊎ ((target ms n ≡ p) ⊎ IsNamedBelow ms n p)
-named_split ms n p (k, lt, is) = by (split_more k n lt)
+named_split ms n p (k, lt, is) = by (below_or_last k n lt)
   where
     by : (k < n) ⊎ (k ≡ n) → (source ms n ≡ p) ⊎ ((target ms n ≡ p) ⊎ IsNamedBelow ms n p)
     by (inl less) = inr (inr (k, less, is))
@@ -69,17 +61,6 @@ named_split ms n p (k, lt, is) = by (split_more k n lt)
 pub record AreNamed (ms : CallMoves) (n : ℕ) (s : PRegSet) : Type 0 where
   pub yes : (r : Register) → has_register s r ≡ true → IsNamedBelow ms n (InRegister r)
   pub no : (r : Register) → IsNamedBelow ms n (InRegister r) → has_register s r ≡ true
-
-either_true : (a b : Bool) → (a || b) ≡ true → (a ≡ true) ⊎ (b ≡ true)
-either_true true b h = inl refl
-either_true false b h = inr h
-
-true_left : (a b : Bool) → a ≡ true → (a || b) ≡ true
-true_left a b e = ap (λ x. x || b) e
-
-true_right : (a b : Bool) → b ≡ true → (a || b) ≡ true
-true_right true b e = refl
-true_right false b e = e
 
 -- with the registers of move n put in, the set has those that one move more names
 pub named_more : (ms : CallMoves) (n : ℕ) (s t u : PRegSet) → AreNamed ms n s →
@@ -91,15 +72,15 @@ named_more ms n s t u h first second = record {
       (λ a. ⊎_elim
       (λ b. named_here ms n (InRegister r) (inl (is_place-true (source ms n) (InRegister r) b)))
       (λ b. named_later ms n (InRegister r) (h.yes r b))
-      (either_true (is_place (source ms n) (InRegister r)) (has_register s r) (sym (first r) ∙ a)))
-      (either_true (is_place (target ms n) (InRegister r)) (has_register t r) (sym (second r) ∙ e));
+      (or_cases (is_place (source ms n) (InRegister r)) (has_register s r) (sym (first r) ∙ a)))
+      (or_cases (is_place (target ms n) (InRegister r)) (has_register t r) (sym (second r) ∙ e));
   no = λ r x. ⊎_elim
-      (λ a. second r ∙ true_right (is_place (target ms n) (InRegister r)) (has_register t r)
-      (first r ∙ true_left (is_place (source ms n) (InRegister r)) (has_register s r) (is_place-along (source ms n) (InRegister r) a)))
+      (λ a. second r ∙ or_right (is_place (target ms n) (InRegister r)) (has_register t r)
+      (first r ∙ or_left (is_place (source ms n) (InRegister r)) (has_register s r) (is_place-along (source ms n) (InRegister r) a)))
       (λ y. ⊎_elim
-      (λ a. second r ∙ true_left (is_place (target ms n) (InRegister r)) (has_register t r) (is_place-along (target ms n) (InRegister r) a))
-      (λ a. second r ∙ true_right (is_place (target ms n) (InRegister r)) (has_register t r)
-      (first r ∙ true_right (is_place (source ms n) (InRegister r)) (has_register s r) (h.no r a)))
+      (λ a. second r ∙ or_left (is_place (target ms n) (InRegister r)) (has_register t r) (is_place-along (target ms n) (InRegister r) a))
+      (λ a. second r ∙ or_right (is_place (target ms n) (InRegister r)) (has_register t r)
+      (first r ∙ or_right (is_place (source ms n) (InRegister r)) (has_register s r) (h.no r a)))
       y)
       (named_split ms n (InRegister r) x);
 }
@@ -121,19 +102,19 @@ taken_more ms f n s t h put = record {
   yes = λ r e. ⊎_elim
       (λ a. inr (inl (n, (omega arith), register_along (free_at f n) r a)))
       (λ a. ⊎_elim (λ b. inl b) (λ y. ⊎_elim (λ j. inr (inl (j.0, (omega (arith, j.1)), j.2))) (λ b. inr (inr b)) y) (h.yes r a))
-      (either_true (is_register (free_at f n) r) (has_register s r) (sym (put r) ∙ e));
+      (or_cases (is_register (free_at f n) r) (has_register s r) (sym (put r) ∙ e));
   no = λ r x. ⊎_elim
-      (λ a. put r ∙ true_right (is_register (free_at f n) r) (has_register s r) (h.no r (inl a)))
-      (λ y. ⊎_elim (λ j. earlier r j.0 j.1 j.2 (split_more j.0 n j.1))
-      (λ b. put r ∙ true_right (is_register (free_at f n) r) (has_register s r) (h.no r (inr (inr b)))) y)
+      (λ a. put r ∙ or_right (is_register (free_at f n) r) (has_register s r) (h.no r (inl a)))
+      (λ y. ⊎_elim (λ j. earlier r j.0 j.1 j.2 (below_or_last j.0 n j.1))
+      (λ b. put r ∙ or_right (is_register (free_at f n) r) (has_register s r) (h.no r (inr (inr b)))) y)
       x;
 }
   where
     earlier : (r : Register) (j : ℕ) → j < n + 1 → free_at f j ≡ r → (j < n) ⊎ (j ≡ n) → has_register t r ≡ true
-    earlier r j lt is (inl less) = put r ∙ true_right (is_register (free_at f n) r) (has_register s r) (h.no r (inr (inl (j, less, is))))
+    earlier r j lt is (inl less) = put r ∙ or_right (is_register (free_at f n) r) (has_register s r) (h.no r (inr (inl (j, less, is))))
     earlier r j lt is (inr same) =
         let here : InRegister (free_at f n) ≡ InRegister r = ap InRegister (ap (free_at f) (sym same) ∙ is) in
-        put r ∙ true_left (is_register (free_at f n) r) (has_register s r) (is_place-along (InRegister (free_at f n)) (InRegister r) here)
+        put r ∙ or_left (is_register (free_at f n) r) (has_register s r) (is_place-along (InRegister (free_at f n)) (InRegister r) here)
 
 -- a free register that the set doesn't have isn't in use
 pub taken_not : {A : Type 0} (ms : CallMoves) (f : CallFrame A) (n : ℕ) (s : PRegSet) → AreTaken ms f n s → false ≡ has_register s (free_at f n) →

@@ -1,11 +1,11 @@
 -- A table of the moves of a call by destination: which source each has.
 use Rattle.std.proofs.Common.{ℕ, ◌≡◌, ◌<◌, ◌+◌, Bool, true, false, cond, Option, None, Some, nat_eq, refl, sym, ap, ◌∙◌, inl, inr, ◌⊎◌, ⊎_elim, subst}
 use Rattle.std.proofs.Common.{arith, eqb-true, eq-eqb}
+use Rattle.regalloc2_index.proofs.Numbers.{below_or_last}
 use Rattle.regalloc2_names.specs.Place.{Place}
 use Rattle.regalloc2_names.specs.PlaceBits.{bits_of_place, place_of_bits}
 use Rattle.regalloc2_parts.specs.AtOnce.{IsPlace}
 use Rattle.regalloc2_callmoves.specs.CallMoves.{CallMoves, source, target}
-use Rattle.regalloc2_callmoves.proofs.CallPlaces.{split_more}
 
 abbrev pub Words : Type 0
 Words = ℕ → Option ℕ
@@ -55,12 +55,12 @@ module _ (ms : CallMoves) (n : ℕ) (t u : Words) (h : IsTable ms n t) (from : I
   -- with the words of move n put in, the table has those of one move more
   pub table_more : IsTable ms (n + 1) u
   table_more = record {
-    there = λ j lt. all_there j lt (split_more j n lt);
+    there = λ j lt. all_there j lt (below_or_last j n lt);
     back = λ w v e. ⊎_elim
         (λ here. (n, (omega arith), sym here.0, some_word v (from_word ms n) (sym e ∙ here.1)))
         (λ same. let j = h.back w v (sym same ∙ e) in (j.0, (omega (arith, j.1)), j.2, j.3))
         (put_case w (nat_eq (to_word ms n) w) refl);
-    words = λ j lt. all_words j (split_more j n lt);
+    words = λ j lt. all_words j (below_or_last j n lt);
   }
 
 -- v is the word of the place p, which is q, and gives it back

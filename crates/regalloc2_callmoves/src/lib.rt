@@ -14,6 +14,8 @@ use regalloc2_names::{Allocation, PReg, PRegSet};
 use regalloc2_parts::moves::{MoveFault, MoveVec, ParallelMoves};
 use smallvec::SmallVec;
 use std::alloc::{Allocator, Global};
+use std::error::Error;
+use std::fmt;
 use std::ops::Range;
 
 /// What the moves of a call may use, beside the places that they name.
@@ -45,6 +47,21 @@ pub enum CallFault {
     /// A growth was refused.
     Memory,
 }
+
+/// Says what is wrong, as `move 2 names no place`.
+impl fmt::Display for CallFault {
+    fn fmt<W: fmt::Write>(&self, f: &mut fmt::Formatter<W>) -> fmt::Result {
+        match self {
+            Self::NoneNamed(index) => write!(f, "move {index} names no place"),
+            Self::TwoSources(place) => write!(f, "two moves to {place} have different sources"),
+            Self::InUse(place) => write!(f, "{place} is to be free, and is in use"),
+            Self::NoSlot => write!(f, "a move needs a slot, and the frame has none left"),
+            Self::Memory => write!(f, "out of memory"),
+        }
+    }
+}
+
+impl Error for CallFault {}
 
 impl From<MoveFault> for CallFault {
     ghost use Rattle.std.specs.Prelude.{◌≡◌};

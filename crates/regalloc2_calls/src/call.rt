@@ -18,7 +18,6 @@ use regalloc2_names::RegAllocError;
 use regalloc2_serialize::{SerializableFunction, StoredFunction};
 use regalloc2_svg::Picture;
 use regalloc2_text::{WriteError, write};
-use regalloc2_tool::findings::FindingText;
 use regalloc2_tool::listing::write_listing;
 use regalloc2_tool::refusal::RefusalText;
 use regalloc2_tool::stored_fault::FaultText;
@@ -121,8 +120,7 @@ fn write_findings<W: Write>(errors: &[CheckerError], to: &mut W) -> Result<(), C
         if let CheckerError::Memory = error {
             return Err(CallError::Memory);
         }
-        let finding = FindingText(error);
-        writeln!(to, "{finding}")?;
+        writeln!(to, "{error}")?;
     }
     Ok(())
 }

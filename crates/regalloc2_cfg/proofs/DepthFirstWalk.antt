@@ -2,8 +2,7 @@
 use Rattle.std.proofs.Common.{ℕ, zero, suc, ◌≡◌, ◌+◌, ◌-◌, ◌<◌, ◌≤◌, Bool, true, false, List, [], ◌∷◌, ◌++◌, length, drop, set, get_or, refl, sym, ap}
 use Rattle.std.proofs.Common.{◌∙◌, subst, append_assoc, add-one, arith}
 use Rattle.std.specs.Prelude.{◌||◌, nat_eq, replicate, reverse, All}
-use Rattle.std.proofs.lemmas.Bool.{cases_eq, cases_Bool}
-use Rattle.std.proofs.lemmas.Bool.Decides.{Decides-eqb}
+use Rattle.std.proofs.lemmas.Bool.{cases_eq, ne_eqb}
 use Rattle.std.proofs.Common.{inl, inr, eq-eqb, ◌≢◌}
 use Rattle.std.proofs.Math.Seq.{drop-cons}
 use Rattle.std.proofs.lemmas.List.Elements.{All-append, All-cons, All-nil}
@@ -164,16 +163,13 @@ pub marks_none : (n : ℕ) → Marks (replicate n false) []
 unfolding met
 marks_none n k less = get_or-replicate n k false false (simp length-replicate at less)
 
-eqb_other : (x y : ℕ) → x ≢ y → nat_eq x y ≡ false
-eqb_other x y ne = elim (cases_Bool (nat_eq x y)) [ inl e ↦ absurd (ne ((Decides-eqb x y).0 e)) | inr e ↦ e ]
-
 -- to mark a block is to add it to those that the walk has met
 pub marks_more : (vs : List Bool) (seen : List ℕ) (x : ℕ) → x < length vs → Marks vs seen → Marks (set vs x true) (x ∷ seen)
 unfolding met
 marks_more vs seen x in_range m k less =
     elim (cases_eq x k) [
       | inl e ↦ subst (λ z. get_or (set vs x true) z false ≡ (nat_eq x z || met seen z)) e (rw (get_or-set_same, eq-eqb x x refl) refl)
-      | inr ne ↦ let other : k ≢ x = λ q. ne (sym q) in rw (get_or-set_other) (rw (eqb_other x k ne) (m k (simp length-set at less)))
+      | inr ne ↦ let other : k ≢ x = λ q. ne (sym q) in rw (get_or-set_other) (rw (ne_eqb x k ne) (m k (simp length-set at less)))
     ]
 
 -- each entry of a walk's stack is of one of so many blocks

@@ -1,20 +1,12 @@
 -- A walk leaves each block once, and just those that can be reached.
 use Rattle.std.proofs.Common.{ℕ, ◌≡◌, Bool, true, false, List, [], ◌∷◌, ◌++◌, ◌⊎◌, inl, inr, refl, sym, ◌∙◌, subst, eq-eqb}
-use Rattle.std.specs.Prelude.{◌||◌, nat_eq}
-use Rattle.std.proofs.lemmas.Bool.{cases_Bool}
+use Rattle.std.specs.Prelude.{nat_eq}
+use Rattle.std.proofs.lemmas.Bool.{cases_Bool, false_from_ne_true, or_cases}
 use Rattle.std.proofs.lemmas.Bool.Decides.{Decides-eqb}
 use Rattle.regalloc2_cfg.specs.Leaves.{met, Leaves, Once, Reaches}
 use Rattle.regalloc2_cfg.specs.Leaves.Leaves.{done, again, enter}
 use Rattle.regalloc2_cfg.specs.Leaves.Reaches.{here, onward}
 use Rattle.regalloc2_cfg.proofs.DepthFirstWalk.{same_mix}
-
-or_true : (a b : Bool) → (a || b) ≡ true → (a ≡ true) ⊎ (b ≡ true)
-or_true true b h = inl refl
-or_true false b h = inr h
-
-not_true : (b : Bool) → (b ≡ true → ⊥) → b ≡ false
-not_true true h = absurd (h refl)
-not_true false h = refl
 
 met-here : (x : ℕ) (xs : List ℕ) → met (x ∷ xs) x ≡ true
 unfolding met
@@ -26,7 +18,7 @@ met-there y xs x h = elim (cases_Bool (nat_eq y x)) [ inl e ↦ rw e refl | inr 
 
 met-cases : (y : ℕ) (xs : List ℕ) (x : ℕ) → met (y ∷ xs) x ≡ true → (y ≡ x) ⊎ (met xs x ≡ true)
 unfolding met
-met-cases y xs x h = elim (or_true (nat_eq y x) (met xs x) h) [ inl e ↦ inl ((Decides-eqb y x).0 e) | inr e ↦ inr e ]
+met-cases y xs x h = elim (or_cases (nat_eq y x) (met xs x) h) [ inl e ↦ inl ((Decides-eqb y x).0 e) | inr e ↦ inr e ]
 
 met-left : (xs ys : List ℕ) (x : ℕ) → met xs x ≡ true → met (xs ++ ys) x ≡ true
 unfolding met
@@ -101,7 +93,7 @@ apart succs {seen = seen} (enter {b = b} {inner = inner} {rest = rest} m i r) x 
 once-append : (xs ys : List ℕ) → Once xs → Once ys → ((x : ℕ) → met xs x ≡ true → met ys x ≡ true → ⊥) → Once (xs ++ ys)
 once-append [] ys a b c = b
 once-append (x ∷ xs) ys a b c = (
-  not_true (met (xs ++ ys) x) (λ h. elim (met-append_cases xs ys x h) [ inl l ↦ clash l a.0 | inr r ↦ c x (met-here x xs) r ]),
+  false_from_ne_true (met (xs ++ ys) x) (λ h. elim (met-append_cases xs ys x h) [ inl l ↦ clash l a.0 | inr r ↦ c x (met-here x xs) r ]),
   once-append xs ys a.1 b (λ y p q. c y (met-there x xs y p) q),
 )
 
@@ -111,7 +103,7 @@ leaves_once succs done = tt
 leaves_once succs (again m l) = leaves_once succs l
 leaves_once succs {seen = seen} (enter {b = b} {inner = inner} {rest = rest} m i r) =
     once-append inner (b ∷ rest) (leaves_once succs i)
-    (not_true (met rest b) (λ h. apart succs r b h (met-right inner (b ∷ seen) b (met-here b seen))), leaves_once succs r)
+    (false_from_ne_true (met rest b) (λ h. apart succs r b h (met-right inner (b ∷ seen) b (met-here b seen))), leaves_once succs r)
     (λ x p q. elim (met-cases b rest x q) [
       | inl e ↦ apart succs i x p (subst (λ z. met (b ∷ seen) z ≡ true) e (met-here b seen))
       | inr in_rest ↦ apart succs r x in_rest (met-left inner (b ∷ seen) x p)

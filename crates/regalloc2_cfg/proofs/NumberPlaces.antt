@@ -4,12 +4,9 @@ use Rattle.std.proofs.Common.{◌++◌, length, slice_index_or, slice_set, take,
 use Rattle.std.proofs.Math.Seq.{take-set-lt}
 use Rattle.std.proofs.lemmas.List.{take_more_set}
 use Rattle.std.proofs.lemmas.Bool.Decides.{nat_tests}
+use Rattle.std.proofs.lemmas.Bool.{ne_eqb}
 use Rattle.regalloc2_cfg.specs.Numbers.{word_of}
 use Rattle.regalloc2_cfg.specs.NumberWords.{Lacks, KeysApart, IsPlaceFor}
-
--- numbers that differ don't pass the test for equality
-pub nat_eq-apart : (a b : ℕ) → a ≢ b → nat_eq a b ≡ false
-nat_eq-apart a b ne = grind (arith, nat_tests)
 
 apart-flip : (a b : ℕ) → nat_eq a b ≡ false → nat_eq b a ≡ false
 apart-flip a b e = grind (arith, nat_tests)
@@ -19,7 +16,7 @@ pub Lacks-from_each : (key : ℕ) (es : List (ℕ × ℕ)) → ((k : ℕ) → k 
 unfolding Lacks
 Lacks-from_each key [] h = tt
 Lacks-from_each key (e ∷ es) h =
-    (nat_eq-apart key e.0 (λ q. h 0 (omega arith) (sym q)), Lacks-from_each key es (λ k less. h (suc k) (omega arith)))
+    (ne_eqb key e.0 (λ q. h 0 (omega arith) (sym q)), Lacks-from_each key es (λ k less. h (suc k) (omega arith)))
 
 Lacks-at : (key : ℕ) (es : List (ℕ × ℕ)) (p : ℕ) → Lacks key es → p < length es → nat_eq key (slice_index_or es p (0, 0)).0 ≡ false
 unfolding Lacks

@@ -4,7 +4,7 @@ use Rattle.std.proofs.Common.{List, [], ◌∷◌, ◌++◌, length, get_or, set
 use Rattle.std.proofs.Common.{eq-eqb, add-one, append_assoc, subst, inl, inr, arith}
 use Rattle.std.specs.Prelude.{cond, flat_map, nat_eq}
 use Rattle.std.proofs.Math.Seq.{drop-cons}
-use Rattle.std.proofs.lemmas.Bool.{cases_eq}
+use Rattle.std.proofs.lemmas.Bool.{cases_eq, ne_eqb}
 use Rattle.std.proofs.lemmas.List.{get_or_at, get_or-set_other, get_or-set_same, length-append, replicate-append-replicate, take_all}
 use Rattle.std.proofs.lemmas.List.Sums.{count_by_more_no, count_by_more_yes, sum_by-append}
 use Rattle.std.proofs.lemmas.List.Folds.{sum_by-replicate}
@@ -13,7 +13,7 @@ use Rattle.regalloc2_function.specs.FunctionValue.{FunctionValue, block_at}
 use Rattle.regalloc2_function.specs.WellFormed.{EachBlock, PredecessorsAgree, SuccessorsAreBlocks, times_in}
 use Rattle.regalloc2_cfg.specs.Ways.{ListedInOrder, MetSoFar, ways_of_first}
 use Rattle.regalloc2_cfg.proofs.ListsInParts.{numbers_more, numbers_split}
-use Rattle.regalloc2_cfg.proofs.PredsListed.{all_ways_end, all_ways_more, differ}
+use Rattle.regalloc2_cfg.proofs.PredsListed.{all_ways_end, all_ways_more}
 use Rattle.regalloc2_cfg.proofs.TimesInList.{times-take}
 
 -- the predecessors of block n among the first b blocks and the first i positions of block b
@@ -80,7 +80,7 @@ met_more f b i s counts less is there short next h n within =
           (subst (λ m. AreFirst (ws ++ replicate m b) (get_or counts n 0 + 1) xs) (sym more) met))
       | inr ne ↦ (let now : get_or (set counts s (c + 1)) n 0 ≡ get_or counts n 0 = get_or-set_other counts s n (c + 1) 0 (λ q. ne (sym q)) in
           let none : times_in n (take (i + 1) succs) ≡ times_in n (take i succs) = count_by_more_no (λ x. nat_eq x n) succs i s less
-          (differ (get_or succs i s) n (λ q. ne (is ∙ q))) in
+          (ne_eqb (get_or succs i s) n (λ q. ne (is ∙ q))) in
           subst (λ m. AreFirst (ws ++ replicate (times_in n (take (i + 1) succs)) b) m xs) (sym now)
           (subst (λ m. AreFirst (ws ++ replicate m b) (get_or counts n 0) xs) (sym none) (h n within)))
     ]

@@ -2,8 +2,7 @@
 use Rattle.std.proofs.Common.{ℕ, ◌≡◌, ◌≢◌, ◌+◌, ◌<◌, ◌≤◌, Bool, true, false, List, [], ◌∷◌, ◌++◌, length, get_or, set, take, sym, ap, ◌∙◌, subst}
 use Rattle.std.proofs.Common.{eq-eqb, add-zero, zero-add, inl, inr, ◌⊎◌, arith}
 use Rattle.std.specs.Prelude.{All, cond, map, nat_eq}
-use Rattle.std.proofs.lemmas.Bool.{cases_Bool, cases_eq}
-use Rattle.std.proofs.lemmas.Bool.Decides.{Decides-eqb}
+use Rattle.std.proofs.lemmas.Bool.{cases_eq, ne_eqb}
 use Rattle.std.proofs.lemmas.List.{get_or-map, get_or-set_other, get_or-set_same, get_or_past, length-map, map-set}
 use Rattle.std.proofs.lemmas.List.Sums.{count_by_more_yes, sum_by_more, sum_by_push}
 use Rattle.std.specs.declared.vec.Vec.{Vec}
@@ -23,9 +22,6 @@ listed_set ws s w less = ap (λ l. get_or l s []) (map-set (λ w. w.items) ws s 
 
 listed_kept : {A : Type 0} (ws : List (Vec ℕ A)) (s n : ℕ) (w : Vec ℕ A) → n ≢ s → listed_of (set ws s w) n ≡ listed_of ws n
 listed_kept ws s n w ne = ap (λ l. get_or l n []) (map-set (λ w. w.items) ws s w) ∙ get_or-set_other (map (λ w. w.items) ws) s n w.items [] ne
-
-pub differ : (x y : ℕ) → x ≢ y → nat_eq x y ≡ false
-differ x y ne = elim (cases_Bool (nat_eq x y)) [ inl e ↦ absurd (ne ((Decides-eqb x y).0 e)) | inr e ↦ e ]
 
 -- one position more
 pub ways_more : {A : Type 0} (before old : List (Vec ℕ A)) (s b i : ℕ) (d w : Vec ℕ A) (succs : List ℕ) → s < length old → i < length succs →
@@ -47,7 +43,7 @@ ways_more before old s b i d w succs there short is grown so_far n p =
           add_one (nat_eq b p) (times_in p (listed_of (set old s w) n)) (times_in p (listed_of old n)) (times_in p (listed_of before n))
           (times_in n (take i succs)) (times_in n (take (i + 1) succs)) h one now)
       | inr ne ↦ (let kept : listed_of (set old s w) n ≡ listed_of old n = listed_kept old s n w (λ q. ne (sym q)) in
-          let none_here : times_in n (take (i + 1) succs) ≡ times_in n (take i succs) = more ∙ ap (λ t. times_in n (take i succs) + cond t 1 0) (differ s n ne)
+          let none_here : times_in n (take (i + 1) succs) ≡ times_in n (take i succs) = more ∙ ap (λ t. times_in n (take i succs) + cond t 1 0) (ne_eqb s n ne)
           ∙ add-zero (times_in n (take i succs)) in
           ap (times_in p) kept ∙ h ∙ ap (λ m. times_in p (listed_of before n) + cond (nat_eq b p) m 0) (sym none_here))
     ]
@@ -72,7 +68,7 @@ all_ways_more f b n p old new e before after =
                 ∙ ap (λ m. times_in n (block_at f m).succs) same,
             λ past. absurd (omega arith),
           ))
-      | inr ne ↦ (let now : new ≡ old = e ∙ ap (λ t. old + cond t (times_in n (block_at f b).succs) 0) (differ b p ne) ∙ add-zero old in
+      | inr ne ↦ (let now : new ≡ old = e ∙ ap (λ t. old + cond t (times_in n (block_at f b).succs) 0) (ne_eqb b p ne) ∙ add-zero old in
           (λ less. now ∙ before (omega arith), λ past. now ∙ after (omega arith)))
     ]
 

@@ -1,8 +1,8 @@
 -- What a table keeps of the definitions that are noted in it.
-use Rattle.std.proofs.Common.{ℕ, ◌≡◌, ◌≢◌, ◌<◌, ◌≤◌, ◌⊎◌, false, Option, Some, None, List, [], ◌∷◌, ◌++◌, length, set, replicate, refl, sym, ap, ◌∙◌}
+use Rattle.std.proofs.Common.{ℕ, ◌≡◌, ◌≢◌, ◌<◌, false, Option, Some, None, List, [], ◌∷◌, ◌++◌, length, set, replicate, refl, sym, ap, ◌∙◌}
 use Rattle.std.proofs.Common.{subst, eq-eqb, inl, inr, arith, length-set, get_or-set_same, get_or-set_other}
 use Rattle.std.specs.Prelude.{Contains, nat_eq}
-use Rattle.std.proofs.lemmas.Bool.{cases_Bool, cases_eq}
+use Rattle.std.proofs.lemmas.Bool.{cases_Bool, cases_eq, cases_lt}
 use Rattle.std.proofs.lemmas.List.{get_or-replicate, get_or_past, length-replicate}
 use Rattle.std.proofs.lemmas.List.Elements.{Contains-append_left, Contains-push, Contains-push_cases}
 use Rattle.std.proofs.lemmas.Bool.Decides.{Decides-eqb}
@@ -21,12 +21,9 @@ pub record Keeps (num : ℕ) (ds : List DefinitionSite) (t : Table) : Type 0 whe
   pub free : (n : ℕ) → entry_of t n ≡ None → definitions_among ds n ≡ 0
   pub unknown : (n : ℕ) → definitions_among ds n ≡ 0 → entry_of t n ≡ None
 
-lt_or_le : (m n : ℕ) → (m < n) ⊎ (n ≤ m)
-lt_or_le m n = grind arith
-
 blank : (num n : ℕ) → entry_of (replicate num None) n ≡ None
 blank num n =
-    elim (lt_or_le n num) [
+    elim (cases_lt n num) [
       | inl less ↦ get_or-replicate num n None None less
       | inr past ↦ get_or_past (replicate num None) n None (rw length-replicate past)
     ]

@@ -1,6 +1,7 @@
 -- What an item does to the facts of two maps is what it does to the maps.
 use Rattle.std.proofs.Common.{ℕ, ◌≡◌, ◌+◌, ◌<◌, ◌≤◌, Bool, true, false, cond, List, [], ◌∷◌, length, refl, arith, sym, ap, ◌∙◌, eqb-true, eq-eqb, nat_eq}
 use Rattle.std.specs.Prelude.{Option, None, Some, IsSome, ◌&&◌, not}
+use Rattle.std.proofs.lemmas.Bool.{and_parts}
 use Rattle.regalloc2_names.specs.declared.OperandPos.{OperandPos}
 use Rattle.regalloc2_names.specs.declared.OperandPos.TheVariants.{Early, Late}
 use Rattle.regalloc2_names.specs.declared.sets.PRegSet.{PRegSet}
@@ -22,14 +23,9 @@ use Rattle.regalloc2_checker.specs.Facts.{facts_for, true_facts}
 
 -- one write
 
-both : (a b : Bool) → (a && b) ≡ true → (a ≡ true) × (b ≡ true)
-both true true h = (refl, refl)
-both true false h = absurd cc
-both false b h = absurd cc
-
 is_stamp-true : (s t : Stamp) → is_stamp s t ≡ true → s ≡ t
 is_stamp-true s t h =
-    let e = both (nat_eq s.step t.step) (nat_eq s.operand t.operand) h in
+    let e = and_parts (nat_eq s.step t.step) (nat_eq s.operand t.operand) h in
     stamps s.step t.step s.operand t.operand (eqb-true s.step t.step e.0) (eqb-true s.operand t.operand e.1)
   where
     stamps : (m n j k : ℕ) → m ≡ n → j ≡ k → ◌≡◌ {A = Stamp} (record { step = m; operand = j }) (record { step = n; operand = k })

@@ -1,6 +1,8 @@
 -- What is accepted by facts that stand still is what is faithful.
-use Rattle.std.proofs.Common.{ℕ, ◌≡◌, ◌+◌, ◌-◌, ◌<◌, ◌≤◌, Bool, true, false, List, [], ◌∷◌, length, refl, arith, sym, ◌∙◌, subst}
+use Rattle.std.proofs.Common.{ℕ, ◌≡◌, ◌+◌, ◌-◌, ◌<◌, ◌≤◌, true, false, List, [], ◌∷◌, length, arith, sym, ◌∙◌, subst}
 use Rattle.std.specs.Prelude.{All, slice_index_or}
+use Rattle.std.proofs.lemmas.Bool.{true_from_ne_false as unless_false}
+use Rattle.regalloc2_index.proofs.Bools.{not_both}
 use Rattle.regalloc2_names.specs.declared.OperandPos.{OperandPos}
 use Rattle.regalloc2_names.specs.Register.{VirtualRegister}
 use Rattle.regalloc2_names.specs.Operand.{OperandValue, is_reading}
@@ -77,21 +79,12 @@ refuted_for law f o F g b n r less position p v x =
           w.3,
     )
 
--- a truth value that is not false
-unless_false : (b : Bool) → (b ≡ false → ⊥) → b ≡ true
-unless_false true h = refl
-unless_false false h = absurd (h refl)
-
-true_false : (b : Bool) → b ≡ true → b ≡ false → ⊥
-true_false true h g = absurd cc
-true_false false h g = absurd cc
-
 -- in a framed function, a fixpoint that drops only what fails on some path claims just what holds on every path to a reached block
 pub facts_hold_before : AreEarlier → FactsHoldBefore
 unfolding facts_within
 facts_hold_before law f o F ok s g b r p v = (
   λ y ws h e. covered_within law f o F s b 0 ws h (e ∙ located b _ _ (omega arith)) p v y,
-  λ all. unless_false (F b p v) (λ n. let w = g b p v r n in true_false (true_facts f o w.0 p v) (all w.0 w.1 w.2) w.3),
+  λ all. unless_false (F b p v) (λ n. let w = g b p v r n in not_both (true_facts f o w.0 p v) (all w.0 w.1 w.2) w.3),
 )
 
 -- in a framed function, such a fixpoint decides just what holds on every path to each reached instruction, at either position
@@ -100,7 +93,7 @@ facts_are_held law f o F ok s g b n r less position p v = (
   λ y ws h e. (let x = same_write-true _ _ (covered_for law f o F s b n ws h e position p v y) in (rw x.1 x.0, x.1)),
   λ all. unless_false (facts_for f o (nth_of f b n) position (facts_within f o b (F b) n) p v) (λ x.
       let w = refuted_for law f o F g b n r less position p v x in
-      let t = all w.0 w.1 w.2 in true_false _ (same_write-same _ _ (rw t.1 at t.0) t.1) w.3),
+      let t = all w.0 w.1 w.2 in not_both _ (same_write-same _ _ (rw t.1 at t.0) t.1) w.3),
 )
 
 accepted_reads : AreEarlier → (f : FunctionValue) (env : MachineValue) (o : OutputValue) (F : ℕ → Facts) → IsFixpoint f o F → (b n : ℕ) (ws : List Way) →
@@ -157,7 +150,7 @@ faithful_accepted law f env o F g h b n r less =
         (read_of (slice_index_or (inst_at f l.inst).operands k d).position (source_before f w.0 (slice_index_or (inst_at f l.inst).operands k d).vreg)
         (source_after f w.0 (slice_index_or (inst_at f l.inst).operands k d).vreg)) ≡ true)
         w.2 (λ j c i y. let q = (h w.0 w.1).reads j c i y in same_write-same _ _ q.0 q.1) in
-        true_false _ (t k d in_range reads) w.3)
+        not_both _ (t k d in_range reads) w.3)
 
 -- an output of a framed function is faithful exactly where such a fixpoint accepts each instruction of each reached block
 pub accepted_is_faithful : AreEarlier → AcceptedIsFaithful

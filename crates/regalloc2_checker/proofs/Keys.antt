@@ -1,5 +1,5 @@
 -- Bits of virtual registers tell them apart.
-use Rattle.std.proofs.Common.{ℕ, ◌≡◌, ◌+◌, ◌*◌, ◌/◌, ◌%◌, ◌<◌, Bool, true, false, refl, arith, sym, ap, ◌∙◌}
+use Rattle.std.proofs.Common.{ℕ, ◌≡◌, ◌+◌, ◌*◌, ◌/◌, ◌%◌, ◌<◌, refl, arith, ap, ◌∙◌}
 use Rattle.regalloc2_names.specs.declared.RegClass.{RegClass}
 use Rattle.regalloc2_names.specs.declared.RegClass.TheVariants.{Int, Float, Vector}
 use Rattle.regalloc2_names.specs.Register.{VirtualRegister, class_code, class_of_code}
@@ -26,10 +26,3 @@ vreg_back v =
     let code : (v.number * 4 + class_code v.class) % 4 ≡ class_code v.class = omega arith in
     vregs ((v.number * 4 + class_code v.class) / 4) v.number (class_of_code ((v.number * 4 + class_code v.class) % 4)) v.class (omega arith)
     (ap class_of_code code ∙ class_back v.class)
-
--- two truth values that imply each other are equal
-pub both_false : (b c : Bool) → (b ≡ true → c ≡ true) → (c ≡ true → b ≡ true) → b ≡ c
-both_false true true h g = refl
-both_false true false h g = sym (h refl)
-both_false false true h g = g refl
-both_false false false h g = refl

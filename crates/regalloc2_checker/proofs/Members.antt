@@ -5,6 +5,7 @@ use Rattle.std.specs.Prelude.{◌↔◌, ◌||◌, ◌⊎◌, Contains}
 use Rattle.std.proofs.Math.Seq.{take-suc}
 use Rattle.std.proofs.lemmas.List.{take_all}
 use Rattle.std.proofs.lemmas.List.Elements.{Contains-append_left, Contains-append_right, Contains-append_cases}
+use Rattle.std.proofs.lemmas.Bool.{or_right}
 use Rattle.regalloc2_names.specs.declared.sets.PRegSet.{PRegSet}
 use Rattle.regalloc2_names.specs.Register.{Register, is_register}
 use Rattle.regalloc2_names.specs.RegisterSet.{has_register}
@@ -20,10 +21,6 @@ take_one xs k x less is =
 pub only_item : {X : Type 0} (x y : X) → Contains (x ∷ []) y → x ≡ y
 only_item x y (zero, less, at) = at
 only_item x y (suc n, less, at) = absurd (omega arith)
-
-either_true : (b c : Bool) → c ≡ true → (b || c) ≡ true
-either_true true c h = refl
-either_true false c h = h
 
 -- a register more in a set
 pub slots_more : (rs : List Register) (k : ℕ) (r : Register) (s t : PRegSet) → k < length rs → r ≡ get_or rs k r →
@@ -42,7 +39,7 @@ slots_more rs k r s t less is more h q =
     there false false f g x = absurd cc
 
     back : Contains (take k rs) q ⊎ Contains (r ∷ []) q → (is_register r q || has_register s q) ≡ true
-    back (inl c) = either_true (is_register r q) (has_register s q) ((h q).1 c)
+    back (inl c) = or_right (is_register r q) (has_register s q) ((h q).1 c)
     back (inr c) = (let same : is_register r q ≡ true = subst (λ (w : Register). is_register r w ≡ true) (only_item r q c) (is_register-same r) in rw same refl)
 
 -- a set of the first k registers of a list is the set of all of them once k is the list's length or more

@@ -6,7 +6,7 @@ use Rattle.std.specs.List.{flat_map}
 use Rattle.std.specs.List.Sorted.{IsStrictlyIncreasing}
 use Rattle.std.proofs.lemmas.List.Elements.{Contains-append_left, Contains-append_right, Contains-append_cases, Contains-get_or}
 use Rattle.std.proofs.lemmas.List.Elements.{All-map, All-filter, All-take, All-drop, All-contains_itself, All-weaker}
-use Rattle.std.proofs.lemmas.Bool.{cases_lt, cases_Bool}
+use Rattle.std.proofs.lemmas.Bool.{cases_lt, cases_Bool, or_right}
 use Rattle.std.proofs.lemmas.List.{get_or_default, take_more, take_all, map-append}
 use Rattle.std.proofs.lemmas.Grind.{flat_map-append}
 use Rattle.std.proofs.lemmas.List.Folds.{flat_map-map}
@@ -155,10 +155,6 @@ bits-among : (ps qs : List Place) → ((p : Place) → Contains ps p → Contain
     Contains (flat_map bits_unless_missing qs) n
 bits-among ps qs among n h = let r = from-flat bits_unless_missing ps n h in contains-flat bits_unless_missing qs r.0 n (among r.0 r.1) r.2
 
-or-right : (a b : Bool) → b ≡ true → (a || b) ≡ true
-or-right true b e = refl
-or-right false b e = e
-
 -- a set has the registers that one of the first n instructions clobbers, and no others
 abbrev pub AreClobbersBefore : FunctionValue → ℕ → PRegSet → Type 0
 AreClobbersBefore f n s = (r : Register) → (has_register s r ≡ true) ↔ ((i : ℕ) × (i < n) × (has_register (inst_at f i).clobbers r ≡ true))
@@ -182,7 +178,7 @@ clobbered-more f s t n all joined = λ r. (λ e. forth r (cases_Bool (has_regist
 
     from_any : (r : Register) → (has_register s r ≡ true) ⊎ (has_register (inst_at f n).clobbers r ≡ true) → has_register t r ≡ true
     from_any r (inl h) = joined r ∙ ap (λ (b : Bool). b || has_register (inst_at f n).clobbers r) h
-    from_any r (inr h) = joined r ∙ or-right (has_register s r) (has_register (inst_at f n).clobbers r) h
+    from_any r (inr h) = joined r ∙ or_right (has_register s r) (has_register (inst_at f n).clobbers r) h
 
     back : (r : Register) → (i : ℕ) × (i < n + 1) × (has_register (inst_at f i).clobbers r ≡ true) → has_register t r ≡ true
     back r (i, less, h) = elim (cases_lt i n) [

@@ -5,6 +5,7 @@ use Rattle.std.specs.Prelude.{◌↔◌, All, Option, None, Some, IsSome}
 use Rattle.std.specs.Option.{option_to_list, option_map}
 use Rattle.std.proofs.lemmas.Bool.{cases_lt}
 use Rattle.std.proofs.lemmas.List.{get_or_default}
+use Rattle.std.proofs.lemmas.List.Elements.{All-cons}
 use Rattle.regalloc2_names.specs.declared.OperandConstraint.{OperandConstraint}
 use Rattle.regalloc2_names.specs.declared.OperandConstraint.TheVariants.{Any, Reg, Stack, FixedReg, Reuse, Limit}
 use Rattle.regalloc2_names.specs.declared.OperandPos.{OperandPos}
@@ -43,16 +44,12 @@ is_none : {X : Type 0} (x : Option X) → option_to_list x ≡ [] → x ≡ None
 is_none None e = refl
 is_none (Some x) e = absurd (let z : ◌≡◌ {A = ℕ} 1 0 = ap length e in omega (arith, z))
 
-all_of : {X : Type 0} (P : X → Type 0) (x : X) (xs : List X) → P x → All P xs → All P (x ∷ xs)
-all_of P x xs p h zero d less = p
-all_of P x xs p h (suc k) d less = h k d (omega arith)
-
 -- moves without faults
 no_move_faults : {A : Type 0} (env : MachineValue) (ms : List MoveValue) (es : List (CheckerError A)) → AreMoveFaults env ms es → es ≡ [] →
     All (λ m. IsStackToStack env m → ⊥) ms
 no_move_faults env [] es AreMoveFaults.none e = λ k d less. absurd (omega arith)
 no_move_faults env (m ∷ ms) es (AreMoveFaults.fault _ _ fs s rest) e = absurd (let z : suc (length fs) ≡ 0 = ap length e in omega arith)
-no_move_faults env (m ∷ ms) es (AreMoveFaults.fine _ _ _ free rest) e = all_of (λ m. IsStackToStack env m → ⊥) m ms free (no_move_faults env ms es rest e)
+no_move_faults env (m ∷ ms) es (AreMoveFaults.fine _ _ _ free rest) e = All-cons (λ m. IsStackToStack env m → ⊥) m ms free (no_move_faults env ms es rest e)
 
 fine_moves : {A : Type 0} (env : MachineValue) (ms : List MoveValue) (es : List (CheckerError A)) → AreMoveFaults env ms es →
     All (λ m. IsStackToStack env m → ⊥) ms → es ≡ []

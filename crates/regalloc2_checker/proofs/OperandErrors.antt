@@ -30,11 +30,6 @@ pub not_so : (b : Bool) (P : Type 0) → IsTrue b ↔ P → b ≡ false → P �
 not_so true P h e p = absurd cc
 not_so false P h e p = (let z = h.1 p in absurd cc)
 
--- no truth value is both true and false
-pub true_false : (b : Bool) → b ≡ true → b ≡ false → ⊥
-true_false true h g = absurd cc
-true_false false h g = absurd cc
-
 -- nobody's value is held, or somebody's
 pub unknown_fault : {A : Type 0} (inst : ℕ) (op : OperandValue) (p : Place) (Has : VirtualRegister → Type 0) (vs : List VirtualRegister) → length vs ≡ 0 →
     AreVRegsInValue Has vs →

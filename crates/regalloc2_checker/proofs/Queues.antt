@@ -8,6 +8,7 @@ use Rattle.std.proofs.lemmas.Bool.{cases_eq}
 use Rattle.std.proofs.lemmas.List.{length-set, get_or-set_same, get_or-set_other}
 use Rattle.std.proofs.lemmas.List.Elements.{All-cons, All-head, All-tail, All-weaker}
 use Rattle.std.proofs.lemmas.List.Sorted.{All-permutation, Contains-permutation}
+use Rattle.regalloc2_index.proofs.Bools.{from_both}
 use Rattle.regalloc2_function.specs.FunctionValue.{FunctionValue, block_at}
 use Rattle.regalloc2_function.specs.OutputValue.{OutputValue}
 use Rattle.regalloc2_checker_tables.specs.Showing.{Showing, AreTablesKept, ShowsNow, shows_in}
@@ -21,10 +22,6 @@ use Rattle.regalloc2_checker.specs.Tables.{BlockView, view_at, facts_at, views, 
 use Rattle.regalloc2_checker.proofs.TableSteps.{now-as}
 use Rattle.regalloc2_checker.proofs.Updates.{set-again, views-same, facts-is}
 use Rattle.regalloc2_checker.proofs.UnmarkedStaySolved.{EdgesPassed, mark-taken, all-kept}
-
-true_false : {P : Type 0} (b : Bool) → b ≡ true → b ≡ false → P
-true_false true h g = absurd cc
-true_false false h g = absurd cc
 
 more : (x y : Reverse (ℕ × ℕ)) (xs : List (Reverse (ℕ × ℕ))) → Contains xs x → Contains (y ∷ xs) x
 more x y xs (k, less, at) = (suc k, omega arith, at)
@@ -66,7 +63,7 @@ queue-popped marks entries rest x b is p q =
       omega (arith, is, here),
       record {
         marked = λ c low m. elim (cases_eq c b) [
-          | inl e ↦ true_false (mark_at (set marks b false) b) (subst (λ (n : ℕ). mark_at (set marks b false) n ≡ true) e m)
+          | inl e ↦ from_both (mark_at (set marks b false) b) (subst (λ (n : ℕ). mark_at (set marks b false) n ≡ true) e m)
               (get_or-set_same marks b false true (omega (arith, is, here)))
           | inr n ↦ (
               let w = q.marked c (omega (arith, low, length-set marks b false)) (sym (get_or-set_other marks b c false true n) ∙ m) in
@@ -226,7 +223,7 @@ block-end f o b t m w rs less e h run = λ p v.
 pub queue-none : (marks : List Bool) (entries : List (Reverse (ℕ × ℕ))) → entries ≡ [] →
     ((b : ℕ) (d : Bool) → b < length marks → get_or marks b d ≡ false) → IsQueue marks entries
 queue-none marks entries e none = subst (IsQueue marks) (sym e) (record {
-  marked = λ b less m. true_false (mark_at marks b) m (none b true less);
+  marked = λ b less m. from_both (mark_at marks b) m (none b true less);
   small = λ k d less. absurd (omega (arith, less));
 })
 

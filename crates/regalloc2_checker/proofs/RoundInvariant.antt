@@ -1,8 +1,8 @@
 -- What passing on over edges keeps, and what it leaves at the end.
-use Rattle.std.proofs.Common.{ℕ, ◌≡◌, ◌+◌, ◌-◌, ◌<◌, ◌⊎◌, inl, inr, arith, Bool, true, false, List, [], ◌∷◌, length, refl, sym, ap}
+use Rattle.std.proofs.Common.{ℕ, ◌≡◌, ◌+◌, ◌-◌, ◌<◌, inl, inr, arith, true, false, List, [], ◌∷◌, length, refl, sym, ap}
 use Rattle.std.proofs.Common.{◌∙◌, subst}
 use Rattle.std.specs.Prelude.{◌&&◌, slice_index}
-use Rattle.std.proofs.lemmas.Bool.{cases_Bool, cases_eq}
+use Rattle.std.proofs.lemmas.Bool.{cases_Bool, cases_eq, and_cases, and_left}
 use Rattle.regalloc2_names.specs.Register.{VirtualRegister}
 use Rattle.regalloc2_names.specs.Place.{Place}
 use Rattle.regalloc2_function.specs.FunctionValue.{FunctionValue, block_at}
@@ -57,14 +57,6 @@ refuted_passed law f o ok b k F r less h p v x =
       true_facts-way law f o (ToSuccessor k) w.0 p v ∙ d,
     )
 
--- a fact that is not in what two sets share is missing in one
-missing : (x y : Bool) → (x && y) ≡ false → (x ≡ false) ⊎ (y ≡ false)
-missing true y h = inr h
-missing false y h = inl refl
-
-nothing_and : (x y : Bool) → x ≡ false → (x && y) ≡ false
-nothing_and x y e = rw e refl
-
 -- an update keeps what is sound
 module _ (law : AreEarlier) (f : FunctionValue) (o : OutputValue) (ok : IsFramed f) (old new : List BlockView) (b k : ℕ) (F passed : Facts)
     (s : IsSound f o old) (r : IsReachedBlock f b) (dropped : (p : Place) (v : VirtualRegister) → F p v ≡ false → IsRefuted f o (first_of f b) p v)
@@ -77,7 +69,7 @@ module _ (law : AreEarlier) (f : FunctionValue) (o : OutputValue) (ok : IsFramed
   target_refuted : (p : Place) (v : VirtualRegister) → facts_at new (slice_index (block_at f b).succs k) p v ≡ false →
       IsRefuted f o (first_of f (slice_index (block_at f b).succs k)) p v
   target_refuted p v h = elim (cases_Bool (view_at old (slice_index (block_at f b).succs k)).reached) [
-    | inl m ↦ elim (missing _ _ (sym (u.met m p v) ∙ h)) [
+    | inl m ↦ elim (and_cases _ _ (sym (u.met m p v) ∙ h)) [
       | inl x ↦ s.refuted (slice_index (block_at f b).succs k) p v m x
       | inr x ↦ passed_refuted p v x
     ]
@@ -88,7 +80,7 @@ module _ (law : AreEarlier) (f : FunctionValue) (o : OutputValue) (ok : IsFramed
   entry_empty p v = elim (cases_eq f.entry (slice_index (block_at f b).succs k)) [
     | inl e ↦ subst (λ (t : ℕ). facts_at new t p v ≡ (facts_at old t p v && passed p v)) (sym e)
         (u.met (subst (λ (t : ℕ). (view_at old t).reached ≡ true) e s.started) p v)
-        ∙ nothing_and _ _ (s.nothing p v)
+        ∙ and_left _ _ (s.nothing p v)
     | inr n ↦ ap (λ (x : BlockView). x.facts p v) (u.others f.entry n) ∙ s.nothing p v
   ]
 

@@ -4,6 +4,7 @@ use Rattle.std.proofs.Common.{eq-eqb, eqb-true, ne_eqb, List, [], ◌∷◌, len
 use Rattle.std.specs.declared.cmp.Reverse.{Reverse}
 use Rattle.std.proofs.lemmas.Bool.{cases_lt, cases_eq}
 use Rattle.std.proofs.lemmas.List.{get_or-set_same, get_or-set_other}
+use Rattle.regalloc2_index.proofs.Bools.{from_both_at}
 use Rattle.regalloc2_names.specs.Register.{VirtualRegister}
 use Rattle.regalloc2_names.specs.Place.{Place}
 use Rattle.regalloc2_function.specs.FunctionValue.{FunctionValue}
@@ -35,10 +36,6 @@ past [] b less = refl
 past (x ∷ t) zero less = absurd (omega arith)
 past (x ∷ t) (suc b) less = past t b (omega arith)
 
-true_not_false : (b : Bool) (P : Type 0) → b ≡ true → b ≡ false → P
-true_not_false true P h g = absurd cc
-true_not_false false P h g = absurd cc
-
 module _ (f : FunctionValue) (o : OutputValue) (t : Showing) (rs marks : List Bool) (entries : List (Reverse (ℕ × ℕ))) (there : f.entry < length f.blocks)
     (long : length rs ≡ length f.blocks) (at : (b : ℕ) (d : Bool) → b < length rs → get_or rs b d ≡ nat_eq b f.entry)
     (size : length marks ≡ length f.blocks) (marked : (b : ℕ) (d : Bool) → b < length marks → get_or marks b d ≡ nat_eq b f.entry)
@@ -49,7 +46,7 @@ module _ (f : FunctionValue) (o : OutputValue) (t : Showing) (rs marks : List Bo
         let less : b < length rs = omega (arith, l, long) in
         eqb-true b f.entry (sym (reached-is t rs b true (nat_eq b f.entry) less (at b true less)) ∙ h)
         )
-    | inr g ↦ true_not_false _ _ h (past (views t rs) b (omega (arith, g, long, views-length t 0 rs)))
+    | inr g ↦ from_both_at _ _ h (past (views t rs) b (omega (arith, g, long, views-length t 0 rs)))
   ]
 
   entry-reached : (view_at (views t rs) f.entry).reached ≡ true
@@ -70,7 +67,7 @@ module _ (f : FunctionValue) (o : OutputValue) (t : Showing) (rs marks : List Bo
   started-kept : IsKept f o (views t rs) marks
   started-kept = record {
     size = size;
-    settled = λ b less m r. true_not_false (mark_at marks b) _
+    settled = λ b less m r. from_both_at (mark_at marks b) _
         (marked b true (omega (arith, less, size)) ∙ eq-eqb b f.entry (reached-only b r)) m;
   }
 

@@ -4,6 +4,8 @@ use Rattle.std.proofs.Common.{nat_lt, eq-eqb, eqb-true, ne_eqb, List, [], ◌∷
 use Rattle.std.specs.Prelude.{◌&&◌, not, Contains, Option, None, Some}
 use Rattle.std.specs.List.{position, position_or_len, prefix_len}
 use Rattle.std.proofs.lemmas.Bool.Decides.{nat_tests}
+use Rattle.std.proofs.Math.Bool.{and-false}
+use Rattle.regalloc2_index.proofs.Bools.{equal_tests}
 use Rattle.regalloc2_names.specs.Register.{VirtualRegister, is_vreg}
 use Rattle.regalloc2_names.specs.RegisterBits.{bits_of_vreg, vreg_of_bits}
 use Rattle.regalloc2_names.specs.Place.{Place, NoPlace, InRegister, InSlot, is_place}
@@ -16,11 +18,7 @@ use Rattle.regalloc2_checker.specs.TableFacts.{is_packed, is_packed_vreg, place_
 use Rattle.regalloc2_checker.specs.TableFacts.{facts_in, facts_now, facts_table, IsMissingUnlisted, IsListed}
 use Rattle.regalloc2_checker.specs.Renamed.{stands_in, given_to, facts_renamed, HoldersAre}
 use Rattle.regalloc2_names.specs.Same.{is_place-true, is_place-same, is_vreg-true, is_vreg-same}
-use Rattle.regalloc2_checker.proofs.Keys.{vreg_back, both_false}
-
-and-false : (b : Bool) → (b && false) ≡ false
-and-false true = refl
-and-false false = refl
+use Rattle.regalloc2_checker.proofs.Keys.{vreg_back}
 
 -- facts that agree everywhere are one
 pub one-facts : (F G : Facts) → ((p : Place) (v : VirtualRegister) → F p v ≡ G p v) → F ≡ G
@@ -109,7 +107,7 @@ not-found xs x e (k, less, at) =
 
 -- bits of virtual registers tell them apart
 pub vreg-bits : (u v : VirtualRegister) → nat_eq (bits_of_vreg v) (bits_of_vreg u) ≡ is_vreg u v
-vreg-bits u v = both_false _ _
+vreg-bits u v = equal_tests _ _
     (λ h. let e : bits_of_vreg v ≡ bits_of_vreg u = eqb-true _ _ h in
     let f : u ≡ v = sym (vreg_back u) ∙ ap vreg_of_bits (sym e) ∙ vreg_back v in
     subst (λ (w : VirtualRegister). is_vreg u w ≡ true) f (is_vreg-same u))

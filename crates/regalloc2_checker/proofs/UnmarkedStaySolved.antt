@@ -2,8 +2,9 @@
 use Rattle.std.proofs.Common.{ℕ, zero, suc, ◌≡◌, ◌+◌, ◌<◌, inl, inr, arith, Bool, true, false, List, [], ◌∷◌, length, get_or, set, refl, sym, ap, ◌∙◌}
 use Rattle.std.proofs.Common.{subst, below_more}
 use Rattle.std.specs.Prelude.{◌&&◌, slice_index}
-use Rattle.std.proofs.lemmas.Bool.{cases_Bool, cases_eq}
+use Rattle.std.proofs.lemmas.Bool.{cases_Bool, cases_eq, and_parts}
 use Rattle.std.proofs.lemmas.List.{get_or-set_same, get_or-set_other, length-set}
+use Rattle.regalloc2_index.proofs.Bools.{from_both}
 use Rattle.regalloc2_names.specs.Register.{VirtualRegister}
 use Rattle.regalloc2_names.specs.Place.{Place}
 use Rattle.regalloc2_function.specs.FunctionValue.{FunctionValue, block_at}
@@ -16,15 +17,6 @@ use Rattle.regalloc2_checker.specs.Propagation.{mark_at, over, IsBlockEnd, IsPro
 use Rattle.regalloc2_checker.proofs.RoundInvariant.{over-same, sound-updated}
 use Rattle.regalloc2_checker.proofs.FactsFollowMaps.{AreEarlier}
 
-both : (x y : Bool) → (x && y) ≡ true → (x ≡ true) × (y ≡ true)
-both true true h = (refl, refl)
-both true false h = absurd cc
-both false y h = absurd cc
-
-true_false : {P : Type 0} (b : Bool) → b ≡ true → b ≡ false → P
-true_false true h g = absurd cc
-true_false false h g = absurd cc
-
 -- an update leaves the edges of every other block solved
 module _ (f : FunctionValue) (o : OutputValue) (t new : List BlockView) (target : ℕ) (passed : Facts) (u : IsUpdated t new target passed) where
   -- a block has no more facts than it had, if it was reached
@@ -33,7 +25,7 @@ module _ (f : FunctionValue) (o : OutputValue) (t new : List BlockView) (target 
     | inl e ↦ (let m : facts_at new s p v ≡ (facts_at t s p v && passed p v) =
         subst (λ (n : ℕ). facts_at new n p v ≡ (facts_at t n p v && passed p v)) (sym e)
         (u.met (subst (λ (n : ℕ). (view_at t n).reached ≡ true) e r) p v) in
-        (both _ _ (sym m ∙ h)).0)
+        (and_parts _ _ (sym m ∙ h)).0)
     | inr n ↦ ap (λ (x : BlockView). x.facts p v) (sym (u.others s n)) ∙ h
   ]
 
@@ -56,7 +48,7 @@ module _ (f : FunctionValue) (o : OutputValue) (t new : List BlockView) (target 
   -- what the successor has now was passed to it
   given : (p : Place) (v : VirtualRegister) → facts_at new target p v ≡ true → passed p v ≡ true
   given p v h = elim (cases_Bool (view_at t target).reached) [
-    | inl m ↦ (both _ _ (sym (u.met m p v) ∙ h)).1
+    | inl m ↦ (and_parts _ _ (sym (u.met m p v) ∙ h)).1
     | inr m ↦ ap (λ (x : Facts). x p v) (sym (u.first m)) ∙ h
   ]
 
@@ -64,7 +56,7 @@ mark-set : (marks : List Bool) (i c : ℕ) → mark_at (set marks i true) c ≡ 
 mark-set marks i c h n = sym (get_or-set_other marks i c true true n) ∙ h
 
 unmarked-apart : (marks : List Bool) (i c : ℕ) → i < length marks → mark_at (set marks i true) c ≡ false → c ≡ i → ⊥
-unmarked-apart marks i c less h e = true_false (mark_at (set marks i true) i) (get_or-set_same marks i true true less)
+unmarked-apart marks i c less h e = from_both (mark_at (set marks i true) i) (get_or-set_same marks i true true less)
     (subst (λ (n : ℕ). mark_at (set marks i true) n ≡ false) e h)
 
 -- one edge more

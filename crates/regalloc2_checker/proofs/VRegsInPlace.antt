@@ -1,13 +1,13 @@
 -- The virtual registers that a place holds, as they are found.
 use Rattle.std.proofs.Common.{ℕ, zero, suc, ◌≡◌, ◌≢◌, ◌+◌, ◌-◌, ◌<◌, ◌≤◌, inl, inr, arith, Bool}
-use Rattle.std.proofs.Common.{true, false, List, [], ◌∷◌, ◌++◌, length, get_or, map, nat_lt, refl, sym, ap, ◌∙◌, subst}
+use Rattle.std.proofs.Common.{true, false, List, [], ◌∷◌, ◌++◌, length, get_or, map, refl, sym, ap, ◌∙◌, subst}
 use Rattle.std.specs.Prelude.{◌⊎◌, ◌↔◌, ◌&&◌, Contains, None, Some}
 use Rattle.std.specs.List.Sorted.{IsStrictlyIncreasing}
-use Rattle.std.proofs.lemmas.Bool.{cases_lt}
-use Rattle.std.proofs.lemmas.Bool.Decides.{nat_tests}
+use Rattle.std.proofs.lemmas.Bool.{cases_lt, lt-ltb}
 use Rattle.std.proofs.lemmas.List.{map-append, length-map, get_or_default, get_or_append_left, get_or-append_right}
 use Rattle.std.proofs.lemmas.List.Elements.{Contains-append_left, Contains-append_right, Contains-append_cases}
 use Rattle.std.proofs.Math.ListN.{length-append}
+use Rattle.regalloc2_index.proofs.Bools.{and_second}
 use Rattle.regalloc2_names.specs.Register.{VirtualRegister}
 use Rattle.regalloc2_names.specs.RegisterBits.{bits_of_vreg, vreg_of_bits}
 use Rattle.regalloc2_names.specs.Place.{Place}
@@ -58,12 +58,9 @@ found_skip members k y found less was other h = let is : y ≡ get_or members k 
   packed = h.packed;
 }
 
-true_lt : (a b : ℕ) → a < b → nat_lt a b ≡ true
-true_lt a b l = grind (arith, nat_tests)
-
 -- a virtual register with small bits has a packed name
 packed_small : (v : VirtualRegister) → bits_of_vreg v < 4294967296 → is_packed_vreg v ≡ true
-packed_small v small = true_lt v.number 1073741824 (omega (arith, small))
+packed_small v small = lt-ltb v.number 1073741824 (omega (arith, small))
 
 only_one : (x v : VirtualRegister) → Contains (x ∷ []) v → x ≡ v
 only_one x v (zero, less, at) = at
@@ -144,10 +141,6 @@ found_more members k y x found new rise less was bits small e h = subst (λ (vs 
       | inr g ↦ (let p = last j (omega (arith, l, g)) in let r = rising members rise k m (omega (arith, low)) high in omega (arith, p, r))
     ]
 
-right_true : (a b : Bool) → (a && b) ≡ true → b ≡ true
-right_true true b e = e
-right_true false b e = absurd cc
-
 -- what a listed place holds
 pub holds_at : (t : Showing) (p : Place) (i : ℕ) (v : VirtualRegister) → place_in t.places p ≡ Some i → is_packed p ≡ true → is_packed_vreg v ≡ true →
     shows_now t i (bits_of_vreg v) ≡ facts_now t p v
@@ -158,7 +151,7 @@ holds_at t p i v at packed pv =
 -- what is a fact is shown
 shown_of : (t : Showing) (p : Place) (i : ℕ) (v : VirtualRegister) → place_in t.places p ≡ Some i → facts_now t p v ≡ true →
     shows_now t i (bits_of_vreg v) ≡ true
-shown_of t p i v at e = right_true _ _ (right_true _ _ (sym (facts-at t.places (shows_now t) p v (Some i) at) ∙ e))
+shown_of t p i v at e = and_second _ _ (and_second _ _ (sym (facts-at t.places (shows_now t) p v (Some i) at) ∙ e))
 
 -- all are found
 pub found_all : (t : Showing) (p : Place) (i : ℕ) (members : List ℕ) (k : ℕ) (found : List VirtualRegister) → place_in t.places p ≡ Some i →

@@ -57,20 +57,38 @@ impl From<AllocError> for CellFault {
     }
 }
 
+impl CellFault {
+    /// What is wrong, in words.
+    fn words(self) -> &'static str {
+        match self {
+            CellFault::Operand(..) => "no register for its class, and no slot of the frame",
+            CellFault::MoveEnd(_) => "an end is no place of the machine, and no slot of the frame",
+            CellFault::OtherClass(_) => "it goes from a register to one of another class",
+            CellFault::Location(_) => "no place of the machine, and no slot of the frame",
+            CellFault::Slot(_) => "it isn't within the frame",
+            CellFault::Shared(..) => "they share a unit",
+            CellFault::Memory => "out of memory",
+        }
+    }
+}
+
+/// Says what is wrong, as `error 16 stack5: it isn't within the frame`.
 impl fmt::Display for CellFault {
     fn fmt<W: fmt::Write>(&self, f: &mut fmt::Formatter<W>) -> fmt::Result {
         match self {
             CellFault::Operand(inst, operand) => {
                 let number = inst.index();
-                write!(f, "error 14 inst{number} operand {operand}")
+                write!(f, "error 14 inst{number} operand {operand}")?;
             }
-            CellFault::MoveEnd(index) => write!(f, "error 14 move {index}"),
-            CellFault::Location(index) => write!(f, "error 14 debug {index}"),
-            CellFault::OtherClass(index) => write!(f, "error 15 move {index}"),
-            CellFault::Slot(slot) => write!(f, "error 16 stack{slot}"),
-            CellFault::Shared(slot, other) => write!(f, "error 17 stack{slot} stack{other}"),
-            CellFault::Memory => write!(f, "error 13"),
+            CellFault::MoveEnd(index) => write!(f, "error 14 move {index}")?,
+            CellFault::Location(index) => write!(f, "error 14 debug {index}")?,
+            CellFault::OtherClass(index) => write!(f, "error 15 move {index}")?,
+            CellFault::Slot(slot) => write!(f, "error 16 stack{slot}")?,
+            CellFault::Shared(slot, other) => write!(f, "error 17 stack{slot} stack{other}")?,
+            CellFault::Memory => write!(f, "error 13")?,
         }
+        let words = self.words();
+        write!(f, ": {words}")
     }
 }
 

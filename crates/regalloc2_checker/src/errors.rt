@@ -1,14 +1,11 @@
 //! What a check finds.
 
-ghost use Rattle.std.specs.Prelude.{◌≡◌, ◌<◌, Some, length};
-ghost use Rattle.std.specs.Fmt.{WritesOnOk};
+ghost use Rattle.std.specs.Prelude.{◌≡◌, ◌<◌, length};
 ghost use Rattle.std.specs.Vec.{vec_len};
-ghost use Rattle.regalloc2_checker.specs.Text.{operand_fault_text, fault_text};
 
 use regalloc2_index::Inst;
 use regalloc2_names::{Allocation, Operand, VReg};
 use std::alloc::{Allocator, Global};
-use std::fmt;
 use std::ops::Range;
 
 /// A fault of an output, or why it can't be checked.
@@ -121,61 +118,6 @@ pub enum CheckerError<A: Allocator = Global> {
     MalformedOutput,
     /// A growth was refused.
     Memory,
-}
-
-/// Writes the line of a fault of an operand.
-fn write<W: fmt::Write>(
-    f: &mut fmt::Formatter<W>,
-    number: u32,
-    inst: Inst,
-    op: Operand,
-    place: Allocation,
-) -> fmt::Result
-    ensures { WritesOnOk W.write_str_gives f.old result (operand_fault_text number inst op place) f.new }
-{
-    let index = inst.index();
-    write!(f, "error {number} inst{index} {op} [{place}]")
-}
-
-/// As `error 2 inst1 Use: v0i reg [p8i]`, `error 10 stack0 -> stack1`, `error 12` or `error 13`: the number stands for
-/// the kind of fault, in the order of the variants but with `AllocationOutsideLimit` as 11.
-impl<A: Allocator> fmt::Display for CheckerError<A> {
-    ghost output = { λ e. Some (fault_text e) };
-
-    fn fmt<W: fmt::Write>(&self, f: &mut fmt::Formatter<W>) -> fmt::Result {
-        match self {
-            Self::MissingAllocation { inst, op } => write(f, 1, *inst, *op, Allocation::none()),
-            Self::UnknownValueInAllocation { inst, op, alloc } => write(f, 2, *inst, *op, *alloc),
-            Self::ConflictedValueInAllocation { inst, op, alloc } => write(
-                f, 3, *inst, *op, *alloc,
-            ),
-            Self::IncorrectValuesInAllocation {
-                inst,
-                op,
-                alloc,
-                ..
-            } => write(f, 4, *inst, *op, *alloc),
-            Self::ConstraintViolated { inst, op, alloc } => write(f, 5, *inst, *op, *alloc),
-            Self::AllocationIsNotReg { inst, op, alloc } => write(f, 6, *inst, *op, *alloc),
-            Self::AllocationIsNotFixedReg { inst, op, alloc } => write(f, 7, *inst, *op, *alloc),
-            Self::AllocationIsNotReuse {
-                inst,
-                op,
-                alloc,
-                ..
-            } => write(f, 8, *inst, *op, *alloc),
-            Self::AllocationIsNotStack { inst, op, alloc } => write(f, 9, *inst, *op, *alloc),
-            Self::StackToStackMove { into, from } => { write!(f, "error 10 {from} -> {into}") }
-            Self::AllocationOutsideLimit {
-                inst,
-                op,
-                alloc,
-                ..
-            } => write(f, 11, *inst, *op, *alloc),
-            Self::MalformedOutput => write!(f, "error 12"),
-            Self::Memory => write!(f, "error 13"),
-        }
-    }
 }
 
 /// What a check found: at least one fault.

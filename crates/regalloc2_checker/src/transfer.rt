@@ -37,7 +37,7 @@ pub fn position<A: Allocator + Copy>(values: &PassingTables<A>, place: Allocatio
     ensures position { result ≡ place_in values.now.places place }
     ensures packed { is_packed place ≡ true }
 {
-    values.place(place.bits())
+    values.place(place)
 }
 
 /// Where a virtual register is listed.

@@ -2,8 +2,9 @@
 use Rattle.std.proofs.Common.{inl, inr, ℕ, ◌≡◌, ◌<◌, ◌≤◌, arith, Bool, true}
 use Rattle.std.proofs.Common.{false, cond, nat_eq, nat_lt, eq-eqb, List, [], ◌∷◌, ◌++◌, refl, sym, ap, ◌∙◌}
 use Rattle.std.specs.Prelude.{◌&&◌, if◌then◌else◌}
-use Rattle.std.proofs.lemmas.Bool.{cases_eq, cases_lt}
-use Rattle.std.proofs.lemmas.Bool.Decides.{nat_tests}
+use Rattle.std.proofs.lemmas.Bool.{cases_eq, cases_lt, le-ltb, lt-ltb as below, ne_eqb}
+use Rattle.std.proofs.Math.Bool.{and-false}
+use Rattle.regalloc2_index.proofs.Bools.{not_both}
 use Rattle.regalloc2_cfg.specs.Numbers.{NumberSet, has_number, times_in, ListsMembers}
 use Rattle.std.proofs.Common.{length, get_or, ◌-◌, zero, suc}
 use Rattle.std.specs.Prelude.{Result, Ok, Err, IfOk}
@@ -11,22 +12,6 @@ use Rattle.std.proofs.Math.ListN.{length-append}
 use Rattle.std.proofs.lemmas.List.{get_or-append_right, get_or_append_left}
 use Rattle.regalloc2_checker_tables.specs.EntrySets.{has_bits, is_member, ListsBits, IsSetOf, AreMore}
 use Rattle.regalloc2_checker_tables.proofs.Walked.{times-append, times-one, walked-all}
-
--- the test of order says yes for a number below another
-pub below : (y n : ℕ) → y < n → nat_lt y n ≡ true
-below y n h = grind (arith, nat_tests)
-
--- the test of order says no for a number that isn't below another
-pub above : (y n : ℕ) → n ≤ y → nat_lt y n ≡ false
-above y n h = grind (arith, nat_tests)
-
--- the test of equality says no for different numbers
-pub apart : (a b : ℕ) → (a ≡ b → ⊥) → nat_eq a b ≡ false
-apart a b ne = grind (arith, nat_tests)
-
-and-false : (b : Bool) → (b && false) ≡ false
-and-false true = refl
-and-false false = refl
 
 -- small numbers are bits where they are members
 pub bits-is : (s : NumberSet) (y : ℕ) → y < 4294967296 → has_bits s y ≡ has_number s y
@@ -38,17 +23,13 @@ bits-in s y h m = bits-is s y h ∙ m
 
 -- and no others are
 pub bits-out : (s : NumberSet) (y : ℕ) → 4294967296 ≤ y → has_bits s y ≡ false
-bits-out s y h = rw (above y 4294967296 h) refl
-
-true-false : (b : Bool) → b ≡ true → b ≡ false → ⊥
-true-false true h g = absurd cc
-true-false false h g = absurd cc
+bits-out s y h = rw (le-ltb y 4294967296 h) refl
 
 -- a set's bits are its members below 2^32
 pub bits-small : (s : NumberSet) (y : ℕ) → has_bits s y ≡ true → (y < 4294967296) × (has_number s y ≡ true)
 bits-small s y h = elim (cases_lt y 4294967296) [
   | inl l ↦ (l, sym (bits-is s y l) ∙ h)
-  | inr g ↦ absurd (true-false (has_bits s y) h (bits-out s y g))
+  | inr g ↦ absurd (not_both (has_bits s y) h (bits-out s y g))
 ]
 
 -- another one that comes
@@ -56,7 +37,7 @@ pub other-times : (done : List ℕ) (x y : ℕ) → (y ≡ x → ⊥) → times_
 other-times done x y n =
     let a = times-append done (x ∷ []) y in
     let b = times-one x y in
-    let c : ◌≡◌ {A = ℕ} (cond (nat_eq x y) 1 0) 0 = ap (λ t. cond t 1 0) (apart x y (λ q. n (sym q))) in
+    let c : ◌≡◌ {A = ℕ} (cond (nat_eq x y) 1 0) 0 = ap (λ t. cond t 1 0) (ne_eqb x y (λ q. n (sym q))) in
     omega arith
 
 -- a list with a number at its end has that number
@@ -78,7 +59,7 @@ both-more old new other done x small set is h y = elim (cases_eq y x) [
       let b : nat_lt 0 (times_in (done ++ x ∷ []) y) ≡ true = below 0 _ (rw e (same-times done x)) in
       a ∙ sym (ap (λ t. t && has_bits other y) b ∙ ap (λ n. has_bits other n) e ∙ is)
   | inr n ↦
-      let a : has_number new y ≡ has_number old y = set y ∙ ap (λ t. cond t true (has_number old y)) (apart y x n) in
+      let a : has_number new y ≡ has_number old y = set y ∙ ap (λ t. cond t true (has_number old y)) (ne_eqb y x n) in
       ap (λ t. nat_lt y 4294967296 && t) a ∙ h y ∙ ap (λ k. nat_lt 0 k && has_bits other y) (sym (other-times done x y n))
 ]
 
@@ -130,7 +111,7 @@ pub listed-skip : (members done : List ℕ) (x : ℕ) → 4294967296 ≤ x →
     times_in members y ≡ (if nat_lt y 4294967296 then times_in (done ++ x ∷ []) y else 0)
 listed-skip members done x great h y = elim (cases_eq y x) [
   | inl e ↦
-      let b : nat_lt y 4294967296 ≡ false = above y 4294967296 (omega arith) in
+      let b : nat_lt y 4294967296 ≡ false = le-ltb y 4294967296 (omega arith) in
       h y ∙ ap (λ t. if t then times_in done y else 0) b ∙ sym (ap (λ t. if t then times_in (done ++ x ∷ []) y else 0) b)
   | inr n ↦ h y ∙ ap (λ k. if nat_lt y 4294967296 then k else 0) (sym (other-times done x y n))
 ]
@@ -167,8 +148,8 @@ changed-is s t x b small h y = elim (cases_eq y x) [
       bits-is t y (omega arith) ∙ h y ∙ ap (λ c. cond c b (has_number s y)) (eq-eqb y x e)
       ∙ sym (ap (λ c. if c then b else has_bits s y) (eq-eqb y x e))
   | inr n ↦
-      ap (λ c. nat_lt y 4294967296 && c) (h y ∙ ap (λ c. cond c b (has_number s y)) (apart y x n))
-      ∙ sym (ap (λ c. if c then b else has_bits s y) (apart y x n))
+      ap (λ c. nat_lt y 4294967296 && c) (h y ∙ ap (λ c. cond c b (has_number s y)) (ne_eqb y x n))
+      ∙ sym (ap (λ c. if c then b else has_bits s y) (ne_eqb y x n))
 ]
 
 -- a set is put at the end

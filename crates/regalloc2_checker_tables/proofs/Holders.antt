@@ -4,13 +4,14 @@ use Rattle.std.proofs.Common.{nat_eq, nat_lt, eq-eqb, List, [], ◌∷◌, ◌++
 use Rattle.std.specs.Prelude.{◌&&◌, ◌||◌, if◌then◌else◌, slice_set}
 use Rattle.std.specs.List.Sorted.{IsStrictlyIncreasing}
 use Rattle.std.proofs.lemmas.List.{take_more}
-use Rattle.std.proofs.lemmas.Bool.{cases_eq, cases_lt}
+use Rattle.std.proofs.lemmas.Bool.{cases_eq, cases_lt, le-ltb, lt-ltb as below, ne_eqb}
 use Rattle.std.proofs.lemmas.List.{get_or-set_other, get_or-set_same, length-set}
+use Rattle.std.proofs.Math.Bool.{and-false, or-false as or-no, or-true}
 use Rattle.regalloc2_cfg.specs.Numbers.{NumberSet, has_number, times_in}
 use Rattle.regalloc2_checker_tables.specs.SavedNumbers.{Numbers}
 use Rattle.regalloc2_checker_tables.specs.EntrySets.{AreMore}
 use Rattle.regalloc2_checker_tables.specs.Holding.{IsHome, AreBelow, AreStill, AreMoreHomes, is_in}
-use Rattle.regalloc2_checker_tables.proofs.Bits.{below, above, apart, other-times, same-times}
+use Rattle.regalloc2_checker_tables.proofs.Bits.{other-times, same-times}
 use Rattle.regalloc2_checker_tables.proofs.Walked.{walked-more}
 use Rattle.regalloc2_checker_tables.proofs.Listed.{listed-once}
 
@@ -59,7 +60,7 @@ dropped-more old mid new done place bits size h g i y l = elim (cases_eq i place
       ∙ twice (nat_lt 0 (times_in done i)) (nat_eq y bits) (old i y)
       ∙ sym (ap (λ b. if b && nat_eq y bits then false else old i y) a)
   | inr n ↦
-      g i y l ∙ ap (λ b. if b && nat_eq y bits then false else mid i y) (apart i place n) ∙ h i y l
+      g i y l ∙ ap (λ b. if b && nat_eq y bits then false else mid i y) (ne_eqb i place n) ∙ h i y l
       ∙ ap (λ k. if nat_lt 0 k && nat_eq y bits then false else old i y) (sym (other-times done place i n))
 ]
   where
@@ -91,18 +92,6 @@ is_in-more (z ∷ xs) x i = ap (λ b. nat_eq z i || b) (is_in-more xs x i) ∙ a
     assoc true b c = refl
     assoc false b c = refl
 
-and-false : (b : Bool) → (b && false) ≡ false
-and-false true = refl
-and-false false = refl
-
-or-true : (b : Bool) → (b || true) ≡ true
-or-true true = refl
-or-true false = refl
-
-or-no : (b : Bool) → (b || false) ≡ b
-or-no true = refl
-or-no false = refl
-
 -- a holder comes
 pub holders-more : (holders done : List ℕ) (has : ℕ → Bool) (bound place : ℕ) → place < bound → has place ≡ true →
     ((i : ℕ) → is_in holders i ≡ (nat_lt i bound && (nat_lt 0 (times_in done i) && has i))) → (i : ℕ) →
@@ -115,7 +104,7 @@ holders-more holders done has bound place small is h i = elim (cases_eq i place)
       is_in-more holders place i ∙ ap (λ t. is_in holders i || t) (eq-eqb place i (sym e)) ∙ or-true (is_in holders i)
       ∙ sym (ap (λ t. t && (nat_lt 0 (times_in (done ++ place ∷ []) i) && has i)) b ∙ ap (λ t. t && has i) a ∙ c)
   | inr n ↦
-      is_in-more holders place i ∙ ap (λ t. is_in holders i || t) (apart place i (λ q. n (sym q))) ∙ or-no (is_in holders i) ∙ h i
+      is_in-more holders place i ∙ ap (λ t. is_in holders i || t) (ne_eqb place i (λ q. n (sym q))) ∙ or-no (is_in holders i) ∙ h i
       ∙ ap (λ k. nat_lt i bound && (nat_lt 0 k && has i)) (sym (other-times done place i n))
 ]
 
@@ -130,7 +119,7 @@ holders-skip holders done has bound place not h i = elim (cases_eq i place) [
         h i ∙ ap (λ t. nat_lt i bound && (nat_lt 0 (times_in done i) && t)) f ∙ ap (λ t. nat_lt i bound && t) (and-false _)
         ∙ sym (ap (λ t. nat_lt i bound && (nat_lt 0 (times_in (done ++ place ∷ []) i) && t)) f ∙ ap (λ t. nat_lt i bound && t) (and-false _))
     | inr g ↦
-        let f : nat_lt i bound ≡ false = above i bound g in
+        let f : nat_lt i bound ≡ false = le-ltb i bound g in
         h i ∙ ap (λ t. t && (nat_lt 0 (times_in done i) && has i)) f ∙ sym (ap (λ t. t && (nat_lt 0 (times_in (done ++ place ∷ []) i) && has i)) f)
   ]
   | inr n ↦ h i ∙ ap (λ k. nat_lt i bound && (nat_lt 0 k && has i)) (sym (other-times done place i n))

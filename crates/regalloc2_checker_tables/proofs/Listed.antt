@@ -6,10 +6,9 @@ use Rattle.std.specs.List.{position, position_or_len}
 use Rattle.std.specs.List.Sorted.{IsStrictlyIncreasing}
 use Rattle.std.proofs.lemmas.List.Sums.{position_or_len_is}
 use Rattle.std.proofs.lemmas.List.Quantifiers.{position-Some}
-use Rattle.std.proofs.lemmas.Bool.{eqb-true}
+use Rattle.std.proofs.lemmas.Bool.{eqb-true, le-ltb, lt-ltb, ne_eqb as apart}
 use Rattle.std.proofs.Common.{inl, inr}
 use Rattle.std.proofs.lemmas.Bool.{cases_lt}
-use Rattle.regalloc2_checker_tables.proofs.Bits.{below, above, apart}
 
 further : (xs : List ℕ) → IsStrictlyIncreasing xs → (n i j : ℕ) → j ≡ i + 1 + n → j < length xs → get_or xs i 0 < get_or xs j 0
 further xs h zero i j e less =
@@ -49,14 +48,14 @@ found-is xs x i h less e =
     let p : position_or_len (λ n. n == x) xs ≡ i = position_or_len_is (λ n. n == x) xs i 0 (omega arith)
     (λ k l. apart (get_or xs k 0) x (let r = rising xs h k i l less in λ q. absurd (omega arith)))
     (λ l. eq-eqb (get_or xs i 0) x e) in
-    sym (ap (λ n. cond (nat_lt n (length xs)) (Some n) None) p ∙ ap (λ b. cond b (Some i) None) (below i (length xs) less))
+    sym (ap (λ n. cond (nat_lt n (length xs)) (Some n) None) p ∙ ap (λ b. cond b (Some i) None) (lt-ltb i (length xs) less))
 
 -- or of one that isn't
 pub found-none : (xs : List ℕ) (x : ℕ) → ((k : ℕ) → k < length xs → get_or xs k 0 ≡ x → ⊥) → ◌≡◌ {A = Option ℕ} None (position (λ n. n == x) xs)
 found-none xs x h =
     let p : position_or_len (λ n. n == x) xs ≡ length xs = position_or_len_is (λ n. n == x) xs (length xs) 0 (omega arith)
     (λ k l. apart (get_or xs k 0) x (h k l)) (λ l. absurd (omega arith)) in
-    sym (ap (λ n. cond (nat_lt n (length xs)) (Some n) None) p ∙ ap (λ b. cond b (Some (length xs)) None) (above (length xs) (length xs) (omega arith)))
+    sym (ap (λ n. cond (nat_lt n (length xs)) (Some n) None) p ∙ ap (λ b. cond b (Some (length xs)) None) (le-ltb (length xs) (length xs) (omega arith)))
 
 -- what a position says
 pub at-position : (xs : List ℕ) (x i : ℕ) → position (λ n. n == x) xs ≡ Some i → (i < length xs) × (get_or xs i 0 ≡ x)

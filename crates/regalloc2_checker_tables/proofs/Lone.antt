@@ -5,16 +5,12 @@ use Rattle.std.proofs.Common.{length, get_or, zero, suc, ◌-◌}
 use Rattle.std.specs.Prelude.{◌&&◌, if◌then◌else◌, Option, None, Some}
 use Rattle.std.specs.Bool.{OnTrue, OnFalse}
 use Rattle.std.proofs.Math.ListN.{length-append}
-use Rattle.std.proofs.lemmas.Bool.{cases_eq, cases_lt, eqb-true}
+use Rattle.std.proofs.lemmas.Bool.{cases_eq, cases_lt, eqb-true, ne_eqb}
 use Rattle.std.proofs.lemmas.List.{get_or-append_right, get_or_append_left}
 use Rattle.regalloc2_cfg.specs.Numbers.{NumberSet, has_number}
 use Rattle.regalloc2_checker_tables.specs.EntrySets.{has_bits, is_member, IsSetOf, AreMore, AreKnown, IsGrown, IsLess}
 use Rattle.regalloc2_checker_tables.specs.declared.sets.Grown.{Grown}
-use Rattle.regalloc2_checker_tables.proofs.Bits.{changed-is, none-is, alone, added-is, added-more, apart, bits-small}
-
-true-false : (b : Bool) → b ≡ true → b ≡ false → ⊥
-true-false true h g = absurd cc
-true-false false h g = absurd cc
+use Rattle.regalloc2_checker_tables.proofs.Bits.{changed-is, none-is, alone, added-is, added-more, bits-small}
 
 same-some : (a b : ℕ) → ◌≡◌ {A = Option ℕ} (Some a) (Some b) → a ≡ b
 same-some a b e = cc
@@ -54,7 +50,7 @@ member-as s x b m e d h = ap (λ n. has_bits s n) (sym (same-some x b e) ∙ d) 
 pub alone-is : (s : NumberSet) (m : ℕ) → has_bits s m ≡ true → ((y : ℕ) → has_bits s y ≡ true → y ≡ m) → (y : ℕ) → nat_eq y m ≡ has_bits s y
 alone-is s m here other y = elim (cases_eq y m) [
   | inl e ↦ eq-eqb y m e ∙ sym (ap (λ n. has_bits s n) e ∙ here)
-  | inr n ↦ apart y m n ∙ sym (not (has_bits s y) (λ is. n (other y is)))
+  | inr n ↦ ne_eqb y m n ∙ sym (not (has_bits s y) (λ is. n (other y is)))
 ]
   where
     not : (b : Bool) → (b ≡ true → ⊥) → b ≡ false
@@ -122,14 +118,14 @@ set-is sets n f g e h = record { below = h.below; members = λ y. h.members y �
 pub with-same : (has : ℕ → Bool) (bits : ℕ) → has bits ≡ true → (y : ℕ) → has y ≡ (if nat_eq y bits then true else has y)
 with-same has bits is y = elim (cases_eq y bits) [
   | inl e ↦ ap has e ∙ is ∙ sym (ap (λ b. if b then true else has y) (eq-eqb y bits e))
-  | inr n ↦ sym (ap (λ b. if b then true else has y) (apart y bits n))
+  | inr n ↦ sym (ap (λ b. if b then true else has y) (ne_eqb y bits n))
 ]
 
 -- or taken from one that hasn't
 pub without-same : (has : ℕ → Bool) (bits : ℕ) → has bits ≡ false → (y : ℕ) → has y ≡ (if nat_eq y bits then false else has y)
 without-same has bits is y = elim (cases_eq y bits) [
   | inl e ↦ ap has e ∙ is ∙ sym (ap (λ b. if b then false else has y) (eq-eqb y bits e))
-  | inr n ↦ sym (ap (λ b. if b then false else has y) (apart y bits n))
+  | inr n ↦ sym (ap (λ b. if b then false else has y) (ne_eqb y bits n))
 ]
 
 -- to the empty set one member is added: it is alone
@@ -153,7 +149,7 @@ without-lone sets set bits only h is y =
 pub both-lone : (has other : ℕ → Bool) (only : ℕ) → ((y : ℕ) → other y ≡ nat_eq y only) → has only ≡ true → (y : ℕ) → other y ≡ (has y && other y)
 both-lone has other only h is y = elim (cases_eq y only) [
   | inl e ↦ sym (ap (λ b. b && other y) (ap has e ∙ is))
-  | inr n ↦ (let f : other y ≡ false = h y ∙ apart y only n in f ∙ sym (ap (λ b. has y && b) f ∙ and-false (has y)))
+  | inr n ↦ (let f : other y ≡ false = h y ∙ ne_eqb y only n in f ∙ sym (ap (λ b. has y && b) f ∙ and-false (has y)))
 ]
   where
     and-false : (b : Bool) → (b && false) ≡ false
@@ -164,7 +160,7 @@ both-lone has other only h is y = elim (cases_eq y only) [
 pub both-apart : (has other : ℕ → Bool) (only : ℕ) → ((y : ℕ) → other y ≡ nat_eq y only) → has only ≡ false → (y : ℕ) → (has y && other y) ≡ false
 both-apart has other only h is y = elim (cases_eq y only) [
   | inl e ↦ ap (λ b. b && other y) (ap has e ∙ is)
-  | inr n ↦ ap (λ b. has y && b) (h y ∙ apart y only n) ∙ and-false (has y)
+  | inr n ↦ ap (λ b. has y && b) (h y ∙ ne_eqb y only n) ∙ and-false (has y)
 ]
   where
     and-false : (b : Bool) → (b && false) ≡ false
@@ -194,7 +190,7 @@ lone-none has other only h less y = elim (cases_eq y only) [
   | inl e ↦
       let q : less.bits ≡ only = eqb-true less.bits only (sym (h less.bits) ∙ less.here) in
       ap (λ b. has y && b) (ap other (e ∙ sym q) ∙ less.not_there) ∙ and-false (has y)
-  | inr n ↦ ap (λ b. b && other y) (h y ∙ apart y only n)
+  | inr n ↦ ap (λ b. b && other y) (h y ∙ ne_eqb y only n)
 ]
   where
     and-false : (b : Bool) → (b && false) ≡ false

@@ -2,6 +2,7 @@
 use Rattle.std.proofs.Common.{inl, inr, ◌⊎◌, ℕ, ◌≡◌, ◌+◌, ◌<◌, ◌≤◌, arith, Bool, true, false, List, length, refl, sym, ap, ◌∙◌}
 use Rattle.std.specs.Prelude.{◌&&◌}
 use Rattle.std.proofs.lemmas.Bool.{cases_eq, cases_lt}
+use Rattle.regalloc2_index.proofs.Bools.{and_second}
 use Rattle.regalloc2_cfg.specs.Numbers.{NumberSet}
 use Rattle.regalloc2_checker_tables.specs.SavedNumbers.{Numbers, number_at, number_now}
 use Rattle.regalloc2_checker_tables.specs.EntrySets.{is_member, IsLess}
@@ -11,10 +12,6 @@ use Rattle.regalloc2_checker_tables.proofs.Holders.{still-same, still-then}
 both-same : (b : Bool) → b ≡ (b && b)
 both-same true = refl
 both-same false = refl
-
-right-of : (a b : Bool) → (a && b) ≡ true → b ≡ true
-right-of true b e = e
-right-of false b e = absurd cc
 
 -- before the first position, nothing is met
 pub met-none : (s : List NumberSet) (e : Numbers) (k bound : ℕ) → AreBelow s e → IsMetBelow s e s e k 0 bound false
@@ -100,7 +97,7 @@ met-more s t u e f g k from bound p a b x lp pb w = record {
     fewer i y l is = elim (cases_eq i p) [
       | inl q ↦
           ap (λ n. held s e n y) q
-          ∙ right-of (is_member s (number_at e k p) y) (held s e p y) (sym (at-place y) ∙ ap (λ n. held u g n y) (sym q) ∙ is)
+          ∙ and_second (is_member s (number_at e k p) y) (held s e p y) (sym (at-place y) ∙ ap (λ n. held u g n y) (sym q) ∙ is)
       | inr n ↦ x.met.fewer i y l (sym (unchanged i y n l) ∙ is)
     ]
 

@@ -1,16 +1,18 @@
 -- What tables show, by what they hold.
-use Rattle.std.proofs.Common.{inl, inr, ◌⊎◌, ℕ, zero, suc, ◌≡◌, ◌+◌, ◌<◌, ◌≤◌, arith, Bool, true, false, nat_eq, nat_lt, eq-eqb}
+use Rattle.std.proofs.Common.{inl, inr, ◌⊎◌, ℕ, ◌≡◌, ◌+◌, ◌<◌, ◌≤◌, arith, Bool, true, false, nat_eq, nat_lt, eq-eqb}
 use Rattle.std.proofs.Common.{List, [], ◌∷◌, ◌++◌, length, get_or, take, refl, sym, ap, ◌∙◌, subst}
 use Rattle.std.specs.Prelude.{◌&&◌, if◌then◌else◌, Option, None, Some, slice_set, Contains, ◌↔◌, Result, Ok, Err, OnOk}
-use Rattle.std.proofs.lemmas.Bool.{cases_eq, cases_lt}
+use Rattle.std.proofs.lemmas.Bool.{cases_eq, cases_lt, le-ltb, lt-ltb, ne_eqb as apart}
 use Rattle.std.specs.Bool.{OnTrue, OnFalse}
-use Rattle.std.proofs.lemmas.List.{get_or-set_other, get_or-set_same, length-set, take_more, take_all}
+use Rattle.std.proofs.lemmas.List.{get_or-set_other, get_or-set_same, length-set, take_more, take_all, get_or_past}
+use Rattle.std.proofs.Math.Bool.{and-false}
+use Rattle.regalloc2_index.proofs.Bools.{not_both}
 use Rattle.regalloc2_checker_tables.specs.Holding.{Holding, count_of, holds_now, holds_in, is_in, AreKeptTables, HoldsNow, LosesSome}
 use Rattle.regalloc2_checker_tables.specs.Showing.{Showing, showing, read_as, table_count, shows_now, shows_in, ArePassed, IsReadApart, AreShown}
 use Rattle.regalloc2_checker_tables.specs.Showing.{AreTablesKept, ShowsNow}
 use Rattle.regalloc2_checker_tables.specs.declared.passing.Passed.{Passed}
 use Rattle.regalloc2_cfg.specs.Numbers.{times_in}
-use Rattle.regalloc2_checker_tables.proofs.Bits.{below, above, apart, other-times, same-times}
+use Rattle.regalloc2_checker_tables.proofs.Bits.{other-times, same-times}
 use Rattle.regalloc2_checker_tables.proofs.Times.{times-of, contains-of}
 use Rattle.regalloc2_checker_tables.proofs.Walked.{times-append, times-nil}
 
@@ -28,12 +30,12 @@ read-some vs p y = refl
 pub when-below : (k n : ℕ) (x y : Bool) → (k < n → x ≡ y) → (nat_lt k n && x) ≡ (nat_lt k n && y)
 when-below k n x y h = elim (cases_lt k n) [
   | inl l ↦ ap (λ b. nat_lt k n && b) (h l)
-  | inr g ↦ ap (λ b. b && x) (above k n g) ∙ sym (ap (λ b. b && y) (above k n g))
+  | inr g ↦ ap (λ b. b && x) (le-ltb k n g) ∙ sym (ap (λ b. b && y) (le-ltb k n g))
 ]
 
 -- and those do
 pub if-below : (k n : ℕ) (x : Bool) → k < n → (nat_lt k n && x) ≡ x
-if-below k n x l = ap (λ b. b && x) (below k n l)
+if-below k n x l = ap (λ b. b && x) (lt-ltb k n l)
 
 -- tables that are kept show what they showed
 pub kept-shown : (t u : Holding) (p q : Option Passed) (s : List (Option Passed)) → AreKeptTables t u → AreTablesKept (showing t p s) (showing u q s)
@@ -357,16 +359,11 @@ shown-set t p q s table less is h = record {
   ];
 }
 
-past : {X : Type 0} (l : List X) (i : ℕ) (d : X) → length l ≤ i → get_or l i d ≡ d
-past [] i d h = refl
-past (x ∷ l) zero d h = absurd (omega arith)
-past (x ∷ l) (suc i) d h = past l i d (omega arith)
-
 -- where nothing is passed in any table, nothing is past the last one either
 pub nones : (s : List (Option Passed)) (n : ℕ) → length s ≡ n → ((k : ℕ) → k < n → get_or s k None ≡ None) → (k : ℕ) → get_or s k None ≡ None
 nones s n e h k = elim (cases_lt k n) [
   | inl l ↦ h k l
-  | inr g ↦ past s k None (omega arith)
+  | inr g ↦ get_or_past s k None (omega arith)
 ]
 
 -- what stays true holds at first
@@ -377,10 +374,6 @@ shown-new t s n c l h = record {
   now = none-passed t.vregs;
   tables = λ k. subst (λ (o : Option Passed). ArePassed t.vregs o) (sym (h k)) (none-passed t.vregs);
 }
-
-and-false : (b : Bool) → (b && false) ≡ false
-and-false true = refl
-and-false false = refl
 
 -- tables that hold nothing show nothing
 pub shown-nothing : (t : Holding) (p : Option Passed) (s : List (Option Passed)) → ((k i y : ℕ) → holds_in t k i y ≡ false) → (k i y : ℕ) →
@@ -395,16 +388,11 @@ read-here vs p y e = read-some vs p y ∙ ap (λ b. if b then get_or vs p.argume
 pub read-other : (vs : List ℕ) (p : Passed) (y : ℕ) → (y ≡ get_or vs p.parameter 0 → ⊥) → read_as vs (Some p) y ≡ y
 read-other vs p y n = read-some vs p y ∙ ap (λ b. if b then get_or vs p.argument 0 else y) (apart y (get_or vs p.parameter 0) n)
 
--- no test says both yes and no
-pub true-false : (b : Bool) → b ≡ true → b ≡ false → ⊥
-true-false true h g = absurd cc
-true-false false h g = absurd cc
-
 -- those that hold something are below a bound
 pub holders-within : (hs : List ℕ) (n : ℕ) (f : ℕ → Bool) → ((i : ℕ) → is_in hs i ≡ (nat_lt i n && f i)) → (i : ℕ) → is_in hs i ≡ true → i < n
 holders-within hs n f h i e = elim (cases_lt i n) [
   | inl l ↦ l
-  | inr g ↦ absurd (true-false (is_in hs i) e (h i ∙ ap (λ b. b && f i) (above i n g)))
+  | inr g ↦ absurd (not_both (is_in hs i) e (h i ∙ ap (λ b. b && f i) (le-ltb i n g)))
 ]
 
 -- what is shown is what tables hold, since nothing is passed

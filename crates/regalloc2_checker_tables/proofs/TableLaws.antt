@@ -4,14 +4,13 @@ use Rattle.std.proofs.Common.{nat_eq, nat_lt, eq-eqb, List, [], ◌∷◌, ◌++
 use Rattle.std.specs.Prelude.{◌&&◌, ◌||◌, if◌then◌else◌, slice_set, Result, Ok, Err, OnOk, OnErr}
 use Rattle.std.specs.declared.alloc.AllocError.{AllocError}
 use Rattle.std.specs.List.Sorted.{IsStrictlyIncreasing}
-use Rattle.std.proofs.lemmas.Bool.{cases_eq, cases_lt, eqb-true}
+use Rattle.std.proofs.lemmas.Bool.{cases_eq, cases_lt, eqb-true, le-ltb, ne_eqb, or_left}
 use Rattle.std.proofs.lemmas.List.{get_or-set_other, get_or-set_same, length-set, take_more}
 use Rattle.regalloc2_cfg.specs.Numbers.{NumberSet, has_number, times_in}
 use Rattle.regalloc2_checker_tables.specs.SavedNumbers.{Numbers, copy_count, number_at, number_now}
 use Rattle.regalloc2_checker_tables.specs.EntrySets.{is_member, AreMore, IsSetOf, ListsBits}
 use Rattle.regalloc2_checker_tables.specs.Holding.{Holding, held, holds_now, holds_in, IsHome, AreEntries}
 use Rattle.regalloc2_checker_tables.specs.Holding.{AreTables, AreStill, AreMoreHomes, AreKeptTables, HoldsNow, is_in}
-use Rattle.regalloc2_checker_tables.proofs.Bits.{apart, above}
 use Rattle.regalloc2_checker_tables.proofs.Holders.{homes-same, home-kept, is_in-more}
 
 -- sets and homes are added
@@ -118,7 +117,7 @@ put-one t h place set a less small k home =
             ap (λ n. is_member t.sets (get_or (slice_set t.entries.cells place set) n 0) y) d ∙ ap (λ n. is_member t.sets n y) here
             ∙ sym (ap (λ b. if b then is_member t.sets set y else holds_now t i y) (eq-eqb i place d))
         | inr d ↦
-            ap (λ n. is_member t.sets n y) (other i d) ∙ sym (ap (λ b. if b then is_member t.sets set y else holds_now t i y) (apart i place d))
+            ap (λ n. is_member t.sets n y) (other i d) ∙ sym (ap (λ b. if b then is_member t.sets set y else holds_now t i y) (ne_eqb i place d))
       ];
     }
 
@@ -292,7 +291,7 @@ put-home t h place vreg set a less m here members y is = elim (cases_eq y (get_o
   | inl e ↦ subst (λ (z : ℕ). IsHome t.vregs h place z) (sym e) here
   | inr n ↦
       let long = a.long in
-      let there : holds_now t place y ≡ true = ap (λ b. b || holds_now t place y) (sym (apart y (get_or t.vregs vreg 0) n)) ∙ members y is in
+      let there : holds_now t place y ≡ true = ap (λ b. b || holds_now t place y) (sym (ne_eqb y (get_or t.vregs vreg 0) n)) ∙ members y is in
       home-kept t.vregs t.homes h place y m (a.now.homed place y (omega arith) there)
 ]
 
@@ -326,8 +325,8 @@ holders-are t vreg holders a less h i = elim (cases_lt i (length t.places)) [
       h i ∙ ap (λ b. nat_lt i (length t.places) && b) (by (has_number (get_or t.homes vreg []) i) (holds_now t i (get_or t.vregs vreg 0))
       (λ is. a.now.homed i (get_or t.vregs vreg 0) (omega arith) is vreg less refl))
   | inr g ↦
-      h i ∙ ap (λ b. b && (has_number (get_or t.homes vreg []) i && holds_now t i (get_or t.vregs vreg 0))) (above i (length t.places) g)
-      ∙ sym (ap (λ b. b && holds_now t i (get_or t.vregs vreg 0)) (above i (length t.places) g))
+      h i ∙ ap (λ b. b && (has_number (get_or t.homes vreg []) i && holds_now t i (get_or t.vregs vreg 0))) (le-ltb i (length t.places) g)
+      ∙ sym (ap (λ b. b && holds_now t i (get_or t.vregs vreg 0)) (le-ltb i (length t.places) g))
 ]
   where
     by : (m o : Bool) → (o ≡ true → m ≡ true) → (m && o) ≡ o
@@ -351,15 +350,11 @@ define-now a b c d place vreg set kb kc kd hb hc s hd i y l =
     (s.members y ∙ ap (λ (vs : List ℕ). nat_eq y (get_or vs vreg 0)) kb.vregs)
     ∙ ap (λ x. if nat_eq i place then nat_eq y (get_or a.vregs vreg 0) else x) (hc i y lc ∙ hb i y lb)
 
-or-left : (a b : Bool) → a ≡ true → (a || b) ≡ true
-or-left true b e = refl
-or-left false b e = absurd cc
-
 -- each member of the set of one vreg is that vreg, or is held there already
 pub define-members : (b c : Holding) (place vreg set : ℕ) → AreKeptTables b c → IsSetOf c.sets set (λ y. nat_eq y (get_or b.vregs vreg 0)) → (y : ℕ) →
     is_member c.sets set y ≡ true → (nat_eq y (get_or c.vregs vreg 0) || holds_now c place y) ≡ true
 define-members b c place vreg set k s y is =
-    or-left (nat_eq y (get_or c.vregs vreg 0)) (holds_now c place y)
+    or_left (nat_eq y (get_or c.vregs vreg 0)) (holds_now c place y)
     (ap (λ (vs : List ℕ). nat_eq y (get_or vs vreg 0)) k.vregs ∙ sym (s.members y) ∙ is)
 
 -- one virtual register more in a place
@@ -377,8 +372,8 @@ add-now a b d place vreg set kb kd hb s hd i y l =
           ∙ ap (λ n. if nat_eq y (get_or a.vregs vreg 0) then true else holds_now a n y) (sym e)
           ∙ sym (ap (λ t. if t && nat_eq y (get_or a.vregs vreg 0) then true else holds_now a i y) (eq-eqb i place e))
       | inr n ↦
-          ap (λ t. if t then (if nat_eq y (get_or a.vregs vreg 0) then true else holds_now a place y) else holds_now a i y) (apart i place n)
-          ∙ sym (ap (λ t. if t && nat_eq y (get_or a.vregs vreg 0) then true else holds_now a i y) (apart i place n))
+          ap (λ t. if t then (if nat_eq y (get_or a.vregs vreg 0) then true else holds_now a place y) else holds_now a i y) (ne_eqb i place n)
+          ∙ sym (ap (λ t. if t && nat_eq y (get_or a.vregs vreg 0) then true else holds_now a i y) (ne_eqb i place n))
     ]
 
 -- each member of a place's set with one vreg more is that vreg, or is held there already
@@ -425,7 +420,7 @@ give-more b d has v w k place places less e ew kd hb hd i y l =
     turned : (i j : ℕ) → nat_eq i j ≡ nat_eq j i
     turned i j = elim (cases_eq i j) [
       | inl d ↦ eq-eqb i j d ∙ sym (eq-eqb j i (sym d))
-      | inr n ↦ apart i j n ∙ sym (apart j i (λ q. n (sym q)))
+      | inr n ↦ ne_eqb i j n ∙ sym (ne_eqb j i (λ q. n (sym q)))
     ]
 
 -- an item of a list is in it
@@ -462,7 +457,7 @@ save-in t f k a others ok n i y l = (let long = a.long in elim (cases_eq n k) [
       ap (λ m. is_member t.sets (number_at f m i) y) e ∙ ap (λ m. is_member t.sets m y) (ok i (omega arith))
       ∙ sym (ap (λ b. if b then holds_now t i y else holds_in t n i y) (eq-eqb n k e))
   | inr d ↦
-      ap (λ m. is_member t.sets m y) (others n i d (omega arith)) ∙ sym (ap (λ b. if b then holds_now t i y else holds_in t n i y) (apart n k d))
+      ap (λ m. is_member t.sets m y) (others n i d (omega arith)) ∙ sym (ap (λ b. if b then holds_now t i y else holds_in t n i y) (ne_eqb n k d))
 ])
 
 -- a meet that loses nothing
@@ -473,7 +468,7 @@ meet-false t s f k a st same n i y l = (drop-kept t s f a st).tables n i y l ∙
   | inl e ↦
       whole (holds_in t n i y) (holds_now t i y) (λ is. same i y l (ap (λ m. holds_in t m i y) (sym e) ∙ is))
       ∙ sym (ap (λ b. if b then holds_in t n i y && holds_now t i y else holds_in t n i y) (eq-eqb n k e))
-  | inr d ↦ sym (ap (λ b. if b then holds_in t n i y && holds_now t i y else holds_in t n i y) (apart n k d))
+  | inr d ↦ sym (ap (λ b. if b then holds_in t n i y && holds_now t i y else holds_in t n i y) (ne_eqb n k d))
 ]
   where
     whole : (p q : Bool) → (p ≡ true → q ≡ true) → p ≡ (p && q)
@@ -496,8 +491,8 @@ meet-true t s f h k a st b others saved met n i y l =
           ∙ ap (λ m. holds_in t m i y && holds_now t i y) (sym e)
           ∙ sym (ap (λ c. if c then holds_in t n i y && holds_now t i y else holds_in t n i y) (eq-eqb n k e))
       | inr d ↦
-          ap (λ c. if c then holds_in t k i y && holds_now t i y else holds_in t n i y) (apart n k d)
-          ∙ sym (ap (λ c. if c then holds_in t n i y && holds_now t i y else holds_in t n i y) (apart n k d))
+          ap (λ c. if c then holds_in t k i y && holds_now t i y else holds_in t n i y) (ne_eqb n k d)
+          ∙ sym (ap (λ c. if c then holds_in t n i y && holds_now t i y else holds_in t n i y) (ne_eqb n k d))
     ]
 
 -- nothing is held yet

@@ -3,9 +3,8 @@ use Rattle.std.proofs.Common.{inl, inr, Bool, true, false, ℕ, zero, suc, ◌�
 use Rattle.std.proofs.Common.{cond, nat_eq, eq-eqb, List, [], ◌∷◌, length, get_or, refl, ap}
 use Rattle.std.specs.Prelude.{Contains, ◌↔◌, if◌then◌else◌}
 use Rattle.regalloc2_checker_tables.specs.EntrySets.{ListsBits}
-use Rattle.std.proofs.lemmas.Bool.{cases_eq}
+use Rattle.std.proofs.lemmas.Bool.{cases_eq, ne_eqb}
 use Rattle.regalloc2_cfg.specs.Numbers.{times_in}
-use Rattle.regalloc2_checker_tables.proofs.Bits.{apart}
 
 to-times : (xs : List ℕ) (i y : ℕ) → i < length xs → get_or xs i y ≡ y → 0 < times_in xs y
 unfolding times_in
@@ -24,7 +23,7 @@ contains-of [] y l = absurd (omega arith)
 contains-of (x ∷ xs) y l = elim (cases_eq x y) [
   | inl e ↦ (zero, omega arith, e)
   | inr n ↦
-      let a : ◌≡◌ {A = ℕ} (cond (nat_eq x y) 1 0) 0 = ap (λ b. cond b 1 0) (apart x y n) in
+      let a : ◌≡◌ {A = ℕ} (cond (nat_eq x y) 1 0) 0 = ap (λ b. cond b 1 0) (ne_eqb x y n) in
       let r = contains-of xs y (omega arith) in
       (suc r.0, (let s = r.1 in omega arith), r.2)
 ]

@@ -8,11 +8,13 @@ ghost use Rattle.std.specs.Prelude.{◌≡◌, ◌<◌, ◌≢◌, ℕ, true, fa
 ghost use Rattle.std.specs.Bool.{OnTrue, OnFalse};
 ghost use Rattle.std.specs.List.{position};
 ghost use Rattle.std.specs.List.Sorted.{IsStrictlyIncreasing};
+ghost use Rattle.regalloc2_names.specs.PlaceBits.{bits_of_place};
 ghost use Rattle.regalloc2_checker_tables.specs.Holding.{count_of, holds_now, holds_in, is_in, AreKeptTables, HoldsNow, LosesSome};
 ghost use Rattle.regalloc2_checker_tables.specs.Showing.{read_as, table_count, shows_now, shows_in, ArePassed, IsReadApart, AreTablesKept, ShowsNow};
 
 use crate::positions::Positions;
 use crate::tables::Tables;
+use regalloc2_names::Allocation;
 use std::alloc::{AllocError, Allocator};
 use std::marker::Model;
 
@@ -154,10 +156,10 @@ impl<A: Allocator + Copy> PassingTables<A> {
     }
 
     /// The position of a place, by its bits.
-    pub fn place(&self, bits: u32) -> Option<usize>
-        ensures { result ≡ position (λ n. n == bits) self.now.places }
+    pub fn place(&self, place: Allocation) -> Option<usize>
+        ensures { result ≡ position (λ n. n == bits_of_place place) self.now.places }
     {
-        self.tables.place(bits)
+        self.tables.place(place)
     }
 
     /// The position of a virtual register, by its bits.

@@ -6,6 +6,7 @@ ghost use Rattle.std.specs.Prelude.{◌↔◌, Contains, IfOk, OnOk, OnErr};
 ghost use Rattle.std.specs.Bool.{OnTrue, OnFalse};
 ghost use Rattle.std.specs.List.{position};
 ghost use Rattle.std.specs.List.Sorted.{IsStrictlyIncreasing};
+ghost use Rattle.regalloc2_names.specs.PlaceBits.{bits_of_place};
 ghost use Rattle.regalloc2_cfg.specs.Numbers.{has_number, times_in};
 ghost use Rattle.regalloc2_checker_tables.specs.SavedNumbers.{copy_count, number_now, number_at};
 ghost use Rattle.regalloc2_checker_tables.specs.EntrySets.{is_member, IsSetOf, IsLess};
@@ -17,6 +18,7 @@ use crate::entries::Entries;
 use crate::positions::Positions;
 use crate::sets::Sets;
 use regalloc2_cfg::indexset::IndexSet;
+use regalloc2_names::{Allocation, PReg, SpillSlot};
 use std::alloc::{AllocError, Allocator};
 use std::marker::Model;
 
@@ -51,6 +53,14 @@ struct Hints<A: Allocator> {
     slots: Vec<usize, A>,
 }
 
+/// The slot of a place's bits, if it is one.
+fn slot_of(bits: u32) -> Option<SpillSlot> {
+    if !Allocation::is_bits(bits) {
+        return None;
+    }
+    Allocation::from_bits(bits).as_stack()
+}
+
 /// Where slots may be listed, as far as their indexes are below four times the number of places.
 fn listed_slots<A: Allocator + Copy>(
     alloc: A,
@@ -59,9 +69,11 @@ fn listed_slots<A: Allocator + Copy>(
     let mut slots = Vec::new(alloc);
     slots.resize(places.len().saturating_mul(4), 0)?;
     for position in 0..places.len() {
-        let index = places.number(position).wrapping_sub(1073741824);
-        if let Some(slot) = slots.get_mut(index as usize) {
-            *slot = position;
+        let Some(slot) = slot_of(places.number(position)) else {
+            continue;
+        };
+        if let Some(listed) = slots.get_mut(slot.index()) {
+            *listed = position;
         }
     }
     Ok(slots)
@@ -70,21 +82,26 @@ fn listed_slots<A: Allocator + Copy>(
 impl<A: Allocator + Copy> Hints<A> {
     /// Where places are listed, as far as it is found.
     fn of(alloc: A, places: &Positions<A>) -> Result<Hints<A>, AllocError> {
-        let mut registers = Vec::with_capacity(alloc, 192)?;
-        for number in 0..192u32 {
-            registers.push(places.find(number + 536870912, 0).unwrap_or(0))?;
+        let mut registers = Vec::with_capacity(alloc, PReg::NUM_INDEX)?;
+        for index in 0..PReg::NUM_INDEX {
+            if !PReg::is_index(index) {
+                continue;
+            }
+            let place = Allocation::reg(PReg::from_index(index));
+            registers.push(places.find(place.bits(), 0).unwrap_or(0))?;
         }
         let slots = listed_slots(alloc, places)?;
         Ok(Hints { registers, slots })
     }
 
-    /// Where the place with some bits may be listed.
-    fn position(&self, bits: u32) -> usize {
-        let index = (bits % 536870912) as usize;
-        if bits >= 1073741824 {
-            return self.slots.get(index).copied().unwrap_or(0);
-        }
-        self.registers.get(index).copied().unwrap_or(0)
+    /// Where a place may be listed.
+    fn position(&self, place: Allocation) -> usize {
+        let listed = if place.is_stack() {
+            &self.slots
+        } else {
+            &self.registers
+        };
+        listed.get(place.index()).copied().unwrap_or(0)
     }
 }
 
@@ -372,10 +389,10 @@ impl<A: Allocator + Copy> Tables<A> {
     }
 
     /// The position of a place, by its bits.
-    pub fn place(&self, bits: u32) -> Option<usize>
-        ensures { result ≡ position (λ n. n == bits) self.now.places }
+    pub fn place(&self, place: Allocation) -> Option<usize>
+        ensures { result ≡ position (λ n. n == bits_of_place place) self.now.places }
     {
-        self.places.find(bits, self.hints.position(bits))
+        self.places.find(place.bits(), self.hints.position(place))
     }
 
     /// The position of a virtual register, by its bits.

@@ -1,6 +1,7 @@
 -- Where a virtual register has no slot, the place of the operand that reads it last shows its value on every path from its definition to each use.
 use Rattle.std.proofs.Common.{ℕ, ◌≡◌, ◌<◌, ◌≤◌, inl, inr, true, false, List, ◌∷◌, length, refl, sym, ap, ◌∙◌, subst, arith}
 use Rattle.std.specs.Prelude.{None, Some}
+use Rattle.std.proofs.lemmas.Bool.{cases_lt}
 use Rattle.regalloc2_names.specs.Register.{VirtualRegister}
 use Rattle.regalloc2_names.specs.Operand.{OperandValue, is_def}
 use Rattle.regalloc2_names.specs.Place.{Place, NoPlace}
@@ -22,7 +23,6 @@ use Rattle.regalloc2_semantics.proofs.SingleDef.{Made, one_operand, reads_define
 use Rattle.regalloc2_semantics.proofs.SingleDef as defined
 use Rattle.regalloc2_semantics.proofs.LiveIn.{live_is_used}
 use Rattle.regalloc2_semantics.proofs.Order.{ends_within, stands_later, reads_later}
-use Rattle.regalloc2_semantics.proofs.Soundness.{cases_within}
 use Rattle.regalloc2_fastalloc_proofs.proofs.Walk.BlocksCarryFromFreshState.{used_slots}
 use Rattle.regalloc2_fastalloc_proofs.proofs.Walk.InstBoundaries.{grown_weaken, grown_pushes}
 use Rattle.regalloc2_fastalloc_proofs.proofs.Inst.OneInstCarries.{Needed}
@@ -86,7 +86,7 @@ module _ (walk : WholeWalk) (m : IsMade walk.f walk.env (Made walk.f) (MayInBloc
 
   -- the block of its last use has its definition too
   together : (w : MetAt il) → (block_at f w.block).range.first ≤ id
-  together w = elim (cases_within id (block_at f w.block).range.first) [
+  together w = elim (cases_lt id (block_at f w.block).range.first) [
     | inr le ↦ le
     | inl lt ↦ (
         let unwritten : IsUnwritten f w.block v = λ i ge less j few def is.

@@ -1,6 +1,7 @@
 -- The place by which a virtual register is shown holds its value: its slot, or that of the operand which reads it last.
 use Rattle.std.proofs.Common.{ℕ, ◌≡◌, ◌<◌, ◌≤◌, inl, inr, true, false, List, length, refl, sym, ap, subst, arith}
 use Rattle.std.specs.Prelude.{Option, Contains, slice_index_or}
+use Rattle.std.proofs.lemmas.List.{get_or_default}
 use Rattle.regalloc2_names.specs.declared.OperandPos.{OperandPos}
 use Rattle.regalloc2_names.specs.declared.OperandPos.TheVariants.{Early, Late}
 use Rattle.regalloc2_names.specs.Register.{VirtualRegister}
@@ -17,7 +18,7 @@ use Rattle.regalloc2_function.specs.WellFormed.{last_of}
 use Rattle.regalloc2_semantics.specs.Listing.{op_at, no_operand}
 use Rattle.regalloc2_semantics.specs.Blocks.{IsSound, IsUnwritten, target_at}
 use Rattle.regalloc2_semantics.specs.Laws.{ReadsAgreeOnPaths}
-use Rattle.regalloc2_semantics.proofs.SingleDef.{Made, by_operand, one_made, one_operand, not_both, reads_defined, default_free}
+use Rattle.regalloc2_semantics.proofs.SingleDef.{Made, by_operand, one_made, one_operand, not_both, reads_defined}
 use Rattle.regalloc2_semantics.proofs.SingleDef as defined
 use Rattle.regalloc2_semantics.proofs.Order.{ends_within, reads_later}
 use Rattle.regalloc2_semantics.proofs.Soundness.{well_formed_are_sound}
@@ -59,7 +60,7 @@ reads_by : (f : FunctionValue) (v : VirtualRegister) (at : OperandPos) (i k : �
     (op_at (inst_at f i).operands k).vreg ≡ v → ReadsAt f v at i
 reads_by f v at i k lt less reads position is =
     let o : OperandValue = op_at (inst_at f i).operands k in
-    (lt, (k, o, less, default_free (inst_at f i).operands k o no_operand less, reads, position, is))
+    (lt, (k, o, less, get_or_default (inst_at f i).operands k o no_operand less, reads, position, is))
 
 use_by : (f : FunctionValue) (v : VirtualRegister) (i k : ℕ) → i < length f.insts → k < length (inst_at f i).operands →
     is_reading (op_at (inst_at f i).operands k) ≡ true → (op_at (inst_at f i).operands k).vreg ≡ v → UsesAt f v i
@@ -125,7 +126,7 @@ module _ (walk : WholeWalk) (m : IsMade walk.f walk.env (Made walk.f) (MayInBloc
               let xs : List VirtualRegister = arguments_at f b k in
               let w : VirtualRegister = slice_index_or xs j defined.no_vreg in
               let inside : j < length xs = (let n = sound.arguments b k edge in omega (arith, few, n)) in
-              let has : Contains xs w = (j, inside, default_free xs j w defined.no_vreg inside) in
+              let has : Contains xs w = (j, inside, get_or_default xs j w defined.no_vreg inside) in
               let same : w ≡ v = one_made f ok.defined_once w v (used_made f ok.defined_once ok.follow ok.uses_defined w b lb (inr (k, edge, has))) known e in
               let most = greatest (last_of (block_at f b)) (inr (inr (b, k, lb, refl, edge, subst (Contains xs) same has, other b behind))) in
               omega (arith, most, behind),

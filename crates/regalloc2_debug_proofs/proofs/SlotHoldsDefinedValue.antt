@@ -1,6 +1,7 @@
 -- Behind a definition, the slot that its virtual register has at the walk's end shows its value.
 use Rattle.std.proofs.Common.{ℕ, ◌≡◌, ◌+◌, ◌<◌, inl, inr, true, false, List, [], ◌∷◌, ◌++◌, length, refl, sym, ap, ◌∙◌, subst, arith}
 use Rattle.std.specs.Prelude.{slice_index_or}
+use Rattle.std.proofs.lemmas.List.{get_or_default}
 use Rattle.regalloc2_names.specs.Register.{VirtualRegister}
 use Rattle.regalloc2_names.specs.Operand.{OperandValue, is_def}
 use Rattle.regalloc2_names.specs.Place.{Place, InSlot}
@@ -22,7 +23,7 @@ use Rattle.regalloc2_semantics.specs.Carry.{Carries, Undefined}
 use Rattle.regalloc2_semantics.specs.BlockByPoints.{at_point, walked, before_part, Rising, listed}
 use Rattle.regalloc2_semantics.specs.Blocks.{target_at, IsSound}
 use Rattle.regalloc2_semantics.specs.Laws.{ReadsAgreeOnPaths}
-use Rattle.regalloc2_semantics.proofs.SingleDef.{Made, one_operand, not_both, reads_defined, default_free}
+use Rattle.regalloc2_semantics.proofs.SingleDef.{Made, one_operand, not_both, reads_defined}
 use Rattle.regalloc2_semantics.proofs.SingleDef as defined
 use Rattle.regalloc2_semantics.proofs.UnwrittenPlaces.{NoMoveTo, moves_kept}
 use Rattle.regalloc2_semantics.proofs.Order.{reads_later, passes_later}
@@ -87,7 +88,7 @@ module _ (env : MachineValue) (f : FunctionValue) (limited : IsLimited f) (ok : 
           let xs : List VirtualRegister = arguments_at f b k in
           let w : VirtualRegister = slice_index_or xs j defined.no_vreg in
           let inside : j < length xs = (let n = sound.arguments b k edge in omega (arith, less, n)) in
-          let later = passes_later f ok.defined_once x i d b k w at ok.follow ok.uses_defined lb edge (j, inside, default_free xs j w defined.no_vreg inside)
+          let later = passes_later f ok.defined_once x i d b k w at ok.follow ok.uses_defined lb edge (j, inside, get_or_default xs j w defined.no_vreg inside)
           e in
           omega (arith, sooner, later),
     );

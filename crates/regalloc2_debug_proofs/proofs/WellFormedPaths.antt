@@ -1,6 +1,7 @@
 -- Well-formed functions have what the way of a value along a path needs.
 use Rattle.std.proofs.Common.{ℕ, suc, ◌≡◌, ◌≢◌, ◌+◌, ◌<◌, ◌≤◌, Bool, true, false, List, [], ◌∷◌, length, refl, ap, ◌∙◌, inl, inr, subst, arith}
 use Rattle.std.specs.Prelude.{slice_index_or, Contains}
+use Rattle.std.proofs.lemmas.List.{get_or_default}
 use Rattle.regalloc2_names.specs.declared.OperandPos.{OperandPos}
 use Rattle.regalloc2_names.specs.declared.OperandPos.TheVariants.{Early, Late}
 use Rattle.regalloc2_names.specs.Register.{VirtualRegister, is_vreg}
@@ -17,7 +18,7 @@ use Rattle.regalloc2_semantics.specs.Carry.{Undefined}
 use Rattle.regalloc2_semantics.specs.Blocks.{names, target_at, IsSound}
 use Rattle.regalloc2_semantics.specs.Live.{IsLive, read_there, passed_there, IsAside}
 use Rattle.regalloc2_semantics.proofs.Cells.{is_vreg-true}
-use Rattle.regalloc2_semantics.proofs.SingleDef.{reads_defined, default_free}
+use Rattle.regalloc2_semantics.proofs.SingleDef.{reads_defined}
 use Rattle.regalloc2_semantics.proofs.Order.{ends_within, stands_later, reads_later}
 use Rattle.regalloc2_semantics.proofs.Paths.{block_within}
 use Rattle.regalloc2_semantics.proofs.Soundness.{well_formed_are_sound}
@@ -26,7 +27,7 @@ use Rattle.regalloc2_debug_proofs.proofs.SlotHoldsToUses.{IsPlain}
 
 -- an operand that is read from a list at an index in range is the operand of that index
 pub op_is : (ops : List OperandValue) (k : ℕ) (o : OperandValue) → k < length ops → slice_index_or ops k o ≡ o → op_at ops k ≡ o
-op_is ops k o lt is = default_free ops k no_operand o lt ∙ is
+op_is ops k o lt is = get_or_default ops k no_operand o lt ∙ is
 
 -- a list names what it has
 named_by : (b : Bool) (v p : VirtualRegister) (ps : List VirtualRegister) → is_vreg p v ≡ b → (names v ps ≡ true → Contains ps v) → names v (p ∷ ps) ≡ true →
@@ -75,7 +76,7 @@ module _ (env : MachineValue) (f : FunctionValue) (ok : IsWellFormed env f) (wri
   not_given : (ws : List Way) (w : Way) → IsPath f (w ∷ ws) → (IsGiven f v ws w → ⊥) → Undefined (inst_at f (end_of f ws).inst).operands v
   not_given ws w path not j lt d e =
       let ops : List OperandValue = (inst_at f (end_of f ws).inst).operands in
-      not (inl (inst_lt ws path.0, (j, op_at ops j, lt, default_free ops j (op_at ops j) no_operand lt, d, e)))
+      not (inl (inst_lt ws path.0, (j, op_at ops j, lt, get_or_default ops j (op_at ops j) no_operand lt, d, e)))
 
   goes_aside : (ws : List Way) (w : Way) → IsPath f (w ∷ ws) → (IsGiven f v ws w → ⊥) → IsAside f v (end_of f ws) w
   goes_aside ws Onward path not = tt
@@ -118,7 +119,7 @@ module _ (env : MachineValue) (f : FunctionValue) (ok : IsWellFormed env f) (wri
       let same : b ≡ c = omega (arith, from, to) in
       let ops : List OperandValue = (inst_at f i).operands in
       let undefined : Undefined ops v = λ j jl d m.
-      other (inst_lt ws path, (j, op_at ops j, jl, default_free ops j (op_at ops j) no_operand jl, d, m)) in
+      other (inst_lt ws path, (j, op_at ops j, jl, get_or_default ops j (op_at ops j) no_operand jl, d, m)) in
       let end : i + 1 ≡ (block_at f b).range.end = omega (arith, last, some) in (
         undefined,
         passed_there (end_of f ws) k (end ∙ ap (λ (n : ℕ). (block_at f n).range.end) same, subst (λ (n : ℕ). k < length (block_at f n).succs) same edge)

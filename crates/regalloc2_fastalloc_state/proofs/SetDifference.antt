@@ -2,6 +2,7 @@
 use Rattle.std.proofs.Common.{◌≡◌, ◌<◌, Bool, true, false, not, ◌&&◌, ⊎_elim, refl, ap, ◌∙◌, subst, List}
 use Rattle.std.specs.Prelude.{Contains}
 use Rattle.std.proofs.lemmas.Bool.{cases_Bool}
+use Rattle.std.proofs.Math.Bool.{and_comm}
 use Rattle.regalloc2_names.specs.declared.sets.PRegSet.{PRegSet}
 use Rattle.regalloc2_names.specs.Listed.{IsWalkOf, listed_is}
 use Rattle.regalloc2_names.specs.Register.{Register}
@@ -11,18 +12,12 @@ use Rattle.regalloc2_names.specs.RegisterSet.{has_register}
 pub small_by_walk : (s : PRegSet) (xs : List Register) → IsWalkOf s xs → (r : Register) → has_register s r ≡ true → r.number < 64
 small_by_walk s xs walk r h = (listed_is s r (subst (λ (ys : List Register). Contains ys r) walk.list ((walk.members r).0 h))).0
 
-pub swapped : (a b : Bool) → a && b ≡ b && a
-swapped true true = refl
-swapped true false = refl
-swapped false true = refl
-swapped false false = refl
-
 -- the members of a set that aren't in another are those that it and the other's inverse have
 pub set_less : (s t inverse meet : PRegSet) (xs : List Register) → IsWalkOf s xs →
     ((r : Register) → r.number < 64 → has_register inverse r ≡ not (has_register t r)) →
     ((r : Register) → has_register meet r ≡ has_register s r && has_register inverse r) →
     (r : Register) → has_register meet r ≡ not (has_register t r) && has_register s r
-set_less s t inverse meet xs walk inverted met r = met r ∙ same ∙ swapped (has_register s r) (not (has_register t r))
+set_less s t inverse meet xs walk inverted met r = met r ∙ same ∙ and_comm (has_register s r) (not (has_register t r))
   where
     same : has_register s r && has_register inverse r ≡ has_register s r && not (has_register t r)
     same = ⊎_elim

@@ -1,9 +1,9 @@
 -- How many registers of a class are free at both positions, and which is left once one is taken.
-use Rattle.regalloc2_parts.proofs.RegisterLaws.{same_answer}
 use Rattle.std.proofs.Common.{◌≡◌, true, false, length, refl, sym, ◌∙◌}
 use Rattle.std.specs.Prelude.{◌&&◌, ◌↔◌, not}
 use Rattle.std.proofs.Common.{inl, inr}
 use Rattle.std.proofs.lemmas.Bool.{and_parts, cases_Bool, and_from}
+use Rattle.regalloc2_index.proofs.Bools.{equal_tests}
 use Rattle.regalloc2_names.specs.declared.RegClass.{RegClass}
 use Rattle.regalloc2_names.specs.declared.sets.PRegSet.{PRegSet}
 use Rattle.regalloc2_names.specs.Register.{Register, is_register}
@@ -28,7 +28,7 @@ free_counted set free own allocatable inst_regs class into from split meet =
     (λ n lt. same (register_number class n) refl)
   where
     same : (r : Register) → r.class ≡ class → has_register set r ≡ is_free allocatable inst_regs r
-    same r of_class = same_answer (has_register set r) (is_free allocatable inst_regs r)
+    same r of_class = equal_tests (has_register set r) (is_free allocatable inst_regs r)
         (λ h. let p = and_parts (has_register free r) (has_register own r) (sym (meet r) ∙ h) in let f = into r p.0 in
         and_from (has_register allocatable r) (is_free_throughout inst_regs r) ((split r).0 p.1).1
         (and_from (has_register inst_regs.early r) (has_register inst_regs.late r) (f.early refl) (f.late refl)))

@@ -5,6 +5,7 @@ use Rattle.std.specs.Prelude.{Option, None, Some, IfSome, not, ◌&&◌, ◌||�
 use Rattle.std.proofs.lemmas.Bool.{cases_Bool, cases_eq, and_parts, or_left, or_right, and_from, or_cases, both_ways}
 use Rattle.std.proofs.lemmas.List.{length-take-le, take_all}
 use Rattle.std.proofs.lemmas.List.Sums.{count_by-le-length, count_by_more_yes, count_by_more_no}
+use Rattle.std.proofs.Math.Bool.{and_comm}
 use Rattle.regalloc2_names.specs.declared.RegClass.{RegClass}
 use Rattle.regalloc2_names.specs.declared.OperandConstraint.TheVariants.{FixedReg}
 use Rattle.regalloc2_names.specs.Register.{Register, class_code, is_register}
@@ -16,7 +17,6 @@ use Rattle.regalloc2_fastalloc_state.specs.declared.inst_regs.InstRegs.{InstRegs
 use Rattle.regalloc2_fastalloc_walk.specs.declared.reserve_regs.ReservedRegs.{ReservedRegs}
 use Rattle.regalloc2_fastalloc_state.specs.InstRegs.{RemovesAvailable, awaited_of, is_free_throughout}
 use Rattle.regalloc2_fastalloc_state.proofs.ArraysByClass.{zeros}
-use Rattle.regalloc2_fastalloc_state.proofs.SetDifference.{swapped}
 use Rattle.regalloc2_validate.specs.Constraints.{op_at, no_operand}
 use Rattle.regalloc2_fastalloc_proofs.specs.InstSteps.{StateValue, NeedsFixedReg, own, named, IsFixedIn, ReservesRegs, asks, asking}
 use Rattle.regalloc2_fastalloc_proofs.specs.InstSteps.{EvictsFixed, none_cleared, not_fixed}
@@ -179,7 +179,7 @@ module _ (ops : List OperandValue) (k : ℕ) (t u w : InstRegs) (c d : ReservedR
       ]
 
   turned : (a b e f : Bool) → ((a && b) || (e && f)) ≡ ((b && a) || (f && e))
-  turned a b e f = rw (swapped a b, swapped e f) refl
+  turned a b e f = rw (and_comm a b, and_comm e f) refl
 
   newest : (P : ℕ → Type 0) (j : ℕ) → j < k + 1 → (j < k → P j) → P k → P j
   newest P j lt f g = elim (cases_eq j k) [ inl e ↦ subst P (sym e) g | inr ne ↦ f (omega arith) ]

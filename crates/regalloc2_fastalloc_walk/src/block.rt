@@ -1,7 +1,7 @@
 //! The beginning of a block: what is read from there on comes in spill slots.
 
 ghost use Rattle.std.specs.Prelude.{ℕ, ◌≡◌, ◌<◌, [], All, length, None, OnOk};
-ghost use Rattle.regalloc2_names.specs.Point.{before};
+ghost use Rattle.regalloc2_names.specs.Point.{before, inst_limit};
 ghost use Rattle.regalloc2_names.specs.Place.{NoPlace};
 ghost use Rattle.regalloc2_names.specs.Register.{Register};
 ghost use Rattle.regalloc2_fastalloc_walk.specs.StateView.{IsStepAt, SameTables, ComesTo};
@@ -88,7 +88,7 @@ impl<'a, A: Allocator> State<'a, A> {
     /// The beginning of a block: its parameters come in their slots, and so does each vreg that is in a register
     /// behind.
     pub fn reload_at_begin(&mut self, first: Inst, params: &[VReg]) -> Result<(), RegAllocError>
-        requires inst { first < 1073741824 }
+        requires inst { first < inst_limit }
         requires later { AllAtOrAfter (before first) self.old.edits }
         requires known { All (λ v. v.number < length self.old.places.vreg_allocs) params.now }
         ensures outcome { ComesTo (ReloadAtBegin (before first) params.now) tt result self.old self.new }

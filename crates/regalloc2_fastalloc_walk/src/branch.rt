@@ -4,7 +4,7 @@ ghost use Rattle.regalloc2_semantics.specs.Blocks.{HasEdge, target_at};
 ghost use Rattle.std.specs.Prelude.{ℕ, List, ◌≡◌, ◌↔◌, ◌≢◌, ◌<◌, ◌≤◌, ◌+◌, ◌++◌, ◌∷◌, ◌⊎◌, [], None, Some, length, IsTrue, IfOk, IfSome, IfErr, OnOk};
 ghost use Rattle.std.specs.Prelude.{OnErr, IfNone, slice_index_or, true, MatchResult};
 ghost use Rattle.regalloc2_names.specs.Place.{Place, NoPlace, InRegister};
-ghost use Rattle.regalloc2_names.specs.Point.{before};
+ghost use Rattle.regalloc2_names.specs.Point.{before, inst_limit};
 ghost use Rattle.regalloc2_names.specs.Register.{Register, class_code};
 ghost use Rattle.regalloc2_function.specs.FunctionValue.{block_at, inst_at};
 ghost use Rattle.regalloc2_parts.specs.AtOnce.{ends_of, HasOneSourceEach};
@@ -380,7 +380,7 @@ impl<'a, A: Allocator> State<'a, A> {
         arguments: &[VReg],
         moves: &mut MovesByClass<'b, B>,
     ) -> Result<(), RegAllocError>
-        requires inst { own.now.branch < 1073741824 }
+        requires inst { own.now.branch < inst_limit }
         requires later { AllAtOrAfter (before own.now.branch) self.old.edits }
         requires counted { length arguments.now ≡ length params.now }
         requires parameters { AreKnown params.now (tables_of self.old) }
@@ -415,7 +415,7 @@ impl<'a, A: Allocator> State<'a, A> {
         requires block { block < length (F.function cx.now.f.now).blocks }
         requires last { inst + 1 ≡ (block_at (F.function cx.now.f.now) block).range.end }
         requires nonempty { (block_at (F.function cx.now.f.now) block).range.first ≤ inst }
-        requires inst { inst < 1073741824 }
+        requires inst { inst < inst_limit }
         requires well_formed { MayBeAllocated (F.function cx.now.f.now) }
         requires branch { (inst_at (F.function cx.now.f.now) inst).is_branch ≡ true }
         requires defs { AreBranchDefsOf (F.function cx.now.f.now) cx.now.defs.now }
@@ -485,7 +485,7 @@ impl<'a, A: Allocator> State<'a, A> {
         requires block { block < length (F.function cx.now.f.now).blocks }
         requires last { inst + 1 ≡ (block_at (F.function cx.now.f.now) block).range.end }
         requires nonempty { (block_at (F.function cx.now.f.now) block).range.first ≤ inst }
-        requires inst { inst < 1073741824 }
+        requires inst { inst < inst_limit }
         requires well_formed { MayBeAllocated (F.function cx.now.f.now) }
         requires branch { (inst_at (F.function cx.now.f.now) inst).is_branch ≡ true }
         requires defs { AreBranchDefsOf (F.function cx.now.f.now) cx.now.defs.now }

@@ -5,7 +5,7 @@ ghost use Rattle.regalloc2_names.specs.RegisterSet.{has_register};
 ghost use Rattle.regalloc2_names.specs.Register.{Register, VirtualRegister};
 ghost use Rattle.std.specs.Prelude.{◌≡◌, ◌<◌, ◌≤◌, ◌+◌, ◌↔◌, [], length, not, false, true, slice_set, slice_index_or, ℕ, OnOk, IfSome, IfNone};
 ghost use Rattle.std.specs.Prelude.{IsNone, IsTrue, List};
-ghost use Rattle.regalloc2_names.specs.Point.{before, after};
+ghost use Rattle.regalloc2_names.specs.Point.{after, before, inst_limit};
 ghost use Rattle.regalloc2_names.specs.Place.{Place, NoPlace, is_place, is_in_slot};
 ghost use Rattle.regalloc2_names.specs.Operand.{is_def, is_late, is_reading};
 ghost use Rattle.regalloc2_parts.specs.Picked.{picked};
@@ -202,7 +202,7 @@ impl<'a, A: Allocator> State<'a, A> {
         k: usize,
     ) -> Result<(), RegAllocError>
         requires inside { k < length cx.now.operands.now }
-        requires inst { cx.now.inst < 1073741824 }
+        requires inst { cx.now.inst < inst_limit }
         requires later { AllAtOrAfter (after cx.now.inst) self.old.edits }
         requires in_tables { InTables cx.now.operands.now (tables_of self.old) }
         requires here_long { length here.old ≡ length cx.now.operands.now }
@@ -243,7 +243,7 @@ impl<'a, A: Allocator> State<'a, A> {
         k: usize,
     ) -> Result<(), RegAllocError>
         requires inside { k < length cx.now.operands.now }
-        requires inst { cx.now.inst < 1073741824 }
+        requires inst { cx.now.inst < inst_limit }
         requires later { AllAtOrAfter (after cx.now.inst) self.old.edits }
         requires in_tables { InTables cx.now.operands.now (tables_of self.old) }
         requires here_long { length here.old ≡ length cx.now.operands.now }
@@ -277,7 +277,7 @@ impl<'a, A: Allocator> State<'a, A> {
         preg: PReg,
     ) -> Result<(), RegAllocError>
         requires inside { k < length cx.now.operands.now }
-        requires inst { cx.now.inst < 1073741824 }
+        requires inst { cx.now.inst < inst_limit }
         requires later { AllAtOrAfter (after cx.now.inst) self.old.edits }
         requires in_tables { InTables cx.now.operands.now (tables_of self.old) }
         requires here_long { length here.old ≡ length cx.now.operands.now }
@@ -331,7 +331,7 @@ impl<'a, A: Allocator> State<'a, A> {
         k: usize,
     ) -> Result<(), RegAllocError>
         requires inside { k < length cx.now.operands.now }
-        requires inst { cx.now.inst < 1073741824 }
+        requires inst { cx.now.inst < inst_limit }
         requires later { AllAtOrAfter (after cx.now.inst) self.old.edits }
         requires in_tables { InTables cx.now.operands.now (tables_of self.old) }
         requires here_long { length here.old ≡ length cx.now.operands.now }
@@ -367,7 +367,7 @@ impl<'a, A: Allocator> State<'a, A> {
         cx: &InstCx<'_>,
         here: &mut [Allocation],
     ) -> Result<(), RegAllocError>
-        requires inst { cx.now.inst < 1073741824 }
+        requires inst { cx.now.inst < inst_limit }
         requires later { AllAtOrAfter (after cx.now.inst) self.old.edits }
         requires in_tables { InTables cx.now.operands.now (tables_of self.old) }
         requires here_long { length here.old ≡ length cx.now.operands.now }
@@ -440,7 +440,7 @@ impl<'a, A: Allocator> State<'a, A> {
         inst_regs: &mut InstRegs,
         cx: &InstCx<'_>,
     ) -> Result<(), RegAllocError>
-        requires inst { cx.now.inst < 1073741824 }
+        requires inst { cx.now.inst < inst_limit }
         requires later { AllAtOrAfter (after cx.now.inst) self.old.edits }
         requires fresh { IsFresh inst_regs.old (tables_of self.old) }
         ensures outcome { ComesTo (PrepareRegs cx.now.inst cx.now.operands.now cx.now.clobbers inst_regs.old) inst_regs.new result self.old self.new }
@@ -461,7 +461,7 @@ impl<'a, A: Allocator> State<'a, A> {
         cx: &InstCx<'_>,
         here: &mut [Allocation],
     ) -> Result<(), RegAllocError>
-        requires inst { cx.now.inst < 1073741824 }
+        requires inst { cx.now.inst < inst_limit }
         requires later { AllAtOrAfter (after cx.now.inst) self.old.edits }
         requires in_tables { InTables cx.now.operands.now (tables_of self.old) }
         requires here_long { length here.old ≡ length cx.now.operands.now }
@@ -486,7 +486,7 @@ impl<'a, A: Allocator> State<'a, A> {
         start: usize,
         allocs: &mut [Allocation],
     ) -> Result<(), RegAllocError>
-        requires inst { cx.now.inst < 1073741824 }
+        requires inst { cx.now.inst < inst_limit }
         requires later { AllAtOrAfter (after cx.now.inst) self.old.edits }
         requires in_tables { InTables cx.now.operands.now (tables_of self.old) }
         requires room { start + length cx.now.operands.now ≤ length allocs.old }

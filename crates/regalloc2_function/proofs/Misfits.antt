@@ -2,6 +2,7 @@
 use Rattle.std.proofs.Common.{◌≡◌, ◌<◌, false, length, slice_index_or, refl}
 use Rattle.std.specs.Prelude.{◌≢◌, Some, Result, Ok, Err, IsOk, OnOk, OnErr, IfErr, ◌↔◌}
 use Rattle.std.proofs.lemmas.List.Elements.{All-contains}
+use Rattle.regalloc2_index.proofs.Bools.{not_both}
 use Rattle.regalloc2_names.specs.Register.{Register, invalid_register}
 use Rattle.regalloc2_names.specs.declared.RegClass.{RegClass}
 use Rattle.regalloc2_names.specs.declared.RegClass.TheVariants.{Int}
@@ -13,7 +14,6 @@ use Rattle.regalloc2_function.specs.declared.misfit.MachineMisfit.{MachineMisfit
 use Rattle.regalloc2_function.specs.declared.misfit.MachineMisfit.TheVariants.{InvalidSlot, OtherClass, ListedTwice, InvalidRegister}
 use Rattle.regalloc2_function.specs.declared.misfit.MachineMisfit.TheVariants.{ScratchOfOtherClass, ScratchAllocatable, InvalidScratch}
 use Rattle.regalloc2_function.specs.declared.misfit.MachineMisfit.TheVariants.{SlotAllocatable, SlotIsScratch, NoRegister}
-use Rattle.regalloc2_function.proofs.Tests.{true_is_not_false}
 
 -- what holds of each fixed stack slot holds of the first one that serves a class
 taken : (env : MachineValue) (class : RegClass) (r : Register) (P : Register → Type 0) →
@@ -26,17 +26,17 @@ misfit_fails f env InvalidSlot h fits =
     (All-contains (λ r. (is_allocatable env Int r ≡ false) × (scratch_of env Int ≢ Some r) × (r ≢ invalid_register)) env.fixed_stack_slots invalid_register
     (fits Int).slots_apart h).2 refl
 misfit_fails f env (OtherClass class r) h fits = h.2 ((fits class).of_class r h.1)
-misfit_fails f env (ListedTwice class r) h fits = true_is_not_false _ h.3 ((fits class).preferred_apart r h.2)
-misfit_fails f env (InvalidRegister class) h fits = true_is_not_false _ h.3 (fits class).valid
+misfit_fails f env (ListedTwice class r) h fits = not_both _ h.3 ((fits class).preferred_apart r h.2)
+misfit_fails f env (InvalidRegister class) h fits = not_both _ h.3 (fits class).valid
 misfit_fails f env (ScratchOfOtherClass class r) h fits = h.2 ((fits class).scratch_apart r h.1).0
-misfit_fails f env (ScratchAllocatable class r) h fits = true_is_not_false _ h.3 ((fits class).scratch_apart r h.1).1
+misfit_fails f env (ScratchAllocatable class r) h fits = not_both _ h.3 ((fits class).scratch_apart r h.1).1
 misfit_fails f env (InvalidScratch class) h fits = ((fits class).scratch_apart invalid_register h.1).2 refl
-misfit_fails f env (SlotAllocatable class r) h fits = true_is_not_false _ h.2
+misfit_fails f env (SlotAllocatable class r) h fits = not_both _ h.2
     (taken env class r (λ s. (is_allocatable env class s ≡ false) × (scratch_of env class ≢ Some s) × (s ≢ invalid_register)) (fits class).slots_apart h.1).0
 misfit_fails f env (SlotIsScratch class r) h fits =
     (taken env class r (λ s. (is_allocatable env class s ≡ false) × (scratch_of env class ≢ Some s) × (s ≢ invalid_register)) (fits class).slots_apart h.1).1
     h.3
-misfit_fails f env (NoRegister class) h fits = let r = (fits class).has_a_register h.2 in true_is_not_false _ r.1 (h.3 r.0)
+misfit_fails f env (NoRegister class) h fits = let r = (fits class).has_a_register h.2 in not_both _ r.1 (h.3 r.0)
 
 -- what always holds is said of an error
 pub always : {T E : Type 0} (r : Result T E) (P : Type 0) → P → OnErr r P

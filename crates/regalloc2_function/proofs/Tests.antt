@@ -1,25 +1,13 @@
 -- Tests that answer exactly where a fact holds.
-use Rattle.std.proofs.Common.{◌≡◌, Bool, true, false, IsTrue}
+use Rattle.std.proofs.Common.{◌≡◌, Bool, true, false}
 use Rattle.regalloc2_names.specs.declared.RegClass.{RegClass}
 use Rattle.regalloc2_names.specs.declared.RegClass.TheVariants.{Int, Float, Vector}
 use Rattle.std.specs.Bool.{OnFalse}
-
--- where such a test answers no, the fact doesn't hold
-pub not_so : {P : Type 0} (b : Bool) → b ≡ false → (P → IsTrue b) → P → ⊥
-not_so b e f p = let t : b ≡ true = f p in cc
-
--- a test that says no doesn't hold
-pub never_true : IsTrue false → ⊥
-never_true t = cc
 
 -- if a test says no, what holds in that case holds
 pub none_at : {P : Type 0} (b : Bool) → b ≡ false → OnFalse b P → P
 none_at true e h = absurd cc
 none_at false e h = h
-
--- no test says both yes and no
-pub true_is_not_false : (b : Bool) → b ≡ true → b ≡ false → ⊥
-true_is_not_false b t f = cc
 
 -- what holds of each class by name holds of every class
 pub by_class : (P : RegClass → Type 0) → P Int → P Float → P Vector → (c : RegClass) → P c

@@ -1,6 +1,6 @@
 -- First and last points: a virtual register has one of each, and the walk finds them.
 use Rattle.std.proofs.Common.{ℕ, ◌≡◌, ◌+◌, ◌<◌, ◌≤◌, ◌⊎◌, inl, inr, true, false, length, refl, sym, ap, subst, eq-eqb, arith}
-use Rattle.std.proofs.lemmas.Bool.{cases_Bool}
+use Rattle.std.proofs.lemmas.Bool.{cases_Bool, cases_lt}
 use Rattle.std.proofs.lemmas.Bool.Decides.{Decides-eqb}
 use Rattle.std.specs.Prelude.{Contains, MatchOption, Option, None, Some, nat_eq}
 use Rattle.regalloc2_names.specs.declared.OperandPos.{OperandPos}
@@ -13,7 +13,6 @@ use Rattle.regalloc2_function.specs.DebugPoints.IsFirstPoint.{of_definition as b
 use Rattle.regalloc2_function.specs.DebugPoints.IsLastPoint.{of_late_use, of_early_use, of_argument, of_definition as ends_at_definition}
 use Rattle.regalloc2_semantics.specs.Listing.{op_at}
 use Rattle.regalloc2_semantics.proofs.SingleDef.{Made, not_both, one_operand, one_param}
-use Rattle.regalloc2_semantics.proofs.Soundness.{cases_within}
 use Rattle.regalloc2_live_ranges.specs.declared.InstOperand.{InstOperand}
 use Rattle.regalloc2_live_ranges.specs.declared.ends.RangeEnd.{RangeEnd}
 use Rattle.regalloc2_live_ranges.specs.LiveRanges.{IsDefiner, IsFirstReader, IsLiveRange, IsSSA, IsShownBy}
@@ -87,7 +86,7 @@ module _ (f : FunctionValue) (ssa : IsSSA f) where
   unread v at i never r = never r.1.0 (read_number f v at i r)
 
   greatest : (v : VirtualRegister) (j : ℕ) → ((m : ℕ) → j < m → UsesNumber f v.number m → ⊥) → (m : ℕ) → UsesAt f v m → m ≤ j
-  greatest v j none m u = elim (cases_within j m) [ inl lt ↦ absurd (none m lt (used_number f v m u)) | inr le ↦ le ]
+  greatest v j none m u = elim (cases_lt j m) [ inl lt ↦ absurd (none m lt (used_number f v m u)) | inr le ↦ le ]
 
   -- what the walk notes is the last point, and the operand whose place shows the value
   found_end : (v : VirtualRegister) → Made f v → (j : ℕ) {e : RangeEnd} → (DefinesAt f v j → ⊥) → EndsUse f v.number j e →
@@ -146,7 +145,7 @@ module _ (f : FunctionValue) (ssa : IsSSA f) where
       unused_range v i k unused is d (λ j u. h j (let x = use_after f ssa v i j here u in omega (arith, x)) (used_number f v j u))
   range_of_definition v i k (Some e) unused is d h =
       let here : DefinesAt f v i = definer_defines f v (record { inst = i; index = k }) d in
-      elim (cases_within i h.0) [
+      elim (cases_lt i h.0) [
         | inl less ↦ (
             let other : DefinesAt f v h.0 → ⊥ = λ x. (let same = one_definition v i h.0 here x in omega (arith, less, same)) in
             let found = found_end v (made_by_definition f v i here) h.0 {e = e} other h.2 h.3 in

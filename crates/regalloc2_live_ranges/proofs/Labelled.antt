@@ -12,15 +12,6 @@ use Rattle.regalloc2_live_ranges.specs.LiveRanges.{AreLiveRanges, IsLabelled, Is
 use Rattle.regalloc2_live_ranges.specs.Marks.{Marks, NamedAmong}
 use Rattle.regalloc2_live_ranges.proofs.UsesInSSA.{defined_small, parameter_small}
 
--- a test isn't both true and false, nor is it and its contrary true; and where it can't be true, its contrary is
-pub both_ways : (b : Bool) → b ≡ true → b ≡ false → ⊥
-both_ways true e g = absurd cc
-both_ways false e g = absurd cc
-
-pub not_some : (b : Bool) → not b ≡ true → b ≡ true → ⊥
-not_some true h e = absurd cc
-not_some false h e = absurd cc
-
 pub none_is : (b : Bool) → (b ≡ true → ⊥) → not b ≡ true
 none_is true never = absurd (never refl)
 none_is false never = refl

@@ -2,8 +2,10 @@
 use Rattle.std.proofs.Common.{ℕ, ◌≡◌, ◌≢◌, ◌+◌, ◌-◌, ◌<◌, ◌≤◌, ◌⊎◌, inl, inr, true, false, List, length, set, replicate, refl, sym, ap, ◌∙◌, subst}
 use Rattle.std.proofs.Common.{arith, eq-eqb, get_or-set_same, get_or-set_other}
 use Rattle.std.specs.Prelude.{Contains, Option, None, Some, slice_index_or, nat_eq}
-use Rattle.std.proofs.lemmas.Bool.{cases_Bool, cases_eq}
+use Rattle.std.proofs.lemmas.Bool.{cases_Bool, cases_eq, cases_lt}
 use Rattle.std.proofs.lemmas.Bool.Decides.{Decides-eqb}
+use Rattle.std.proofs.lemmas.List.{get_or_default}
+use Rattle.regalloc2_index.proofs.Numbers.{below_or_last}
 use Rattle.regalloc2_names.specs.Register.{VirtualRegister}
 use Rattle.regalloc2_function.specs.FunctionValue.{FunctionValue, block_at}
 use Rattle.regalloc2_names.specs.Operand.{OperandValue, is_def}
@@ -22,8 +24,8 @@ use Rattle.regalloc2_live_ranges.specs.LastUses.{EndsFrom, EndsUse, NotesUses, U
 use Rattle.regalloc2_live_ranges.specs.LastUses.UsesNumber.{reads, passes}
 use Rattle.regalloc2_live_ranges.specs.Slots.{spread}
 use Rattle.regalloc2_live_ranges.specs.WalkInvariant.{AreEndsFrom, AreRight, IsWalked, NamesNone, Stay, begin_of}
-use Rattle.regalloc2_live_ranges.proofs.ItemsPastEnd.{any_default, op_is}
-use Rattle.regalloc2_live_ranges.proofs.Spread.{lt_or_le, spread_length, spread_nothing, up_to}
+use Rattle.regalloc2_live_ranges.proofs.ItemsPastEnd.{op_is}
+use Rattle.regalloc2_live_ranges.proofs.Spread.{spread_length, spread_nothing}
 use Rattle.regalloc2_live_ranges.proofs.UsesNoted.{ends_more, notes_nothing, passed_here}
 use Rattle.regalloc2_live_ranges.proofs.UsesInSSA.{definer_small, defines_number, made_by_definition, made_by_parameter, parameter_small}
 use Rattle.regalloc2_live_ranges.proofs.FirstAndLastPoints.{is_used, range_of_definition, range_of_parameter, used_ends}
@@ -72,7 +74,7 @@ AreBegun Asked ops m t = (k : ℕ) → k < m → k < length ops → is_def (op_a
 -- with an entry set at the number of operand m, the definitions among the first m + 1 operands have entries
 pub begun_more : (Asked : ℕ → Type 0) (ops : List OperandValue) (m n : ℕ) (t : List (Option LiveRange)) (o : OperandValue) (r : LiveRange) → m < length ops →
     o ≡ slice_index_or ops m o → n ≡ o.vreg.number → n < length t → AreBegun Asked ops m t → AreBegun Asked ops (m + 1) (set t n (Some r))
-begun_more Asked ops m n t o r less is same room h k lt within def asked = elim (up_to k m lt) [
+begun_more Asked ops m n t o r less is same room h k lt within def asked = elim (below_or_last k m lt) [
   | inl before ↦ stay_set t n r room (op_at ops k).vreg.number (h k before within def asked)
   | inr here ↦ (let at : (op_at ops k).vreg.number ≡ n = ap (λ (j : ℕ). (op_at ops j).vreg.number) here
       ∙ ap (λ (p : OperandValue). p.vreg.number) (op_is ops m o less (sym is)) ∙ sym same in
@@ -82,7 +84,7 @@ begun_more Asked ops m n t o r less is same room h k lt within def asked = elim 
 -- with an operand m that defines nothing that is asked for, those among the first m + 1 operands have entries if those before it do
 pub begun_same : (Asked : ℕ → Type 0) (ops : List OperandValue) (m : ℕ) (t : List (Option LiveRange)) (o : OperandValue) → m < length ops →
     o ≡ slice_index_or ops m o → (is_def o.kind ≡ true → Asked o.vreg.number → ⊥) → AreBegun Asked ops m t → AreBegun Asked ops (m + 1) t
-begun_same Asked ops m t o less is never h k lt within def asked = elim (up_to k m lt) [
+begun_same Asked ops m t o less is never h k lt within def asked = elim (below_or_last k m lt) [
   | inl before ↦ h k before within def asked
   | inr here ↦ (let at : op_at ops k ≡ o = ap (λ (j : ℕ). op_at ops j) here ∙ op_is ops m o less (sym is) in
       absurd (never (ap (λ (p : OperandValue). is_def p.kind) (sym at) ∙ def) (subst (λ (p : OperandValue). Asked p.vreg.number) at asked)))
@@ -97,10 +99,10 @@ AreTaken Asked vs m ends t = (k : ℕ) → k < m → k < length vs → Asked (sl
 pub taken_more : (Asked : ℕ → Type 0) (vs : List VirtualRegister) (m n : ℕ) (ends : List (Option RangeEnd)) (t : List (Option LiveRange)) (v : VirtualRegister)
     (r : LiveRange) → m < length vs → v ≡ slice_index_or vs m v → n ≡ v.number → n < length t → AreTaken Asked vs m ends t →
     AreTaken Asked vs (m + 1) ends (set t n (Some r))
-taken_more Asked vs m n ends t v r less is same room h k lt within asked some = elim (up_to k m lt) [
+taken_more Asked vs m n ends t v r less is same room h k lt within asked some = elim (below_or_last k m lt) [
   | inl before ↦ stay_set t n r room (slice_index_or vs k no_vreg).number (h k before within asked some)
   | inr here ↦ (let at : (slice_index_or vs k no_vreg).number ≡ n = ap (λ (j : ℕ). (slice_index_or vs j no_vreg).number) here
-      ∙ ap (λ (w : VirtualRegister). w.number) (any_default vs m no_vreg v less ∙ sym is) ∙ sym same in
+      ∙ ap (λ (w : VirtualRegister). w.number) (get_or_default vs m no_vreg v less ∙ sym is) ∙ sym same in
       subst (λ (q : ℕ). range_at (set t n (Some r)) q ≢ None) (sym at) (there_now t n r room))
 ]
 
@@ -108,9 +110,10 @@ taken_more Asked vs m n ends t v r less is same room h k lt within asked some = 
 pub taken_same : (Asked : ℕ → Type 0) (vs : List VirtualRegister) (m : ℕ) (ends : List (Option RangeEnd)) (t : List (Option LiveRange)) (v : VirtualRegister) →
     m < length vs → v ≡ slice_index_or vs m v → (Asked v.number → end_at ends v.number ≡ None) → AreTaken Asked vs m ends t →
     AreTaken Asked vs (m + 1) ends t
-taken_same Asked vs m ends t v less is none h k lt within asked some = elim (up_to k m lt) [
+taken_same Asked vs m ends t v less is none h k lt within asked some = elim (below_or_last k m lt) [
   | inl before ↦ h k before within asked some
-  | inr here ↦ absurd (let at : slice_index_or vs k no_vreg ≡ v = ap (λ (j : ℕ). slice_index_or vs j no_vreg) here ∙ any_default vs m no_vreg v less ∙ sym is in
+  | inr here ↦ absurd (let at : slice_index_or vs k no_vreg ≡ v =
+      ap (λ (j : ℕ). slice_index_or vs j no_vreg) here ∙ get_or_default vs m no_vreg v less ∙ sym is in
       some (ap (λ (w : VirtualRegister). end_at ends w.number) at ∙ none (subst (λ (w : VirtualRegister). Asked w.number) at asked)))
 ]
 
@@ -131,7 +134,7 @@ pub taken_all : (f : FunctionValue) (ssa : IsSSA f) (Asked : ℕ → Type 0) (b 
     (v : VirtualRegister) (j : ℕ) → Asked v.number → Contains (block_at f b).params v → UsesAt f v j → range_at t v.number ≢ None
 taken_all f ssa Asked b vs m ends t params noted h v j asked has used =
     let here : Contains vs v = subst (λ (ws : List VirtualRegister). Contains ws v) (sym params.same) has in
-    let at : slice_index_or vs here.0 no_vreg ≡ v = any_default vs here.0 no_vreg v here.1 ∙ here.2 in
+    let at : slice_index_or vs here.0 no_vreg ≡ v = get_or_default vs here.0 no_vreg v here.1 ∙ here.2 in
     let small = parameter_small f ssa (length ends) noted.room v b params.block has in
     let some : end_at ends v.number ≢ None = used_ends f ssa v b j (end_at ends v.number) params.block has used (noted.noted v.number small asked) in
     subst (λ (w : VirtualRegister). range_at t w.number ≢ None) at (h here.0 (omega (arith, here.1, params.all)) here.1
@@ -301,7 +304,7 @@ begins_at f b lt = rw (not_last b (length f.blocks) lt) refl
 
 -- where blocks follow one another, a block ends where the next one begins, and the last one where the instructions end
 pub begins_next : (f : FunctionValue) → BlocksFollow f → (b : ℕ) → b < length f.blocks → begin_of f (b + 1) ≡ (block_at f b).range.end
-begins_next f follow b lt = elim (lt_or_le (b + 1) (length f.blocks)) [
+begins_next f follow b lt = elim (cases_lt (b + 1) (length f.blocks)) [
   | inl less ↦ (let at : b + 1 - 1 ≡ b = omega arith in begins_at f (b + 1) less ∙ (follow (b + 1) less).2 (omega arith)
       ∙ ap (λ (n : ℕ). (block_at f n).range.end) at)
   | inr le ↦ (let last : b + 1 ≡ length f.blocks = omega (arith, le, lt) in begins_past f (b + 1) last ∙ sym ((follow b lt).3 last))

@@ -2,16 +2,13 @@
 use Rattle.std.proofs.Common.{ℕ, ◌≡◌, ◌≢◌, ◌+◌, ◌<◌, ◌≤◌, ◌⊎◌, inl, inr, Bool, List, [], ◌∷◌, ◌++◌, length, set, sym, ◌∙◌, subst}
 use Rattle.std.proofs.Common.{arith, get_or-set_same, get_or-set_other}
 use Rattle.std.specs.Prelude.{Option, None, Some, slice_index_or, replicate}
-use Rattle.std.proofs.lemmas.Bool.{cases_eq}
+use Rattle.std.proofs.lemmas.Bool.{cases_eq, cases_lt}
 use Rattle.std.proofs.lemmas.List.{get_or-map, get_or_past, get_or-replicate, length-map, length-replicate, ext_get_or, length-set}
 use Rattle.std.proofs.lemmas.List.{get_or_append_left, length-append}
 use Rattle.std.proofs.Math.Seq.{get_or-append_seam}
+use Rattle.regalloc2_index.proofs.Numbers.{below_or_last}
 use Rattle.regalloc2_live_ranges.specs.LiveRanges.{IsWanted}
 use Rattle.regalloc2_live_ranges.specs.Slots.{AreSlots, HasSlot, IsApart, spread}
-
--- a number is below another, or it isn't
-pub lt_or_le : (m n : ℕ) → (m < n) ⊎ (n ≤ m)
-lt_or_le m n = grind arith
 
 -- spread out, a table is as long as its slots
 pub spread_length : {X : Type 0} (slots : List ℕ) (t : List (Option X)) → length (spread slots t) ≡ length slots
@@ -35,7 +32,7 @@ set_here slots t n x has = spread_at slots (set t (slice_index_or slots n 0) (So
 -- and the others are as they were
 pub set_there : {X : Type 0} (slots : List ℕ) (t : List (Option X)) (n m : ℕ) (x : X) → IsApart slots (length t) → HasSlot slots n (length t) → m ≢ n →
     slice_index_or (spread slots (set t (slice_index_or slots n 0) (Some x))) m None ≡ slice_index_or (spread slots t) m None
-set_there slots t n m x apart has ne = elim (lt_or_le m (length slots)) [
+set_there slots t n m x apart has ne = elim (cases_lt m (length slots)) [
   | inl lt ↦ spread_at slots (set t (slice_index_or slots n 0) (Some x)) m lt
       ∙ get_or-set_other t (slice_index_or slots n 0) (slice_index_or slots m 0) (Some x) None (λ same. ne (sym (apart n m has lt (sym same))))
       ∙ sym (spread_at slots t m lt)
@@ -58,9 +55,9 @@ set_spread slots t n x apart has =
 
 -- without any entry nothing is spread out
 pub spread_nothing : {X : Type 0} (slots : List ℕ) (m n : ℕ) → slice_index_or (spread {X = X} slots (replicate m None)) n None ≡ None
-spread_nothing slots m n = elim (lt_or_le n (length slots)) [
+spread_nothing slots m n = elim (cases_lt n (length slots)) [
   | inr past ↦ spread_past slots (replicate m None) n past
-  | inl lt ↦ (spread_at slots (replicate m None) n lt ∙ elim (lt_or_le (slice_index_or slots n 0) m) [
+  | inl lt ↦ (spread_at slots (replicate m None) n lt ∙ elim (cases_lt (slice_index_or slots n 0) m) [
     | inl less ↦ get_or-replicate m (slice_index_or slots n 0) None None less
     | inr le ↦ get_or_past (replicate m None) (slice_index_or slots n 0) None (rw length-replicate le)
   ])
@@ -86,24 +83,20 @@ module _ (slots : List ℕ) (s : ℕ) where
   one_longer : length (slots ++ s ∷ []) ≡ length slots + 1
   one_longer = length-append slots (s ∷ [])
 
--- below a successor is below or at the number
-pub up_to : (k m : ℕ) → k < m + 1 → (k < m) ⊎ (k ≡ m)
-up_to k m lt = grind arith
-
 -- a wanted number more has the next slot
 pub slot_more : (wanted : List Bool) (slots : List ℕ) (count num : ℕ) → length slots < num → IsWanted wanted (length slots) →
     SlotsSoFar wanted slots count num → SlotsSoFar wanted (slots ++ count ∷ []) (count + 1) num
 slot_more wanted slots count num room is h = record {
   few = let few = h.few in omega (arith, few, long);
-  within = λ n lt. elim (up_to n (length slots) (omega (arith, lt, long))) [
+  within = λ n lt. elim (below_or_last n (length slots) (omega (arith, lt, long))) [
     | inl less ↦ elim (h.within n less) [
       | inl x ↦ inl (let b = before_it slots count n less in omega (arith, x, b))
       | inr y ↦ inr (before_it slots count n less ∙ y)
     ]
     | inr same ↦ inl (let here = at n same in omega (arith, here))
   ];
-  apart = λ n k has lt same. elim (up_to n (length slots) (let l = has.0 in omega (arith, l, long))) [
-    | inl less ↦ elim (up_to k (length slots) (omega (arith, lt, long))) [
+  apart = λ n k has lt same. elim (below_or_last n (length slots) (let l = has.0 in omega (arith, l, long))) [
+    | inl less ↦ elim (below_or_last k (length slots) (omega (arith, lt, long))) [
       | inl fewer ↦ (let b = before_it slots count n less in let c = before_it slots count k fewer in
           elim (h.within n less) [
             | inl x ↦ h.apart n k (less, x) fewer (sym b ∙ same ∙ c)
@@ -115,7 +108,7 @@ slot_more wanted slots count num room is h = record {
             | inr y ↦ (let few = h.few in omega (arith, y, b, same, here, few, room))
           ])
     ]
-    | inr last ↦ elim (up_to k (length slots) (omega (arith, lt, long))) [
+    | inr last ↦ elim (below_or_last k (length slots) (omega (arith, lt, long))) [
       | inl fewer ↦ absurd (let b = before_it slots count k fewer in let here = at n last in
           elim (h.within k fewer) [
             | inl x ↦ omega (arith, x, b, same, here)
@@ -126,19 +119,19 @@ slot_more wanted slots count num room is h = record {
   ];
   theirs = λ n lt w. (
     lt,
-    elim (up_to n (length slots) (omega (arith, lt, long))) [
+    elim (below_or_last n (length slots) (omega (arith, lt, long))) [
       | inl less ↦ (let x = (h.theirs n less w).1 in let b = before_it slots count n less in omega (arith, x, b))
       | inr same ↦ (let here = at n same in omega (arith, here))
     ],
   );
-  only = λ n has. elim (up_to n (length slots) (let l = has.0 in omega (arith, l, long))) [
+  only = λ n has. elim (below_or_last n (length slots) (let l = has.0 in omega (arith, l, long))) [
     | inl less ↦ (let b = before_it slots count n less in let x = has.1 in elim (h.within n less) [
       | inl y ↦ h.only n (less, y)
       | inr y ↦ absurd (let few = h.few in omega (arith, x, b, y, few, room))
     ])
     | inr same ↦ subst (IsWanted wanted) (sym same) is
   ];
-  used = λ s lt. elim (up_to s count lt) [
+  used = λ s lt. elim (below_or_last s count lt) [
     | inl less ↦ (let u = h.used s less in (u.0, let l = u.1 in omega (arith, l, long), before_it slots count u.0 u.1 ∙ u.2))
     | inr same ↦ (length slots, omega (arith, long), at_it slots count ∙ sym same)
   ];
@@ -155,12 +148,12 @@ pub slot_none : (wanted : List Bool) (slots : List ℕ) (count num : ℕ) → le
     SlotsSoFar wanted slots count num → SlotsSoFar wanted (slots ++ num ∷ []) count num
 slot_none wanted slots count num room never h = record {
   few = let few = h.few in omega (arith, few, long);
-  within = λ n lt. elim (up_to n (length slots) (omega (arith, lt, long))) [
+  within = λ n lt. elim (below_or_last n (length slots) (omega (arith, lt, long))) [
     | inl less ↦ subst (λ (s : ℕ). (s < count) ⊎ (s ≡ num)) (sym (before_it slots num n less)) (h.within n less)
     | inr same ↦ inr (at n same)
   ];
-  apart = λ n k has lt same. elim (up_to n (length slots) (let l = has.0 in omega (arith, l, long))) [
-    | inl less ↦ (let b = before_it slots num n less in let x = has.1 in elim (up_to k (length slots) (omega (arith, lt, long))) [
+  apart = λ n k has lt same. elim (below_or_last n (length slots) (let l = has.0 in omega (arith, l, long))) [
+    | inl less ↦ (let b = before_it slots num n less in let x = has.1 in elim (below_or_last k (length slots) (omega (arith, lt, long))) [
       | inl fewer ↦ h.apart n k (less, omega (arith, b, x)) fewer (sym b ∙ same ∙ before_it slots num k fewer)
       | inr last ↦ absurd (let here = at k last in let few = h.few in omega (arith, x, same, here, few, room))
     ])
@@ -168,12 +161,12 @@ slot_none wanted slots count num room never h = record {
   ];
   theirs = λ n lt w. (
     lt,
-    elim (up_to n (length slots) (omega (arith, lt, long))) [
+    elim (below_or_last n (length slots) (omega (arith, lt, long))) [
       | inl less ↦ (let x = (h.theirs n less w).1 in let b = before_it slots num n less in omega (arith, x, b))
       | inr same ↦ absurd (never (subst (IsWanted wanted) same w))
     ],
   );
-  only = λ n has. elim (up_to n (length slots) (let l = has.0 in omega (arith, l, long))) [
+  only = λ n has. elim (below_or_last n (length slots) (let l = has.0 in omega (arith, l, long))) [
     | inl less ↦ (let b = before_it slots num n less in let x = has.1 in h.only n (less, omega (arith, x, b)))
     | inr same ↦ absurd (let here = at n same in let x = has.1 in let few = h.few in omega (arith, here, x, few, room))
   ];

@@ -1,6 +1,8 @@
 -- What a number's uses say of the virtual register that has it, in a function in SSA form.
 use Rattle.std.proofs.Common.{ℕ, ◌≡◌, ◌+◌, ◌<◌, ◌≤◌, inl, inr, true, List, [], length, refl, sym, ap, ◌∙◌, subst, arith}
 use Rattle.std.specs.Prelude.{Contains, slice_index_or}
+use Rattle.std.proofs.lemmas.Bool.{cases_lt}
+use Rattle.std.proofs.lemmas.List.{get_or_default}
 use Rattle.regalloc2_names.specs.declared.OperandPos.{OperandPos}
 use Rattle.regalloc2_names.specs.Register.{VirtualRegister}
 use Rattle.regalloc2_names.specs.Operand.{OperandValue, is_def, is_reading}
@@ -15,13 +17,12 @@ use Rattle.regalloc2_semantics.proofs.SingleDef.{DefinesAt as DefinesNumber, Mad
 use Rattle.regalloc2_semantics.proofs.SingleDef.{one_param, reads_defined}
 use Rattle.regalloc2_semantics.proofs.SingleDef.Made.{by_operand, by_param}
 use Rattle.regalloc2_semantics.proofs.SingleDef.{no_vreg as nowhere}
-use Rattle.regalloc2_semantics.proofs.Soundness.{cases_within}
 use Rattle.regalloc2_semantics.proofs.Order.{ends_within, passes_later, reads_later}
 use Rattle.regalloc2_live_ranges.specs.declared.InstOperand.{InstOperand}
 use Rattle.regalloc2_live_ranges.specs.LiveRanges.{IsDefiner, IsReader, IsSSA}
 use Rattle.regalloc2_live_ranges.specs.LastUses.{HasNumber, PassesNumber, ReadsNumber, UsesNumber, no_vreg}
 use Rattle.regalloc2_live_ranges.specs.LastUses.UsesNumber.{reads, passes}
-use Rattle.regalloc2_live_ranges.proofs.ItemsPastEnd.{any_default, op_is}
+use Rattle.regalloc2_live_ranges.proofs.ItemsPastEnd.{op_is}
 
 -- a well-formed function is in SSA form
 pub well_formed_ssa : (env : MachineValue) (f : FunctionValue) → IsWellFormed env f → IsSSA f
@@ -48,12 +49,12 @@ pub takes_number : (f : FunctionValue) (v : VirtualRegister) (b : ℕ) → b < l
 takes_number f v b lt h = record {
   block = lt;
   param = h.1;
-  number = ap (λ (w : VirtualRegister). w.number) (any_default (block_at f b).params h.0 nowhere v h.1 ∙ h.2);
+  number = ap (λ (w : VirtualRegister). w.number) (get_or_default (block_at f b).params h.0 nowhere v h.1 ∙ h.2);
 }
 
 -- a vreg that is a block's parameter is defined in the function
 pub made_by_parameter : (f : FunctionValue) (v : VirtualRegister) (b : ℕ) → b < length f.blocks → Contains (block_at f b).params v → Made f v
-made_by_parameter f v b lt h = by_param b h.0 (takes_number f v b lt h) (any_default (block_at f b).params h.0 nowhere v h.1 ∙ h.2)
+made_by_parameter f v b lt h = by_param b h.0 (takes_number f v b lt h) (get_or_default (block_at f b).params h.0 nowhere v h.1 ∙ h.2)
 
 -- what is read is read by its number
 pub read_number : (f : FunctionValue) (v : VirtualRegister) (at : OperandPos) (i : ℕ) (r : ReadsAt f v at i) →
@@ -68,7 +69,7 @@ read_number f v at i r =
     }
 
 has_number : (vs : List VirtualRegister) (v : VirtualRegister) → Contains vs v → HasNumber vs (length vs) v.number
-has_number vs v h = (h.0, h.1, h.1, ap (λ (w : VirtualRegister). w.number) (any_default vs h.0 no_vreg v h.1 ∙ h.2))
+has_number vs v h = (h.0, h.1, h.1, ap (λ (w : VirtualRegister). w.number) (get_or_default vs h.0 no_vreg v h.1 ∙ h.2))
 
 -- an instruction that uses a vreg uses its number
 pub used_number : (f : FunctionValue) (v : VirtualRegister) (i : ℕ) → UsesAt f v i → UsesNumber f v.number i
@@ -84,7 +85,7 @@ reader_reads f v at o r = (
     o.index,
     op_at (inst_at f o.inst).operands o.index,
     r.index,
-    any_default (inst_at f o.inst).operands o.index (op_at (inst_at f o.inst).operands o.index) no_operand r.index,
+    get_or_default (inst_at f o.inst).operands o.index (op_at (inst_at f o.inst).operands o.index) no_operand r.index,
     r.reading,
     r.position,
     r.vreg,
@@ -99,7 +100,7 @@ definer_defines f v o d = (
     o.index,
     op_at (inst_at f o.inst).operands o.index,
     d.index,
-    any_default (inst_at f o.inst).operands o.index (op_at (inst_at f o.inst).operands o.index) no_operand d.index,
+    get_or_default (inst_at f o.inst).operands o.index (op_at (inst_at f o.inst).operands o.index) no_operand d.index,
     d.definition,
     d.vreg,
   ),
@@ -167,7 +168,7 @@ module _ (f : FunctionValue) (ssa : IsSSA f) where
       let last : ℕ = last_of (block_at f p.0) in
       let here = is_made f w (last + 1) (made_behind f w last (omega (arith, within, some)) (argument_defined p.0 p.3.0 k p.1 p.3.1 p.3.2.2)) in
       let same : w ≡ v = one_made f ssa.once w v here made p.3.2.3 in
-      (p.0, p.3.0, p.1, p.2, p.3.1, (k, p.3.2.2, any_default vs k v no_vreg p.3.2.2 ∙ same), other)
+      (p.0, p.3.0, p.1, p.2, p.3.1, (k, p.3.2.2, get_or_default vs k v no_vreg p.3.2.2 ∙ same), other)
 
   -- a use comes after the definition
   pub use_after : (v : VirtualRegister) (i j : ℕ) → DefinesAt f v i → UsesAt f v j → i < j
@@ -179,7 +180,7 @@ module _ (f : FunctionValue) (ssa : IsSSA f) where
       n.number
   use_after v i j d (inr (inr p)) =
       let h = passes_later f ssa.once v.number i d.1.0 p.0 p.1 v (defines_number f v i d) ssa.follow ssa.uses p.2 p.4 p.5 refl in
-      elim (cases_within i j) [ inl less ↦ less | inr late ↦ absurd (p.6 (subst (DefinesAt f v) (omega (arith, h, late, p.3)) d)) ]
+      elim (cases_lt i j) [ inl less ↦ less | inr late ↦ absurd (p.6 (subst (DefinesAt f v) (omega (arith, h, late, p.3)) d)) ]
 
   -- what is defined by a point is so by a later one
   later_point : (v : VirtualRegister) (p q : ℕ) → p ≤ q → IsDefinedBy f v p → IsDefinedBy f v q
@@ -202,7 +203,7 @@ module _ (f : FunctionValue) (ssa : IsSSA f) where
           (reads_defined f ssa.some ssa.follow ssa.uses j r.0 r.1.0 n.within n.reading))
   used_defined v j (inr (inr p)) =
       let vs : List VirtualRegister = slice_index_or (block_at f p.0).arguments p.1 [] in
-      let at : slice_index_or vs p.5.0 no_vreg ≡ v = any_default vs p.5.0 no_vreg v p.5.1 ∙ p.5.2 in
+      let at : slice_index_or vs p.5.0 no_vreg ≡ v = get_or_default vs p.5.0 no_vreg v p.5.1 ∙ p.5.2 in
       subst (λ (w : VirtualRegister). IsDefinedBy f w (after j)) at (subst (λ (n : ℕ). IsDefinedBy f (slice_index_or vs p.5.0 no_vreg) (after n)) (sym p.3)
       (argument_defined p.0 p.1 p.5.0 p.2 p.4 p.5.1))
 
@@ -222,7 +223,7 @@ module _ (f : FunctionValue) (ssa : IsSSA f) where
               o.1,
               slice_index_or (inst_at f o.0).operands o.1 o.2,
               o.4,
-              any_default (inst_at f o.0).operands o.1 (slice_index_or (inst_at f o.0).operands o.1 o.2) o.2 o.4,
+              get_or_default (inst_at f o.0).operands o.1 (slice_index_or (inst_at f o.0).operands o.1 o.2) o.2 o.4,
               o.5,
               o.6,
             ),

@@ -2,7 +2,8 @@
 use Rattle.std.proofs.Common.{ℕ, ◌≡◌, ◌≢◌, ◌+◌, ◌<◌, ◌≤◌, ◌⊎◌, inl, inr, Bool, true, false, List, length, refl, sym, ap, ◌∙◌, subst, arith}
 use Rattle.std.specs.Prelude.{◌&&◌, Option, None, Some, slice_index_or}
 use Rattle.std.specs.Option.{option_or}
-use Rattle.std.proofs.lemmas.Bool.{cases_eq}
+use Rattle.std.proofs.lemmas.Bool.{cases_eq, and_parts}
+use Rattle.regalloc2_index.proofs.Numbers.{below_or_last}
 use Rattle.regalloc2_names.specs.declared.OperandPos.{OperandPos}
 use Rattle.regalloc2_names.specs.declared.OperandPos.TheVariants.{Early, Late}
 use Rattle.regalloc2_names.specs.Register.{VirtualRegister}
@@ -19,7 +20,6 @@ use Rattle.regalloc2_live_ranges.specs.LastUses.{read_end}
 use Rattle.regalloc2_live_ranges.specs.LastUses.UsesNumber.{reads, passes}
 use Rattle.regalloc2_live_ranges.specs.LastUses.EndsUse.{late, early, passed}
 use Rattle.regalloc2_live_ranges.proofs.ItemsPastEnd.{op_is}
-use Rattle.regalloc2_live_ranges.proofs.Spread.{up_to}
 
 -- what is noted stays so where no more than before is looked for, and all that fitted before fits
 pub notes_weaker : (F G : Type 0) (S T : RangeEnd → Type 0) (old new : Option RangeEnd) → (G → F) → ((e : RangeEnd) → S e → T e) → Notes F S old new →
@@ -60,14 +60,8 @@ reads_same at i ops m n old mid never h =
     notes_weaker ((k : ℕ) × (k < m) × ReadsNumber ops n at k) ((k : ℕ) × (k < m + 1) × ReadsNumber ops n at k)
     (λ e. (k : ℕ) × (k < m) × ReadsFirst ops n at k × (e ≡ end_of_reader at i k))
     (λ e. (k : ℕ) × (k < m + 1) × ReadsFirst ops n at k × (e ≡ end_of_reader at i k)) old mid
-    (λ s. elim (up_to s.0 m s.1) [ inl lt ↦ (s.0, lt, s.2) | inr same ↦ absurd (never (subst (λ (k : ℕ). ReadsNumber ops n at k) same s.2)) ])
+    (λ s. elim (below_or_last s.0 m s.1) [ inl lt ↦ (s.0, lt, s.2) | inr same ↦ absurd (never (subst (λ (k : ℕ). ReadsNumber ops n at k) same s.2)) ])
     (λ e s. (s.0, omega (arith, s.1), s.2, s.3)) h
-
--- both parts of a true conjunction are true
-pub both_hold : (a b : Bool) → (a && b) ≡ true → (a ≡ true) × (b ≡ true)
-both_hold true true h = (refl, refl)
-both_hold true false h = absurd cc
-both_hold false b h = absurd cc
 
 -- they aren't both true where the conjunction is false
 pub both_not : (a b : Bool) → (a && b) ≡ false → a ≡ true → b ≡ true → ⊥
@@ -77,7 +71,7 @@ both_not false b h e g = absurd cc
 
 -- an operand that passes the test reads, and at that position
 pub is_read : (o : OperandValue) (at : OperandPos) → reads_at at o ≡ true → (is_reading o ≡ true) × (o.position ≡ at)
-is_read o at h = let two = both_hold (is_reading o) (is_position at o.position) h in (two.0, sym (is_position-true at o.position two.1))
+is_read o at h = let two = and_parts (is_reading o) (is_position at o.position) h in (two.0, sym (is_position-true at o.position two.1))
 
 -- an operand that fails the test doesn't read at that position
 pub is_unread : (o : OperandValue) (at : OperandPos) → reads_at at o ≡ false → (is_reading o ≡ true) × (o.position ≡ at) → ⊥

@@ -2,22 +2,18 @@
 use Rattle.std.proofs.Common.{ℕ, zero, suc, ◌≡◌, ◌≢◌, ◌+◌, ◌<◌, ◌≤◌, ◌⊎◌, Bool, true, false, List, [], ◌∷◌, ◌++◌, length, get_or, set, take, refl}
 use Rattle.std.proofs.Common.{sym, ap, ◌∙◌, subst, eq-eqb, inl, inr, arith, nat_eq}
 use Rattle.std.specs.Prelude.{◌&&◌, ◌||◌, map}
-use Rattle.std.proofs.lemmas.Bool.{cases_eq}
+use Rattle.std.proofs.lemmas.Bool.{cases_eq, ne_eqb}
 use Rattle.std.proofs.lemmas.List.{get_or-map, get_or-set_other, get_or-set_same, get_or_past, length-map, map-set}
 use Rattle.std.proofs.lemmas.List.Folds.{list_any-append, list_any_more}
 use Rattle.std.specs.declared.vec.Vec.{Vec}
+use Rattle.std.proofs.Math.Bool.{or-false}
 use Rattle.regalloc2_function.specs.FunctionValue.{FunctionValue, block_at, no_block}
 use Rattle.regalloc2_liveness.specs.Edges.{blocks_of, names_block}
-use Rattle.regalloc2_liveness.proofs.LiveAtBlockBegin.{other_number}
 
 -- a list of blocks, one more
-or_false : (b : Bool) → (b || false) ≡ b
-or_false true = refl
-or_false false = refl
-
 names_last : (xs : List ℕ) (b p : ℕ) → names_block (xs ++ b ∷ []) p ≡ (names_block xs p || nat_eq b p)
 unfolding names_block
-names_last xs b p = list_any-append (λ x. nat_eq x p) xs (b ∷ []) ∙ ap (λ x. names_block xs p || x) (or_false (nat_eq b p))
+names_last xs b p = list_any-append (λ x. nat_eq x p) xs (b ∷ []) ∙ ap (λ x. names_block xs p || x) (or-false (nat_eq b p))
 
 -- the first i + 1 blocks of a list name a block if the first i do, or if it is the one at i
 pub names_next : (xs : List ℕ) (i s n : ℕ) → i < length xs → s ≡ get_or xs i s → names_block (take (i + 1) xs) n ≡ (names_block (take i xs) n || nat_eq s n)
@@ -65,7 +61,7 @@ edges_more before old s b i d w succs there short is grown so_far n p =
       | inr ne ↦ (let kept : blocks_of (set old s w) n ≡ blocks_of old n = blocks_kept old s n w (λ q. ne (sym q)) in
           ap (λ l. names_block l p) kept ∙ so_far n p
           ∙ ap (λ x. names_block (blocks_of before n) p || (nat_eq b p && x))
-          (sym (next ∙ ap (λ x. names_block (take i succs) n || x) (other_number s n ne) ∙ or_false (names_block (take i succs) n))))
+          (sym (next ∙ ap (λ x. names_block (take i succs) n || x) (ne_eqb s n ne) ∙ or-false (names_block (take i succs) n))))
     ]
 
 -- before b is added anywhere, the lists have b's edges to none of its successors, beside those they had
@@ -96,7 +92,7 @@ all_edges_more f b old new h e n p =
           let here : nat_eq b p ≡ true = eq-eqb b p same in
           (λ less. e n p ∙ rw (none, here) (ap (λ m. names_block (block_at f m).succs n) same), λ past. absurd (omega (arith, same))))
       | inr ne ↦ (let kept : names_block (blocks_of new n) p ≡ names_block (blocks_of old n) p = e n p
-          ∙ rw (other_number b p ne) (or_false (names_block (blocks_of old n) p)) in
+          ∙ rw (ne_eqb b p ne) (or-false (names_block (blocks_of old n) p)) in
           (λ less. kept ∙ (h n p).0 (omega (arith, ne)), λ past. kept ∙ (h n p).1 (omega arith)))
     ]
 

@@ -2,7 +2,8 @@
 use Rattle.std.proofs.Common.{ℕ, zero, suc, ◌≡◌, ◌+◌, ◌-◌, ◌<◌, ◌≤◌, ◌⊎◌, Bool, true, false, List, [], length, refl, sym, ap, ◌∙◌, subst, arith, inl}
 use Rattle.std.proofs.Common.{inr, nat_eq, eqb-true}
 use Rattle.std.specs.Prelude.{◌&&◌, ◌||◌, not, Contains}
-use Rattle.std.proofs.lemmas.Bool.{cases_Bool}
+use Rattle.std.proofs.lemmas.Bool.{cases_Bool, and_parts, ne_eqb, not-true, or_cases, or_parts, or_right}
+use Rattle.regalloc2_index.proofs.Numbers.{below_or_last, nat_eq-self}
 use Rattle.regalloc2_names.specs.Register.{VirtualRegister}
 use Rattle.regalloc2_names.specs.Operand.{OperandValue}
 use Rattle.regalloc2_function.specs.FunctionValue.{FunctionValue, block_at, inst_at}
@@ -15,18 +16,13 @@ use Rattle.regalloc2_semantics.proofs.UnwrittenPlaces.{defines_none}
 use Rattle.regalloc2_liveness.specs.LiveIn.{IsRead, IsNeeded, read, passed_on, later, IsUnwrittenTo}
 use Rattle.regalloc2_liveness.specs.BlockVRegPairs.{Pair, lists, BlockSets, holds, Gains, Grows}
 use Rattle.regalloc2_liveness.specs.BlockWalk.{asks, IsWalkedTo, Passes, IsWalked, AreWrites, AreAsked, AreParameters}
-use Rattle.regalloc2_liveness.proofs.PairLists.{and_true, or_true, or_none, not_true, same_number}
 use Rattle.regalloc2_liveness.proofs.PairSets.{holds_nothing}
-use Rattle.regalloc2_liveness.proofs.WalkSteps.{asked_read, read_asked, defines_not, names_found, names_there, or_right}
+use Rattle.regalloc2_liveness.proofs.WalkSteps.{asked_read, read_asked, defines_not, names_found, names_there}
 
 -- an empty list
 pub nothing : (p : Pair) → lists [] p ≡ false
 unfolding lists
 nothing p = refl
-
--- an index before the next one
-pub last_or_before : (n b : ℕ) → n < b + 1 → (n < b) ⊎ (n ≡ b)
-last_or_before n b less = grind arith
 
 module _ (f : FunctionValue) (b : ℕ) (v : VirtualRegister) where
   -- who is needed at an instruction, and isn't defined by those before it, is needed at the block's beginning
@@ -52,7 +48,7 @@ module _ (f : FunctionValue) (b : ℕ) (v : VirtualRegister) where
 
   -- one instruction more that doesn't define it
   pub unwritten_more : (i : ℕ) → IsUnwrittenTo f b i v → Undefined (inst_at f i).operands v → IsUnwrittenTo f b (i + 1) v
-  unwritten_more i free here j low high = elim (last_or_before j i high) [
+  unwritten_more i free here j low high = elim (below_or_last j i high) [
     | inl less ↦ free j low less
     | inr e ↦ subst (λ (m : ℕ). Undefined (inst_at f m).operands v) (sym e) here
   ]
@@ -67,7 +63,7 @@ walked_start f b i written needs e fresh = record {
 }
 
 gains_here : (b : ℕ) (test : VirtualRegister → Bool) (old new : Pair → Bool) (v : VirtualRegister) → Gains b test old new → new (b, v) ≡ (old (b, v) || test v)
-gains_here b test old new v g = g (b, v) ∙ ap (λ x. old (b, v) || (x && test v)) (same_number b)
+gains_here b test old new v g = g (b, v) ∙ ap (λ x. old (b, v) || (x && test v)) (nat_eq-self b)
 
 gains_keeps : (b : ℕ) (test : VirtualRegister → Bool) (old new : Pair → Bool) → Gains b test old new → (p : Pair) → old p ≡ true → new p ≡ true
 gains_keeps b test old new g p h = g p ∙ ap (λ x. x || (nat_eq b p.0 && test p.1)) h
@@ -82,9 +78,9 @@ gains_aside b test old new g p ne = g p ∙ or_no (old p) (nat_eq b p.0 && test 
 -- what is new is the block's, and passes the test
 gained : (b : ℕ) (test : VirtualRegister → Bool) (old new : Pair → Bool) → Gains b test old new → (p : Pair) → new p ≡ true → (old p ≡ true)
     ⊎ ((b ≡ p.0) × (test p.1 ≡ true))
-gained b test old new g p h = elim (or_true (old p) (nat_eq b p.0 && test p.1) (sym (g p) ∙ h)) [
+gained b test old new g p h = elim (or_cases (old p) (nat_eq b p.0 && test p.1) (sym (g p) ∙ h)) [
   | inl there ↦ inl there
-  | inr more ↦ (let s = and_true (nat_eq b p.0) (test p.1) more in inr (eqb-true b p.0 s.0, s.1))
+  | inr more ↦ (let s = and_parts (nat_eq b p.0) (test p.1) more in inr (eqb-true b p.0 s.0, s.1))
 ]
 
 -- one instruction more
@@ -97,7 +93,7 @@ walked_more f b i w0 n0 w n w' n' lb low high h wrote grew =
     record {
       writes = record {
         others = λ p ne. gains_aside b dtest (holds w) (holds w') wrote p ne ∙ h.writes.others p ne;
-        unwritten = λ v none. let s = or_none (holds w (b, v)) (defines v ops) (sym (gains_here b dtest (holds w) (holds w') v wrote) ∙ none) in
+        unwritten = λ v none. let s = or_parts (holds w (b, v)) (defines v ops) (sym (gains_here b dtest (holds w) (holds w') v wrote) ∙ none) in
             unwritten_more f b v i (h.writes.unwritten v s.0) (defines_not ops v s.1);
         unlisted = λ v free.
             let before : holds w (b, v) ≡ false = h.writes.unlisted v (λ j lo hi. free j lo (omega arith)) in
@@ -114,7 +110,7 @@ walked_more f b i w0 n0 w n w' n' lb low high h wrote grew =
               (subst (λ m. m < length f.blocks) more.0 lb, subst (λ m. IsNeeded f p.1 (first_of f m)) more.0 n))
         ];
       };
-      read = λ j v lo hi is free. elim (last_or_before j i hi) [
+      read = λ j v lo hi is free. elim (below_or_last j i hi) [
         | inl less ↦ gains_keeps b (asks ops w b) (lists n) (lists n') grew.gains (b, v) (h.read j v lo less is free)
         | inr e ↦ (let unwritten : holds w (b, v) ≡ false = h.writes.unlisted v (subst (λ m. IsUnwrittenTo f b m v) e free) in
             let asked : asks ops w b v ≡ true = read_asked ops w b v unwritten (subst (λ m. IsRead v (inst_at f m).operands) e is) in
@@ -131,13 +127,13 @@ passes_more f b k written old mid new h grew =
       kept = λ p e. gains_keeps b test (lists mid) (lists new) grew.gains p (h.kept p e);
       only = λ p does not_so. elim (gained b test (lists mid) (lists new) grew.gains p does) [
         | inl there ↦ (let r = h.only p there not_so in (r.0, r.1, (r.2.0, omega (arith, r.2.1), r.2.2)))
-        | inr more ↦ (let s = and_true (names p.1 (arguments_at f b k)) (not (holds written (b, p.1))) more.1 in (
+        | inr more ↦ (let s = and_parts (names p.1 (arguments_at f b k)) (not (holds written (b, p.1))) more.1 in (
           more.0,
-          subst (λ m. holds written (m, p.1) ≡ false) more.0 (not_true (holds written (b, p.1)) s.1),
+          subst (λ m. holds written (m, p.1) ≡ false) more.0 (not-true (holds written (b, p.1)) s.1),
           (k, omega arith, names_found p.1 (arguments_at f b k) s.0),
         ))
       ];
-      passed = λ j v less has free. elim (last_or_before j k less) [
+      passed = λ j v less has free. elim (below_or_last j k less) [
         | inl before ↦ gains_keeps b test (lists mid) (lists new) grew.gains (b, v) (h.passed j v before has free)
         | inr e ↦ (let named : names v (arguments_at f b k) ≡ true = names_there v (arguments_at f b k) (subst (λ m. Contains (arguments_at f b m) v) e has) in
             gains_here b test (lists mid) (lists new) v grew.gains ∙ or_right (lists mid (b, v)) (test v) (rw (named, free) refl))
@@ -177,23 +173,19 @@ writes_start f n written e none = record {
   fresh = λ p le. rw none (holds_nothing p);
 }
 
--- numbers that differ don't pass the test for equality
-pub other_number : (m n : ℕ) → (m ≡ n → ⊥) → nat_eq m n ≡ false
-other_number m n ne = elim (cases_Bool (nat_eq m n)) [ inl e ↦ absurd (ne (eqb-true m n e)) | inr e ↦ e ]
-
 -- once block n is walked, the sets of the first n + 1 blocks are what they write
 pub writes_more : (f : FunctionValue) (n : ℕ) (w0 : BlockSets) (n0 : List Pair) (w : BlockSets) (n' : List Pair) → AreWrites f n w0 → IsWalked f n w0 n0 w n' →
     AreWrites f (n + 1) w
 writes_more f n w0 n0 w n' h here = record {
-  unwritten = λ b v less none. elim (last_or_before b n less) [
-    | inl before ↦ h.unwritten b v before (sym (here.walked.writes.others (b, v) (other_number n b (λ e. omega (arith, e)))) ∙ none)
+  unwritten = λ b v less none. elim (below_or_last b n less) [
+    | inl before ↦ h.unwritten b v before (sym (here.walked.writes.others (b, v) (ne_eqb n b (λ e. omega (arith, e)))) ∙ none)
     | inr e ↦ subst (λ m. IsUnwritten f m v) (sym e) (here.walked.writes.unwritten v (subst (λ m. holds w (m, v) ≡ false) e none))
   ];
-  unlisted = λ b v less free. elim (last_or_before b n less) [
-    | inl before ↦ here.walked.writes.others (b, v) (other_number n b (λ e. omega (arith, e))) ∙ h.unlisted b v before free
+  unlisted = λ b v less free. elim (below_or_last b n less) [
+    | inl before ↦ here.walked.writes.others (b, v) (ne_eqb n b (λ e. omega (arith, e))) ∙ h.unlisted b v before free
     | inr e ↦ subst (λ m. holds w (m, v) ≡ false) (sym e) (here.walked.writes.unlisted v (subst (λ m. IsUnwritten f m v) e free))
   ];
-  fresh = λ p le. here.walked.writes.others p (other_number n p.0 (λ e. omega (arith, e))) ∙ h.fresh p (omega arith);
+  fresh = λ p le. here.walked.writes.others p (ne_eqb n p.0 (λ e. omega (arith, e))) ∙ h.fresh p (omega arith);
 }
 
 -- an empty list is what no blocks ask for
@@ -209,12 +201,12 @@ pub asked_more : (f : FunctionValue) (n : ℕ) (w0 : BlockSets) (n0 : List Pair)
     AreAsked f (n + 1) n'
 asked_more f n w0 n0 w n' h here = record {
   sound = here.walked.finds.sound h.sound;
-  read = λ b j v less lo hi is free. elim (last_or_before b n less) [
+  read = λ b j v less lo hi is free. elim (below_or_last b n less) [
     | inl before ↦ here.walked.finds.kept (b, v) (h.read b j v before lo hi is free)
     | inr e ↦ subst (λ m. lists n' (m, v) ≡ true) (sym e) (here.walked.read j v (subst (λ m. (block_at f m).range.first ≤ j) e lo)
         (subst (λ m. j < (block_at f m).range.end) e hi) is (subst (λ m. IsUnwrittenTo f m j v) e free))
   ];
-  passed = λ b k v less lk has free. elim (last_or_before b n less) [
+  passed = λ b k v less lk has free. elim (below_or_last b n less) [
     | inl before ↦ here.walked.finds.kept (b, v) (h.passed b k v before lk has free)
     | inr e ↦ subst (λ m. lists n' (m, v) ≡ true) (sym e) (here.passed k v (subst (λ m. k < length (block_at f m).succs) e lk)
         (subst (λ m. Contains (arguments_at f m k) v) e has) (subst (λ m. IsUnwritten f m v) e free))
@@ -231,11 +223,11 @@ pub params_more : (f : FunctionValue) (n : ℕ) (old new : BlockSets) → ArePar
 params_more f n old new h g =
     let test : VirtualRegister → Bool = λ v. names v (block_at f n).params in
     record {
-      listed = λ p less. elim (last_or_before p.0 n less) [
-        | inl before ↦ gains_aside n test (holds old) (holds new) g p (other_number n p.0 (λ e. omega (arith, e))) ∙ h.listed p before
+      listed = λ p less. elim (below_or_last p.0 n less) [
+        | inl before ↦ gains_aside n test (holds old) (holds new) g p (ne_eqb n p.0 (λ e. omega (arith, e))) ∙ h.listed p before
         | inr e ↦ (let none : holds old p ≡ false = h.fresh p (omega arith) in
-            let same : nat_eq n p.0 ≡ true = subst (λ m. nat_eq n m ≡ true) (sym e) (same_number n) in
+            let same : nat_eq n p.0 ≡ true = subst (λ m. nat_eq n m ≡ true) (sym e) (nat_eq-self n) in
             g p ∙ rw (none, same) (ap (λ m. names p.1 (block_at f m).params) (sym e)))
       ];
-      fresh = λ p le. gains_aside n test (holds old) (holds new) g p (other_number n p.0 (λ e. omega (arith, e))) ∙ h.fresh p (omega arith);
+      fresh = λ p le. gains_aside n test (holds old) (holds new) g p (ne_eqb n p.0 (λ e. omega (arith, e))) ∙ h.fresh p (omega arith);
     }

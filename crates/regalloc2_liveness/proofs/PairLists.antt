@@ -1,58 +1,19 @@
 -- Blocks, each with a virtual register, and how lists of them grow.
-use Rattle.std.proofs.Common.{ℕ, ◌≡◌, Bool, true, false, cond, List, [], ◌∷◌, ◌++◌, refl, sym, ap, ◌∙◌, subst, nat_eq, eqb-true, eq-eqb, append_assoc}
-use Rattle.std.proofs.Common.{append-nil, inl, inr, ◌⊎◌, IsTrue}
+use Rattle.std.proofs.Common.{ℕ, ◌≡◌, Bool, true, false, cond, List, [], ◌∷◌, ◌++◌, refl, sym, ap, ◌∙◌, subst, nat_eq, eqb-true, append_assoc}
+use Rattle.std.proofs.Common.{append-nil, inl, inr}
 use Rattle.std.specs.Prelude.{◌&&◌, ◌||◌, not}
-use Rattle.std.proofs.lemmas.Bool.{cases_Bool}
+use Rattle.std.proofs.lemmas.Bool.{cases_Bool, and_parts}
 use Rattle.std.proofs.lemmas.List.Folds.{list_any-append}
+use Rattle.std.proofs.Math.Bool.{and-false, or-false}
 use Rattle.regalloc2_names.specs.Register.{VirtualRegister, is_vreg}
 use Rattle.regalloc2_semantics.proofs.Cells.{is_vreg-true}
 use Rattle.regalloc2_liveness.specs.BlockVRegPairs.{Pair, lists, BlockSets, holds, Gains, Grows}
-
-or_false : (b : Bool) → (b || false) ≡ b
-or_false true = refl
-or_false false = refl
 
 -- a pair more at the end
 pub gains_last : (b : ℕ) (u : VirtualRegister) (old : List Pair) → Gains b (is_vreg u) (lists old) (lists (old ++ (b, u) ∷ []))
 unfolding lists
 gains_last b u old p = list_any-append (λ (q : Pair). nat_eq q.0 p.0 && is_vreg q.1 p.1) old ((b, u) ∷ [])
-    ∙ ap (λ (x : Bool). lists old p || x) (or_false (nat_eq b p.0 && is_vreg u p.1))
-
--- the parts of tests
-pub and_true : (a b : Bool) → (a && b) ≡ true → (a ≡ true) × (b ≡ true)
-and_true true true h = (refl, refl)
-and_true true false h = absurd cc
-and_true false b h = absurd cc
-
--- where a test that is exact says no, the fact doesn't hold
-pub not_so : {P : Type 0} (b : Bool) → b ≡ false → (P → IsTrue b) → P → ⊥
-not_so b e f p = let t : b ≡ true = f p in cc
-
--- a test that says no doesn't hold
-pub never_true : IsTrue false → ⊥
-never_true t = cc
-
--- if `a or b` is true, one of them is
-pub or_true : (a b : Bool) → (a || b) ≡ true → (a ≡ true) ⊎ (b ≡ true)
-or_true true b h = inl refl
-or_true false true h = inr refl
-or_true false false h = absurd cc
-
--- if `a or b` is false, both of them are
-pub or_none : (a b : Bool) → (a || b) ≡ false → (a ≡ false) × (b ≡ false)
-or_none false false h = (refl, refl)
-or_none true b h = absurd cc
-or_none false true h = absurd cc
-
--- if `not a` is true, a is false
-pub not_true : (a : Bool) → not a ≡ true → a ≡ false
-not_true false h = refl
-not_true true h = absurd cc
-
--- `a and false` is false
-pub and_false : (a : Bool) → (a && false) ≡ false
-and_false true = refl
-and_false false = refl
+    ∙ ap (λ (x : Bool). lists old p || x) (or-false (nat_eq b p.0 && is_vreg u p.1))
 
 -- `a or b` is a itself if b implies a
 pub or_absorbs : (a b : Bool) → (b ≡ true → a ≡ true) → a ≡ (a || b)
@@ -65,13 +26,9 @@ both_more true c a b = refl
 both_more false true a b = refl
 both_more false false a b = refl
 
--- the test for equality accepts a number and itself
-pub same_number : (n : ℕ) → nat_eq n n ≡ true
-same_number n = eq-eqb n n refl
-
 -- a list that gains nothing, or in two steps
 pub gains_none : (b : ℕ) (test : VirtualRegister → Bool) (xs : Pair → Bool) → ((v : VirtualRegister) → test v ≡ false) → Gains b test xs xs
-gains_none b test xs h p = rw (h p.1, and_false (nat_eq b p.0), or_false (xs p)) refl
+gains_none b test xs h p = rw (h p.1, and-false (nat_eq b p.0), or-false (xs p)) refl
 
 -- what gains a block's vregs by one test, and then by another, gains those that pass either
 pub gains_more : (b : ℕ) (s t r : VirtualRegister → Bool) (old mid new : Pair → Bool) → Gains b s old mid → Gains b t mid new →
@@ -106,7 +63,7 @@ pairs a b u v e f = rw (e, f) refl
 
 -- a pair that is one with another
 pub pair_is : (b : ℕ) (u : VirtualRegister) (p : Pair) → (nat_eq b p.0 && is_vreg u p.1) ≡ true → ◌≡◌ {A = Pair} (b, u) p
-pair_is b u p h = let s = and_true (nat_eq b p.0) (is_vreg u p.1) h in pairs b p.0 u p.1 (eqb-true b p.0 s.0) (is_vreg-true u p.1 s.1)
+pair_is b u p h = let s = and_parts (nat_eq b p.0) (is_vreg u p.1) h in pairs b p.0 u p.1 (eqb-true b p.0 s.0) (is_vreg-true u p.1 s.1)
 
 -- a pair that is added, unless it is there
 pub grows_one : (b : ℕ) (u : VirtualRegister) (old : List Pair) → Grows b (is_vreg u) old (cond (lists old (b, u)) old (old ++ (b, u) ∷ []))

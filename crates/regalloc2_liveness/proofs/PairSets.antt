@@ -2,8 +2,9 @@
 use Rattle.std.proofs.Common.{ℕ, zero, suc, ◌≡◌, ◌≢◌, ◌+◌, ◌*◌, ◌/◌, ◌%◌, ◌<◌, ◌≤◌, Bool, true, false, cond, List, [], ◌∷◌, ◌++◌, length, get_or, set}
 use Rattle.std.proofs.Common.{refl, sym, ap, ◌∙◌, subst, arith, inl, inr, nat_eq, eqb-true, eq-eqb}
 use Rattle.std.specs.Prelude.{◌&&◌, ◌||◌, map}
-use Rattle.std.proofs.lemmas.Bool.{cases_eq}
+use Rattle.std.proofs.lemmas.Bool.{cases_eq, ne_eqb}
 use Rattle.std.proofs.lemmas.List.{get_or-map, get_or-set_other, get_or-set_same, get_or_past, length-map, map-set, set-get_or}
+use Rattle.regalloc2_index.proofs.Bools.{equal_tests}
 use Rattle.regalloc2_names.specs.declared.RegClass.{RegClass}
 use Rattle.regalloc2_names.specs.declared.RegClass.TheVariants.{Int, Float, Vector}
 use Rattle.regalloc2_names.specs.Register.{VirtualRegister, is_vreg, class_code, class_of_code}
@@ -11,13 +12,6 @@ use Rattle.regalloc2_names.specs.RegisterBits.{bits_of_vreg, vreg_of_bits}
 use Rattle.regalloc2_cfg.specs.Numbers.{NumberSet, has_number}
 use Rattle.regalloc2_semantics.proofs.Cells.{is_vreg-true, is_vreg-same}
 use Rattle.regalloc2_liveness.specs.BlockVRegPairs.{Pair, BlockSets, holds, Gains}
-
--- tests that say yes to the same are one
-same_test : (b c : Bool) → (b ≡ true → c ≡ true) → (c ≡ true → b ≡ true) → b ≡ c
-same_test true true h g = refl
-same_test true false h g = sym (h refl)
-same_test false true h g = g refl
-same_test false false h g = refl
 
 class_back : (c : RegClass) → class_of_code (class_code c) ≡ c
 class_back Int = refl
@@ -41,7 +35,7 @@ vreg_back v =
 
 -- words tell virtual registers apart
 same_bits : (u v : VirtualRegister) → nat_eq (bits_of_vreg u) (bits_of_vreg v) ≡ is_vreg v u
-same_bits u v = same_test _ _
+same_bits u v = equal_tests _ _
     (λ h. let e : bits_of_vreg u ≡ bits_of_vreg v = eqb-true _ _ h in
     let f : v ≡ u = sym (vreg_back v) ∙ ap vreg_of_bits (sym e) ∙ vreg_back u in
     subst (λ (w : VirtualRegister). is_vreg v w ≡ true) f (is_vreg-same v))
@@ -101,13 +95,6 @@ or_no true false c e = refl
 or_no false false c e = refl
 or_no a true c e = absurd cc
 
-other_number : (m n : ℕ) → m ≢ n → nat_eq m n ≡ false
-other_number m n ne = not_true (nat_eq m n) (λ e. ne (eqb-true m n e))
-  where
-    not_true : (a : Bool) → a ≢ true → a ≡ false
-    not_true true h = absurd (h refl)
-    not_true false h = refl
-
 -- a virtual register more in a block's set
 pub gains_one : (old sets : BlockSets) (b : ℕ) (s t : NumberSet) (u : VirtualRegister) → b < length sets → s ≡ get_or sets b s →
     ((i : ℕ) → has_number t i ≡ cond (nat_eq i (bits_of_vreg u)) true (has_number s i)) →
@@ -121,7 +108,7 @@ gains_one old sets b s t u less is more same p = elim (cases_eq b p.0) [
       ∙ ap (λ (x : Bool). has_number s (bits_of_vreg v) || x) (same_bits v u) ∙ ap (λ (x : Bool). x || is_vreg u v) (holds_here sets b s v less is) in
       subst (λ (c : ℕ). holds (set sets b t) (c, v) ≡ (holds sets (c, v) || is_vreg u v)) e new ∙ ap (λ (x : Bool). x || is_vreg u v) (same p)
       ∙ ap (λ (x : Bool). holds old p || (x && is_vreg u v)) (sym here)
-  | inr ne ↦ holds_kept sets b p.0 t p.1 (λ q. ne (sym q)) ∙ same p ∙ or_no (holds old p) (nat_eq b p.0) (is_vreg u p.1) (other_number b p.0 ne)
+  | inr ne ↦ holds_kept sets b p.0 t p.1 (λ q. ne (sym q)) ∙ same p ∙ or_no (holds old p) (nat_eq b p.0) (is_vreg u p.1) (ne_eqb b p.0 ne)
 ]
 
 -- a block's set that stays as it was

@@ -1,7 +1,8 @@
 -- A block that reads a vreg too early, and the way back from it to the entry.
 use Rattle.std.proofs.Common.{ℕ, ◌≡◌, ◌+◌, ◌-◌, ◌<◌, ◌≤◌, ◌∙◌, ap, true, false, List, length, subst, sym, arith, inl, inr}
 use Rattle.std.specs.Prelude.{Any, Contains, slice_index, slice_index_or}
-use Rattle.std.proofs.lemmas.Bool.{cases_Bool}
+use Rattle.std.proofs.lemmas.Bool.{cases_Bool, and_parts}
+use Rattle.std.proofs.lemmas.List.{get_or_default}
 use Rattle.regalloc2_names.specs.declared.OperandPos.{OperandPos}
 use Rattle.regalloc2_names.specs.declared.OperandPos.TheVariants.{Early, Late}
 use Rattle.regalloc2_names.specs.Register.{VirtualRegister}
@@ -18,22 +19,20 @@ use Rattle.regalloc2_liveness.specs.LiveIn.{IsReadAt, IsNeeded, read, passed_on,
 use Rattle.regalloc2_liveness.specs.Search.{LeadsBack}
 use Rattle.regalloc2_liveness.proofs.LiveAtBlockBegin.{needed_first, unwritten_more}
 use Rattle.regalloc2_liveness.proofs.PropagatedToFixpoint.{needed_over}
-use Rattle.regalloc2_liveness.proofs.PairLists.{and_true}
-use Rattle.regalloc2_liveness.proofs.SitesKept.{same_within}
 use Rattle.regalloc2_liveness.proofs.WalkSteps.{names_found}
 
 -- an operand that reads v, by what is asked of each
 read_at : (pos : OperandPos) (v : VirtualRegister) (ops : List OperandValue) → Any (λ o. (reads_at pos o ≡ true) × (o.vreg ≡ v)) ops → IsReadAt pos v ops
 read_at pos v ops (k, o, less, is, (reads, same)) =
-    let e : op_at ops k ≡ o = same_within ops k no_operand o less ∙ is in
-    let t = and_true (is_reading o) (is_position pos o.position) reads in
+    let e : op_at ops k ≡ o = get_or_default ops k no_operand o less ∙ is in
+    let t = and_parts (is_reading o) (is_position pos o.position) reads in
     let r = subst (λ (x : OperandValue). (is_reading x ≡ true) × (x.position ≡ pos) × (x.vreg ≡ v)) (sym e)
     (t.0, sym (is_position-true pos o.position t.1), same) in
     (k, less, r.0, r.1, r.2)
 
 -- no operand defines v, by what is asked of each
 undefined_by : (ops : List OperandValue) (v : VirtualRegister) → (Any (λ o. (is_def o.kind ≡ true) × (o.vreg ≡ v)) ops → ⊥) → Undefined ops v
-undefined_by ops v none j less def is = none (j, op_at ops j, less, same_within ops j (op_at ops j) no_operand less, (def, is))
+undefined_by ops v none j less def is = none (j, op_at ops j, less, get_or_default ops j (op_at ops j) no_operand less, (def, is))
 
 -- a vreg that a list doesn't contain isn't named by it
 names_not : (v : VirtualRegister) (xs : List VirtualRegister) → (Contains xs v → ⊥) → names v xs ≡ false
@@ -89,7 +88,7 @@ module _ (f : FunctionValue) (b : ℕ) (v : VirtualRegister) where
   pub leads_item : (k s : ℕ) (succs : List ℕ) → IsFramed f → IsUnwritten f b v → LeadsBack f v b → succs ≡ (block_at f b).succs → k < length succs →
       s ≡ slice_index_or succs k s → (Contains (block_at f s).params v → ⊥) → LeadsBack f v s
   leads_item k s succs framed free back listed less is aside =
-      let same : s ≡ target_at f b k = is ∙ same_within succs k s 0 less ∙ ap (λ (xs : List ℕ). slice_index xs k) listed in
+      let same : s ≡ target_at f b k = is ∙ get_or_default succs k s 0 less ∙ ap (λ (xs : List ℕ). slice_index xs k) listed in
       subst (λ (m : ℕ). LeadsBack f v m) (sym same)
       (leads_over k framed free back (subst (λ (xs : List ℕ). k < length xs) listed less)
       (subst (λ (m : ℕ). names v (block_at f m).params ≡ false) same (names_not v (block_at f s).params aside)))

@@ -4,6 +4,9 @@ use Rattle.std.proofs.Common.{◌∙◌, subst, arith, inl, inr}
 use Rattle.std.specs.Prelude.{◌&&◌, ◌||◌, not, Contains}
 use Rattle.std.specs.List.{list_any}
 use Rattle.std.proofs.lemmas.List.Folds.{list_any_more, list_any_at}
+use Rattle.std.proofs.lemmas.Bool.{and_parts, not-true, or_cases, or_parts, or_right}
+use Rattle.std.proofs.Math.Bool.{and-or_distrib_right, or-false}
+use Rattle.regalloc2_index.proofs.Numbers.{nat_eq-self}
 use Rattle.regalloc2_names.specs.declared.OperandPos.{OperandPos}
 use Rattle.regalloc2_names.specs.declared.OperandPos.TheVariants.{Early, Late}
 use Rattle.regalloc2_names.specs.Register.{VirtualRegister, is_vreg}
@@ -16,15 +19,9 @@ use Rattle.regalloc2_semantics.proofs.UnwrittenPlaces.{defines_none}
 use Rattle.regalloc2_liveness.specs.LiveIn.{IsReadAt, IsRead}
 use Rattle.regalloc2_liveness.specs.BlockVRegPairs.{Pair, BlockSets, holds, Gains, Grows}
 use Rattle.regalloc2_liveness.specs.BlockWalk.{reads, asks}
-use Rattle.regalloc2_liveness.proofs.PairLists.{and_true, or_true, or_none, not_true, grows_more, same_number}
+use Rattle.regalloc2_liveness.proofs.PairLists.{grows_more}
 
 -- lists, one element more
-or_last : (r a w : Bool) → ((r || a) && w) ≡ ((r && w) || (a && w))
-or_last true a true = refl
-or_last true true false = refl
-or_last true false false = refl
-or_last false a w = refl
-
 or_no : (r w : Bool) → ((r || false) && w) ≡ (r && w)
 or_no true w = refl
 or_no false w = refl
@@ -51,7 +48,7 @@ pub reads_yes : (pos : OperandPos) (ops : List OperandValue) (i : ℕ) (o : Oper
 unfolding is_read
 reads_yes pos ops i o written b lt is does v =
     let here : is_read pos v o ≡ is_vreg o.vreg v = rw does refl in
-    rw (reads_more pos v ops i o lt is, here) (or_last (reads pos v (take i ops)) (is_vreg o.vreg v) (not (holds written (b, v))))
+    rw (reads_more pos v ops i o lt is, here) (and-or_distrib_right (reads pos v (take i ops)) (is_vreg o.vreg v) (not (holds written (b, v))))
 
 -- one operand more that doesn't read at the position asks for nothing more
 pub reads_no : (pos : OperandPos) (ops : List OperandValue) (i : ℕ) (o : OperandValue) (written : BlockSets) (b : ℕ) → i < length ops → o ≡ get_or ops i o →
@@ -84,14 +81,10 @@ pub defines_yes : (ops : List OperandValue) (i : ℕ) (o : OperandValue) → i <
     defines v (take (i + 1) ops) ≡ (defines v (take i ops) || is_vreg o.vreg v)
 defines_yes ops i o lt is does v = rw (defines_more v ops i o lt is, does) refl
 
-or_false : (b : Bool) → (b || false) ≡ b
-or_false true = refl
-or_false false = refl
-
 -- one operand more that is no definition defines nothing more
 pub defines_no : (ops : List OperandValue) (i : ℕ) (o : OperandValue) → i < length ops → o ≡ get_or ops i o → is_def o.kind ≡ false → (v : VirtualRegister) →
     defines v (take (i + 1) ops) ≡ defines v (take i ops)
-defines_no ops i o lt is not_so v = rw (defines_more v ops i o lt is, not_so) (or_false (defines v (take i ops)))
+defines_no ops i o lt is not_so v = rw (defines_more v ops i o lt is, not_so) (or-false (defines v (take i ops)))
 
 names_is : (v : VirtualRegister) (xs : List VirtualRegister) → names v xs ≡ list_any (λ x. is_vreg x v) xs
 unfolding names
@@ -115,15 +108,15 @@ pub names_asked : (xs : List VirtualRegister) (i : ℕ) (x : VirtualRegister) (w
     (v : VirtualRegister) →
     (names v (take (i + 1) xs) && not (holds written (b, v))) ≡ ((names v (take i xs) && not (holds written (b, v)))
     || (is_vreg x v && not (holds written (b, v))))
-names_asked xs i x written b lt is v = rw (names_more xs i x lt is v) (or_last (names v (take i xs)) (is_vreg x v) (not (holds written (b, v))))
+names_asked xs i x written b lt is v = rw (names_more xs i x lt is v) (and-or_distrib_right (names v (take i xs)) (is_vreg x v) (not (holds written (b, v))))
 
 -- tests and what they stand for
 reads_found : (pos : OperandPos) (v : VirtualRegister) (ops : List OperandValue) → reads pos v ops ≡ true → IsReadAt pos v ops
 unfolding reads
 reads_found pos v [] h = absurd cc
-reads_found pos v (o ∷ os) h = elim (or_true (reads_at pos o && is_vreg o.vreg v) (reads pos v os) h) [
-  | inl here ↦ (let s = and_true (reads_at pos o) (is_vreg o.vreg v) here in
-      let t = and_true (is_reading o) (is_position pos o.position) s.0 in
+reads_found pos v (o ∷ os) h = elim (or_cases (reads_at pos o && is_vreg o.vreg v) (reads pos v os) h) [
+  | inl here ↦ (let s = and_parts (reads_at pos o) (is_vreg o.vreg v) here in
+      let t = and_parts (is_reading o) (is_position pos o.position) s.0 in
       (0, omega arith, t.0, sym (is_position-true pos o.position t.1), is_vreg-true o.vreg v s.1))
   | inr there ↦ (let r = reads_found pos v os there in (suc r.0, omega (arith, r.1), r.2, r.3, r.4))
 ]
@@ -142,14 +135,14 @@ defines_not [] v h j lt def is = absurd (omega arith)
 defines_not (o ∷ os) v h zero lt def is =
     let same : is_vreg o.vreg v ≡ true = subst (λ (w : VirtualRegister). is_vreg w v ≡ true) (sym is) (is_vreg-same v) in
     let defined : (is_def o.kind && is_vreg o.vreg v) ≡ true = rw (def, same) refl in
-    let s = or_none (is_def o.kind && is_vreg o.vreg v) (defines v os) h in absurd cc
-defines_not (o ∷ os) v h (suc j) lt def is = defines_not os v (or_none (is_def o.kind && is_vreg o.vreg v) (defines v os) h).1 j (omega arith) def is
+    let s = or_parts (is_def o.kind && is_vreg o.vreg v) (defines v os) h in absurd cc
+defines_not (o ∷ os) v h (suc j) lt def is = defines_not os v (or_parts (is_def o.kind && is_vreg o.vreg v) (defines v os) h).1 j (omega arith) def is
 
 -- a vreg that the test finds named in a list is a member of it
 pub names_found : (v : VirtualRegister) (xs : List VirtualRegister) → names v xs ≡ true → Contains xs v
 unfolding names
 names_found v [] h = absurd cc
-names_found v (x ∷ xs) h = elim (or_true (is_vreg x v) (names v xs) h) [
+names_found v (x ∷ xs) h = elim (or_cases (is_vreg x v) (names v xs) h) [
   | inl here ↦ (0, omega arith, is_vreg-true x v here)
   | inr there ↦ (let r = names_found v xs there in (suc r.0, omega (arith, r.1), r.2))
 ]
@@ -162,19 +155,15 @@ names_there v xs (k, lt, is) = names_is v xs ∙ list_any_at (λ y. is_vreg y v)
 -- an instruction asks for what it reads and the block didn't write before
 pub asked_read : (ops : List OperandValue) (written : BlockSets) (b : ℕ) (v : VirtualRegister) → asks ops written b v ≡ true → (holds written (b, v) ≡ false)
     × IsRead v ops
-asked_read ops written b v h = elim (or_true (reads Early v ops && not (holds written (b, v))) (reads Late v ops && not (holds written (b, v) || defines v ops))
+asked_read ops written b v h =
+    elim (or_cases (reads Early v ops && not (holds written (b, v))) (reads Late v ops && not (holds written (b, v) || defines v ops))
     h) [
-      | inl early ↦ (let s = and_true (reads Early v ops) (not (holds written (b, v))) early in
-          (not_true (holds written (b, v)) s.1, inl (reads_found Early v ops s.0)))
-      | inr late ↦ (let s = and_true (reads Late v ops) (not (holds written (b, v) || defines v ops)) late in
-          let t = or_none (holds written (b, v)) (defines v ops) (not_true (holds written (b, v) || defines v ops) s.1) in
+      | inl early ↦ (let s = and_parts (reads Early v ops) (not (holds written (b, v))) early in
+          (not-true (holds written (b, v)) s.1, inl (reads_found Early v ops s.0)))
+      | inr late ↦ (let s = and_parts (reads Late v ops) (not (holds written (b, v) || defines v ops)) late in
+          let t = or_parts (holds written (b, v)) (defines v ops) (not-true (holds written (b, v) || defines v ops) s.1) in
           (t.0, inr (defines_not ops v t.1, reads_found Late v ops s.0)))
     ]
-
--- `a or b` is true if b is
-pub or_right : (a b : Bool) → b ≡ true → (a || b) ≡ true
-or_right true b h = refl
-or_right false b h = h
 
 -- an instruction asks for a vreg that it reads and that its block didn't write before
 pub read_asked : (ops : List OperandValue) (written : BlockSets) (b : ℕ) (v : VirtualRegister) → holds written (b, v) ≡ false → IsRead v ops →
@@ -191,5 +180,5 @@ pub asks_twice : (ops : List OperandValue) (old mid : BlockSets) (b : ℕ) (need
 asks_twice ops old mid b needs asked new wrote early late =
     grows_more b (λ v. reads Early v ops && not (holds old (b, v))) (λ v. reads Late v ops && not (holds mid (b, v))) (asks ops old b) needs asked new early
     late
-    (λ v. let e : holds mid (b, v) ≡ (holds old (b, v) || defines v ops) = wrote (b, v) ∙ ap (λ x. holds old (b, v) || (x && defines v ops)) (same_number b) in
+    (λ v. let e : holds mid (b, v) ≡ (holds old (b, v) || defines v ops) = wrote (b, v) ∙ ap (λ x. holds old (b, v) || (x && defines v ops)) (nat_eq-self b) in
     rw e refl)

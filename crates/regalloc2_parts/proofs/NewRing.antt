@@ -4,7 +4,7 @@ use Rattle.std.proofs.Common.{[], ◌∷◌, Bool, true, false, not, cond, nat_e
 use Rattle.std.specs.Prelude.{All, Contains, IsPermutation, ◌↔◌, ◌⊎◌, filter, map}
 use Rattle.std.specs.List.{AllByRecursion, IsDistinct}
 use Rattle.std.specs.List.Sorted.{IsNonDecreasingBy}
-use Rattle.std.proofs.lemmas.Bool.{cases_lt}
+use Rattle.std.proofs.lemmas.Bool.{cases_lt, not_from_false}
 use Rattle.std.proofs.lemmas.List.Elements.{All-contains, All-head, All-tail, Contains-get_or, recursion_from_All}
 use Rattle.std.proofs.lemmas.List.Sorted.{All-permutation, IsPermutation-cons, IsPermutation-refl, IsPermutation-remove, IsPermutation-sym, IsPermutation-trans}
 use Rattle.std.proofs.lemmas.Map.Keys.{IsDistinct-head, IsDistinct-tail, IsDistinct-cons}
@@ -28,10 +28,6 @@ no_members (y ∷ ys) h = absurd (let m = h y (0, omega arith, refl) in let less
 later : (x r : Register) (xs : List Register) → Contains (x ∷ xs) r → is_register x r ≡ false → Contains xs r
 later x r xs (zero, less, at) e = absurd (let s : is_register x r ≡ true = rw at (is_register-refl r) in cc)
 later x r xs (suc k, less, at) e = (k, omega arith, at)
-
-turned : (b : Bool) → b ≡ false → not b ≡ true
-turned true e = absurd cc
-turned false e = refl
 
 differs_from : (x r : Register) (xs : List Register) → AllByRecursion (λ y. is_register x y ≡ false) xs → Contains xs r → is_register x r ≡ false
 differs_from x r [] h (k, less, at) = absurd (omega arith)
@@ -60,7 +56,7 @@ reordered (x ∷ xs) ys dx dy same =
     let tail : IsPermutation xs rest = reordered xs rest (IsDistinct-tail is_register x xs dx) (filter-distinct (λ q. not (is_register x q)) ys dy)
     (λ r. (
       λ m. (let e : is_register x r ≡ false = differs_from x r xs apart m in
-          kept (λ q. not (is_register x q)) ys r ((same r).0 (suc m.0, omega (arith, m.1), m.2)) (turned (is_register x r) e)),
+          kept (λ q. not (is_register x q)) ys r ((same r).0 (suc m.0, omega (arith, m.1), m.2)) (not_from_false (is_register x r) e)),
       λ m. later x r xs ((same r).1 (was_there (λ q. not (is_register x q)) ys r m)) (not_there x r ys m),
     )) in
     let whole : IsPermutation (x ∷ rest) ys =

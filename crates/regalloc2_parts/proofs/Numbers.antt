@@ -6,6 +6,7 @@ use Rattle.std.specs.List.{AllByRecursion, IsDistinct, list_any}
 use Rattle.std.proofs.lemmas.List.Elements.{All-filter, All-from_recursion, All-weaker, filter_passes, recursion_from_All}
 use Rattle.std.proofs.lemmas.Map.Keys.{IsDistinct-head, IsDistinct-tail, IsDistinct-cons}
 use Rattle.std.proofs.lemmas.Map.Steps.{length-le_from_distinct_below}
+use Rattle.std.proofs.lemmas.Bool.{not-true}
 use Rattle.regalloc2_parts.specs.Links.{Lacks}
 
 -- one number differs from another as the other does from it
@@ -54,14 +55,10 @@ of_member P (x ∷ xs) p l (suc i, less, at) = of_member P xs p l.1 (i, omega ar
 pub each_without : (P : ℕ → Type 0) (p : ℕ) (xs : List ℕ) → AllByRecursion P xs → AllByRecursion P (without p xs)
 each_without P p xs h = recursion_from_All P (without p xs) (All-filter (λ n. not (nat_eq p n)) P xs (All-from_recursion P xs h))
 
-turned : (b : Bool) → not b ≡ true → b ≡ false
-turned true e = absurd cc
-turned false e = refl
-
 -- a list without a number lacks it
 pub gone : (p : ℕ) (xs : List ℕ) → Lacks p (without p xs)
 gone p xs = recursion_from_All (λ (n : ℕ). nat_eq p n ≡ false) (without p xs)
-    (All-weaker (λ (n : ℕ). not (nat_eq p n) ≡ true) (λ (n : ℕ). nat_eq p n ≡ false) (λ n. turned (nat_eq p n)) (without p xs)
+    (All-weaker (λ (n : ℕ). not (nat_eq p n) ≡ true) (λ (n : ℕ). nat_eq p n ≡ false) (λ n. not-true (nat_eq p n)) (without p xs)
     (filter_passes (λ (n : ℕ). not (nat_eq p n)) xs))
 
 -- a list without repeats has none without one of its numbers

@@ -1,20 +1,19 @@
 -- Names of registers that stand for one register.
-use Rattle.std.proofs.Common.{ℕ, ◌≡◌, refl, arith, ◌∙◌, sym, ap, List, [], ◌∷◌, Bool, true, false, cond, ◌&&◌, nat_eq, eqb-true, eq-eqb}
+use Rattle.std.proofs.Common.{ℕ, ◌≡◌, refl, arith, ◌∙◌, ap, List, [], ◌∷◌, Bool, true, false, cond, nat_eq, eqb-true}
 use Rattle.std.specs.Prelude.{filter}
 use Rattle.std.specs.List.{IsDistinct, AllByRecursion}
 use Rattle.std.proofs.lemmas.List.Elements.{All-filter, All-from_recursion, recursion_from_All}
 use Rattle.std.proofs.lemmas.Map.Keys.{IsDistinct-head, IsDistinct-tail, IsDistinct-cons}
+use Rattle.std.proofs.lemmas.Bool.{and_parts}
+use Rattle.regalloc2_index.proofs.Numbers.{nat_eq-self}
+use Rattle.regalloc2_index.proofs.Bools.{equal_tests}
 use Rattle.regalloc2_names.specs.declared.RegClass.{RegClass}
 use Rattle.regalloc2_names.specs.declared.RegClass.TheVariants.{Int, Float, Vector}
 use Rattle.regalloc2_names.specs.Register.{Register, class_code, is_register}
 
--- numbers that differ fail the test
-self-eq : (n : ℕ) → nat_eq n n ≡ true
-self-eq n = eq-eqb n n refl
-
 -- the test of equality says yes of a preg and itself
 pub is_register-refl : (r : Register) → is_register r r ≡ true
-is_register-refl r = rw (self-eq (class_code r.class), self-eq r.number) refl
+is_register-refl r = rw (nat_eq-self (class_code r.class), nat_eq-self r.number) refl
 
 pub class_codes : (a b : RegClass) → class_code a ≡ class_code b → a ≡ b
 class_codes Int Int e = refl
@@ -27,27 +26,18 @@ class_codes Vector Int e = absurd (omega arith)
 class_codes Vector Float e = absurd (omega arith)
 class_codes Vector Vector e = refl
 
-both : (a b : Bool) → a && b ≡ true → (a ≡ true) × (b ≡ true)
-both true b e = (refl, e)
-both false b e = absurd cc
-
 named : (a b : Register) → a.class ≡ b.class → a.number ≡ b.number → a ≡ b
 named a b e f = ap (λ (c : RegClass). record { number = a.number; class = c }) e ∙ ap (λ (n : ℕ). record { number = n; class = b.class }) f
 
 -- the test finds equal names alone
 pub is_register-true : (a b : Register) → is_register a b ≡ true → a ≡ b
 is_register-true a b e =
-    let h = both (nat_eq (class_code a.class) (class_code b.class)) (nat_eq a.number b.number) e in
+    let h = and_parts (nat_eq (class_code a.class) (class_code b.class)) (nat_eq a.number b.number) e in
     named a b (class_codes a.class b.class (eqb-true _ _ h.0)) (eqb-true _ _ h.1)
-
-pub same_answer : (a b : Bool) → (a ≡ true → b ≡ true) → (b ≡ true → a ≡ true) → a ≡ b
-same_answer true b f g = sym (f refl)
-same_answer false true f g = g refl
-same_answer false false f g = refl
 
 -- whichever name is asked for first
 pub is_register-flip : (a b : Register) → is_register a b ≡ is_register b a
-is_register-flip a b = same_answer (is_register a b) (is_register b a) (turned a b) (turned b a)
+is_register-flip a b = equal_tests (is_register a b) (is_register b a) (turned a b) (turned b a)
   where
     turned : (x y : Register) → is_register x y ≡ true → is_register y x ≡ true
     turned x y e = rw (is_register-true x y e) (is_register-refl y)

@@ -5,6 +5,7 @@ use Rattle.std.specs.Prelude.{Contains}
 use Rattle.std.specs.Fn.{Mut, Shared, Called}
 use Rattle.std.specs.List.{FoldsTo}
 use Rattle.std.proofs.lemmas.Bool.{cases_eq}
+use Rattle.regalloc2_index.proofs.Bools.{not_both}
 use Rattle.regalloc2_names.specs.declared.sets.PRegSet.{PRegSet}
 use Rattle.regalloc2_names.specs.Place.{Place, NoPlace, InRegister, InSlot, is_memory}
 use Rattle.regalloc2_names.specs.Register.{Register}
@@ -99,9 +100,6 @@ module _ {F : Type 0} (g : Mut F (Unit {0}) (Option Place)) (f : F) (pair : Scra
 -- a slot is in memory
 memory_slot : (fixed_stack : PRegSet) (q : Place) (k : ℕ) → q ≡ InSlot k → is_memory fixed_stack q ≡ true
 memory_slot fixed_stack q k e = ap (is_memory fixed_stack) e
-
-not_both : (b : Bool) → b ≡ true → b ≡ false → ⊥
-not_both b y n = let e : true ≡ false = sym y ∙ n in cc
 
 -- ends that aren't both in memory aren't both said to be
 pub stay_apart : {H : Type 0} (m : Shared H (Place × Unit {0}) Bool) (h : H) (fixed_stack : PRegSet) → DecidesStack m h fixed_stack →

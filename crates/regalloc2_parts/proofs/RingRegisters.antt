@@ -1,18 +1,16 @@
 -- The registers that a ring's nodes stand for.
 use Rattle.std.proofs.Common.{ℕ, zero, suc, ◌≡◌, ◌-◌, ◌<◌, ◌∙◌, refl, arith, sym, ap, subst}
-use Rattle.std.proofs.Common.{List, [], ◌∷◌, ◌++◌, Bool, true, false, not, cond, nat_eq, eq-eqb, length}
+use Rattle.std.proofs.Common.{List, [], ◌∷◌, ◌++◌, Bool, true, false, not, cond, nat_eq, length}
 use Rattle.std.specs.Prelude.{Contains, filter, map, reverse, slice_get, Some}
 use Rattle.std.specs.List.{AllByRecursion, IsDistinct}
 use Rattle.std.proofs.lemmas.List.{length-append, reverse-append, reverse-reverse}
 use Rattle.std.proofs.lemmas.Map.Keys.{IsDistinct-head, IsDistinct-tail, IsDistinct-cons}
+use Rattle.regalloc2_index.proofs.Numbers.{nat_eq-self}
 use Rattle.regalloc2_names.specs.declared.RegClass.{RegClass}
 use Rattle.regalloc2_names.specs.Register.{Register, class_code, is_register}
 use Rattle.regalloc2_parts.specs.declared.lru.nodes.LruNode.{LruNode}
 use Rattle.regalloc2_parts.specs.RingNodes.{IsLruNodes, IsNodeRing, named, ring_numbers, ring_registers}
 use Rattle.regalloc2_parts.proofs.Numbers.{without}
-
-self-eq : (n : ℕ) → nat_eq n n ≡ true
-self-eq n = eq-eqb n n refl
 
 -- registers of one class with different numbers differ
 pub distinct_named : (class : RegClass) (ns : List ℕ) → IsDistinct nat_eq ns → IsDistinct is_register (map (named class) ns)
@@ -24,13 +22,13 @@ distinct_named class (n ∷ ns) d =
   where
     apart : (ms : List ℕ) → AllByRecursion (λ m. nat_eq n m ≡ false) ms → AllByRecursion (λ r. is_register (named class n) r ≡ false) (map (named class) ms)
     apart [] h = tt
-    apart (m ∷ ms) h = (rw (self-eq (class_code class), h.0) refl, apart ms h.1)
+    apart (m ∷ ms) h = (rw (nat_eq-self (class_code class), h.0) refl, apart ms h.1)
 
 -- a register taken out is its number taken out
 pub named_without : (class : RegClass) (p : ℕ) (ns : List ℕ) →
     map (named class) (without p ns) ≡ filter (λ r. not (is_register (named class p) r)) (map (named class) ns)
 named_without class p [] = refl
-named_without class p (n ∷ ns) = rw (self-eq (class_code class)) (by_test (not (nat_eq p n)) (named_without class p ns))
+named_without class p (n ∷ ns) = rw (nat_eq-self (class_code class)) (by_test (not (nat_eq p n)) (named_without class p ns))
   where
     by_test : (b : Bool) → map (named class) (without p ns) ≡ filter (λ r. not (is_register (named class p) r)) (map (named class) ns) →
         map (named class) (cond b (n ∷ without p ns) (without p ns))

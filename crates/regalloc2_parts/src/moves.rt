@@ -18,6 +18,8 @@ pub use resolved::MoveVecWithScratch;
 pub use scratch::MoveAndScratchResolver;
 use smallvec::SmallVec;
 use std::alloc::{AllocError, AllocFailed, Allocator, Global};
+use std::error::Error;
+use std::fmt;
 use std::marker::Model;
 
 /// Moves in the order in which they are made: from a place, to a place, with a value of the caller's. 16 of them stand inline.
@@ -31,6 +33,17 @@ pub enum MoveFault {
     /// A growth was refused.
     Memory,
 }
+
+impl fmt::Display for MoveFault {
+    fn fmt<W: fmt::Write>(&self, f: &mut fmt::Formatter<W>) -> fmt::Result {
+        match self {
+            Self::NoSlot => write!(f, "a move needs a spill slot, and there is none"),
+            Self::Memory => write!(f, "out of memory"),
+        }
+    }
+}
+
+impl Error for MoveFault {}
 
 impl From<AllocError> for MoveFault {
     ghost use Rattle.std.specs.Prelude.{◌≡◌};

@@ -1,7 +1,7 @@
 -- An instruction that fits claims its registers: each is the machine's, and no two are one where they share a position.
 use Rattle.std.proofs.Common.{ℕ, ◌≡◌, ◌≢◌, ◌<◌, Bool, true, false, List, length, refl, sym, ap, ◌∙◌, inl, inr, ◌⊎◌, arith}
 use Rattle.std.specs.Prelude.{not, ◌&&◌, ◌||◌}
-use Rattle.std.proofs.lemmas.Bool.{cases_eq, or_from, both_ways, or_left, or_right}
+use Rattle.std.proofs.lemmas.Bool.{cases_eq, or_from, both_ways, or_left, or_right, cases_lt}
 use Rattle.regalloc2_names.specs.declared.OperandConstraint.TheVariants.{FixedReg, Reuse}
 use Rattle.regalloc2_names.specs.Register.{Register, VirtualRegister}
 use Rattle.regalloc2_names.specs.RegisterSet.{has_register}
@@ -9,7 +9,6 @@ use Rattle.regalloc2_names.specs.Operand.{OperandValue, is_def, is_late, is_fixe
 use Rattle.regalloc2_function.specs.FunctionValue.{FunctionValue, InstValue}
 use Rattle.regalloc2_function.specs.Machine.{MachineValue, is_allocatable, IsFixedStackSlot}
 use Rattle.regalloc2_function.specs.Fitting.{Fits, HoldsEarly, HoldsLate, is_reuse}
-use Rattle.regalloc2_semantics.proofs.Soundness.{cases_within}
 use Rattle.regalloc2_semantics.proofs.Operands.{reads_use}
 use Rattle.regalloc2_validate.specs.Constraints.{op_at, no_operand}
 use Rattle.regalloc2_fastalloc_state.specs.declared.inst_regs.Positions.{Positions}
@@ -99,7 +98,7 @@ module _ (f : FunctionValue) (env : MachineValue) (inst : InstValue) (fits : Fit
 
   apart_claims : (m n : ℕ) (r : Register) (p q : Positions) → m ≢ n → ClaimAt m r p → ClaimAt n r q → ((p.early ≡ true) × (q.early ≡ true))
       ⊎ ((p.late ≡ true) × (q.late ≡ true)) → ⊥
-  apart_claims m n r p q ne a b both = elim (cases_within m n) [
+  apart_claims m n r p q ne a b both = elim (cases_lt m n) [
     | inl less ↦ apart_in_order m n r p q less a b both
     | inr le ↦ apart_in_order n m r q p (omega (arith, le, ne)) b a (swapped p q both)
   ]

@@ -1,6 +1,7 @@
 -- The rules by which a listing carries what a virtual register has: it grows at its front.
 use Rattle.std.proofs.Common.{ℕ, zero, suc, ◌≡◌, ◌<◌, Bool, true, false, List, [], ◌∷◌, ◌++◌, length, refl, arith, sym, ◌∙◌, inl, inr, ◌⊎◌, subst}
-use Rattle.std.specs.Prelude.{◌||◌, ◌&&◌}
+use Rattle.std.specs.Prelude.{◌&&◌}
+use Rattle.std.proofs.lemmas.Bool.{or_parts}
 use Rattle.regalloc2_names.specs.declared.sets.PRegSet.{PRegSet}
 use Rattle.regalloc2_names.specs.Register.{VirtualRegister, is_vreg}
 use Rattle.regalloc2_names.specs.Operand.{OperandValue, is_def, is_late, is_reading}
@@ -114,12 +115,6 @@ pub carries_append : (v : VirtualRegister) (K L : List Item) (P E F : Place → 
 unfolding Carries
 carries_append v K L P E F g h = λ s c n holds. from_append v K L E F s c n h (g s c n holds)
 
--- a test that says that no operand defines v
-cases_or : (a b : Bool) → (a || b) ≡ false → (a ≡ false) × (b ≡ false)
-cases_or false false h = (refl, refl)
-cases_or true b h = absurd cc
-cases_or false true h = absurd cc
-
 first_not : (b : Bool) (o : OperandValue) (os : List OperandValue) (v : VirtualRegister) → is_def o.kind ≡ b → (b && is_vreg o.vreg v) ≡ false →
     Undefined os v → Undefined (o ∷ os) v
 first_not true o os v k h rest zero lt d e =
@@ -132,7 +127,7 @@ pub defines_not : (ops : List OperandValue) (v : VirtualRegister) → defines v 
 unfolding defines
 defines_not [] v h = λ j lt d e. omega arith
 defines_not (o ∷ os) v h =
-    let parts = cases_or (is_def o.kind && is_vreg o.vreg v) (defines v os) h in
+    let parts = or_parts (is_def o.kind && is_vreg o.vreg v) (defines v os) h in
     first_not (is_def o.kind) o os v refl parts.0 (defines_not os v parts.1)
 
 -- a place that no item writes may be relied on and is owed, where none writes v
@@ -144,7 +139,7 @@ from_fresh v [] E R s c n u w h g = λ p x. elim x [ inl y ↦ g p y | inr y ↦
 from_fresh v (Move m ∷ L) E R s c n u w h g =
     from_fresh v L E R s (stored c m.to (c m.from)) n (λ p r. (u p r).1) w (λ p r. stored-other c m.to p (c m.from) (u p r).0 ∙ h p r) g
 from_fresh v (Exec ops places clobbers ∷ L) E R s c n u w h g =
-    let parts = cases_or (defines v ops) (writes v L) w in (
+    let parts = or_parts (defines v ops) (writes v L) w in (
       g.0,
       g.1,
       from_fresh v L E R (after_defs n 0 ops s) (late_cells n ops places clobbers c) (suc n) (λ p r. (u p r).1) parts.1

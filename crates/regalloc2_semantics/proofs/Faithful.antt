@@ -1,8 +1,9 @@
 -- From reads that agree to a faithful output.
-use Rattle.std.proofs.Common.{ℕ, ◌≡◌, ◌<◌, ◌≤◌, length, arith, ap, inl, inr, ◌⊎◌}
+use Rattle.std.proofs.Common.{ℕ, ◌≡◌, ◌<◌, ◌≤◌, length, arith, ap, inl, inr}
 use Rattle.std.specs.Prelude.{All, filter}
 use Rattle.std.proofs.lemmas.List.{get_or_past}
 use Rattle.std.proofs.lemmas.List.Elements.{All-filter, All-map}
+use Rattle.std.proofs.lemmas.Bool.{cases_lt}
 use Rattle.regalloc2_function.specs.FunctionValue.{FunctionValue, InstValue, block_at, inst_at, no_inst}
 use Rattle.regalloc2_function.specs.Machine.{MachineValue}
 use Rattle.regalloc2_function.specs.OutputValue.{OutputValue, MoveValue, is_listed_at, moves_before}
@@ -14,12 +15,9 @@ use Rattle.regalloc2_semantics.specs.Laws.{FaithfulWhereReadsAgree}
 none_past : (f : FunctionValue) (i : ℕ) → length f.insts ≤ i → length (inst_at f i).operands ≡ 0
 none_past f i le = ap (λ (x : InstValue). length x.operands) (get_or_past f.insts i no_inst le)
 
-cases_within : (i n : ℕ) → (i < n) ⊎ (n ≤ i)
-cases_within i n = grind (arith)
-
 met : (f : FunctionValue) (env : MachineValue) (out : OutputValue) → ((i : ℕ) → i < length f.insts → ConstraintsMet f env out i) → (i : ℕ) →
     ConstraintsMet f env out i
-met f env out h i = elim (cases_within i (length f.insts)) [
+met f env out h i = elim (cases_lt i (length f.insts)) [
   | inl lt ↦ h i lt
   | inr le ↦ λ k d less. let n : length (inst_at f i).operands ≡ 0 = none_past f i le in absurd (omega arith)
 ]

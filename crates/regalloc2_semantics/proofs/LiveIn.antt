@@ -1,6 +1,7 @@
 -- In a well-formed function, a vreg that is live where a path comes to a block is read or passed by a block on that doesn't write it, nor does one up to there.
 use Rattle.std.proofs.Common.{ℕ, ◌≡◌, ◌+◌, ◌<◌, ◌≤◌, inl, inr, [], List, length, refl, ap, subst, arith}
 use Rattle.std.specs.Prelude.{Contains, slice_index_or}
+use Rattle.std.proofs.lemmas.Bool.{cases_lt}
 use Rattle.regalloc2_names.specs.Register.{VirtualRegister}
 use Rattle.regalloc2_function.specs.FunctionValue.{FunctionValue, block_at, inst_at}
 use Rattle.regalloc2_function.specs.Machine.{MachineValue}
@@ -13,7 +14,7 @@ use Rattle.regalloc2_semantics.specs.Live.{IsLive, read_there, passed_there, lat
 use Rattle.regalloc2_semantics.specs.Live.{HasEntered, LiveStandWhereBlocksCarryOn}
 use Rattle.regalloc2_semantics.proofs.SingleDef.{DefinesAt, reads_defined}
 use Rattle.regalloc2_semantics.proofs.Order.{ends_within, reads_later, passes_defined_earlier}
-use Rattle.regalloc2_semantics.proofs.Soundness.{cases_within, well_formed_are_sound}
+use Rattle.regalloc2_semantics.proofs.Soundness.{well_formed_are_sound}
 use Rattle.regalloc2_semantics.proofs.Paths.{Live, UsedSomewhere, live_somewhere, block_within}
 use Rattle.regalloc2_semantics.proofs.Paths.{holds_live, items_carry_on}
 
@@ -24,7 +25,7 @@ module _ (env : MachineValue) (f : FunctionValue) (ok : IsWellFormed env f) (v :
 
   -- nor do the others, where each definition comes before i
   all_free : (b i : ℕ) → b < length f.blocks → FreeUpTo b i → ((j k : ℕ) → DefinesAt f v.number j k → j < i) → IsUnwritten f b v
-  all_free b i lb free sooner j ge less k lt def is = elim (cases_within j i) [
+  all_free b i lb free sooner j ge less k lt def is = elim (cases_lt j i) [
     | inl early ↦ free j ge early k lt def is
     | inr late ↦ (
         let within = ends_within f ok.follow b lb in
@@ -47,7 +48,7 @@ module _ (env : MachineValue) (f : FunctionValue) (ok : IsWellFormed env f) (v :
       omega (arith, early, same)
 
   one_more : (b i : ℕ) → FreeUpTo b i → Undefined (inst_at f i).operands v → FreeUpTo b (i + 1)
-  one_more b i free here j ge less = elim (cases_within j i) [
+  one_more b i free here j ge less = elim (cases_lt j i) [
     | inl early ↦ free j ge early
     | inr late ↦ subst (λ (m : ℕ). Undefined (inst_at f m).operands v) (omega (arith, late, less)) here
   ]

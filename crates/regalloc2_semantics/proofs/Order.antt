@@ -1,6 +1,7 @@
 -- The order of a well-formed function's blocks and instructions: what is defined comes before what reads or passes it.
 use Rattle.std.proofs.Common.{ℕ, zero, suc, ◌≡◌, ◌+◌, ◌-◌, ◌<◌, ◌≤◌, inl, inr, true, [], length, refl, sym, ap, ◌∙◌, subst, arith}
 use Rattle.std.specs.Prelude.{Contains, slice_index_or}
+use Rattle.std.proofs.lemmas.Bool.{cases_lt}
 use Rattle.regalloc2_names.specs.Register.{VirtualRegister}
 use Rattle.regalloc2_names.specs.Operand.{is_reading}
 use Rattle.regalloc2_names.specs.Point.{after}
@@ -8,7 +9,6 @@ use Rattle.regalloc2_function.specs.FunctionValue.{FunctionValue, block_at, inst
 use Rattle.regalloc2_function.specs.WellFormed.{BlocksFollow, DefinedOnce, IsDefinedBy, UsesAreDefined, last_of}
 use Rattle.regalloc2_semantics.specs.Listing.{op_at}
 use Rattle.regalloc2_semantics.specs.Carry.{Undefined}
-use Rattle.regalloc2_semantics.proofs.Soundness.{cases_within}
 use Rattle.regalloc2_semantics.proofs.SingleDef.{DefinesAt, Made, MadeBefore, by_earlier, is_made}
 use Rattle.regalloc2_semantics.proofs.SingleDef.{made_before, made_behind, one_made, one_operand, not_both, ReadsDefined}
 use Rattle.regalloc2_semantics.proofs.SingleDef.Made.{by_operand}
@@ -21,7 +21,7 @@ module _ (f : FunctionValue) (follow : BlocksFollow f) where
   -- and before all later ones
   pub ends_before : (b c : ℕ) → b < c → c < length f.blocks → (block_at f b).range.end ≤ (block_at f c).range.first
   ends_before b zero less lt = absurd (omega arith)
-  ends_before b (suc c) less lt = elim (cases_within b c) [
+  ends_before b (suc c) less lt = elim (cases_lt b c) [
     | inl earlier ↦ (
         let h = ends_before b c earlier (omega arith) in
         let n = next_begins c lt in
@@ -37,7 +37,7 @@ module _ (f : FunctionValue) (follow : BlocksFollow f) where
       let last : ℕ = length f.blocks - 1 in
       let end : (block_at f last).range.end ≡ length f.insts = (follow last (omega arith)).3 (omega arith) in
       let some : (block_at f last).range.first < (block_at f last).range.end = (follow last (omega arith)).0 in
-      elim (cases_within b last) [
+      elim (cases_lt b last) [
         | inl earlier ↦ (let h = ends_before b last earlier (omega arith) in omega (arith, h, end, some))
         | inr le ↦ (let same : b ≡ last = omega arith in
             let e : (block_at f b).range.end ≡ (block_at f last).range.end = ap (λ (m : ℕ). (block_at f m).range.end) same in omega (arith, e, end))
@@ -46,7 +46,7 @@ module _ (f : FunctionValue) (follow : BlocksFollow f) where
   -- a later instruction is in the same block or in a later one
   pub stands_later : (b c i j : ℕ) → b < length f.blocks → c < length f.blocks → (block_at f b).range.first ≤ i → i < (block_at f b).range.end →
       (block_at f c).range.first ≤ j → j < (block_at f c).range.end → i ≤ j → b ≤ c
-  stands_later b c i j lb lc ib ie jb je le = elim (cases_within c b) [
+  stands_later b c i j lb lc ib ie jb je le = elim (cases_lt c b) [
     | inl back ↦ (let h = ends_before c b back lb in absurd (omega (arith, h)))
     | inr forth ↦ forth
   ]
@@ -93,7 +93,7 @@ module _ (f : FunctionValue) (once : DefinedOnce f) where
       Undefined (inst_at f (last_of (block_at f b))).operands v → i < last_of (block_at f b)
   passes_defined_earlier n i k b e v d follow uses lt edge has same other =
       let early = passes_later n i k b e v d follow uses lt edge has same in
-      elim (cases_within i (last_of (block_at f b))) [
+      elim (cases_lt i (last_of (block_at f b))) [
         | inl less ↦ less
         | inr late ↦ (
             let here : i ≡ last_of (block_at f b) = omega (arith, early, late) in

@@ -1,16 +1,11 @@
 -- What parameters take on an edge.
 use Rattle.std.proofs.Common.{suc, ◌≡◌, Bool, true, false, List, [], ◌∷◌, length, refl, arith, ap, ◌∙◌, subst, inl, inr}
 use Rattle.std.specs.Prelude.{◌||◌, Contains}
-use Rattle.std.proofs.lemmas.Bool.{cases_Bool}
+use Rattle.std.proofs.lemmas.Bool.{cases_Bool, or_parts}
 use Rattle.regalloc2_names.specs.Register.{VirtualRegister, is_vreg}
 use Rattle.regalloc2_function.specs.SourceRun.{Source, assigned, passed}
 use Rattle.regalloc2_semantics.specs.Blocks.{names, Passes}
 use Rattle.regalloc2_semantics.proofs.Cells.{is_vreg-true, is_vreg-same, assigned-same, assigned-other}
-
-cases_or : (a b : Bool) → (a || b) ≡ false → (a ≡ false) × (b ≡ false)
-cases_or false false h = (refl, refl)
-cases_or true b h = absurd cc
-cases_or false true h = absurd cc
 
 left_or : (a b : Bool) → (a || b) ≡ true → b ≡ false → a ≡ true
 left_or true b h e = refl
@@ -26,7 +21,7 @@ unfolding passed names
 passed-other [] xs before after v h = refl
 passed-other (p ∷ ps) [] before after v h = refl
 passed-other (p ∷ ps) (x ∷ xs) before after v h =
-    let parts = cases_or (is_vreg p v) (names v ps) h in
+    let parts = or_parts (is_vreg p v) (names v ps) h in
     passed-other ps xs before (assigned after p (before x)) v parts.1 ∙ assigned-other after p v (before x) (apart p v parts.0)
 
 -- a parameter takes what its argument had

@@ -4,6 +4,7 @@ use Rattle.std.proofs.Common.{subst, inl, inr, ◌⊎◌, eq-eqb, nat_eq}
 use Rattle.std.specs.Prelude.{slice_index_or, count_by}
 use Rattle.std.proofs.lemmas.Bool.{cases_eq}
 use Rattle.std.proofs.lemmas.List.Sums.{sum_by-cons}
+use Rattle.std.proofs.lemmas.List.{get_or_default}
 use Rattle.regalloc2_names.specs.declared.RegClass.TheVariants.{Int}
 use Rattle.regalloc2_names.specs.Register.{VirtualRegister}
 use Rattle.regalloc2_names.specs.Operand.{OperandValue, is_def, is_reading}
@@ -14,12 +15,6 @@ use Rattle.regalloc2_semantics.specs.Listing.{op_at, no_operand}
 use Rattle.regalloc2_semantics.specs.Instruction.{Knows}
 use Rattle.regalloc2_semantics.specs.OperandsPlaced.{Once, Counts, what_of}
 use Rattle.regalloc2_semantics.proofs.Soundness.{total, total-two, count_at, in_blocks, in_insts, at_most_one}
-
--- within a list the default doesn't matter
-pub default_free : {X : Type 0} (xs : List X) (i : ℕ) (d e : X) → i < length xs → slice_index_or xs i d ≡ slice_index_or xs i e
-default_free [] i d e lt = absurd (omega arith)
-default_free (x ∷ xs) zero d e lt = refl
-default_free (x ∷ xs) (suc i) d e lt = default_free xs i d e (omega arith)
 
 -- one item of a sum
 total-one : {X : Type 0} (g : X → ℕ) (xs : List X) (k : ℕ) (d : X) → k < length xs → g (slice_index_or xs k d) ≤ total (map g xs)
@@ -143,10 +138,11 @@ pub data MadeBefore (f : FunctionValue) (v : VirtualRegister) (i : ℕ) : Type 0
 -- a vreg defined by a point has a block parameter or an operand of an earlier instruction that defines it
 made_by : (f : FunctionValue) (v : VirtualRegister) (i point : ℕ) → i ≤ length f.insts → point ≤ before i → IsDefinedBy f v point → MadeBefore f v i
 made_by f v i point lt le (inl p) =
-    let same : slice_index_or (block_at f p.0).params p.3.0 no_vreg ≡ v = default_free (block_at f p.0).params p.3.0 no_vreg v p.3.1 ∙ p.3.2 in
+    let same : slice_index_or (block_at f p.0).params p.3.0 no_vreg ≡ v = get_or_default (block_at f p.0).params p.3.0 no_vreg v p.3.1 ∙ p.3.2 in
     MadeBefore.by_param p.0 p.3.0 (record { block = p.1; param = p.3.1; number = ap (λ (w : VirtualRegister). w.number) same }) same
 made_by f v i point lt le (inr o) =
-    let same : slice_index_or (inst_at f o.0).operands o.1 o.2 ≡ op_at (inst_at f o.0).operands o.1 = default_free (inst_at f o.0).operands o.1 o.2 no_operand
+    let same : slice_index_or (inst_at f o.0).operands o.1 o.2 ≡ op_at (inst_at f o.0).operands o.1 =
+        get_or_default (inst_at f o.0).operands o.1 o.2 no_operand
     o.4 in
     let is : (op_at (inst_at f o.0).operands o.1).vreg ≡ v = ap (λ (x : OperandValue). x.vreg) (sym same) ∙ o.6 in
     by_earlier o.0 o.1 (omega (arith, o.3, le)) (record {

@@ -1,8 +1,8 @@
 -- Well-formed functions have what the theorem on paths needs.
 use Rattle.std.proofs.Common.{ℕ, zero, suc, ◌≡◌, ◌≢◌, ◌+◌, ◌<◌, ◌≤◌, Bool, true, false, cond, List, [], ◌∷◌, length, map, refl, arith, sym, ap, ◌∙◌}
-use Rattle.std.proofs.Common.{subst, inl, inr, ◌⊎◌, eq-eqb, eqb-true, nat_eq}
+use Rattle.std.proofs.Common.{subst, inl, inr, eq-eqb, eqb-true, nat_eq}
 use Rattle.std.specs.Prelude.{slice_index_or, count_by, ◌||◌}
-use Rattle.std.proofs.lemmas.Bool.{cases_eq, ne_eqb}
+use Rattle.std.proofs.lemmas.Bool.{cases_eq, ne_eqb, cases_lt}
 use Rattle.std.proofs.lemmas.List.{get_or_past}
 use Rattle.std.proofs.lemmas.List.Sums.{get_or-le-sum_by, sum_by-cons, count_by-le-length}
 use Rattle.regalloc2_names.specs.Register.{VirtualRegister, is_vreg}
@@ -63,13 +63,9 @@ counts_apart p q (x ∷ xs) h =
 times_apart : (b c : ℕ) (xs : List ℕ) → b ≢ c → times_in b xs + times_in c xs ≤ length xs
 times_apart b c xs ne = counts_apart (λ x. nat_eq x b) (λ x. nat_eq x c) xs (λ x e. ne_eqb x c (λ s. ne (sym (eqb-true x b e) ∙ s)))
 
--- an index is within a list, or past it
-pub cases_within : (i n : ℕ) → (i < n) ⊎ (n ≤ i)
-cases_within i n = grind (arith)
-
 -- a block that has an edge, or a parameter
 edge_within : (f : FunctionValue) (b k : ℕ) → HasEdge f b k → b < length f.blocks
-edge_within f b k edge = elim (cases_within b (length f.blocks)) [
+edge_within f b k edge = elim (cases_lt b (length f.blocks)) [
   | inl lt ↦ lt
   | inr le ↦ (let n : length (block_at f b).succs ≡ 0 = ap (λ (x : BlockValue). length x.succs) (get_or_past f.blocks b no_block le) in absurd (omega arith))
 ]
@@ -79,7 +75,7 @@ unfolding names
 names_none v = refl
 
 param_within : (f : FunctionValue) (b : ℕ) (v : VirtualRegister) → IsParameter f b v → b < length f.blocks
-param_within f b v h = elim (cases_within b (length f.blocks)) [
+param_within f b v h = elim (cases_lt b (length f.blocks)) [
   | inl lt ↦ lt
   | inr le ↦ (let n : names v (block_at f b).params ≡ false = ap (λ (x : BlockValue). names v x.params) (get_or_past f.blocks b no_block le) ∙ names_none v in
       absurd cc)
@@ -138,7 +134,7 @@ module _ (f : FunctionValue) (once : DefinedOnce f) where
   pub no_definition : (b i : ℕ) (v : VirtualRegister) → IsParameter f b v → Undefined (inst_at f i).operands v
   unfolding in_blocks in_insts
   no_definition b i v h j lt d e =
-      let within : i < length f.insts = elim (cases_within i (length f.insts)) [
+      let within : i < length f.insts = elim (cases_lt i (length f.insts)) [
         | inl less ↦ less
         | inr le ↦ (let n : length (inst_at f i).operands ≡ 0 = ap (λ (x : InstValue). length x.operands) (get_or_past f.insts i no_inst le) in
             absurd (omega arith))
@@ -223,7 +219,7 @@ critical : (f : FunctionValue) → PredecessorsAgree f → NoCriticalEdge f → 
     target_at f b j < length f.blocks → IsEnteredOnce f (target_at f b j)
 critical f agree none b i j x y ne lt =
     let t : ℕ = target_at f b j in
-    entered_once f agree b j y lt (elim (cases_within 1 (ways_into f t)) [
+    entered_once f agree b j y lt (elim (cases_lt 1 (ways_into f t)) [
       | inl many ↦ (
           let r = find b (block_at f t).preds (counted_among f agree b j y lt) in
           let few : length (block_at f (slice_index_or (block_at f t).preds r.0 0)).succs ≤ 1 = none t lt many r.0 0 r.1 in

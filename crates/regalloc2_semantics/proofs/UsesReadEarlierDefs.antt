@@ -1,7 +1,8 @@
 -- In a well-formed function a use finds writes of earlier steps alone.
-use Rattle.std.proofs.Common.{ℕ, zero, suc, ◌≡◌, ◌<◌, ◌≤◌, Bool, true, false, List, [], ◌∷◌, length, refl, arith, sym, ap, ◌∙◌, subst, inl, inr}
-use Rattle.std.specs.Prelude.{Option, None, Some, IsSome, slice_index_or, ◌||◌}
+use Rattle.std.proofs.Common.{ℕ, zero, suc, ◌≡◌, ◌<◌, ◌≤◌, true, List, [], ◌∷◌, length, refl, arith, sym, ap, ◌∙◌, subst, inl, inr}
+use Rattle.std.specs.Prelude.{Option, None, Some, IsSome, slice_index_or}
 use Rattle.std.proofs.lemmas.List.{get_or_past}
+use Rattle.std.proofs.lemmas.Bool.{cases_lt, or_left, or_right}
 use Rattle.regalloc2_names.specs.declared.OperandPos.{OperandPos}
 use Rattle.regalloc2_names.specs.declared.OperandPos.TheVariants.{Early, Late}
 use Rattle.regalloc2_names.specs.Operand.{OperandValue}
@@ -17,7 +18,7 @@ use Rattle.regalloc2_semantics.specs.Blocks.{names, IsSound}
 use Rattle.regalloc2_semantics.specs.Laws.{AgreeingReadsFindEarlier, ReadsAgreeWhereNumbersDo, WellFormedReadEarlier}
 use Rattle.regalloc2_semantics.proofs.Cells.{is_vreg-same}
 use Rattle.regalloc2_semantics.proofs.BothRuns.{after_defs-other}
-use Rattle.regalloc2_semantics.proofs.Soundness.{cases_within, no_definition, no_second, well_formed_are_sound}
+use Rattle.regalloc2_semantics.proofs.Soundness.{no_definition, no_second, well_formed_are_sound}
 
 -- a path is at an instruction of a block
 record Inside (f : FunctionValue) (l : Location) : Type 0 where
@@ -31,23 +32,15 @@ inside f ok (Onward ∷ ws) p = let h = inside f ok ws p.0 in let low = h.first 
 inside f ok (ToSuccessor k ∷ ws) p = let t = ok.targets (end_of f ws).block k p.1.1 in record { block = t; first = omega arith; end = ok.nonempty _ t }
 
 -- an element of a list is named by it
-left : (a b : Bool) → a ≡ true → (a || b) ≡ true
-left true b e = refl
-left false b e = absurd cc
-
-right : (a b : Bool) → b ≡ true → (a || b) ≡ true
-right true b e = refl
-right false b e = e
-
 names_element : (v : VirtualRegister) (ps : List VirtualRegister) (k : ℕ) → k < length ps → slice_index_or ps k v ≡ v → names v ps ≡ true
 unfolding names
 names_element v [] k lt e = absurd (omega arith)
-names_element v (p ∷ ps) zero lt e = left (is_vreg p v) (names v ps) (subst (λ q. is_vreg q v ≡ true) (sym e) (is_vreg-same v))
-names_element v (p ∷ ps) (suc k) lt e = right (is_vreg p v) (names v ps) (names_element v ps k (omega arith) e)
+names_element v (p ∷ ps) zero lt e = or_left (is_vreg p v) (names v ps) (subst (λ q. is_vreg q v ≡ true) (sym e) (is_vreg-same v))
+names_element v (p ∷ ps) (suc k) lt e = or_right (is_vreg p v) (names v ps) (names_element v ps k (omega arith) e)
 
 -- an instruction with operands is one of the function's
 has_operands : (f : FunctionValue) (i k : ℕ) → k < length (inst_at f i).operands → i < length f.insts
-has_operands f i k lt = elim (cases_within i (length f.insts)) [
+has_operands f i k lt = elim (cases_lt i (length f.insts)) [
   | inl less ↦ less
   | inr le ↦ (let n : length (inst_at f i).operands ≡ 0 = ap (λ (x : InstValue). length x.operands) (get_or_past f.insts i no_inst le) in absurd (omega arith))
 ]

@@ -3,7 +3,7 @@
 ghost use Rattle.std.specs.Prelude.{◌≡◌};
 ghost use Rattle.regalloc2_names.specs.Packing.{IsConstraintOf};
 
-use super::random::{FIRST_SLOT, Random, preg};
+use super::random::{FIRST_SLOT, Random, any_class, preg};
 use regalloc2::{
     Operand, OperandConstraint, OperandKind, OperandPos, PReg, PRegSet, RegClass, VReg,
 };
@@ -156,7 +156,7 @@ impl Draft {
     pub fn finish(mut self, random: &mut Random, is_branch: bool, is_ret: bool) -> TableInst {
         let mut clobbers = PRegSet::empty();
         for _ in 0..random.below(4) {
-            let class = random.class();
+            let class = any_class(random);
             let clobber = any_register(random, class);
             if self.takes(clobber, false, true) {
                 clobbers.add(clobber);

@@ -4,7 +4,7 @@ ghost use Rattle.std.specs.Prelude.{◌≡◌, ◌<◌};
 
 use super::graph::Graph;
 use super::instructions::Draft;
-use super::random::{CLASSES, Random, any_machine, preg};
+use super::random::{CLASSES, Random, any_class, any_machine, preg};
 use regalloc2::{Block, MachineEnv, Operand, OperandKind, PRegSet, RegClass, VReg};
 use regalloc2_table::{SlotUnits, TableBuilder, TableFunction, TableInst};
 use std::alloc::Global;
@@ -82,7 +82,7 @@ impl Maker {
 
     /// Adds a definition of a virtual register that wasn't named yet.
     fn add_def(&mut self, draft: &mut Draft) -> Option<()> {
-        let class = self.random.class();
+        let class = any_class(&mut self.random);
         let vreg = self.fresh(class);
         self.known.push(vreg).ok()?;
         draft.add(&mut self.random, vreg, OperandKind::Def)
@@ -111,7 +111,7 @@ impl Maker {
                 0 | 1 | 2 => self.add_def(&mut draft)?,
                 3 | 4 => self.add_reuse(&mut draft)?,
                 5 => {
-                    let fixed = preg(60, self.random.class());
+                    let fixed = preg(60, any_class(&mut self.random));
                     let operand = Operand::fixed_nonallocatable(fixed);
                     draft.operands.push(operand).ok()?
                 }
@@ -136,7 +136,7 @@ impl Maker {
     fn name_parameters(&mut self, graph: &mut Graph) -> Option<()> {
         for number in 3..3 * graph.nodes.len().min(100) {
             if self.random.once_in(2) {
-                let class = self.random.class();
+                let class = any_class(&mut self.random);
                 let param = self.fresh(class);
                 graph.nodes.get_mut(number / 3)?.params.push(param).ok()?;
             }

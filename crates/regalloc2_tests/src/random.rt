@@ -1,7 +1,8 @@
-//! Numbers that look random, and machines.
+//! Classes, registers and machines that look random.
 
-ghost use Rattle.std.specs.Prelude.{◌≡◌, ◌<◌};
+ghost use Rattle.std.specs.Prelude.{◌≡◌};
 
+pub use compile_program::Random;
 use regalloc2::{MachineEnv, PReg, PRegSet, RegClass};
 use std::alloc::Global;
 
@@ -14,44 +15,12 @@ pub const FIRST_SLOT: usize = 40;
 /// The register of each class for moves from stack to stack, where there is one.
 const SCRATCH: usize = 50;
 
-/// Numbers that look random, the same ones for the same seed.
-#[derive(Drop)]
-pub struct Random {
-    state: u64,
-}
-
-impl Random {
-    /// The numbers of a seed.
-    pub fn new(seed: u64) -> Random {
-        Random { state: seed }
-    }
-
-    /// The next number, below `count`.
-    pub fn below(&mut self, count: usize) -> usize
-        requires { 0 < count }
-        ensures { result < count }
-    {
-        self.state = self
-            .state
-            .wrapping_mul(6_364_136_223_846_793_005)
-            .wrapping_add(1_442_695_040_888_963_407);
-        (self.state >> 33) as usize % count
-    }
-
-    /// True once in `count` times.
-    pub fn once_in(&mut self, count: usize) -> bool
-        requires { 0 < count }
-    {
-        self.below(count) == 0
-    }
-
-    /// One of the classes, most often that of integers.
-    pub fn class(&mut self) -> RegClass {
-        match self.below(4) {
-            0 => RegClass::Float,
-            1 => RegClass::Vector,
-            _ => RegClass::Int,
-        }
+/// One of the classes, most often that of integers.
+pub fn any_class(random: &mut Random) -> RegClass {
+    match random.below(4) {
+        0 => RegClass::Float,
+        1 => RegClass::Vector,
+        _ => RegClass::Int,
     }
 }
 

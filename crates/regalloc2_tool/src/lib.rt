@@ -1,7 +1,6 @@
 //! What the command-line programs share: the listing of an allocated function, and the words for what is refused or found.
 #![tactic(auto)]
 
-pub mod findings;
 pub mod listing;
 mod moves;
 mod operands;

@@ -1,5 +1,6 @@
 -- Closures that hand out one place, once, and what a resolver is owed of them.
 use Rattle.std.proofs.Common.{◌≡◌, ◌≢◌, Bool, true, false, List, Option, None, Some, sym, ap, ◌∙◌, inl, inr}
+use Rattle.std.proofs.lemmas.Bool.{both_ways}
 use Rattle.regalloc2_names.specs.Place.{Place, NoPlace, InRegister, is_in_slot}
 use Rattle.regalloc2_names.specs.Register.{Register}
 use Rattle.regalloc2_parts.specs.Computed.{Owes, MayAnswer, AnswersDiffer}
@@ -21,9 +22,6 @@ module _ {G : Type 0} (step : G → Option Place → G → Type 0) (s : G) (free
   differ : AnswersDiffer step s
   differ p q m t k l e = let no : Some q ≡ None = (once (Some p) m k).1 (Some q) t l in cc
 
-not_both : (b : Bool) → b ≡ false → b ≡ true → ⊥
-not_both b n y = let e : false ≡ true = sym n ∙ y in cc
-
 -- a resolver whose closures hand out such places is given what it is owed
 pub owes_once : {F G T : Type 0} (registers : F → Option Place → F → Type 0) (slots : G → Option Place → G → Type 0) (stack : Place → Bool → Type 0)
     (register slot : Option Place) (f : F) (g : G) (ms : List (Place × Place × T)) (borrowed : Register) → IsHandedOnce registers f register →
@@ -34,8 +32,8 @@ owes_once registers slots stack register slot f g ms borrowed once once_slot ser
   unused = λ p a. let x = serves_slot p (answered slots g slot once_slot p a) in (x.1, x.2);
   registers_differ = differ registers f register once;
   slots_differ = differ slots g slot once_slot;
-  apart = λ p q a b e. not_both (is_in_slot p) (serves p (answered registers f register once p a)).0
+  apart = λ p q a b e. both_ways (is_in_slot p) (serves p (answered registers f register once p a)).0
       (ap is_in_slot e ∙ (serves_slot q (answered slots g slot once_slot q b)).0);
-  no_memory = λ p a yes. not_both (is_in_slot p) (serves p (answered registers f register once p a)).0 (sym (tells p true yes));
+  no_memory = λ p a yes. both_ways (is_in_slot p) (serves p (answered registers f register once p a)).0 (sym (tells p true yes));
   borrowed_no_memory = λ yes. let e : true ≡ false = tells (InRegister borrowed) true yes in cc;
 }

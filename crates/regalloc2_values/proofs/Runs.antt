@@ -1,8 +1,8 @@
 -- Both interpreters, step by step along one path.
 use Rattle.std.proofs.Common.{ℕ, zero, suc, ◌≡◌, ◌+◌, ◌<◌, Bool, true, false, cond, None, Some, List, [], ◌∷◌, length, refl, sym, ap, arith, nat_eq, subst, ◌∙◌}
 use Rattle.std.proofs.Common.{eqb-true}
-use Rattle.std.specs.Prelude.{Option, ◌&&◌, nat_lt, slice_index_or, option_map, option_and_then}
-use Rattle.std.proofs.lemmas.Bool.{ltb-true}
+use Rattle.std.specs.Prelude.{Option, nat_lt, slice_index_or, option_map, option_and_then}
+use Rattle.std.proofs.lemmas.Bool.{ltb-true, and_parts}
 use Rattle.regalloc2_names.specs.Register.{VirtualRegister}
 use Rattle.regalloc2_names.specs.declared.OperandPos.{OperandPos}
 use Rattle.regalloc2_names.specs.declared.OperandPos.TheVariants.{Early, Late}
@@ -80,11 +80,6 @@ found f out ws o p Late s is less a b =
 -- numbers of one write are the same
 one_number : (n : ℕ) (number : Stamp → ℕ) (s : Stamp) (x y : ℕ) → Made n number s x → Made n number s y → x ≡ y
 one_number n number s x y a b = a.1 ∙ sym b.1
-
-late_of : (a b : Bool) → (a && b) ≡ true → (a ≡ true) × (b ≡ true)
-late_of true true e = (refl, refl)
-late_of true false e = absurd cc
-late_of false b e = absurd cc
 
 -- the ways on are the function's
 edge_is_there : (f : FunctionValue) (l : Location) (taken : Option ℕ) (w : Way) → l.inst + 1 ≡ (block_at f l.block).range.end →
@@ -177,14 +172,14 @@ module _ (f : FunctionValue) (out : OutputValue) (meaning : Meaning) (noise : Hi
     late_at : read_by is_late_use (λ k o. written_at told (place_at places k)) 0 ops
         ≡ read_by is_late_use (λ k o. source_written f meaning (source_at ws h e) o.vreg) 0 ops
     late_at = same_reads is_late_use _ _ 0 ops (λ k d less yes.
-        let both = late_of _ _ yes in
+        let both = and_parts _ _ yes in
         let u = fs k d less both.0 in
         let z : k + 0 ≡ k = omega arith in
         rw z (one_number (length ws + 1) numbered u.stamp _ _ (later_stand _ _ (u.cell_late both.1)) (later_hold _ _ (u.source_late both.1))))
 
     still_at : read_by is_late_use (λ k o. source_written f meaning (source_at ws h e) o.vreg) 0 ops ≡ read_by is_late_use (λ k o. e o.vreg) 0 ops
     still_at = same_reads is_late_use _ _ 0 ops (λ k d less yes.
-        let both = late_of _ _ yes in
+        let both = and_parts _ _ yes in
         let u = fs k d less both.0 in
         one_number (length ws + 1) numbered u.stamp _ _ (later_hold _ _ (u.source_late both.1))
         (still (length ws) (meaning.writes told) t.number u.stamp _ (t.holds _ _ u.source)))

@@ -2,7 +2,7 @@
 -- the operand's place; what only its own branch passes nowhere; and all else in its slot.
 use Rattle.std.proofs.Common.{ℕ, ◌≡◌, ◌<◌, ◌⊎◌, inl, inr, true, List, [], length, refl, sym, ap, ◌∙◌, subst, arith}
 use Rattle.std.specs.Prelude.{Option, None, Some, slice_index_or}
-use Rattle.std.proofs.lemmas.Bool.{cases_eq}
+use Rattle.std.proofs.lemmas.Bool.{cases_eq, cases_lt}
 use Rattle.std.proofs.lemmas.List.{get_or_past}
 use Rattle.std.proofs.lemmas.List.Elements.{All-get_or}
 use Rattle.regalloc2_names.specs.Register.{VirtualRegister}
@@ -16,7 +16,6 @@ use Rattle.regalloc2_function.specs.WellFormed.{IsWellFormed, last_of}
 use Rattle.regalloc2_semantics.specs.Blocks.{IsUsed, target_at}
 use Rattle.regalloc2_semantics.specs.Listing.{op_at}
 use Rattle.regalloc2_semantics.specs.Live.{IsLive, read_there, passed_there, later}
-use Rattle.regalloc2_semantics.proofs.Soundness.{cases_within}
 use Rattle.regalloc2_semantics.proofs.SingleDef.{DefinesAt, not_both, one_operand, one_param}
 use Rattle.regalloc2_branch_defs.specs.BranchDefs.{DefinesNumber, EndsInDefinitions, IsEdgeInto, IsUsedElsewhere}
 use Rattle.regalloc2_branch_defs.proofs.UsedOrNot.{Decided, below, both, is_so, same_vreg, by_pass, by_read, used_or_not}
@@ -272,12 +271,12 @@ module _ (env : MachineValue) (f : FunctionValue) (ok : IsWellFormed env f) wher
 
 -- what is live somewhere is used by an instruction that doesn't define it
 pub live_used : (f : FunctionValue) (v : VirtualRegister) (l : Location) → IsLive f v l → IsUsedElsewhere f v
-live_used f v l (read_there m j lt reads is) = elim (cases_within m.inst (length f.insts)) [
+live_used f v l (read_there m j lt reads is) = elim (cases_lt m.inst (length f.insts)) [
   | inl inside ↦ by_read f v (m.inst, inside, (j, lt, (reads, is)))
   | inr past ↦ (let none : (inst_at f m.inst).operands ≡ [] = ap (λ (x : InstValue). x.operands) (get_or_past f.insts m.inst no_inst past) in
       let few : length (inst_at f m.inst).operands ≡ 0 = ap length none in absurd (omega (arith, few, lt)))
 ]
-live_used f v l (passed_there m k way has free) = elim (cases_within m.block (length f.blocks)) [
+live_used f v l (passed_there m k way has free) = elim (cases_lt m.block (length f.blocks)) [
   | inl inside ↦ (
       let end = way.0 in
       let last : m.inst ≡ last_of (block_at f m.block) = omega (arith, end) in

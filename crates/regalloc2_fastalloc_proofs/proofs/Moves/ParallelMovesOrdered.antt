@@ -9,6 +9,7 @@ use Rattle.std.proofs.Math.Nat.{mul-le-mul_right}
 use Rattle.std.proofs.lemmas.List.{get_or_default, get_or-map, length-map}
 use Rattle.std.proofs.lemmas.List.Sums.{count_by-le-length}
 use Rattle.std.proofs.lemmas.List.Elements.{All-contains}
+use Rattle.regalloc2_index.proofs.Bools.{not_with_itself}
 use Rattle.regalloc2_names.specs.declared.RegClass.{RegClass}
 use Rattle.regalloc2_names.specs.declared.sets.PRegSet.{PRegSet}
 use Rattle.regalloc2_names.specs.RegisterSet.{has_register}
@@ -139,10 +140,6 @@ are_next s class a b slot room full slot2 room2 full2 owned = record {
   owned = owned;
 }
 
-not_true : (b : Bool) → not b ≡ true → b ≡ true → ⊥
-not_true true e f = cc
-not_true false e f = cc
-
 -- a register that was found among the available ones may be a scratch register, as the class's dedicated one may
 pub found_or : (regs : AllocatableRegsValue) (class : RegClass) (free : PRegSet) (o : Option Register) → IfSome o (IsLeastRecentIn regs class free) →
     IfSome o (λ r. (slice_index_or regs.dedicated_scratch (class_code class) None ≡ Some r) ⊎ IsLeastRecentIn regs class free r)
@@ -208,7 +205,7 @@ module _ (pair : PairFound) where
       let same : place ≡ p = cc in
       let one : InRegister first ≡ InRegister x.0 = sym at_first ∙ same ∙ e ∙ x.1 in
       let r : first ≡ x.0 = cc in
-      not_true (is_register first x.0) (parts x.0 x.2).0 (ap (λ z. is_register first z) (sym r) ∙ is_register-same first)
+      not_with_itself (is_register first x.0) (parts x.0 x.2).0 (ap (λ z. is_register first z) (sym r) ∙ is_register-same first)
 
 -- full: a second slot would end past the greatest number of units
 two_fit : (owners pair vregs count size most start end : ℕ) → count ≤ (owners + pair) * (2 * most) → owners ≤ vregs → start + size < count + 2 * size →

@@ -1,7 +1,7 @@
 -- An operand that got its place is placed: a use is there if it had no location, a definition leaves the tables.
 use Rattle.std.proofs.Common.{ℕ, ◌≡◌, ◌≢◌, Bool, true, false, cond, List, refl, sym, ap, ◌∙◌, subst, inl, inr, ◌⊎◌, ⊎_elim, nat_eq, eq-eqb}
 use Rattle.std.specs.Prelude.{None, ◌&&◌}
-use Rattle.std.proofs.lemmas.Bool.{cases_Bool, cases_eq, ne_eqb}
+use Rattle.std.proofs.lemmas.Bool.{cases_Bool, cases_eq, eqb-true}
 use Rattle.regalloc2_names.specs.Register.{VirtualRegister}
 use Rattle.regalloc2_names.specs.RegisterSet.{has_register}
 use Rattle.regalloc2_names.specs.Operand.{OperandValue, is_def}
@@ -44,9 +44,6 @@ keeps_true : (a c : Bool) → c ≡ true → cond a true c ≡ true
 keeps_true true c e = refl
 keeps_true false c e = e
 
-eqb_eq : (x y : ℕ) → nat_eq x y ≡ true → x ≡ y
-eqb_eq x y e = elim (cases_eq x y) [ inl a ↦ a | inr a ↦ (let z : nat_eq x y ≡ false = ne_eqb x y a in absurd cc) ]
-
 -- with operand k's definition its number is among those defined, and its value among those made, in its place; nothing else is added
 pub makes_one : (ops : List OperandValue) (here : ℕ → Place) (out : ℕ → Bool) (X : Place → ℕ → Bool) (k : ℕ) →
     Makes (what_of ops) here out (and_one out (op_at ops k).vreg.number) X (made_one X (here k) (op_at ops k).vreg.number) k
@@ -55,7 +52,7 @@ makes_one ops here out X k = record {
   out_keeps = and_one_keeps out (op_at ops k).vreg.number;
   is_out = and_one_same out (op_at ops k).vreg.number (op_at ops k).vreg.number refl;
   grows = λ p w e. elim (both_true (is_place p (here k)) (nat_eq w (op_at ops k).vreg.number) (X p w) e) [
-    | inl h ↦ inl (is_place-true p (here k) h.0, eqb_eq w (op_at ops k).vreg.number h.1)
+    | inl h ↦ inl (is_place-true p (here k) h.0, eqb-true w (op_at ops k).vreg.number h.1)
     | inr h ↦ inr h
   ];
   keeps = λ p w e. keeps_true (is_place p (here k) && nat_eq w (op_at ops k).vreg.number) (X p w) e;

@@ -2,7 +2,7 @@
 use Rattle.std.proofs.Common.{ℕ, ◌≡◌, ◌≢◌, ◌+◌, ◌<◌, ◌≤◌, ◌⊎◌, ◌||◌, ◌&&◌, Bool, true, false, List, [], length, nat_eq, nat_lt, eq-eqb, refl, sym, ap}
 use Rattle.std.proofs.Common.{inl, inr, subst, arith}
 use Rattle.std.specs.Prelude.{slice_index_or}
-use Rattle.std.proofs.lemmas.Bool.{lt-ltb, cases_eq, or_right, and_from}
+use Rattle.std.proofs.lemmas.Bool.{lt-ltb, cases_eq, or_right, and_from, cases_lt}
 use Rattle.std.proofs.lemmas.List.Elements.{All-get_or}
 use Rattle.regalloc2_names.specs.declared.RegClass.{RegClass}
 use Rattle.regalloc2_names.specs.Register.{VirtualRegister}
@@ -16,7 +16,6 @@ use Rattle.regalloc2_function.specs.Fitting.{MachineFits}
 use Rattle.regalloc2_function.specs.WellFormed.{IsWellFormed, BlocksFollow, last_of}
 use Rattle.regalloc2_semantics.specs.Blocks.{target_at}
 use Rattle.regalloc2_semantics.proofs.SingleDef.{Made}
-use Rattle.regalloc2_semantics.proofs.Soundness.{cases_within}
 use Rattle.regalloc2_semantics.proofs.Order.{ends_before}
 use Rattle.regalloc2_validate.specs.NoLimits.{AreTaken}
 use Rattle.regalloc2_fastalloc_state.specs.StateParts.{no_allocs, no_slots, units_of}
@@ -129,7 +128,7 @@ module _ (fresh : FreshWalk) (outside : (c : ℕ) (ps : List Place) (u : StateVa
 
 -- two numbers are equal, or one is less than the other
 pub cases_order : (b c : ℕ) → (b < c) ⊎ (b ≡ c) ⊎ (c < b)
-cases_order b c = elim (cases_within b c) [
+cases_order b c = elim (cases_lt b c) [
   | inl less ↦ inl less
   | inr le ↦ elim (cases_eq b c) [ inl e ↦ inr (inl e) | inr d ↦ inr (inr (omega (arith, le, d))) ]
 ]

@@ -1,8 +1,8 @@
 -- An output whose slots were laid apart, and whose moves keep to a class, owns its slots.
+use Rattle.std.proofs.lemmas.Bool.{cases_lt}
 use Rattle.regalloc2_parts.proofs.Resolving.{All-reversed}
 use Rattle.std.proofs.Common.{ℕ, suc, ◌≡◌, ◌≢◌, ◌+◌, ◌-◌, ◌<◌, ◌≤◌, Bool, true, List, [], ◌∷◌, length, refl, sym, ap, ◌∙◌, ⊎_elim, subst, arith, slice_index_or}
 use Rattle.std.specs.Prelude.{All, Some, sum_by, take}
-use Rattle.regalloc2_semantics.proofs.Soundness.{cases_within}
 use Rattle.std.proofs.lemmas.List.{get_or_default}
 use Rattle.std.proofs.lemmas.List.Elements.{All-contains}
 use Rattle.std.proofs.lemmas.List.Sums.{sum_by-cons}
@@ -47,7 +47,7 @@ operand_of (x ∷ xs) d j lt = ⊎_elim
     let at = r.4 in
     let first = sum_by-cons (λ (i : InstValue). length i.operands) x (take r.0 xs) in
     (suc r.0, r.1, omega (arith, less), r.3, omega (arith, at, later, first)))
-    (cases_within j (length x.operands))
+    (cases_lt j (length x.operands))
 
 module _ (f : FunctionValue) (env : MachineValue) (Known : VirtualRegister → Type 0) (May : ℕ → Type 0) (t : StateValue) (o : OutputValue)
     (m : IsMade f env Known May t o) (owned : SlotsHaveOneOwner t.slots)

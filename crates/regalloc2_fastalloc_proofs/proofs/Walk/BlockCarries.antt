@@ -13,7 +13,6 @@ use Rattle.regalloc2_semantics.specs.Blocks.{target_at, IsUsed, IsUsedIn, IsUnwr
 use Rattle.regalloc2_semantics.proofs.BlockBackward.{Relied}
 use Rattle.regalloc2_semantics.proofs.SingleDef.{Made, ReadsDefined, reads_defined, one_made, not_both}
 use Rattle.regalloc2_semantics.proofs.SingleDef.Made.{by_operand}
-use Rattle.regalloc2_semantics.proofs.Soundness.{cases_within}
 use Rattle.regalloc2_semantics.proofs.CarryRules.{carries_weaken, carries_moves}
 use Rattle.regalloc2_semantics.proofs.NotRead.{Unread, silent_walked, carries_silent}
 use Rattle.regalloc2_semantics.specs.Listing.{Item, op_at, no_operand}
@@ -25,7 +24,7 @@ use Rattle.regalloc2_names.specs.declared.OperandPos.{OperandPos}
 use Rattle.regalloc2_names.specs.declared.OperandPos.TheVariants.{Early, Late}
 use Rattle.regalloc2_branch_defs.specs.BranchDefs.{IsUsedElsewhere, IsEdgeInto}
 use Rattle.std.proofs.lemmas.List.{get_or_default, get_or_past, nil_from_length}
-use Rattle.std.proofs.lemmas.Bool.{cases_Bool}
+use Rattle.std.proofs.lemmas.Bool.{cases_Bool, cases_lt}
 use Rattle.regalloc2_semantics.proofs.Order.{ends_within}
 use Rattle.regalloc2_fastalloc_proofs.specs.InstSteps.{StateValue}
 use Rattle.regalloc2_fastalloc_proofs.specs.BlockStart.{no_vreg}
@@ -389,7 +388,7 @@ module _ (carrying : CarryingContext) where
         slot_there x (InSlot n) is = (n, refl)
 
         param_unwritten : (m : ℕ) → m < length (block_at f b).params → slice_index_or (block_at f b).params m no_vreg ≡ v → (c : ℕ) → IsUnwritten f c v
-        param_unwritten m lt is c i ge less j lj def at = elim (cases_within i (length f.insts)) [
+        param_unwritten m lt is c i ge less j lj def at = elim (cases_lt i (length f.insts)) [
           | inl inside ↦ not_both f once v.number i j b m
               (record { inst = inside; operand = lj; definition = def; number = ap (λ (x : VirtualRegister). x.number) at })
               (record { block = lb; param = lt; number = ap (λ (x : VirtualRegister). x.number) is })

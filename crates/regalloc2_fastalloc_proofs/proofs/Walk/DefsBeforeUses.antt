@@ -9,7 +9,6 @@ use Rattle.regalloc2_function.specs.FunctionValue.{FunctionValue, BlockValue, In
 use Rattle.regalloc2_names.specs.Operand.{OperandValue, is_def}
 use Rattle.regalloc2_names.specs.Point.{before, after}
 use Rattle.regalloc2_semantics.specs.Listing.{no_operand}
-use Rattle.regalloc2_semantics.proofs.Soundness.{cases_within}
 use Rattle.regalloc2_fastalloc_proofs.specs.BlockStart.{no_vreg}
 use Rattle.regalloc2_function.specs.WellFormed.{BlocksFollow, BlocksEnd, DefinedOnce, IsDefinedBy, UsesAreDefined, last_of}
 use Rattle.regalloc2_semantics.specs.Blocks.{IsUsedIn, IsUnwritten, IsUsed}
@@ -133,7 +132,7 @@ module _ (f : FunctionValue) (once : DefinedOnce f) (follow : BlocksFollow f) (u
   defined_behind point (inr o) =
       let is : op_at (inst_at f o.0).operands o.1 ≡ slice_index_or (inst_at f o.0).operands o.1 o.2 =
       get_or_default (inst_at f o.0).operands o.1 no_operand o.2 o.4 in
-      let inside : o.0 < length f.insts = elim (cases_within o.0 (length f.insts)) [
+      let inside : o.0 < length f.insts = elim (cases_lt o.0 (length f.insts)) [
         | inl lt ↦ lt
         | inr past ↦ (let none : (inst_at f o.0).operands ≡ [] = ap (λ (x : InstValue). x.operands) (get_or_past f.insts o.0 no_inst past) in
             let few : length (inst_at f o.0).operands ≡ 0 = ap length none in let some = o.4 in absurd (omega (arith, few, some)))

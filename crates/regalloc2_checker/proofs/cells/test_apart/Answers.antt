@@ -1,6 +1,6 @@
 use Rattle.std.proofs.Common.{refl}
+use Rattle.regalloc2_index.proofs.Bools.{false_refutes}
 use Rattle.regalloc2_checker.proofs.SweptSlots.{now_other, swept_more, swept_all, is_shared, reaches_none}
-use Rattle.regalloc2_function.proofs.Tests.{not_so}
 use Rattle.regalloc2_checker.specs.CellFaults.{slot_at}
 use Rattle.regalloc2_checker.proofs.cells.test_apart.Goals as goal
 use Rattle.regalloc2_checker.proofs.cells.test_apart.Goals.{in-Some+else-reaches, in_default}
@@ -18,7 +18,7 @@ loop-k-preserved c = record {
   swept = swept_more c.args.by_last c.args.named.now c.loop-k.k _ c.loop-k.slots c.go_on-slots.result c.loop-k.invariant.turned c.loop-k-test.true refl
       c.go_on-slots.ensures (λ o e h. elim c.match-slots.branch [
         | in-Some+else-reaches w ↦ reaches_none c.args.by_last (slot_at c.args.named.now c.loop-k.k) w.in-Some.other o c.go_on-slots.result.1 w.in-Some.is e
-            (not_so w.reaches.result w.if-reaches.false w.reaches.ensures.1) h
+            (false_refutes w.reaches.result w.if-reaches.false w.reaches.ensures.1) h
         | in_default w ↦ w.in_default.not-Some o e
       ]) c.loop-k.invariant.swept;
 }

@@ -1,10 +1,10 @@
 use Rattle.std.proofs.Common.{◌<◌, sym, refl, subst, arith, below_more, length}
 use Rattle.std.proofs.lemmas.List.{length-map}
+use Rattle.regalloc2_index.proofs.Bools.{false_refutes}
 use Rattle.regalloc2_names.specs.declared.RegClass.{RegClass}
 use Rattle.regalloc2_names.specs.Place.{Place}
 use Rattle.regalloc2_function.specs.Fitting.{IsProperPlace}
 use Rattle.regalloc2_function.specs.Views.{machine_of, output_of}
-use Rattle.regalloc2_function.proofs.Tests.{not_so}
 use Rattle.regalloc2_checker.specs.Cells.{location_of_index, IsTakenByLocation}
 use Rattle.regalloc2_checker.proofs.AddedSlots.{adds_more, adds_at, adds_all}
 use Rattle.regalloc2_checker.proofs.OutputItems.{location_is, location_seen}
@@ -18,7 +18,7 @@ returns-then-not-is_proper_of_any-clause-fault g c f =
     omega (arith, less, length-map c.args.output.now.debug_locations.items location_seen) in
     let place = location_is c.args.output.now c.loop-k.k c.index-location.result.now _ within c.index-location.ensures in (
       less,
-      λ class h. not_so c.is_proper_of_any.result c.if-not-is_proper_of_any.true c.is_proper_of_any.ensures.1
+      λ class h. false_refutes c.is_proper_of_any.result c.if-not-is_proper_of_any.true c.is_proper_of_any.ensures.1
           (class, subst (λ (p : Place). IsProperPlace (machine_of c.args.env.now) out class p) (sym place) h),
     )
 

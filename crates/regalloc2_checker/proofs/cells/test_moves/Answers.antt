@@ -1,10 +1,10 @@
 use Rattle.std.proofs.Common.{◌≡◌, ◌<◌, ◌∙◌, sym, ap, subst, arith, below_more, length}
 use Rattle.std.proofs.lemmas.List.{length-map}
+use Rattle.regalloc2_index.proofs.Bools.{false_refutes}
 use Rattle.regalloc2_names.specs.Place.{Place, InSlot}
 use Rattle.regalloc2_function.specs.OutputValue.{MoveValue}
 use Rattle.regalloc2_function.specs.Fitting.{IsMoveEnd}
 use Rattle.regalloc2_function.specs.Views.{edit_of, machine_of, output_of}
-use Rattle.regalloc2_function.proofs.Tests.{not_so}
 use Rattle.regalloc2_checker.specs.Cells.{move_of_index, units_beside, IsTakenByMove}
 use Rattle.regalloc2_checker.proofs.AddedSlots.{adds_more, adds_both, adds_at, adds_all}
 use Rattle.regalloc2_checker.proofs.OutputItems.{move_is}
@@ -20,7 +20,7 @@ returns-then-not-are_move_ends-clause-fault g c =
     let from : c.places-from.result.0 ≡ (move_of_index out c.loop-k.k).from = c.places-from.ensures.from ∙ ap (λ (m : MoveValue). m.from) move in
     let to : c.places-from.result.1 ≡ (move_of_index out c.loop-k.k).to = c.places-from.ensures.to ∙ ap (λ (m : MoveValue). m.to) move in (
       less,
-      λ h. not_so c.are_move_ends.result c.if-not-are_move_ends.true c.are_move_ends.ensures.1
+      λ h. false_refutes c.are_move_ends.result c.if-not-are_move_ends.true c.are_move_ends.ensures.1
           (subst (λ (p : Place). IsMoveEnd env out p) (sym from) h.0, subst (λ (p : Place). IsMoveEnd env out p) (sym to) h.1),
     )
 
@@ -32,7 +32,8 @@ returns-then-not-is_within_class-clause-fault g c =
     let move = move_is c.args.output.now c.loop-k.k c.index-edit.result.now _ within c.index-edit.ensures in
     let from : c.places-from.result.0 ≡ (move_of_index out c.loop-k.k).from = c.places-from.ensures.from ∙ ap (λ (m : MoveValue). m.from) move in
     let to : c.places-from.result.1 ≡ (move_of_index out c.loop-k.k).to = c.places-from.ensures.to ∙ ap (λ (m : MoveValue). m.to) move in
-    (less, λ h. not_so c.is_within_class.result c.if-not-is_within_class.true c.is_within_class.ensures.1 (λ r s e d. h r s (sym from ∙ e) (sym to ∙ d)))
+    (less, λ h.
+        false_refutes c.is_within_class.result c.if-not-is_within_class.true c.is_within_class.ensures.1 (λ r s e d. h r s (sym from ∙ e) (sym to ∙ d)))
 
 pub loop-k-preserved : goal.loop-k-preserved
 loop-k-preserved g c =

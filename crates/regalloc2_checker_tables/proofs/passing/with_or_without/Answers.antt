@@ -1,9 +1,10 @@
-use Rattle.regalloc2_checker_tables.proofs.Shown.{with-here, with-others, true-false}
+use Rattle.regalloc2_index.proofs.Bools.{not_both}
+use Rattle.regalloc2_checker_tables.proofs.Shown.{with-here, with-others}
 use Rattle.regalloc2_checker_tables.proofs.passing.with_or_without.Goals as goal
 
 pub returns-then-not-is_in-clause-here : goal.returns-then-not-is_in-clause-here
 returns-then-not-is_in-clause-here g c =
-    (λ d. absurd (c.in_ok-changed.ensures.gone d), λ e. absurd (true-false c.args.is_in e c.if-not-is_in.true))
+    (λ d. absurd (c.in_ok-changed.ensures.gone d), λ e. absurd (not_both c.args.is_in e c.if-not-is_in.true))
 
 pub returns-clause-here : goal.returns-clause-here
 returns-clause-here g c =

@@ -1,5 +1,6 @@
-use Rattle.std.proofs.Common.{ℕ, ◌≡◌, Bool, true, false, ap, sym, ◌∙◌, refl, subst}
+use Rattle.std.proofs.Common.{ℕ, ap, sym, ◌∙◌, refl, subst}
 use Rattle.std.proofs.lemmas.Bool.{eqb-true}
+use Rattle.regalloc2_index.proofs.Bools.{not_both}
 use Rattle.regalloc2_checker_tables.specs.EntrySets.{is_member}
 use Rattle.regalloc2_checker_tables.specs.Holding.{IsHome}
 use Rattle.regalloc2_checker_tables.proofs.Holders.{homes-same}
@@ -7,16 +8,12 @@ use Rattle.regalloc2_checker_tables.proofs.TableLaws.{on_ok_as}
 use Rattle.regalloc2_checker_tables.proofs.TableLaws.{listed-times}
 use Rattle.regalloc2_checker_tables.proofs.tables.note_set.Goals as goal
 
-true-false : (b : Bool) → b ≡ true → b ≡ false → ⊥
-true-false true h g = absurd cc
-true-false false h g = absurd cc
-
 pub returns-then-set-eq0-clause-more : goal.returns-then-set-eq0-clause-more
 returns-then-set-eq0-clause-more g c = homes-same c.args.homes.now.items
 
 pub returns-then-set-eq0-clause-noted : goal.returns-then-set-eq0-clause-noted
 returns-then-set-eq0-clause-noted g c y is =
-    absurd (true-false (is_member c.args.sets.now 0 y) (ap (λ n. is_member c.args.sets.now n y) (sym c.if-set-eq0.true) ∙ is) (c.requires.empty y))
+    absurd (not_both (is_member c.args.sets.now 0 y) (ap (λ n. is_member c.args.sets.now n y) (sym c.if-set-eq0.true) ∙ is) (c.requires.empty y))
 
 pub returns-in-Some-clause-noted : goal.returns-in-Some-clause-noted
 returns-in-Some-clause-noted g c =

@@ -1,11 +1,11 @@
 use Rattle.std.proofs.Common.{arith, below_more, inl, inr}
-use Rattle.regalloc2_function.proofs.Tests.{not_so, never_true}
+use Rattle.regalloc2_index.proofs.Bools.{false_is_not_true, false_refutes}
 use Rattle.regalloc2_function.proofs.machine.blocks_name.Goals as goal
 
 pub loop-b-preserved : goal.loop-b-preserved
 loop-b-preserved g c =
-    let params = not_so _ c.if-vregs_name.false c.vregs_name.ensures.1 in
-    let arguments = not_so _ c.if-arguments_name.false c.arguments_name.ensures.1 in
+    let params = false_refutes _ c.if-vregs_name.false c.vregs_name.ensures.1 in
+    let arguments = false_refutes _ c.if-arguments_name.false c.arguments_name.ensures.1 in
     record {
       whole = c.num_blocks-b-end.ensures.count;
       none = below_more _ _ c.loop-b.invariant.none (rw (← c.new-block.ensures)
@@ -13,4 +13,5 @@ loop-b-preserved g c =
     }
 
 pub returns : goal.returns
-returns g c = (λ t. absurd (never_true t), λ h. absurd (c.loop-b.invariant.none h.0 (omega (arith, h.1, c.loop-b-test.false, c.loop-b.invariant.whole)) h.2))
+returns g c =
+    (λ t. absurd (false_is_not_true t), λ h. absurd (c.loop-b.invariant.none h.0 (omega (arith, h.1, c.loop-b-test.false, c.loop-b.invariant.whole)) h.2))

@@ -1,6 +1,6 @@
 use Rattle.std.proofs.Common.{◌≡◌, append_assoc, arith, refl, inl, inr, ◌∙◌, sym}
 use Rattle.std.proofs.lemmas.List.Elements.{All-contains, All-nil, All-push, Contains-append_cases, Contains-append_right}
-use Rattle.regalloc2_function.proofs.Tests.{not_so}
+use Rattle.regalloc2_index.proofs.Bools.{false_refutes}
 use Rattle.regalloc2_function.proofs.machine.of_other_class.Goals as goal
 
 pub loop-reg-init : goal.loop-reg-init
@@ -10,7 +10,7 @@ pub returns-then-not-is_class : goal.returns-then-not-is_class
 returns-then-not-is_class c = (
   (c.loop-reg.invariant.left.members c.in-Some.reg).1 (Contains-append_right c.loop-reg.yielded c.loop-reg.reg-iterator c.in-Some.reg
       (rw c.in-Some.ensures.steps (0, omega arith, refl))),
-  λ e. absurd (not_so _ c.if-not-is_class.true c.is_class.ensures.1 (c.class.ensures ∙ e)),
+  λ e. absurd (false_refutes _ c.if-not-is_class.true c.is_class.ensures.1 (c.class.ensures ∙ e)),
 )
 
 pub loop-reg-preserved : goal.loop-reg-preserved

@@ -1,4 +1,5 @@
 use Rattle.std.proofs.Common.{ℕ, ◌≡◌, ◌+◌, ◌<◌, ◌∙◌, List, Option, false, length, slice_index_or, sym, ap, subst, arith}
+use Rattle.std.proofs.lemmas.Bool.{and_parts}
 use Rattle.regalloc2_names.specs.Operand.{is_def}
 use Rattle.regalloc2_names.specs.Register.{VirtualRegister}
 use Rattle.regalloc2_names.specs.Point.{before, after}
@@ -9,7 +10,7 @@ use Rattle.regalloc2_live_ranges.specs.LiveRanges.{IsDefiner, IsWanted}
 use Rattle.regalloc2_live_ranges.specs.Slots.{HasSlot, spread}
 use Rattle.regalloc2_live_ranges.proofs.Spread.{spread_length}
 use Rattle.regalloc2_live_ranges.proofs.UsesInSSA.{definer_small, item_defines}
-use Rattle.regalloc2_live_ranges.proofs.UsesNoted.{both_hold, both_not}
+use Rattle.regalloc2_live_ranges.proofs.UsesNoted.{both_not}
 use Rattle.regalloc2_live_ranges.proofs.LiveRangeTable.{begun_more, begun_same, defined_range, right_set, stay_set}
 use Rattle.regalloc2_live_ranges.proofs.ranges.begin_at_defs.Goals as goal
 use Rattle.regalloc2_live_ranges.proofs.ranges.begin_at_defs.Goals.{then-defines_wanted, else-defines_wanted}
@@ -25,7 +26,7 @@ loop-index-preserved g c =
     let v : VirtualRegister = c.operand-item.result.vreg in
     elim c.if-defines_wanted.branch [
       | then-defines_wanted w ↦ (
-          let two = both_hold (is_def c.operand-item.result.kind) (slice_index_or c.args.wanted.now v.number false)
+          let two = and_parts (is_def c.operand-item.result.kind) (slice_index_or c.args.wanted.now v.number false)
           (sym c.defines_wanted.ensures ∙ w.if-defines_wanted.true) in
           let d : IsDefiner f v (record { inst = i; index = k }) = item_defines f i k c.inst_operands-operand-items.result.now c.operand-item.result
           c.requires.inst c.inst_operands-operand-items.ensures c.loop-index-test.true c.operand-item.is two.0 in

@@ -1,6 +1,6 @@
 use Rattle.std.proofs.Common.{ℕ, ◌≡◌, ◌<◌, ◌∙◌, Bool, false, List, [], ◌∷◌, length, slice_index_or, ap, sym, arith}
 use Rattle.std.proofs.lemmas.List.{length-append}
-use Rattle.regalloc2_live_ranges.proofs.Labelled.{both_ways}
+use Rattle.regalloc2_index.proofs.Bools.{not_both}
 use Rattle.regalloc2_live_ranges.proofs.Spread.{slot_more, slot_none, slots_all}
 use Rattle.regalloc2_live_ranges.proofs.slots.slots_of.Goals as goal
 use Rattle.regalloc2_live_ranges.proofs.slots.slots_of.Goals.{then-is_marked+in_ok-push, else-is_marked+in_ok-push-2}
@@ -20,7 +20,7 @@ loop-number-preserved g c =
       | else-is_marked+in_ok-push-2 w ↦ rw (w.slots-is, w.count-is, w.in_ok-push-2.ensures.items) (record {
         len = let more = length-append slots (c.args.num ∷ []) in omega (arith, more, len);
         slots = slot_none ws slots c.loop-number.count c.args.num room
-            (λ is. both_ways (slice_index_or ws (length slots) false) is (test ∙ w.if-is_marked.false)) c.loop-number.invariant.slots;
+            (λ is. not_both (slice_index_or ws (length slots) false) is (test ∙ w.if-is_marked.false)) c.loop-number.invariant.slots;
       })
     ]
 

@@ -1,10 +1,11 @@
 use Rattle.std.proofs.Common.{ℕ, ◌≡◌, ◌<◌, List, length, true, sym, ◌∙◌, subst}
 use Rattle.std.specs.Prelude.{nat_eq}
 use Rattle.std.proofs.lemmas.Bool.Decides.{Decides-eqb}
+use Rattle.regalloc2_index.proofs.Bools.{not_both, not_with_itself}
 use Rattle.regalloc2_names.specs.Operand.{OperandValue}
 use Rattle.regalloc2_semantics.specs.Listing.{op_at}
 use Rattle.regalloc2_live_ranges.specs.LiveRanges.{IsWanted}
-use Rattle.regalloc2_live_ranges.proofs.Labelled.{both_ways, none_is, not_some}
+use Rattle.regalloc2_live_ranges.proofs.Labelled.{none_is}
 use Rattle.regalloc2_live_ranges.proofs.wanted.is_passed_over.Goals as goal
 
 pub returns-then-eq : goal.returns-then-eq
@@ -18,8 +19,8 @@ returns-then-eq g c = (
 pub returns : goal.returns
 returns g c = (
   λ h. (
-    λ end. both_ways (nat_eq c.next.result c.args.end) ((Decides-eqb c.next.result c.args.end).1 (c.next.ensures ∙ end)) (sym c.eq.ensures ∙ c.if-eq.false),
-    λ k lt asked. not_some c.some_is_wanted.result h (c.some_is_wanted.ensures.1
+    λ end. not_both (nat_eq c.next.result c.args.end) ((Decides-eqb c.next.result c.args.end).1 (c.next.ensures ∙ end)) (sym c.eq.ensures ∙ c.if-eq.false),
+    λ k lt asked. not_with_itself c.some_is_wanted.result h (c.some_is_wanted.ensures.1
         (k, rw c.inst_operands.ensures lt, rw c.inst_operands.ensures asked)),
   ),
   λ h. none_is c.some_is_wanted.result (λ t.

@@ -1,8 +1,8 @@
 use Rattle.std.proofs.Common.{ℕ, ◌≡◌, ◌<◌, ◌∙◌, ap, subst, arith}
+use Rattle.regalloc2_index.proofs.Bools.{false_refutes}
 use Rattle.regalloc2_index.specs.Range.{Span}
 use Rattle.regalloc2_function.specs.FunctionValue.{FunctionValue, block_at}
 use Rattle.regalloc2_function.specs.Following.{end_within}
-use Rattle.regalloc2_liveness.proofs.PairLists.{not_so}
 use Rattle.regalloc2_liveness.specs.LiveIn.{IsUnwrittenTo}
 use Rattle.regalloc2_liveness.proofs.SearchedBack.{asked_early, asked_late, asked_passed, unwritten_next}
 use Rattle.regalloc2_liveness.proofs.search.is_asked.Goals as goal
@@ -30,7 +30,7 @@ loop-i-preserved g c =
       end = c.loop-i.invariant.end;
       begun = omega (arith, c.loop-i.invariant.begun);
       so_far = unwritten_next f c.args.block c.args.vreg c.loop-i.i c.loop-i.invariant.so_far
-          (rw (c.inst_operands-operands.ensures, c.new.ensures) at (not_so c.is_defined.result c.if-is_defined.false c.is_defined.ensures.1));
+          (rw (c.inst_operands-operands.ensures, c.new.ensures) at (false_refutes c.is_defined.result c.if-is_defined.false c.is_defined.ensures.1));
     }
 
 pub returns-then-is_read : goal.returns-then-is_read
@@ -43,7 +43,7 @@ pub returns-then-is_read-2 : goal.returns-then-is_read-2
 returns-then-is_read-2 g c = λ yes.
     let f : FunctionValue = g.F.Function.function c.args.f.now in
     asked_late f c.args.block c.args.vreg c.loop-i.i c.loop-i.invariant.begun (omega (arith, c.loop-i.invariant.end)) c.loop-i.invariant.so_far
-    (rw (c.inst_operands-operands.ensures, c.new.ensures) at (not_so c.is_defined.result c.if-is_defined.false c.is_defined.ensures.1))
+    (rw (c.inst_operands-operands.ensures, c.new.ensures) at (false_refutes c.is_defined.result c.if-is_defined.false c.is_defined.ensures.1))
     (rw (c.inst_operands-operands.ensures, c.new.ensures) at (c.is_read-in-loop-i.ensures c.if-is_read-2.true))
 
 pub returns : goal.returns

@@ -1,8 +1,8 @@
 use Rattle.std.proofs.Common.{◌≡◌, ◌∙◌, ap, arith}
+use Rattle.regalloc2_index.proofs.Bools.{false_refutes}
 use Rattle.regalloc2_index.specs.Range.{Span}
 use Rattle.regalloc2_function.specs.FunctionValue.{FunctionValue, block_at}
 use Rattle.regalloc2_function.specs.Following.{end_within}
-use Rattle.regalloc2_liveness.proofs.PairLists.{not_so}
 use Rattle.regalloc2_liveness.proofs.SearchedBack.{unwritten_next}
 use Rattle.regalloc2_liveness.proofs.search.is_unwritten.Goals as goal
 
@@ -29,7 +29,7 @@ loop-i-preserved g c =
       end = c.loop-i.invariant.end;
       begun = omega (arith, c.loop-i.invariant.begun);
       so_far = unwritten_next f c.args.block c.args.vreg c.loop-i.i c.loop-i.invariant.so_far
-          (rw (c.inst_operands.ensures, c.new.ensures) at (not_so c.is_defined.result c.if-is_defined.false c.is_defined.ensures.1));
+          (rw (c.inst_operands.ensures, c.new.ensures) at (false_refutes c.is_defined.result c.if-is_defined.false c.is_defined.ensures.1));
     }
 
 pub returns : goal.returns

@@ -1,4 +1,4 @@
-use Rattle.regalloc2_function.proofs.Tests.{not_so, never_true}
+use Rattle.regalloc2_index.proofs.Bools.{false_is_not_true, false_refutes}
 use Rattle.regalloc2_function.proofs.ListingLaws.{sorted_items}
 use Rattle.regalloc2_function.proofs.OrderLaws.{sorted_edits, places_in_edits, places_in_items}
 use Rattle.regalloc2_function.proofs.listing.Output.is_in_order.Goals as goal
@@ -21,5 +21,5 @@ returns-then-has_points_in_order g c =
 pub returns-else-has_points_in_order : goal.returns-else-has_points_in_order
 returns-else-has_points_in_order g c =
     let items = c.args.self.now.edits.items in
-    let no = not_so _ c.if-has_points_in_order.false c.has_points_in_order.ensures.1 in
-    (λ t. absurd (never_true (rw c.if-has_points_in_order.false at t)), λ h. absurd (no (sorted_items items h.points_never_fall)))
+    let no = false_refutes _ c.if-has_points_in_order.false c.has_points_in_order.ensures.1 in
+    (λ t. absurd (false_is_not_true (rw c.if-has_points_in_order.false at t)), λ h. absurd (no (sorted_items items h.points_never_fall)))

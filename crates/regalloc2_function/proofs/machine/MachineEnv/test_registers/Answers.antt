@@ -1,13 +1,10 @@
-use Rattle.std.proofs.Common.{◌≡◌, ◌&&◌, Bool, true, false, ◌∙◌, sym, ap, refl}
+use Rattle.std.proofs.Common.{◌≡◌, ◌&&◌, Bool, true, false, ◌∙◌, sym, ap}
+use Rattle.std.proofs.lemmas.Bool.{and_parts}
 use Rattle.regalloc2_names.specs.Register.{invalid_register}
 use Rattle.regalloc2_names.specs.RegisterSet.{has_register}
 use Rattle.regalloc2_function.specs.Machine.{is_preferred, is_non_preferred}
 use Rattle.regalloc2_function.specs.Views.{machine_of}
 use Rattle.regalloc2_function.proofs.machine.MachineEnv.test_registers.Goals as goal
-
-both : (a b : Bool) → a && b ≡ true → (a ≡ true) × (b ≡ true)
-both true b h = (refl, h)
-both false b h = absurd cc
 
 not_both : (a b : Bool) → a && b ≡ false → a ≡ true → b ≡ false
 not_both true b h e = h
@@ -17,7 +14,7 @@ pub returns-in-Some-register_in-clause-misfit : goal.returns-in-Some-register_in
 returns-in-Some-register_in-clause-misfit g c = λ f before.
     let env = machine_of c.args.self.now in
     let of_class = c.in_default.ensures in
-    let twice = both (is_preferred env c.args.class c.in-Some-register_in.reg) (is_non_preferred env c.args.class c.in-Some-register_in.reg)
+    let twice = and_parts (is_preferred env c.args.class c.in-Some-register_in.reg) (is_non_preferred env c.args.class c.in-Some-register_in.reg)
     (sym (c.listed_twice.ensures c.in-Some-register_in.reg) ∙ c.in-Some-register_in.ensures) in
     (before, λ r h. of_class r (c.allocatable-allocatable.ensures r ∙ h), twice.0, twice.1)
 

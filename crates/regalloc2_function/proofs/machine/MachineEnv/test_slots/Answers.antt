@@ -1,9 +1,9 @@
 use Rattle.std.proofs.Common.{◌∙◌, sym}
 use Rattle.std.proofs.lemmas.List.{take_all}
 use Rattle.std.proofs.lemmas.List.Elements.{All-more, All-same}
+use Rattle.regalloc2_index.proofs.Bools.{false_refutes}
 use Rattle.regalloc2_function.specs.Misfit.{IsSlotApart}
 use Rattle.regalloc2_function.specs.Views.{machine_of}
-use Rattle.regalloc2_function.proofs.Tests.{not_so}
 use Rattle.regalloc2_function.proofs.machine.MachineEnv.test_slots.Goals as goal
 
 pub loop-slot-preserved : goal.loop-slot-preserved
@@ -13,7 +13,7 @@ loop-slot-preserved g c =
       slots = c.loop-slot.invariant.slots;
       apart = All-more (IsSlotApart (machine_of c.args.self.now) c.args.class) c.as_slice-slot-items.result.now c.loop-slot.slot-index c.slot-item.result
           c.loop-slot-test.true c.loop-slot.invariant.apart
-          (rw (← c.slot-item.is) (free, not_so _ c.if-is_scratch.false c.is_scratch.ensures.1));
+          (rw (← c.slot-item.is) (free, false_refutes _ c.if-is_scratch.false c.is_scratch.ensures.1));
     }
 
 pub returns-clause-ok : goal.returns-clause-ok

@@ -1,0 +1,5 @@
+-- Lemmas on Booleans, numbers and lists that proofs of many crates share.
+-- Read first: `Bools`; each lemma is one that std's `lemmas.Bool`, `lemmas.List` and `lemmas.Nat` lack.
+-- Depends on std alone.
+pub mod Bools
+pub mod Numbers
