@@ -8,7 +8,7 @@ use Rattle.regalloc2_function.specs.OutputValue.{OutputValue}
 use Rattle.regalloc2_function.specs.Listing.{Listed, ListedInst, ListedMove, IsListedWithin}
 use Rattle.codegen_ir.specs.declared.operation.Operation.{Operation}
 use Rattle.codegen_machine.specs.declared.Instruction.{Instruction}
-use Rattle.codegen.specs.Emitted.{item_code, items_code, block_code, blocks_code, start_of}
+use Rattle.codegen.specs.Emitted.{item_code, items_code, block_code, blocks_code, block_start}
 
 -- what is within a block is within the function
 wider : (first end n : ℕ) (x : Listed) → end ≤ n → IsListedWithin first end x → IsListedWithin 0 n x
@@ -56,7 +56,7 @@ module _ (operations : List Operation) (out : OutputValue) where
   -- where the first so many blocks begin
   pub record AreStarts (f : FunctionValue) (starts : List ℕ) (b : ℕ) : Type 0 where
     pub long : length starts ≡ b
-    pub starts_at : (k : ℕ) → k < b → slice_index starts k ≡ start_of operations out f k
+    pub starts_at : (k : ℕ) → k < b → slice_index starts k ≡ block_start operations out f k
 
   pub no_start : (f : FunctionValue) → AreStarts f [] 0
   no_start f = record { long = refl; starts_at = λ k less. absurd (omega arith) }
@@ -69,11 +69,11 @@ module _ (operations : List Operation) (out : OutputValue) where
     starts_at = λ k less. at_each k less;
   }
     where
-      at_last : slice_index more b ≡ start_of operations out f b
-      at_last = let here : start ≡ start_of operations out f b = at ∙ ap length is in let long = s.long in grind (arith, common_steps)
+      at_last : slice_index more b ≡ block_start operations out f b
+      at_last = let here : start ≡ block_start operations out f b = at ∙ ap length is in let long = s.long in grind (arith, common_steps)
 
-      before : (k : ℕ) → k < b → slice_index more k ≡ start_of operations out f k
+      before : (k : ℕ) → k < b → slice_index more k ≡ block_start operations out f k
       before k less = let same : slice_index more k ≡ slice_index starts k = (let long = s.long in grind (arith, common_steps)) in same ∙ s.starts_at k less
 
-      at_each : (k : ℕ) → k < b + 1 → slice_index more k ≡ start_of operations out f k
+      at_each : (k : ℕ) → k < b + 1 → slice_index more k ≡ block_start operations out f k
       at_each = below_more _ b before at_last

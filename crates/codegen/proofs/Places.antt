@@ -8,11 +8,11 @@ use Rattle.regalloc2_names.specs.Register.{Register, class_code}
 use Rattle.regalloc2_names.specs.Place.{Place, NoPlace, InRegister, InSlot}
 use Rattle.regalloc2_function.specs.OutputValue.{OutputValue, MoveValue}
 use Rattle.regalloc2_function.specs.Listing.{Listed, ListedMove}
-use Rattle.regalloc2_values.specs.Interpreters.{place_set, moved}
-use Rattle.codegen_ir.specs.Numbers.{Outcome, Running, Stuck, put}
+use Rattle.regalloc2_values.specs.Interpreters.{place_set, numbers_moved}
+use Rattle.codegen_ir.specs.Numbers.{RunOutcome, Running, Stuck, put}
 use Rattle.codegen_ir.specs.declared.operation.Operation.{Operation}
 use Rattle.codegen_machine.specs.declared.Instruction.{Instruction}
-use Rattle.codegen_machine.specs.Machine.{CodeValue, MachineState, is_general, with_register, with_slot, with_source, written, stored, executed}
+use Rattle.codegen_machine.specs.Machine.{CodeValue, MachineState, is_general, with_register, with_slot, with_source, written, frame_stored, executed}
 use Rattle.codegen.specs.Emitted.{register_of, source_of, fetched, move_code, resolved, items_code}
 use Rattle.codegen.proofs.Premise.{IsGeneral, IsHere, CanMove}
 use Rattle.codegen.proofs.Runs.{Comes, comes_here, comes_by, comes_on}
@@ -40,7 +40,7 @@ kept s k n = record { pc = s.pc + 1; registers = s.registers; frame = put s.fram
 
 -- a register read
 pub reads_register : (s : MachineState) (numbers : Place → ℕ) → Agree s.registers s.frame numbers → (p : Place) → IsGeneral p →
-    (go : ℕ → Outcome MachineState) →
+    (go : ℕ → RunOutcome MachineState) →
     with_register s (register_of p) go ≡ go (numbers p)
 reads_register s numbers a NoPlace h go = absurd h
 reads_register s numbers a (InRegister r) h go =
@@ -49,13 +49,14 @@ reads_register s numbers a (InRegister r) h go =
 reads_register s numbers a (InSlot n) h go = absurd h
 
 -- a slot read
-reads_slot : (slots : ℕ) (s : MachineState) (numbers : Place → ℕ) → Agree s.registers s.frame numbers → (n : ℕ) → n < slots → (go : ℕ → Outcome MachineState) →
+reads_slot : (slots : ℕ) (s : MachineState) (numbers : Place → ℕ) → Agree s.registers s.frame numbers → (n : ℕ) → n < slots →
+    (go : ℕ → RunOutcome MachineState) →
     with_slot slots s n go ≡ go (numbers (InSlot n))
 reads_slot slots s numbers a n h go = ap (λ (b : Bool). cond b (go (s.frame n)) Stuck) (lt-ltb n slots h) ∙ ap go (a.in_slots n)
 
 -- a register or a slot read
 pub reads_source : (slots : ℕ) (s : MachineState) (numbers : Place → ℕ) → Agree s.registers s.frame numbers → (p : Place) → IsHere slots p →
-    (go : ℕ → Outcome MachineState) →
+    (go : ℕ → RunOutcome MachineState) →
     with_source slots s (source_of p) go ≡ go (numbers p)
 reads_source slots s numbers a NoPlace h go = absurd h
 reads_source slots s numbers a (InRegister r) h go = reads_register s numbers a (InRegister r) h go
@@ -122,7 +123,7 @@ module _ (args : ℕ → ℕ) (slots : ℕ) (starts : ℕ → ℕ) where
   }
   one_move s numbers from (InSlot n) a h = record {
     to = kept s n (numbers from);
-    acts = reads_register s numbers a from h.1 (λ v. stored slots s n v)
+    acts = reads_register s numbers a from h.1 (λ v. frame_stored slots s n v)
         ∙ ap (λ (b : Bool). cond b (Running (kept s n (numbers from))) Stuck) (lt-ltb n slots h.0);
     next = refl;
     agree = agree_slot s.registers s.frame numbers a n (numbers from);
@@ -140,15 +141,15 @@ module _ (operations : List Operation) (out : OutputValue) (succs : List ℕ) (a
   pub moves_run : (ms : List MoveValue) (rest : List Listed) (s : MachineState) (numbers : Place → ℕ) →
       AllByRecursion (λ m. CanMove code.slots m.from m.to) ms →
       Agree s.registers s.frame numbers → StandAt starts code.instructions s.pc (items_code operations out succs (map (λ m. ListedMove m) ms ++ rest)) →
-      Moved s (moved ms numbers) rest
-  unfolding moved items_code
+      Moved s (numbers_moved ms numbers) rest
+  unfolding numbers_moved items_code
   moves_run [] rest s numbers can a h = record { to = s; comes = comes_here code args s; agree = a; stands = h }
   moves_run (m ∷ ms) rest s numbers can a h =
       let one : Moves args code.slots starts s (resolved starts (move_code m.from m.to)) (place_set numbers m.to (numbers m.from)) =
       one_move args code.slots starts s numbers m.from m.to a can.0 in
       let others : StandAt starts code.instructions one.to.pc (items_code operations out succs (map (λ m. ListedMove m) ms ++ rest)) =
       subst (λ (n : ℕ). StandAt starts code.instructions n (items_code operations out succs (map (λ m. ListedMove m) ms ++ rest))) (sym one.next) h.1 in
-      let all : Moved one.to (moved ms (place_set numbers m.to (numbers m.from))) rest =
+      let all : Moved one.to (numbers_moved ms (place_set numbers m.to (numbers m.from))) rest =
       moves_run ms rest one.to (place_set numbers m.to (numbers m.from)) can.1 one.agree others in
       let first : Comes code args 1 s one.to = comes_by code args (resolved starts (move_code m.from m.to)) s one.to h.0 one.acts in
       record { to = all.to; comes = comes_on code args 1 0 0 s one.to all.to (omega arith) first all.comes; agree = all.agree; stands = all.stands }

@@ -16,7 +16,7 @@ use Rattle.codegen_ir.specs.declared.operation.Count.TheVariants.{VReg as CountI
 use Rattle.codegen_ir.specs.declared.operation.Right.{Right}
 use Rattle.codegen_ir.specs.declared.operation.Right.TheVariants.{VReg, Number as Given}
 use Rattle.codegen_machine.specs.Machine.{CodeValue, is_general}
-use Rattle.codegen.specs.Emitted.{register_of, operation_at, blocks_code, start_of, resolved}
+use Rattle.codegen.specs.Emitted.{register_of, operation_at, blocks_code, block_start, resolved}
 
 -- a register for numbers
 abbrev pub IsGeneral : Place → Type 0
@@ -101,5 +101,5 @@ pub record IsEmitted (f : FunctionValue) (operations : List Operation) (out : Ou
   pub succs : (b k : ℕ) → b < length f.blocks → k < length (block_at f b).succs → slice_index (block_at f b).succs k < length f.blocks
   pub placed : (i : ℕ) → i < length f.insts → IsPlaced code.slots (operation_at operations i) (allocs_of out i)
   pub moves : All (λ e. CanMove code.slots e.1.from e.1.to) out.edits
-  pub starts : (b : ℕ) → b < length f.blocks → start b ≡ start_of operations out f b
+  pub starts : (b : ℕ) → b < length f.blocks → start b ≡ block_start operations out f b
   pub instructions : code.instructions ≡ map (resolved start) (blocks_code operations out f (length f.blocks))

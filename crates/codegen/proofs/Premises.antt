@@ -22,7 +22,7 @@ use Rattle.regalloc2_function.specs.WellFormed.{IsWellFormed, EndsBlock}
 use Rattle.regalloc2.specs.Promise.{IsAllocation}
 use Rattle.codegen_ir.specs.Operands.{def_in, use_in, right_in, count_in, operands_of, is_jump, is_return}
 use Rattle.codegen_ir.specs.Successors.{wanted_by}
-use Rattle.codegen_ir.specs.Seen.{function_of, inst_of, operations}
+use Rattle.codegen_ir.specs.Seen.{function_of_procedure, inst_of_line, operations}
 use Rattle.codegen_ir.specs.declared.operation.Operation.{Operation}
 use Rattle.codegen_ir.specs.declared.operation.Operation.TheVariants.{Argument as TakeArgument, Constant as TakeConstant, Copy, Compute as Computation}
 use Rattle.codegen_ir.specs.declared.operation.Operation.TheVariants.{Shift as Shifting, Compare as Comparison, Select, Jump as GoTo, BranchIf, BranchIfHolds}
@@ -32,7 +32,7 @@ use Rattle.codegen_ir.specs.declared.operation.Count.TheVariants.{VReg as CountI
 use Rattle.codegen_ir.specs.declared.operation.Right.{Right}
 use Rattle.codegen_ir.specs.declared.operation.Right.TheVariants.{VReg, Number as Given}
 use Rattle.codegen_ir.specs.declared.procedure.Procedure.{Procedure}
-use Rattle.codegen.specs.Emitted.{register_of, operation_at, emitted, label_of, start_of}
+use Rattle.codegen.specs.Emitted.{register_of, operation_at, emitted, block_label, block_start}
 use Rattle.codegen.specs.Target.{IsTarget}
 use Rattle.codegen.proofs.Premise.{IsGeneral, IsHere, IsRightHere, IsCountHere, IsCountRead, IsRead, CanMove, IsPlaced, IsPlain, IsEnd, IsEmitted}
 use Rattle.codegen.proofs.Procedures.{insts_are, registers_known, blocks_have}
@@ -180,10 +180,10 @@ is_end (BranchIfHolds c left right) count e w = omega arith
 is_end (GiveBack v) count e w = tt
 is_end o count e w = absurd (elim e [ inl j ↦ cc | inr r ↦ cc ])
 
-module _ (p : Procedure) (env : MachineValue) (out : OutputValue) (t : IsTarget env) (w : IsWellFormed env (function_of p))
-    (a : IsAllocation (function_of p) env out) where
+module _ (p : Procedure) (env : MachineValue) (out : OutputValue) (t : IsTarget env) (w : IsWellFormed env (function_of_procedure p))
+    (a : IsAllocation (function_of_procedure p) env out) where
   abbrev f : FunctionValue
-  f = function_of p
+  f = function_of_procedure p
 
   abbrev op : ℕ → Operation
   op i = operation_at (operations p) i
@@ -195,7 +195,7 @@ module _ (p : Procedure) (env : MachineValue) (out : OutputValue) (t : IsTarget 
   filled b less = (w.follow b less).0
 
   counted : length f.insts ≡ length (operations p)
-  counted = length-map p.lines.items inst_of ∙ sym (length-map p.lines.items (λ l. l.operation))
+  counted = length-map p.lines.items inst_of_line ∙ sym (length-map p.lines.items (λ l. l.operation))
 
   placed : (i : ℕ) → i < length f.insts → IsPlaced out.num_spillslots (op i) (allocs_of out i)
   placed i less =
@@ -225,11 +225,11 @@ module _ (p : Procedure) (env : MachineValue) (out : OutputValue) (t : IsTarget 
       is_end (op i) (length (block_at f b).succs)
       (elim ending [ inl branch ↦ inl (sym is.branches ∙ branch.0) | inr ret ↦ inr (sym is.returns ∙ ret.1) ]) enough
 
-  starts : (b : ℕ) → b < length f.blocks → label_of (operations p) out f b ≡ start_of (operations p) out f b
-  starts b less = ap (λ (x : Bool). cond x (start_of (operations p) out f b) 0) (lt-ltb b (length f.blocks) less)
+  starts : (b : ℕ) → b < length f.blocks → block_label (operations p) out f b ≡ block_start (operations p) out f b
+  starts b less = ap (λ (x : Bool). cond x (block_start (operations p) out f b) 0) (lt-ltb b (length f.blocks) less)
 
   -- all that the proofs take
-  pub emitted_is : IsEmitted f (operations p) out (label_of (operations p) out f) (emitted (operations p) f out)
+  pub emitted_is : IsEmitted f (operations p) out (block_label (operations p) out f) (emitted (operations p) f out)
   emitted_is = record {
     operands = λ i less. (insts_are p i less).operands;
     clobbers = λ i less. (insts_are p i less).clobbers;

@@ -9,7 +9,7 @@ use Rattle.regalloc2_names.specs.RegisterSet.{has_register}
 use Rattle.regalloc2_function.specs.FunctionValue.{InstValue, no_inst, no_block, block_at, inst_at}
 use Rattle.codegen_ir.specs.Operands.{operands_of, is_jump, is_return}
 use Rattle.codegen_ir.specs.Successors.{wanted_by, operations_of, are_enough, has_successors, knows_registers}
-use Rattle.codegen_ir.specs.Seen.{function_of, inst_of, block_of, operations}
+use Rattle.codegen_ir.specs.Seen.{function_of_procedure, inst_of_line, block_of_part, operations}
 use Rattle.codegen_ir.specs.declared.operation.Operation.{Operation}
 use Rattle.codegen_ir.specs.declared.operation.Line.{Line}
 use Rattle.codegen_ir.specs.declared.procedure.Part.{Part}
@@ -23,7 +23,7 @@ pub record IsInstOf (i : InstValue) (o : Operation) : Type 0 where
   pub branches : i.is_branch ≡ is_jump o
   pub returns : i.is_ret ≡ is_return o
 
-each_inst : (lines : List Line) (i : ℕ) → i < length lines → IsInstOf (slice_index_or (map inst_of lines) i no_inst) (operation_at (operations_of lines) i)
+each_inst : (lines : List Line) (i : ℕ) → i < length lines → IsInstOf (slice_index_or (map inst_of_line lines) i no_inst) (operation_at (operations_of lines) i)
 each_inst [] i less = absurd (omega arith)
 each_inst (l ∷ ls) zero less = record { operands = refl; clobbers = l.none; branches = refl; returns = refl }
 each_inst (l ∷ ls) (suc i) less = each_inst ls i (omega arith)
@@ -35,8 +35,8 @@ each_known n (l ∷ ls) zero h less = (and_parts _ _ h).0
 each_known n (l ∷ ls) (suc i) h less = each_known n ls i (and_parts _ _ h).1 (omega arith)
 
 each_block : (os : List Operation) (parts : List Part) (b : ℕ) → list_all (has_successors os) parts ≡ true → b < length parts →
-    are_enough (length (slice_index_or (map block_of parts) b no_block).succs)
-    (slice_get os ((slice_index_or (map block_of parts) b no_block).range.end - 1)) ≡ true
+    are_enough (length (slice_index_or (map block_of_part parts) b no_block).succs)
+    (slice_get os ((slice_index_or (map block_of_part parts) b no_block).range.end - 1)) ≡ true
 each_block os [] b h less = absurd (omega arith)
 each_block os (p ∷ ps) zero h less = (and_parts _ _ h).0
 each_block os (p ∷ ps) (suc b) h less = each_block os ps b (and_parts _ _ h).1 (omega arith)
@@ -47,16 +47,18 @@ enough (o ∷ os) zero count less h = leb-true _ _ h
 enough (o ∷ os) (suc i) count less h = enough os i count (omega arith) h
 
 -- the instructions of a procedure are those of its operations
-pub insts_are : (p : Procedure) (i : ℕ) → i < length (function_of p).insts → IsInstOf (inst_at (function_of p) i) (operation_at (operations p) i)
+pub insts_are : (p : Procedure) (i : ℕ) → i < length (function_of_procedure p).insts → IsInstOf (inst_at (function_of_procedure p) i)
+    (operation_at (operations p) i)
 insts_are p i less = each_inst p.lines.items i (rw length-map at less)
 
 -- whose virtual registers have numbers below the procedure's
-pub registers_known : (p : Procedure) (i : ℕ) → i < length (function_of p).insts →
+pub registers_known : (p : Procedure) (i : ℕ) → i < length (function_of_procedure p).insts →
     list_all (λ o. nat_lt o.vreg.number p.num_vregs) (operands_of (operation_at (operations p) i)) ≡ true
 registers_known p i less = each_known p.num_vregs p.lines.items i p.known (rw length-map at less)
 
 -- and its blocks have the successors that their last lines go on to
-pub blocks_have : (p : Procedure) (b : ℕ) → b < length (function_of p).blocks → (block_at (function_of p) b).range.end - 1 < length (operations p) →
-    wanted_by (operation_at (operations p) ((block_at (function_of p) b).range.end - 1)) ≤ length (block_at (function_of p) b).succs
+pub blocks_have : (p : Procedure) (b : ℕ) → b < length (function_of_procedure p).blocks → (block_at (function_of_procedure p) b).range.end - 1 < length
+    (operations p) →
+    wanted_by (operation_at (operations p) ((block_at (function_of_procedure p) b).range.end - 1)) ≤ length (block_at (function_of_procedure p) b).succs
 blocks_have p b less within =
     enough (operations p) _ _ within (each_block (operations p) p.parts.items b p.successors (rw length-map at less))

@@ -2,17 +2,18 @@
 use Rattle.std.proofs.Common.{ℕ, zero, suc, ◌≡◌, ◌+◌, ◌≤◌, Option, Some, refl, sym, ap, ◌∙◌, subst, ⊎_elim, arith}
 use Rattle.std.specs.Prelude.{slice_get}
 use Rattle.std.proofs.lemmas.Bool.{cases_lt}
-use Rattle.codegen_ir.specs.Numbers.{Outcome, Running, Returned, Stuck, further}
+use Rattle.codegen_ir.specs.Numbers.{RunOutcome, Running, Returned, Stuck, further}
 use Rattle.codegen_machine.specs.declared.Instruction.{Instruction}
 use Rattle.codegen_machine.specs.Machine.{CodeValue, MachineState, executed, machine_step, machine_run}
 
 -- a run that is over
-abbrev pub IsOver : {S : Type 0} → Outcome S → Type 0
+abbrev pub IsOver : {S : Type 0} → RunOutcome S → Type 0
 IsOver (Running s) = ⊥
 IsOver (Returned n) = Unit {0}
 IsOver Stuck = Unit {0}
 
-further_over : (x : Outcome MachineState) (f g : MachineState → Outcome MachineState) (o : Outcome MachineState) → ((t : MachineState) → f t ≡ o → g t ≡ o) →
+further_over : (x : RunOutcome MachineState) (f g : MachineState → RunOutcome MachineState) (o : RunOutcome MachineState) →
+    ((t : MachineState) → f t ≡ o → g t ≡ o) →
     further x f ≡ o → further x g ≡ o
 further_over (Running t) f g o h e = h t e
 further_over (Returned n) f g o h e = e
@@ -36,7 +37,7 @@ module _ (code : CodeValue) (args : ℕ → ℕ) where
       suc k,
       omega arith,
       ap (λ (o : Option Instruction). further (executed args code.slots o s) (machine_run code args k)) h
-          ∙ ap (λ (o : Outcome MachineState). further o (machine_run code args k)) e,
+          ∙ ap (λ (o : RunOutcome MachineState). further o (machine_run code args k)) e,
     );
   }
 
@@ -50,15 +51,15 @@ module _ (code : CodeValue) (args : ℕ → ℕ) where
   }
 
   -- a run that is over stays over
-  pub longer : (m n : ℕ) (s : MachineState) (o : Outcome MachineState) → m ≤ n → IsOver o → machine_run code args m s ≡ o → machine_run code args n s ≡ o
+  pub longer : (m n : ℕ) (s : MachineState) (o : RunOutcome MachineState) → m ≤ n → IsOver o → machine_run code args m s ≡ o → machine_run code args n s ≡ o
   unfolding machine_run
-  longer zero n s o le over e = absurd (subst (λ (x : Outcome MachineState). IsOver x) (sym e) over)
+  longer zero n s o le over e = absurd (subst (λ (x : RunOutcome MachineState). IsOver x) (sym e) over)
   longer (suc m) zero s o le over e = absurd (omega arith)
   longer (suc m) (suc n) s o le over e =
       further_over (machine_step code args s) (machine_run code args m) (machine_run code args n) o (λ t h. longer m n t o (omega arith) over h) e
 
   -- so two ends of one run are the same
-  pub one_end : (m n : ℕ) (s : MachineState) (o p : Outcome MachineState) → IsOver o → IsOver p → machine_run code args m s ≡ o →
+  pub one_end : (m n : ℕ) (s : MachineState) (o p : RunOutcome MachineState) → IsOver o → IsOver p → machine_run code args m s ≡ o →
       machine_run code args n s ≡ p → o ≡ p
   one_end m n s o p over_o over_p e f =
       ⊎_elim
@@ -72,7 +73,7 @@ module _ (code : CodeValue) (args : ℕ → ℕ) where
   runs_then n s t c = let p : (j : ℕ) × (0 + n ≤ j) × (machine_run code args j s ≡ machine_run code args 0 t) = c.by 0 in (p.0, omega (arith, p.1), p.2)
 
   -- and it ends as it does from there
-  pub ends_then : (n m : ℕ) (s t : MachineState) (o : Outcome MachineState) → Comes n s t → machine_run code args m t ≡ o →
+  pub ends_then : (n m : ℕ) (s t : MachineState) (o : RunOutcome MachineState) → Comes n s t → machine_run code args m t ≡ o →
       (j : ℕ) × (machine_run code args j s ≡ o)
   ends_then n m s t o c e = let p : (j : ℕ) × (m + n ≤ j) × (machine_run code args j s ≡ machine_run code args m t) = c.by m in (p.0, p.2 ∙ e)
 
@@ -81,4 +82,4 @@ module _ (code : CodeValue) (args : ℕ → ℕ) where
       machine_run code args 1 s ≡ Returned n
   unfolding machine_run
   ends_by i s n h e = ap (λ (o : Option Instruction). further (executed args code.slots o s) (machine_run code args 0)) h
-      ∙ ap (λ (o : Outcome MachineState). further o (machine_run code args 0)) e
+      ∙ ap (λ (o : RunOutcome MachineState). further o (machine_run code args 0)) e

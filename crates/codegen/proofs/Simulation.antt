@@ -15,13 +15,14 @@ use Rattle.regalloc2_function.specs.OutputValue.{OutputValue, MoveValue, allocs_
 use Rattle.regalloc2_function.specs.Path.{Way, Onward, ToSuccessor, first_of, next_of}
 use Rattle.regalloc2_function.specs.Listing.{ListedInst, listing_from}
 use Rattle.regalloc2_function.specs.AllocatedRun.{moves_at}
-use Rattle.regalloc2_values.specs.Interpreters.{History, State, read_by, edge_to, moved, disturbed, written_to, clobbered, place_found, place_reads}
+use Rattle.regalloc2_values.specs.Interpreters.{History, State, read_by, edge_to, numbers_moved, disturbed, written_to, numbers_clobbered, place_found}
+use Rattle.regalloc2_values.specs.Interpreters.{place_reads}
 use Rattle.regalloc2_values.specs.Interpreters.{place_told, place_written, place_step}
 use Rattle.codegen_ir.specs.Numbers.{Returned}
 use Rattle.codegen_ir.specs.declared.operation.Operation.{Operation}
 use Rattle.codegen_machine.specs.declared.Instruction.{Instruction}
 use Rattle.codegen_machine.specs.Machine.{CodeValue, MachineState, machine_run}
-use Rattle.codegen.specs.Emitted.{operation_at, operation_code, items_code, block_code, start_of}
+use Rattle.codegen.specs.Emitted.{operation_at, operation_code, items_code, block_code, block_start}
 use Rattle.codegen.proofs.Premise.{CanMove, IsPlain, IsEmitted}
 use Rattle.codegen.proofs.Runs.{Comes, comes_on, ends_then}
 use Rattle.codegen.proofs.Stands.{StandAt, block_stands}
@@ -38,8 +39,8 @@ can_move_before slots first i es h =
 
 -- where nothing is clobbered all stays
 unclobbered : (set : PRegSet) (noise numbers : Place → ℕ) (registers frame : ℕ → ℕ) → ((r : Register) → has_register set r ≡ false) →
-    Agree registers frame numbers → Agree registers frame (clobbered set noise numbers)
-unfolding clobbered
+    Agree registers frame numbers → Agree registers frame (numbers_clobbered set noise numbers)
+unfolding numbers_clobbered
 unclobbered set noise numbers registers frame none a = record {
   in_registers = λ n.
       a.in_registers n
@@ -71,7 +72,7 @@ module _ (f : FunctionValue) (ops : List Operation) (out : OutputValue) (args : 
   places_of d = allocs_of out d.at.inst
 
   abbrev after_moves : State Place → Place → ℕ
-  after_moves d = moved (moves_at f out d.at) d.numbers
+  after_moves d = numbers_moved (moves_at f out d.at) d.numbers
 
   abbrev succs_of : State Place → List ℕ
   succs_of d = (block_at f d.at.block).succs
@@ -97,12 +98,12 @@ module _ (f : FunctionValue) (ops : List Operation) (out : OutputValue) (args : 
         let end : ℕ = (block_at f b).range.end in
         let some : first < end = ok.filled b lt in
         let n : end - first ≡ suc (end - first - 1) = omega arith in
-        let at : s.pc ≡ start_of ops out f b = e ∙ ok.starts b lt in
-        let here : StandAt start code.instructions (start_of ops out f b) (block_code ops out f b) =
+        let at : s.pc ≡ block_start ops out f b = e ∙ ok.starts b lt in
+        let here : StandAt start code.instructions (block_start ops out f b) (block_code ops out f b) =
         block_stands f ops out start code.instructions (length f.blocks) ok.instructions b lt in
-        let whole : StandAt start code.instructions (start_of ops out f b)
+        let whole : StandAt start code.instructions (block_start ops out f b)
         (items_code ops out (block_at f b).succs (listing_from out first first (suc (end - first - 1)))) =
-        subst (λ (k : ℕ). StandAt start code.instructions (start_of ops out f b) (items_code ops out (block_at f b).succs (listing_from out first first k)))
+        subst (λ (k : ℕ). StandAt start code.instructions (block_start ops out f b) (items_code ops out (block_at f b).succs (listing_from out first first k)))
         n here in
         record {
           left = end - first - 1;

@@ -8,8 +8,8 @@ use Rattle.regalloc2_names.specs.Operand.{OperandValue, is_reading}
 use Rattle.regalloc2_function.specs.FunctionValue.{FunctionValue, block_at}
 use Rattle.regalloc2_function.specs.OutputValue.{OutputValue}
 use Rattle.regalloc2_function.specs.Path.{Way, Onward, ToSuccessor, next_of}
-use Rattle.regalloc2_values.specs.Interpreters.{History, State, read_by, edge_to, way_on, defined, passed_over, source_reads, source_step}
-use Rattle.codegen_ir.specs.Numbers.{Outcome, Running, Returned, Stuck, shifted, holds}
+use Rattle.regalloc2_values.specs.Interpreters.{History, State, read_by, edge_to, way_on, numbers_defined, passed_over, vreg_reads, source_step}
+use Rattle.codegen_ir.specs.Numbers.{RunOutcome, Running, Returned, Stuck, shifted, condition_holds}
 use Rattle.codegen_ir.specs.Operands.{operands_of}
 use Rattle.codegen_ir.specs.Meaning.{ProcedureState, onward, entered, along, done, procedure_step}
 use Rattle.codegen_ir.specs.declared.operation.Operation.{Operation}
@@ -28,7 +28,7 @@ abbrev pub seen : State VirtualRegister → ProcedureState
 seen c = record { at = c.at; numbers = c.numbers }
 
 -- both go on alike, or the interpreter ends and the procedure returns the number that was read
-abbrev pub GoAlike : List ℕ → Option (State VirtualRegister) → Outcome ProcedureState → Type 0
+abbrev pub GoAlike : List ℕ → Option (State VirtualRegister) → RunOutcome ProcedureState → Type 0
 GoAlike read None (Running q) = ⊥
 GoAlike read None (Returned r) = r ≡ slice_index read 0
 GoAlike read None Stuck = ⊥
@@ -43,7 +43,7 @@ reads_of os numbers = read_by is_reading (λ k o. numbers o.vreg) 0 os
 module _ (f : FunctionValue) (args : ℕ → ℕ) where
   -- the numbers that an operation leaves
   abbrev left_by : Operation → List OperandValue → (VirtualRegister → ℕ) → VirtualRegister → ℕ
-  left_by o os numbers = defined (λ k. value_of args o (reads_of os numbers)) 0 os numbers
+  left_by o os numbers = numbers_defined (λ k. value_of args o (reads_of os numbers)) 0 os numbers
 
   -- the next state of the interpreter, by the way that it takes
   abbrev state_on : State VirtualRegister → Operation → List OperandValue → Way → State VirtualRegister
@@ -59,7 +59,7 @@ module _ (f : FunctionValue) (args : ℕ → ℕ) where
 
   -- an operation inside a block
   plain_goes : (o : Operation) (c : State VirtualRegister) → IsPlain o → done f args (Some o) (seen c) ≡ Running (seen (state_on c o (operands_of o) Onward))
-  unfolding defined read_by passed_over
+  unfolding numbers_defined read_by passed_over
   plain_goes (TakeArgument to k) c plain = refl
   plain_goes (TakeConstant to n) c plain = refl
   plain_goes (Copy to from) c plain = refl
@@ -96,18 +96,18 @@ module _ (f : FunctionValue) (args : ℕ → ℕ) where
   last_goes : (o : Operation) (c : State VirtualRegister) → IsEnd o (length (block_at f c.at.block).succs) →
       GoAlike (reads_of (operands_of o) c.numbers) (option_map (state_on c o (operands_of o))
       (edge_to (length (block_at f c.at.block).succs) (way_of o (reads_of (operands_of o) c.numbers)))) (done f args (Some o) (seen c))
-  unfolding defined read_by
+  unfolding numbers_defined read_by
   last_goes GoTo c end = edge_goes [] c ((c.at.inst, []) ∷ c.history) 0 end
   last_goes (BranchIf v) c end =
       edge_goes (c.numbers v ∷ []) c ((c.at.inst, c.numbers v ∷ []) ∷ c.history) (cond (nat_eq (c.numbers v) 0) 1 0)
       (which (nat_eq (c.numbers v) 0) 1 0 (length (block_at f c.at.block).succs) end (omega arith))
   last_goes (BranchIfHolds o left (VReg v)) c end =
       edge_goes (c.numbers left ∷ c.numbers v ∷ []) c ((c.at.inst, c.numbers left ∷ c.numbers v ∷ []) ∷ c.history)
-      (cond (holds o (c.numbers left) (c.numbers v)) 0 1)
-      (which (holds o (c.numbers left) (c.numbers v)) 0 1 (length (block_at f c.at.block).succs) (omega arith) end)
+      (cond (condition_holds o (c.numbers left) (c.numbers v)) 0 1)
+      (which (condition_holds o (c.numbers left) (c.numbers v)) 0 1 (length (block_at f c.at.block).succs) (omega arith) end)
   last_goes (BranchIfHolds o left (Given n)) c end =
-      edge_goes (c.numbers left ∷ []) c ((c.at.inst, c.numbers left ∷ []) ∷ c.history) (cond (holds o (c.numbers left) n) 0 1)
-      (which (holds o (c.numbers left) n) 0 1 (length (block_at f c.at.block).succs) (omega arith) end)
+      edge_goes (c.numbers left ∷ []) c ((c.at.inst, c.numbers left ∷ []) ∷ c.history) (cond (condition_holds o (c.numbers left) n) 0 1)
+      (which (condition_holds o (c.numbers left) n) 0 1 (length (block_at f c.at.block).succs) (omega arith) end)
   last_goes (GiveBack v) c end = refl
   last_goes o c end = absurd end
 
@@ -119,7 +119,7 @@ module _ (f : FunctionValue) (args : ℕ → ℕ) where
       (cond b (Some Onward) (cond (nat_eq (c.at.inst + 1) (block_at f c.at.block).range.end)
       (edge_to (length (block_at f c.at.block).succs) (way_of o (reads_of (operands_of o) c.numbers))) None))) (done f args (Some o) (seen c)))
       (sym (lt-ltb (c.at.inst + 1) (block_at f c.at.block).range.end lt))
-      (subst (λ (x : Outcome ProcedureState). GoAlike (reads_of (operands_of o) c.numbers) (Some (state_on c o (operands_of o) Onward)) x)
+      (subst (λ (x : RunOutcome ProcedureState). GoAlike (reads_of (operands_of o) c.numbers) (Some (state_on c o (operands_of o) Onward)) x)
       (sym (plain_goes o c plain)) refl)
 
   goes_off : (o : Operation) (c : State VirtualRegister) → IsEnd o (length (block_at f c.at.block).succs) → c.at.inst + 1 ≡ (block_at f c.at.block).range.end →
@@ -137,12 +137,12 @@ module _ (f : FunctionValue) (args : ℕ → ℕ) where
   pub steps_alike : (ops : List Operation) (out : OutputValue) (start : ℕ → ℕ) (code : CodeValue) → IsEmitted f ops out start code →
       (c : State VirtualRegister) (left : ℕ) →
       c.at.block < length f.blocks → (block_at f c.at.block).range.first ≤ c.at.inst → c.at.inst + suc left ≡ (block_at f c.at.block).range.end →
-      GoAlike (source_reads f (meaning_of ops args) c) (source_step f (meaning_of ops args) c) (procedure_step f ops args (seen c))
+      GoAlike (vreg_reads f (meaning_of ops args) c) (source_step f (meaning_of ops args) c) (procedure_step f ops args (seen c))
   steps_alike ops out start code ok c left block begins ends =
       let lt : c.at.inst < length f.insts = omega (arith, ok.within c.at.block block) in
       let o : Operation = operation_at ops c.at.inst in
       let here : slice_get ops c.at.inst ≡ Some o = slice_get-get_or ops c.at.inst GoTo (omega (arith, ok.counted)) in
-      subst (λ (x : Option Operation). GoAlike (source_reads f (meaning_of ops args) c) (source_step f (meaning_of ops args) c)
+      subst (λ (x : Option Operation). GoAlike (vreg_reads f (meaning_of ops args) c) (source_step f (meaning_of ops args) c)
       (done f args x (seen c))) (sym here)
       (subst (λ (os : List OperandValue). GoAlike (reads_of os c.numbers) (step_by c o os) (done f args (Some o) (seen c))) (sym (ok.operands c.at.inst lt))
       (pick left refl))

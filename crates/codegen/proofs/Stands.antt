@@ -9,7 +9,7 @@ use Rattle.regalloc2_function.specs.FunctionValue.{FunctionValue}
 use Rattle.regalloc2_function.specs.OutputValue.{OutputValue}
 use Rattle.codegen_machine.specs.declared.Instruction.{Instruction}
 use Rattle.codegen_ir.specs.declared.operation.Operation.{Operation}
-use Rattle.codegen.specs.Emitted.{resolved, block_code, blocks_code, start_of}
+use Rattle.codegen.specs.Emitted.{resolved, block_code, blocks_code, block_start}
 
 module _ (starts : ℕ → ℕ) (code : List Instruction) where
   -- these instructions stand at an address
@@ -45,7 +45,7 @@ all_stand starts (i ∷ is) pre =
 
 module _ (f : FunctionValue) (operations : List Operation) (out : OutputValue) (starts : ℕ → ℕ) (code : List Instruction) where
   block_of : (n : ℕ) → StandAt starts code 0 (blocks_code operations out f n) → (b : ℕ) → b < n →
-      StandAt starts code (start_of operations out f b) (block_code operations out f b)
+      StandAt starts code (block_start operations out f b) (block_code operations out f b)
   unfolding blocks_code
   block_of zero h b lt = absurd (omega arith)
   block_of (suc n) h b lt = ⊎_elim
@@ -53,13 +53,13 @@ module _ (f : FunctionValue) (operations : List Operation) (out : OutputValue) (
       (λ least.
       let e : n ≡ b = omega arith in
       let back = back_stands starts code 0 (blocks_code operations out f n) (block_code operations out f n) h in
-      let z : 0 + length (blocks_code operations out f n) ≡ start_of operations out f n = omega arith in
-      subst (λ c. StandAt starts code (start_of operations out f c) (block_code operations out f c))
+      let z : 0 + length (blocks_code operations out f n) ≡ block_start operations out f n = omega arith in
+      subst (λ c. StandAt starts code (block_start operations out f c) (block_code operations out f c))
       e (subst (λ m. StandAt starts code m (block_code operations out f n)) z back))
       (cases_lt b n)
 
   -- the code of each block stands where the block begins
   pub block_stands : (n : ℕ) → code ≡ map (resolved starts) (blocks_code operations out f n) → (b : ℕ) → b < n →
-      StandAt starts code (start_of operations out f b) (block_code operations out f b)
+      StandAt starts code (block_start operations out f b) (block_code operations out f b)
   block_stands n e b lt =
       block_of n (subst (λ l. StandAt starts l 0 (blocks_code operations out f n)) (sym e) (all_stand starts (blocks_code operations out f n) [])) b lt

@@ -6,8 +6,8 @@ use Rattle.regalloc2_names.specs.Operand.{is_reading}
 use Rattle.regalloc2_names.specs.Place.{Place, NoPlace, InRegister, InSlot}
 use Rattle.regalloc2_function.specs.OutputValue.{place_at}
 use Rattle.regalloc2_function.specs.Path.{Way, Onward, ToSuccessor}
-use Rattle.regalloc2_values.specs.Interpreters.{History, Meaning, read_by, place_set, written_to, disturbed, edge_to}
-use Rattle.codegen_ir.specs.Numbers.{Outcome, Running, Returned, computed, shifted, holds, truth}
+use Rattle.regalloc2_values.specs.Interpreters.{History, InstMeaning, read_by, place_set, written_to, disturbed, edge_to}
+use Rattle.codegen_ir.specs.Numbers.{RunOutcome, Running, Returned, computed, shifted, condition_holds, truth}
 use Rattle.codegen_ir.specs.Operands.{operands_of}
 use Rattle.codegen_ir.specs.declared.operation.Operator.{Operator}
 use Rattle.codegen_ir.specs.declared.operation.ShiftOperator.{ShiftOperator}
@@ -49,7 +49,7 @@ value_of args (TakeConstant to n) xs = n
 value_of args (Copy to from) xs = slice_index xs 0
 value_of args (Computation o to left right) xs = computed o (slice_index xs 0) (right_read right (slice_index xs 1))
 value_of args (Shifting o to left count) xs = shifted o (slice_index xs 0) (count_read count (slice_index xs 1))
-value_of args (Comparison c to left right) xs = truth (holds c (slice_index xs 0) (right_read right (slice_index xs 1)))
+value_of args (Comparison c to left right) xs = truth (condition_holds c (slice_index xs 0) (right_read right (slice_index xs 1)))
 value_of args (Select to c one other) xs = cond (nat_eq (slice_index xs 2) 0) (slice_index xs 1) (slice_index xs 0)
 value_of args o xs = 0
 
@@ -57,7 +57,7 @@ value_of args o xs = 0
 abbrev pub way_of : Operation → List ℕ → Option ℕ
 way_of GoTo xs = Some 0
 way_of (BranchIf v) xs = Some (cond (nat_eq (slice_index xs 0) 0) 1 0)
-way_of (BranchIfHolds c left right) xs = Some (cond (holds c (slice_index xs 0) (right_read right (slice_index xs 1))) 0 1)
+way_of (BranchIfHolds c left right) xs = Some (cond (condition_holds c (slice_index xs 0) (right_read right (slice_index xs 1))) 0 1)
 way_of o xs = None
 
 -- what operations mean, by what was read: the number that the newest one writes
@@ -71,7 +71,7 @@ meaning_takes ops [] = None
 meaning_takes ops (x ∷ h) = way_of (operation_at ops x.0) x.1
 
 -- both
-abbrev pub meaning_of : List Operation → (ℕ → ℕ) → Meaning
+abbrev pub meaning_of : List Operation → (ℕ → ℕ) → InstMeaning
 meaning_of ops args = record { writes = meaning_writes ops args; takes = meaning_takes ops }
 
 -- no definition is early, so none disturbs what the uses read
@@ -131,7 +131,7 @@ module _ (args : ℕ → ℕ) (starts : ℕ → ℕ) (code : CodeValue) (succs :
 
   -- a second number read
   reads_right : (right : Right) (s : MachineState) (numbers : Place → ℕ) (r : Place) → IsRightHere code.slots right r → Agree s.registers s.frame numbers →
-      (go : ℕ → Outcome MachineState) → with_source code.slots s (right_source right r) go ≡ go (right_read right (numbers r))
+      (go : ℕ → RunOutcome MachineState) → with_source code.slots s (right_source right r) go ≡ go (right_read right (numbers r))
   reads_right (VReg v) s numbers r h a go = reads_source code.slots s numbers a r h go
   reads_right (Given n) s numbers r h a go = refl
 
@@ -193,14 +193,14 @@ module _ (args : ℕ → ℕ) (starts : ℕ → ℕ) (code : CodeValue) (succs :
       IsGeneral (place_at ps 1) →
       IsRightHere code.slots right (place_at ps 2) → Agree s.registers s.frame numbers →
       StandAt starts code.instructions s.pc (compare_code c right ps ++ rest) →
-      Done s (place_set numbers (place_at ps 0) (truth (holds c (numbers (place_at ps 1)) (right_read right (numbers (place_at ps 2))))))
+      Done s (place_set numbers (place_at ps 0) (truth (condition_holds c (numbers (place_at ps 1)) (right_read right (numbers (place_at ps 2))))))
   compare_done c right s numbers ps hp hq hr a h =
       let x : ℕ = numbers (place_at ps 1) in
       let y : ℕ = right_read right (numbers (place_at ps 2)) in
       let t : MachineState = compared_state s x y in
-      done_later s t (place_set numbers (place_at ps 0) (truth (holds c x y))) (compares right s numbers (place_at ps 1) (place_at ps 2) hq hr a h.0)
-      (by_one (Set (register_of (place_at ps 0)) c) t t.compared numbers (place_at ps 0) (truth (holds c x y)) hp a
-      (writes_place t (place_at ps 0) (truth (holds c x y)) t.compared hp) h.1)
+      done_later s t (place_set numbers (place_at ps 0) (truth (condition_holds c x y))) (compares right s numbers (place_at ps 1) (place_at ps 2) hq hr a h.0)
+      (by_one (Set (register_of (place_at ps 0)) c) t t.compared numbers (place_at ps 0) (truth (condition_holds c x y)) hp a
+      (writes_place t (place_at ps 0) (truth (condition_holds c x y)) t.compared hp) h.1)
 
   select_done : (s : MachineState) (numbers : Place → ℕ) (ps : List Place) → IsGeneral (place_at ps 0) → place_at ps 0 ≡ place_at ps 1 →
       IsHere code.slots (place_at ps 2) → IsHere code.slots (place_at ps 3) → Agree s.registers s.frame numbers →
@@ -312,7 +312,7 @@ module _ (args : ℕ → ℕ) (starts : ℕ → ℕ) (code : CodeValue) (succs :
   -- a branch, once numbers have been compared
   branches : (c : Condition) (s : MachineState) (x y : ℕ) (numbers : Place → ℕ) → 1 < length succs → Agree s.registers s.frame numbers →
       StandAt starts code.instructions (s.pc + 1) (branch_code c succs ++ rest) →
-      (b : Bool) → holds c x y ≡ b → Entered (compared_state s x y) (cond b 0 1) numbers
+      (b : Bool) → condition_holds c x y ≡ b → Entered (compared_state s x y) (cond b 0 1) numbers
   branches c s x y numbers lt a h true e =
       enters (JumpIf c (starts (slice_index succs 0))) (compared_state s x y) 0 numbers (omega arith) a h.0
       (ap (λ (b : Bool). jumped (compared_state s x y) (cond b (starts (slice_index succs 0)) (s.pc + 1 + 1))) e)
@@ -326,10 +326,10 @@ module _ (args : ℕ → ℕ) (starts : ℕ → ℕ) (code : CodeValue) (succs :
   -- from where they are compared
   forks : (c : Condition) (s : MachineState) (x y : ℕ) (read : List ℕ) (numbers : Place → ℕ) → 1 < length succs → Agree s.registers s.frame numbers →
       Comes code args 1 s (compared_state s x y) → StandAt starts code.instructions (s.pc + 1) (branch_code c succs ++ rest) →
-      Left s read numbers (edge_to (length succs) (Some (cond (holds c x y) 0 1)))
+      Left s read numbers (edge_to (length succs) (Some (cond (condition_holds c x y) 0 1)))
   forks c s x y read numbers lt a first h =
-      over_edge s read (cond (holds c x y) 0 1) numbers
-      (later s (compared_state s x y) (cond (holds c x y) 0 1) numbers first (branches c s x y numbers lt a h (holds c x y) refl))
+      over_edge s read (cond (condition_holds c x y) 0 1) numbers
+      (later s (compared_state s x y) (cond (condition_holds c x y) 0 1) numbers first (branches c s x y numbers lt a h (condition_holds c x y) refl))
 
   -- the other way round
   turned : (b : Bool) → ◌≡◌ {A = ℕ} (cond (not b) 0 1) (cond b 1 0)
@@ -347,7 +347,7 @@ module _ (args : ℕ → ℕ) (starts : ℕ → ℕ) (code : CodeValue) (succs :
       IsRightHere code.slots right q →
       1 < length succs → Agree s.registers s.frame numbers →
       StandAt starts code.instructions s.pc (Compare (register_of p) (right_source right q) ∷ branch_code c succs ++ rest) →
-      Left s read numbers (edge_to (length succs) (Some (cond (holds c (numbers p) (right_read right (numbers q))) 0 1)))
+      Left s read numbers (edge_to (length succs) (Some (cond (condition_holds c (numbers p) (right_read right (numbers q))) 0 1)))
   forks_so c right s p q read numbers hp hq lt a h =
       forks c s (numbers p) (right_read right (numbers q)) read numbers lt a (compares right s numbers p q hp hq a h.0) h.1
 

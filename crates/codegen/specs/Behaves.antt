@@ -2,9 +2,9 @@
 use Rattle.std.specs.Prelude.{ℕ, ◌≡◌, ◌≢◌, ◌≤◌, None}
 use Rattle.regalloc2_names.specs.Register.{VirtualRegister}
 use Rattle.regalloc2_function.specs.Path.{first_of}
-use Rattle.codegen_ir.specs.Numbers.{Outcome, Running, Returned, Stuck}
+use Rattle.codegen_ir.specs.Numbers.{RunOutcome, Running, Returned, Stuck}
 use Rattle.codegen_ir.specs.Meaning.{ProcedureState, procedure_run}
-use Rattle.codegen_ir.specs.Seen.{function_of, operations}
+use Rattle.codegen_ir.specs.Seen.{function_of_procedure, operations}
 use Rattle.codegen_ir.specs.declared.procedure.Procedure.{Procedure}
 use Rattle.codegen_machine.specs.Machine.{CodeValue, MachineState, machine_run}
 
@@ -16,17 +16,19 @@ pub record Beginning : Type 0 where
   pub frame : ℕ → ℕ
 
 -- how the function stands after so many steps from its entry, and the machine after so many from the first instruction
-abbrev pub source : Procedure → Beginning → ℕ → Outcome ProcedureState
-source p b n = procedure_run (function_of p) (operations p) b.args n (record { at = first_of (function_of p) 0; numbers = b.numbers })
+abbrev pub procedure_after : Procedure → Beginning → ℕ → RunOutcome ProcedureState
+procedure_after p b n = procedure_run (function_of_procedure p) (operations p) b.args n
+    (record { at = first_of (function_of_procedure p) 0; numbers = b.numbers })
 
-abbrev pub target : CodeValue → Beginning → ℕ → Outcome MachineState
-target code b m = machine_run code b.args m (record { pc = 0; registers = b.registers; frame = b.frame; compared = None })
+abbrev pub machine_after : CodeValue → Beginning → ℕ → RunOutcome MachineState
+machine_after code b m = machine_run code b.args m (record { pc = 0; registers = b.registers; frame = b.frame; compared = None })
 
 -- The code does what the function does: the one returns a number exactly if the other does, the machine runs on for as long as the function does, and
 -- neither is ever stuck.
 pub record BehavesAs (p : Procedure) (code : CodeValue) : Type 0 where
-  pub returns : (b : Beginning) (n r : ℕ) → source p b n ≡ Returned r → (m : ℕ) × (target code b m ≡ Returned r)
-  pub returns_only : (b : Beginning) (m r : ℕ) → target code b m ≡ Returned r → (n : ℕ) × (source p b n ≡ Returned r)
-  pub goes_on : (b : Beginning) (n : ℕ) (s : ProcedureState) → source p b n ≡ Running s → (m : ℕ) × (t : MachineState) × (n ≤ m) × (target code b m ≡ Running t)
-  pub never_stuck : (b : Beginning) (m : ℕ) → target code b m ≢ Stuck
-  pub source_never_stuck : (b : Beginning) (n : ℕ) → source p b n ≢ Stuck
+  pub returns : (b : Beginning) (n r : ℕ) → procedure_after p b n ≡ Returned r → (m : ℕ) × (machine_after code b m ≡ Returned r)
+  pub returns_only : (b : Beginning) (m r : ℕ) → machine_after code b m ≡ Returned r → (n : ℕ) × (procedure_after p b n ≡ Returned r)
+  pub goes_on : (b : Beginning) (n : ℕ) (s : ProcedureState) → procedure_after p b n ≡ Running s → (m : ℕ) × (t : MachineState) × (n ≤ m)
+      × (machine_after code b m ≡ Running t)
+  pub never_stuck : (b : Beginning) (m : ℕ) → machine_after code b m ≢ Stuck
+  pub source_never_stuck : (b : Beginning) (n : ℕ) → procedure_after p b n ≢ Stuck

@@ -130,16 +130,16 @@ module _ (operations : List Operation) (out : OutputValue) where
   blocks_code f (suc n) = blocks_code f n ++ block_code f n
 
   -- where a block begins
-  abbrev pub start_of : FunctionValue → ℕ → ℕ
-  start_of f b = length (blocks_code f b)
+  abbrev pub block_start : FunctionValue → ℕ → ℕ
+  block_start f b = length (blocks_code f b)
 
   -- where a jump to a block goes
-  abbrev pub label_of : FunctionValue → ℕ → ℕ
-  label_of f b = if nat_lt b (length f.blocks) then start_of f b else 0
+  abbrev pub block_label : FunctionValue → ℕ → ℕ
+  block_label f b = if nat_lt b (length f.blocks) then block_start f b else 0
 
 -- the code of an allocated function: its blocks, with jumps to where they begin, and a frame of its slots
 abbrev pub emitted : List Operation → FunctionValue → OutputValue → CodeValue
 emitted operations f out = record {
-  instructions = map (resolved (label_of operations out f)) (blocks_code operations out f (length f.blocks));
+  instructions = map (resolved (block_label operations out f)) (blocks_code operations out f (length f.blocks));
   slots = out.num_spillslots;
 }

@@ -1,7 +1,7 @@
 //! From a function to code.
 
 ghost use Rattle.std.specs.Prelude.{IfErr, IfOk};
-ghost use Rattle.codegen_ir.specs.Seen.{function_of};
+ghost use Rattle.codegen_ir.specs.Seen.{function_of_procedure};
 ghost use Rattle.codegen_machine.specs.Machine.{code_of};
 ghost use Rattle.codegen.specs.Behaves.{BehavesAs};
 ghost use Rattle.codegen.specs.Reasons.{IsCompileReason, error_text};
@@ -43,7 +43,7 @@ impl Error for CompileError {}
 /// An error is the allocator's, or that memory ran out. Not promised: that `Memory` comes only where it did.
 pub fn compile(alloc: Global, f: &Procedure) -> Result<Code, CompileError>
     ensures behaves { IfOk result (λ code. BehavesAs f.now (code_of code)) }
-    ensures refused { IfErr result (IsCompileReason (function_of f.now)) }
+    ensures refused { IfErr result (IsCompileReason (function_of_procedure f.now)) }
 {
     let env = target(alloc);
     let out = match run_tested(alloc, f, &env) {

@@ -6,7 +6,7 @@ ghost use Rattle.regalloc2_function.specs.Listing.{IsListedWithin};
 ghost use Rattle.regalloc2_function.specs.OutputValue.{IsInOrder, place_at};
 ghost use Rattle.regalloc2_function.specs.Views.{item_of, output_of};
 ghost use Rattle.regalloc2_function.specs.WellFormed.{BlocksFollow};
-ghost use Rattle.codegen_ir.specs.Seen.{function_of, operations};
+ghost use Rattle.codegen_ir.specs.Seen.{function_of_procedure, operations};
 ghost use Rattle.codegen_machine.specs.Machine.{code_of};
 ghost use Rattle.codegen.specs.Emitted.{register_of, source_of, right_source, fetched, move_code, constant_code, operation_code, item_code, resolved};
 ghost use Rattle.codegen.specs.Emitted.{branch_code, branch_if_code, compare_code, return_code, select_code, shift_code};
@@ -265,11 +265,11 @@ fn emit_item(
     block: Block,
     item: &InstOrEdit,
 ) -> Result<(), AllocError>
-    requires in_order { IsInOrder (function_of f.now) (output_of out.now) }
-    requires block { block < length (function_of f.now).blocks }
-    requires within { IsListedWithin 0 (length (function_of f.now).insts) (item_of item.now) }
+    requires in_order { IsInOrder (function_of_procedure f.now) (output_of out.now) }
+    requires block { block < length (function_of_procedure f.now).blocks }
+    requires within { IsListedWithin 0 (length (function_of_procedure f.now).insts) (item_of item.now) }
     ensures { OnOk result (code.new.items ≡ code.old.items
-        ++ item_code (operations f.now) (output_of out.now) (block_at (function_of f.now) block).succs (item_of item.now)) }
+        ++ item_code (operations f.now) (output_of out.now) (block_at (function_of_procedure f.now) block).succs (item_of item.now)) }
 {
     match item {
         InstOrEdit::Inst(inst) => {
@@ -295,11 +295,11 @@ fn emit_block(
     out: &Output,
     block: Block,
 ) -> Result<(), AllocError>
-    requires in_order { IsInOrder (function_of f.now) (output_of out.now) }
-    requires follow { BlocksFollow (function_of f.now) }
-    requires block { block < length (function_of f.now).blocks }
+    requires in_order { IsInOrder (function_of_procedure f.now) (output_of out.now) }
+    requires follow { BlocksFollow (function_of_procedure f.now) }
+    requires block { block < length (function_of_procedure f.now).blocks }
     ensures { OnOk result (code.new.items ≡ code.old.items
-        ++ block_code (operations f.now) (output_of out.now) (function_of f.now) block) }
+        ++ block_code (operations f.now) (output_of out.now) (function_of_procedure f.now) block) }
 {
     for item in out.block_insts_and_edits(f, block) {
         emit_item(code, f, out, block, &item)?;
@@ -341,9 +341,9 @@ fn resolve_all(
 ///
 /// Blocks are emitted in order, with jumps that name blocks, and where each begins is noted; then jumps name instructions.
 pub fn emit(alloc: Global, f: &Procedure, out: &Output) -> Result<Code, AllocError>
-    requires in_order { IsInOrder (function_of f.now) (output_of out.now) }
-    requires follow { BlocksFollow (function_of f.now) }
-    ensures { IfOk result (λ code. code_of code ≡ emitted (operations f.now) (function_of f.now) (output_of out.now)) }
+    requires in_order { IsInOrder (function_of_procedure f.now) (output_of out.now) }
+    requires follow { BlocksFollow (function_of_procedure f.now) }
+    ensures { IfOk result (λ code. code_of code ≡ emitted (operations f.now) (function_of_procedure f.now) (output_of out.now)) }
 {
     let mut code = Vec::new(alloc);
     let mut starts = Vec::new(alloc);

@@ -28,17 +28,17 @@ abbrev pub signed_rank : ℕ → ℕ
 signed_rank a = (a + 2 ^ 63) % 2 ^ 64
 
 -- whether a condition holds
-abbrev pub holds : Condition → ℕ → ℕ → Bool
-holds Equal a b = nat_eq a b
-holds NotEqual a b = not (nat_eq a b)
-holds Less a b = nat_lt a b
-holds LessOrEqual a b = nat_le a b
-holds Greater a b = nat_lt b a
-holds GreaterOrEqual a b = nat_le b a
-holds SignedLess a b = nat_lt (signed_rank a) (signed_rank b)
-holds SignedLessOrEqual a b = nat_le (signed_rank a) (signed_rank b)
-holds SignedGreater a b = nat_lt (signed_rank b) (signed_rank a)
-holds SignedGreaterOrEqual a b = nat_le (signed_rank b) (signed_rank a)
+abbrev pub condition_holds : Condition → ℕ → ℕ → Bool
+condition_holds Equal a b = nat_eq a b
+condition_holds NotEqual a b = not (nat_eq a b)
+condition_holds Less a b = nat_lt a b
+condition_holds LessOrEqual a b = nat_le a b
+condition_holds Greater a b = nat_lt b a
+condition_holds GreaterOrEqual a b = nat_le b a
+condition_holds SignedLess a b = nat_lt (signed_rank a) (signed_rank b)
+condition_holds SignedLessOrEqual a b = nat_le (signed_rank a) (signed_rank b)
+condition_holds SignedGreater a b = nat_lt (signed_rank b) (signed_rank a)
+condition_holds SignedGreaterOrEqual a b = nat_le (signed_rank b) (signed_rank a)
 
 -- 1 for what holds, 0 for what doesn't
 abbrev pub truth : Bool → ℕ
@@ -49,13 +49,13 @@ abbrev pub put : (ℕ → ℕ) → ℕ → ℕ → ℕ → ℕ
 put m k n q = if nat_eq k q then n else m q
 
 -- how a run stands: it goes on in a state, it has ended with a number, or it can't go on
-pub data Outcome (S : Type 0) : Type 0 where
-  Running : S → Outcome S
-  Returned : ℕ → Outcome S
-  Stuck : Outcome S
+pub data RunOutcome (S : Type 0) : Type 0 where
+  Running : S → RunOutcome S
+  Returned : ℕ → RunOutcome S
+  Stuck : RunOutcome S
 
 -- goes on where it still runs
-abbrev pub further : {S : Type 0} → Outcome S → (S → Outcome S) → Outcome S
+abbrev pub further : {S : Type 0} → RunOutcome S → (S → RunOutcome S) → RunOutcome S
 further (Running s) go = go s
 further (Returned n) go = Returned n
 further Stuck go = Stuck

@@ -36,13 +36,13 @@ constraint_of (suc (suc (suc zero))) n c = FixedReg (record { number = n; class 
 constraint_of (suc (suc (suc (suc zero)))) n c = Reuse n
 constraint_of (suc (suc (suc (suc (suc m))))) n c = Limit n
 
-constraint_back : (o : OperandConstraint) → constraint_of (constraint_numbers o).0 (constraint_numbers o).1.0 (constraint_numbers o).1.1 ≡ o
-constraint_back Any = refl
-constraint_back Reg = refl
-constraint_back Stack = refl
-constraint_back (FixedReg r) = rw class_back refl
-constraint_back (Reuse n) = refl
-constraint_back (Limit n) = refl
+constraint_numbers_back : (o : OperandConstraint) → constraint_of (constraint_numbers o).0 (constraint_numbers o).1.0 (constraint_numbers o).1.1 ≡ o
+constraint_numbers_back Any = refl
+constraint_numbers_back Reg = refl
+constraint_numbers_back Stack = refl
+constraint_numbers_back (FixedReg r) = rw class_back refl
+constraint_numbers_back (Reuse n) = refl
+constraint_numbers_back (Limit n) = refl
 
 abbrev kind_number : OperandKind → ℕ
 kind_number Def = 0
@@ -52,9 +52,9 @@ abbrev kind_of : ℕ → OperandKind
 kind_of zero = Def
 kind_of (suc n) = Use
 
-kind_back : (k : OperandKind) → kind_of (kind_number k) ≡ k
-kind_back Def = refl
-kind_back Use = refl
+kind_number_back : (k : OperandKind) → kind_of (kind_number k) ≡ k
+kind_number_back Def = refl
+kind_number_back Use = refl
 
 abbrev position_number : OperandPos → ℕ
 position_number Early = 0
@@ -64,29 +64,29 @@ abbrev position_of : ℕ → OperandPos
 position_of zero = Early
 position_of (suc n) = Late
 
-position_back : (k : OperandPos) → position_of (position_number k) ≡ k
-position_back Early = refl
-position_back Late = refl
+position_number_back : (k : OperandPos) → position_of (position_number k) ≡ k
+position_number_back Early = refl
+position_number_back Late = refl
 
 vreg_code : Coded VirtualRegister
 vreg_code = code_by (ℕ × ℕ) (coded× coded_ℕ coded_ℕ) (λ v. (v.number, class_code v.class))
     (λ p. record { number = p.0; class = class_of_code p.1 }) (λ v. rw class_back refl)
 
-constraint_code : Coded OperandConstraint
-constraint_code = code_by (ℕ × (ℕ × ℕ)) (coded× coded_ℕ (coded× coded_ℕ coded_ℕ)) constraint_numbers
-    (λ p. constraint_of p.0 p.1.0 p.1.1) constraint_back
+coded_constraint : Coded OperandConstraint
+coded_constraint = code_by (ℕ × (ℕ × ℕ)) (coded× coded_ℕ (coded× coded_ℕ coded_ℕ)) constraint_numbers
+    (λ p. constraint_of p.0 p.1.0 p.1.1) constraint_numbers_back
 
-kind_code : Coded OperandKind
-kind_code = code_by ℕ coded_ℕ kind_number kind_of kind_back
+coded_kind : Coded OperandKind
+coded_kind = code_by ℕ coded_ℕ kind_number kind_of kind_number_back
 
-position_code : Coded OperandPos
-position_code = code_by ℕ coded_ℕ position_number position_of position_back
+coded_position : Coded OperandPos
+coded_position = code_by ℕ coded_ℕ position_number position_of position_number_back
 
 abbrev Parts : Type 0
 Parts = VirtualRegister × (OperandConstraint × (OperandKind × OperandPos))
 
 operand_code : Coded OperandValue
-operand_code = code_by Parts (coded× vreg_code (coded× constraint_code (coded× kind_code position_code)))
+operand_code = code_by Parts (coded× vreg_code (coded× coded_constraint (coded× coded_kind coded_position)))
     (λ o. (o.vreg, (o.constraint, (o.kind, o.position))))
     (λ p. record { vreg = p.0; constraint = p.1.0; kind = p.1.1.0; position = p.1.1.1 }) (λ o. refl)
 

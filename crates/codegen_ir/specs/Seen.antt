@@ -12,21 +12,22 @@ use Rattle.codegen_ir.specs.declared.operation.Line.{Line}
 use Rattle.codegen_ir.specs.declared.procedure.Part.{Part}
 use Rattle.codegen_ir.specs.declared.procedure.Procedure.{Procedure}
 
-abbrev pub inst_of : Line → InstValue
-inst_of l = record {
+abbrev pub inst_of_line : Line → InstValue
+inst_of_line l = record {
   operands = operands_of l.operation;
   clobbers = l.clobbers;
   is_branch = is_jump l.operation;
   is_ret = is_return l.operation;
 }
 
-abbrev pub block_of : Part → BlockValue
-block_of b = record { range = b.range; succs = b.succs.items; preds = b.preds.items; params = b.params.items; arguments = map (λ v. v.items) b.arguments.items }
+abbrev pub block_of_part : Part → BlockValue
+block_of_part b = record { range = b.range; succs = b.succs.items; preds = b.preds.items; params = b.params.items;
+    arguments = map (λ v. v.items) b.arguments.items }
 
-abbrev pub function_of : Procedure → FunctionValue
-function_of p = record {
-  blocks = map block_of p.parts.items;
-  insts = map inst_of p.lines.items;
+abbrev pub function_of_procedure : Procedure → FunctionValue
+function_of_procedure p = record {
+  blocks = map block_of_part p.parts.items;
+  insts = map inst_of_line p.lines.items;
   entry = 0;
   num_vregs = p.num_vregs;
   slot_sizes = single_units;
@@ -40,7 +41,7 @@ abbrev pub operations : Procedure → List Operation
 operations p = operations_of p.lines.items
 
 -- it keeps the limits of each function
-pub limited_procedure : (p : Procedure) → IsLimited (function_of p)
+pub limited_procedure : (p : Procedure) → IsLimited (function_of_procedure p)
 limited_procedure p = record {
   insts = rw length-map (omega (arith, p.few_lines));
   blocks = rw length-map (omega (arith, p.few_parts));

@@ -171,9 +171,9 @@ impl Procedure {
 }
 
 impl Function for Procedure {
-    ghost use Rattle.codegen_ir.specs.Seen.{function_of, limited_procedure};
+    ghost use Rattle.codegen_ir.specs.Seen.{function_of_procedure, limited_procedure};
 
-    ghost function = { function_of };
+    ghost function = { function_of_procedure };
 
     fn num_insts(&self) -> usize {
         self.lines.len()

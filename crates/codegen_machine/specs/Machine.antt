@@ -1,7 +1,7 @@
 -- What the machine does: an interpreter that makes a step for each instruction. It is stuck where there is no instruction, no such register
 -- for numbers or slot, and where numbers are needed that were compared, and none were since the last instruction that forgets them.
 use Rattle.std.specs.Prelude.{ℕ, zero, suc, ◌+◌, Bool, ◌&&◌, not, nat_eq, nat_lt, if◌then◌else◌, List, slice_get, Option, None, Some}
-use Rattle.codegen_ir.specs.Numbers.{Outcome, Running, Returned, Stuck, further, computed, shifted, holds, truth, put}
+use Rattle.codegen_ir.specs.Numbers.{RunOutcome, Running, Returned, Stuck, further, computed, shifted, condition_holds, truth, put}
 use Rattle.codegen_machine.specs.declared.Source.{Source}
 use Rattle.codegen_machine.specs.declared.Source.TheVariants.{Register, Slot, Number}
 use Rattle.codegen_machine.specs.declared.Instruction.{Instruction}
@@ -21,56 +21,56 @@ abbrev pub is_general : ℕ → Bool
 is_general r = nat_lt r 16 && not (nat_eq r 4) && not (nat_eq r 7)
 
 -- goes on with the number of a register, of a slot of a frame of so many, or from wherever it is read; or with the numbers last compared
-abbrev pub with_register : MachineState → ℕ → (ℕ → Outcome MachineState) → Outcome MachineState
+abbrev pub with_register : MachineState → ℕ → (ℕ → RunOutcome MachineState) → RunOutcome MachineState
 with_register s r go = if is_general r then go (s.registers r) else Stuck
 
-abbrev pub with_slot : ℕ → MachineState → ℕ → (ℕ → Outcome MachineState) → Outcome MachineState
+abbrev pub with_slot : ℕ → MachineState → ℕ → (ℕ → RunOutcome MachineState) → RunOutcome MachineState
 with_slot slots s k go = if nat_lt k slots then go (s.frame k) else Stuck
 
-abbrev pub with_source : ℕ → MachineState → Source → (ℕ → Outcome MachineState) → Outcome MachineState
+abbrev pub with_source : ℕ → MachineState → Source → (ℕ → RunOutcome MachineState) → RunOutcome MachineState
 with_source slots s (Register r) go = with_register s r go
 with_source slots s (Slot k) go = with_slot slots s k go
 with_source slots s (Number n) go = go n
 
-abbrev pub with_compared : Option (ℕ × ℕ) → (ℕ → ℕ → Outcome MachineState) → Outcome MachineState
+abbrev pub with_compared : Option (ℕ × ℕ) → (ℕ → ℕ → RunOutcome MachineState) → RunOutcome MachineState
 with_compared None go = Stuck
 with_compared (Some p) go = go p.0 p.1
 
 -- the next instruction, where a register has been written, or a slot, or numbers have been compared
-abbrev pub written : MachineState → ℕ → ℕ → Option (ℕ × ℕ) → Outcome MachineState
+abbrev pub written : MachineState → ℕ → ℕ → Option (ℕ × ℕ) → RunOutcome MachineState
 written s r n compared =
     if is_general r then Running (record { pc = s.pc + 1; registers = put s.registers r n; frame = s.frame; compared = compared }) else Stuck
 
-abbrev pub stored : ℕ → MachineState → ℕ → ℕ → Outcome MachineState
-stored slots s k n =
+abbrev pub frame_stored : ℕ → MachineState → ℕ → ℕ → RunOutcome MachineState
+frame_stored slots s k n =
     if nat_lt k slots then Running (record { pc = s.pc + 1; registers = s.registers; frame = put s.frame k n; compared = s.compared }) else Stuck
 
-abbrev pub compared_to : MachineState → ℕ → ℕ → Outcome MachineState
+abbrev pub compared_to : MachineState → ℕ → ℕ → RunOutcome MachineState
 compared_to s a b = Running (record { pc = s.pc + 1; registers = s.registers; frame = s.frame; compared = Some (a, b) })
 
 -- an instruction that is jumped to
-abbrev pub jumped : MachineState → ℕ → Outcome MachineState
+abbrev pub jumped : MachineState → ℕ → RunOutcome MachineState
 jumped s target = Running (record { pc = target; registers = s.registers; frame = s.frame; compared = s.compared })
 
 -- what an instruction does; the arguments are given by their numbers, and the frame has so many slots
-abbrev pub executed : (ℕ → ℕ) → ℕ → Option Instruction → MachineState → Outcome MachineState
+abbrev pub executed : (ℕ → ℕ) → ℕ → Option Instruction → MachineState → RunOutcome MachineState
 executed args slots None s = Stuck
 executed args slots (Some (Constant to n)) s = written s to n s.compared
 executed args slots (Some (Clear to)) s = written s to 0 None
 executed args slots (Some (Argument to k)) s = written s to (args k) s.compared
 executed args slots (Some (Move to from)) s = with_register s from (λ n. written s to n s.compared)
 executed args slots (Some (Load to k)) s = with_slot slots s k (λ n. written s to n s.compared)
-executed args slots (Some (Store k from)) s = with_register s from (λ n. stored slots s k n)
+executed args slots (Some (Store k from)) s = with_register s from (λ n. frame_stored slots s k n)
 executed args slots (Some (Compute o to from)) s = with_register s to (λ a. with_source slots s from (λ b. written s to (computed o a b) None))
 executed args slots (Some (Shift o to)) s = with_register s to (λ a. with_register s 1 (λ n. written s to (shifted o a n) None))
 executed args slots (Some (ShiftBy o to n)) s = with_register s to (λ a. written s to (shifted o a n) None)
 executed args slots (Some (Compare left right)) s = with_register s left (λ a. with_source slots s right (λ b. compared_to s a b))
-executed args slots (Some (Set to c)) s = with_compared s.compared (λ a b. written s to (truth (holds c a b)) s.compared)
+executed args slots (Some (Set to c)) s = with_compared s.compared (λ a b. written s to (truth (condition_holds c a b)) s.compared)
 executed args slots (Some (MoveIf c to from)) s = with_compared s.compared (λ a b. with_register s to (λ x. with_source slots s from
-    (λ y. written s to (if holds c a b then y else x) s.compared)))
+    (λ y. written s to (if condition_holds c a b then y else x) s.compared)))
 executed args slots (Some (Test from)) s = with_source slots s from (λ n. compared_to s n 0)
 executed args slots (Some (Jump target)) s = jumped s target
-executed args slots (Some (JumpIf c target)) s = with_compared s.compared (λ a b. jumped s (if holds c a b then target else s.pc + 1))
+executed args slots (Some (JumpIf c target)) s = with_compared s.compared (λ a b. jumped s (if condition_holds c a b then target else s.pc + 1))
 executed args slots (Some Return) s = Returned (s.registers 0)
 
 -- code as it is seen: its instructions, and how many slots its frame has
@@ -82,10 +82,10 @@ abbrev pub code_of : Code → CodeValue
 code_of c = record { instructions = c.instructions.items; slots = c.slots }
 
 -- one step: that of the instruction at which the machine is
-abbrev pub machine_step : CodeValue → (ℕ → ℕ) → MachineState → Outcome MachineState
+abbrev pub machine_step : CodeValue → (ℕ → ℕ) → MachineState → RunOutcome MachineState
 machine_step code args s = executed args code.slots (slice_get code.instructions s.pc) s
 
 -- so many steps
-unfoldable pub machine_run : CodeValue → (ℕ → ℕ) → ℕ → MachineState → Outcome MachineState
+unfoldable pub machine_run : CodeValue → (ℕ → ℕ) → ℕ → MachineState → RunOutcome MachineState
 machine_run code args zero s = Running s
 machine_run code args (suc n) s = further (machine_step code args s) (machine_run code args n)

@@ -2,34 +2,34 @@
 use Rattle.std.proofs.Common.{ℕ, zero, suc, ◌≡◌, ◌+◌, ◌-◌, ◌<◌, refl, ap, sym, ◌∙◌, arith}
 use Rattle.std.specs.Prelude.{List}
 use Rattle.regalloc2_function.specs.FunctionValue.{FunctionValue}
-use Rattle.codegen_ir.specs.Numbers.{Outcome, Running as runs, further}
+use Rattle.codegen_ir.specs.Numbers.{RunOutcome, Running as runs, further}
 use Rattle.codegen_ir.specs.Meaning.{ProcedureState, procedure_run, procedure_step}
 use Rattle.codegen_ir.specs.declared.operation.Operation.{Operation}
 use Rattle.codegen_machine.specs.Machine.{CodeValue, MachineState, machine_run, machine_step}
-use Rattle.codegen_run.specs.Runs.{standing_of, stands}
+use Rattle.codegen_run.specs.Runs.{standing_of, run_outcome}
 use Rattle.codegen_run.specs.declared.standing.Standing.{Standing}
 use Rattle.codegen_run.specs.declared.standing.Standing.TheVariants.{Running, Returned, Stuck}
 
 -- what is over stands as it did, however it would go on
-pub stopped : {S : Type 0} (r : Standing) (s : S) (go : S → Outcome S) → (r ≡ Running → ⊥) → r ≡ standing_of (further (stands r s) go)
+pub stopped : {S : Type 0} (r : Standing) (s : S) (go : S → RunOutcome S) → (r ≡ Running → ⊥) → r ≡ standing_of (further (run_outcome r s) go)
 stopped Running s go over = absurd (over refl)
 stopped (Returned n) s go over = refl
 stopped Stuck s go over = refl
 
 -- and is that outcome
-pub over_stays : {S : Type 0} (r : Standing) (s : S) (go : S → Outcome S) → (r ≡ Running → ⊥) → further (stands r s) go ≡ stands r s
+pub over_stays : {S : Type 0} (r : Standing) (s : S) (go : S → RunOutcome S) → (r ≡ Running → ⊥) → further (run_outcome r s) go ≡ run_outcome r s
 over_stays Running s go over = absurd (over refl)
 over_stays (Returned n) s go over = refl
 over_stays Stuck s go over = refl
 
-pub stands_so : {S : Type 0} (r : Standing) (s : S) → r ≡ standing_of (stands r s)
+pub stands_so : {S : Type 0} (r : Standing) (s : S) → r ≡ standing_of (run_outcome r s)
 stands_so Running s = refl
 stands_so (Returned n) s = refl
 stands_so Stuck s = refl
 
 -- a run of a function that is over after so many steps is so after more
 run_stays : (f : FunctionValue) (os : List Operation) (args : ℕ → ℕ) (first : ProcedureState) (n k : ℕ) (r : Standing) (s : ProcedureState) →
-    (r ≡ Running → ⊥) → procedure_run f os args n first ≡ stands r s → procedure_run f os args (n + k) first ≡ stands r s
+    (r ≡ Running → ⊥) → procedure_run f os args n first ≡ run_outcome r s → procedure_run f os args (n + k) first ≡ run_outcome r s
 unfolding procedure_run
 run_stays f os args first n zero r s over is = let e : n + 0 ≡ n = omega arith in rw e is
 run_stays f os args first n (suc k) r s over is =
@@ -38,7 +38,7 @@ run_stays f os args first n (suc k) r s over is =
 
 -- a step more
 pub run_more : (f : FunctionValue) (os : List Operation) (args : ℕ → ℕ) (first : ProcedureState) (n : ℕ) (r : Standing) (s t : ProcedureState) →
-    procedure_run f os args n first ≡ runs s → procedure_step f os args s ≡ stands r t → procedure_run f os args (n + 1) first ≡ stands r t
+    procedure_run f os args n first ≡ runs s → procedure_step f os args s ≡ run_outcome r t → procedure_run f os args (n + 1) first ≡ run_outcome r t
 unfolding procedure_run
 run_more f os args first n r s t is step =
     let e : n + 1 ≡ suc n = omega arith in
@@ -46,7 +46,7 @@ run_more f os args first n r s t is step =
 
 -- and the last one
 pub run_ends : (f : FunctionValue) (os : List Operation) (args : ℕ → ℕ) (first : ProcedureState) (n steps : ℕ) (r : Standing) (s t : ProcedureState) →
-    n < steps → procedure_run f os args n first ≡ runs s → procedure_step f os args s ≡ stands r t → (r ≡ Running → ⊥) →
+    n < steps → procedure_run f os args n first ≡ runs s → procedure_step f os args s ≡ run_outcome r t → (r ≡ Running → ⊥) →
     r ≡ standing_of (procedure_run f os args steps first)
 run_ends f os args first n steps r s t less is step over =
     let e : (n + 1) + (steps - (n + 1)) ≡ steps = omega arith in
@@ -59,8 +59,8 @@ unfolding procedure_run
 run_none f os args first = refl
 
 -- a run of the machine from its first step on, where it has more steps to make
-pub machine_more : (code : CodeValue) (args : ℕ → ℕ) (n : ℕ) (r : Standing) (s t : MachineState) → 0 < n → machine_step code args s ≡ stands r t →
-    machine_run code args n s ≡ further (stands r t) (machine_run code args (n - 1))
+pub machine_more : (code : CodeValue) (args : ℕ → ℕ) (n : ℕ) (r : Standing) (s t : MachineState) → 0 < n → machine_step code args s ≡ run_outcome r t →
+    machine_run code args n s ≡ further (run_outcome r t) (machine_run code args (n - 1))
 unfolding machine_run
 machine_more code args zero r s t some step = absurd (omega arith)
 machine_more code args (suc n) r s t some step =

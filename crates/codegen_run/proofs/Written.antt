@@ -4,7 +4,7 @@ use Rattle.std.proofs.Math.Path.{fun_ext}
 use Rattle.std.specs.HashMap.{HashMap, IsEmpty}
 use Rattle.regalloc2_names.specs.Register.{VirtualRegister}
 use Rattle.regalloc2_values.specs.Interpreters.{number_set, passed_on}
-use Rattle.codegen_run.specs.States.{numbers_of}
+use Rattle.codegen_run.specs.States.{numbers_by_vreg}
 
 -- so many are passed, and then one more
 pub pass_more : (ps qs : List VirtualRegister) (k : ℕ) (p : VirtualRegister) (n : ℕ) (before after : VirtualRegister → ℕ) → k < length ps → k < length qs →
@@ -35,5 +35,5 @@ pass_end ps qs k before after h =
     pass_ended (drop k ps) (drop k qs) before after (λ a b. h (omega (arith, length-drop k ps)) (omega (arith, length-drop k qs)))
 
 -- a table without entries
-pub none_kept : {S : Type 0} (m : HashMap ℕ ℕ S) → IsEmpty m → numbers_of m ≡ (λ v. 0)
+pub none_kept : {S : Type 0} (m : HashMap ℕ ℕ S) → IsEmpty m → numbers_by_vreg m ≡ (λ v. 0)
 none_kept m e = fun_ext λ v. rw e refl

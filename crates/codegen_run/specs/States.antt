@@ -4,18 +4,18 @@ use Rattle.std.specs.HashMap.{HashMap, get}
 use Rattle.regalloc2_names.specs.Register.{VirtualRegister}
 use Rattle.regalloc2_names.specs.RegisterBits.{bits_of_vreg}
 use Rattle.codegen_ir.specs.Meaning.{ProcedureState}
-use Rattle.codegen_ir.specs.Numbers.{Outcome}
+use Rattle.codegen_ir.specs.Numbers.{RunOutcome}
 use Rattle.codegen_machine.specs.Machine.{MachineState, is_general}
 use Rattle.codegen_machine.specs.declared.Source.{Source}
 use Rattle.codegen_machine.specs.declared.Source.TheVariants.{Register, Slot, Number}
-use Rattle.codegen_run.specs.Runs.{stands}
+use Rattle.codegen_run.specs.Runs.{run_outcome}
 use Rattle.codegen_run.specs.declared.machine.Machine.{Machine}
 use Rattle.codegen_run.specs.declared.procedure.State.{State}
 use Rattle.codegen_run.specs.declared.standing.Standing.{Standing}
 use Rattle.codegen_run.specs.declared.standing.Standing.TheVariants.{Stuck}
 
-abbrev pub machine_of : Machine → MachineState
-machine_of m = record { pc = m.pc; registers = λ r. slice_index m.registers r; frame = λ k. slice_index m.frame.items k; compared = m.compared }
+abbrev pub machine_state : Machine → MachineState
+machine_state m = record { pc = m.pc; registers = λ r. slice_index m.registers r; frame = λ k. slice_index m.frame.items k; compared = m.compared }
 
 -- the number of a register for numbers, of a slot of a frame of so many, or the one that is given
 abbrev pub source_number : ℕ → MachineState → Source → Option ℕ
@@ -24,12 +24,12 @@ source_number slots s (Slot k) = if nat_lt k slots then Some (s.frame k) else No
 source_number slots s (Number n) = Some n
 
 -- what was made is that outcome, stuck where there is no answer, and the frame is as long as before
-abbrev pub Makes : Outcome MachineState → Machine → Machine → Option Standing → Type 0
-Makes outcome old new answer = (outcome ≡ stands (unwrap_or answer Stuck) (machine_of new)) × (vec_len new.frame ≡ vec_len old.frame)
+abbrev pub MakesOutcome : RunOutcome MachineState → Machine → Machine → Option Standing → Type 0
+MakesOutcome outcome old new answer = (outcome ≡ run_outcome (unwrap_or answer Stuck) (machine_state new)) × (vec_len new.frame ≡ vec_len old.frame)
 
 -- the numbers of virtual registers, which are kept by their words; the others are 0
-abbrev pub numbers_of : {S : Type 0} → HashMap ℕ ℕ S → VirtualRegister → ℕ
-numbers_of m v = unwrap_or (get nat_eq m (bits_of_vreg v)) 0
+abbrev pub numbers_by_vreg : {S : Type 0} → HashMap ℕ ℕ S → VirtualRegister → ℕ
+numbers_by_vreg m v = unwrap_or (get nat_eq m (bits_of_vreg v)) 0
 
 abbrev pub state_of : State → ProcedureState
-state_of s = record { at = record { block = s.block; inst = s.inst }; numbers = numbers_of s.numbers }
+state_of s = record { at = record { block = s.block; inst = s.inst }; numbers = numbers_by_vreg s.numbers }

@@ -1,11 +1,11 @@
 //! The machine, step by step.
 
 ghost use Rattle.std.specs.Prelude.{◌≡◌, ◌+◌, ◌<◌, ◌^◌, IfOk, nat_lt, if◌then◌else◌, replicate, vec_len};
-ghost use Rattle.codegen_ir.specs.Numbers.{computed, holds, shifted, truth};
+ghost use Rattle.codegen_ir.specs.Numbers.{computed, condition_holds, shifted, truth};
 ghost use Rattle.codegen_machine.specs.Machine.{code_of, compared_to, executed, is_general, jumped, machine_run, machine_step};
-ghost use Rattle.codegen_machine.specs.Machine.{stored, with_compared, with_register, with_source, written};
-ghost use Rattle.codegen_run.specs.Runs.{arguments_of, first_machine, standing_of, stands};
-ghost use Rattle.codegen_run.specs.States.{machine_of, source_number, Makes};
+ghost use Rattle.codegen_machine.specs.Machine.{frame_stored, with_compared, with_register, with_source, written};
+ghost use Rattle.codegen_run.specs.Runs.{arguments_of, first_machine, standing_of, run_outcome};
+ghost use Rattle.codegen_run.specs.States.{machine_state, source_number, MakesOutcome};
 
 use super::numbers::{argument, compute, does_hold, shift};
 use super::standing::Standing;
@@ -32,7 +32,7 @@ fn is_for_numbers(register: usize) -> bool
 impl Machine {
     /// The number of a register for numbers.
     fn register(&self, register: usize) -> Option<u64>
-        ensures { result ≡ (if is_general register then Some ((machine_of self.now).registers register) else None) }
+        ensures { result ≡ (if is_general register then Some ((machine_state self.now).registers register) else None) }
     {
         if is_for_numbers(register) {
             self.registers.get(register).copied()
@@ -43,14 +43,14 @@ impl Machine {
 
     /// The number of a slot.
     fn slot(&self, slot: usize) -> Option<u64>
-        ensures { result ≡ (if nat_lt slot (vec_len self.now.frame) then Some ((machine_of self.now).frame slot) else None) }
+        ensures { result ≡ (if nat_lt slot (vec_len self.now.frame) then Some ((machine_state self.now).frame slot) else None) }
     {
         self.frame.get(slot).copied()
     }
 
     /// The number that is read from there.
     fn source(&self, source: Source) -> Option<u64>
-        ensures { result ≡ source_number (vec_len self.now.frame) (machine_of self.now) source }
+        ensures { result ≡ source_number (vec_len self.now.frame) (machine_state self.now) source }
     {
         match source {
             Source::Register(register) => self.register(register),
@@ -62,7 +62,7 @@ impl Machine {
     /// Goes on with a register written.
     fn write(&mut self, to: usize, number: u64, compared: Option<(u64, u64)>) -> Option<Standing>
         requires room { self.old.pc + 1 < 2 ^ 64 }
-        ensures { Makes (written (machine_of self.old) to number compared) self.old self.new result }
+        ensures { MakesOutcome (written (machine_state self.old) to number compared) self.old self.new result }
     {
         if !is_for_numbers(to) {
             return None;
@@ -76,8 +76,8 @@ impl Machine {
     /// Puts the number of a register or a slot into a register.
     fn fetch(&mut self, to: usize, from: Source) -> Option<Standing>
         requires room { self.old.pc + 1 < 2 ^ 64 }
-        ensures { let s = machine_of self.old in
-            Makes (with_source (vec_len self.old.frame) s from (λ n. written s to n s.compared)) self.old self.new result }
+        ensures { let s = machine_state self.old in
+            MakesOutcome (with_source (vec_len self.old.frame) s from (λ n. written s to n s.compared)) self.old self.new result }
     {
         let number = self.source(from)?;
         let compared = self.compared;
@@ -87,8 +87,8 @@ impl Machine {
     /// Puts the number of a register into a slot.
     fn store(&mut self, slot: usize, from: usize) -> Option<Standing>
         requires room { self.old.pc + 1 < 2 ^ 64 }
-        ensures { let s = machine_of self.old in
-            Makes (with_register s from (λ n. stored (vec_len self.old.frame) s slot n)) self.old self.new result }
+        ensures { let s = machine_state self.old in
+            MakesOutcome (with_register s from (λ n. frame_stored (vec_len self.old.frame) s slot n)) self.old self.new result }
     {
         let number = self.register(from)?;
         if slot >= self.frame.len() {
@@ -102,7 +102,7 @@ impl Machine {
     /// Computes with a register.
     fn compute(&mut self, operator: Operator, to: usize, from: Source) -> Option<Standing>
         requires room { self.old.pc + 1 < 2 ^ 64 }
-        ensures { let s = machine_of self.old in Makes (with_register s to (λ a. with_source (vec_len self.old.frame) s from
+        ensures { let s = machine_state self.old in MakesOutcome (with_register s to (λ a. with_source (vec_len self.old.frame) s from
             (λ b. written s to (computed operator a b) None))) self.old self.new result }
     {
         let left = self.register(to)?;
@@ -113,8 +113,8 @@ impl Machine {
     /// Moves a register's bits by as many places as a number says.
     fn shift_by(&mut self, operator: ShiftOperator, to: usize, count: u64) -> Option<Standing>
         requires room { self.old.pc + 1 < 2 ^ 64 }
-        ensures { let s = machine_of self.old in
-            Makes (with_register s to (λ a. written s to (shifted operator a count) None)) self.old self.new result }
+        ensures { let s = machine_state self.old in
+            MakesOutcome (with_register s to (λ a. written s to (shifted operator a count) None)) self.old self.new result }
     {
         let number = self.register(to)?;
         self.write(to, shift(operator, number, count), None)
@@ -123,7 +123,7 @@ impl Machine {
     /// Moves a register's bits by as many places as the number of register 1.
     fn shift(&mut self, operator: ShiftOperator, to: usize) -> Option<Standing>
         requires room { self.old.pc + 1 < 2 ^ 64 }
-        ensures { let s = machine_of self.old in Makes (with_register s to (λ a. with_register s 1
+        ensures { let s = machine_state self.old in MakesOutcome (with_register s to (λ a. with_register s 1
             (λ n. written s to (shifted operator a n) None))) self.old self.new result }
     {
         let number = self.register(to)?;
@@ -134,7 +134,7 @@ impl Machine {
     /// Keeps the numbers that are compared.
     fn compare(&mut self, left: u64, right: u64) -> Option<Standing>
         requires room { self.old.pc + 1 < 2 ^ 64 }
-        ensures { Makes (compared_to (machine_of self.old) left right) self.old self.new result }
+        ensures { MakesOutcome (compared_to (machine_state self.old) left right) self.old self.new result }
     {
         self.compared = Some((left, right));
         self.pc += 1;
@@ -144,7 +144,7 @@ impl Machine {
     /// Compares a register.
     fn compare_to(&mut self, left: usize, right: Source) -> Option<Standing>
         requires room { self.old.pc + 1 < 2 ^ 64 }
-        ensures { let s = machine_of self.old in Makes (with_register s left (λ a. with_source (vec_len self.old.frame) s right
+        ensures { let s = machine_state self.old in MakesOutcome (with_register s left (λ a. with_source (vec_len self.old.frame) s right
             (λ b. compared_to s a b))) self.old self.new result }
     {
         let left = self.register(left)?;
@@ -155,8 +155,8 @@ impl Machine {
     /// Puts whether a condition holds into a register.
     fn set(&mut self, to: usize, condition: Condition) -> Option<Standing>
         requires room { self.old.pc + 1 < 2 ^ 64 }
-        ensures { let s = machine_of self.old in Makes (with_compared s.compared
-            (λ a b. written s to (truth (holds condition a b)) s.compared)) self.old self.new result }
+        ensures { let s = machine_state self.old in MakesOutcome (with_compared s.compared
+            (λ a b. written s to (truth (condition_holds condition a b)) s.compared)) self.old self.new result }
     {
         let compared = self.compared;
         let (left, right) = compared?;
@@ -167,8 +167,8 @@ impl Machine {
     /// Puts a number into a register where a condition holds.
     fn move_if(&mut self, condition: Condition, to: usize, from: Source) -> Option<Standing>
         requires room { self.old.pc + 1 < 2 ^ 64 }
-        ensures { let s = machine_of self.old in Makes (with_compared s.compared (λ a b. with_register s to (λ x.
-            with_source (vec_len self.old.frame) s from (λ y. written s to (if holds condition a b then y else x) s.compared))))
+        ensures { let s = machine_state self.old in MakesOutcome (with_compared s.compared (λ a b. with_register s to (λ x.
+            with_source (vec_len self.old.frame) s from (λ y. written s to (if condition_holds condition a b then y else x) s.compared))))
             self.old self.new result }
     {
         let compared = self.compared;
@@ -186,8 +186,8 @@ impl Machine {
     /// Jumps where a condition holds.
     fn jump_if(&mut self, condition: Condition, target: usize) -> Option<Standing>
         requires room { self.old.pc + 1 < 2 ^ 64 }
-        ensures { let s = machine_of self.old in Makes (with_compared s.compared
-            (λ a b. jumped s (if holds condition a b then target else s.pc + 1))) self.old self.new result }
+        ensures { let s = machine_state self.old in MakesOutcome (with_compared s.compared
+            (λ a b. jumped s (if condition_holds condition a b then target else s.pc + 1))) self.old self.new result }
     {
         let (left, right) = self.compared?;
         if does_hold(condition, left, right) {
@@ -201,7 +201,7 @@ impl Machine {
     /// Executes an instruction; nothing where the machine is stuck at it.
     fn execute(&mut self, arguments: &[u64], instruction: Instruction) -> Option<Standing>
         requires room { self.old.pc + 1 < 2 ^ 64 }
-        ensures { Makes (executed (arguments_of arguments.now) (vec_len self.old.frame) (Some instruction) (machine_of self.old))
+        ensures { MakesOutcome (executed (arguments_of arguments.now) (vec_len self.old.frame) (Some instruction) (machine_state self.old))
             self.old self.new result }
     {
         let compared = self.compared;
@@ -244,7 +244,7 @@ impl Machine {
     /// Makes a step.
     fn step(&mut self, code: &Code, arguments: &[u64]) -> Standing
         requires { vec_len self.old.frame ≡ code.now.slots }
-        ensures step { machine_step (code_of code.now) (arguments_of arguments.now) (machine_of self.old) ≡ stands result (machine_of self.new) }
+        ensures step { machine_step (code_of code.now) (arguments_of arguments.now) (machine_state self.old) ≡ run_outcome result (machine_state self.new) }
         ensures frame { vec_len self.new.frame ≡ vec_len self.old.frame }
     {
         match code.instructions.get(self.pc) {

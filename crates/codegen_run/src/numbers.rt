@@ -1,7 +1,7 @@
 //! What is computed of numbers of 64 bits.
 
 ghost use Rattle.std.specs.Prelude.{◌≡◌, slice_index};
-ghost use Rattle.codegen_ir.specs.Numbers.{computed, holds, shifted, signed_rank};
+ghost use Rattle.codegen_ir.specs.Numbers.{computed, condition_holds, shifted, signed_rank};
 ghost use Rattle.codegen_run.specs.Runs.{arguments_of};
 
 use codegen_ir::{Condition, Operator, ShiftOperator};
@@ -42,7 +42,7 @@ fn signed_rank(number: u64) -> u64
 
 /// Whether a condition holds.
 pub fn does_hold(condition: Condition, left: u64, right: u64) -> bool
-    ensures { result ≡ holds condition left right }
+    ensures { result ≡ condition_holds condition left right }
 {
     match condition {
         Condition::Equal => left == right,

@@ -6,9 +6,9 @@ ghost use Rattle.regalloc2_function.specs.FunctionValue.{block_at};
 ghost use Rattle.regalloc2_function.specs.Path.{first_of};
 ghost use Rattle.regalloc2_function.specs.SourceRun.{arguments_at};
 ghost use Rattle.codegen_ir.specs.Meaning.{along, count_number, onward, right_number, procedure_run, procedure_step};
-ghost use Rattle.codegen_ir.specs.Seen.{function_of, operations};
-ghost use Rattle.codegen_run.specs.Runs.{arguments_of, first_state, standing_of, stands};
-ghost use Rattle.codegen_run.specs.States.{numbers_of, state_of};
+ghost use Rattle.codegen_ir.specs.Seen.{function_of_procedure, operations};
+ghost use Rattle.codegen_run.specs.Runs.{arguments_of, first_state, standing_of, run_outcome};
+ghost use Rattle.codegen_run.specs.States.{numbers_by_vreg, state_of};
 
 use super::numbers::{argument, compute, does_hold, shift};
 use super::standing::Standing;
@@ -31,14 +31,14 @@ pub struct State {
 
 /// The number of a virtual register.
 fn number_of(numbers: &Numbers, vreg: VReg) -> u64
-    ensures { result ≡ numbers_of numbers.now vreg }
+    ensures { result ≡ numbers_by_vreg numbers.now vreg }
 {
     numbers.get(&(vreg.bits() as u32)).copied().unwrap_or(0)
 }
 
 /// Puts a number into a virtual register.
 fn put(numbers: &mut Numbers, vreg: VReg, number: u64) -> Result<(), AllocError>
-    ensures { OnOk result (numbers_of numbers.new ≡ number_set (numbers_of numbers.old) vreg number) }
+    ensures { OnOk result (numbers_by_vreg numbers.new ≡ number_set (numbers_by_vreg numbers.old) vreg number) }
 {
     numbers.insert(vreg.bits() as u32, number)?;
     Ok(())
@@ -46,7 +46,7 @@ fn put(numbers: &mut Numbers, vreg: VReg, number: u64) -> Result<(), AllocError>
 
 /// The numbers of virtual registers.
 fn numbers_at(alloc: Global, numbers: &Numbers, vregs: &[VReg]) -> Result<Vec<u64>, AllocError>
-    ensures { IfOk result (λ ns. ns.items ≡ map (numbers_of numbers.now) vregs.now) }
+    ensures { IfOk result (λ ns. ns.items ≡ map (numbers_by_vreg numbers.now) vregs.now) }
 {
     vregs
         .iter()
@@ -61,8 +61,8 @@ fn pass(
     params: &[VReg],
     arguments: &[VReg],
 ) -> Result<(), AllocError>
-    ensures { OnOk result (numbers_of numbers.new
-        ≡ passed_on params.now arguments.now (numbers_of numbers.old) (numbers_of numbers.old)) }
+    ensures { OnOk result (numbers_by_vreg numbers.new
+        ≡ passed_on params.now arguments.now (numbers_by_vreg numbers.old) (numbers_by_vreg numbers.old)) }
 {
     let values = numbers_at(alloc, numbers, arguments)?;
     for at in 0..params.len().min(values.len()) {
@@ -73,8 +73,8 @@ fn pass(
 
 /// The arguments for the successor of a block at a position.
 fn arguments_for(procedure: &Procedure, block: Block, position: usize) -> &[VReg]
-    requires { block < length (function_of procedure.now).blocks }
-    ensures { result.now ≡ arguments_at (function_of procedure.now) block position }
+    requires { block < length (function_of_procedure procedure.now).blocks }
+    ensures { result.now ≡ arguments_at (function_of_procedure procedure.now) block position }
 {
     match procedure.parts[block.index()].arguments.get(position) {
         Some(arguments) => arguments,
@@ -84,7 +84,7 @@ fn arguments_for(procedure: &Procedure, block: Block, position: usize) -> &[VReg
 
 /// The parameters of a block.
 fn params_of(procedure: &Procedure, block: usize) -> &[VReg]
-    ensures { result.now ≡ (block_at (function_of procedure.now) block).params }
+    ensures { result.now ≡ (block_at (function_of_procedure procedure.now) block).params }
 {
     if block < procedure.num_blocks() {
         procedure.block_params(Block::new(block))
@@ -95,7 +95,7 @@ fn params_of(procedure: &Procedure, block: usize) -> &[VReg]
 
 /// The number of a block's first line.
 fn first_line(procedure: &Procedure, block: usize) -> usize
-    ensures { result ≡ (first_of (function_of procedure.now) block).inst }
+    ensures { result ≡ (first_of (function_of_procedure procedure.now) block).inst }
 {
     if block >= procedure.num_blocks() {
         return 0;
@@ -114,7 +114,7 @@ impl State {
 
     /// A second number.
     fn right(&self, right: Right) -> u64
-        ensures { result ≡ right_number (numbers_of self.now.numbers) right }
+        ensures { result ≡ right_number (numbers_by_vreg self.now.numbers) right }
     {
         match right {
             Right::VReg(vreg) => self.number(vreg),
@@ -124,7 +124,7 @@ impl State {
 
     /// A count of places.
     fn count(&self, count: Count) -> u64
-        ensures { result ≡ count_number (numbers_of self.now.numbers) count }
+        ensures { result ≡ count_number (numbers_by_vreg self.now.numbers) count }
     {
         match count {
             Count::VReg(vreg) => self.number(vreg),
@@ -135,7 +135,7 @@ impl State {
     /// Goes on with the next line of the block, where a virtual register has been written.
     fn write(&mut self, to: VReg, number: u64) -> Result<Standing, AllocError>
         requires room { self.old.inst + 1 < 2 ^ 64 }
-        ensures { IfOk result (λ r. onward (state_of self.old) to number ≡ stands r (state_of self.new)) }
+        ensures { IfOk result (λ r. onward (state_of self.old) to number ≡ run_outcome r (state_of self.new)) }
     {
         put(&mut self.numbers, to, number)?;
         self.inst += 1;
@@ -149,7 +149,7 @@ impl State {
         procedure: &Procedure,
         position: usize,
     ) -> Result<Standing, AllocError>
-        ensures { IfOk result (λ r. along (function_of procedure.now) (state_of self.old) position ≡ stands r (state_of self.new)) }
+        ensures { IfOk result (λ r. along (function_of_procedure procedure.now) (state_of self.old) position ≡ run_outcome r (state_of self.new)) }
     {
         if self.block >= procedure.num_blocks() {
             return Ok(Standing::Stuck);
@@ -178,8 +178,8 @@ impl State {
         procedure: &Procedure,
         arguments: &[u64],
     ) -> Result<Standing, AllocError>
-        ensures { IfOk result (λ r. procedure_step (function_of procedure.now) (operations procedure.now) (arguments_of arguments.now) (state_of self.old)
-            ≡ stands r (state_of self.new)) }
+        ensures { IfOk result (λ r. procedure_step (function_of_procedure procedure.now) (operations procedure.now) (arguments_of arguments.now) (state_of self.old)
+            ≡ run_outcome r (state_of self.new)) }
     {
         let Some(line) = procedure.lines.get(self.inst) else {
             return Ok(Standing::Stuck);
@@ -254,7 +254,7 @@ pub fn run_procedure(
     arguments: &[u64],
     steps: u64,
 ) -> Result<Standing, AllocError>
-    ensures { IfOk result (λ r. r ≡ standing_of (procedure_run (function_of procedure.now) (operations procedure.now) (arguments_of arguments.now) steps
+    ensures { IfOk result (λ r. r ≡ standing_of (procedure_run (function_of_procedure procedure.now) (operations procedure.now) (arguments_of arguments.now) steps
         (first_state procedure.now))) }
 {
     let mut state = State {

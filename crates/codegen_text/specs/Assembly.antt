@@ -57,12 +57,12 @@ condition_letters SignedGreater = codes "g"
 condition_letters SignedGreaterOrEqual = codes "ge"
 
 -- eight bytes of memory at a register
-abbrev pub slot_text : ℕ → List ℕ
-slot_text k = codes "8*" ++ decimal k ++ codes "(%rsp)"
+abbrev pub frame_slot_text : ℕ → List ℕ
+frame_slot_text k = codes "8*" ++ decimal k ++ codes "(%rsp)"
 
 abbrev pub source_text : Source → List ℕ
 source_text (Register r) = register_name r
-source_text (Slot k) = slot_text k
+source_text (Slot k) = frame_slot_text k
 source_text (Number n) = codes "$" ++ decimal n
 
 -- an instruction, as addq %rcx, %rax
@@ -71,8 +71,8 @@ instruction_text (variant.Constant to n) = codes "movabsq $" ++ decimal n ++ cod
 instruction_text (variant.Clear to) = codes "xorq " ++ register_name to ++ codes ", " ++ register_name to
 instruction_text (variant.Argument to k) = codes "movq 8*" ++ decimal k ++ codes "(%rdi), " ++ register_name to
 instruction_text (variant.Move to from) = codes "movq " ++ register_name from ++ codes ", " ++ register_name to
-instruction_text (variant.Load to k) = codes "movq " ++ slot_text k ++ codes ", " ++ register_name to
-instruction_text (variant.Store k from) = codes "movq " ++ register_name from ++ codes ", " ++ slot_text k
+instruction_text (variant.Load to k) = codes "movq " ++ frame_slot_text k ++ codes ", " ++ register_name to
+instruction_text (variant.Store k from) = codes "movq " ++ register_name from ++ codes ", " ++ frame_slot_text k
 instruction_text (variant.Compute o to from) = operator_name o ++ codes " " ++ source_text from ++ codes ", " ++ register_name to
 instruction_text (variant.Shift o to) = shift_name o ++ codes " %cl, " ++ register_name to
 instruction_text (variant.ShiftBy o to n) = shift_name o ++ codes " $" ++ decimal n ++ codes ", " ++ register_name to

@@ -12,27 +12,27 @@ use Rattle.example_toy.specs.declared.code.Part.{Part}
 use Rattle.example_toy.specs.declared.code.Code.{Code}
 
 -- the kinds that go on to a successor
-abbrev pub is_jump : Kind → Bool
-is_jump Argument = false
-is_jump (Number n) = false
-is_jump Add = false
-is_jump Sub = false
-is_jump Jump = true
-is_jump Fork = true
-is_jump Return = false
+abbrev pub is_jump_kind : Kind → Bool
+is_jump_kind Argument = false
+is_jump_kind (Number n) = false
+is_jump_kind Add = false
+is_jump_kind Sub = false
+is_jump_kind Jump = true
+is_jump_kind Fork = true
+is_jump_kind Return = false
 
 -- the kind that returns
-abbrev pub is_return : Kind → Bool
-is_return Argument = false
-is_return (Number n) = false
-is_return Add = false
-is_return Sub = false
-is_return Jump = false
-is_return Fork = false
-is_return Return = true
+abbrev pub is_return_kind : Kind → Bool
+is_return_kind Argument = false
+is_return_kind (Number n) = false
+is_return_kind Add = false
+is_return_kind Sub = false
+is_return_kind Jump = false
+is_return_kind Fork = false
+is_return_kind Return = true
 
 abbrev pub inst_of : Line → InstValue
-inst_of l = record { operands = l.operands.items; clobbers = l.clobbers; is_branch = is_jump l.kind; is_ret = is_return l.kind }
+inst_of l = record { operands = l.operands.items; clobbers = l.clobbers; is_branch = is_jump_kind l.kind; is_ret = is_return_kind l.kind }
 
 abbrev pub block_of : Part → BlockValue
 block_of b = record { range = b.range; succs = b.succs.items; preds = b.preds.items; params = b.params.items; arguments = map (λ v. v.items) b.arguments.items }

@@ -14,7 +14,7 @@ use Rattle.regalloc2_checker.specs.Report.{IsReport}
 use Rattle.regalloc2_checker.specs.Text.{fault_text}
 use Rattle.regalloc2_checker.specs.declared.errors.CheckerError.{CheckerError}
 use Rattle.regalloc2_checker.specs.declared.errors.CheckerError.TheVariants.{MalformedOutput, Memory}
-use Rattle.ra2_program.specs.Findings.{AreFindings, IsJudged, findings_text, malformed, faults, memory}
+use Rattle.ra2_program.specs.Findings.{AreFindings, IsOutputJudged, findings_text, malformed, faults, memory}
 use Rattle.ra2_program.specs.Text.{checked_line}
 
 -- one more line
@@ -38,22 +38,22 @@ Writes r b old new text = IfOk r (λ a. (a ≡ b) × Appends old new text)
 -- an output that isn't accepted, for these errors
 judged : {A E : Type 0} (r : Result Bool E) (f : FunctionValue) (env : MachineValue) (out : OutputValue) (old new : Option (List ℕ))
     (es : List (CheckerError A)) → AreFindings f env out es →
-    Writes r false old new (findings_text es) → IfOk r (IsJudged A f env out (Appends old new))
-unfolding IsJudged
-judged {A} (Ok b) f env out old new es h w = subst (λ a. IsJudged A f env out (Appends old new) a) (sym w.0) (es, h, w.1)
+    Writes r false old new (findings_text es) → IfOk r (IsOutputJudged A f env out (Appends old new))
+unfolding IsOutputJudged
+judged {A} (Ok b) f env out old new es h w = subst (λ a. IsOutputJudged A f env out (Appends old new) a) (sym w.0) (es, h, w.1)
 judged (Err y) f env out old new es h w = tt
 
 -- no checker was made
 pub unmade : {A E : Type 0} (r : Result Bool E) (f : FunctionValue) (env : MachineValue) (out : OutputValue) (old new : Option (List ℕ))
     (e : CheckerError A) → e ≡ Memory →
-    Writes r false old new (findings_text (e ∷ [])) → IfOk r (IsJudged A f env out (Appends old new))
+    Writes r false old new (findings_text (e ∷ [])) → IfOk r (IsOutputJudged A f env out (Appends old new))
 unmade r f env out old new e h w = judged r f env out old new (e ∷ []) (subst (λ x. AreFindings f env out (x ∷ [])) (sym h) memory) w
 
 -- the output wasn't taken
 pub untaken : {A E : Type 0} (r : Result Bool E) (f own : FunctionValue) (env : MachineValue) (out : OutputValue) (old new : Option (List ℕ))
     (e : CheckerError A) → own ≡ f →
     ((e ≡ MalformedOutput) × (IsInOrder own out → ⊥)) ⊎ ((e ≡ Memory) × IsInOrder own out) → Writes r false old new (findings_text (e ∷ [])) →
-    IfOk r (IsJudged A f env out (Appends old new))
+    IfOk r (IsOutputJudged A f env out (Appends old new))
 untaken r f own env out old new e s (inl m) w =
     judged r f env out old new (e ∷ []) (subst (λ x. AreFindings f env out (x ∷ [])) (sym m.0) (malformed (λ i. m.1 (subst (λ g. IsInOrder g out) (sym s) i))))
     w
@@ -68,7 +68,7 @@ here f env out es (inr m) = faults es m.0 m.1
 pub faulty : {A E : Type 0} (r : Result Bool E) (f own : FunctionValue) (env mine : MachineValue) (out : OutputValue) (old new : Option (List ℕ))
     (es shown : List (CheckerError A)) → own ≡ f → mine ≡ env →
     (es ≡ Memory ∷ []) ⊎ ((IsFaithful own mine out → ⊥) × IsReport own mine out es) → shown ≡ es → Writes r false old new (findings_text shown) →
-    IfOk r (IsJudged A f env out (Appends old new))
+    IfOk r (IsOutputJudged A f env out (Appends old new))
 faulty r f own env mine out old new es shown s m h e w =
     let found : AreFindings f env out es = subst (λ g. AreFindings g env out es) s (subst (λ k. AreFindings own k out es) m (here own mine out es h)) in
     judged r f env out old new shown (subst (λ x. AreFindings f env out x) (sym e) found) w
@@ -77,10 +77,10 @@ faulty r f own env mine out old new es shown s m h e w =
 pub faithful : (A : Type 0) {E : Type 0} (r : Result Bool E) (f own : FunctionValue) (env mine : MachineValue) (out : OutputValue) (held : Option OutputValue)
     (old new : Option (List ℕ)) → own ≡ f → mine ≡ env → held ≡ Some out → IsInOrder f out →
     (o : OutputValue) × (held ≡ Some o) × IsFaithful own mine o → Writes r true old new checked_line →
-    IfOk r (IsJudged A f env out (Appends old new))
-unfolding IsJudged
+    IfOk r (IsOutputJudged A f env out (Appends old new))
+unfolding IsOutputJudged
 faithful A (Ok b) f own env mine out held old new s m e i h w =
     let prepared : h.0 ≡ out = cc in
-    subst (λ a. IsJudged A f env out (Appends old new) a) (sym w.0)
+    subst (λ a. IsOutputJudged A f env out (Appends old new) a) (sym w.0)
     (i, subst (λ g. IsFaithful g env out) s (subst (λ k. IsFaithful own k out) m (subst (λ o. IsFaithful own mine o) prepared h.2)), w.1)
 faithful A (Err y) f own env mine out held old new s m e i h w = tt

@@ -8,9 +8,9 @@ use Rattle.regalloc2_function.specs.FunctionValue.{FunctionValue}
 use Rattle.regalloc2_function.specs.Machine.{MachineValue}
 use Rattle.regalloc2_function.specs.OutputValue.{OutputValue}
 use Rattle.regalloc2_tool.specs.Listing.{listing_text}
-use Rattle.ra2_program.specs.Findings.{IsJudged, findings_text}
-use Rattle.ra2_program.specs.Input.{AreGiven, IsGiven}
-use Rattle.ra2_program.specs.Outcome.{IsAllocated, IsAnswered, IsOutcome, HasOutcome, refused, unaccepted}
+use Rattle.ra2_program.specs.Findings.{IsOutputJudged, findings_text}
+use Rattle.ra2_program.specs.Input.{AreGiven, TextNamesFitting}
+use Rattle.ra2_program.specs.Outcome.{IsWellFormedAllocation, IsAnswerWritten, IsOutcome, HasOutcome, refused, unaccepted}
 use Rattle.ra2_program.specs.Text.{refusal_line, checked_line}
 use Rattle.ra2_program.specs.declared.task.Command.{Command}
 use Rattle.ra2_program.specs.declared.task.Command.TheVariants.{Allocate, Replay}
@@ -19,18 +19,18 @@ use Rattle.ra2_program.specs.declared.task.Task.TheVariants.{Run, Check}
 
 -- the bytes of the writer before the listing, after it, and after the judgement
 pub judged : (A : Type 0) {E : Type 0} (task : Task) (f : FunctionValue) (env : MachineValue) (out : OutputValue) (old listed new : Option (List ℕ))
-    (r : Result Bool E) → task ≡ Check → IsAllocated f env out →
-    Appends old listed (listing_text f out) → IfOk r (IsJudged A f env out (Appends listed new)) → IfOk r (IsOutcome A task f env (Appends old new))
-unfolding IsJudged
+    (r : Result Bool E) → task ≡ Check → IsWellFormedAllocation f env out →
+    Appends old listed (listing_text f out) → IfOk r (IsOutputJudged A f env out (Appends listed new)) → IfOk r (IsOutcome A task f env (Appends old new))
+unfolding IsOutputJudged
 judged A task f env out old listed new (Ok true) e a w h =
-    (out, a, subst (λ t. IsAnswered t f env out (Appends old new)) (sym e) (h.1, Appends-trans old listed new (listing_text f out) checked_line w h.2))
+    (out, a, subst (λ t. IsAnswerWritten t f env out (Appends old new)) (sym e) (h.1, Appends-trans old listed new (listing_text f out) checked_line w h.2))
 judged A task f env out old listed new (Ok false) e a w h =
     unaccepted out a e (h.0, h.1, Appends-trans old listed new (listing_text f out) (findings_text h.0) w h.2)
 judged A task f env out old listed new (Err y) e a w h = tt
 
 -- a flush changes no outcome
 answered : (task : Task) (f : FunctionValue) (env : MachineValue) (out : OutputValue) (old shown new : Option (List ℕ)) → Keeps shown new →
-    IsAnswered task f env out (Appends old shown) → IsAnswered task f env out (Appends old new)
+    IsAnswerWritten task f env out (Appends old shown) → IsAnswerWritten task f env out (Appends old new)
 answered Run f env out old shown new k w = Appends-kept old shown new (listing_text f out) w k
 answered Check f env out old shown new k w = (w.0, Appends-kept old shown new (listing_text f out ++ checked_line) w.1 k)
 
@@ -48,22 +48,22 @@ unbuffered (Some x) bs e = ap (λ ys. Some (x ++ ys)) e ∙ ap Some (append-nil 
 
 -- the outcome for a function that is given
 pub outcome : {A E : Type 0} (bytes : Option (List ℕ)) (task : Task) (f : FunctionValue) (env own : MachineValue) (old new : Option (List ℕ))
-    (r : Result Bool E) (o : Option Bool) → IsGiven A bytes f env → own ≡ env → o ≡ result_ok r → IfOk r (IsOutcome A task f own (Appends old new)) →
+    (r : Result Bool E) (o : Option Bool) → TextNamesFitting A bytes f env → own ≡ env → o ≡ result_ok r → IfOk r (IsOutcome A task f own (Appends old new)) →
     IfSome o (HasOutcome A bytes (Allocate task) (Appends old new))
 outcome {A} bytes task f env own old new (Ok b) o given e k h = rw k (f, env, given, subst (λ m. IsOutcome A task f m (Appends old new) b) e h)
 outcome bytes task f env own old new (Err y) o given e k h = rw k tt
 
 -- the outcome for an output that is given
 pub verdict : {A E : Type 0} (bytes : Option (List ℕ)) (f : FunctionValue) (env own : MachineValue) (out : OutputValue) (old new : Option (List ℕ))
-    (r : Result Bool E) (o : Option Bool) → AreGiven A bytes f env out → own ≡ env → o ≡ result_ok r → IfOk r (IsJudged A f own out (Appends old new)) →
+    (r : Result Bool E) (o : Option Bool) → AreGiven A bytes f env out → own ≡ env → o ≡ result_ok r → IfOk r (IsOutputJudged A f own out (Appends old new)) →
     IfSome o (HasOutcome A bytes Replay (Appends old new))
-verdict {A} bytes f env own out old new (Ok b) o given e k h = rw k (f, env, out, given, subst (λ m. IsJudged A f m out (Appends old new) b) e h)
+verdict {A} bytes f env own out old new (Ok b) o given e k h = rw k (f, env, out, given, subst (λ m. IsOutputJudged A f m out (Appends old new) b) e h)
 verdict bytes f env own out old new (Err y) o given e k h = rw k tt
 
 -- a flush changes no judgement
 still_judged : (A : Type 0) (f : FunctionValue) (env : MachineValue) (out : OutputValue) (old shown new : Option (List ℕ)) (accepted : Bool) → Keeps shown new →
-    IsJudged A f env out (Appends old shown) accepted → IsJudged A f env out (Appends old new) accepted
-unfolding IsJudged
+    IsOutputJudged A f env out (Appends old shown) accepted → IsOutputJudged A f env out (Appends old new) accepted
+unfolding IsOutputJudged
 still_judged A f env out old shown new true k h = (h.0, h.1, Appends-kept old shown new checked_line h.2 k)
 still_judged A f env out old shown new false k h = (h.0, h.1, Appends-kept old shown new (findings_text h.0) h.2 k)
 

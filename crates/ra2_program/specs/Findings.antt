@@ -25,6 +25,6 @@ abbrev pub IsUnaccepted : (A : Type 0) → FunctionValue → MachineValue → Ou
 IsUnaccepted A f env out IsWritten = (es : List (CheckerError A)) × AreFindings f env out es × IsWritten (findings_text es)
 
 -- what judging an output comes to: it is in order and faithful, and a line says so, or it isn't accepted
-unfoldable pub IsJudged : (A : Type 0) → FunctionValue → MachineValue → OutputValue → (List ℕ → Type 0) → Bool → Type 0
-IsJudged A f env out IsWritten true = IsInOrder f out × IsFaithful f env out × IsWritten checked_line
-IsJudged A f env out IsWritten false = IsUnaccepted A f env out IsWritten
+unfoldable pub IsOutputJudged : (A : Type 0) → FunctionValue → MachineValue → OutputValue → (List ℕ → Type 0) → Bool → Type 0
+IsOutputJudged A f env out IsWritten true = IsInOrder f out × IsFaithful f env out × IsWritten checked_line
+IsOutputJudged A f env out IsWritten false = IsUnaccepted A f env out IsWritten

@@ -12,7 +12,7 @@ use Rattle.regalloc2_function.specs.WellFormed.{IsFramed}
 use Rattle.regalloc2_function.specs.declared.serialize.StoredFault.{StoredFault}
 use Rattle.regalloc2_function.specs.declared.serialize.StoredFault.TheVariants.{Lengths, Index, Bits, Limit, Memory, Shape}
 use Rattle.regalloc2_function.specs.declared.serialize.StoredOutput.{StoredOutput}
-use Rattle.regalloc2_serialize.specs.Validity.{IsSound, IsFaultOf}
+use Rattle.regalloc2_serialize.specs.Validity.{IsSoundStored, IsFaultOf}
 use Rattle.regalloc2_serialize.specs.Decoded.{NamesFunction, NamesMachine}
 use Rattle.regalloc2_serialize.specs.JsonShape.{IsFunctionAt, output, output_data}
 use Rattle.regalloc2_serialize.specs.declared.data.StoredFunction.{StoredFunction}
@@ -43,23 +43,23 @@ IsOutputFault o Limit = ⊥
 IsOutputFault o Shape = ⊥
 
 -- the bytes are a text of sound numbers, held in an A's memory, which name this function and this machine
-pub record IsNamed (A : Type 0) (bytes : Option (List ℕ)) (f : FunctionValue) (env : MachineValue) : Type 0 where
+pub record TextNamesFunction (A : Type 0) (bytes : Option (List ℕ)) (f : FunctionValue) (env : MachineValue) : Type 0 where
   pub stored : StoredFunction A
   pub text : IsTextOf bytes stored
-  pub sound : IsSound stored
+  pub sound : IsSoundStored stored
   pub function : NamesFunction stored f
   pub machine : NamesMachine stored.machine_env env
 
 -- and the machine suits the function
-pub record IsGiven (A : Type 0) (bytes : Option (List ℕ)) (f : FunctionValue) (env : MachineValue) : Type 0 where
-  pub named : IsNamed A bytes f env
+pub record TextNamesFitting (A : Type 0) (bytes : Option (List ℕ)) (f : FunctionValue) (env : MachineValue) : Type 0 where
+  pub named : TextNamesFunction A bytes f env
   pub fits : MachineFits f env
 
 -- why the bytes give none; a failed read, and running out of memory, leave any bytes unreadable
 abbrev pub IsInputFault : (A : Type 0) → Option (List ℕ) → InputError → Type 0
 IsInputFault A bytes Unreadable = Unit {0}
 IsInputFault A bytes (BadFunction fault) = (s : StoredFunction A) × IsTextOf bytes s × IsFaultOf s fault
-IsInputFault A bytes BadMachine = (f : FunctionValue) × (env : MachineValue) × IsNamed A bytes f env × (MachineFits f env → ⊥)
+IsInputFault A bytes BadMachine = (f : FunctionValue) × (env : MachineValue) × TextNamesFunction A bytes f env × (MachineFits f env → ⊥)
 IsInputFault A bytes (BadOutput fault) = ⊥
 IsInputFault A bytes NotFramed = ⊥
 
@@ -68,11 +68,11 @@ abbrev pub IsTextOfPair : {A : Type 0} → Option (List ℕ) → StoredFunction 
 IsTextOfPair bytes s o = IfSome bytes (λ text. (d : Data) × (read text ≡ Some d) × IsPairAt d s o)
 
 -- the bytes are a text of sound numbers, which name this function, this machine and this output
-pub record AreNamed (A : Type 0) (bytes : Option (List ℕ)) (f : FunctionValue) (env : MachineValue) (out : OutputValue) : Type 0 where
+pub record TextNamesOutput (A : Type 0) (bytes : Option (List ℕ)) (f : FunctionValue) (env : MachineValue) (out : OutputValue) : Type 0 where
   pub stored : StoredFunction A
   pub stored_output : StoredOutput A
   pub text : IsTextOfPair bytes stored stored_output
-  pub sound : IsSound stored
+  pub sound : IsSoundStored stored
   pub function : NamesFunction stored f
   pub machine : NamesMachine stored.machine_env env
   pub names : NamesValues stored_output
@@ -80,13 +80,13 @@ pub record AreNamed (A : Type 0) (bytes : Option (List ℕ)) (f : FunctionValue)
 
 -- and the function is framed, so that the output can be judged
 pub record AreGiven (A : Type 0) (bytes : Option (List ℕ)) (f : FunctionValue) (env : MachineValue) (out : OutputValue) : Type 0 where
-  pub named : AreNamed A bytes f env out
+  pub named : TextNamesOutput A bytes f env out
   pub framed : IsFramed f
 
 -- why the bytes give none; a failed read, and running out of memory, leave any bytes unreadable
 abbrev pub IsPairFault : (A : Type 0) → Option (List ℕ) → InputError → Type 0
 IsPairFault A bytes Unreadable = Unit {0}
 IsPairFault A bytes (BadFunction fault) = (s : StoredFunction A) × (o : StoredOutput A) × IsTextOfPair bytes s o × IsFaultOf s fault
-IsPairFault A bytes (BadOutput fault) = (s : StoredFunction A) × (o : StoredOutput A) × IsTextOfPair bytes s o × IsSound s × IsOutputFault o fault
-IsPairFault A bytes NotFramed = (f : FunctionValue) × (env : MachineValue) × (out : OutputValue) × AreNamed A bytes f env out × (IsFramed f → ⊥)
+IsPairFault A bytes (BadOutput fault) = (s : StoredFunction A) × (o : StoredOutput A) × IsTextOfPair bytes s o × IsSoundStored s × IsOutputFault o fault
+IsPairFault A bytes NotFramed = (f : FunctionValue) × (env : MachineValue) × (out : OutputValue) × TextNamesOutput A bytes f env out × (IsFramed f → ⊥)
 IsPairFault A bytes BadMachine = ⊥

@@ -5,7 +5,7 @@ ghost use Rattle.std.specs.Io.KnownBytes.{Appends};
 ghost use Rattle.regalloc2_function.specs.Views.{machine_of, output_of};
 ghost use Rattle.regalloc2_function.specs.WellFormed.{IsFramed};
 ghost use Rattle.regalloc2_function.specs.Fitting.{MachineFits};
-ghost use Rattle.ra2_program.specs.Findings.{IsJudged, findings_text};
+ghost use Rattle.ra2_program.specs.Findings.{IsOutputJudged, findings_text};
 ghost use Rattle.ra2_program.specs.Outcome.{IsOutcome};
 ghost use Rattle.ra2_program.specs.Text.{checked_line};
 
@@ -63,7 +63,7 @@ pub fn judge<A: Allocator + Copy, F: Function, O: Write>(
     out: &mut O,
 ) -> io::Result<bool>
     requires framed { IsFramed (F.function f.now) }
-    ensures { IfOk result (IsJudged A (F.function f.now) (machine_of env.now) (output_of output.now) (Appends (O.contents out.old) (O.contents out.new))) }
+    ensures { IfOk result (IsOutputJudged A (F.function f.now) (machine_of env.now) (output_of output.now) (Appends (O.contents out.old) (O.contents out.new))) }
 {
     let mut checker = match Checker::new(alloc, f, env) {
         Ok(checker) => checker,

@@ -2,8 +2,8 @@
 
 ghost use Rattle.std.specs.Prelude.{Some, IfOk, IfErr, IfSome};
 ghost use Rattle.regalloc2_function.specs.Views.{machine_of, output_of};
-ghost use Rattle.regalloc2_serialize.specs.Tables.{function_of};
-ghost use Rattle.ra2_program.specs.Input.{AreGiven, IsTextOf, IsTextOfPair, IsGiven, IsInputFault, IsPairFault};
+ghost use Rattle.regalloc2_serialize.specs.Tables.{function_of_serializable};
+ghost use Rattle.ra2_program.specs.Input.{AreGiven, IsTextOf, IsTextOfPair, TextNamesFitting, IsInputFault, IsPairFault};
 ghost use Rattle.ra2_program.specs.Text.{input_text};
 
 use regalloc2::serialize::{
@@ -71,7 +71,7 @@ pub fn function_from<A: Allocator + Copy, R: Read + Drop>(
     alloc: A,
     input: R,
 ) -> Result<SerializableFunction<A>, InputError>
-    ensures ok { IfOk result (λ f. IsGiven A (R.remaining input) (function_of f) (machine_of f.machine)) }
+    ensures ok { IfOk result (λ f. TextNamesFitting A (R.remaining input) (function_of_serializable f) (machine_of f.machine)) }
     ensures err { IfErr result (IsInputFault A (R.remaining input)) }
 {
     let Some(stored) = stored_from(global, alloc, input) else {
@@ -112,7 +112,7 @@ pub fn replay_from<A: Allocator + Copy, R: Read + Drop>(
     alloc: A,
     input: R,
 ) -> Result<(SerializableFunction<A>, Output<A>), InputError>
-    ensures ok { IfOk result (λ pair. AreGiven A (R.remaining input) (function_of pair.0) (machine_of pair.0.machine) (output_of pair.1)) }
+    ensures ok { IfOk result (λ pair. AreGiven A (R.remaining input) (function_of_serializable pair.0) (machine_of pair.0.machine) (output_of pair.1)) }
     ensures err { IfErr result (IsPairFault A (R.remaining input)) }
 {
     let Some((stored, stored_output)) = stored_pair_from(global, alloc, input) else {

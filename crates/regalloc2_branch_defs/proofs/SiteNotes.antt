@@ -9,7 +9,7 @@ use Rattle.regalloc2_function.specs.WellFormed.{last_of}
 use Rattle.regalloc2_cfg.specs.TableLength.{HasRoom}
 use Rattle.regalloc2_branch_defs.specs.BranchDefs.{DefinesNumber, IsSite, MayHaveTables}
 use Rattle.regalloc2_branch_defs.specs.Notes.{NotesBranch, NotesSites}
-use Rattle.regalloc2_branch_defs.specs.Tables.{AreSites}
+use Rattle.regalloc2_branch_defs.specs.Tables.{AreDefSites}
 use Rattle.regalloc2_branch_defs.specs.declared.DefSite.{DefSite}
 use Rattle.regalloc2_branch_defs.proofs.BlockEnds.{branch_ends_block, last_within, site_defines}
 use Rattle.regalloc2_branch_defs.proofs.RoomForNumbers.{defined_room}
@@ -89,7 +89,7 @@ sites_more f w b lt old new h notes = elim (cases_Bool (inst_at f (last_of (bloc
 ]
 
 -- and so all are
-pub sites_all : (f : FunctionValue) → MayHaveTables f → (sites : List (Option DefSite)) → SitesUpTo f (length f.blocks) sites → AreSites f sites
+pub sites_all : (f : FunctionValue) → MayHaveTables f → (sites : List (Option DefSite)) → SitesUpTo f (length f.blocks) sites → AreDefSites f sites
 sites_all f w sites h = record {
   site = h.site;
   no_site = λ n e i k s.

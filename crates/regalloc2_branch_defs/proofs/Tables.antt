@@ -3,7 +3,7 @@ use Rattle.std.proofs.Common.{ℕ, ◌≡◌, List, [], length, sym, ap, ◌∙�
 use Rattle.std.specs.Prelude.{Option, None, Some, slice_index_or}
 use Rattle.regalloc2_function.specs.FunctionValue.{FunctionValue}
 use Rattle.regalloc2_branch_defs.specs.BranchDefs.{HasDefinitions, MayHaveTables}
-use Rattle.regalloc2_branch_defs.specs.Tables.{AreBranchDefsOf, AreEdges, AreSites}
+use Rattle.regalloc2_branch_defs.specs.Tables.{AreBranchDefsOf, AreEdges, AreDefSites}
 use Rattle.regalloc2_branch_defs.specs.declared.BranchDefs.{BranchDefs}
 use Rattle.regalloc2_branch_defs.proofs.BlockEnds.{no_site_without}
 
@@ -21,7 +21,7 @@ tables_none f t w none no_sites no_edges = record {
 }
 
 -- and else they are those of all blocks
-pub tables_all : {A : Type 0} (f : FunctionValue) (t : BranchDefs A) → AreSites f t.sites.items →
+pub tables_all : {A : Type 0} (f : FunctionValue) (t : BranchDefs A) → AreDefSites f t.sites.items →
     AreEdges f (length f.blocks) t.edges.items t.stored.items → AreBranchDefsOf f t
 tables_all f t sites edges = record {
   site = sites.site;

@@ -7,18 +7,19 @@ use Rattle.regalloc2_names.specs.declared.OperandPos.{OperandPos}
 use Rattle.regalloc2_names.specs.declared.OperandPos.TheVariants.{Early, Late}
 use Rattle.regalloc2_names.specs.Operand.{OperandValue, is_def, is_reading}
 use Rattle.regalloc2_names.specs.Register.{VirtualRegister}
-use Rattle.regalloc2_function.specs.FunctionValue.{FunctionValue, block_at, inst_at}
+use Rattle.regalloc2_function.specs.FunctionValue.{FunctionValue, block_at, inst_at, no_operand}
 use Rattle.regalloc2_function.specs.DebugPoints.{DefinesAt, PassesAt, ReadsAt, UsesAt}
 use Rattle.regalloc2_function.specs.WellFormed.{last_of}
-use Rattle.regalloc2_semantics.specs.Listing.{no_operand, op_at}
+use Rattle.regalloc2_function.specs.FunctionValue.{op_at}
 use Rattle.regalloc2_semantics.proofs.SingleDef.{Made, is_made, made_before, one_made, one_operand, reads_defined}
 use Rattle.regalloc2_semantics.proofs.SingleDef.{DefinesAt as DefinesOperand}
 use Rattle.regalloc2_semantics.proofs.SingleDef.Made.{by_operand}
 use Rattle.regalloc2_semantics.proofs.Order.{passed_made}
 use Rattle.regalloc2_cfg.specs.TableLength.{HasRoom}
+use Rattle.regalloc2_cfg.specs.MarkedNumbers.{Marks}
 use Rattle.regalloc2_branch_defs.specs.BranchDefs.{DefinesNumber, IsSite, IsUsedElsewhere, MayHaveTables}
-use Rattle.regalloc2_branch_defs.specs.Notes.{AreUsed, IsSiteAt, Marks, PassesAmong, PassesIn, PassesOut, ReadsIn}
-use Rattle.regalloc2_branch_defs.specs.Tables.{AreSites}
+use Rattle.regalloc2_branch_defs.specs.Notes.{AreUsed, IsSiteAt, PassesAmong, PassesIn, PassesOut, ReadsIn}
+use Rattle.regalloc2_branch_defs.specs.Tables.{AreDefSites}
 use Rattle.regalloc2_branch_defs.specs.declared.DefSite.{DefSite}
 use Rattle.regalloc2_branch_defs.proofs.BlockEnds.{goes_on_by_branch, site_defines}
 use Rattle.regalloc2_branch_defs.proofs.RoomForNumbers.{made_room}
@@ -95,7 +96,7 @@ defines_there f v i d =
     }
 
 -- where a branch defines v, it is noted as the one that does
-noted_there : (f : FunctionValue) → MayHaveTables f → (sites : List (Option DefSite)) → AreSites f sites → (v : VirtualRegister) (i : ℕ) →
+noted_there : (f : FunctionValue) → MayHaveTables f → (sites : List (Option DefSite)) → AreDefSites f sites → (v : VirtualRegister) (i : ℕ) →
     (inst_at f i).is_branch ≡ true → DefinesAt f v i → IsSiteAt sites v.number i
 noted_there f w sites are v i branch d =
     let s : IsSite f v.number i d.1.0 = record { inst = d.0; is_branch = branch; defines = defines_there f v i d } in
@@ -109,7 +110,7 @@ noted_there f w sites are v i branch d =
         (t.index, e ∙ ap (λ (m : ℕ). Some (record { branch = m; index = t.index })) same)
 
 -- what a branch passes and isn't noted to define is used elsewhere
-passed_used : (f : FunctionValue) → MayHaveTables f → (sites : List (Option DefSite)) → AreSites f sites → (b k : ℕ) → b < length f.blocks →
+passed_used : (f : FunctionValue) → MayHaveTables f → (sites : List (Option DefSite)) → AreDefSites f sites → (b k : ℕ) → b < length f.blocks →
     k < length (block_at f b).succs → (v : VirtualRegister) → Contains (slice_index_or (block_at f b).arguments k []) v →
     (IsSiteAt sites v.number (last_of (block_at f b)) → ⊥) → IsUsedElsewhere f v
 passed_used f w sites are b k lt edge v has free =
@@ -117,7 +118,7 @@ passed_used f w sites are b k lt edge v has free =
     (i, inr (inr (b, k, lt, refl, edge, has, λ d. free (noted_there f w sites are v i (goes_on_by_branch f w b k lt edge) d))))
 
 -- and what it passes and doesn't define isn't noted as its definition
-not_noted : (f : FunctionValue) → MayHaveTables f → (sites : List (Option DefSite)) → AreSites f sites → (b k : ℕ) → b < length f.blocks →
+not_noted : (f : FunctionValue) → MayHaveTables f → (sites : List (Option DefSite)) → AreDefSites f sites → (b k : ℕ) → b < length f.blocks →
     k < length (block_at f b).succs → (v : VirtualRegister) → Contains (slice_index_or (block_at f b).arguments k []) v →
     (DefinesAt f v (last_of (block_at f b)) → ⊥) → IsSiteAt sites v.number (last_of (block_at f b)) → ⊥
 not_noted f w sites are b k lt edge v has free at =
@@ -142,7 +143,7 @@ read_room f w n room i k lt few reads =
 pub reads_within : (ops : List OperandValue) (k : ℕ) → k < length ops → (o : OperandValue) → slice_index_or ops k o ≡ o → op_at ops k ≡ o
 reads_within ops k lt o e = get_or_default ops k no_operand o lt ∙ e
 
-module _ (f : FunctionValue) (w : MayHaveTables f) (sites : List (Option DefSite)) (are : AreSites f sites) (none mid new : List Bool)
+module _ (f : FunctionValue) (w : MayHaveTables f) (sites : List (Option DefSite)) (are : AreDefSites f sites) (none mid new : List Bool)
     (room : HasRoom f (length none)) (middle : length mid ≡ length none) (blank : (n : ℕ) → slice_index_or none n false ≡ false)
     (reads : Marks (ReadsIn f (length f.insts)) none mid) (passes : Marks (PassesIn f sites (length f.blocks)) mid new) where
   -- what is marked as passed

@@ -6,7 +6,7 @@ use Rattle.regalloc2_function.specs.FunctionValue.{FunctionValue, block_at, inst
 use Rattle.regalloc2_function.specs.Machine.{MachineValue}
 use Rattle.regalloc2_function.specs.DebugPoints.{UsesAt}
 use Rattle.regalloc2_function.specs.WellFormed.{IsWellFormed, last_of}
-use Rattle.regalloc2_semantics.specs.Listing.{op_at}
+use Rattle.regalloc2_function.specs.FunctionValue.{op_at}
 use Rattle.regalloc2_semantics.specs.Blocks.{HasEdge, target_at}
 
 -- the operand of an index defines the number n

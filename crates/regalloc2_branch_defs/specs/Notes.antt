@@ -5,7 +5,7 @@ use Rattle.regalloc2_names.specs.Register.{VirtualRegister}
 use Rattle.regalloc2_names.specs.Operand.{OperandValue, is_reading}
 use Rattle.regalloc2_function.specs.FunctionValue.{FunctionValue, block_at, inst_at}
 use Rattle.regalloc2_function.specs.WellFormed.{last_of}
-use Rattle.regalloc2_semantics.specs.Listing.{op_at}
+use Rattle.regalloc2_function.specs.FunctionValue.{op_at}
 use Rattle.regalloc2_branch_defs.specs.BranchDefs.{DefinesNumber, IsUsedElsewhere, fixed_definition}
 use Rattle.regalloc2_branch_defs.specs.declared.DefSite.{DefSite}
 use Rattle.regalloc2_branch_defs.specs.declared.EdgeInto.{EdgeInto}
@@ -27,12 +27,6 @@ pub record NotesBranch (f : FunctionValue) (b : ℕ) (old new : List (Option Def
 -- an instruction is noted as the one that defines a number
 abbrev pub IsSiteAt : List (Option DefSite) → ℕ → ℕ → Type 0
 IsSiteAt sites n branch = (k : ℕ) × (slice_index_or sites n None ≡ Some (record { branch = branch; index = k }))
-
--- the numbers of a kind are marked
-pub record Marks (P : ℕ → Type 0) (old new : List Bool) : Type 0 where
-  pub marked : (n : ℕ) → slice_index_or new n false ≡ true → (slice_index_or old n false ≡ true) ⊎ ((n < length old) × P n)
-  pub kept : (n : ℕ) → slice_index_or old n false ≡ true → slice_index_or new n false ≡ true
-  pub marks : (n : ℕ) → n < length old → P n → slice_index_or new n false ≡ true
 
 -- one of the first operands reads a number
 abbrev pub ReadsAmong : List OperandValue → ℕ → ℕ → Type 0

@@ -22,19 +22,19 @@ abbrev pub stored_of : {A : Type 0} → BranchDefs A → EdgeInto → List ℕ
 stored_of t e = slice_range t.stored.items e.first e.end
 
 -- where they are listed
-abbrev pub IsWithin : List ℕ → EdgeInto → Type 0
-IsWithin stored e = (e.first ≤ e.end) × (e.end ≤ length stored)
+abbrev pub IsEdgeWithin : List ℕ → EdgeInto → Type 0
+IsEdgeWithin stored e = (e.first ≤ e.end) × (e.end ≤ length stored)
 
 -- what is told of an edge into the block b, where operands are listed as stored
 pub record IsEdgeOf (f : FunctionValue) (b : ℕ) (listed : List ℕ) (e : EdgeInto) : Type 0 where
   pub edge : IsEdgeInto f b e.from e.position
   pub branch : e.branch ≡ last_of (block_at f e.from)
   pub held : (r : Register) → (has_register e.held r ≡ true) ↔ IsHeld (inst_at f e.branch).operands r
-  pub within : IsWithin listed e
+  pub within : IsEdgeWithin listed e
   pub stored : AreStoredOperands f (inst_at f e.branch).operands (slice_range listed e.first e.end)
 
 -- by number, the operand of a branch that defines it
-pub record AreSites (f : FunctionValue) (sites : List (Option DefSite)) : Type 0 where
+pub record AreDefSites (f : FunctionValue) (sites : List (Option DefSite)) : Type 0 where
   pub site : (n : ℕ) (s : DefSite) → slice_index_or sites n None ≡ Some s → IsSite f n s.branch s.index
   pub no_site : (n : ℕ) → slice_index_or sites n None ≡ None → (branch k : ℕ) → IsSite f n branch k → ⊥
 

@@ -7,7 +7,7 @@ ghost use Rattle.regalloc2_names.specs.Operand.{is_def};
 ghost use Rattle.regalloc2_cfg.specs.TableLength.{HasRoom};
 ghost use Rattle.regalloc2_branch_defs.specs.BranchDefs.{MayHaveTables};
 ghost use Rattle.regalloc2_branch_defs.specs.Notes.{NotesBranch, NotesSites, IsSiteAt};
-ghost use Rattle.regalloc2_branch_defs.specs.Tables.{AreSites};
+ghost use Rattle.regalloc2_branch_defs.specs.Tables.{AreDefSites};
 
 use super::DefSite;
 use regalloc2_function::Function;
@@ -51,7 +51,7 @@ fn note_branches<F: Function>(sites: &mut [Option<DefSite>], f: &F)
     requires well_formed { MayHaveTables (F.function f.now) }
     requires room { HasRoom (F.function f.now) (length sites.old) }
     requires none { (n : ℕ) → slice_index_or sites.old n None ≡ None }
-    ensures { AreSites (F.function f.now) sites.new }
+    ensures { AreDefSites (F.function f.now) sites.new }
 {
     for b in 0..f.num_blocks() {
         note_branch(sites, f, Block::new(b));
@@ -79,7 +79,7 @@ pub fn branch_sites<A: Allocator + Copy, F: Function>(
 ) -> Result<Vec<Option<DefSite>, A>, AllocError>
     requires well_formed { MayHaveTables (F.function f.now) }
     requires room { HasRoom (F.function f.now) vregs }
-    ensures { IfOk result (λ v. AreSites (F.function f.now) v.items) }
+    ensures { IfOk result (λ v. AreDefSites (F.function f.now) v.items) }
 {
     let mut sites = no_sites(alloc, vregs)?;
     note_branches(sites.as_mut_slice(), f);

@@ -6,9 +6,10 @@ ghost use Rattle.regalloc2_names.specs.Register.{VirtualRegister};
 ghost use Rattle.regalloc2_function.specs.FunctionValue.{block_at, inst_at};
 ghost use Rattle.regalloc2_function.specs.WellFormed.{last_of};
 ghost use Rattle.regalloc2_cfg.specs.TableLength.{HasRoom};
+ghost use Rattle.regalloc2_cfg.specs.MarkedNumbers.{Marks};
 ghost use Rattle.regalloc2_branch_defs.specs.BranchDefs.{MayHaveTables};
-ghost use Rattle.regalloc2_branch_defs.specs.Notes.{AreUsed, IsSiteAt, Marks, PassesAmong, PassesIn, PassesOut, ReadsAmong, ReadsIn};
-ghost use Rattle.regalloc2_branch_defs.specs.Tables.{AreSites};
+ghost use Rattle.regalloc2_branch_defs.specs.Notes.{AreUsed, IsSiteAt, PassesAmong, PassesIn, PassesOut, ReadsAmong, ReadsIn};
+ghost use Rattle.regalloc2_branch_defs.specs.Tables.{AreDefSites};
 
 use super::DefSite;
 use super::sites::is_site_at;
@@ -96,7 +97,7 @@ fn note_all_passed<F: Function>(used: &mut [bool], sites: &[Option<DefSite>], f:
 // What is used elsewhere is used.
 fn note_uses<F: Function>(used: &mut [bool], sites: &[Option<DefSite>], f: &F)
     requires well_formed { MayHaveTables (F.function f.now) }
-    requires sites { AreSites (F.function f.now) sites.now }
+    requires sites { AreDefSites (F.function f.now) sites.now }
     requires room { HasRoom (F.function f.now) (length used.old) }
     requires none { (n : ℕ) → slice_index_or used.old n false ≡ false }
     ensures { AreUsed (F.function f.now) used.new }
@@ -124,7 +125,7 @@ pub fn used_elsewhere<A: Allocator + Copy, F: Function>(
 ) -> Result<Vec<bool, A>, AllocError>
     requires well_formed { MayHaveTables (F.function f.now) }
     requires room { HasRoom (F.function f.now) vregs }
-    requires sites { AreSites (F.function f.now) sites.now }
+    requires sites { AreDefSites (F.function f.now) sites.now }
     ensures { IfOk result (λ v. AreUsed (F.function f.now) v.items) }
 {
     let mut used = no_marks(alloc, vregs)?;

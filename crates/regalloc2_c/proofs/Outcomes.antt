@@ -22,16 +22,16 @@ use Rattle.regalloc2_function.specs.declared.serialize.StoredFault.TheVariants.{
 use Rattle.regalloc2_serialize.specs.declared.data.StoredFunction.{StoredFunction}
 use Rattle.regalloc2_flat.specs.Flat.{HasLongWord, output_words}
 use Rattle.regalloc2_c.specs.Status.{allocate_failure, write_failure}
-use Rattle.regalloc2_c.specs.Outcome.{IsNamed, IsAllocated, IsAllocateFailure, IsRefused, IsAllocateOutcome}
+use Rattle.regalloc2_c.specs.Outcome.{NumbersNameFunction, IsAllocatedOutput, IsAllocateFailure, IsRefused, IsAllocateOutcome}
 use Rattle.regalloc2_c.specs.Outcome.{IsHandedOut}
 use Rattle.regalloc2_c.specs.declared.failure.Failure.{Failure}
 use Rattle.regalloc2_c.specs.declared.failure.Failure.TheVariants.{NoRoom, Faults, NoMemory}
 
 -- the words of an output that was allocated
 pub allocated_words : (s : StoredFunction Global) (f : FunctionValue) (env : MachineValue) (out : OutputValue) (numbers : StoredOutput Global) →
-    IsNamed s f env →
+    NumbersNameFunction s f env →
     IsWellFormed env f → IsAllocation f env out → IsFaithful f env out → output_of_stored numbers ≡ out → NamesValues numbers →
-    IsAllocated s (output_words numbers)
+    IsAllocatedOutput s (output_words numbers)
 allocated_words s f env out numbers named formed allocation faithful same names = record {
   f = f;
   env = env;
@@ -44,7 +44,7 @@ allocated_words s f env out numbers named formed allocation faithful same names 
 }
 
 -- why nothing was allocated
-pub refused_as : (s : StoredFunction Global) (f : FunctionValue) (env : MachineValue) (room : ℕ) → IsNamed s f env → (e : AllocateError Global) →
+pub refused_as : (s : StoredFunction Global) (f : FunctionValue) (env : MachineValue) (room : ℕ) → NumbersNameFunction s f env → (e : AllocateError Global) →
     IsAllocateReason f env e → IsAllocateFailure s room (allocate_failure e)
 refused_as s f env room named (Misfit m) h = (f, env, named, h.1)
 refused_as s f env room named (RunRefused r) h = (f, env, named, h.0, h.1)
@@ -52,7 +52,7 @@ refused_as s f env room named (RunFaults es) h = (f, env, h.1.0, named, h.1.1, h
 refused_as s f env room named Unjudged h = tt
 
 -- why the words weren't listed
-pub unlisted : (s : StoredFunction Global) (room : ℕ) (words : List ℕ) → IsAllocated s words → (e : StoredFault) → (e ≡ Limit → HasLongWord words) →
+pub unlisted : (s : StoredFunction Global) (room : ℕ) (words : List ℕ) → IsAllocatedOutput s words → (e : StoredFault) → (e ≡ Limit → HasLongWord words) →
     IsAllocateFailure s room (write_failure e)
 unlisted s room words allocated Limit long = (words, allocated, inr (long refl))
 unlisted s room words allocated Lengths long = tt
@@ -74,7 +74,7 @@ told function a b m env out es failure same machine (inr r) (inr q) =
 
 -- what is allocated to the function that an input lays out
 pub given : (Lays : StoredFunction Global → Type 0) (s : StoredFunction Global) → Lays s → (found : Result (Vec ℕ) Failure) →
-    IfOk found (λ v. IsAllocated s v.items) → IfOk found (λ v. (t : StoredFunction Global) × Lays t × IsAllocated t v.items)
+    IfOk found (λ v. IsAllocatedOutput s v.items) → IfOk found (λ v. (t : StoredFunction Global) × Lays t × IsAllocatedOutput t v.items)
 given Lays s lays (Ok v) h = (s, lays, h)
 given Lays s lays (Err e) h = tt
 
@@ -86,8 +86,8 @@ not_given Lays s lays (Err e) h = λ room. inr (s, lays, h room)
 
 -- what comes of a call that hands out what it found
 pub outcome : (Lays : StoredFunction Global → Type 0) (room status : ℕ) (written : List ℕ) (found : Result (Vec ℕ) Failure) →
-    IfOk found (λ v. (s : StoredFunction Global) × Lays s × IsAllocated s v.items) → IfErr found (λ e. (r : ℕ) → IsRefused Lays r e) →
+    IfOk found (λ v. (s : StoredFunction Global) × Lays s × IsAllocatedOutput s v.items) → IfErr found (λ e. (r : ℕ) → IsRefused Lays r e) →
     IsHandedOut found room status written → IsAllocateOutcome Lays room status written
-outcome Lays room status written (Ok v) ok err (inl h) = inl (h.0, ok.0, ok.1, subst (λ ws. IsAllocated ok.0 ws) (sym h.1) ok.2)
+outcome Lays room status written (Ok v) ok err (inl h) = inl (h.0, ok.0, ok.1, subst (λ ws. IsAllocatedOutput ok.0 ws) (sym h.1) ok.2)
 outcome Lays room status written (Ok v) ok err (inr h) = inr (h.1, NoRoom, h.0, inr (ok.0, ok.1, (v.items, ok.2, inl h.2)))
 outcome Lays room status written (Err e) ok err h = inr (h.1, e, h.0, err room)

@@ -17,7 +17,7 @@ use Rattle.regalloc2.specs.ErrorReason.{IsReason}
 use Rattle.regalloc2_function.specs.declared.serialize.StoredOutput.{StoredOutput}
 use Rattle.regalloc2_serialize.specs.Decoded.{NamesFunction, NamesMachine}
 use Rattle.regalloc2_serialize.specs.JsonShape.{IsFunctionAt}
-use Rattle.regalloc2_serialize.specs.Validity.{IsSound, IsFaultOf}
+use Rattle.regalloc2_serialize.specs.Validity.{IsSoundStored, IsFaultOf}
 use Rattle.regalloc2_serialize.specs.declared.data.StoredFunction.{StoredFunction}
 use Rattle.regalloc2_flat.specs.Flat.{HasLongWord, function_words, output_words}
 use Rattle.regalloc2_c.specs.Status.{failure_number}
@@ -44,8 +44,8 @@ IsUnread Lays (BadFunction fault) = ⊥
 IsUnread Lays (Refused error) = ⊥
 
 -- numbers name a function and a machine
-pub record IsNamed (s : StoredFunction Global) (f : FunctionValue) (env : MachineValue) : Type 0 where
-  pub sound : IsSound s
+pub record NumbersNameFunction (s : StoredFunction Global) (f : FunctionValue) (env : MachineValue) : Type 0 where
+  pub sound : IsSoundStored s
   pub function : NamesFunction s f
   pub machine : NamesMachine s.machine_env env
 
@@ -57,11 +57,11 @@ pub record IsOutput (words : List ℕ) (out : OutputValue) : Type 0 where
   pub output : out ≡ output_of_stored stored
 
 -- words are those of an output of a function, of which all holds that `allocate` promises
-pub record IsAllocated (s : StoredFunction Global) (words : List ℕ) : Type 0 where
+pub record IsAllocatedOutput (s : StoredFunction Global) (words : List ℕ) : Type 0 where
   pub f : FunctionValue
   pub env : MachineValue
   pub out : OutputValue
-  pub given : IsNamed s f env
+  pub given : NumbersNameFunction s f env
   pub output : IsOutput words out
   pub well_formed : IsWellFormed env f
   pub allocation : IsAllocation f env out
@@ -70,15 +70,16 @@ pub record IsAllocated (s : StoredFunction Global) (words : List ℕ) : Type 0 w
 -- why there is none for a function, in a room of so many words
 abbrev pub IsAllocateFailure : StoredFunction Global → ℕ → Failure → Type 0
 IsAllocateFailure s room Unreadable = ⊥
-IsAllocateFailure s room BadMachine = (f : FunctionValue) × (env : MachineValue) × IsNamed s f env × (MachineFits f env → ⊥)
-IsAllocateFailure s room NoRoom = (words : List ℕ) × IsAllocated s words × ((room < length words) ⊎ HasLongWord words)
-IsAllocateFailure s room Faults = (f : FunctionValue) × (env : MachineValue) × (out : OutputValue) × IsNamed s f env × IsAllocation f env out
+IsAllocateFailure s room BadMachine = (f : FunctionValue) × (env : MachineValue) × NumbersNameFunction s f env × (MachineFits f env → ⊥)
+IsAllocateFailure s room NoRoom = (words : List ℕ) × IsAllocatedOutput s words × ((room < length words) ⊎ HasLongWord words)
+IsAllocateFailure s room Faults = (f : FunctionValue) × (env : MachineValue) × (out : OutputValue) × NumbersNameFunction s f env × IsAllocation f env out
     × (IsFaithful f env out → ⊥)
 IsAllocateFailure s room NoMemory = Unit {0}
 IsAllocateFailure s room NotFramed = ⊥
 IsAllocateFailure s room BadOutput = ⊥
 IsAllocateFailure s room (BadFunction fault) = IsFaultOf s fault
-IsAllocateFailure s room (Refused error) = (f : FunctionValue) × (env : MachineValue) × IsNamed s f env × MachineFits f env × IsReason f env true error
+IsAllocateFailure s room (Refused error) = (f : FunctionValue) × (env : MachineValue) × NumbersNameFunction s f env × MachineFits f env
+    × IsReason f env true error
 
 -- the input isn't read, or it lays out a function, of which a failure tells why it has no output
 abbrev pub IsRefused : (StoredFunction Global → Type 0) → ℕ → Failure → Type 0
@@ -87,15 +88,15 @@ IsRefused Lays room e = IsUnread Lays e ⊎ ((s : StoredFunction Global) × Lays
 -- what a call comes to: a status of 0 and the words that it wrote, or a failure's number
 abbrev pub IsAllocateOutcome : (StoredFunction Global → Type 0) → ℕ → ℕ → List ℕ → Type 0
 IsAllocateOutcome Lays room status written =
-    ((status ≡ 0) × (s : StoredFunction Global) × Lays s × IsAllocated s written)
+    ((status ≡ 0) × (s : StoredFunction Global) × Lays s × IsAllocatedOutput s written)
     ⊎ ((length written ≡ 0) × (e : Failure) × (status ≡ failure_number e) × IsRefused Lays room e)
 
 -- an output that the checker accepts: its places and moves are in order, and it is faithful
-pub record IsAccepted (s : StoredFunction Global) (words : List ℕ) : Type 0 where
+pub record IsAcceptedOutput (s : StoredFunction Global) (words : List ℕ) : Type 0 where
   pub f : FunctionValue
   pub env : MachineValue
   pub out : OutputValue
-  pub given : IsNamed s f env
+  pub given : NumbersNameFunction s f env
   pub output : IsOutput words out
   pub in_order : IsInOrder f out
   pub faithful : IsFaithful f env out
@@ -117,10 +118,10 @@ abbrev pub IsCheckFailure : StoredFunction Global → List ℕ → Failure → T
 IsCheckFailure s words Unreadable = IsNoOutput words Unreadable
 IsCheckFailure s words BadMachine = ⊥
 IsCheckFailure s words NoRoom = ⊥
-IsCheckFailure s words Faults = (f : FunctionValue) × (env : MachineValue) × (out : OutputValue) × IsNamed s f env × IsOutput words out
+IsCheckFailure s words Faults = (f : FunctionValue) × (env : MachineValue) × (out : OutputValue) × NumbersNameFunction s f env × IsOutput words out
     × (IsInOrder f out × IsFaithful f env out → ⊥)
 IsCheckFailure s words NoMemory = Unit {0}
-IsCheckFailure s words NotFramed = (f : FunctionValue) × (env : MachineValue) × IsNamed s f env × (IsFramed f → ⊥)
+IsCheckFailure s words NotFramed = (f : FunctionValue) × (env : MachineValue) × NumbersNameFunction s f env × (IsFramed f → ⊥)
 IsCheckFailure s words BadOutput = IsNoOutput words BadOutput
 IsCheckFailure s words (BadFunction fault) = IsFaultOf s fault
 IsCheckFailure s words (Refused error) = ⊥
@@ -131,7 +132,7 @@ IsNotAccepted input words e = IsUnread (AreWordsOf input) e ⊎ ((s : StoredFunc
 
 abbrev pub IsCheckOutcome : List ℕ → List ℕ → ℕ → Type 0
 IsCheckOutcome input words status =
-    ((status ≡ 0) × (s : StoredFunction Global) × AreWordsOf input s × IsAccepted s words)
+    ((status ≡ 0) × (s : StoredFunction Global) × AreWordsOf input s × IsAcceptedOutput s words)
     ⊎ ((e : Failure) × (status ≡ failure_number e) × IsNotAccepted input words e)
 
 -- what was found is handed out: its words are written and the status is 0, or there is no room for them; or a failure's number is given

@@ -7,9 +7,9 @@ ghost use Rattle.regalloc2.specs.Faithful.{IsFaithful};
 ghost use Rattle.regalloc2.specs.WellFormed.{IsFramed};
 ghost use Rattle.regalloc2.specs.ErrorsFound.{errors_of};
 ghost use Rattle.std.specs.declared.alloc.Global.{Global};
-ghost use Rattle.regalloc2_serialize.specs.Tables.{function_of};
+ghost use Rattle.regalloc2_serialize.specs.Tables.{function_of_serializable};
 ghost use Rattle.regalloc2_serialize.specs.declared.data.StoredFunction.{StoredFunction};
-ghost use Rattle.regalloc2_c.specs.Outcome.{AreWordsOf, IsJsonOf, IsAllocated, IsAccepted, IsAllocateFailure, IsRefused, IsCheckFailure};
+ghost use Rattle.regalloc2_c.specs.Outcome.{AreWordsOf, IsJsonOf, IsAllocatedOutput, IsAcceptedOutput, IsAllocateFailure, IsRefused, IsCheckFailure};
 ghost use Rattle.regalloc2_c.specs.Outcome.{IsNoOutput, IsOutput, IsHandedOut};
 
 use super::failure::{Failure, failure_of, failure_to_read, failure_to_write, number_of};
@@ -22,7 +22,7 @@ use std::alloc::Global;
 
 /// The words of the output that is allocated to a function.
 fn allocated(alloc: Global, stored: &StoredFunction) -> Result<Vec<u32>, Failure>
-    ensures ok { IfOk result (λ v. IsAllocated stored.now v.items) }
+    ensures ok { IfOk result (λ v. IsAllocatedOutput stored.now v.items) }
     ensures err { IfErr result (λ e. (room : ℕ) → IsAllocateFailure stored.now room e) }
 {
     let f = match SerializableFunction::from_stored(alloc, stored) {
@@ -44,7 +44,7 @@ fn allocated(alloc: Global, stored: &StoredFunction) -> Result<Vec<u32>, Failure
 
 /// The words of the output that is allocated to the function that words lay out.
 pub fn allocated_of_words(alloc: Global, words: &[u32]) -> Result<Vec<u32>, Failure>
-    ensures ok { IfOk result (λ v. (s : StoredFunction Global) × AreWordsOf words.now s × IsAllocated s v.items) }
+    ensures ok { IfOk result (λ v. (s : StoredFunction Global) × AreWordsOf words.now s × IsAllocatedOutput s v.items) }
     ensures err { IfErr result (λ e. (room : ℕ) → IsRefused (AreWordsOf words.now) room e) }
 {
     match stored_from_words(alloc, words) {
@@ -55,7 +55,7 @@ pub fn allocated_of_words(alloc: Global, words: &[u32]) -> Result<Vec<u32>, Fail
 
 /// The words of the output that is allocated to the function whose JSON text these bytes are.
 pub fn allocated_of_json(alloc: Global, bytes: &[u8]) -> Result<Vec<u32>, Failure>
-    ensures ok { IfOk result (λ v. (s : StoredFunction Global) × IsJsonOf bytes.now s × IsAllocated s v.items) }
+    ensures ok { IfOk result (λ v. (s : StoredFunction Global) × IsJsonOf bytes.now s × IsAllocatedOutput s v.items) }
     ensures err { IfErr result (λ e. (room : ℕ) → IsRefused (IsJsonOf bytes.now) room e) }
 {
     match stored_from_json(alloc, bytes) {
@@ -77,11 +77,11 @@ fn failure_of_errors(errors: &CheckerErrors) -> Failure
 
 /// Has the checker judge an output.
 fn judge(alloc: Global, f: &SerializableFunction, output: &Output) -> Result<(), Failure>
-    requires framed { IsFramed (function_of f.now) }
-    ensures ok { OnOk result (IsInOrder (function_of f.now) (output_of output.now)
-        × IsFaithful (function_of f.now) (machine_of f.now.machine) (output_of output.now)) }
-    ensures err { IfErr result (λ e. (e ≡ Failure.NoMemory) ⊎ ((e ≡ Failure.Faults) × (IsInOrder (function_of f.now) (output_of output.now)
-        × IsFaithful (function_of f.now) (machine_of f.now.machine) (output_of output.now) → ⊥))) }
+    requires framed { IsFramed (function_of_serializable f.now) }
+    ensures ok { OnOk result (IsInOrder (function_of_serializable f.now) (output_of output.now)
+        × IsFaithful (function_of_serializable f.now) (machine_of f.now.machine) (output_of output.now)) }
+    ensures err { IfErr result (λ e. (e ≡ Failure.NoMemory) ⊎ ((e ≡ Failure.Faults) × (IsInOrder (function_of_serializable f.now) (output_of output.now)
+        × IsFaithful (function_of_serializable f.now) (machine_of f.now.machine) (output_of output.now) → ⊥))) }
 {
     let Ok(mut checker) = Checker::new(alloc, f, f.machine_env()) else {
         return Err(Failure::NoMemory);
@@ -115,7 +115,7 @@ fn output_from(alloc: Global, words: &[u32]) -> Result<Output, Failure>
 
 /// Judges an output of a function that words lay out.
 pub fn judged(alloc: Global, stored: &StoredFunction, words: &[u32]) -> Result<(), Failure>
-    ensures ok { OnOk result (IsAccepted stored.now words.now) }
+    ensures ok { OnOk result (IsAcceptedOutput stored.now words.now) }
     ensures err { IfErr result (IsCheckFailure stored.now words.now) }
 {
     let f = match SerializableFunction::from_stored(alloc, stored) {

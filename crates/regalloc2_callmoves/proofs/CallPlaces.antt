@@ -12,7 +12,7 @@ use Rattle.regalloc2_names.specs.Register.{Register, is_register}
 use Rattle.regalloc2_names.specs.RegisterSet.{has_register}
 use Rattle.regalloc2_names.proofs.EqualNames.{is_place-true, is_place-along}
 use Rattle.regalloc2_callmoves.specs.declared.CallFrame.{CallFrame}
-use Rattle.regalloc2_callmoves.specs.CallMoves.{CallMoves, call_move, source, target, free_at, HasNone, NamesNone, IsNamed, IsTaken, IsLower}
+use Rattle.regalloc2_callmoves.specs.CallMoves.{CallMoves, call_move, source, target, free_at, HasNone, NamesNoPlace, MovesName, IsNotFree, IsLower}
 
 -- a slot's place and its number
 pub slot_there : (p : Place) (s : ℕ) → Some s ≡ slot_of_place p → p ≡ InSlot (index_of_place p)
@@ -29,7 +29,7 @@ pub split_le : (a b : ℕ) → a ≤ b → (a < b) ⊎ (a ≡ b)
 split_le a b le = ⊎_elim (λ l. inl l) (λ h. inr (omega arith)) (cases_lt a b)
 
 -- a move of a list without fault is from a place and to one
-pub move_real : (ms : CallMoves) (k : ℕ) (m : Place × Place) → HasNone (length ms) (NamesNone ms) → k < length ms → m ≡ get_or ms k m →
+pub move_real : (ms : CallMoves) (k : ℕ) (m : Place × Place) → HasNone (length ms) (NamesNoPlace ms) → k < length ms → m ≡ get_or ms k m →
     (m.0 ≢ NoPlace) × (m.1 ≢ NoPlace)
 move_real ms k m h lt is =
     let e : m ≡ call_move ms k = is ∙ get_or_default ms k m (NoPlace, NoPlace) lt in (
@@ -88,8 +88,8 @@ named_more ms n s t u h first second = record {
 -- the set has just the registers that are in use before the free register n is
 pub record AreTaken {A : Type 0} (ms : CallMoves) (f : CallFrame A) (n : ℕ) (s : PRegSet) : Type 0 where
   pub yes : (r : Register) → has_register s r ≡ true →
-      IsNamed ms (InRegister r) ⊎ (((j : ℕ) × (j < n) × (free_at f j ≡ r)) ⊎ (has_register f.stack_pregs r ≡ true))
-  pub no : (r : Register) → IsNamed ms (InRegister r) ⊎ (((j : ℕ) × (j < n) × (free_at f j ≡ r)) ⊎ (has_register f.stack_pregs r ≡ true)) →
+      MovesName ms (InRegister r) ⊎ (((j : ℕ) × (j < n) × (free_at f j ≡ r)) ⊎ (has_register f.stack_pregs r ≡ true))
+  pub no : (r : Register) → MovesName ms (InRegister r) ⊎ (((j : ℕ) × (j < n) × (free_at f j ≡ r)) ⊎ (has_register f.stack_pregs r ≡ true)) →
       has_register s r ≡ true
 
 register_along : (a b : Register) → is_register a b ≡ true → a ≡ b
@@ -118,7 +118,7 @@ taken_more ms f n s t h put = record {
 
 -- a free register that the set doesn't have isn't in use
 pub taken_not : {A : Type 0} (ms : CallMoves) (f : CallFrame A) (n : ℕ) (s : PRegSet) → AreTaken ms f n s → false ≡ has_register s (free_at f n) →
-    IsTaken ms f n → ⊥
+    IsNotFree ms f n → ⊥
 taken_not ms f n s h e x = let no : true ≡ false = sym (h.no (free_at f n) x) ∙ sym e in cc
 
 -- the lowest slot of those that the first n moves name, from a start on and below an end

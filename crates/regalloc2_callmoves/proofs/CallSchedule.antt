@@ -12,12 +12,12 @@ use Rattle.regalloc2_parts.specs.declared.moves.MoveFault.TheVariants.{NoSlot, M
 use Rattle.regalloc2_parts.specs.AtOnce.{Ends, ends_of, HasOneSourceEach, IsOfMoves}
 use Rattle.regalloc2_parts.specs.Resolved.{IsResolution, IsUnnamed}
 use Rattle.regalloc2_parts.specs.declared.scratch_pool.ScratchPool.{ScratchPool}
-use Rattle.regalloc2_parts.specs.ScratchPool.{Moves, IsOfScratchPair, IsTaken as IsHandedOut, IsUsableFor, IsOrderedWith, HasTooFewSlots}
+use Rattle.regalloc2_parts.specs.ScratchPool.{Moves, IsOfScratchPair, IsScratchTaken as IsHandedOut, IsUsableFor, IsOrderedWith, HasTooFewSlots}
 use Rattle.regalloc2_names.proofs.EqualNames.{cases_place}
 use Rattle.regalloc2_callmoves.specs.declared.CallFrame.{CallFrame}
-use Rattle.regalloc2_callmoves.specs.CallMoves.{CallMoves, with_units, source, target, free_at, fault_of, HasNone, HasOtherSource, IsNamed}
+use Rattle.regalloc2_callmoves.specs.CallMoves.{CallMoves, with_units, source, target, free_at, fault_of, HasNone, HasOtherSource, MovesName}
 use Rattle.regalloc2_callmoves.proofs.CallPlaces.{split_le}
-use Rattle.regalloc2_callmoves.specs.CallMoves.{IsProper, IsFault, IsLent, IsRegisterAt, IsSlotAt, IsMove, IsPoolOf, IsScheduled}
+use Rattle.regalloc2_callmoves.specs.CallMoves.{IsProper, IsCallFault, IsLent, IsRegisterAt, IsSlotAt, IsMove, IsPoolOf, IsScheduled}
 
 abbrev pub end_at : CallMoves → ℕ → Ends
 end_at ms k = record { from = source ms k; to = target ms k }
@@ -105,9 +105,9 @@ module _ {A : Type 0} (ms : CallMoves) (f : CallFrame A) (l : ScratchPool) (prop
   lent_of p (inr a) = inr (of_slots p a)
 
   -- no move names what is lent
-  unnamed : (p : Place) → IsLent f p → IsNamed ms p → ⊥
-  unnamed p (inl (k, lt, e)) named = proper.free.registers k lt (inl (subst (IsNamed ms) e named))
-  unnamed p (inr (n, low, lt, e)) named = proper.free.slots n lt (low, subst (IsNamed ms) e named)
+  unnamed : (p : Place) → IsLent f p → MovesName ms p → ⊥
+  unnamed p (inl (k, lt, e)) named = proper.free.registers k lt (inl (subst (MovesName ms) e named))
+  unnamed p (inr (n, low, lt, e)) named = proper.free.slots n lt (low, subst (MovesName ms) e named)
 
   lent_real : (p : Place) → IsLent f p → NoPlace ≡ p → ⊥
   lent_real p (inl (k, lt, e)) n = let no : NoPlace ≡ InRegister (free_at f k) = n ∙ e in cc
@@ -182,7 +182,7 @@ module _ {A : Type 0} (ms : CallMoves) (f : CallFrame A) (l : ScratchPool) (prop
     pub scheduled : (taken : ℕ) (made : Moves) → IsOrderedWith l taken given made → IsScheduled ms f made
     scheduled taken made with_ = record {
       assigned = λ k lt.
-          let named : IsNamed ms (target ms k) = (k, lt, inr refl) in
+          let named : MovesName ms (target ms k) = (k, lt, inr refl) in
           with_.same (target ms k) (λ e. proper.named k lt (inr e)) (λ a. unnamed (target ms k) (lent_of (target ms k) (inl a)) named)
           (λ a. unnamed (target ms k) (lent_of (target ms k) (inr (of_pair (target ms k) taken a))) named)
           ∙ resolved.at_once.assigned (end_at ms k) (has_end ms k lt);
@@ -196,7 +196,7 @@ module _ {A : Type 0} (ms : CallMoves) (f : CallFrame A) (l : ScratchPool) (prop
     }
 
   -- a fault of the resolver is one of the call
-  pub fails : (fault : MoveFault) → (fault ≡ NoSlot → HasTooFewSlots l.slots) → IsFault ms f (fault_of fault)
+  pub fails : (fault : MoveFault) → (fault ≡ NoSlot → HasTooFewSlots l.slots) → IsCallFault ms f (fault_of fault)
   fails NoSlot h = ⊎_elim (λ e. (proper, omega (arith, slot_missing 0 l.slots.first lends.first_slot e)))
       (λ e. (proper, omega (arith, slot_missing 1 l.slots.second lends.second_slot e))) (h refl)
   fails Memory h = proper

@@ -5,7 +5,7 @@ use Rattle.regalloc2_names.specs.declared.sets.PRegSet.{PRegSet}
 use Rattle.regalloc2_names.specs.Place.{Place, NoPlace, InRegister, InSlot, is_memory}
 use Rattle.regalloc2_names.specs.Register.{Register, invalid_register}
 use Rattle.regalloc2_names.specs.RegisterSet.{has_register}
-use Rattle.regalloc2_parts.specs.AtOnce.{ends_of, names, in_turn}
+use Rattle.regalloc2_parts.specs.AtOnce.{ends_of, own_names, in_turn}
 use Rattle.regalloc2_parts.specs.declared.moves.MoveFault.{MoveFault}
 use Rattle.regalloc2_parts.specs.declared.moves.MoveFault.TheVariants.{NoSlot as NoMoveSlot, Memory as NoMemory}
 use Rattle.regalloc2_parts.specs.declared.scratch_pool.ScratchPool.{ScratchPool}
@@ -35,33 +35,33 @@ abbrev pub HasNone : ℕ → (ℕ → Type 0) → Type 0
 HasNone n P = (k : ℕ) → k < n → P k → ⊥
 
 -- the lowest number at which P holds, which is below n
-abbrev pub IsFirst : ℕ → (ℕ → Type 0) → ℕ → Type 0
-IsFirst n P k = (k < n) × P k × HasNone k P
+abbrev pub IsLowest : ℕ → (ℕ → Type 0) → ℕ → Type 0
+IsLowest n P k = (k < n) × P k × HasNone k P
 
 -- that number, or none where there is none
 abbrev pub IsFirstOrNone : ℕ → (ℕ → Type 0) → Option ℕ → Type 0
 IsFirstOrNone n P None = HasNone n P
-IsFirstOrNone n P (Some k) = IsFirst n P k
+IsFirstOrNone n P (Some k) = IsLowest n P k
 
 -- a move names no place
-abbrev pub NamesNone : CallMoves → ℕ → Type 0
-NamesNone ms k = (source ms k ≡ NoPlace) ⊎ (target ms k ≡ NoPlace)
+abbrev pub NamesNoPlace : CallMoves → ℕ → Type 0
+NamesNoPlace ms k = (source ms k ≡ NoPlace) ⊎ (target ms k ≡ NoPlace)
 
 -- an earlier move has the destination of this one, and another source
 abbrev pub HasOtherSource : CallMoves → ℕ → Type 0
 HasOtherSource ms k = (j : ℕ) × (j < k) × (target ms j ≡ target ms k) × (source ms j ≢ source ms k)
 
 -- a move is from the place or to it
-abbrev pub IsNamed : CallMoves → Place → Type 0
-IsNamed ms p = (k : ℕ) × (k < length ms) × ((source ms k ≡ p) ⊎ (target ms k ≡ p))
+abbrev pub MovesName : CallMoves → Place → Type 0
+MovesName ms p = (k : ℕ) × (k < length ms) × ((source ms k ≡ p) ⊎ (target ms k ≡ p))
 
 abbrev pub free_at : {A : Type 0} → CallFrame A → ℕ → Register
 free_at f k = slice_index_or f.free_regs.items k invalid_register
 
 -- a register that isn't free: a move names it, it stands earlier in the list, or it stands for a place in memory
-abbrev pub IsTaken : {A : Type 0} → CallMoves → CallFrame A → ℕ → Type 0
-IsTaken ms f k =
-    IsNamed ms (InRegister (free_at f k))
+abbrev pub IsNotFree : {A : Type 0} → CallMoves → CallFrame A → ℕ → Type 0
+IsNotFree ms f k =
+    MovesName ms (InRegister (free_at f k))
     ⊎ (((j : ℕ) × (j < k) × (free_at f j ≡ free_at f k))
     ⊎ (has_register f.stack_pregs (free_at f k) ≡ true))
 
@@ -75,7 +75,7 @@ IsBorrowedTaken f = IsFreeRegister f f.borrowed ⊎ (has_register f.stack_pregs 
 
 -- a slot of the range that a move names
 abbrev pub IsNamedSlot : {A : Type 0} → CallMoves → CallFrame A → ℕ → Type 0
-IsNamedSlot ms f n = (f.slots.start ≤ n) × IsNamed ms (InSlot n)
+IsNamedSlot ms f n = (f.slots.start ≤ n) × MovesName ms (InSlot n)
 
 -- the number of a place that is a slot from start on and below lowest, else lowest
 pub record IsLower (p : Place) (start lowest result : ℕ) : Type 0 where
@@ -86,13 +86,13 @@ pub record IsLower (p : Place) (start lowest result : ℕ) : Type 0 where
 -- the first place in use that should be free: of the free registers, then the borrowed one, then the slots
 abbrev pub IsFirstInUse : {A : Type 0} → CallMoves → CallFrame A → Place → Type 0
 IsFirstInUse ms f p =
-    ((k : ℕ) × IsFirst (length f.free_regs.items) (IsTaken ms f) k × (p ≡ InRegister (free_at f k)))
-    ⊎ (HasNone (length f.free_regs.items) (IsTaken ms f) × IsBorrowedTaken f × (p ≡ InRegister f.borrowed))
-    ⊎ (HasNone (length f.free_regs.items) (IsTaken ms f) × (IsBorrowedTaken f → ⊥) × ((n : ℕ) × IsFirst f.slots.«end» (IsNamedSlot ms f) n × (p ≡ InSlot n)))
+    ((k : ℕ) × IsLowest (length f.free_regs.items) (IsNotFree ms f) k × (p ≡ InRegister (free_at f k)))
+    ⊎ (HasNone (length f.free_regs.items) (IsNotFree ms f) × IsBorrowedTaken f × (p ≡ InRegister f.borrowed))
+    ⊎ (HasNone (length f.free_regs.items) (IsNotFree ms f) × (IsBorrowedTaken f → ⊥) × ((n : ℕ) × IsLowest f.slots.«end» (IsNamedSlot ms f) n × (p ≡ InSlot n)))
 
 -- nothing is in use that should be free
 pub record IsFree {A : Type 0} (ms : CallMoves) (f : CallFrame A) : Type 0 where
-  pub registers : HasNone (length f.free_regs.items) (IsTaken ms f)
+  pub registers : HasNone (length f.free_regs.items) (IsNotFree ms f)
   pub borrowed : IsBorrowedTaken f → ⊥
   pub slots : HasNone f.slots.«end» (IsNamedSlot ms f)
 
@@ -103,22 +103,22 @@ IsFirstInUseOrNone ms f (Some p) = IsFirstInUse ms f p
 
 -- moves and a frame without fault
 pub record IsProper {A : Type 0} (ms : CallMoves) (f : CallFrame A) : Type 0 where
-  pub named : HasNone (length ms) (NamesNone ms)
+  pub named : HasNone (length ms) (NamesNoPlace ms)
   pub one_source : HasNone (length ms) (HasOtherSource ms)
   pub free : IsFree ms f
 
 -- what a fault says: of the first three the first that applies, else one of the last two
-abbrev pub IsFault : {A : Type 0} → CallMoves → CallFrame A → CallFault → Type 0
-IsFault ms f (NoneNamed k) = IsFirst (length ms) (NamesNone ms) k
-IsFault ms f (TwoSources p) = HasNone (length ms) (NamesNone ms) × ((k : ℕ) × IsFirst (length ms) (HasOtherSource ms) k × (p ≡ target ms k))
-IsFault ms f (InUse p) = HasNone (length ms) (NamesNone ms) × HasNone (length ms) (HasOtherSource ms) × IsFirstInUse ms f p
-IsFault ms f NoSlot = IsProper ms f × (f.slots.«end» ≤ f.slots.start + 1)
-IsFault ms f Memory = IsProper ms f
+abbrev pub IsCallFault : {A : Type 0} → CallMoves → CallFrame A → CallFault → Type 0
+IsCallFault ms f (NoneNamed k) = IsLowest (length ms) (NamesNoPlace ms) k
+IsCallFault ms f (TwoSources p) = HasNone (length ms) (NamesNoPlace ms) × ((k : ℕ) × IsLowest (length ms) (HasOtherSource ms) k × (p ≡ target ms k))
+IsCallFault ms f (InUse p) = HasNone (length ms) (NamesNoPlace ms) × HasNone (length ms) (HasOtherSource ms) × IsFirstInUse ms f p
+IsCallFault ms f NoSlot = IsProper ms f × (f.slots.«end» ≤ f.slots.start + 1)
+IsCallFault ms f Memory = IsProper ms f
 
 -- no fault, or the first one
 abbrev pub IsFoundOrNone : {A : Type 0} → CallMoves → CallFrame A → Option CallFault → Type 0
 IsFoundOrNone ms f None = IsProper ms f
-IsFoundOrNone ms f (Some e) = IsFault ms f e
+IsFoundOrNone ms f (Some e) = IsCallFault ms f e
 
 -- a fault of the resolver as one of a call
 abbrev pub fault_of : MoveFault → CallFault
@@ -157,7 +157,7 @@ pub record IsMove (stack_pregs : PRegSet) (from to : Place) : Type 0 where
 -- The moves `made`, one after another, are the moves ms at once, but for free registers and slots.
 pub record IsScheduled {A : Type 0} (ms : CallMoves) (f : CallFrame A) (made : List (Place × Place × Unit {0})) : Type 0 where
   -- each destination has what its source had at first
-  pub assigned : (k : ℕ) → k < length ms → in_turn (ends_of made) names (target ms k) ≡ source ms k
+  pub assigned : (k : ℕ) → k < length ms → in_turn (ends_of made) own_names (target ms k) ≡ source ms k
   -- each other place, but for free registers and slots of the range, has what it had
-  pub kept : (q : Place) → q ≢ NoPlace → (IsLent f q → ⊥) → HasNone (length ms) (λ k. target ms k ≡ q) → in_turn (ends_of made) names q ≡ q
+  pub kept : (q : Place) → q ≢ NoPlace → (IsLent f q → ⊥) → HasNone (length ms) (λ k. target ms k ≡ q) → in_turn (ends_of made) own_names q ≡ q
   pub each : All (λ m. IsMove f.stack_pregs m.0 m.1) made

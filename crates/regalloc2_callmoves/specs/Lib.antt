@@ -1,4 +1,4 @@
 -- The moves of one call: which are valid, the scratch resources lent to them, and the moves scheduled.
--- Read first: `CallMoves`: `IsScheduled` is the result, `IsFault` the first error, `IsLent` the scratch resources.
+-- Read first: `CallMoves`: `IsScheduled` is the result, `IsCallFault` the first error, `IsLent` the scratch resources.
 -- Depends on parallel moves (`AtOnce`) and their resolver (`Computed`) of regalloc2_parts.
 pub mod CallMoves

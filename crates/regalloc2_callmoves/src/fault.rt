@@ -4,8 +4,8 @@ ghost use Rattle.std.specs.Prelude.{◌≡◌, ◌≢◌, ◌<◌, ◌≤◌, �
 ghost use Rattle.regalloc2_names.specs.Place.{NoPlace, InRegister, InSlot, is_place};
 ghost use Rattle.regalloc2_names.specs.Register.{Register};
 ghost use Rattle.regalloc2_names.specs.RegisterSet.{has_register};
-ghost use Rattle.regalloc2_callmoves.specs.CallMoves.{source, target, HasNone, IsFirst, IsFirstOrNone, NamesNone, HasOtherSource, IsNamed};
-ghost use Rattle.regalloc2_callmoves.specs.CallMoves.{IsLower, IsTaken, IsFreeRegister, IsBorrowedTaken, IsNamedSlot, IsFirstInUseOrNone, IsFoundOrNone};
+ghost use Rattle.regalloc2_callmoves.specs.CallMoves.{source, target, HasNone, IsLowest, IsFirstOrNone, NamesNoPlace, HasOtherSource, MovesName};
+ghost use Rattle.regalloc2_callmoves.specs.CallMoves.{IsLower, IsNotFree, IsFreeRegister, IsBorrowedTaken, IsNamedSlot, IsFirstInUseOrNone, IsFoundOrNone};
 
 use super::{CallFault, CallFrame};
 use regalloc2_names::{Allocation, PReg, PRegSet, SpillSlot};
@@ -35,8 +35,8 @@ fn target_at(moves: &[(Allocation, Allocation)], at: usize) -> Allocation
 /// Whether a move names no place.
 fn names_none(moves: &[(Allocation, Allocation)], at: usize) -> bool
     requires { at < length moves.now }
-    ensures yes { result ≡ true → NamesNone moves.now at }
-    ensures no { result ≡ false → NamesNone moves.now at → ⊥ }
+    ensures yes { result ≡ true → NamesNoPlace moves.now at }
+    ensures no { result ≡ false → NamesNoPlace moves.now at → ⊥ }
 {
     let none = Allocation::none();
     source_at(moves, at).is_same(none) || target_at(moves, at).is_same(none)
@@ -44,7 +44,7 @@ fn names_none(moves: &[(Allocation, Allocation)], at: usize) -> bool
 
 /// The index of the first move that names no place.
 fn find_none(moves: &[(Allocation, Allocation)]) -> Option<usize>
-    ensures { IsFirstOrNone (length moves.now) (NamesNone moves.now) result }
+    ensures { IsFirstOrNone (length moves.now) (NamesNoPlace moves.now) result }
 {
     for at in 0..moves.len() {
         if names_none(moves, at) {
@@ -138,8 +138,8 @@ fn add_place(set: &mut PRegSet, place: Allocation)
 
 /// The registers that the moves name.
 fn named_registers(moves: &[(Allocation, Allocation)]) -> PRegSet
-    ensures yes { (r : Register) → has_register result r ≡ true → IsNamed moves.now (InRegister r) }
-    ensures no { (r : Register) → IsNamed moves.now (InRegister r) → has_register result r ≡ true }
+    ensures yes { (r : Register) → has_register result r ≡ true → MovesName moves.now (InRegister r) }
+    ensures no { (r : Register) → MovesName moves.now (InRegister r) → has_register result r ≡ true }
 {
     let mut named = PRegSet::empty();
     for at in 0..moves.len() {
@@ -154,7 +154,7 @@ fn find_taken<A: Allocator>(
     moves: &[(Allocation, Allocation)],
     frame: &CallFrame<A>,
 ) -> Option<usize>
-    ensures { IsFirstOrNone (length frame.now.free_regs.items) (IsTaken moves.now frame.now) result }
+    ensures { IsFirstOrNone (length frame.now.free_regs.items) (IsNotFree moves.now frame.now) result }
 {
     let mut taken = named_registers(moves);
     taken.union_from(frame.stack_pregs);

@@ -5,7 +5,7 @@
 #![tactic(auto)]
 
 ghost use Rattle.std.specs.Prelude.{◌≡◌, ◌≤◌, length, IfOk, IfErr, MatchResult};
-ghost use Rattle.regalloc2_callmoves.specs.CallMoves.{fault_of, with_units, HasNone, NamesNone, IsFault, IsProper, IsScheduled};
+ghost use Rattle.regalloc2_callmoves.specs.CallMoves.{fault_of, with_units, HasNone, NamesNoPlace, IsCallFault, IsProper, IsScheduled};
 
 mod fault;
 mod frame;
@@ -82,7 +82,7 @@ fn in_parallel<A: Allocator + Copy>(
     alloc: A,
     moves: &[(Allocation, Allocation)],
 ) -> Result<ParallelMoves<(), A>, MoveFault>
-    requires { HasNone (length moves.now) (NamesNone moves.now) }
+    requires { HasNone (length moves.now) (NamesNoPlace moves.now) }
     ensures all { IfOk result (λ p. p ≡ with_units moves.now) }
     ensures memory { IfErr result (λ e. e ≡ MoveFault.Memory) }
 {
@@ -102,7 +102,7 @@ fn schedule_proper<A: Allocator + Copy, B: Allocator>(
     requires range { frame.now.slots.start ≤ frame.now.slots.«end» }
     requires small { frame.now.slots.«end» ≤ 16777216 }
     requires proper { IsProper moves.now frame.now }
-    ensures { MatchResult result (λ made. IsScheduled moves.now frame.now made.items) (λ e. IsFault moves.now frame.now (fault_of e)) }
+    ensures { MatchResult result (λ made. IsScheduled moves.now frame.now made.items) (λ e. IsCallFault moves.now frame.now (fault_of e)) }
 {
     let parallel = in_parallel(&alloc, moves)?;
     let resolved = parallel.resolve()?;
@@ -125,7 +125,7 @@ pub fn schedule<A: Allocator + Copy, B: Allocator>(
 ) -> Result<MoveVec<(), A>, CallFault>
     requires range { frame.now.slots.start ≤ frame.now.slots.«end» }
     requires small { frame.now.slots.«end» ≤ 16777216 }
-    ensures { MatchResult result (λ made. IsProper moves.now frame.now × IsScheduled moves.now frame.now made.items) (IsFault moves.now frame.now) }
+    ensures { MatchResult result (λ made. IsProper moves.now frame.now × IsScheduled moves.now frame.now made.items) (IsCallFault moves.now frame.now) }
 {
     if let Some(fault) = fault::find_fault(alloc, moves, frame) {
         return Err(fault);

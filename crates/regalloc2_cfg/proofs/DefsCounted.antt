@@ -10,7 +10,7 @@ use Rattle.regalloc2_names.specs.Register.{VirtualRegister}
 use Rattle.regalloc2_names.specs.Operand.{OperandValue, is_def}
 use Rattle.regalloc2_names.specs.Point.{after}
 use Rattle.regalloc2_function.specs.FunctionValue.{FunctionValue, BlockValue, InstValue, block_at, inst_at, no_block, no_inst}
-use Rattle.regalloc2_function.specs.WellFormed.{BlocksFollow, defines}
+use Rattle.regalloc2_function.specs.WellFormed.{BlocksFollow, defines_number}
 use Rattle.regalloc2_function.specs.Reasons.{DefinitionSite, param_definition, operand_definition, inst_definitions, block_definitions, definitions_among}
 use Rattle.regalloc2_cfg.proofs.ListsInParts.{numbers_more, flat_more}
 use Rattle.regalloc2_function.specs.Following.{end_within}
@@ -32,23 +32,25 @@ abbrev definition : ℕ → OperandValue → DefinitionSite
 definition i o = record { vreg = o.vreg; inst = i; usable = after i }
 
 -- among an instruction's operands
-among_operands : (n i : ℕ) (os : List OperandValue) → definitions_among (filter_map (operand_definition i) os) n ≡ count_by (defines n) os
+among_operands : (n i : ℕ) (os : List OperandValue) → definitions_among (filter_map (operand_definition i) os) n ≡ count_by (defines_number n) os
 among_operands n i [] = refl
 among_operands n i (o ∷ os) =
     elim (cases_Bool (is_def o.kind)) [
       | inl e ↦ ap (λ b. definitions_among (cons_option (cond b (Some (definition i o)) None) (filter_map (operand_definition i) os)) n) e
           ∙ sum_by-cons (λ (d : DefinitionSite). cond (nat_eq d.vreg.number n) 1 0) (definition i o) (filter_map (operand_definition i) os)
           ∙ ap (λ m. cond (nat_eq o.vreg.number n) 1 0 + m) (among_operands n i os)
-          ∙ sym (sum_by-cons (λ (o : OperandValue). cond (defines n o) 1 0) o os ∙ ap (λ b. cond (b && nat_eq o.vreg.number n) 1 0 + count_by (defines n) os) e)
+          ∙ sym (sum_by-cons (λ (o : OperandValue). cond (defines_number n o) 1 0) o os
+              ∙ ap (λ b. cond (b && nat_eq o.vreg.number n) 1 0 + count_by (defines_number n) os) e)
       | inr e ↦ ap (λ b. definitions_among (cons_option (cond b (Some (definition i o)) None) (filter_map (operand_definition i) os)) n) e
           ∙ among_operands n i os
-          ∙ sym (zero-add (count_by (defines n) os))
-          ∙ sym (sum_by-cons (λ (o : OperandValue). cond (defines n o) 1 0) o os ∙ ap (λ b. cond (b && nat_eq o.vreg.number n) 1 0 + count_by (defines n) os) e)
+          ∙ sym (zero-add (count_by (defines_number n) os))
+          ∙ sym (sum_by-cons (λ (o : OperandValue). cond (defines_number n o) 1 0) o os
+              ∙ ap (λ b. cond (b && nat_eq o.vreg.number n) 1 0 + count_by (defines_number n) os) e)
     ]
 
 -- how many of the first instructions' operands define a number
 abbrev pub insts_to : FunctionValue → ℕ → ℕ → ℕ
-insts_to f n i = sum_by (λ inst. count_by (defines n) inst.operands) (take i f.insts)
+insts_to f n i = sum_by (λ inst. count_by (defines_number n) inst.operands) (take i f.insts)
 
 -- and of the first blocks' parameters
 abbrev pub params_to : FunctionValue → ℕ → ℕ → ℕ
@@ -65,8 +67,8 @@ among_insts f n first (suc k) less =
     ++ inst_definitions f (first + k) = rw add at (numbers_more (inst_definitions f) first k) in
     let here = among_operands n (first + k) (inst_at f (first + k)).operands in
     let both = among_append n (flat_map (inst_definitions f) (numbers_from first k)) (inst_definitions f (first + k)) in
-    let next : insts_to f n (first + k + 1) ≡ insts_to f n (first + k) + count_by (defines n) (inst_at f (first + k)).operands = sum_by_more
-    (λ (inst : InstValue). count_by (defines n) inst.operands) f.insts (first + k) no_inst (omega arith) in
+    let next : insts_to f n (first + k + 1) ≡ insts_to f n (first + k) + count_by (defines_number n) (inst_at f (first + k)).operands = sum_by_more
+    (λ (inst : InstValue). count_by (defines_number n) inst.operands) f.insts (first + k) no_inst (omega arith) in
     let at : first + suc k ≡ first + k + 1 = omega arith in
     rw (more, at, next, both) (omega (arith, before, here))
 

@@ -3,7 +3,7 @@ use Rattle.std.proofs.Common.{ℕ, ◌≡◌, Bool, true, false, List, [], ◌�
 use Rattle.std.specs.Prelude.{nat_eq}
 use Rattle.std.proofs.lemmas.Bool.{cases_Bool, false_from_ne_true, or_cases}
 use Rattle.std.proofs.lemmas.Bool.Decides.{Decides-eqb}
-use Rattle.regalloc2_cfg.specs.Leaves.{met, Leaves, Once, Reaches}
+use Rattle.regalloc2_cfg.specs.Leaves.{met, Leaves, ListsOnce, Reaches}
 use Rattle.regalloc2_cfg.specs.Leaves.Leaves.{done, again, enter}
 use Rattle.regalloc2_cfg.specs.Leaves.Reaches.{here, onward}
 use Rattle.regalloc2_cfg.proofs.DepthFirstWalk.{same_mix}
@@ -90,7 +90,7 @@ apart succs {seen = seen} (enter {b = b} {inner = inner} {rest = rest} m i r) x 
       ]
     ]
 
-once-append : (xs ys : List ℕ) → Once xs → Once ys → ((x : ℕ) → met xs x ≡ true → met ys x ≡ true → ⊥) → Once (xs ++ ys)
+once-append : (xs ys : List ℕ) → ListsOnce xs → ListsOnce ys → ((x : ℕ) → met xs x ≡ true → met ys x ≡ true → ⊥) → ListsOnce (xs ++ ys)
 once-append [] ys a b c = b
 once-append (x ∷ xs) ys a b c = (
   false_from_ne_true (met (xs ++ ys) x) (λ h. elim (met-append_cases xs ys x h) [ inl l ↦ clash l a.0 | inr r ↦ c x (met-here x xs) r ]),
@@ -98,7 +98,7 @@ once-append (x ∷ xs) ys a b c = (
 )
 
 -- no block is left twice
-pub leaves_once : (succs : ℕ → List ℕ) {seen bs order : List ℕ} → Leaves succs seen bs order → Once order
+pub leaves_once : (succs : ℕ → List ℕ) {seen bs order : List ℕ} → Leaves succs seen bs order → ListsOnce order
 leaves_once succs done = tt
 leaves_once succs (again m l) = leaves_once succs l
 leaves_once succs {seen = seen} (enter {b = b} {inner = inner} {rest = rest} m i r) =

@@ -11,7 +11,7 @@ use Rattle.regalloc2_names.specs.Register.{VirtualRegister}
 use Rattle.regalloc2_names.specs.Operand.{OperandValue, is_def, is_reading}
 use Rattle.regalloc2_names.specs.Point.{before, after}
 use Rattle.regalloc2_function.specs.FunctionValue.{FunctionValue, BlockValue, InstValue, block_at, inst_at, no_block, no_inst}
-use Rattle.regalloc2_function.specs.WellFormed.{BlocksFollow, DefinedOnce, IsDefinedBy, UsesAreDefined, defines, definitions_of, last_of}
+use Rattle.regalloc2_function.specs.WellFormed.{BlocksFollow, DefinedOnce, IsDefinedBy, UsesAreDefined, defines_number, definitions_of, last_of}
 use Rattle.regalloc2_function.specs.Reasons.{AreSingle, DefinitionSite, UseSite, argument_use, block_definitions, block_uses, definitions_among}
 use Rattle.regalloc2_function.specs.Reasons.{definitions_in, inst_definitions, inst_reads, operand_definition, operand_read, param_definition}
 use Rattle.regalloc2_function.specs.Reasons.{passed_at, uses_in}
@@ -23,7 +23,7 @@ abbrev param_count : ℕ → BlockValue → ℕ
 param_count n b = count_by (λ v. nat_eq v.number n) b.params
 
 abbrev operand_count : ℕ → InstValue → ℕ
-operand_count n i = count_by (defines n) i.operands
+operand_count n i = count_by (defines_number n) i.operands
 
 -- a function with other blocks and instructions
 abbrev made_of : FunctionValue → List BlockValue → List InstValue → FunctionValue

@@ -7,7 +7,7 @@ use Rattle.std.proofs.lemmas.Bool.{cases_eq, cases_lt}
 use Rattle.std.proofs.lemmas.Bool.Decides.{nat_tests}
 use Rattle.std.specs.Int.{bit_at, trailing_zeros}
 use Rattle.std.proofs.lemmas.Nat.Bits.{bit_at-zero, bit_at-lt, bit_at_above, bit_at-trailing_zeros, bit_at_clear_same, bit_at_clear_other}
-use Rattle.regalloc2_cfg.specs.Numbers.{bits_from, bits_of, times_in, RisesFrom, numbers_of, word_of, has_number}
+use Rattle.regalloc2_cfg.specs.Numbers.{bits_from, bits_of, times_listed, RisesFrom, numbers_of_set, word_of, has_number}
 use Rattle.regalloc2_cfg.specs.NumberWords.{KeysApart, KeysInOneOnly}
 use Rattle.regalloc2_cfg.proofs.NumberPlaces.{word_of-lacks}
 
@@ -76,13 +76,13 @@ bits_rise zero k w = tt
 bits_rise (suc n) k w = rises_if (nat_eq (bit_at w k) 1) k (bits_from (k + 1) n w) (bits_rise n (k + 1) w)
 
 -- how often one is listed
-times_if : (b : Bool) (k i : ℕ) (xs : List ℕ) → times_in (cond b (k ∷ xs) xs) i ≡ cond b (cond (nat_eq k i) 1 0) 0 + times_in xs i
-unfolding times_in
+times_if : (b : Bool) (k i : ℕ) (xs : List ℕ) → times_listed (cond b (k ∷ xs) xs) i ≡ cond b (cond (nat_eq k i) 1 0) 0 + times_listed xs i
+unfolding times_listed
 times_if true k i xs = refl
 times_if false k i xs = omega arith
 
-times_low : (n k w i : ℕ) → i < k → times_in (bits_from k n w) i ≡ 0
-unfolding bits_from times_in
+times_low : (n k w i : ℕ) → i < k → times_listed (bits_from k n w) i ≡ 0
+unfolding bits_from times_listed
 times_low zero k w i less = refl
 times_low (suc n) k w i less =
     times_if (nat_eq (bit_at w k) 1) k i (bits_from (k + 1) n w) ∙ apart (nat_eq (bit_at w k) 1) k i _ less (times_low n (k + 1) w i (omega arith))
@@ -91,8 +91,8 @@ times_low (suc n) k w i less =
     apart true k i r less e = grind (arith, nat_tests)
     apart false k i r less e = omega arith
 
-times_high : (n k w i : ℕ) → k + n ≤ i → times_in (bits_from k n w) i ≡ 0
-unfolding bits_from times_in
+times_high : (n k w i : ℕ) → k + n ≤ i → times_listed (bits_from k n w) i ≡ 0
+unfolding bits_from times_listed
 times_high zero k w i less = refl
 times_high (suc n) k w i less =
     times_if (nat_eq (bit_at w k) 1) k i (bits_from (k + 1) n w) ∙ apart (nat_eq (bit_at w k) 1) k i _ (omega arith) (times_high n (k + 1) w i (omega arith))
@@ -101,8 +101,8 @@ times_high (suc n) k w i less =
     apart true k i r less e = grind (arith, nat_tests)
     apart false k i r less e = omega arith
 
-times_within : (n k w i : ℕ) → k ≤ i → i < k + n → times_in (bits_from k n w) i ≡ bit_at w i
-unfolding bits_from times_in
+times_within : (n k w i : ℕ) → k ≤ i → i < k + n → times_listed (bits_from k n w) i ≡ bit_at w i
+unfolding bits_from times_listed
 times_within zero k w i low high = absurd (omega arith)
 times_within (suc n) k w i low high =
     times_if (nat_eq (bit_at w k) 1) k i (bits_from (k + 1) n w) ∙ elim (cases_eq k i) [
@@ -118,23 +118,23 @@ times_within (suc n) k w i low high =
     beyond false k i r a ne e = omega arith
 
 -- among the set bits of a 64-bit word, a number is listed once if its bit is set, and else not
-pub bits_of-times : (w i : ℕ) → w < 2 ^ 64 → times_in (bits_of w) i ≡ bit_at w i
+pub bits_of-times : (w i : ℕ) → w < 2 ^ 64 → times_listed (bits_of w) i ≡ bit_at w i
 bits_of-times w i fits = elim (cases_lt i 64) [
   | inl less ↦ times_within 64 0 w i (omega arith) (omega arith)
   | inr more ↦ times_high 64 0 w i (omega arith) ∙ sym (bit_at_above w 64 i fits more)
 ]
 
 -- the numbers of a word with its key
-times_map_low : (base i : ℕ) (xs : List ℕ) → i < base → times_in (map (λ b. base + b) xs) i ≡ 0
-unfolding times_in
+times_map_low : (base i : ℕ) (xs : List ℕ) → i < base → times_listed (map (λ b. base + b) xs) i ≡ 0
+unfolding times_listed
 times_map_low base i [] less = refl
 times_map_low base i (x ∷ xs) less = step base i x _ less (times_map_low base i xs less)
   where
     step : (base i x r : ℕ) → i < base → r ≡ 0 → cond (nat_eq (base + x) i) 1 0 + r ≡ 0
     step base i x r less e = grind (arith, nat_tests)
 
-times_map : (base i : ℕ) (xs : List ℕ) → base ≤ i → times_in (map (λ b. base + b) xs) i ≡ times_in xs (i - base)
-unfolding times_in
+times_map : (base i : ℕ) (xs : List ℕ) → base ≤ i → times_listed (map (λ b. base + b) xs) i ≡ times_listed xs (i - base)
+unfolding times_listed
 times_map base i [] le = refl
 times_map base i (x ∷ xs) le = step base i x _ _ le (times_map base i xs le)
   where
@@ -142,7 +142,7 @@ times_map base i (x ∷ xs) le = step base i x _ _ le (times_map base i xs le)
     step base i x r s le e = grind (arith, nat_tests)
 
 -- the members of a word under a key have a number once if it belongs to that key and its bit in the word is set, and else not
-pub word_times : (key w i : ℕ) → times_in (map (λ b. key * 64 + b) (bits_of w)) i ≡ cond (nat_eq (i / 64) key) (bit_at w (i % 64)) 0
+pub word_times : (key w i : ℕ) → times_listed (map (λ b. key * 64 + b) (bits_of w)) i ≡ cond (nat_eq (i / 64) key) (bit_at w (i % 64)) 0
 word_times key w i = elim (cases_lt i (key * 64)) [
   | inl less ↦ times_map_low (key * 64) i (bits_of w) less ∙ off i key (bit_at w (i % 64)) (λ e. absurd (omega arith))
   | inr more ↦ times_map (key * 64) i (bits_of w) more ∙ elim (cases_lt (i - key * 64) 64) [
@@ -158,8 +158,8 @@ word_times key w i = elim (cases_lt i (key * 64)) [
     off i key b ne = grind (arith, nat_tests)
 
 -- a number is as often in two lists, one after the other, as in each of them together
-pub times_in-append : (xs ys : List ℕ) (i : ℕ) → times_in (xs ++ ys) i ≡ times_in xs i + times_in ys i
-unfolding times_in
+pub times_in-append : (xs ys : List ℕ) (i : ℕ) → times_listed (xs ++ ys) i ≡ times_listed xs i + times_listed ys i
+unfolding times_listed
 times_in-append [] ys i = omega arith
 times_in-append (x ∷ xs) ys i = omega (arith, times_in-append xs ys i)
 
@@ -170,17 +170,18 @@ word_of-append [] fs k = omega arith
 word_of-append (e ∷ es) fs k = omega (arith, word_of-append es fs k)
 
 -- the members of two lists of words are those of the first, then those of the second
-pub numbers_of-append : (es fs : List (ℕ × ℕ)) → numbers_of (es ++ fs) ≡ numbers_of es ++ numbers_of fs
-unfolding numbers_of
+pub numbers_of-append : (es fs : List (ℕ × ℕ)) → numbers_of_set (es ++ fs) ≡ numbers_of_set es ++ numbers_of_set fs
+unfolding numbers_of_set
 numbers_of-append [] fs = refl
-numbers_of-append (e ∷ es) fs = rw (numbers_of-append es fs) (sym (append_assoc (map (λ b. e.0 * 64 + b) (bits_of e.1)) (numbers_of es) (numbers_of fs)))
+numbers_of-append (e ∷ es) fs = rw (numbers_of-append es fs)
+    (sym (append_assoc (map (λ b. e.0 * 64 + b) (bits_of e.1)) (numbers_of_set es) (numbers_of_set fs)))
 
 -- of words whose keys differ
-pub numbers_times : (es : List (ℕ × ℕ)) (i : ℕ) → KeysApart es → times_in (numbers_of es) i ≡ bit_at (word_of es (i / 64)) (i % 64)
-unfolding numbers_of word_of KeysApart times_in
+pub numbers_times : (es : List (ℕ × ℕ)) (i : ℕ) → KeysApart es → times_listed (numbers_of_set es) i ≡ bit_at (word_of es (i / 64)) (i % 64)
+unfolding numbers_of_set word_of KeysApart times_listed
 numbers_times [] i h = sym (bit_at-zero (i % 64))
 numbers_times (e ∷ es) i h =
-    times_in-append (map (λ b. e.0 * 64 + b) (bits_of e.1)) (numbers_of es) i ∙ rw (word_times e.0 e.1 i, numbers_times es i h.1)
+    times_in-append (map (λ b. e.0 * 64 + b) (bits_of e.1)) (numbers_of_set es) i ∙ rw (word_times e.0 e.1 i, numbers_times es i h.1)
     (elim (cases_eq (i / 64) e.0) [
       | inl q ↦
           let z : word_of es (i / 64) ≡ 0 = rw q (word_of-lacks e.0 es h.0) in
@@ -201,9 +202,9 @@ bit_is_test b less = grind (arith, nat_tests)
 
 -- where keys differ in each of two lists of words, and no key has a word in both, the words list each member of the set once
 pub lists_members : (few many : List (ℕ × ℕ)) → KeysApart few → KeysApart many → KeysInOneOnly few many → (i : ℕ) →
-    times_in (numbers_of (few ++ many)) i ≡ (if has_number (few ++ many) i then 1 else 0)
+    times_listed (numbers_of_set (few ++ many)) i ≡ (if has_number (few ++ many) i then 1 else 0)
 unfolding has_number
 lists_members few many a b once i =
-    rw (numbers_of-append few many, times_in-append (numbers_of few) (numbers_of many) i, numbers_times few i a, numbers_times many i b)
+    rw (numbers_of-append few many, times_in-append (numbers_of_set few) (numbers_of_set many) i, numbers_times few i a, numbers_times many i b)
     (sym (bit_of_either (word_of few (i / 64)) (word_of many (i / 64)) (i % 64) (once (i / 64)))
     ∙ ap (λ w. bit_at w (i % 64)) (sym (word_of-append few many (i / 64))) ∙ bit_is_test _ (bit_at-lt (word_of (few ++ many) (i / 64)) (i % 64)))

@@ -6,11 +6,11 @@ use Rattle.std.specs.Map.{lookup, keys_of}
 use Rattle.std.proofs.lemmas.Bool.{cases_eq}
 use Rattle.std.proofs.lemmas.Bool.Decides.{nat_tests}
 use Rattle.regalloc2_cfg.specs.Numbers.{word_of}
-use Rattle.regalloc2_cfg.specs.NumberWords.{Lacks, KeysApart}
+use Rattle.regalloc2_cfg.specs.NumberWords.{LacksKey, KeysApart}
 use Rattle.regalloc2_cfg.proofs.NumberPlaces.{word_of-lacks}
 
-Lacks-from_all : (k : ℕ) (es : List (ℕ × ℕ)) → AllByRecursion (λ y. nat_eq k y ≡ false) (keys_of es) → Lacks k es
-unfolding Lacks
+Lacks-from_all : (k : ℕ) (es : List (ℕ × ℕ)) → AllByRecursion (λ y. nat_eq k y ≡ false) (keys_of es) → LacksKey k es
+unfolding LacksKey
 Lacks-from_all k [] h = tt
 Lacks-from_all k (e ∷ es) h = (h.0, Lacks-from_all k es h.1)
 

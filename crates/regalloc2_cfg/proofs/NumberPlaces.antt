@@ -6,38 +6,38 @@ use Rattle.std.proofs.lemmas.List.{take_more_set}
 use Rattle.std.proofs.lemmas.Bool.Decides.{nat_tests}
 use Rattle.std.proofs.lemmas.Bool.{ne_eqb}
 use Rattle.regalloc2_cfg.specs.Numbers.{word_of}
-use Rattle.regalloc2_cfg.specs.NumberWords.{Lacks, KeysApart, IsPlaceFor}
+use Rattle.regalloc2_cfg.specs.NumberWords.{LacksKey, KeysApart, IsPlaceFor}
 
 apart-flip : (a b : ℕ) → nat_eq a b ≡ false → nat_eq b a ≡ false
 apart-flip a b e = grind (arith, nat_tests)
 
 -- if the word at each index has another key, then no word of the list has this key
-pub Lacks-from_each : (key : ℕ) (es : List (ℕ × ℕ)) → ((k : ℕ) → k < length es → (slice_index_or es k (0, 0)).0 ≢ key) → Lacks key es
-unfolding Lacks
+pub Lacks-from_each : (key : ℕ) (es : List (ℕ × ℕ)) → ((k : ℕ) → k < length es → (slice_index_or es k (0, 0)).0 ≢ key) → LacksKey key es
+unfolding LacksKey
 Lacks-from_each key [] h = tt
 Lacks-from_each key (e ∷ es) h =
     (ne_eqb key e.0 (λ q. h 0 (omega arith) (sym q)), Lacks-from_each key es (λ k less. h (suc k) (omega arith)))
 
-Lacks-at : (key : ℕ) (es : List (ℕ × ℕ)) (p : ℕ) → Lacks key es → p < length es → nat_eq key (slice_index_or es p (0, 0)).0 ≡ false
-unfolding Lacks
+Lacks-at : (key : ℕ) (es : List (ℕ × ℕ)) (p : ℕ) → LacksKey key es → p < length es → nat_eq key (slice_index_or es p (0, 0)).0 ≡ false
+unfolding LacksKey
 Lacks-at key [] p h less = absurd (omega arith)
 Lacks-at key (e ∷ es) zero h less = h.0
 Lacks-at key (e ∷ es) (suc p) h less = Lacks-at key es p h.1 (omega arith)
 
-Lacks-set : (k key w : ℕ) (es : List (ℕ × ℕ)) (p : ℕ) → Lacks k es → nat_eq k key ≡ false → Lacks k (slice_set es p (key, w))
-unfolding Lacks
+Lacks-set : (k key w : ℕ) (es : List (ℕ × ℕ)) (p : ℕ) → LacksKey k es → nat_eq k key ≡ false → LacksKey k (slice_set es p (key, w))
+unfolding LacksKey
 Lacks-set k key w [] p h ne = tt
 Lacks-set k key w (e ∷ es) zero h ne = (ne, h.1)
 Lacks-set k key w (e ∷ es) (suc p) h ne = (h.0, Lacks-set k key w es p h.1 ne)
 
-Lacks-append : (k key w : ℕ) (es : List (ℕ × ℕ)) → Lacks k es → nat_eq k key ≡ false → Lacks k (es ++ (key, w) ∷ [])
-unfolding Lacks
+Lacks-append : (k key w : ℕ) (es : List (ℕ × ℕ)) → LacksKey k es → nat_eq k key ≡ false → LacksKey k (es ++ (key, w) ∷ [])
+unfolding LacksKey
 Lacks-append k key w [] h ne = (ne, tt)
 Lacks-append k key w (e ∷ es) h ne = (h.0, Lacks-append k key w es h.1 ne)
 
 -- the word of a key is 0 where no word of the list has that key
-pub word_of-lacks : (key : ℕ) (es : List (ℕ × ℕ)) → Lacks key es → word_of es key ≡ 0
-unfolding Lacks word_of
+pub word_of-lacks : (key : ℕ) (es : List (ℕ × ℕ)) → LacksKey key es → word_of es key ≡ 0
+unfolding LacksKey word_of
 word_of-lacks key [] h = refl
 word_of-lacks key (e ∷ es) h = rw (h.0) (omega (arith, word_of-lacks key es h.1))
 
@@ -73,17 +73,17 @@ set_own key w k (e ∷ es) (suc p) h less at =
     let ne : nat_eq key e.0 ≡ false = apart-flip e.0 key (rw at at (Lacks-at e.0 es p h.0 (omega arith))) in
     further k key e.0 e.1 w (word_of es k) _ ne (set_own key w k es p h.1 (omega arith) at)
 
-set_zero : (key w k : ℕ) (es : List (ℕ × ℕ)) (p : ℕ) → Lacks key es → p < length es → (slice_index_or es p (0, 0)).1 ≡ 0 →
+set_zero : (key w k : ℕ) (es : List (ℕ × ℕ)) (p : ℕ) → LacksKey key es → p < length es → (slice_index_or es p (0, 0)).1 ≡ 0 →
     word_of (slice_set es p (key, w)) k ≡ cond (nat_eq k key) w (word_of es k)
-unfolding Lacks word_of
+unfolding LacksKey word_of
 set_zero key w k [] p h less at = absurd (omega arith)
 set_zero key w k (e ∷ es) zero h less at =
     zero_here k key e.0 e.1 w (word_of es k) at (λ q. rw (← q) at (word_of-lacks key es h.1))
 set_zero key w k (e ∷ es) (suc p) h less at =
     further k key e.0 e.1 w (word_of es k) _ h.0 (set_zero key w k es p h.1 (omega arith) at)
 
-append_word : (key w k : ℕ) (es : List (ℕ × ℕ)) → Lacks key es → word_of (es ++ (key, w) ∷ []) k ≡ cond (nat_eq k key) w (word_of es k)
-unfolding Lacks word_of
+append_word : (key w k : ℕ) (es : List (ℕ × ℕ)) → LacksKey key es → word_of (es ++ (key, w) ∷ []) k ≡ cond (nat_eq k key) w (word_of es k)
+unfolding LacksKey word_of
 append_word key w k [] h = omega arith
 append_word key w k (e ∷ es) h = further k key e.0 e.1 w (word_of es k) _ h.0 (append_word key w k es h.1)
 
@@ -96,15 +96,15 @@ KeysApart-set_own key w (e ∷ es) (suc p) h less at =
     let ne : nat_eq e.0 key ≡ false = rw at at (Lacks-at e.0 es p h.0 (omega arith)) in
     (Lacks-set e.0 key w es p h.0 ne, KeysApart-set_own key w es p h.1 (omega arith) at)
 
-KeysApart-set_new : (key w : ℕ) (es : List (ℕ × ℕ)) (p : ℕ) → KeysApart es → Lacks key es → KeysApart (slice_set es p (key, w))
-unfolding KeysApart Lacks
+KeysApart-set_new : (key w : ℕ) (es : List (ℕ × ℕ)) (p : ℕ) → KeysApart es → LacksKey key es → KeysApart (slice_set es p (key, w))
+unfolding KeysApart LacksKey
 KeysApart-set_new key w [] p h l = tt
 KeysApart-set_new key w (e ∷ es) zero h l = (l.1, h.1)
 KeysApart-set_new key w (e ∷ es) (suc p) h l =
     (Lacks-set e.0 key w es p h.0 (apart-flip key e.0 l.0), KeysApart-set_new key w es p h.1 l.1)
 
-KeysApart-append : (key w : ℕ) (es : List (ℕ × ℕ)) → KeysApart es → Lacks key es → KeysApart (es ++ (key, w) ∷ [])
-unfolding KeysApart Lacks
+KeysApart-append : (key w : ℕ) (es : List (ℕ × ℕ)) → KeysApart es → LacksKey key es → KeysApart (es ++ (key, w) ∷ [])
+unfolding KeysApart LacksKey
 KeysApart-append key w [] h l = (tt, tt)
 KeysApart-append key w (e ∷ es) h l = (Lacks-append e.0 key w es h.0 (apart-flip key e.0 l.0), KeysApart-append key w es h.1 l.1)
 

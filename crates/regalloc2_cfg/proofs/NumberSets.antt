@@ -6,7 +6,7 @@ use Rattle.std.proofs.lemmas.Bool.{cases_eq}
 use Rattle.std.proofs.lemmas.Bool.Decides.{nat_tests}
 use Rattle.std.proofs.lemmas.Nat.Bits.{bit_at_set_same, bit_at_set_other, bit_at_clear_same, bit_at_clear_other, bit_at-zero}
 use Rattle.regalloc2_cfg.specs.Numbers.{word_of, has_number}
-use Rattle.regalloc2_cfg.specs.NumberWords.{Lacks, KeysApart, KeysInOneOnly}
+use Rattle.regalloc2_cfg.specs.NumberWords.{LacksKey, KeysApart, KeysInOneOnly}
 use Rattle.regalloc2_cfg.proofs.NumberBits.{word_of-append}
 
 -- a word of the whole
@@ -84,8 +84,8 @@ pub words_same : (few many copy whole : List (ℕ × ℕ)) → few ++ many ≡ w
 words_same few many copy whole e h k = rw (word_of-append few copy k, h k, word_of-whole few many whole e k) refl
 
 -- what comes before a word has none of its key
-Lacks-in : (k : ℕ) (bs rest : List (ℕ × ℕ)) (key word : ℕ) → Lacks k (bs ++ (key, word) ∷ rest) → nat_eq k key ≡ false
-unfolding Lacks
+Lacks-in : (k : ℕ) (bs rest : List (ℕ × ℕ)) (key word : ℕ) → LacksKey k (bs ++ (key, word) ∷ rest) → nat_eq k key ≡ false
+unfolding LacksKey
 Lacks-in k [] rest key word h = h.0
 Lacks-in k (b ∷ bs) rest key word h = Lacks-in k bs rest key word h.1
 

@@ -7,7 +7,7 @@ use Rattle.std.proofs.lemmas.Bool.{cases_eq}
 use Rattle.std.proofs.lemmas.Bool.Decides.{nat_tests}
 use Rattle.std.proofs.lemmas.Nat.Bits.{bit_at_or, bit_at_and, bit_at_not, bit_at-lt, bit_at-zero, bit_at-trailing_zeros}
 use Rattle.std.specs.Int.{trailing_zeros}
-use Rattle.regalloc2_cfg.specs.Numbers.{word_of, has_number, has_bit, in_some_word, numbers_of, times_in, bits_of}
+use Rattle.regalloc2_cfg.specs.Numbers.{word_of, has_number, has_bit, in_some_word, numbers_of_set, times_listed, bits_of}
 use Rattle.std.proofs.lemmas.Nat.{and_le_l}
 use Rattle.std.proofs.Common.{append_assoc}
 use Rattle.std.proofs.lemmas.List.{append-nil}
@@ -27,19 +27,20 @@ some_more (y ∷ ys) e i = rw (some_more ys e i) (or_assoc (has_bit y i) (in_som
     or_assoc true b c = refl
     or_assoc false b c = refl
 
-some_times : (es : List (ℕ × ℕ)) (i : ℕ) → in_some_word es i ≡ nat_lt 0 (times_in (numbers_of es) i)
-unfolding in_some_word numbers_of times_in
+some_times : (es : List (ℕ × ℕ)) (i : ℕ) → in_some_word es i ≡ nat_lt 0 (times_listed (numbers_of_set es) i)
+unfolding in_some_word numbers_of_set times_listed
 some_times [] i = refl
 some_times (e ∷ es) i =
-    rw (times_in-append (map (λ b. e.0 * 64 + b) (bits_of e.1)) (numbers_of es) i, word_times e.0 e.1 i, some_times es i)
-    (step (nat_eq (i / 64) e.0) (bit_at e.1 (i % 64)) (times_in (numbers_of es) i) (bit_at-lt e.1 (i % 64)))
+    rw (times_in-append (map (λ b. e.0 * 64 + b) (bits_of e.1)) (numbers_of_set es) i, word_times e.0 e.1 i, some_times es i)
+    (step (nat_eq (i / 64) e.0) (bit_at e.1 (i % 64)) (times_listed (numbers_of_set es) i) (bit_at-lt e.1 (i % 64)))
   where
     step : (t : Bool) (b r : ℕ) → b < 2 → t && nat_eq b 1 || nat_lt 0 r ≡ nat_lt 0 (cond t b 0 + r)
     step true b r less = grind (arith, nat_tests)
     step false b r less = let e : 0 + r ≡ r = omega arith in rw e refl
 
 -- what the words of a set have is what it has
-pub some_has : (s : List (ℕ × ℕ)) → ((i : ℕ) → times_in (numbers_of s) i ≡ (if has_number s i then 1 else 0)) → (i : ℕ) → in_some_word s i ≡ has_number s i
+pub some_has : (s : List (ℕ × ℕ)) → ((i : ℕ) → times_listed (numbers_of_set s) i ≡ (if has_number s i then 1 else 0)) → (i : ℕ) →
+    in_some_word s i ≡ has_number s i
 some_has s h i = some_times s i ∙ rw (h i) (by (has_number s i))
   where
     by : (b : Bool) → nat_lt 0 (if b then 1 else 0) ≡ b
@@ -125,14 +126,14 @@ pub all_given : (all ys it : List (ℕ × ℕ)) → all ≡ ys ++ it → it ≡ 
 all_given all ys it e f = sym (e ∙ ap (λ z. ys ++ z) f ∙ append-nil ys)
 
 -- the numbers that are left
-pub none_left : (base bits : ℕ) (words : List (ℕ × ℕ)) → bits ≡ 0 → words ≡ [] → map (λ b. base + b) (bits_of bits) ++ numbers_of words ≡ []
-unfolding numbers_of
+pub none_left : (base bits : ℕ) (words : List (ℕ × ℕ)) → bits ≡ 0 → words ≡ [] → map (λ b. base + b) (bits_of bits) ++ numbers_of_set words ≡ []
+unfolding numbers_of_set
 none_left base bits words z e = rw (bits_of-zero bits z, e) refl
 
 -- where no bits of the last word are left, the numbers left are those of the next word and then of the words after it
 pub next_word : (base bits key word : ℕ) (words rest : List (ℕ × ℕ)) (whole : List ℕ) → bits ≡ 0 → words ≡ (key, word) ∷ rest
-    → map (λ b. base + b) (bits_of bits) ++ numbers_of words ≡ whole → map (λ b. key * 64 + b) (bits_of word) ++ numbers_of rest ≡ whole
-unfolding numbers_of
+    → map (λ b. base + b) (bits_of bits) ++ numbers_of_set words ≡ whole → map (λ b. key * 64 + b) (bits_of word) ++ numbers_of_set rest ≡ whole
+unfolding numbers_of_set
 next_word base bits key word words rest whole z e h = rw (bits_of-zero bits z, e) at h
 
 -- a union grows by a word
@@ -174,7 +175,7 @@ some_within (y ∷ ys) it i h = by (has_bit y i) (in_some_word ys i) (in_some_wo
 
 -- what was joined so far is within the union
 pub within_union : (init new : ℕ → Bool) (other ys it : List (ℕ × ℕ)) → other ≡ ys ++ it → ((i : ℕ) → new i ≡ init i || in_some_word ys i)
-    → ((i : ℕ) → times_in (numbers_of other) i ≡ (if has_number other i then 1 else 0)) → (i : ℕ) → new i ≡ true → init i || has_number other i ≡ true
+    → ((i : ℕ) → times_listed (numbers_of_set other) i ≡ (if has_number other i then 1 else 0)) → (i : ℕ) → new i ≡ true → init i || has_number other i ≡ true
 within_union init new other ys it e so members i h =
     by (init i) (in_some_word ys i) (has_number other i) (sym (so i) ∙ h)
     (λ y. sym (some_has other members i) ∙ ap (λ es. in_some_word es i) e ∙ some_within ys it i y)

@@ -14,7 +14,7 @@ use Rattle.regalloc2_function.specs.FunctionValue.{FunctionValue}
 use Rattle.regalloc2_function.specs.WellFormed.{BlocksFollow, DefinedOnce, IsDefinedBy, UsesAreDefined}
 use Rattle.regalloc2_function.specs.Reasons.{AreSingle, DefinitionSite, IsDefinitionFault, IsFirstRepeat, IsFirstUndefined, UseSite, definitions_among}
 use Rattle.regalloc2_function.specs.Reasons.{definitions_in, uses_in}
-use Rattle.regalloc2_cfg.specs.Definitions.{IsUsable, NamesTaken, NamesUnusable, Notes, Table, entry_of}
+use Rattle.regalloc2_cfg.specs.Definitions.{IsUsable, NamesTaken, NamesUnusable, NotesDefinitions, Table, entry_of}
 use Rattle.regalloc2_cfg.specs.TableLength.{HasRoom}
 use Rattle.regalloc2_cfg.proofs.ListingsOfFunction.{defined_listed, listed_defines, listed_uses, once_single, single_once, uses_listed}
 use Rattle.regalloc2_cfg.proofs.DefsCounted.{among_append}
@@ -66,15 +66,15 @@ module _ (f : FunctionValue) (follow : BlocksFollow f) (some : 0 < length f.bloc
       (record { class = d.0.vreg.class; usable = d.0.usable }, ap (λ v. entry_of t v.number) (sym d.2) ∙ k.kept d.0 d.1, ap (λ v. v.class) d.2, d.3)
 
   -- where the table has taken in all definitions, the function defines each vreg at most once
-  pub noted_once : n ≤ f.num_vregs → Notes (replicate n None) (definitions_in f) t → DefinedOnce f
+  pub noted_once : n ≤ f.num_vregs → NotesDefinitions (replicate n None) (definitions_in f) t → DefinedOnce f
   noted_once few noted = single_once f follow some (wider n f.num_vregs (definitions_in f) few (notes_keep n noted).single)
 
   -- where the table has taken in all definitions and allows each listed use, each use is of a vreg that is defined before it
-  pub usable_uses : Notes (replicate n None) (definitions_in f) t → All (IsUsable t) (uses_in f) → UsesAreDefined f
+  pub usable_uses : NotesDefinitions (replicate n None) (definitions_in f) t → All (IsUsable t) (uses_in f) → UsesAreDefined f
   usable_uses noted all = listed_uses f (All-weaker (IsUsable t) (λ u. IsDefinedBy f u.vreg u.point) (usable_defined (notes_keep n noted)) (uses_in f) all)
 
   -- an error that names the first use that such a table doesn't allow is right: that use is the first not defined before
-  pub unusable_fault : n ≤ f.num_vregs → Notes (replicate n None) (definitions_in f) t → (e : RegAllocError) → NamesUnusable t (uses_in f) e →
+  pub unusable_fault : n ≤ f.num_vregs → NotesDefinitions (replicate n None) (definitions_in f) t → (e : RegAllocError) → NamesUnusable t (uses_in f) e →
       IsDefinitionFault f e
   unusable_fault few noted e h =
       let k = notes_keep n noted in

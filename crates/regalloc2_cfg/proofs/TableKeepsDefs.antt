@@ -8,8 +8,8 @@ use Rattle.std.proofs.lemmas.List.Elements.{Contains-append_left, Contains-push,
 use Rattle.std.proofs.lemmas.Bool.Decides.{Decides-eqb}
 use Rattle.regalloc2_function.specs.Reasons.{DefinitionSite, AreSingle, definitions_among}
 use Rattle.regalloc2_cfg.specs.declared.ssa.Definition.{Definition}
-use Rattle.regalloc2_cfg.specs.Definitions.{Table, Notes, IsTaken, entry_of, kept_of}
-use Rattle.regalloc2_cfg.specs.Definitions.Notes.{none, more}
+use Rattle.regalloc2_cfg.specs.Definitions.{Table, NotesDefinitions, IsNumberTaken, entry_of, kept_of}
+use Rattle.regalloc2_cfg.specs.Definitions.NotesDefinitions.{none, more}
 use Rattle.regalloc2_cfg.proofs.DefsCounted.{among_append}
 
 -- a table has an entry for each of these definitions and no other, and they define each number at most once and below a bound
@@ -93,12 +93,13 @@ keeps_more num ds t d k room free = record {
 }
 
 -- what is noted from a blank table on
-pub notes_keep : (num : ℕ) {ds : List DefinitionSite} {t : Table} → Notes (replicate num None) ds t → Keeps num ds t
+pub notes_keep : (num : ℕ) {ds : List DefinitionSite} {t : Table} → NotesDefinitions (replicate num None) ds t → Keeps num ds t
 notes_keep num none = keeps_none num
 notes_keep num (more {ds = ds} {after = after} d n room free) = keeps_more num ds after d (notes_keep num n) room free
 
 -- the first that is taken is the first that repeats
-pub taken_repeats : (num : ℕ) (ds : List DefinitionSite) (t : Table) (d : DefinitionSite) → Keeps num ds t → IsTaken t d.vreg → AreSingle num (ds ++ d ∷ []) → ⊥
+pub taken_repeats : (num : ℕ) (ds : List DefinitionSite) (t : Table) (d : DefinitionSite) → Keeps num ds t → IsNumberTaken t d.vreg →
+    AreSingle num (ds ++ d ∷ []) → ⊥
 taken_repeats num ds t d k taken single =
     let sum = among_append d.vreg.number ds (d ∷ []) in
     let one = one_here d d.vreg.number refl in

@@ -19,36 +19,36 @@ abbrev pub kept_of : DefinitionSite → Definition
 kept_of d = record { class = d.vreg.class; usable = d.usable }
 
 -- each of these definitions is noted in turn, at a number that is free
-pub data Notes (before : Table) : List DefinitionSite → Table → Type 0 where
-  none : Notes before [] before
-  more : {ds : List DefinitionSite} {after : Table} (d : DefinitionSite) → Notes before ds after → d.vreg.number < length after →
+pub data NotesDefinitions (before : Table) : List DefinitionSite → Table → Type 0 where
+  none : NotesDefinitions before [] before
+  more : {ds : List DefinitionSite} {after : Table} (d : DefinitionSite) → NotesDefinitions before ds after → d.vreg.number < length after →
       entry_of after d.vreg.number ≡ None →
-      Notes before (ds ++ d ∷ []) (slice_set after d.vreg.number (Some (kept_of d)))
+      NotesDefinitions before (ds ++ d ∷ []) (slice_set after d.vreg.number (Some (kept_of d)))
 
 -- a number is too large for the table, or is defined there
-abbrev pub IsTaken : Table → VirtualRegister → Type 0
-IsTaken t v = (length t ≤ v.number) ⊎ (entry_of t v.number ≢ None)
+abbrev pub IsNumberTaken : Table → VirtualRegister → Type 0
+IsNumberTaken t v = (length t ≤ v.number) ⊎ (entry_of t v.number ≢ None)
 
 -- the first of these definitions whose number is taken when its turn comes
-pub record IsFirstTaken (before : Table) (ds : List DefinitionSite) (d : DefinitionSite) : Type 0 where
+pub record IsFirstNumberTaken (before : Table) (ds : List DefinitionSite) (d : DefinitionSite) : Type 0 where
   pub earlier : List DefinitionSite
   pub later : List DefinitionSite
   pub marks : Table
   pub is : ds ≡ earlier ++ d ∷ later
-  pub noted : Notes before earlier marks
-  pub taken : IsTaken marks d.vreg
+  pub noted : NotesDefinitions before earlier marks
+  pub taken : IsNumberTaken marks d.vreg
 
 -- the error names that definition
 abbrev pub NamesTaken : Table → List DefinitionSite → RegAllocError → Type 0
-NamesTaken before ds e = (d : DefinitionSite) × (e ≡ SSA d.vreg d.inst) × IsFirstTaken before ds d
+NamesTaken before ds e = (d : DefinitionSite) × (e ≡ SSA d.vreg d.inst) × IsFirstNumberTaken before ds d
 
 -- by the table, the virtual register is defined in number and class, by that point
-abbrev pub IsDefinedIn : Table → VirtualRegister → ℕ → Type 0
-IsDefinedIn t v point = (e : Definition) × (entry_of t v.number ≡ Some e) × (e.class ≡ v.class) × (e.usable ≤ point)
+abbrev pub IsDefinedInTable : Table → VirtualRegister → ℕ → Type 0
+IsDefinedInTable t v point = (e : Definition) × (entry_of t v.number ≡ Some e) × (e.class ≡ v.class) × (e.usable ≤ point)
 
 -- and so what is used
 abbrev pub IsUsable : Table → UseSite → Type 0
-IsUsable t u = IsDefinedIn t u.vreg u.point
+IsUsable t u = IsDefinedInTable t u.vreg u.point
 
 -- the error names the first of these uses that isn't usable
 abbrev pub NamesUnusable : Table → List UseSite → RegAllocError → Type 0

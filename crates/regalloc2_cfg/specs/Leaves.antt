@@ -21,9 +21,9 @@ pub data Reaches (succs : ℕ → List ℕ) (entry : ℕ) : ℕ → Type 0 where
   onward : {b : ℕ} (s : ℕ) → Reaches succs entry b → met (succs b) s ≡ true → Reaches succs entry s
 
 -- no number is twice in the list
-abbrev pub Once : List ℕ → Type 0
-Once [] = Unit {0}
-Once (x ∷ xs) = (met xs x ≡ false) × Once xs
+abbrev pub ListsOnce : List ℕ → Type 0
+ListsOnce [] = Unit {0}
+ListsOnce (x ∷ xs) = (met xs x ≡ false) × ListsOnce xs
 
 -- the successors of a block
 abbrev pub succs_in : FunctionValue → ℕ → List ℕ

@@ -9,3 +9,4 @@ pub mod Listed
 pub mod Tables
 pub mod Numbers
 pub mod NumberWords
+pub mod MarkedNumbers

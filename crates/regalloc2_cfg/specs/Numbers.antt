@@ -25,14 +25,14 @@ abbrev pub bits_of : ℕ → List ℕ
 bits_of w = bits_from 0 64 w
 
 -- the members, word by word
-unfoldable pub numbers_of : NumberSet → List ℕ
-numbers_of [] = []
-numbers_of (e ∷ es) = map (λ b. e.0 * 64 + b) (bits_of e.1) ++ numbers_of es
+unfoldable pub numbers_of_set : NumberSet → List ℕ
+numbers_of_set [] = []
+numbers_of_set (e ∷ es) = map (λ b. e.0 * 64 + b) (bits_of e.1) ++ numbers_of_set es
 
 -- how often a number is listed
-unfoldable pub times_in : List ℕ → ℕ → ℕ
-times_in [] i = 0
-times_in (x ∷ xs) i = cond (nat_eq x i) 1 0 + times_in xs i
+unfoldable pub times_listed : List ℕ → ℕ → ℕ
+times_listed [] i = 0
+times_listed (x ∷ xs) i = cond (nat_eq x i) 1 0 + times_listed xs i
 
 -- each number of a list is at least so great, and greater than the one before it
 unfoldable pub RisesFrom : ℕ → List ℕ → Type 0
@@ -41,7 +41,7 @@ RisesFrom low (x ∷ xs) = (low ≤ x) × RisesFrom (x + 1) xs
 
 -- the members of a set, each once and nothing else, in whatever order
 abbrev pub ListsMembers : NumberSet → List ℕ → Type 0
-ListsMembers s xs = (i : ℕ) → times_in xs i ≡ (if has_number s i then 1 else 0)
+ListsMembers s xs = (i : ℕ) → times_listed xs i ≡ (if has_number s i then 1 else 0)
 
 -- whether the bit of a number is set in a word with its key
 abbrev pub has_bit : (ℕ × ℕ) → ℕ → Bool

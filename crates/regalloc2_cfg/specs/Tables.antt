@@ -4,7 +4,7 @@ use Rattle.regalloc2_names.specs.Point.{before, after}
 use Rattle.regalloc2_function.specs.FunctionValue.{FunctionValue, BlockValue, block_at}
 use Rattle.regalloc2_function.specs.Reasons.{HasShape}
 use Rattle.regalloc2_function.specs.WellFormed.{last_of}
-use Rattle.regalloc2_cfg.specs.Leaves.{Leaves, Once, Reaches, met, succs_in}
+use Rattle.regalloc2_cfg.specs.Leaves.{Leaves, ListsOnce, Reaches, met, succs_in}
 use Rattle.regalloc2_cfg.specs.declared.cfg.CFGInfo.{CFGInfo}
 
 -- each instruction of the first blocks has its block
@@ -19,9 +19,9 @@ abbrev pub exit_point : BlockValue → ℕ
 exit_point b = after (last_of b)
 
 -- the tables of a function
-pub record AreTables {A : Type 0} (f : FunctionValue) (t : CFGInfo A) : Type 0 where
+pub record AreCFGTables {A : Type 0} (f : FunctionValue) (t : CFGInfo A) : Type 0 where
   pub order : Leaves (succs_in f) [] (f.entry ∷ []) t.postorder.items
-  pub once : Once t.postorder.items
+  pub once : ListsOnce t.postorder.items
   pub reached : (b : ℕ) → ((met t.postorder.items b ≡ true) ↔ Reaches (succs_in f) f.entry b)
   pub insts : length t.insn_block.items ≡ length f.insts
   pub insn_block : HaveBlocks f (length f.blocks) t.insn_block.items
@@ -31,7 +31,7 @@ pub record AreTables {A : Type 0} (f : FunctionValue) (t : CFGInfo A) : Type 0 w
 -- and of a function that passes the tests of blocks and edges
 pub record IsInfoOf {A : Type 0} (f : FunctionValue) (t : CFGInfo A) : Type 0 where
   pub shape : HasShape f
-  pub tables : AreTables f t
+  pub tables : AreCFGTables f t
 
 -- tables without entries
 pub record IsEmptyInfo {A : Type 0} (t : CFGInfo A) : Type 0 where

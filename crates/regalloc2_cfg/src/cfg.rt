@@ -3,7 +3,7 @@
 ghost use Rattle.std.specs.Prelude.{◌≡◌, ◌<◌, ◌⊎◌, ℕ, [], length, map, IfErr, IfOk, OnErr, OnOk};
 ghost use Rattle.regalloc2_function.specs.Reasons.{HasShape, IsShapeFault};
 ghost use Rattle.regalloc2_function.specs.WellFormed.{BlocksFollow};
-ghost use Rattle.regalloc2_cfg.specs.Tables.{AreTables, HaveBlocks, IsEmptyInfo, IsInfoOf, entry_point, exit_point};
+ghost use Rattle.regalloc2_cfg.specs.Tables.{AreCFGTables, HaveBlocks, IsEmptyInfo, IsInfoOf, entry_point, exit_point};
 
 use super::blocks::test_shape;
 use super::postorder::leave_order;
@@ -122,7 +122,7 @@ impl<A: Allocator + Copy> CFGInfo<A> {
     fn fill<F: Function>(&mut self, f: &F, ctx: &mut CFGInfoCtx<A>) -> Result<(), AllocError>
         requires shape { HasShape (F.function f.now) }
         requires empty { IsEmptyInfo self.old }
-        ensures { OnOk result (AreTables (F.function f.now) self.new) }
+        ensures { OnOk result (AreCFGTables (F.function f.now) self.new) }
     {
         leave_order(ctx.alloc, f, &mut ctx.visited, &mut self.postorder)?;
         list_insts(f, &mut self.insn_block)?;

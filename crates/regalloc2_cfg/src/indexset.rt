@@ -5,8 +5,8 @@ ghost use Rattle.std.specs.Prelude.{[], length, slice_index_or, unwrap_or};
 ghost use Rattle.std.specs.Int.{bit_at};
 ghost use Rattle.std.specs.HashMap.{get};
 ghost use Rattle.std.specs.Iterator.{YieldsFirst, item_count};
-ghost use Rattle.regalloc2_cfg.specs.Numbers.{word_of, has_number, bits_of, numbers_of, times_in, RisesFrom, ListsMembers};
-ghost use Rattle.regalloc2_cfg.specs.NumberWords.{Lacks, KeysApart, IsPlaceFor, KeysInOneOnly};
+ghost use Rattle.regalloc2_cfg.specs.Numbers.{word_of, has_number, bits_of, numbers_of_set, times_listed, RisesFrom, ListsMembers};
+ghost use Rattle.regalloc2_cfg.specs.NumberWords.{LacksKey, KeysApart, IsPlaceFor, KeysInOneOnly};
 
 use std::alloc::{AllocError, Allocator, Global};
 use std::collections::{HashMap, hash_map};
@@ -20,7 +20,7 @@ const INLINE: usize = 12;
 /// The place of a key among words.
 fn place_of(words: &[(u32, u64)], key: u32) -> Option<usize>
     ensures some { IfSome result (λ p. (p < length words.now) × ((slice_index_or words.now p (0, 0)).0 ≡ key)) }
-    ensures none { IfNone result (Lacks key words.now) }
+    ensures none { IfNone result (LacksKey key words.now) }
 {
     for place in 0..words.len() {
         if words[place].0 == key {
@@ -148,7 +148,7 @@ impl SetBitsIter {
     /// The places of the bits that are set in `bits`.
     pub fn new(bits: u64) -> Self
         ensures list { result ≡ bits_of bits }
-        ensures members { (i : ℕ) → times_in result i ≡ bit_at bits i }
+        ensures members { (i : ℕ) → times_listed result i ≡ bit_at bits i }
         ensures rising { RisesFrom 0 result }
     {
         SetBitsIter(bits)
@@ -226,9 +226,9 @@ impl<'a> Model for IndexSetIter<'a> {
 
     ghost Value = { List ℕ };
 
-    ghost use Rattle.regalloc2_cfg.specs.Numbers.{bits_of, numbers_of};
+    ghost use Rattle.regalloc2_cfg.specs.Numbers.{bits_of, numbers_of_set};
 
-    ghost view = { λ it. map (λ b. it.base + b) (bits_of it.bits) ++ numbers_of it.words };
+    ghost view = { λ it. map (λ b. it.base + b) (bits_of it.bits) ++ numbers_of_set it.words };
 
     ghost invariant = { λ it. it.base < 2 ^ 38 };
 }
@@ -466,7 +466,7 @@ impl<A: Allocator + Copy> IndexSet<A> {
     /// The words of the set with their keys.
     fn words(&self) -> WordsIter<'_>
         ensures list { result ≡ self.now }
-        ensures members { ListsMembers self.now (numbers_of self.now) }
+        ensures members { ListsMembers self.now (numbers_of_set self.now) }
     {
         WordsIter {
             few: self.few.as_slice(),

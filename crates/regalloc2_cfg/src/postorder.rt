@@ -3,7 +3,7 @@
 ghost use Rattle.std.specs.Prelude.{◌≡◌, ◌<◌, ◌≤◌, ◌^◌, ◌↔◌, ◌⊎◌, ℕ, List, [], ◌∷◌, length, replicate, false, true, IfErr, OnErr, OnOk};
 ghost use Rattle.regalloc2_function.specs.Reasons.{IsFirstIn};
 ghost use Rattle.regalloc2_function.specs.WellFormed.{SuccessorsAreBlocks};
-ghost use Rattle.regalloc2_cfg.specs.Leaves.{Leaves, Once, Reaches, met, succs_in};
+ghost use Rattle.regalloc2_cfg.specs.Leaves.{Leaves, ListsOnce, Reaches, met, succs_in};
 ghost use Rattle.regalloc2_cfg.specs.Listed.{AreBlocks, AreSuccessors, named_blocks};
 
 use super::blocks::first_outside;
@@ -117,7 +117,7 @@ pub fn calculate<'a, A: Allocator + Copy, F: Fn(Block) -> &'a [Block]>(
     requires same { (succs : ℕ → List ℕ) × AreSuccessors (F.post succ_blocks) num_blocks succs }
     ensures blocks { (succs : ℕ → List ℕ) → AreSuccessors (F.post succ_blocks) num_blocks succs → OnOk result (AreBlocks succs num_blocks entry) }
     ensures order { (succs : ℕ → List ℕ) → AreSuccessors (F.post succ_blocks) num_blocks succs → OnOk result (Leaves succs [] (entry ∷ []) out.new.items) }
-    ensures once { OnOk result (Once out.new.items) }
+    ensures once { OnOk result (ListsOnce out.new.items) }
     ensures reached { (succs : ℕ → List ℕ) → AreSuccessors (F.post succ_blocks) num_blocks succs →
         OnOk result ((b : ℕ) → ((met out.new.items b ≡ true) ↔ Reaches succs entry b)) }
     ensures refused { (succs : ℕ → List ℕ) → AreSuccessors (F.post succ_blocks) num_blocks succs →
@@ -158,7 +158,7 @@ pub fn leave_order<A: Allocator + Copy, F: Function>(
 ) -> Result<(), AllocError>
     requires { SuccessorsAreBlocks (F.function f.now) }
     ensures order { OnOk result (Leaves (succs_in (F.function f.now)) [] ((F.function f.now).entry ∷ []) out.new.items) }
-    ensures once { OnOk result (Once out.new.items) }
+    ensures once { OnOk result (ListsOnce out.new.items) }
     ensures reached { OnOk result ((b : ℕ) → ((met out.new.items b ≡ true) ↔ Reaches (succs_in (F.function f.now)) (F.function f.now).entry b)) }
     ensures empty { OnErr result (out.new.items ≡ []) }
 {

@@ -11,7 +11,7 @@ ghost use Rattle.regalloc2_function.specs.Reasons.{HasShape, IsSound, IsSoundnes
 ghost use Rattle.regalloc2_names.specs.Operand.{is_def, is_reading};
 ghost use Rattle.regalloc2_function.specs.WellFormed.{ArgumentsFit, ArgumentsFitAt, BlocksFollow, DefinedOnce, EntryIsFirst, IsFirstToFail};
 ghost use Rattle.regalloc2_function.specs.WellFormed.{SuccessorsAreBlocks, UsesAreDefined, last_of};
-ghost use Rattle.regalloc2_cfg.specs.Definitions.{entry_of, IsDefinedIn, IsTaken, IsUsable, NamesTaken, NamesUnusable, Notes};
+ghost use Rattle.regalloc2_cfg.specs.Definitions.{entry_of, IsDefinedInTable, IsNumberTaken, IsUsable, NamesTaken, NamesUnusable, NotesDefinitions};
 ghost use Rattle.regalloc2_cfg.specs.TableLength.{HasRoom};
 ghost use Rattle.regalloc2_cfg.specs.Tables.{IsInfoOf};
 
@@ -35,7 +35,7 @@ fn note(defined: &mut [Option<Definition>], vreg: VReg, usable: ProgPoint) -> bo
     ensures room { OnTrue result (vreg.number < length defined.old) }
     ensures free { OnTrue result (entry_of defined.old vreg.number ≡ None) }
     ensures noted { OnTrue result (defined.new ≡ slice_set defined.old vreg.number (Some (record { class = vreg.class; usable = usable }))) }
-    ensures taken { OnFalse result (IsTaken defined.old vreg) }
+    ensures taken { OnFalse result (IsNumberTaken defined.old vreg) }
 {
     let number = vreg.vreg();
     if number >= defined.len() {
@@ -58,7 +58,7 @@ fn note_params(
     first: Inst,
 ) -> Result<(), RegAllocError>
     requires { first < 1073741824 }
-    ensures ok { OnOk result (Notes defined.old (map (param_definition first) params.now) defined.new) }
+    ensures ok { OnOk result (NotesDefinitions defined.old (map (param_definition first) params.now) defined.new) }
     ensures err { IfErr result (NamesTaken defined.old (map (param_definition first) params.now)) }
 {
     let usable = ProgPoint::before(first);
@@ -77,7 +77,7 @@ fn note_operands(
     inst: Inst,
 ) -> Result<(), RegAllocError>
     requires { inst < 1073741824 }
-    ensures ok { OnOk result (Notes defined.old (filter_map (operand_definition inst) operands.now) defined.new) }
+    ensures ok { OnOk result (NotesDefinitions defined.old (filter_map (operand_definition inst) operands.now) defined.new) }
     ensures err { IfErr result (NamesTaken defined.old (filter_map (operand_definition inst) operands.now)) }
 {
     let usable = ProgPoint::after(inst);
@@ -96,7 +96,7 @@ fn note_insts<F: Function>(
     range: InstRange,
 ) -> Result<(), RegAllocError>
     requires { range.end ≤ length (F.function f.now).insts }
-    ensures ok { OnOk result (Notes defined.old (flat_map (inst_definitions (F.function f.now)) (numbers_of range)) defined.new) }
+    ensures ok { OnOk result (NotesDefinitions defined.old (flat_map (inst_definitions (F.function f.now)) (numbers_of range)) defined.new) }
     ensures err { IfErr result (NamesTaken defined.old (flat_map (inst_definitions (F.function f.now)) (numbers_of range))) }
 {
     let first = range.end().index() - range.len();
@@ -116,7 +116,7 @@ fn note_block<F: Function>(
     requires block { block < length (F.function f.now).blocks }
     requires nonempty { (block_at (F.function f.now) block).range.first < (block_at (F.function f.now) block).range.end }
     requires within { (block_at (F.function f.now) block).range.end ≤ length (F.function f.now).insts }
-    ensures ok { OnOk result (Notes defined.old (block_definitions (F.function f.now) (block_at (F.function f.now) block)) defined.new) }
+    ensures ok { OnOk result (NotesDefinitions defined.old (block_definitions (F.function f.now) (block_at (F.function f.now) block)) defined.new) }
     ensures err { IfErr result (NamesTaken defined.old (block_definitions (F.function f.now) (block_at (F.function f.now) block))) }
 {
     let range = f.block_insns(block);
@@ -127,7 +127,7 @@ fn note_block<F: Function>(
 // Notes what all blocks define.
 fn note_blocks<F: Function>(defined: &mut [Option<Definition>], f: &F) -> Result<(), RegAllocError>
     requires { BlocksFollow (F.function f.now) }
-    ensures ok { OnOk result (Notes defined.old (definitions_in (F.function f.now)) defined.new) }
+    ensures ok { OnOk result (NotesDefinitions defined.old (definitions_in (F.function f.now)) defined.new) }
     ensures err { IfErr result (NamesTaken defined.old (definitions_in (F.function f.now))) }
 {
     for b in 0..f.num_blocks() {
@@ -138,7 +138,7 @@ fn note_blocks<F: Function>(defined: &mut [Option<Definition>], f: &F) -> Result
 
 // Whether a vreg is defined, in number and class, by a point.
 fn is_usable(defined: &[Option<Definition>], vreg: VReg, point: ProgPoint) -> bool
-    ensures { IsTrue result ↔ IsDefinedIn defined.now vreg point }
+    ensures { IsTrue result ↔ IsDefinedInTable defined.now vreg point }
 {
     let number = vreg.vreg();
     if number >= defined.len() {

@@ -9,7 +9,7 @@ use Rattle.regalloc2_function.specs.WellFormed.{IsFramed}
 use Rattle.regalloc2_checker.specs.declared.errors.CheckerError.{CheckerError}
 use Rattle.regalloc2_checker.specs.Facts.{Facts, facts_after}
 use Rattle.regalloc2_checker.specs.Fixpoint.{IsReachedBlock, nth_of, facts_within}
-use Rattle.regalloc2_checker.specs.CheckInputs.{IsKnown}
+use Rattle.regalloc2_checker.specs.CheckInputs.{AreFactsKnown}
 use Rattle.regalloc2_checker.specs.Blocks.{IsKnownWithin, IsBlockJudged}
 use Rattle.regalloc2_checker.specs.Report.{InstReport, InstReports, BlockReport, BlockReports}
 use Rattle.regalloc2_checker.specs.Tables.{BlockView, IsSolved, facts_at, view_at}
@@ -61,7 +61,7 @@ pub record IsRunIn (f : FunctionValue) (o : OutputValue) (b i n : ℕ) (G H : Fa
 -- checking one instruction more appends that instruction's errors and goes on past it
 pub judged_next : {A : Type 0} (f : FunctionValue) (env : MachineValue) (o : OutputValue) (b i n : ℕ) (F : Facts) (old mid new : List (CheckerError A))
     (G H : Facts) → IsRunIn f o b i n G H → IsKnownWithin f o b F →
-    (IsKnown f o (record { block = b; inst = n }) G → (es : List (CheckerError A)) × (new ≡ mid ++ es)
+    (AreFactsKnown f o (record { block = b; inst = n }) G → (es : List (CheckerError A)) × (new ≡ mid ++ es)
     × InstReport f env o (record { block = b; inst = n }) es) →
     IsJudgedTo f env o b i F old mid G → IsJudgedTo f env o b (i + 1) F old new H
 judged_next f env o b i n F old mid new G H here known judge j =
@@ -70,10 +70,10 @@ judged_next f env o b i n F old mid new G H here known judge j =
     let high = here.high in
     let run = here.run in
     let first : ℕ = (block_at f b).range.first in
-    let there : IsKnown f o (record { block = b; inst = n }) (facts_within f o b F (i - first)) =
-    subst (λ (l : Location). IsKnown f o l (facts_within f o b F (i - first))) (located b (first + (i - first)) n (omega arith))
+    let there : AreFactsKnown f o (record { block = b; inst = n }) (facts_within f o b F (i - first)) =
+    subst (λ (l : Location). AreFactsKnown f o l (facts_within f o b F (i - first))) (located b (first + (i - first)) n (omega arith))
     (known (i - first) (omega arith)) in
-    let r = judge (subst (λ (X : Facts). IsKnown f o (record { block = b; inst = n }) X) (sym j.now) there) in
+    let r = judge (subst (λ (X : Facts). AreFactsKnown f o (record { block = b; inst = n }) X) (sym j.now) there) in
     record {
       errors = j.errors ++ r.0;
       whole = r.1 ∙ ap (λ (es : List (CheckerError _)). es ++ r.0) j.whole ∙ append_assoc old j.errors r.0;

@@ -15,7 +15,7 @@ use Rattle.regalloc2_function.specs.Views.{move_of, edit_of}
 use Rattle.regalloc2_function.specs.WellFormed.{IsFramed}
 use Rattle.regalloc2_function.specs.declared.listing.Edit.{Edit}
 use Rattle.regalloc2_checker.specs.declared.listing.Listed.{Listed}
-use Rattle.regalloc2_checker.specs.ListingCopied.{ArePassed, IsSplit, IsAdded, IsListedBefore}
+use Rattle.regalloc2_checker.specs.ListingCopied.{AreBeforePoint, IsSplit, IsAdded, IsListedBefore}
 use Rattle.regalloc2_checker.specs.Listing.{IsListing}
 
 -- no moves are those of no edits
@@ -49,8 +49,8 @@ sorted_edits es h = λ i j d a b.
     omega arith
 
 -- one edit more is passed
-pub passed_more : (es : List (ℕ × Edit)) (k point : ℕ) (e : ℕ × Edit) → k < length es → e ≡ get_or es k e → e.0 < point → ArePassed es k point →
-    ArePassed es (k + 1) point
+pub passed_more : (es : List (ℕ × Edit)) (k point : ℕ) (e : ℕ × Edit) → k < length es → e ≡ get_or es k e → e.0 < point → AreBeforePoint es k point →
+    AreBeforePoint es (k + 1) point
 passed_more es k point e l is low h = λ j d less. elim (cases_lt j k) [
   | inl a ↦ h j d a
   | inr a ↦ (let q : j ≡ k = omega arith in
@@ -66,7 +66,7 @@ passed_more es k point e l is low h = λ j d less. elim (cases_lt j k) [
 
 -- where the next edit isn't before the point, none is from there on
 pub split_here : (es : List (ℕ × Edit)) (k point : ℕ) (e : ℕ × Edit) → IsNonDecreasingBy (λ (x : ℕ × Edit). x.0) es → k < length es → e ≡ get_or es k e →
-    point ≤ e.0 → ArePassed es k point → IsSplit es k point
+    point ≤ e.0 → AreBeforePoint es k point → IsSplit es k point
 split_here es k point e sorted l is low h = record {
   within = omega arith;
   passed = h;
@@ -81,11 +81,11 @@ split_here es k point e sorted l is low h = record {
     same (x ∷ xs) (suc n) a b less = same xs n a b (omega arith)
 
 -- where all edits are before the point, none is left
-pub split_end : (es : List (ℕ × Edit)) (k point : ℕ) → k ≡ length es → ArePassed es k point → IsSplit es k point
+pub split_end : (es : List (ℕ × Edit)) (k point : ℕ) → k ≡ length es → AreBeforePoint es k point → IsSplit es k point
 split_end es k point e h = record { within = omega arith; passed = h; left = λ j d a b. absurd (omega arith) }
 
 -- edits that are before a point are before a later one
-pub passed_later : (es : List (ℕ × Edit)) (n p q : ℕ) → p ≤ q → ArePassed es n p → ArePassed es n q
+pub passed_later : (es : List (ℕ × Edit)) (n p q : ℕ) → p ≤ q → AreBeforePoint es n p → AreBeforePoint es n q
 passed_later es n p q l h = λ k d a. (let b = h k d a in omega arith)
 
 -- a point that parts the edits listed before an instruction from those listed earlier, in a block that begins at first
@@ -106,7 +106,7 @@ begins_next es first i n point l p h = λ q s. subst (λ (t : ℕ). IsSplit es n
 
 -- what is before the edits of an instruction is before the point after it
 pub begun_passed : (es : List (ℕ × Edit)) (first i n point : ℕ) → first ≤ i → before i ≤ point → BeginsAt es first i n →
-    (n ≤ length es) × ArePassed es n point
+    (n ≤ length es) × AreBeforePoint es n point
 begun_passed es first i n point l p h = elim (cases_lt first i) [
   | inl a ↦ (let s = h (before i - 1) ((λ e. absurd (omega arith)), (λ e. omega arith)) in
       (s.within, passed_later es n (before i - 1) point (omega arith) s.passed))

@@ -15,11 +15,11 @@ use Rattle.regalloc2_function.specs.AllocatedRun.{moves_at}
 use Rattle.regalloc2_function.specs.Held.{Holds}
 use Rattle.regalloc2_checker.specs.declared.errors.CheckerError.{CheckerError}
 use Rattle.regalloc2_checker.specs.Facts.{Facts, facts_early, facts_after, facts_after_moves, facts_after_early_defs, facts_for}
-use Rattle.regalloc2_checker.specs.CheckInputs.{IsKnown}
+use Rattle.regalloc2_checker.specs.CheckInputs.{AreFactsKnown}
 use Rattle.regalloc2_checker.proofs.TransferFollowsFacts.{IsReadAt}
-use Rattle.regalloc2_checker.specs.Report.{operand_at, AreVRegsInValue, IsValueFault, IsFault, IsFine, IsJudged, AreMoveFaults, InstReport}
+use Rattle.regalloc2_checker.specs.Report.{operand_at, AreVRegsInValue, IsValueFault, IsOperandFault, IsFine, AreOperandsJudged, AreMoveFaults, InstReport}
 use Rattle.regalloc2_checker.specs.Report.IsValueFault.{unknown, incorrect}
-use Rattle.regalloc2_checker.specs.Report.IsFault.{missing, of_value, of_constraint}
+use Rattle.regalloc2_checker.specs.Report.IsOperandFault.{missing, of_value, of_constraint}
 
 -- what places hold, said in two ways
 module _ (A B : VirtualRegister → Type 0) (h : (v : VirtualRegister) → A v ↔ B v) where
@@ -31,7 +31,7 @@ module _ (A B : VirtualRegister → Type 0) (h : (v : VirtualRegister) → A v �
   value_as inst op p _ (incorrect n v x actual a) = incorrect (λ b. n ((h op.vreg).1 b)) v ((h v).0 x) actual (holders_as actual.items a)
 
   fault_as : {T : Type 0} (env : MachineValue) (inst : ℕ) (op : OperandValue) (count : ℕ) (places : List Place) (p : Place) (e : CheckerError T) →
-      IsFault env inst op count places p A e → IsFault env inst op count places p B e
+      IsOperandFault env inst op count places p A e → IsOperandFault env inst op count places p B e
   fault_as env inst op count places p _ (missing m) = missing m
   fault_as env inst op count places p _ (of_value e there reads v) = of_value e there reads (value_as inst op p e v)
   fault_as env inst op count places p _ (of_constraint e there held c) = of_constraint e there (λ r. (h op.vreg).0 (held r)) c
@@ -43,7 +43,7 @@ module _ (A B : VirtualRegister → Type 0) (h : (v : VirtualRegister) → A v �
 -- the first error among a position's operands depends on what places hold only by which vregs' values they hold
 pub judged_as : {T : Type 0} (env : MachineValue) (inst : ℕ) (os : List OperandValue) (ps : List Place) (position : OperandPos)
     (A B : Place → VirtualRegister → Type 0) (h : (p : Place) (v : VirtualRegister) → A p v ↔ B p v)
-    (r : Option (CheckerError T)) → IsJudged env inst os ps position A r → IsJudged env inst os ps position B r
+    (r : Option (CheckerError T)) → AreOperandsJudged env inst os ps position A r → AreOperandsJudged env inst os ps position B r
 judged_as env inst os ps position A B h None j = λ k less at. fine_as (A (place_at ps k)) (B (place_at ps k)) (h (place_at ps k)) env (operand_at os k)
     (length os) ps (place_at ps k) (j k less at)
 judged_as env inst os ps position A B h (Some e) (k, less, at, before, f) = (
@@ -62,13 +62,13 @@ early_run f o b i F E ms ps os em ep eo e = rw (e, em, ep, eo) refl
 
 -- what is known holds
 known_early : (f : FunctionValue) (o : OutputValue) (l : Location) (E F : Facts) → E ≡ facts_early f o l F →
-    IsKnown f o l F → (p : Place) (v : VirtualRegister) → (E p v ≡ true) ↔ Holds f o l Early p v
+    AreFactsKnown f o l F → (p : Place) (v : VirtualRegister) → (E p v ≡ true) ↔ Holds f o l Early p v
 unfolding facts_for
 known_early f o l E F same known p v =
     let at : E p v ≡ facts_early f o l F p v = ap (λ (X : Facts). X p v) same in (λ t. (known Early p v).0 (sym at ∙ t), λ h. at ∙ (known Early p v).1 h)
 
 known_late : (f : FunctionValue) (o : OutputValue) (l : Location) (E F : Facts) → E ≡ facts_after f o l F →
-    IsKnown f o l F → (p : Place) (v : VirtualRegister) → (E p v ≡ true) ↔ Holds f o l Late p v
+    AreFactsKnown f o l F → (p : Place) (v : VirtualRegister) → (E p v ≡ true) ↔ Holds f o l Late p v
 unfolding facts_for
 known_late f o l E F same known p v =
     let at : E p v ≡ facts_after f o l F p v = ap (λ (X : Facts). X p v) same in (λ t. (known Late p v).0 (sym at ∙ t), λ h. at ∙ (known Late p v).1 h)
@@ -79,13 +79,13 @@ pub record InstJudged (T : Type 0) (env : MachineValue) (i : ℕ) (ms : List Mov
   pub early : Option (CheckerError T)
   pub late : Option (CheckerError T)
   pub moves : AreMoveFaults env ms of_moves
-  pub at_early : IsJudged env i os ps Early (λ p v. E p v ≡ true) early
-  pub at_late : IsJudged env i os ps Late (λ p v. L p v ≡ true) late
+  pub at_early : AreOperandsJudged env i os ps Early (λ p v. E p v ≡ true) early
+  pub at_late : AreOperandsJudged env i os ps Late (λ p v. L p v ≡ true) late
 
 -- the errors of an instruction, as they were found
 pub inst_report : {T : Type 0} (f : FunctionValue) (env : MachineValue) (o : OutputValue) (l : Location) (E L F : Facts) (ms : List MoveValue) (ps : List Place)
     (os : List OperandValue) → IsReadAt f o l ms ps os → (j : InstJudged T env l.inst ms ps os E L) → E ≡ facts_early f o l F → L ≡ facts_after f o l F →
-    IsKnown f o l F → InstReport f env o l (j.of_moves ++ (option_to_list j.early ++ option_to_list j.late))
+    AreFactsKnown f o l F → InstReport f env o l (j.of_moves ++ (option_to_list j.early ++ option_to_list j.late))
 inst_report f env o l E L F ms ps os r j se sl known = record {
   of_moves = j.of_moves;
   of_early = j.early;

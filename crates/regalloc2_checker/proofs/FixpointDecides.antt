@@ -17,7 +17,7 @@ use Rattle.regalloc2_function.specs.Faithful.{ReadsAgree, ConstraintsMet, IsStac
 use Rattle.regalloc2_function.specs.Held.{cell_at}
 use Rattle.regalloc2_function.specs.WellFormed.{IsFramed}
 use Rattle.regalloc2_checker.specs.Facts.{Facts, facts_for, true_facts, same_write}
-use Rattle.regalloc2_checker.specs.Fixpoint.{nth_of, IsReachedBlock, facts_within, IsFixpoint, IsRefutedElsewhere, IsAccepted, AllAccepted}
+use Rattle.regalloc2_checker.specs.Fixpoint.{nth_of, IsReachedBlock, facts_within, IsFixpoint, IsRefutedElsewhere, IsAcceptedInst, AllAccepted}
 use Rattle.regalloc2_checker.specs.Fixpoint.{FactsAreHeld, FactsHoldBefore, AcceptedIsFaithful}
 use Rattle.regalloc2_checker.proofs.FactsTraced.{traced-for, change-fewer}
 use Rattle.regalloc2_checker.proofs.FactsFollowMaps.{AreEarlier, true_facts-read, same_write-true, same_write-same}
@@ -98,7 +98,7 @@ facts_are_held law f o F ok s g b n r less position p v = (
 
 accepted_reads : AreEarlier → (f : FunctionValue) (env : MachineValue) (o : OutputValue) (F : ℕ → Facts) → IsFixpoint f o F → (b n : ℕ) (ws : List Way) →
     IsPath f ws → end_of f ws ≡ nth_of f b n →
-    IsAccepted f env o (nth_of f b n) (facts_within f o b (F b) n) → ReadsAgree f o ws
+    IsAcceptedInst f env o (nth_of f b n) (facts_within f o b (F b) n) → ReadsAgree f o ws
 accepted_reads law f env o F s b n ws h e a k d less =
     let op : OperandValue = slice_index_or (last_inst f ws).operands k d in
     λ reads.
@@ -118,7 +118,7 @@ accepted_faithful law f env o F ok s a ws h =
     let high : l.inst < (block_at f l.block).range.end = before_end f ok ws h in
     let n : ℕ = l.inst - first in
     let e : l ≡ nth_of f l.block n = located l.block l.inst (first + n) (omega arith) in
-    let g : IsAccepted f env o (nth_of f l.block n) (facts_within f o l.block (F l.block) n) = a l.block n (reached_block f ws h) (omega arith) in
+    let g : IsAcceptedInst f env o (nth_of f l.block n) (facts_within f o l.block (F l.block) n) = a l.block n (reached_block f ws h) (omega arith) in
     record {
       reads = accepted_reads law f env o F s l.block n ws h e g;
       constraints = subst (λ (m : Location). ConstraintsMet f env o m.inst) (sym e) g.constraints;

@@ -4,7 +4,7 @@ use Rattle.std.specs.Prelude.{◌↔◌, Contains, OnOk}
 use Rattle.regalloc2_function.specs.FunctionValue.{FunctionValue}
 use Rattle.regalloc2_function.specs.Machine.{MachineValue}
 use Rattle.regalloc2_function.specs.OutputValue.{OutputValue}
-use Rattle.regalloc2_checker.specs.Cells.{AreCells, ArePlacesOfMachine, IsTaken, IsInFrame, AreApart}
+use Rattle.regalloc2_checker.specs.Cells.{AreCells, ArePlacesOfMachine, IsSlotTaken, IsInFrame, AreUnitsApart}
 use Rattle.regalloc2_checker.specs.CellFaults.{IsCellFault, IsSlotFault, AreAllApart}
 use Rattle.regalloc2_checker.specs.declared.cells.CellFault.{CellFault}
 use Rattle.regalloc2_checker.specs.declared.cells.CellFault.TheVariants.{Operand, MoveEnd, OtherClass, Location, Slot, Shared, Memory}
@@ -15,7 +15,7 @@ both_ok (Err e) to p q = tt
 
 -- slots of a list with those that an output names
 abbrev pub AreNamed : FunctionValue → OutputValue → List (ℕ × ℕ) → Type 0
-AreNamed f out xs = (n u : ℕ) → Contains xs (n, u) ↔ IsTaken f out n u
+AreNamed f out xs = (n u : ℕ) → Contains xs (n, u) ↔ IsSlotTaken f out n u
 
 pub named_same : (f : FunctionValue) (out : OutputValue) (xs ys : List (ℕ × ℕ)) → xs ≡ ys → AreNamed f out ys → AreNamed f out xs
 named_same f out xs ys same h = subst (λ (l : List (ℕ × ℕ)). AreNamed f out l) (sym same) h
@@ -26,7 +26,7 @@ pub cells_of : (f : FunctionValue) (env : MachineValue) (out : OutputValue) (b :
 cells_of f env out b xs last named places frame apart = record {
   places = places;
   frame = λ n u t. subst (λ (x : Bool). IsInFrame x out.num_spillslots n u) last (frame n u ((named n u).1 t));
-  apart = λ m u n w less s t. subst (λ (x : Bool). AreApart x m u n w) last (apart m u n w less ((named m u).1 s) ((named n w).1 t));
+  apart = λ m u n w less s t. subst (λ (x : Bool). AreUnitsApart x m u n w) last (apart m u n w less ((named m u).1 s) ((named n w).1 t));
 }
 
 -- what is wrong with the list's slots is wrong with those of the output
@@ -39,7 +39,7 @@ fault_of f env out b xs last named (Location k) h = absurd h
 fault_of f env out b xs last named (Slot n) h =
     (h.0, (named n h.0).0 h.1, subst (λ (x : Bool). IsInFrame x out.num_spillslots n h.0 → ⊥) last h.2)
 fault_of f env out b xs last named (Shared m n) h =
-    (h.0, h.1, h.2, (named m h.0).0 h.3, (named n h.1).0 h.4, subst (λ (x : Bool). AreApart x m h.0 n h.1 → ⊥) last h.5)
+    (h.0, h.1, h.2, (named m h.0).0 h.3, (named n h.1).0 h.4, subst (λ (x : Bool). AreUnitsApart x m h.0 n h.1 → ⊥) last h.5)
 fault_of f env out b xs last named Memory h = tt
 
 -- where a fault is found, they aren't

@@ -24,7 +24,7 @@ use Rattle.regalloc2_function.specs.declared.listing.Edit.{Edit}
 use Rattle.regalloc2_function.specs.Views.{edit_of, move_of}
 use Rattle.regalloc2_checker.proofs.Members.{only_item}
 use Rattle.regalloc2_checker.specs.NamedBits.{ArePlacesAdded, places_of_edit}
-use Rattle.regalloc2_checker.specs.NamedPlaces.{places_of, clobbered, named, bits_unless_missing}
+use Rattle.regalloc2_checker.specs.NamedPlaces.{places_of, clobbered_places, named_places, bits_unless_missing}
 use Rattle.regalloc2_checker.specs.TableFacts.{IsMissingUnlisted, IsListed, AreNamedPlaces}
 
 -- where nothing is added, no place's bits are
@@ -191,19 +191,20 @@ pub clobbered-all : (f : FunctionValue) (s : PRegSet) (n : ℕ) → n ≡ length
 clobbered-all f s n e all = subst (λ (k : ℕ). AreClobbersBefore f k s) e all
 
 clobbers-named : (f : FunctionValue) (s : PRegSet) → AreAllClobbers f s → (p : Place) → Contains (map InRegister (registers_of s)) p →
-    Contains (flat_map clobbered f.insts) p
+    Contains (flat_map clobbered_places f.insts) p
 clobbers-named f s all p h =
     let m = from-map InRegister (registers_of s) p h in
     let l = listed_is s m.0 m.1 in
     let i = (all m.0).0 l.1 in
     let inst : InstValue = inst_at f i.0 in
-    contains-flat clobbered f.insts inst p (Contains-get_or f.insts i.0 no_inst i.1)
-    (subst (λ (q : Place). Contains (clobbered inst) q) m.2 (contains-map InRegister (registers_of inst.clobbers) m.0 (is_listed inst.clobbers m.0 l.0 i.2)))
+    contains-flat clobbered_places f.insts inst p (Contains-get_or f.insts i.0 no_inst i.1)
+    (subst (λ (q : Place). Contains (clobbered_places inst) q) m.2
+        (contains-map InRegister (registers_of inst.clobbers) m.0 (is_listed inst.clobbers m.0 l.0 i.2)))
 
-named-clobbers : (f : FunctionValue) (s : PRegSet) → AreAllClobbers f s → (p : Place) → Contains (flat_map clobbered f.insts) p →
+named-clobbers : (f : FunctionValue) (s : PRegSet) → AreAllClobbers f s → (p : Place) → Contains (flat_map clobbered_places f.insts) p →
     Contains (map InRegister (registers_of s)) p
 named-clobbers f s all p h =
-    let r = from-flat clobbered f.insts p h in
+    let r = from-flat clobbered_places f.insts p h in
     let m = from-map InRegister (registers_of r.0.clobbers) p r.2 in
     let l = listed_is r.0.clobbers m.0 m.1 in
     let at : inst_at f r.1.0 ≡ r.0 = get_or_default f.insts r.1.0 no_inst r.0 r.1.1 ∙ r.1.2 in
@@ -240,14 +241,14 @@ all-named f o edits s bits places same all whole members rising =
     record {
       rising = rising;
       members = λ n. (
-        λ h. subst (λ (ms : List Place). Contains (flat_map bits_unless_missing (ms ++ (o.allocs ++ flat_map clobbered f.insts))) n) (sym moves)
-            (bits-among (flat_map places_of_edit edits ++ (o.allocs ++ regs)) (flat_map places_of_edit edits ++ (o.allocs ++ flat_map clobbered f.insts))
-            (changed-last (flat_map places_of_edit edits) o.allocs regs (flat_map clobbered f.insts) (clobbers-named f s all)) n
+        λ h. subst (λ (ms : List Place). Contains (flat_map bits_unless_missing (ms ++ (o.allocs ++ flat_map clobbered_places f.insts))) n) (sym moves)
+            (bits-among (flat_map places_of_edit edits ++ (o.allocs ++ regs)) (flat_map places_of_edit edits ++ (o.allocs ++ flat_map clobbered_places f.insts))
+            (changed-last (flat_map places_of_edit edits) o.allocs regs (flat_map clobbered_places f.insts) (clobbers-named f s all)) n
             (not-before _ n ((whole n).0 ((members n).0 h)))),
         λ h. (members n).1 ((whole n).1 (inr
-            (bits-among (flat_map places_of_edit edits ++ (o.allocs ++ flat_map clobbered f.insts)) (flat_map places_of_edit edits ++ (o.allocs ++ regs))
-            (changed-last (flat_map places_of_edit edits) o.allocs (flat_map clobbered f.insts) regs (named-clobbers f s all)) n
-            (subst (λ (ms : List Place). Contains (flat_map bits_unless_missing (ms ++ (o.allocs ++ flat_map clobbered f.insts))) n) moves h)))),
+            (bits-among (flat_map places_of_edit edits ++ (o.allocs ++ flat_map clobbered_places f.insts)) (flat_map places_of_edit edits ++ (o.allocs ++ regs))
+            (changed-last (flat_map places_of_edit edits) o.allocs (flat_map clobbered_places f.insts) regs (named-clobbers f s all)) n
+            (subst (λ (ms : List Place). Contains (flat_map bits_unless_missing (ms ++ (o.allocs ++ flat_map clobbered_places f.insts))) n) moves h)))),
       );
     }
 
@@ -261,16 +262,17 @@ only-zero (InSlot n) (suc k, less, at) = omega arith
 
 -- no missing place is named
 pub no-missing : (f : FunctionValue) (o : OutputValue) (places : List ℕ) → AreNamedPlaces f o places → IsMissingUnlisted places
-no-missing f o places h c = let r = from-flat bits_unless_missing (named f o) 0 ((h.members 0).0 c) in only-zero r.0 r.2
+no-missing f o places h c = let r = from-flat bits_unless_missing (named_places f o) 0 ((h.members 0).0 c) in only-zero r.0 r.2
 
 bits-of-some : (p : Place) → p ≢ NoPlace → Contains (bits_unless_missing p) (bits_of_place p)
 bits-of-some NoPlace some = absurd (some refl)
 bits-of-some (InRegister r) some = (0, omega arith, refl)
 bits-of-some (InSlot n) some = (0, omega arith, refl)
 
-named-listed : (f : FunctionValue) (o : OutputValue) (places : List ℕ) (p : Place) → AreNamedPlaces f o places → Contains (named f o) p → IsListed places p
+named-listed : (f : FunctionValue) (o : OutputValue) (places : List ℕ) (p : Place) → AreNamedPlaces f o places → Contains (named_places f o) p →
+    IsListed places p
 named-listed f o places p h c some =
-    (h.members (bits_of_place p)).1 (contains-flat bits_unless_missing (named f o) p (bits_of_place p) c (bits-of-some p some))
+    (h.members (bits_of_place p)).1 (contains-flat bits_unless_missing (named_places f o) p (bits_of_place p) c (bits-of-some p some))
 
 -- what a move fills is listed
 pub moves-listed : (f : FunctionValue) (o : OutputValue) (places : List ℕ) (l : Location) → AreNamedPlaces f o places →
@@ -278,7 +280,8 @@ pub moves-listed : (f : FunctionValue) (o : OutputValue) (places : List ℕ) (l 
 moves-listed f o places l h =
     All-map (λ (m : MoveValue). IsListed places m.to) (λ (e : ℕ × MoveValue). e.1) _ (All-filter _ (λ (e : ℕ × MoveValue). IsListed places e.1.to) o.edits
     (All-weaker (Contains o.edits) (λ (e : ℕ × MoveValue). IsListed places e.1.to)
-    (λ e c. named-listed f o places e.1.to h (Contains-append_left (flat_map (λ x. places_of x.1) o.edits) (o.allocs ++ flat_map clobbered f.insts) e.1.to
+    (λ e c. named-listed f o places e.1.to h (Contains-append_left (flat_map (λ x. places_of x.1) o.edits) (o.allocs ++ flat_map clobbered_places f.insts)
+        e.1.to
     (contains-flat (λ (x : ℕ × MoveValue). places_of x.1) o.edits e e.1.to c (1, omega arith, refl))))
     o.edits (All-contains_itself o.edits)))
 
@@ -286,6 +289,6 @@ moves-listed f o places l h =
 pub operands-listed : (f : FunctionValue) (o : OutputValue) (places : List ℕ) (i : ℕ) → AreNamedPlaces f o places → All (IsListed places) (allocs_of o i)
 operands-listed f o places i h =
     let whole : All (IsListed places) o.allocs = All-weaker (Contains o.allocs) (IsListed places)
-    (λ p c. named-listed f o places p h (Contains-append_right (flat_map (λ e. places_of e.1) o.edits) (o.allocs ++ flat_map clobbered f.insts) p
-    (Contains-append_left o.allocs (flat_map clobbered f.insts) p c))) o.allocs (All-contains_itself o.allocs) in
+    (λ p c. named-listed f o places p h (Contains-append_right (flat_map (λ e. places_of e.1) o.edits) (o.allocs ++ flat_map clobbered_places f.insts) p
+    (Contains-append_left o.allocs (flat_map clobbered_places f.insts) p c))) o.allocs (All-contains_itself o.allocs) in
     All-take (IsListed places) (alloc_end o i - alloc_start o i) (drop (alloc_start o i) o.allocs) (All-drop (IsListed places) (alloc_start o i) o.allocs whole)

@@ -26,7 +26,7 @@ use Rattle.regalloc2_function.specs.WellFormed.{IsFramed}
 use Rattle.regalloc2_function.specs.declared.listing.Output.{Output}
 use Rattle.regalloc2_checker.specs.declared.errors.CheckerError.{CheckerError}
 use Rattle.regalloc2_checker.specs.Fixpoint.{IsReachedBlock, nth_of}
-use Rattle.regalloc2_checker.specs.Report.{operand_at, IsValueFault, IsConstraintFault, IsFault, IsFine, IsFineAt, AreFineBelow, IsJudged}
+use Rattle.regalloc2_checker.specs.Report.{operand_at, IsValueFault, IsConstraintFault, IsOperandFault, IsFine, IsFineAt, AreFineBelow, AreOperandsJudged}
 use Rattle.regalloc2_checker.specs.Report.{AreMoveFaults, InstReport, InstReports, BlockReport, BlockReports, IsReport}
 use Rattle.regalloc2_checker.proofs.Fixpoint.{reached_block, from_first, located, reached_within}
 use Rattle.regalloc2_checker.proofs.FixpointDecides.{block_within, before_end}
@@ -88,15 +88,16 @@ no_value_fault inst op p Has e (IsValueFault.incorrect none v other actual are) 
 -- an operand has a fault or none
 fault_fine : {A : Type 0} (env : MachineValue) (inst : ℕ) (op : OperandValue) (count : ℕ) (places : List Place) (p : Place) (Has : VirtualRegister → Type 0)
     (e : CheckerError A) →
-    IsFault env inst op count places p Has e → IsFine env op count places p Has → ⊥
-fault_fine env inst op count places p Has e (IsFault.missing q) h = missing_unmet env count places op.constraint
+    IsOperandFault env inst op count places p Has e → IsFine env op count places p Has → ⊥
+fault_fine env inst op count places p Has e (IsOperandFault.missing q) h = missing_unmet env count places op.constraint
     (subst (λ (x : Place). Meets env count places op.constraint x) q h.constraint)
-fault_fine env inst op count places p Has e (IsFault.of_value _ n r v) h = no_value_fault inst op p Has e v (h.value r)
-fault_fine env inst op count places p Has e (IsFault.of_constraint _ n r c) h = unmet env inst op count places p op.constraint e c h.constraint
+fault_fine env inst op count places p Has e (IsOperandFault.of_value _ n r v) h = no_value_fault inst op p Has e v (h.value r)
+fault_fine env inst op count places p Has e (IsOperandFault.of_constraint _ n r c) h = unmet env inst op count places p op.constraint e c h.constraint
 
 none_judged : {A : Type 0} (env : MachineValue) (inst : ℕ) (ops : List OperandValue) (places : List Place) (position : OperandPos)
     (Has : OperandPos → Place → VirtualRegister → Type 0) (r : Option (CheckerError A)) →
-    ((k : ℕ) → k < length ops → IsFineAt env ops places (Has (operand_at ops k).position) k) → IsJudged env inst ops places position (Has position) r → r ≡ None
+    ((k : ℕ) → k < length ops → IsFineAt env ops places (Has (operand_at ops k).position) k) → AreOperandsJudged env inst ops places position (Has position)
+        r → r ≡ None
 none_judged env inst ops places position Has None h j = refl
 none_judged env inst ops places position Has (Some e) h (k, less, at, below, fault) =
     absurd (fault_fine env inst (operand_at ops k) (length ops) places (place_at places k) (Has position (place_at places k)) e fault
@@ -109,9 +110,9 @@ fine_at : {A : Type 0} (f : FunctionValue) (env : MachineValue) (o : OutputValue
 fine_at f env o l r k less =
     let operands : List OperandValue = (inst_at f l.inst).operands in
     let none = right_none r.of_moves (option_to_list r.of_early ++ option_to_list r.of_late) (sym r.all) in
-    let early = subst (λ (x : Option (CheckerError _)). IsJudged env l.inst operands (allocs_of o l.inst) Early (Holds f o l Early) x)
+    let early = subst (λ (x : Option (CheckerError _)). AreOperandsJudged env l.inst operands (allocs_of o l.inst) Early (Holds f o l Early) x)
     (is_none r.of_early (left_none _ _ none)) r.early in
-    let late = subst (λ (x : Option (CheckerError _)). IsJudged env l.inst operands (allocs_of o l.inst) Late (Holds f o l Late) x)
+    let late = subst (λ (x : Option (CheckerError _)). AreOperandsJudged env l.inst operands (allocs_of o l.inst) Late (Holds f o l Late) x)
     (is_none r.of_late (right_none (option_to_list r.of_early) _ none)) r.late in
     pick f env o l k less early late (operand_at operands k).position refl
   where

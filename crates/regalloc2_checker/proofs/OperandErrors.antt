@@ -18,10 +18,10 @@ use Rattle.regalloc2_function.specs.Faithful.{Meets, IsStackToStack}
 use Rattle.regalloc2_checker.specs.declared.errors.CheckerError.{CheckerError}
 use Rattle.regalloc2_checker.specs.declared.errors.CheckerError.TheVariants.{MissingAllocation, UnknownValueInAllocation, IncorrectValuesInAllocation}
 use Rattle.regalloc2_checker.specs.declared.errors.CheckerError.TheVariants.{StackToStackMove}
-use Rattle.regalloc2_checker.specs.Report.{no_operand, operand_at, AreVRegsInValue, IsValueFault, IsConstraintFault, IsFineAt, IsFaultAt}
-use Rattle.regalloc2_checker.specs.Report.{AreFineBelow, IsJudged, AreMoveFaults}
+use Rattle.regalloc2_checker.specs.Report.{invalid_operand, operand_at, AreVRegsInValue, IsValueFault, IsConstraintFault, IsFineAt, IsFaultAt}
+use Rattle.regalloc2_checker.specs.Report.{AreFineBelow, AreOperandsJudged, AreMoveFaults}
 use Rattle.regalloc2_checker.specs.Report.IsValueFault.{unknown, incorrect}
-use Rattle.regalloc2_checker.specs.Report.IsFault.{missing, of_value, of_constraint}
+use Rattle.regalloc2_checker.specs.Report.IsOperandFault.{missing, of_value, of_constraint}
 use Rattle.regalloc2_checker.specs.Report.AreMoveFaults.{none, fault, fine}
 use Rattle.regalloc2_checker.proofs.Members.{take_one}
 
@@ -51,7 +51,7 @@ incorrect_fault inst op p Has actual some other h = by_items actual.items refl
 
 -- the operand that was read
 pub operand_is : (os : List OperandValue) (k : ℕ) (op : OperandValue) → k < length os → op ≡ get_or os k op → op ≡ operand_at os k
-operand_is os k op less is = is ∙ get_or_default os k op no_operand less
+operand_is os k op less is = is ∙ get_or_default os k op invalid_operand less
 
 -- a place that the test for a missing place accepts is the missing one
 pub is_missing : (p : Place) → is_no_place p ≡ true → p ≡ NoPlace
@@ -108,7 +108,7 @@ fine_of P Q (Some e) s h = absurd cc
 pub judged_some : {A : Type 0} (env : MachineValue) (inst : ℕ) (os : List OperandValue) (ps : List Place) (position : OperandPos)
     (Has : Place → VirtualRegister → Type 0) (k : ℕ) (r : Option (CheckerError A)) → is_some r ≡ true →
     k < length os → (operand_at os k).position ≡ position → AreFineBelow env os ps position Has k →
-    MatchOption r (IsFineAt env os ps Has k) (λ e. IsFaultAt env inst os ps Has k e) → IsJudged env inst os ps position Has r
+    MatchOption r (IsFineAt env os ps Has k) (λ e. IsFaultAt env inst os ps Has k e) → AreOperandsJudged env inst os ps position Has r
 judged_some env inst os ps position Has k None s less at h m = absurd cc
 judged_some env inst os ps position Has k (Some e) s less at h m = (k, less, at, h, m)
 

@@ -1,7 +1,7 @@
 -- Fewer pairs are held where one pair less is.
 use Rattle.std.proofs.Common.{ℕ, zero, suc, ◌≡◌, ◌<◌, ◌≤◌, arith, Bool, true, false, cond, refl, subst, inl, inr, ap}
 use Rattle.std.proofs.lemmas.Bool.{cases_eq}
-use Rattle.regalloc2_checker.specs.Tables.{count_below, sum_below, bits_end, pairs_held, all_pairs}
+use Rattle.regalloc2_checker.specs.Tables.{count_passing, sum_below, bits_end, pairs_held, all_pairs}
 
 one_le : (a b : Bool) → (a ≡ true → b ≡ true) → cond a 1 0 ≤ cond b 1 0
 one_le true true h = omega arith
@@ -10,12 +10,12 @@ one_le false true h = omega arith
 one_le false false h = omega arith
 
 -- of the numbers below a bound, no more pass a test than pass one that it implies
-pub count_le : (n : ℕ) (s t : ℕ → Bool) → ((y : ℕ) → s y ≡ true → t y ≡ true) → count_below n s ≤ count_below n t
-unfolding count_below
+pub count_le : (n : ℕ) (s t : ℕ → Bool) → ((y : ℕ) → s y ≡ true → t y ≡ true) → count_passing n s ≤ count_passing n t
+unfolding count_passing
 count_le zero s t h = omega arith
 count_le (suc n) s t h =
     let one : cond (s n) 1 0 ≤ cond (t n) 1 0 = one_le (s n) (t n) (h n) in
-    let rest : count_below n s ≤ count_below n t = count_le n s t h in
+    let rest : count_passing n s ≤ count_passing n t = count_le n s t h in
     omega arith
 
 one_lt : (a b : Bool) → a ≡ false → b ≡ true → cond a 1 0 < cond b 1 0
@@ -24,15 +24,16 @@ one_lt false true h g = omega arith
 one_lt false false h g = absurd cc
 
 -- of the numbers below a bound, fewer pass a test than pass one that it implies, if some number there passes the second alone
-pub count_lt : (n : ℕ) (s t : ℕ → Bool) → ((y : ℕ) → s y ≡ true → t y ≡ true) → (x : ℕ) → x < n → s x ≡ false → t x ≡ true → count_below n s < count_below n t
-unfolding count_below
+pub count_lt : (n : ℕ) (s t : ℕ → Bool) → ((y : ℕ) → s y ≡ true → t y ≡ true) → (x : ℕ) → x < n → s x ≡ false → t x ≡ true →
+    count_passing n s < count_passing n t
+unfolding count_passing
 count_lt zero s t h x less a b = absurd (omega arith)
 count_lt (suc n) s t h x less a b = elim (cases_eq x n) [
   | inl e ↦ (let one : cond (s n) 1 0 < cond (t n) 1 0 = one_lt (s n) (t n) (subst (λ (y : ℕ). s y ≡ false) e a) (subst (λ (y : ℕ). t y ≡ true) e b) in
-      let rest : count_below n s ≤ count_below n t = count_le n s t h in
+      let rest : count_passing n s ≤ count_passing n t = count_le n s t h in
       omega arith)
   | inr ne ↦ (let one : cond (s n) 1 0 ≤ cond (t n) 1 0 = one_le (s n) (t n) (h n) in
-      let rest : count_below n s < count_below n t = count_lt n s t h x (omega (arith, less, ne)) a b in
+      let rest : count_passing n s < count_passing n t = count_lt n s t h x (omega (arith, less, ne)) a b in
       omega arith)
 ]
 
@@ -71,18 +72,18 @@ sum-same (suc n) g h e =
 pub fewer-held : (size : ℕ) (r m : ℕ → ℕ → Bool) → ((x y : ℕ) → x < size → r x y ≡ true → m x y ≡ true) → (x y : ℕ) → x < size → y < bits_end →
     r x y ≡ false → m x y ≡ true → pairs_held size r < pairs_held size m
 fewer-held size r m h x y lx ly a b =
-    sum_lt size (λ z. count_below bits_end (r z)) (λ z. count_below bits_end (m z)) (λ z l. count_le bits_end (r z) (m z) (λ w. h z w l)) x lx
+    sum_lt size (λ z. count_passing bits_end (r z)) (λ z. count_passing bits_end (m z)) (λ z l. count_le bits_end (r z) (m z) (λ w. h z w l)) x lx
     (count_lt bits_end (r x) (m x) (λ w. h x w lx) y ly a b)
 
 -- no more pairs are held than there are
 pub at_most_all : (size : ℕ) (m : ℕ → ℕ → Bool) → pairs_held size m ≤ all_pairs size
-at_most_all size m = sum_le size (λ z. count_below bits_end (m z)) (λ z. count_below bits_end (λ y. true))
+at_most_all size m = sum_le size (λ z. count_passing bits_end (m z)) (λ z. count_passing bits_end (λ y. true))
     (λ z l. count_le bits_end (m z) (λ y. true) (λ y h. refl))
 
 -- as many are held in one way as in another, if the same are
 pub as-many-held : (size : ℕ) (r m : ℕ → ℕ → Bool) → ((x y : ℕ) → x < size → r x y ≡ m x y) → pairs_held size r ≡ pairs_held size m
-as-many-held size r m h = sum-same size (λ z. count_below bits_end (r z)) (λ z. count_below bits_end (m z))
-    (λ z l. ap (λ (s : ℕ → Bool). count_below bits_end s) (λ i y. h z y l i))
+as-many-held size r m h = sum-same size (λ z. count_passing bits_end (r z)) (λ z. count_passing bits_end (m z))
+    (λ z l. ap (λ (s : ℕ → Bool). count_passing bits_end s) (λ i y. h z y l i))
 
 -- words end at 2^32
 pub bits_end_is : bits_end ≡ 4294967296

@@ -16,9 +16,9 @@ use Rattle.regalloc2_checker.specs.Facts.{Facts}
 use Rattle.regalloc2_checker.specs.Fixpoint.{facts_within}
 use Rattle.regalloc2_checker.specs.TableFacts.{facts_now}
 use Rattle.regalloc2_checker.specs.Propagation.{IsBlockEnd}
-use Rattle.regalloc2_checker.specs.Propagation.{mark_at, over, block_of, IsQueue, AreReached}
-use Rattle.regalloc2_checker.specs.Propagation.{AreSized, IsPropagatedOver, ArePropagated, IsUnderWay, IsReady, IsKept}
-use Rattle.regalloc2_checker.specs.Tables.{BlockView, view_at, facts_at, views, weight, AreAlike, IsMeet, IsUpdated, AllSolved}
+use Rattle.regalloc2_checker.specs.Propagation.{mark_at, over, queued_block, IsQueue, AreReached}
+use Rattle.regalloc2_checker.specs.Propagation.{AreSized, IsPropagatedOver, ArePropagated, IsUnderWay, IsReady, UnmarkedAreSolved}
+use Rattle.regalloc2_checker.specs.Tables.{BlockView, view_at, facts_at, views, weight, ListTheSame, IsMeet, IsUpdated, AllSolved}
 use Rattle.regalloc2_checker.proofs.TableSteps.{now-as}
 use Rattle.regalloc2_checker.proofs.Updates.{set-again, views-same, facts-is}
 use Rattle.regalloc2_checker.proofs.UnmarkedStaySolved.{EdgesPassed, mark-taken, all-kept}
@@ -34,7 +34,7 @@ either x y xs (zero, less, at) = inl at
 either x y xs (suc k, less, at) = inr (k, omega arith, at)
 
 -- a block is put into the queue
-pub queue-pushed : (marks : List Bool) (entries new : List (Reverse (ℕ × ℕ))) (x : Reverse (ℕ × ℕ)) (b : ℕ) → block_of x ≡ b → b < length marks →
+pub queue-pushed : (marks : List Bool) (entries new : List (Reverse (ℕ × ℕ))) (x : Reverse (ℕ × ℕ)) (b : ℕ) → queued_block x ≡ b → b < length marks →
     IsPermutation (x ∷ entries) new → IsQueue marks entries → IsQueue (set marks b true) new
 queue-pushed marks entries new x b is less p q = record {
   marked = λ c low m. elim (cases_eq c b) [
@@ -44,9 +44,10 @@ queue-pushed marks entries new x b is less p q = record {
         (w.0, Contains-permutation (x ∷ entries) new w.0 p (more w.0 x entries w.1), w.2)
         )
   ];
-  small = All-permutation (λ y. block_of y < length (set marks b true)) (x ∷ entries) new p
-      (All-cons (λ y. block_of y < length (set marks b true)) x entries (omega (arith, is, less, length-set marks b true))
-      (All-weaker (λ y. block_of y < length marks) (λ y. block_of y < length (set marks b true)) (λ y l. omega (arith, l, length-set marks b true)) entries
+  small = All-permutation (λ y. queued_block y < length (set marks b true)) (x ∷ entries) new p
+      (All-cons (λ y. queued_block y < length (set marks b true)) x entries (omega (arith, is, less, length-set marks b true))
+      (All-weaker (λ y. queued_block y < length marks) (λ y. queued_block y < length (set marks b true)) (λ y l. omega (arith, l, length-set marks b true))
+          entries
       q.small));
 }
 
@@ -55,11 +56,11 @@ pub queue-again : (marks : List Bool) (b : ℕ) → b < length marks → mark_at
 queue-again marks b less m = sym (set-again marks b true true less m)
 
 -- the first is taken from the queue
-pub queue-popped : (marks : List Bool) (entries rest : List (Reverse (ℕ × ℕ))) (x : Reverse (ℕ × ℕ)) (b : ℕ) → block_of x ≡ b →
+pub queue-popped : (marks : List Bool) (entries rest : List (Reverse (ℕ × ℕ))) (x : Reverse (ℕ × ℕ)) (b : ℕ) → queued_block x ≡ b →
     IsPermutation entries (x ∷ rest) → IsQueue marks entries → (b < length marks) × IsQueue (set marks b false) rest
 queue-popped marks entries rest x b is p q =
-    let small = All-permutation (λ y. block_of y < length marks) entries (x ∷ rest) p q.small in
-    let here : block_of x < length marks = All-head (λ y. block_of y < length marks) x rest small in (
+    let small = All-permutation (λ y. queued_block y < length marks) entries (x ∷ rest) p q.small in
+    let here : queued_block x < length marks = All-head (λ y. queued_block y < length marks) x rest small in (
       omega (arith, is, here),
       record {
         marked = λ c low m. elim (cases_eq c b) [
@@ -68,31 +69,31 @@ queue-popped marks entries rest x b is p q =
           | inr n ↦ (
               let w = q.marked c (omega (arith, low, length-set marks b false)) (sym (get_or-set_other marks b c false true n) ∙ m) in
               elim (either w.0 x rest (Contains-permutation entries (x ∷ rest) w.0 p w.1)) [
-                | inl e ↦ absurd (n (sym w.2 ∙ ap block_of (sym e) ∙ is))
+                | inl e ↦ absurd (n (sym w.2 ∙ ap queued_block (sym e) ∙ is))
                 | inr d ↦ (w.0, d, w.2)
               ]
               )
         ];
-        small = All-weaker (λ y. block_of y < length marks) (λ y. block_of y < length (set marks b false))
+        small = All-weaker (λ y. queued_block y < length marks) (λ y. queued_block y < length (set marks b false))
             (λ y l. omega (arith, l, length-set marks b false)) rest
-            (All-tail (λ y. block_of y < length marks) x rest small);
+            (All-tail (λ y. queued_block y < length marks) x rest small);
       },
     )
 
 -- with the entry of a reached block pushed, each entry is of a reached block
-pub reached-pushed : (t : List BlockView) (entries new : List (Reverse (ℕ × ℕ))) (x : Reverse (ℕ × ℕ)) (b : ℕ) → block_of x ≡ b →
+pub reached-pushed : (t : List BlockView) (entries new : List (Reverse (ℕ × ℕ))) (x : Reverse (ℕ × ℕ)) (b : ℕ) → queued_block x ≡ b →
     (view_at t b).reached ≡ true → IsPermutation (x ∷ entries) new → AreReached t entries → AreReached t new
 reached-pushed t entries new x b is r p h =
-    All-permutation (λ y. (view_at t (block_of y)).reached ≡ true) (x ∷ entries) new p
-    (All-cons (λ y. (view_at t (block_of y)).reached ≡ true) x entries (subst (λ (n : ℕ). (view_at t n).reached ≡ true) (sym is) r) h)
+    All-permutation (λ y. (view_at t (queued_block y)).reached ≡ true) (x ∷ entries) new p
+    (All-cons (λ y. (view_at t (queued_block y)).reached ≡ true) x entries (subst (λ (n : ℕ). (view_at t n).reached ≡ true) (sym is) r) h)
 
 -- an entry that is popped is of a reached block, and so are the rest
-pub reached-popped : (t : List BlockView) (entries rest : List (Reverse (ℕ × ℕ))) (x : Reverse (ℕ × ℕ)) (b : ℕ) → block_of x ≡ b →
+pub reached-popped : (t : List BlockView) (entries rest : List (Reverse (ℕ × ℕ))) (x : Reverse (ℕ × ℕ)) (b : ℕ) → queued_block x ≡ b →
     IsPermutation entries (x ∷ rest) → AreReached t entries → ((view_at t b).reached ≡ true) × AreReached t rest
 reached-popped t entries rest x b is p h =
-    let all = All-permutation (λ y. (view_at t (block_of y)).reached ≡ true) entries (x ∷ rest) p h in (
-      subst (λ (n : ℕ). (view_at t n).reached ≡ true) is (All-head (λ y. (view_at t (block_of y)).reached ≡ true) x rest all),
-      All-tail (λ y. (view_at t (block_of y)).reached ≡ true) x rest all,
+    let all = All-permutation (λ y. (view_at t (queued_block y)).reached ≡ true) entries (x ∷ rest) p h in (
+      subst (λ (n : ℕ). (view_at t n).reached ≡ true) is (All-head (λ y. (view_at t (queued_block y)).reached ≡ true) x rest all),
+      All-tail (λ y. (view_at t (queued_block y)).reached ≡ true) x rest all,
     )
 
 -- an update leaves what is reached
@@ -107,23 +108,23 @@ still t new target passed u s r = elim (cases_eq s target) [
 pub reached-on : (t new : List BlockView) (target : ℕ) (passed : Facts) (entries : List (Reverse (ℕ × ℕ))) → IsUpdated t new target passed →
     AreReached t entries → AreReached new entries
 reached-on t new target passed entries u h =
-    All-weaker (λ y. (view_at t (block_of y)).reached ≡ true) (λ y. (view_at new (block_of y)).reached ≡ true)
-    (λ y. still t new target passed u (block_of y)) entries h
+    All-weaker (λ y. (view_at t (queued_block y)).reached ≡ true) (λ y. (view_at new (queued_block y)).reached ≡ true)
+    (λ y. still t new target passed u (queued_block y)) entries h
 
 -- tables that are kept have the views that they had
 pub views-kept : (t u : Showing) (rs : List Bool) → AreTablesKept t u → views u rs ≡ views t rs
 views-kept t u rs h = views-same t u 0 rs h.places (λ j i y low high less. h.tables j i y less)
 
 -- tables that are kept and then list what they did list what they did
-pub alike-after : (t u w : Showing) → AreTablesKept t u → AreAlike u w → AreAlike t w
+pub alike-after : (t u w : Showing) → AreTablesKept t u → ListTheSame u w → ListTheSame t w
 alike-after t u w a b = record { places = b.places ∙ a.places; vregs = b.vregs ∙ a.vregs; count = b.count ∙ a.count }
 
 -- so do tables after two such steps
-pub alike-twice : (t u w : Showing) → AreAlike t u → AreAlike u w → AreAlike t w
+pub alike-twice : (t u w : Showing) → ListTheSame t u → ListTheSame u w → ListTheSame t w
 alike-twice t u w a b = record { places = b.places ∙ a.places; vregs = b.vregs ∙ a.vregs; count = b.count ∙ a.count }
 
 -- and tables that stay
-pub alike-same : (t : Showing) → AreAlike t t
+pub alike-same : (t : Showing) → ListTheSame t t
 alike-same t = record { places = refl; vregs = refl; count = refl }
 
 -- an edge is gone over: its target, the tables, which stay, and the facts M that come of F
@@ -159,7 +160,7 @@ left-stays old mid new target m passed e h =
 
 -- a block is taken from the queue, to be passed on
 pub ready-popped : (f : FunctionValue) (o : OutputValue) (t : List BlockView) (marks : List Bool) (entries rest : List (Reverse (ℕ × ℕ)))
-    (x : Reverse (ℕ × ℕ)) (b : ℕ) → block_of x ≡ b → IsPermutation entries (x ∷ rest) → IsUnderWay f o t marks entries →
+    (x : Reverse (ℕ × ℕ)) (b : ℕ) → queued_block x ≡ b → IsPermutation entries (x ∷ rest) → IsUnderWay f o t marks entries →
     IsReady f o t (set marks b false) rest b
 ready-popped f o t marks entries rest x b is p w =
     let r = reached-popped t entries rest x b is p w.reached in
@@ -172,19 +173,19 @@ ready-popped f o t marks entries rest x b is p w =
     }
 
 -- when the queue is empty all is solved
-pub all-settled : (f : FunctionValue) (o : OutputValue) (t : List BlockView) (marks : List Bool) → IsKept f o t marks →
+pub all-settled : (f : FunctionValue) (o : OutputValue) (t : List BlockView) (marks : List Bool) → UnmarkedAreSolved f o t marks →
     ((b : ℕ) → b < length marks → mark_at marks b ≡ false) → AllSolved f o t
 all-settled f o t marks k none = λ b less. k.settled b less (none b (omega (arith, less, k.size)))
 
 -- what is passed on leaves the sizes
-pub sized-on : (f : FunctionValue) (t u : Showing) (rs qs marks after : List Bool) → AreAlike t u → length qs ≡ length rs → length after ≡ length marks →
+pub sized-on : (f : FunctionValue) (t u : Showing) (rs qs marks after : List Bool) → ListTheSame t u → length qs ≡ length rs → length after ≡ length marks →
     AreSized f t rs marks → AreSized f u qs after
 sized-on f t u rs qs marks after a r m s = record { reached = r ∙ s.reached; count = a.count ∙ s.count; marks = m ∙ s.marks }
 
 -- what is reached after a block was put into the queue, or stood there
 pub reached-either : (t new : List BlockView) (target : ℕ) (passed : Facts) (entries later : List (Reverse (ℕ × ℕ))) →
     IsUpdated t new target passed → AreReached t entries →
-    (later ≡ entries) ⊎ ((x : Reverse (ℕ × ℕ)) × (block_of x ≡ target) × IsPermutation (x ∷ entries) later) → AreReached new later
+    (later ≡ entries) ⊎ ((x : Reverse (ℕ × ℕ)) × (queued_block x ≡ target) × IsPermutation (x ∷ entries) later) → AreReached new later
 reached-either t new target passed entries later u h (inl e) = subst (AreReached new) (sym e) (reached-on t new target passed entries u h)
 reached-either t new target passed entries later u h (inr (x, is, p)) =
     reached-pushed new entries later x target is u.reached p (reached-on t new target passed entries u h)
@@ -229,7 +230,7 @@ queue-none marks entries e none = subst (IsQueue marks) (sym e) (record {
 
 -- and of one at most
 pub reached-one : (t : List BlockView) (old new : List (Reverse (ℕ × ℕ))) (b : ℕ) → old ≡ [] → (view_at t b).reached ≡ true →
-    (new ≡ old) ⊎ ((x : Reverse (ℕ × ℕ)) × (block_of x ≡ b) × IsPermutation (x ∷ old) new) → AreReached t new
+    (new ≡ old) ⊎ ((x : Reverse (ℕ × ℕ)) × (queued_block x ≡ b) × IsPermutation (x ∷ old) new) → AreReached t new
 reached-one t old new b e r (inl s) = subst (AreReached t) (sym (s ∙ e)) (λ k d less. absurd (omega (arith, less)))
 reached-one t old new b e r (inr (x, is, p)) =
     reached-pushed t old new x b is r p (subst (AreReached t) (sym e) (λ k d less. absurd (omega (arith, less))))

@@ -11,7 +11,7 @@ use Rattle.regalloc2_function.specs.Path.{Way, Onward, ToSuccessor, Location, fi
 use Rattle.regalloc2_function.specs.WellFormed.{IsFramed}
 use Rattle.regalloc2_checker.specs.Facts.{Facts, IsTraced, facts_over_edge, facts_after, true_facts}
 use Rattle.regalloc2_checker.specs.Fixpoint.{nth_of, IsReachedBlock, facts_within, facts_passed, IsRefuted}
-use Rattle.regalloc2_checker.specs.Tables.{BlockView, view_at, facts_at, IsSound, AllSolved, IsUpdated, IsSolved}
+use Rattle.regalloc2_checker.specs.Tables.{BlockView, view_at, facts_at, AreSoundViews, AllSolved, IsUpdated, IsSolved}
 use Rattle.regalloc2_checker.proofs.FactsTraced.{traced-after, traced-edge, traced-then, change-same}
 use Rattle.regalloc2_checker.proofs.FactsFollowMaps.{AreEarlier, true_facts-way}
 use Rattle.regalloc2_checker.proofs.Fixpoint.{reached_within, refuted_within, refuted_change, within-suc}
@@ -59,7 +59,7 @@ refuted_passed law f o ok b k F r less h p v x =
 
 -- an update keeps what is sound
 module _ (law : AreEarlier) (f : FunctionValue) (o : OutputValue) (ok : IsFramed f) (old new : List BlockView) (b k : ℕ) (F passed : Facts)
-    (s : IsSound f o old) (r : IsReachedBlock f b) (dropped : (p : Place) (v : VirtualRegister) → F p v ≡ false → IsRefuted f o (first_of f b) p v)
+    (s : AreSoundViews f o old) (r : IsReachedBlock f b) (dropped : (p : Place) (v : VirtualRegister) → F p v ≡ false → IsRefuted f o (first_of f b) p v)
     (less : k < length (block_at f b).succs)
     (exact : (p : Place) (v : VirtualRegister) → passed p v ≡ facts_passed f o b k F p v)
     (u : IsUpdated old new (slice_index (block_at f b).succs k) passed) where
@@ -85,7 +85,7 @@ module _ (law : AreEarlier) (f : FunctionValue) (o : OutputValue) (ok : IsFramed
   ]
 
   -- a meet into its successor of what a reached block propagates over an edge keeps the table valid
-  pub sound-updated : IsSound f o new
+  pub sound-updated : AreSoundViews f o new
   sound-updated = record {
     size = u.size ∙ s.size;
     started = elim (cases_eq f.entry (slice_index (block_at f b).succs k)) [
@@ -105,13 +105,13 @@ module _ (law : AreEarlier) (f : FunctionValue) (o : OutputValue) (ok : IsFramed
   }
 
 -- at the end every reached block is marked
-marked : (f : FunctionValue) (o : OutputValue) (t : List BlockView) → IsFramed f → IsSound f o t → AllSolved f o t → (ws : List Way) → IsPath f ws →
+marked : (f : FunctionValue) (o : OutputValue) (t : List BlockView) → IsFramed f → AreSoundViews f o t → AllSolved f o t → (ws : List Way) → IsPath f ws →
     (view_at t (end_of f ws).block).reached ≡ true
 marked f o t ok s a [] h = s.started
 marked f o t ok s a (Onward ∷ ws) h = marked f o t ok s a ws h.0
 marked f o t ok s a (ToSuccessor k ∷ ws) h = (a (end_of f ws).block (block_within f ok ws h.0) (marked f o t ok s a ws h.0) k h.1.1).reached
 
-marked_block : (f : FunctionValue) (o : OutputValue) (t : List BlockView) → IsFramed f → IsSound f o t → AllSolved f o t → (b : ℕ) → IsReachedBlock f b →
+marked_block : (f : FunctionValue) (o : OutputValue) (t : List BlockView) → IsFramed f → AreSoundViews f o t → AllSolved f o t → (b : ℕ) → IsReachedBlock f b →
     (view_at t b).reached ≡ true
 marked_block f o t ok s a b r = subst (λ (l : Location). (view_at t l.block).reached ≡ true) r.2 (marked f o t ok s a r.0 r.1)
 
@@ -119,7 +119,7 @@ block_below : (f : FunctionValue) → IsFramed f → (b : ℕ) → IsReachedBloc
 block_below f ok b r = subst (λ (l : Location). l.block < length f.blocks) r.2 (block_within f ok r.0 r.1)
 
 -- and the table is what the checker wants
-pub solved : (f : FunctionValue) (o : OutputValue) (t : List BlockView) → IsFramed f → IsSound f o t → AllSolved f o t → IsSolved f o t
+pub solved : (f : FunctionValue) (o : OutputValue) (t : List BlockView) → IsFramed f → AreSoundViews f o t → AllSolved f o t → IsSolved f o t
 solved f o t ok s a = record {
   size = s.size;
   reached = λ b. (s.reached b, marked_block f o t ok s a b);

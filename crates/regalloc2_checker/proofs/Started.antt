@@ -14,8 +14,8 @@ use Rattle.regalloc2_function.specs.AllocatedRun.{cells_before}
 use Rattle.regalloc2_checker_tables.specs.Showing.{Showing, shows_in}
 use Rattle.regalloc2_checker.specs.Fixpoint.{IsReachedBlock, IsRefuted}
 use Rattle.regalloc2_checker.specs.Facts.{Facts}
-use Rattle.regalloc2_checker.specs.Propagation.{mark_at, IsQueue, AreReached, IsUnderWay, IsKept}
-use Rattle.regalloc2_checker.specs.Tables.{BlockView, view_at, views, IsSound}
+use Rattle.regalloc2_checker.specs.Propagation.{mark_at, IsQueue, AreReached, IsUnderWay, UnmarkedAreSolved}
+use Rattle.regalloc2_checker.specs.Tables.{BlockView, view_at, views, AreSoundViews}
 use Rattle.regalloc2_checker.proofs.Updates.{reached-is, facts-is, facts-none, views-length}
 
 -- a list of which one item alone is set
@@ -54,7 +54,7 @@ module _ (f : FunctionValue) (o : OutputValue) (t : Showing) (rs marks : List Bo
       let less : f.entry < length rs = omega (arith, there, long) in
       reached-is t rs f.entry true true less (at f.entry true less ∙ eq-eqb f.entry f.entry refl)
 
-  started-sound : IsSound f o (views t rs)
+  started-sound : AreSoundViews f o (views t rs)
   started-sound = record {
     size = views-length t 0 rs ∙ long;
     started = entry-reached;
@@ -64,7 +64,7 @@ module _ (f : FunctionValue) (o : OutputValue) (t : Showing) (rs marks : List Bo
     refuted = λ b p v h x. subst (λ (c : ℕ). IsRefuted f o (first_of f c) p v) (sym (reached-only b h)) (refuted_at_entry f o p v);
   }
 
-  started-kept : IsKept f o (views t rs) marks
+  started-kept : UnmarkedAreSolved f o (views t rs) marks
   started-kept = record {
     size = size;
     settled = λ b less m r. from_both_at (mark_at marks b) _

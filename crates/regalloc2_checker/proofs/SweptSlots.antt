@@ -5,8 +5,8 @@ use Rattle.std.specs.Prelude.{◌⊎◌, ◌↔◌, Contains, reverse}
 use Rattle.std.specs.List.Sorted.{IsNonDecreasingBy}
 use Rattle.std.proofs.lemmas.Bool.{cases_lt}
 use Rattle.std.proofs.lemmas.List.{get_or_default, get_or-reverse}
-use Rattle.regalloc2_checker.specs.Cells.{AreApart}
-use Rattle.regalloc2_checker.specs.CellFaults.{slot_at, ComesBefore, AreTurned, AreAllApart, IsShared, IsSlotFault, IsStep, Reaches}
+use Rattle.regalloc2_checker.specs.Cells.{AreUnitsApart}
+use Rattle.regalloc2_checker.specs.CellFaults.{slot_at, ComesBefore, AreTurned, AreAllApart, IsShared, IsSlotFault, IsNextSlot, SlotReaches}
 use Rattle.regalloc2_checker.specs.declared.cells.CellFault.{CellFault}
 use Rattle.regalloc2_checker.specs.declared.cells.CellFault.TheVariants.{Shared}
 
@@ -57,7 +57,7 @@ before_before true m n o h k = omega (arith, h, k)
 before_before false m n o h k = omega (arith, h, k)
 
 -- a slot that doesn't reach the one before it is beyond all that come before that one
-beyond : (b : Bool) (s : ℕ × ℕ) (o n : ℕ) → ComesBefore b o s.0 → ComesBefore b n o → (Reaches b s o → ⊥) → IsBeyond b s n
+beyond : (b : Bool) (s : ℕ × ℕ) (o n : ℕ) → ComesBefore b o s.0 → ComesBefore b n o → (SlotReaches b s o → ⊥) → IsBeyond b s n
 beyond true s o n before earlier free = elim (cases_lt (s.0 - o) s.1) [ inl r ↦ absurd (free r) | inr h ↦ omega (arith, before, earlier, h) ]
 beyond false s o n before earlier free = elim (cases_lt (o - s.0) s.1) [ inl r ↦ absurd (free r) | inr h ↦ omega (arith, before, earlier, h) ]
 
@@ -68,13 +68,13 @@ seen_more : (named : List (ℕ × ℕ)) (k n : ℕ) → IsSeen named k n → IsS
 seen_more named k n h = (h.0, omega (arith, h.1), h.2)
 
 -- where a slot is gone on to, it is the current one
-now_current : (n : ℕ) (old now : Option ℕ × Option ℕ) → IsStep n old now → now.0 ≡ Some n
+now_current : (n : ℕ) (old now : Option ℕ × Option ℕ) → IsNextSlot n old now → now.0 ≡ Some n
 now_current n old now (inl h) = ap (λ (p : Option ℕ × Option ℕ). p.0) h.1 ∙ h.0
 now_current n old now (inr h) = h.1
 
 -- and the one before it comes before it
 pub now_other : (b : Bool) (named : List (ℕ × ℕ)) (k n : ℕ) (old now : Option ℕ × Option ℕ) → AreTurned b named → k < length named → n ≡ (slot_at named k).0 →
-    IsStep n old now → AreSwept b named k old → (o : ℕ) → now.1 ≡ Some o → IsSeen named k o × (o ≢ n) × ComesBefore b o n
+    IsNextSlot n old now → AreSwept b named k old → (o : ℕ) → now.1 ≡ Some o → IsSeen named k o × (o ≢ n) × ComesBefore b o n
 now_other b named k n old now turned less is (inl h) swept o e =
     let r = swept.other o (sym (ap (λ (p : Option ℕ × Option ℕ). p.1) h.1) ∙ e) in
     let same : r.1.0 ≡ n = same_number r.1.0 n old.0 r.1.1 h.0 in
@@ -89,7 +89,7 @@ now_other b named k n old now turned less is (inr h) swept o e =
 
 -- one slot more
 pub swept_more : (b : Bool) (named : List (ℕ × ℕ)) (k n : ℕ) (old now : Option ℕ × Option ℕ) → AreTurned b named → k < length named →
-    n ≡ (slot_at named k).0 → IsStep n old now → ((o : ℕ) → now.1 ≡ Some o → Reaches b (slot_at named k) o → ⊥) → AreSwept b named k old →
+    n ≡ (slot_at named k).0 → IsNextSlot n old now → ((o : ℕ) → now.1 ≡ Some o → SlotReaches b (slot_at named k) o → ⊥) → AreSwept b named k old →
     AreSwept b named (k + 1) now
 swept_more b named k n old now turned less is step free swept = record {
   seen = λ j below. seen_at j below;
@@ -99,7 +99,8 @@ swept_more b named k n old now turned less is step free swept = record {
   apart = λ i j before below differ. apart_at i j before below differ;
 }
   where
-    seen_old : (j : ℕ) → j < k → IsStep n old now → (old.0 ≡ Some (slot_at named j).0) ⊎ ((o : ℕ) × (old.1 ≡ Some o) × ComesBefore b (slot_at named j).0 o) →
+    seen_old : (j : ℕ) → j < k → IsNextSlot n old now → (old.0 ≡ Some (slot_at named j).0)
+        ⊎ ((o : ℕ) × (old.1 ≡ Some o) × ComesBefore b (slot_at named j).0 o) →
         (now.0 ≡ Some (slot_at named j).0) ⊎ ((o : ℕ) × (now.1 ≡ Some o) × ComesBefore b (slot_at named j).0 o)
     seen_old j below (inl h) (inl e) = inl (ap (λ (p : Option ℕ × Option ℕ). p.0) h.1 ∙ e)
     seen_old j below (inl h) (inr q) = inr (q.0, ap (λ (p : Option ℕ × Option ℕ). p.1) h.1 ∙ q.1, q.2)
@@ -132,12 +133,12 @@ swept_more b named k n old now turned less is step free swept = record {
     ]
 
 -- of two slots that are apart in the list, the lower one ends before the other
-lower : (b : Bool) (s t : ℕ × ℕ) (m u n w : ℕ) → s ≡ (m, u) → t ≡ (n, w) → m < n → IsBeyond b t s.0 → AreApart b m u n w
+lower : (b : Bool) (s t : ℕ × ℕ) (m u n w : ℕ) → s ≡ (m, u) → t ≡ (n, w) → m < n → IsBeyond b t s.0 → AreUnitsApart b m u n w
 lower true s t m u n w e d less h = subst (λ (p : ℕ × ℕ). m + p.1 ≤ p.0) d (subst (λ (p : ℕ × ℕ). p.0 + t.1 ≤ t.0) e h)
 lower false s t m u n w e d less h =
     let past : n + w ≤ m = subst (λ (p : ℕ × ℕ). p.0 + p.1 ≤ m) d (subst (λ (p : ℕ × ℕ). t.0 + t.1 ≤ p.0) e h) in absurd (omega (arith, past, less))
 
-upper : (b : Bool) (s t : ℕ × ℕ) (m u n w : ℕ) → s ≡ (m, u) → t ≡ (n, w) → m < n → IsBeyond b s t.0 → AreApart b m u n w
+upper : (b : Bool) (s t : ℕ × ℕ) (m u n w : ℕ) → s ≡ (m, u) → t ≡ (n, w) → m < n → IsBeyond b s t.0 → AreUnitsApart b m u n w
 upper true s t m u n w e d less h =
     let past : n + u ≤ m = subst (λ (p : ℕ × ℕ). p.0 + u ≤ m) d (subst (λ (p : ℕ × ℕ). t.0 + p.1 ≤ p.0) e h) in absurd (omega (arith, past, less))
 upper false s t m u n w e d less h = subst (λ (p : ℕ × ℕ). m + u ≤ p.0) d (subst (λ (p : ℕ × ℕ). p.0 + p.1 ≤ t.0) e h)
@@ -166,7 +167,7 @@ in_list named k less = (k, less, get_or_default named k (slot_at named k) (0, 0)
 
 -- a slot that reaches the one before it shares a unit with it
 pub is_shared : (b : Bool) (named : List (ℕ × ℕ)) (k n o : ℕ) (r : CellFault) → k < length named → n ≡ (slot_at named k).0 → IsSeen named k o → o ≢ n →
-    ComesBefore b o n → Reaches b (slot_at named k) o → (b ≡ true → r ≡ Shared o n) → (b ≡ false → r ≡ Shared n o) →
+    ComesBefore b o n → SlotReaches b (slot_at named k) o → (b ≡ true → r ≡ Shared o n) → (b ≡ false → r ≡ Shared n o) →
     (x y : ℕ) × (r ≡ Shared x y) × IsShared b named x y
 is_shared true named k n o r less is seen differ before reach up down =
     let below : o < n = omega (arith, differ, before) in (
@@ -197,11 +198,11 @@ is_shared false named k n o r less is seen differ before reach up down =
       ),
     )
 
-same_other : (b : Bool) (s : ℕ × ℕ) (a o : ℕ) (r : Option ℕ) → r ≡ Some a → r ≡ Some o → Reaches b s o → Reaches b s a
-same_other b s a o r e d h = subst (λ (m : ℕ). Reaches b s m) (same_number o a r d e) h
+same_other : (b : Bool) (s : ℕ × ℕ) (a o : ℕ) (r : Option ℕ) → r ≡ Some a → r ≡ Some o → SlotReaches b s o → SlotReaches b s a
+same_other b s a o r e d h = subst (λ (m : ℕ). SlotReaches b s m) (same_number o a r d e) h
 
 -- a slot that was tested doesn't reach the one before it
-pub reaches_none : (b : Bool) (s : ℕ × ℕ) (a o : ℕ) (r : Option ℕ) → r ≡ Some a → r ≡ Some o → (Reaches b s a → ⊥) → Reaches b s o → ⊥
+pub reaches_none : (b : Bool) (s : ℕ × ℕ) (a o : ℕ) (r : Option ℕ) → r ≡ Some a → r ≡ Some o → (SlotReaches b s a → ⊥) → SlotReaches b s o → ⊥
 reaches_none b s a o r e d free h = free (same_other b s a o r e d h)
 
 -- what is said of a list is said of another one with the same slots

@@ -12,8 +12,8 @@ use Rattle.regalloc2_function.specs.OutputValue.{OutputValue}
 use Rattle.regalloc2_function.specs.WellFormed.{IsFramed}
 use Rattle.regalloc2_checker.specs.Facts.{Facts}
 use Rattle.regalloc2_checker.specs.Fixpoint.{facts_passed}
-use Rattle.regalloc2_checker.specs.Tables.{BlockView, view_at, facts_at, IsSound, BlockSolved, EdgeSolved, EdgesSolved, IsUpdated}
-use Rattle.regalloc2_checker.specs.Propagation.{mark_at, over, IsBlockEnd, IsPropagatedOver, IsKept, ArePropagated}
+use Rattle.regalloc2_checker.specs.Tables.{BlockView, view_at, facts_at, AreSoundViews, BlockSolved, EdgeSolved, EdgesSolved, IsUpdated}
+use Rattle.regalloc2_checker.specs.Propagation.{mark_at, over, IsBlockEnd, IsPropagatedOver, UnmarkedAreSolved, ArePropagated}
 use Rattle.regalloc2_checker.proofs.RoundInvariant.{over-same, sound-updated}
 use Rattle.regalloc2_checker.proofs.FactsFollowMaps.{AreEarlier}
 
@@ -112,7 +112,7 @@ module _ (f : FunctionValue) (o : OutputValue) (old t new : List BlockView) (mar
 
 -- when all its edges are passed on, the block is kept too
 pub all-kept : (f : FunctionValue) (o : OutputValue) (old t : List BlockView) (marks : List Bool) (b : ℕ) →
-    ArePropagated f o old t marks b (length (block_at f b).succs) → IsKept f o t marks
+    ArePropagated f o old t marks b (length (block_at f b).succs) → UnmarkedAreSolved f o t marks
 all-kept f o old t marks b a = record {
   size = a.size;
   settled = λ c less h. elim (cases_eq c b) [
@@ -122,7 +122,7 @@ all-kept f o old t marks b a = record {
 }
 
 -- a block's mark is taken away before its edges are passed on
-pub mark-taken : (f : FunctionValue) (o : OutputValue) (t : List BlockView) (marks : List Bool) (b : ℕ) → IsKept f o t marks →
+pub mark-taken : (f : FunctionValue) (o : OutputValue) (t : List BlockView) (marks : List Bool) (b : ℕ) → UnmarkedAreSolved f o t marks →
     ArePropagated f o t t (set marks b false) b 0
 mark-taken f o t marks b h = record {
   size = length-set marks b false ∙ h.size;
@@ -132,17 +132,18 @@ mark-taken f o t marks b h = record {
 
 -- so many edges of a block are passed on
 pub record EdgesPassed (f : FunctionValue) (o : OutputValue) (old t : List BlockView) (marks : List Bool) (b k : ℕ) : Type 0 where
-  pub sound : IsSound f o t
+  pub sound : AreSoundViews f o t
   pub kept : ArePropagated f o old t marks b k
 
 -- before any of them is
-pub edges-first : (f : FunctionValue) (o : OutputValue) (t : List BlockView) (marks : List Bool) (b : ℕ) → IsSound f o t → ArePropagated f o t t marks b 0 →
+pub edges-first : (f : FunctionValue) (o : OutputValue) (t : List BlockView) (marks : List Bool) (b : ℕ) → AreSoundViews f o t →
+    ArePropagated f o t t marks b 0 →
     EdgesPassed f o t t marks b 0
 edges-first f o t marks b s a = record { sound = s; kept = a }
 
 -- an edge of a reached block, which had the facts that led to F at its end
 pub record EdgeLeaves (f : FunctionValue) (o : OutputValue) (old : List BlockView) (b k : ℕ) (F : Facts) : Type 0 where
-  pub sound : IsSound f o old
+  pub sound : AreSoundViews f o old
   pub reached : (view_at old b).reached ≡ true
   pub low : b < length f.blocks
   pub less : k < length (block_at f b).succs
@@ -158,7 +159,7 @@ edge-passed law f o ok old t new marks after b k F true e so_far p = record {
   kept = passed-changed f o old t new marks after b k F so_far.kept e.low (ok.successors.1 b e.low k 0 e.less) e.ends p;
 }
 edge-passed law f o ok old t new marks after b k F false e so_far p = record {
-  sound = subst (IsSound f o) (sym (p.met.same refl).0) so_far.sound;
+  sound = subst (AreSoundViews f o) (sym (p.met.same refl).0) so_far.sound;
   kept = passed-unchanged f o old t new marks after b k F so_far.kept e.low (ok.successors.1 b e.low k 0 e.less) e.ends p;
 }
 

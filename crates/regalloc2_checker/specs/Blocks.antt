@@ -6,12 +6,12 @@ use Rattle.regalloc2_function.specs.OutputValue.{OutputValue}
 use Rattle.regalloc2_checker.specs.declared.errors.CheckerError.{CheckerError}
 use Rattle.regalloc2_checker.specs.Facts.{Facts}
 use Rattle.regalloc2_checker.specs.Fixpoint.{nth_of, facts_within}
-use Rattle.regalloc2_checker.specs.CheckInputs.{IsKnown}
+use Rattle.regalloc2_checker.specs.CheckInputs.{AreFactsKnown}
 use Rattle.regalloc2_checker.specs.Report.{InstReports}
 
 -- the facts at a block's beginning lead, at each of its instructions, to those that hold on every path
 abbrev pub IsKnownWithin : FunctionValue → OutputValue → ℕ → Facts → Type 0
-IsKnownWithin f o b F = (n : ℕ) → (block_at f b).range.first + n < (block_at f b).range.end → IsKnown f o (nth_of f b n) (facts_within f o b F n)
+IsKnownWithin f o b F = (n : ℕ) → (block_at f b).range.first + n < (block_at f b).range.end → AreFactsKnown f o (nth_of f b n) (facts_within f o b F n)
 
 -- from such facts, the errors of a block's instructions are added to a list
 abbrev pub IsBlockJudged : {A : Type 0} → FunctionValue → MachineValue → OutputValue → ℕ → Facts → List (CheckerError A) → List (CheckerError A) → Type 0

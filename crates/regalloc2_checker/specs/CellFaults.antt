@@ -5,7 +5,7 @@ use Rattle.regalloc2_function.specs.FunctionValue.{FunctionValue, inst_at}
 use Rattle.regalloc2_function.specs.Machine.{MachineValue}
 use Rattle.regalloc2_function.specs.OutputValue.{OutputValue, allocs_of, place_at}
 use Rattle.regalloc2_function.specs.Fitting.{IsProperPlace, IsMoveEnd}
-use Rattle.regalloc2_checker.specs.Cells.{operand_of, move_of_index, location_of_index, IsOperandCell, IsWithinClass, IsTaken, IsInFrame, AreApart}
+use Rattle.regalloc2_checker.specs.Cells.{operand_of, move_of_index, location_of_index, IsOperandCell, IsWithinClass, IsSlotTaken, IsInFrame, AreUnitsApart}
 use Rattle.regalloc2_checker.specs.declared.cells.CellFault.{CellFault}
 use Rattle.regalloc2_checker.specs.declared.cells.CellFault.TheVariants.{Operand, MoveEnd, OtherClass, Location, Slot, Shared, Memory}
 
@@ -16,8 +16,8 @@ IsCellFault f env out (Operand i k) = (i < length f.insts) × (k < length (inst_
 IsCellFault f env out (MoveEnd k) = (k < length out.edits) × (IsMoveEnd env out (move_of_index out k).from × IsMoveEnd env out (move_of_index out k).to → ⊥)
 IsCellFault f env out (OtherClass k) = (k < length out.edits) × (IsWithinClass (move_of_index out k) → ⊥)
 IsCellFault f env out (Location k) = (k < length out.debug_locations) × ((c : RegClass) → IsProperPlace env out c (location_of_index out k) → ⊥)
-IsCellFault f env out (Slot n) = (u : ℕ) × IsTaken f out n u × (IsInFrame f.named_by_last_slot out.num_spillslots n u → ⊥)
-IsCellFault f env out (Shared m n) = (u w : ℕ) × (m < n) × IsTaken f out m u × IsTaken f out n w × (AreApart f.named_by_last_slot m u n w → ⊥)
+IsCellFault f env out (Slot n) = (u : ℕ) × IsSlotTaken f out n u × (IsInFrame f.named_by_last_slot out.num_spillslots n u → ⊥)
+IsCellFault f env out (Shared m n) = (u w : ℕ) × (m < n) × IsSlotTaken f out m u × IsSlotTaken f out n w × (AreUnitsApart f.named_by_last_slot m u n w → ⊥)
 IsCellFault f env out Memory = Unit {0}
 
 -- these slots, with units, are added to others
@@ -38,11 +38,11 @@ AreTurned by_last named = (i j : ℕ) → i ≤ j → j < length named → Comes
 
 -- no two share a unit
 abbrev pub AreAllApart : Bool → List (ℕ × ℕ) → Type 0
-AreAllApart by_last named = (m u n w : ℕ) → m < n → Contains named (m, u) → Contains named (n, w) → AreApart by_last m u n w
+AreAllApart by_last named = (m u n w : ℕ) → m < n → Contains named (m, u) → Contains named (n, w) → AreUnitsApart by_last m u n w
 
 -- two do
 abbrev pub IsShared : Bool → List (ℕ × ℕ) → ℕ → ℕ → Type 0
-IsShared by_last named m n = (u w : ℕ) × (m < n) × Contains named (m, u) × Contains named (n, w) × (AreApart by_last m u n w → ⊥)
+IsShared by_last named m n = (u w : ℕ) × (m < n) × Contains named (m, u) × Contains named (n, w) × (AreUnitsApart by_last m u n w → ⊥)
 
 -- what is wrong with slots, of which there are count
 abbrev pub IsSlotFault : Bool → ℕ → List (ℕ × ℕ) → CellFault → Type 0
@@ -55,10 +55,10 @@ IsSlotFault by_last count named (Shared m n) = IsShared by_last named m n
 IsSlotFault by_last count named Memory = ⊥
 
 -- how a slot is gone on to: the slot before it stays, or is the one that was current
-abbrev pub IsStep : ℕ → (Option ℕ × Option ℕ) → (Option ℕ × Option ℕ) → Type 0
-IsStep n old now = ((old.0 ≡ Some n) × (now ≡ old)) ⊎ ((old.0 ≢ Some n) × (now.0 ≡ Some n) × (now.1 ≡ old.0))
+abbrev pub IsNextSlot : ℕ → (Option ℕ × Option ℕ) → (Option ℕ × Option ℕ) → Type 0
+IsNextSlot n old now = ((old.0 ≡ Some n) × (now ≡ old)) ⊎ ((old.0 ≢ Some n) × (now.0 ≡ Some n) × (now.1 ≡ old.0))
 
 -- a slot reaches another one that comes before it
-abbrev pub Reaches : Bool → (ℕ × ℕ) → ℕ → Type 0
-Reaches true s other = s.0 - other < s.1
-Reaches false s other = other - s.0 < s.1
+abbrev pub SlotReaches : Bool → (ℕ × ℕ) → ℕ → Type 0
+SlotReaches true s other = s.0 - other < s.1
+SlotReaches false s other = other - s.0 < s.1

@@ -9,11 +9,11 @@ use Rattle.regalloc2_function.specs.FunctionValue.{FunctionValue, inst_at, slot_
 use Rattle.regalloc2_function.specs.Machine.{MachineValue}
 use Rattle.regalloc2_function.specs.OutputValue.{OutputValue, MoveValue, allocs_of, place_at}
 use Rattle.regalloc2_function.specs.Fitting.{IsProperPlace, IsMoveEnd}
-use Rattle.regalloc2_checker.specs.Report.{no_operand}
+use Rattle.regalloc2_checker.specs.Report.{invalid_operand}
 
 -- the operand of an instruction by its index, its place, the move of an index, and the place of a debug location
 abbrev pub operand_of : FunctionValue → ℕ → ℕ → OperandValue
-operand_of f i k = slice_index_or (inst_at f i).operands k no_operand
+operand_of f i k = slice_index_or (inst_at f i).operands k invalid_operand
 
 abbrev pub move_of_index : OutputValue → ℕ → MoveValue
 move_of_index out k = (slice_index_or out.edits k (0, record { from = NoPlace; to = NoPlace })).1
@@ -49,8 +49,8 @@ IsTakenByMove f m n u = ((m.from ≡ InSlot n) × (u ≡ units_beside f m.to)) �
 abbrev pub IsTakenByLocation : OutputValue → ℕ → ℕ → ℕ → Type 0
 IsTakenByLocation out k n u = (location_of_index out k ≡ InSlot n) × (u ≡ 1)
 
-abbrev pub IsTaken : FunctionValue → OutputValue → ℕ → ℕ → Type 0
-IsTaken f out n u = ((i : ℕ) × (i < length f.insts) × IsTakenByInst f out i n u)
+abbrev pub IsSlotTaken : FunctionValue → OutputValue → ℕ → ℕ → Type 0
+IsSlotTaken f out n u = ((i : ℕ) × (i < length f.insts) × IsTakenByInst f out i n u)
     ⊎ ((k : ℕ) × (k < length out.edits) × IsTakenByMove f (move_of_index out k) n u)
     ⊎ ((k : ℕ) × (k < length out.debug_locations) × IsTakenByLocation out k n u)
 
@@ -60,9 +60,9 @@ IsInFrame true count n u = (u ≤ n + 1) × (n < count)
 IsInFrame false count n u = n + u ≤ count
 
 -- two slots with their units, the first of the lower number, share none: the last of a slot's units, or the first, has its number
-abbrev pub AreApart : Bool → ℕ → ℕ → ℕ → ℕ → Type 0
-AreApart true m u n w = m + w ≤ n
-AreApart false m u n w = m + u ≤ n
+abbrev pub AreUnitsApart : Bool → ℕ → ℕ → ℕ → ℕ → Type 0
+AreUnitsApart true m u n w = m + w ≤ n
+AreUnitsApart false m u n w = m + u ≤ n
 
 -- each place is one of the machine's where its class may be, or a slot below the count; and moves stay within a class
 pub record ArePlacesOfMachine (f : FunctionValue) (env : MachineValue) (out : OutputValue) : Type 0 where
@@ -75,5 +75,5 @@ pub record ArePlacesOfMachine (f : FunctionValue) (env : MachineValue) (out : Ou
 -- Places are cells: they are the machine's, each slot is within the frame, and no two slots that are named share a unit.
 pub record AreCells (f : FunctionValue) (env : MachineValue) (out : OutputValue) : Type 0 where
   pub places : ArePlacesOfMachine f env out
-  pub frame : (n u : ℕ) → IsTaken f out n u → IsInFrame f.named_by_last_slot out.num_spillslots n u
-  pub apart : (m u n w : ℕ) → m < n → IsTaken f out m u → IsTaken f out n w → AreApart f.named_by_last_slot m u n w
+  pub frame : (n u : ℕ) → IsSlotTaken f out n u → IsInFrame f.named_by_last_slot out.num_spillslots n u
+  pub apart : (m u n w : ℕ) → m < n → IsSlotTaken f out m u → IsSlotTaken f out n w → AreUnitsApart f.named_by_last_slot m u n w

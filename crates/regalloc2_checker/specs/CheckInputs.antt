@@ -17,5 +17,5 @@ abbrev pub AreStackSlots : MachineValue → PRegSet → Type 0
 AreStackSlots env slots = (r : Register) → (has_register slots r ≡ true) ↔ IsFixedStackSlot env r
 
 -- the facts before an instruction's moves are those that hold on every path, at both points at which its uses are read
-abbrev pub IsKnown : FunctionValue → OutputValue → Location → Facts → Type 0
-IsKnown f o l F = (position : OperandPos) (p : Place) (v : VirtualRegister) → (facts_for f o l position F p v ≡ true) ↔ Holds f o l position p v
+abbrev pub AreFactsKnown : FunctionValue → OutputValue → Location → Facts → Type 0
+AreFactsKnown f o l F = (position : OperandPos) (p : Place) (v : VirtualRegister) → (facts_for f o l position F p v ≡ true) ↔ Holds f o l position p v

@@ -9,13 +9,13 @@ use Rattle.regalloc2_function.specs.declared.listing.Edit.{Edit}
 use Rattle.regalloc2_checker.specs.declared.listing.Listed.{Listed}
 
 -- so many edits are before a point
-abbrev pub ArePassed : List (ℕ × Edit) → ℕ → ℕ → Type 0
-ArePassed edits n point = (k : ℕ) (d : ℕ × Edit) → k < n → (get_or edits k d).0 < point
+abbrev pub AreBeforePoint : List (ℕ × Edit) → ℕ → ℕ → Type 0
+AreBeforePoint edits n point = (k : ℕ) (d : ℕ × Edit) → k < n → (get_or edits k d).0 < point
 
 -- so many are, and no others
 pub record IsSplit (edits : List (ℕ × Edit)) (n point : ℕ) : Type 0 where
   pub within : n ≤ length edits
-  pub passed : ArePassed edits n point
+  pub passed : AreBeforePoint edits n point
   pub left : (k : ℕ) (d : ℕ × Edit) → n ≤ k → k < length edits → point ≤ (get_or edits k d).0
 
 -- one instruction more is listed

@@ -12,12 +12,12 @@ abbrev pub places_of : MoveValue → List Place
 places_of m = m.from ∷ m.to ∷ []
 
 -- the registers that an instruction clobbers
-abbrev pub clobbered : InstValue → List Place
-clobbered inst = map InRegister (registers_of inst.clobbers)
+abbrev pub clobbered_places : InstValue → List Place
+clobbered_places inst = map InRegister (registers_of inst.clobbers)
 
 -- the places that an output's moves and operands name, and the clobbered registers, as often as they are named
-abbrev pub named : FunctionValue → OutputValue → List Place
-named f o = flat_map (λ e. places_of e.1) o.edits ++ (o.allocs ++ flat_map clobbered f.insts)
+abbrev pub named_places : FunctionValue → OutputValue → List Place
+named_places f o = flat_map (λ e. places_of e.1) o.edits ++ (o.allocs ++ flat_map clobbered_places f.insts)
 
 -- the bits of a place, unless it is missing
 abbrev pub bits_unless_missing : Place → List ℕ

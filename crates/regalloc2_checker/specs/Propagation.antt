@@ -9,7 +9,7 @@ use Rattle.regalloc2_function.specs.Path.{ToSuccessor, first_of}
 use Rattle.regalloc2_checker_tables.specs.Showing.{Showing, table_count}
 use Rattle.regalloc2_checker.specs.Facts.{Facts, facts_over_edge}
 use Rattle.regalloc2_checker.specs.Fixpoint.{facts_within}
-use Rattle.regalloc2_checker.specs.Tables.{BlockView, view_at, IsMeet, IsSound, EdgesSolved, BlockSolved}
+use Rattle.regalloc2_checker.specs.Tables.{BlockView, view_at, IsMeet, AreSoundViews, EdgesSolved, BlockSolved}
 
 -- the facts at a block's end, from those at its beginning
 abbrev pub IsBlockEnd : FunctionValue → OutputValue → ℕ → Facts → Facts → Type 0
@@ -29,7 +29,7 @@ pub record IsPropagatedOver (f : FunctionValue) (b k : ℕ) (F : Facts) (old new
   pub marked : after ≡ (if changed then slice_set marks (slice_index (block_at f b).succs k) true else marks)
 
 -- a block without a mark is solved
-pub record IsKept (f : FunctionValue) (o : OutputValue) (t : List BlockView) (marks : List Bool) : Type 0 where
+pub record UnmarkedAreSolved (f : FunctionValue) (o : OutputValue) (t : List BlockView) (marks : List Bool) : Type 0 where
   pub size : length marks ≡ length f.blocks
   pub settled : (b : ℕ) → b < length f.blocks → mark_at marks b ≡ false → BlockSolved f o t b
 
@@ -40,25 +40,25 @@ pub record ArePropagated (f : FunctionValue) (o : OutputValue) (old t : List Blo
   pub here : mark_at marks b ≡ false → (view_at t b ≡ view_at old b) × EdgesSolved f o t b k
 
 -- an entry of a queue: the block, and its rank before
-abbrev pub block_of : Reverse (ℕ × ℕ) → ℕ
-block_of x = x.0.1
+abbrev pub queued_block : Reverse (ℕ × ℕ) → ℕ
+queued_block x = x.0.1
 
 -- a block has an entry
 abbrev pub IsQueued : List (Reverse (ℕ × ℕ)) → ℕ → Type 0
-IsQueued entries b = (x : Reverse (ℕ × ℕ)) × Contains entries x × (block_of x ≡ b)
+IsQueued entries b = (x : Reverse (ℕ × ℕ)) × Contains entries x × (queued_block x ≡ b)
 
 -- each block with a mark has an entry, and each entry is that of a block
 pub record IsQueue (marks : List Bool) (entries : List (Reverse (ℕ × ℕ))) : Type 0 where
   pub marked : (b : ℕ) → b < length marks → mark_at marks b ≡ true → IsQueued entries b
-  pub small : All (λ x. block_of x < length marks) entries
+  pub small : All (λ x. queued_block x < length marks) entries
 
 -- each entry is of a block that is reached
 abbrev pub AreReached : List BlockView → List (Reverse (ℕ × ℕ)) → Type 0
-AreReached t entries = All (λ x. (view_at t (block_of x)).reached ≡ true) entries
+AreReached t entries = All (λ x. (view_at t (queued_block x)).reached ≡ true) entries
 
 -- a block was taken from the queue, and is to be passed on
 pub record IsReady (f : FunctionValue) (o : OutputValue) (t : List BlockView) (marks : List Bool) (entries : List (Reverse (ℕ × ℕ))) (b : ℕ) : Type 0 where
-  pub sound : IsSound f o t
+  pub sound : AreSoundViews f o t
   pub here : (view_at t b).reached ≡ true
   pub none : ArePropagated f o t t marks b 0
   pub queue : IsQueue marks entries
@@ -66,8 +66,8 @@ pub record IsReady (f : FunctionValue) (o : OutputValue) (t : List BlockView) (m
 
 -- what stays true while blocks are passed on
 pub record IsUnderWay (f : FunctionValue) (o : OutputValue) (t : List BlockView) (marks : List Bool) (entries : List (Reverse (ℕ × ℕ))) : Type 0 where
-  pub sound : IsSound f o t
-  pub kept : IsKept f o t marks
+  pub sound : AreSoundViews f o t
+  pub kept : UnmarkedAreSolved f o t marks
   pub queue : IsQueue marks entries
   pub reached : AreReached t entries
 

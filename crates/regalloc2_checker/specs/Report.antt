@@ -30,12 +30,12 @@ use Rattle.regalloc2_checker.specs.declared.errors.CheckerError.TheVariants.{All
 use Rattle.regalloc2_checker.specs.declared.errors.CheckerError.TheVariants.{AllocationOutsideLimit}
 
 -- an operand that no instruction has
-abbrev pub no_operand : OperandValue
-no_operand = record { vreg = invalid_vreg; constraint = Any; kind = Use; position = Early }
+abbrev pub invalid_operand : OperandValue
+invalid_operand = record { vreg = invalid_vreg; constraint = Any; kind = Use; position = Early }
 
 -- the operand of an index
 abbrev pub operand_at : List OperandValue → ℕ → OperandValue
-operand_at operands k = slice_index_or operands k no_operand
+operand_at operands k = slice_index_or operands k invalid_operand
 
 -- the virtual registers that pass a test, by rising bits
 pub record AreVRegsInValue (Has : VirtualRegister → Type 0) (vs : List VirtualRegister) : Type 0 where
@@ -63,12 +63,12 @@ pub data IsConstraintFault {A : Type 0} (env : MachineValue) (inst : ℕ) (op : 
       IsConstraintFault env inst op count places p (Limit n) (AllocationOutsideLimit inst op p (record { start = 0; end = n }))
 
 -- the fault of an operand, by what places hold where it is read or written: its place is missing, else what it holds is wrong, else its constraint is not met
-pub data IsFault {A : Type 0} (env : MachineValue) (inst : ℕ) (op : OperandValue) (count : ℕ) (places : List Place) (p : Place)
+pub data IsOperandFault {A : Type 0} (env : MachineValue) (inst : ℕ) (op : OperandValue) (count : ℕ) (places : List Place) (p : Place)
     (Has : VirtualRegister → Type 0) : CheckerError A → Type 0 where
-  missing : p ≡ NoPlace → IsFault env inst op count places p Has (MissingAllocation inst op)
-  of_value : (e : CheckerError A) → p ≢ NoPlace → is_reading op ≡ true → IsValueFault inst op p Has e → IsFault env inst op count places p Has e
+  missing : p ≡ NoPlace → IsOperandFault env inst op count places p Has (MissingAllocation inst op)
+  of_value : (e : CheckerError A) → p ≢ NoPlace → is_reading op ≡ true → IsValueFault inst op p Has e → IsOperandFault env inst op count places p Has e
   of_constraint : (e : CheckerError A) → p ≢ NoPlace → (is_reading op ≡ true → Has op.vreg) → IsConstraintFault env inst op count places p op.constraint e →
-      IsFault env inst op count places p Has e
+      IsOperandFault env inst op count places p Has e
 
 -- an operand without a fault: a use that reads finds its virtual register's value, and the constraint is met, which no missing place does
 pub record IsFine (env : MachineValue) (op : OperandValue) (count : ℕ) (places : List Place) (p : Place) (Has : VirtualRegister → Type 0) : Type 0 where
@@ -80,17 +80,18 @@ abbrev pub IsFineAt : MachineValue → List OperandValue → List Place → (Pla
 IsFineAt env operands places Has k = IsFine env (operand_at operands k) (length operands) places (place_at places k) (Has (place_at places k))
 
 abbrev pub IsFaultAt : {A : Type 0} → MachineValue → ℕ → List OperandValue → List Place → (Place → VirtualRegister → Type 0) → ℕ → CheckerError A → Type 0
-IsFaultAt env inst operands places Has k e = IsFault env inst (operand_at operands k) (length operands) places (place_at places k) (Has (place_at places k)) e
+IsFaultAt env inst operands places Has k e = IsOperandFault env inst (operand_at operands k) (length operands) places (place_at places k)
+    (Has (place_at places k)) e
 
 -- the operands of a position below an index are fine
 abbrev pub AreFineBelow : MachineValue → List OperandValue → List Place → OperandPos → (Place → VirtualRegister → Type 0) → ℕ → Type 0
 AreFineBelow env operands places position Has n = (k : ℕ) → k < n → (operand_at operands k).position ≡ position → IsFineAt env operands places Has k
 
 -- the first fault among the operands of a position, or none
-abbrev pub IsJudged : {A : Type 0} → MachineValue → ℕ → List OperandValue → List Place → OperandPos → (Place → VirtualRegister → Type 0) →
+abbrev pub AreOperandsJudged : {A : Type 0} → MachineValue → ℕ → List OperandValue → List Place → OperandPos → (Place → VirtualRegister → Type 0) →
     Option (CheckerError A) → Type 0
-IsJudged env inst operands places position Has None = AreFineBelow env operands places position Has (length operands)
-IsJudged env inst operands places position Has (Some e) = (k : ℕ) × (k < length operands) × ((operand_at operands k).position ≡ position)
+AreOperandsJudged env inst operands places position Has None = AreFineBelow env operands places position Has (length operands)
+AreOperandsJudged env inst operands places position Has (Some e) = (k : ℕ) × (k < length operands) × ((operand_at operands k).position ≡ position)
     × AreFineBelow env operands places position Has k
     × IsFaultAt env inst operands places Has k e
 
@@ -108,8 +109,8 @@ pub record InstReport {A : Type 0} (f : FunctionValue) (env : MachineValue) (o :
   pub of_early : Option (CheckerError A)
   pub of_late : Option (CheckerError A)
   pub moves : AreMoveFaults env (moves_at f o l) of_moves
-  pub early : IsJudged env l.inst (inst_at f l.inst).operands (allocs_of o l.inst) Early (Holds f o l Early) of_early
-  pub late : IsJudged env l.inst (inst_at f l.inst).operands (allocs_of o l.inst) Late (Holds f o l Late) of_late
+  pub early : AreOperandsJudged env l.inst (inst_at f l.inst).operands (allocs_of o l.inst) Early (Holds f o l Early) of_early
+  pub late : AreOperandsJudged env l.inst (inst_at f l.inst).operands (allocs_of o l.inst) Late (Holds f o l Late) of_late
   pub all : es ≡ of_moves ++ (option_to_list of_early ++ option_to_list of_late)
 
 -- the errors of so many of a block's instructions, in turn

@@ -11,7 +11,7 @@ use Rattle.regalloc2_function.specs.OutputValue.{OutputValue}
 use Rattle.regalloc2_function.specs.SourceRun.{arguments_at}
 use Rattle.regalloc2_checker_tables.specs.Showing.{Showing, shows_now, shows_in}
 use Rattle.regalloc2_checker.specs.Facts.{Facts}
-use Rattle.regalloc2_checker.specs.NamedPlaces.{named, bits_unless_missing}
+use Rattle.regalloc2_checker.specs.NamedPlaces.{named_places, bits_unless_missing}
 
 -- a place that a packed name can have
 abbrev pub is_packed : Place → Bool
@@ -60,7 +60,7 @@ IsListedVReg vregs v = Contains vregs (bits_of_vreg v)
 -- a list has the bits of the places that an output and the clobbers name, each once, by rising bits, and no others
 pub record AreNamedPlaces (f : FunctionValue) (o : OutputValue) (places : List ℕ) : Type 0 where
   pub rising : IsStrictlyIncreasing places
-  pub members : (n : ℕ) → Contains places n ↔ Contains (flat_map bits_unless_missing (named f o)) n
+  pub members : (n : ℕ) → Contains places n ↔ Contains (flat_map bits_unless_missing (named_places f o)) n
 
 -- a list names the virtual registers of a function's operands, parameters and arguments
 pub record AreNamedVRegs (f : FunctionValue) (vregs : List ℕ) : Type 0 where

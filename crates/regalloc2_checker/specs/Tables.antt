@@ -26,9 +26,9 @@ abbrev pub facts_at : List BlockView → ℕ → Facts
 facts_at t b = (view_at t b).facts
 
 -- how many numbers below a bound pass a test, and sums over them
-unfoldable pub count_below : ℕ → (ℕ → Bool) → ℕ
-count_below zero test = 0
-count_below (suc n) test = (if test n then 1 else 0) + count_below n test
+unfoldable pub count_passing : ℕ → (ℕ → Bool) → ℕ
+count_passing zero test = 0
+count_passing (suc n) test = (if test n then 1 else 0) + count_passing n test
 
 unfoldable pub sum_below : ℕ → (ℕ → ℕ) → ℕ
 sum_below zero g = 0
@@ -40,10 +40,10 @@ bits_end = 4294967296
 
 -- how many pairs of a position and bits are held, and how many there are
 abbrev pub pairs_held : ℕ → (ℕ → ℕ → Bool) → ℕ
-pairs_held size has = sum_below size (λ i. count_below bits_end (has i))
+pairs_held size has = sum_below size (λ i. count_passing bits_end (has i))
 
 abbrev pub all_pairs : ℕ → ℕ
-all_pairs size = sum_below size (λ i. count_below bits_end (λ y. true))
+all_pairs size = sum_below size (λ i. count_passing bits_end (λ y. true))
 
 -- how much may still be dropped where a path was found, or where none was
 abbrev pub left_in : ℕ → Bool → (ℕ → ℕ → Bool) → ℕ
@@ -66,7 +66,7 @@ abbrev pub views : Showing → List Bool → List BlockView
 views t reached = views_from t 0 reached
 
 -- what is marked is reached, and what was dropped there fails on a path
-pub record IsSound (f : FunctionValue) (o : OutputValue) (t : List BlockView) : Type 0 where
+pub record AreSoundViews (f : FunctionValue) (o : OutputValue) (t : List BlockView) : Type 0 where
   pub size : length t ≡ length f.blocks
   pub started : (view_at t f.entry).reached ≡ true
   pub nothing : (p : Place) (v : VirtualRegister) → facts_at t f.entry p v ≡ false
@@ -111,7 +111,7 @@ pub record IsSolved (f : FunctionValue) (o : OutputValue) (t : List BlockView) :
   pub refuted : IsRefutedElsewhere f o (facts_at t)
 
 -- tables list what they listed before, and there are as many
-pub record AreAlike (old new : Showing) : Type 0 where
+pub record ListTheSame (old new : Showing) : Type 0 where
   pub places : new.places ≡ old.places
   pub vregs : new.vregs ≡ old.vregs
   pub count : table_count new ≡ table_count old

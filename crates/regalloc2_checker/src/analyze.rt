@@ -9,7 +9,7 @@ ghost use Rattle.regalloc2_checker_tables.specs.Showing.{table_count, shows_in};
 ghost use Rattle.regalloc2_checker.specs.Listing.{IsListing};
 ghost use Rattle.regalloc2_checker.specs.Propagation.{IsBlockEnd, IsPropagatedOver, IsQueue, AreReached, IsReady, IsUnderWay, AreSized};
 ghost use Rattle.regalloc2_checker.specs.TableFacts.{facts_now, facts_table, AreNamed, AreNamedVRegs};
-ghost use Rattle.regalloc2_checker.specs.Tables.{view_at, facts_at, weight, AreAlike, IsMeet, IsSolved, views};
+ghost use Rattle.regalloc2_checker.specs.Tables.{view_at, facts_at, weight, ListTheSame, IsMeet, IsSolved, views};
 
 use crate::listing::Listed;
 use crate::order::ranks;
@@ -38,7 +38,7 @@ fn update<A: Allocator + Copy>(
 ) -> Result<bool, AllocError>
     requires target { target < length reached.old.items }
     requires count { length reached.old.items ≤ table_count values.old }
-    ensures alike { OnOk result (AreAlike values.old values.new) }
+    ensures alike { OnOk result (ListTheSame values.old values.new) }
     ensures long { OnOk result (length reached.new.items ≡ length reached.old.items) }
     ensures others { OnOk result ((k : ℕ) → k ≢ target → facts_table values.new k ≡ facts_table values.old k) }
     ensures met { IfOk result (λ changed. IsMeet (views values.old reached.old.items) (views values.new reached.new.items) target
@@ -69,7 +69,7 @@ fn propagate_over<F: Function, A: Allocator + Copy>(
     requires sized { AreSized (F.function f.now) state.old.values state.old.reached.items state.old.queue.is_queued.items }
     requires queue { IsQueue state.old.queue.is_queued.items (heap_items state.old.queue.heap) }
     requires reached { AreReached (views state.old.values state.old.reached.items) (heap_items state.old.queue.heap) }
-    ensures alike { OnOk result (AreAlike state.old.values state.new.values) }
+    ensures alike { OnOk result (ListTheSame state.old.values state.new.values) }
     ensures sized { OnOk result (AreSized (F.function f.now) state.new.values state.new.reached.items state.new.queue.is_queued.items) }
     ensures kept { OnOk result (facts_table state.new.values (length (F.function f.now).blocks)
         ≡ facts_table state.old.values (length (F.function f.now).blocks)) }
@@ -106,7 +106,7 @@ fn propagate_edges<F: Function, A: Allocator + Copy>(
     requires ready { IsReady (F.function f.now) o (views state.old.values state.old.reached.items) state.old.queue.is_queued.items
         (heap_items state.old.queue.heap) block }
     requires values { IsBlockEnd (F.function f.now) o block (facts_at (views state.old.values state.old.reached.items) block) (facts_now state.old.values) }
-    ensures alike { OnOk result (AreAlike state.old.values state.new.values) }
+    ensures alike { OnOk result (ListTheSame state.old.values state.new.values) }
     ensures sized { OnOk result (AreSized (F.function f.now) state.new.values state.new.reached.items state.new.queue.is_queued.items) }
     ensures on_way { OnOk result (IsUnderWay (F.function f.now) o (views state.new.values state.new.reached.items) state.new.queue.is_queued.items
         (heap_items state.new.queue.heap)) }
@@ -139,7 +139,7 @@ fn propagate_block<F: Function, A: Allocator + Copy>(
     requires sized { AreSized (F.function f.now) state.old.values state.old.reached.items state.old.queue.is_queued.items }
     requires ready { IsReady (F.function f.now) o (views state.old.values state.old.reached.items) state.old.queue.is_queued.items
         (heap_items state.old.queue.heap) block }
-    ensures alike { OnOk result (AreAlike state.old.values state.new.values) }
+    ensures alike { OnOk result (ListTheSame state.old.values state.new.values) }
     ensures sized { OnOk result (AreSized (F.function f.now) state.new.values state.new.reached.items state.new.queue.is_queued.items) }
     ensures on_way { OnOk result (IsUnderWay (F.function f.now) o (views state.new.values state.new.reached.items) state.new.queue.is_queued.items
         (heap_items state.new.queue.heap)) }
@@ -224,7 +224,7 @@ pub fn analyze<F: Function, A: Allocator + Copy>(
     requires named { AreNamed (F.function f.now) o values }
     requires count { table_count values ≡ length (F.function f.now).blocks + 1 }
     requires empty { (k i y : ℕ) → shows_in values k i y ≡ false }
-    ensures alike { IfOk result (λ s. AreAlike values s.values) }
+    ensures alike { IfOk result (λ s. ListTheSame values s.values) }
     ensures long { IfOk result (λ s. length s.reached.items ≡ length (F.function f.now).blocks) }
     ensures solved { IfOk result (λ s. IsSolved (F.function f.now) o (views s.values s.reached.items)) }
 {

@@ -14,9 +14,9 @@ ghost use Rattle.regalloc2_function.specs.Fitting.{IsProperPlace, IsMoveEnd};
 ghost use Rattle.regalloc2_function.specs.OutputValue.{IsInOrder, place_at, allocs_of};
 ghost use Rattle.regalloc2_function.specs.Views.{machine_of, output_of};
 ghost use Rattle.regalloc2_checker.specs.CheckInputs.{AreStackSlots};
-ghost use Rattle.regalloc2_checker.specs.Cells.{AreCells, ArePlacesOfMachine, IsTaken, IsOperandCell, IsWithinClass, IsTakenByInst, IsTakenByMove};
+ghost use Rattle.regalloc2_checker.specs.Cells.{AreCells, ArePlacesOfMachine, IsSlotTaken, IsOperandCell, IsWithinClass, IsTakenByInst, IsTakenByMove};
 ghost use Rattle.regalloc2_checker.specs.Cells.{IsTakenByLocation, IsInFrame, units_beside, operand_of, move_of_index, location_of_index};
-ghost use Rattle.regalloc2_checker.specs.CellFaults.{IsCellFault, AddsSlots, AreTurned, AreAllApart, IsShared, IsSlotFault, IsStep, Reaches};
+ghost use Rattle.regalloc2_checker.specs.CellFaults.{IsCellFault, AddsSlots, AreTurned, AreAllApart, IsShared, IsSlotFault, IsNextSlot, SlotReaches};
 
 use crate::constraints::stack_slots;
 use crate::transfer::place_at;
@@ -374,7 +374,7 @@ fn test_frame(by_last: bool, count: usize, named: &[(usize, usize)]) -> Result<(
 
 /// Goes on to a slot: the current one, and the one before it that has another number.
 fn go_on(slots: (Option<usize>, Option<usize>), slot: usize) -> (Option<usize>, Option<usize>)
-    ensures { IsStep slot slots result }
+    ensures { IsNextSlot slot slots result }
 {
     match slots.0 {
         Some(current) if current == slot => slots,
@@ -384,7 +384,7 @@ fn go_on(slots: (Option<usize>, Option<usize>), slot: usize) -> (Option<usize>, 
 
 /// Whether a slot with its units reaches another one.
 fn reaches(by_last: bool, slot: (usize, usize), other: usize) -> bool
-    ensures { IsTrue result ↔ Reaches by_last slot other }
+    ensures { IsTrue result ↔ SlotReaches by_last slot other }
 {
     if by_last {
         slot.0.saturating_sub(other) < slot.1
@@ -455,7 +455,7 @@ fn named_slots<F: Function, A: Allocator, B: Allocator, C: Allocator>(
 ) -> Result<Vec<(usize, usize), A>, CellFault>
     requires in_order { IsInOrder (F.function f.now) (output_of output.now) }
     ensures places { OnOk result (ArePlacesOfMachine (F.function f.now) (machine_of env.now) (output_of output.now)) }
-    ensures named { IfOk result (λ v. (n u : ℕ) → Contains v.items (n, u) ↔ IsTaken (F.function f.now) (output_of output.now) n u) }
+    ensures named { IfOk result (λ v. (n u : ℕ) → Contains v.items (n, u) ↔ IsSlotTaken (F.function f.now) (output_of output.now) n u) }
     ensures fault { IfErr result (IsCellFault (F.function f.now) (machine_of env.now) (output_of output.now)) }
 {
     let slots = stack_slots(env);

@@ -11,10 +11,10 @@ ghost use Rattle.regalloc2_function.specs.Faithful.{IsStackToStack};
 ghost use Rattle.regalloc2_names.specs.Operand.{is_reading};
 ghost use Rattle.regalloc2_function.specs.Views.{move_of};
 ghost use Rattle.regalloc2_checker.specs.Facts.{facts_after};
-ghost use Rattle.regalloc2_checker.specs.CheckInputs.{AreStackSlots, IsKnown};
+ghost use Rattle.regalloc2_checker.specs.CheckInputs.{AreStackSlots, AreFactsKnown};
 ghost use Rattle.regalloc2_checker_tables.specs.Showing.{AreTablesKept};
 ghost use Rattle.regalloc2_checker.specs.TableFacts.{facts_now, AreNamed};
-ghost use Rattle.regalloc2_checker.specs.Report.{IsValueFault, IsFineAt, IsFaultAt, IsJudged, AreMoveFaults, InstReport};
+ghost use Rattle.regalloc2_checker.specs.Report.{IsValueFault, IsFineAt, IsFaultAt, AreOperandsJudged, AreMoveFaults, InstReport};
 ghost use Rattle.regalloc2_checker.specs.Listing.{IsListing};
 ghost use Rattle.regalloc2_checker.specs.declared.errors.CheckerError.{CheckerError};
 
@@ -117,7 +117,7 @@ fn check_position<A: Allocator + Copy>(
     position: OperandPos,
 ) -> Result<Option<CheckerError<A>>, AllocError>
     ensures { IfOk result (λ r. (env : MachineValue) → AreStackSlots env slots →
-        IsJudged env at.now.inst at.now.operands.now at.now.places.now position (λ p v. facts_now values.now p v ≡ true) r) }
+        AreOperandsJudged env at.now.inst at.now.operands.now at.now.places.now position (λ p v. facts_now values.now p v ≡ true) r) }
 {
     let operands = at.operands;
     for k in 0..operands.len() {
@@ -197,7 +197,7 @@ pub fn check_inst<F: Function, A: Allocator + Copy>(
     ensures kept { OnOk result (AreTablesKept values.old values.new) }
     ensures now { OnOk result (facts_now values.new ≡ facts_after (F.function by.now.f.now) o (record { block = block; inst = inst }) (facts_now values.old)) }
     ensures judged { OnOk result ((env : MachineValue) → AreStackSlots env by.now.slots
-        → IsKnown (F.function by.now.f.now) o (record { block = block; inst = inst }) (facts_now values.old)
+        → AreFactsKnown (F.function by.now.f.now) o (record { block = block; inst = inst }) (facts_now values.old)
         → (es : List (CheckerError A)) × (errors.new.items ≡ errors.old.items ++ es)
         × InstReport (F.function by.now.f.now) env o (record { block = block; inst = inst }) es) }
 {

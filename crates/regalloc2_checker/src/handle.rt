@@ -6,7 +6,7 @@ ghost use Rattle.regalloc2_names.specs.Point.{before};
 ghost use Rattle.regalloc2_function.specs.OutputValue.{OffsetsInOrder, IsInOrder, allocs_of};
 ghost use Rattle.regalloc2_function.specs.Views.{output_of};
 ghost use Rattle.regalloc2_function.specs.WellFormed.{IsFramed};
-ghost use Rattle.regalloc2_checker.specs.ListingCopied.{ArePassed, IsSplit, IsAdded, IsListedBefore};
+ghost use Rattle.regalloc2_checker.specs.ListingCopied.{AreBeforePoint, IsSplit, IsAdded, IsListedBefore};
 ghost use Rattle.regalloc2_checker.specs.Listing.{IsListing};
 
 use crate::listing::Listed;
@@ -34,7 +34,7 @@ pub fn handle_moves<A: Allocator, B: Allocator>(
 fn first_from(edits: &[(ProgPoint, Edit)], from: usize, point: u64) -> usize
     requires sorted { IsNonDecreasingBy (λ e. e.0) edits.now }
     requires from { from ≤ length edits.now }
-    requires passed { ArePassed edits.now from point }
+    requires passed { AreBeforePoint edits.now from point }
     ensures from { from ≤ result }
     ensures split { IsSplit edits.now result point }
 {
@@ -76,10 +76,10 @@ fn handle_block<'a, F: Function, A: Allocator, B: Allocator>(
     requires moves { moves.now ≡ map (λ e. e.1) out.now.edits.items }
     requires block { block < length (F.function f.now).blocks }
     requires within { passed ≤ length out.now.edits.items }
-    requires passed { ArePassed out.now.edits.items passed (before (length listing.old.items)) }
+    requires passed { AreBeforePoint out.now.edits.items passed (before (length listing.old.items)) }
     requires before { IsListedBefore (F.function f.now) (output_of out.now) block listing.old.items }
     ensures within { IfOk result (λ r. r ≤ length out.now.edits.items) }
-    ensures passed { IfOk result (λ r. ArePassed out.now.edits.items r (before (length listing.new.items))) }
+    ensures passed { IfOk result (λ r. AreBeforePoint out.now.edits.items r (before (length listing.new.items))) }
     ensures listed { OnOk result (IsListedBefore (F.function f.now) (output_of out.now) (block + 1) listing.new.items) }
 {
     let edits = out.edits.as_slice();

@@ -3,7 +3,7 @@
 ghost use Rattle.std.specs.Prelude.{◌≡◌, ◌<◌, ◌≤◌, ◌+◌, ◌⊎◌, ◌∷◌, ℕ, None, true, false, OnOk, IfSome, IsPermutation, All, length, slice_set};
 ghost use Rattle.std.specs.BinaryHeap.{heap_items, heap_len};
 ghost use Rattle.std.specs.declared.cmp.Reverse.{Reverse};
-ghost use Rattle.regalloc2_checker.specs.Propagation.{mark_at, block_of, IsQueue};
+ghost use Rattle.regalloc2_checker.specs.Propagation.{mark_at, queued_block, IsQueue};
 
 use std::alloc::{AllocError, Allocator};
 use std::cmp::Reverse;
@@ -24,7 +24,7 @@ impl<A: Allocator + Copy> Queue<A> {
         requires queue { IsQueue self.old.is_queued.items (heap_items self.old.heap) }
         ensures marks { OnOk result (self.new.is_queued.items ≡ slice_set self.old.is_queued.items block true) }
         ensures entries { OnOk result ((heap_items self.new.heap ≡ heap_items self.old.heap)
-            ⊎ ((x : Reverse (ℕ × ℕ)) × (block_of x ≡ block) × IsPermutation (x ∷ heap_items self.old.heap) (heap_items self.new.heap))) }
+            ⊎ ((x : Reverse (ℕ × ℕ)) × (queued_block x ≡ block) × IsPermutation (x ∷ heap_items self.old.heap) (heap_items self.new.heap))) }
         ensures queue { OnOk result (IsQueue self.new.is_queued.items (heap_items self.new.heap)) }
         ensures longer { OnOk result (heap_len self.new.heap ≤ heap_len self.old.heap + 1) }
     {
@@ -42,7 +42,7 @@ impl<A: Allocator + Copy> Queue<A> {
         requires { IsQueue self.old.is_queued.items (heap_items self.old.heap) }
         ensures none { result ≡ None → (b : ℕ) → b < length self.old.is_queued.items → mark_at self.old.is_queued.items b ≡ false }
         ensures marks { IfSome result (λ b. (b < length self.old.is_queued.items) × (self.new.is_queued.items ≡ slice_set self.old.is_queued.items b false)) }
-        ensures entries { IfSome result (λ b. (x : Reverse (ℕ × ℕ)) × (block_of x ≡ b)
+        ensures entries { IfSome result (λ b. (x : Reverse (ℕ × ℕ)) × (queued_block x ≡ b)
             × IsPermutation (heap_items self.old.heap) (x ∷ heap_items self.new.heap)) }
         ensures queue { IfSome result (λ b. IsQueue self.new.is_queued.items (heap_items self.new.heap)) }
         ensures shorter { IfSome result (λ b. heap_len self.new.heap + 1 ≡ heap_len self.old.heap) }

@@ -5,7 +5,7 @@ use Rattle.std.specs.Prelude.{◌&&◌, if◌then◌else◌}
 use Rattle.std.proofs.lemmas.Bool.{cases_eq, cases_lt, le-ltb, lt-ltb as below, ne_eqb}
 use Rattle.std.proofs.Math.Bool.{and-false}
 use Rattle.regalloc2_index.proofs.Bools.{not_both}
-use Rattle.regalloc2_cfg.specs.Numbers.{NumberSet, has_number, times_in, ListsMembers}
+use Rattle.regalloc2_cfg.specs.Numbers.{NumberSet, has_number, times_listed, ListsMembers}
 use Rattle.std.proofs.Common.{length, get_or, ◌-◌, zero, suc}
 use Rattle.std.specs.Prelude.{Result, Ok, Err, IfOk}
 use Rattle.std.proofs.Math.ListN.{length-append}
@@ -33,7 +33,7 @@ bits-small s y h = elim (cases_lt y 4294967296) [
 ]
 
 -- another one that comes
-pub other-times : (done : List ℕ) (x y : ℕ) → (y ≡ x → ⊥) → times_in (done ++ x ∷ []) y ≡ times_in done y
+pub other-times : (done : List ℕ) (x y : ℕ) → (y ≡ x → ⊥) → times_listed (done ++ x ∷ []) y ≡ times_listed done y
 other-times done x y n =
     let a = times-append done (x ∷ []) y in
     let b = times-one x y in
@@ -41,7 +41,7 @@ other-times done x y n =
     omega arith
 
 -- a list with a number at its end has that number
-pub same-times : (done : List ℕ) (x : ℕ) → 0 < times_in (done ++ x ∷ []) x
+pub same-times : (done : List ℕ) (x : ℕ) → 0 < times_listed (done ++ x ∷ []) x
 same-times done x =
     let a = times-append done (x ∷ []) x in
     let b = times-one x x in
@@ -51,12 +51,12 @@ same-times done x =
 -- what both sets have is what came and is in the other: one more
 pub both-more : (old new other : NumberSet) (done : List ℕ) (x : ℕ) → x < 4294967296 →
     ((i : ℕ) → has_number new i ≡ cond (nat_eq i x) true (has_number old i)) → has_bits other x ≡ true →
-    ((y : ℕ) → has_bits old y ≡ (nat_lt 0 (times_in done y) && has_bits other y)) → (y : ℕ) →
-    has_bits new y ≡ (nat_lt 0 (times_in (done ++ x ∷ []) y) && has_bits other y)
+    ((y : ℕ) → has_bits old y ≡ (nat_lt 0 (times_listed done y) && has_bits other y)) → (y : ℕ) →
+    has_bits new y ≡ (nat_lt 0 (times_listed (done ++ x ∷ []) y) && has_bits other y)
 both-more old new other done x small set is h y = elim (cases_eq y x) [
   | inl e ↦
       let a : has_bits new y ≡ true = bits-in new y (omega arith) (set y ∙ ap (λ t. cond t true (has_number old y)) (eq-eqb y x e)) in
-      let b : nat_lt 0 (times_in (done ++ x ∷ []) y) ≡ true = below 0 _ (rw e (same-times done x)) in
+      let b : nat_lt 0 (times_listed (done ++ x ∷ []) y) ≡ true = below 0 _ (rw e (same-times done x)) in
       a ∙ sym (ap (λ t. t && has_bits other y) b ∙ ap (λ n. has_bits other n) e ∙ is)
   | inr n ↦
       let a : has_number new y ≡ has_number old y = set y ∙ ap (λ t. cond t true (has_number old y)) (ne_eqb y x n) in
@@ -65,24 +65,24 @@ both-more old new other done x small set is h y = elim (cases_eq y x) [
 
 -- or one that the other has not
 pub both-skip : (old other : NumberSet) (done : List ℕ) (x : ℕ) → has_bits other x ≡ false →
-    ((y : ℕ) → has_bits old y ≡ (nat_lt 0 (times_in done y) && has_bits other y)) → (y : ℕ) →
-    has_bits old y ≡ (nat_lt 0 (times_in (done ++ x ∷ []) y) && has_bits other y)
+    ((y : ℕ) → has_bits old y ≡ (nat_lt 0 (times_listed done y) && has_bits other y)) → (y : ℕ) →
+    has_bits old y ≡ (nat_lt 0 (times_listed (done ++ x ∷ []) y) && has_bits other y)
 both-skip old other done x is h y = elim (cases_eq y x) [
   | inl e ↦
       let f : has_bits other y ≡ false = ap (λ n. has_bits other n) e ∙ is in
-      h y ∙ ap (λ t. nat_lt 0 (times_in done y) && t) f ∙ and-false _ ∙ sym (ap (λ t. nat_lt 0 (times_in (done ++ x ∷ []) y) && t) f ∙ and-false _)
+      h y ∙ ap (λ t. nat_lt 0 (times_listed done y) && t) f ∙ and-false _ ∙ sym (ap (λ t. nat_lt 0 (times_listed (done ++ x ∷ []) y) && t) f ∙ and-false _)
   | inr n ↦ h y ∙ ap (λ k. nat_lt 0 k && has_bits other y) (sym (other-times done x y n))
 ]
 
 -- at the end
 pub both-all : (set both other : NumberSet) (done left : List ℕ) → ListsMembers set (done ++ left) → left ≡ [] →
-    ((y : ℕ) → has_bits both y ≡ (nat_lt 0 (times_in done y) && has_bits other y)) → (y : ℕ) → has_bits both y ≡ (has_bits set y && has_bits other y)
+    ((y : ℕ) → has_bits both y ≡ (nat_lt 0 (times_listed done y) && has_bits other y)) → (y : ℕ) → has_bits both y ≡ (has_bits set y && has_bits other y)
 both-all set both other done left all e h y = elim (cases_lt y 4294967296) [
   | inl l ↦
-      let t : nat_lt 0 (times_in done y) ≡ has_number set y = ap (λ n. nat_lt 0 n) (walked-all set done left y all e) ∙ some (has_number set y) in
+      let t : nat_lt 0 (times_listed done y) ≡ has_number set y = ap (λ n. nat_lt 0 n) (walked-all set done left y all e) ∙ some (has_number set y) in
       h y ∙ ap (λ b. b && has_bits other y) (t ∙ sym (bits-is set y l))
   | inr g ↦
-      h y ∙ ap (λ b. nat_lt 0 (times_in done y) && b) (bits-out other y g) ∙ and-false _
+      h y ∙ ap (λ b. nat_lt 0 (times_listed done y) && b) (bits-out other y g) ∙ and-false _
       ∙ sym (ap (λ b. has_bits set y && b) (bits-out other y g) ∙ and-false _)
 ]
   where
@@ -92,33 +92,33 @@ both-all set both other done left all e h y = elim (cases_lt y 4294967296) [
 
 -- listed bits: one more
 pub listed-more : (members done : List ℕ) (x : ℕ) → x < 4294967296 →
-    ((y : ℕ) → times_in members y ≡ (if nat_lt y 4294967296 then times_in done y else 0)) → (y : ℕ) →
-    times_in (members ++ x ∷ []) y ≡ (if nat_lt y 4294967296 then times_in (done ++ x ∷ []) y else 0)
+    ((y : ℕ) → times_listed members y ≡ (if nat_lt y 4294967296 then times_listed done y else 0)) → (y : ℕ) →
+    times_listed (members ++ x ∷ []) y ≡ (if nat_lt y 4294967296 then times_listed (done ++ x ∷ []) y else 0)
 listed-more members done x small h y = elim (cases_eq y x) [
   | inl e ↦
       let b : nat_lt y 4294967296 ≡ true = below y 4294967296 (omega arith) in
       let a = times-append members (x ∷ []) y in
       let c = times-append done (x ∷ []) y in
-      let d : times_in members y ≡ times_in done y = h y ∙ ap (λ t. if t then times_in done y else 0) b in
-      let f : times_in (members ++ x ∷ []) y ≡ times_in (done ++ x ∷ []) y = omega arith in
-      f ∙ sym (ap (λ t. if t then times_in (done ++ x ∷ []) y else 0) b)
+      let d : times_listed members y ≡ times_listed done y = h y ∙ ap (λ t. if t then times_listed done y else 0) b in
+      let f : times_listed (members ++ x ∷ []) y ≡ times_listed (done ++ x ∷ []) y = omega arith in
+      f ∙ sym (ap (λ t. if t then times_listed (done ++ x ∷ []) y else 0) b)
   | inr n ↦ other-times members x y n ∙ h y ∙ ap (λ k. if nat_lt y 4294967296 then k else 0) (sym (other-times done x y n))
 ]
 
 -- or one that is too great
 pub listed-skip : (members done : List ℕ) (x : ℕ) → 4294967296 ≤ x →
-    ((y : ℕ) → times_in members y ≡ (if nat_lt y 4294967296 then times_in done y else 0)) → (y : ℕ) →
-    times_in members y ≡ (if nat_lt y 4294967296 then times_in (done ++ x ∷ []) y else 0)
+    ((y : ℕ) → times_listed members y ≡ (if nat_lt y 4294967296 then times_listed done y else 0)) → (y : ℕ) →
+    times_listed members y ≡ (if nat_lt y 4294967296 then times_listed (done ++ x ∷ []) y else 0)
 listed-skip members done x great h y = elim (cases_eq y x) [
   | inl e ↦
       let b : nat_lt y 4294967296 ≡ false = le-ltb y 4294967296 (omega arith) in
-      h y ∙ ap (λ t. if t then times_in done y else 0) b ∙ sym (ap (λ t. if t then times_in (done ++ x ∷ []) y else 0) b)
+      h y ∙ ap (λ t. if t then times_listed done y else 0) b ∙ sym (ap (λ t. if t then times_listed (done ++ x ∷ []) y else 0) b)
   | inr n ↦ h y ∙ ap (λ k. if nat_lt y 4294967296 then k else 0) (sym (other-times done x y n))
 ]
 
 -- at the end
 pub listed-all : (set : NumberSet) (members done left : List ℕ) → ListsMembers set (done ++ left) → left ≡ [] →
-    ((y : ℕ) → times_in members y ≡ (if nat_lt y 4294967296 then times_in done y else 0)) → ListsBits (has_bits set) members
+    ((y : ℕ) → times_listed members y ≡ (if nat_lt y 4294967296 then times_listed done y else 0)) → ListsBits (has_bits set) members
 listed-all set members done left all e h y =
     h y ∙ ap (λ k. if nat_lt y 4294967296 then k else 0) (walked-all set done left y all e) ∙ either (nat_lt y 4294967296) (has_number set y)
   where
@@ -127,14 +127,15 @@ listed-all set members done left all e h y =
     either false b = refl
 
 -- an empty set has the bits of the other that were walked, before any were
-pub both-none : (both other : NumberSet) → ((i : ℕ) → has_number both i ≡ false) → (y : ℕ) → has_bits both y ≡ (nat_lt 0 (times_in [] y) && has_bits other y)
-unfolding times_in
+pub both-none : (both other : NumberSet) → ((i : ℕ) → has_number both i ≡ false) → (y : ℕ) →
+    has_bits both y ≡ (nat_lt 0 (times_listed [] y) && has_bits other y)
+unfolding times_listed
 both-none both other h y = ap (λ t. nat_lt y 4294967296 && t) (h y) ∙ and-false _
 
 -- an empty list has each bit as often as none that were walked
-pub listed-none : (items : List ℕ) → items ≡ [] → (y : ℕ) → times_in items y ≡ (if nat_lt y 4294967296 then times_in [] y else 0)
-unfolding times_in
-listed-none items e y = ap (λ (l : List ℕ). times_in l y) e ∙ zeros (nat_lt y 4294967296)
+pub listed-none : (items : List ℕ) → items ≡ [] → (y : ℕ) → times_listed items y ≡ (if nat_lt y 4294967296 then times_listed [] y else 0)
+unfolding times_listed
+listed-none items e y = ap (λ (l : List ℕ). times_listed l y) e ∙ zeros (nat_lt y 4294967296)
   where
     zeros : (b : Bool) → ◌≡◌ {A = ℕ} 0 (if b then 0 else 0)
     zeros true = refl

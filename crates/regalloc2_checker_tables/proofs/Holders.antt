@@ -7,8 +7,8 @@ use Rattle.std.proofs.lemmas.List.{take_more}
 use Rattle.std.proofs.lemmas.Bool.{cases_eq, cases_lt, le-ltb, lt-ltb as below, ne_eqb}
 use Rattle.std.proofs.lemmas.List.{get_or-set_other, get_or-set_same, length-set}
 use Rattle.std.proofs.Math.Bool.{and-false, or-false as or-no, or-true}
-use Rattle.regalloc2_cfg.specs.Numbers.{NumberSet, has_number, times_in}
-use Rattle.regalloc2_checker_tables.specs.SavedNumbers.{Numbers}
+use Rattle.regalloc2_cfg.specs.Numbers.{NumberSet, has_number, times_listed}
+use Rattle.regalloc2_checker_tables.specs.SavedNumbers.{NumberCopies}
 use Rattle.regalloc2_checker_tables.specs.EntrySets.{AreMore}
 use Rattle.regalloc2_checker_tables.specs.Holding.{IsHome, AreBelow, AreStill, AreMoreHomes, is_in}
 use Rattle.regalloc2_checker_tables.proofs.Bits.{other-times, same-times}
@@ -23,7 +23,7 @@ more-sets a b c h g =
     record { longer = omega arith; kept = λ n y l. g.kept n y (omega arith) ∙ h.kept n y l }
 
 -- where nothing is done, only the array that is worked on changed
-pub still-same : (s : List NumberSet) (e : Numbers) → AreBelow s e → AreStill s e s e
+pub still-same : (s : List NumberSet) (e : NumberCopies) → AreBelow s e → AreStill s e s e
 still-same s e h = record {
   more = record { longer = omega arith; kept = λ n y l. refl };
   long = refl;
@@ -33,7 +33,7 @@ still-same s e h = record {
 }
 
 -- so it is over two steps over which it is
-pub still-then : (s t u : List NumberSet) (e f g : Numbers) → AreStill s e t f → AreStill t f u g → AreStill s e u g
+pub still-then : (s t u : List NumberSet) (e f g : NumberCopies) → AreStill s e t f → AreStill t f u g → AreStill s e u g
 still-then s t u e f g h k = record {
   more = more-sets s t u h.more k.more;
   long = k.long ∙ h.long;
@@ -43,21 +43,21 @@ still-then s t u e f g h k = record {
 }
 
 -- nothing is dropped yet
-pub dropped-none : (old : ℕ → ℕ → Bool) (bits i y : ℕ) → old i y ≡ (if nat_lt 0 (times_in [] i) && nat_eq y bits then false else old i y)
-unfolding times_in
+pub dropped-none : (old : ℕ → ℕ → Bool) (bits i y : ℕ) → old i y ≡ (if nat_lt 0 (times_listed [] i) && nat_eq y bits then false else old i y)
+unfolding times_listed
 dropped-none old bits i y = refl
 
 -- one place more
 pub dropped-more : (old mid new : ℕ → ℕ → Bool) (done : List ℕ) (place bits size : ℕ) →
-    ((i y : ℕ) → i < size → mid i y ≡ (if nat_lt 0 (times_in done i) && nat_eq y bits then false else old i y)) →
+    ((i y : ℕ) → i < size → mid i y ≡ (if nat_lt 0 (times_listed done i) && nat_eq y bits then false else old i y)) →
     ((i y : ℕ) → i < size → new i y ≡ (if nat_eq i place && nat_eq y bits then false else mid i y)) → (i y : ℕ) → i < size →
-    new i y ≡ (if nat_lt 0 (times_in (done ++ place ∷ []) i) && nat_eq y bits then false else old i y)
+    new i y ≡ (if nat_lt 0 (times_listed (done ++ place ∷ []) i) && nat_eq y bits then false else old i y)
 dropped-more old mid new done place bits size h g i y l = elim (cases_eq i place) [
   | inl e ↦
-      let a : nat_lt 0 (times_in (done ++ place ∷ []) i) ≡ true = below 0 _ (rw e (same-times done place)) in
+      let a : nat_lt 0 (times_listed (done ++ place ∷ []) i) ≡ true = below 0 _ (rw e (same-times done place)) in
       g i y l ∙ ap (λ b. if b && nat_eq y bits then false else mid i y) (eq-eqb i place e)
       ∙ ap (λ b. if nat_eq y bits then false else b) (h i y l)
-      ∙ twice (nat_lt 0 (times_in done i)) (nat_eq y bits) (old i y)
+      ∙ twice (nat_lt 0 (times_listed done i)) (nat_eq y bits) (old i y)
       ∙ sym (ap (λ b. if b && nat_eq y bits then false else old i y) a)
   | inr n ↦
       g i y l ∙ ap (λ b. if b && nat_eq y bits then false else mid i y) (ne_eqb i place n) ∙ h i y l
@@ -94,15 +94,15 @@ is_in-more (z ∷ xs) x i = ap (λ b. nat_eq z i || b) (is_in-more xs x i) ∙ a
 
 -- a holder comes
 pub holders-more : (holders done : List ℕ) (has : ℕ → Bool) (bound place : ℕ) → place < bound → has place ≡ true →
-    ((i : ℕ) → is_in holders i ≡ (nat_lt i bound && (nat_lt 0 (times_in done i) && has i))) → (i : ℕ) →
-    is_in (holders ++ place ∷ []) i ≡ (nat_lt i bound && (nat_lt 0 (times_in (done ++ place ∷ []) i) && has i))
+    ((i : ℕ) → is_in holders i ≡ (nat_lt i bound && (nat_lt 0 (times_listed done i) && has i))) → (i : ℕ) →
+    is_in (holders ++ place ∷ []) i ≡ (nat_lt i bound && (nat_lt 0 (times_listed (done ++ place ∷ []) i) && has i))
 holders-more holders done has bound place small is h i = elim (cases_eq i place) [
   | inl e ↦
-      let a : nat_lt 0 (times_in (done ++ place ∷ []) i) ≡ true = below 0 _ (rw e (same-times done place)) in
+      let a : nat_lt 0 (times_listed (done ++ place ∷ []) i) ≡ true = below 0 _ (rw e (same-times done place)) in
       let b : nat_lt i bound ≡ true = below i bound (omega arith) in
       let c : has i ≡ true = ap has e ∙ is in
       is_in-more holders place i ∙ ap (λ t. is_in holders i || t) (eq-eqb place i (sym e)) ∙ or-true (is_in holders i)
-      ∙ sym (ap (λ t. t && (nat_lt 0 (times_in (done ++ place ∷ []) i) && has i)) b ∙ ap (λ t. t && has i) a ∙ c)
+      ∙ sym (ap (λ t. t && (nat_lt 0 (times_listed (done ++ place ∷ []) i) && has i)) b ∙ ap (λ t. t && has i) a ∙ c)
   | inr n ↦
       is_in-more holders place i ∙ ap (λ t. is_in holders i || t) (ne_eqb place i (λ q. n (sym q))) ∙ or-no (is_in holders i) ∙ h i
       ∙ ap (λ k. nat_lt i bound && (nat_lt 0 k && has i)) (sym (other-times done place i n))
@@ -110,25 +110,25 @@ holders-more holders done has bound place small is h i = elim (cases_eq i place)
 
 -- or a place that is past the bound, or holds it not
 pub holders-skip : (holders done : List ℕ) (has : ℕ → Bool) (bound place : ℕ) → (place < bound → has place ≡ false) →
-    ((i : ℕ) → is_in holders i ≡ (nat_lt i bound && (nat_lt 0 (times_in done i) && has i))) → (i : ℕ) →
-    is_in holders i ≡ (nat_lt i bound && (nat_lt 0 (times_in (done ++ place ∷ []) i) && has i))
+    ((i : ℕ) → is_in holders i ≡ (nat_lt i bound && (nat_lt 0 (times_listed done i) && has i))) → (i : ℕ) →
+    is_in holders i ≡ (nat_lt i bound && (nat_lt 0 (times_listed (done ++ place ∷ []) i) && has i))
 holders-skip holders done has bound place not h i = elim (cases_eq i place) [
   | inl e ↦ elim (cases_lt i bound) [
     | inl l ↦
         let f : has i ≡ false = ap has e ∙ not (omega arith) in
-        h i ∙ ap (λ t. nat_lt i bound && (nat_lt 0 (times_in done i) && t)) f ∙ ap (λ t. nat_lt i bound && t) (and-false _)
-        ∙ sym (ap (λ t. nat_lt i bound && (nat_lt 0 (times_in (done ++ place ∷ []) i) && t)) f ∙ ap (λ t. nat_lt i bound && t) (and-false _))
+        h i ∙ ap (λ t. nat_lt i bound && (nat_lt 0 (times_listed done i) && t)) f ∙ ap (λ t. nat_lt i bound && t) (and-false _)
+        ∙ sym (ap (λ t. nat_lt i bound && (nat_lt 0 (times_listed (done ++ place ∷ []) i) && t)) f ∙ ap (λ t. nat_lt i bound && t) (and-false _))
     | inr g ↦
         let f : nat_lt i bound ≡ false = le-ltb i bound g in
-        h i ∙ ap (λ t. t && (nat_lt 0 (times_in done i) && has i)) f ∙ sym (ap (λ t. t && (nat_lt 0 (times_in (done ++ place ∷ []) i) && has i)) f)
+        h i ∙ ap (λ t. t && (nat_lt 0 (times_listed done i) && has i)) f ∙ sym (ap (λ t. t && (nat_lt 0 (times_listed (done ++ place ∷ []) i) && has i)) f)
   ]
   | inr n ↦ h i ∙ ap (λ k. nat_lt i bound && (nat_lt 0 k && has i)) (sym (other-times done place i n))
 ]
 
 -- an empty list has the holders among no positions
 pub holders-none : (has : ℕ → Bool) (bound : ℕ) (holders : List ℕ) → holders ≡ [] → (i : ℕ) →
-    is_in holders i ≡ (nat_lt i bound && (nat_lt 0 (times_in [] i) && has i))
-unfolding times_in
+    is_in holders i ≡ (nat_lt i bound && (nat_lt 0 (times_listed [] i) && has i))
+unfolding times_listed
 holders-none has bound holders e i = ap (λ (l : List ℕ). is_in l i) e ∙ sym (and-false (nat_lt i bound))
 
 -- homes: one virtual register gets a place
@@ -178,8 +178,8 @@ home-kept vregs old new place bits m h j less e = m.kept j place (h j less e)
 
 -- one member more is noted
 pub noted-more : (vregs : List ℕ) (old new : List NumberSet) (members : List ℕ) (k place x : ℕ) → k < length members → x ≡ get_or members k 0 →
-    AreMoreHomes old new → ((y : ℕ) → 0 < times_in (take k members) y → IsHome vregs old place y) → IsHome vregs new place x → (y : ℕ) →
-    0 < times_in (take (k + 1) members) y → IsHome vregs new place y
+    AreMoreHomes old new → ((y : ℕ) → 0 < times_listed (take k members) y → IsHome vregs old place y) → IsHome vregs new place x → (y : ℕ) →
+    0 < times_listed (take (k + 1) members) y → IsHome vregs new place y
 noted-more vregs old new members k place x less e m h here y l =
     walked-more (λ y. IsHome vregs new place y) (take k members) x (λ z lz. home-kept vregs old new place z m (h z lz)) here y
-    (subst (λ (xs : List ℕ). 0 < times_in xs y) (take_more members k 0 less ∙ ap (λ n. take k members ++ n ∷ []) (sym e)) l)
+    (subst (λ (xs : List ℕ). 0 < times_listed xs y) (take_more members k 0 less ∙ ap (λ n. take k members ++ n ∷ []) (sym e)) l)

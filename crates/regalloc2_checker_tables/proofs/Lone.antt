@@ -8,7 +8,7 @@ use Rattle.std.proofs.Math.ListN.{length-append}
 use Rattle.std.proofs.lemmas.Bool.{cases_eq, cases_lt, eqb-true, ne_eqb}
 use Rattle.std.proofs.lemmas.List.{get_or-append_right, get_or_append_left}
 use Rattle.regalloc2_cfg.specs.Numbers.{NumberSet, has_number}
-use Rattle.regalloc2_checker_tables.specs.EntrySets.{has_bits, is_member, IsSetOf, AreMore, AreKnown, IsGrown, IsLess}
+use Rattle.regalloc2_checker_tables.specs.EntrySets.{has_bits, is_member, IsSetOf, AreMore, AreEntrySets, IsGrown, IsLess}
 use Rattle.regalloc2_checker_tables.specs.declared.sets.Grown.{Grown}
 use Rattle.regalloc2_checker_tables.proofs.Bits.{changed-is, none-is, alone, added-is, added-more, bits-small}
 
@@ -59,9 +59,9 @@ alone-is s m here other y = elim (cases_eq y m) [
 
 -- the empty set alone is known
 pub known-first : (sets : List NumberSet) (only : List (Option ℕ)) (s : NumberSet) → sets ≡ s ∷ [] → only ≡ None ∷ [] → ((i : ℕ) → has_number s i ≡ false) →
-    AreKnown sets only
+    AreEntrySets sets only
 known-first sets only s e d none =
-    subst (λ (l : List NumberSet). AreKnown l only) (sym e) (subst (λ (o : List (Option ℕ)). AreKnown (s ∷ []) o) (sym d) (record {
+    subst (λ (l : List NumberSet). AreEntrySets l only) (sym e) (subst (λ (o : List (Option ℕ)). AreEntrySets (s ∷ []) o) (sym d) (record {
       long = refl;
       first = omega arith;
       empty = λ y. none-is s none y;
@@ -73,8 +73,8 @@ known-first sets only s e d none =
     at (suc n) b l h = none-some b h
 
 -- one more is known
-pub known-more : (sets new : List NumberSet) (only more : List (Option ℕ)) (s : NumberSet) (o : Option ℕ) → AreKnown sets only → new ≡ sets ++ s ∷ [] →
-    more ≡ only ++ o ∷ [] → ((b : ℕ) → o ≡ Some b → (y : ℕ) → has_bits s y ≡ nat_eq y b) → AreKnown new more
+pub known-more : (sets new : List NumberSet) (only more : List (Option ℕ)) (s : NumberSet) (o : Option ℕ) → AreEntrySets sets only → new ≡ sets ++ s ∷ [] →
+    more ≡ only ++ o ∷ [] → ((b : ℕ) → o ≡ Some b → (y : ℕ) → has_bits s y ≡ nat_eq y b) → AreEntrySets new more
 known-more sets new only more s o h e d g =
     let a = length-append sets (s ∷ []) in
     let b = length-append only (o ∷ []) in
@@ -103,7 +103,7 @@ known-more sets new only more s o h e d g =
         self n = omega arith
 
 -- the empty set, under its number
-pub empty-is : (sets : List NumberSet) (only : List (Option ℕ)) (has : ℕ → Bool) → AreKnown sets only → ((y : ℕ) → has y ≡ false) → IsSetOf sets 0 has
+pub empty-is : (sets : List NumberSet) (only : List (Option ℕ)) (has : ℕ → Bool) → AreEntrySets sets only → ((y : ℕ) → has y ≡ false) → IsSetOf sets 0 has
 empty-is sets only has h none = record { below = h.first; members = λ y. h.empty y ∙ sym (none y) }
 
 -- the same of equal lists of sets

@@ -8,10 +8,10 @@ use Rattle.std.proofs.lemmas.List.{get_or-set_other, get_or-set_same, length-set
 use Rattle.std.proofs.Math.Bool.{and-false}
 use Rattle.regalloc2_index.proofs.Bools.{not_both}
 use Rattle.regalloc2_checker_tables.specs.Holding.{Holding, count_of, holds_now, holds_in, is_in, AreKeptTables, HoldsNow, LosesSome}
-use Rattle.regalloc2_checker_tables.specs.Showing.{Showing, showing, read_as, table_count, shows_now, shows_in, ArePassed, IsReadApart, AreShown}
+use Rattle.regalloc2_checker_tables.specs.Showing.{Showing, showing, read_as, table_count, shows_now, shows_in, ListsPassed, IsReadApart, AreShown}
 use Rattle.regalloc2_checker_tables.specs.Showing.{AreTablesKept, ShowsNow}
 use Rattle.regalloc2_checker_tables.specs.declared.passing.Passed.{Passed}
-use Rattle.regalloc2_cfg.specs.Numbers.{times_in}
+use Rattle.regalloc2_cfg.specs.Numbers.{times_listed}
 use Rattle.regalloc2_checker_tables.proofs.Bits.{other-times, same-times}
 use Rattle.regalloc2_checker_tables.proofs.Times.{times-of, contains-of}
 use Rattle.regalloc2_checker_tables.proofs.Walked.{times-append, times-nil}
@@ -253,14 +253,14 @@ shown-members t p place held shown is_in are is here others y = elim (cases_eq y
 
 -- so many numbers were gone over, and all but one of them were taken
 pub record AreWithout (changed numbers : List ℕ) (number : ℕ) : Type 0 where
-  pub none : times_in changed number ≡ 0
-  pub others : (y : ℕ) → (y ≡ number → ⊥) → times_in changed y ≡ times_in numbers y
+  pub none : times_listed changed number ≡ 0
+  pub others : (y : ℕ) → (y ≡ number → ⊥) → times_listed changed y ≡ times_listed numbers y
 
 -- none was
 pub without-none : (changed : List ℕ) (number : ℕ) → changed ≡ [] → AreWithout changed [] number
 without-none changed number e = record {
-  none = ap (λ (l : List ℕ). times_in l number) e ∙ times-nil number;
-  others = λ y n. ap (λ (l : List ℕ). times_in l y) e;
+  none = ap (λ (l : List ℕ). times_listed l number) e ∙ times-nil number;
+  others = λ y n. ap (λ (l : List ℕ). times_listed l y) e;
 }
 
 -- one more was, and taken
@@ -268,7 +268,7 @@ pub without-more : (changed numbers : List ℕ) (number x : ℕ) → (x ≡ numb
     AreWithout (changed ++ x ∷ []) (numbers ++ x ∷ []) number
 without-more changed numbers number x n h = record {
   none = other-times changed x number (λ e. n (sym e)) ∙ h.none;
-  others = λ y m. times-append changed (x ∷ []) y ∙ ap (λ k. k + times_in (x ∷ []) y) (h.others y m) ∙ sym (times-append numbers (x ∷ []) y);
+  others = λ y m. times-append changed (x ∷ []) y ∙ ap (λ k. k + times_listed (x ∷ []) y) (h.others y m) ∙ sym (times-append numbers (x ∷ []) y);
 }
 
 -- one more was, and left out
@@ -323,14 +323,14 @@ with-others changed more number y e n =
     )
 
 -- where nothing is passed, nothing has to be listed
-pub none-passed : (vs : List ℕ) → ArePassed vs None
+pub none-passed : (vs : List ℕ) → ListsPassed vs None
 none-passed vs p e = absurd cc
 
 same-passed : (p q : Passed) → ◌≡◌ {A = Option Passed} (Some p) (Some q) → p ≡ q
 same-passed p q e = cc
 
 -- a parameter and its argument that are listed
-pub some-passed : (vs : List ℕ) (p : Passed) → p.parameter < length vs → p.argument < length vs → ArePassed vs (Some p)
+pub some-passed : (vs : List ℕ) (p : Passed) → p.parameter < length vs → p.argument < length vs → ListsPassed vs (Some p)
 some-passed vs p a b q e = subst (λ (r : Passed). (r.parameter < length vs) × (r.argument < length vs)) (same-passed p q e) (a, b)
 
 -- what stays true stays so where tables change that list the same
@@ -338,24 +338,24 @@ pub shown-after : (t u : Holding) (p : Option Passed) (s : List (Option Passed))
     AreShown (showing u p s)
 shown-after t u p s e n h = record {
   spare = n ∙ h.spare;
-  now = subst (λ (vs : List ℕ). ArePassed vs p) (sym e) h.now;
-  tables = λ k. subst (λ (vs : List ℕ). ArePassed vs (get_or s k None)) (sym e) (h.tables k);
+  now = subst (λ (vs : List ℕ). ListsPassed vs p) (sym e) h.now;
+  tables = λ k. subst (λ (vs : List ℕ). ListsPassed vs (get_or s k None)) (sym e) (h.tables k);
 }
 
 -- where another parameter is passed
-pub shown-with : (t : Holding) (p q : Option Passed) (s : List (Option Passed)) → ArePassed t.vregs q → AreShown (showing t p s) → AreShown (showing t q s)
+pub shown-with : (t : Holding) (p q : Option Passed) (s : List (Option Passed)) → ListsPassed t.vregs q → AreShown (showing t p s) → AreShown (showing t q s)
 shown-with t p q s is h = record { spare = h.spare; now = is; tables = h.tables }
 
 -- and where another is in a table
-pub shown-set : (t : Holding) (p q : Option Passed) (s : List (Option Passed)) (table : ℕ) → table < length s → ArePassed t.vregs q →
+pub shown-set : (t : Holding) (p q : Option Passed) (s : List (Option Passed)) (table : ℕ) → table < length s → ListsPassed t.vregs q →
     AreShown (showing t p s) → AreShown (showing t p (slice_set s table q))
 shown-set t p q s table less is h = record {
   spare = h.spare ∙ ap (λ n. n + 1) (sym (length-set s table q));
   now = h.now;
   tables = λ k. elim (cases_eq k table) [
-    | inl e ↦ subst (λ (o : Option Passed). ArePassed t.vregs o)
+    | inl e ↦ subst (λ (o : Option Passed). ListsPassed t.vregs o)
         (sym (ap (λ n. get_or (slice_set s table q) n None) e ∙ get_or-set_same s table q None less)) is
-    | inr n ↦ subst (λ (o : Option Passed). ArePassed t.vregs o) (sym (get_or-set_other s table k q None n)) (h.tables k)
+    | inr n ↦ subst (λ (o : Option Passed). ListsPassed t.vregs o) (sym (get_or-set_other s table k q None n)) (h.tables k)
   ];
 }
 
@@ -372,7 +372,7 @@ pub shown-new : (t : Holding) (s : List (Option Passed)) (n : ℕ) → count_of 
 shown-new t s n c l h = record {
   spare = c ∙ ap (λ m. m + 1) (sym l);
   now = none-passed t.vregs;
-  tables = λ k. subst (λ (o : Option Passed). ArePassed t.vregs o) (sym (h k)) (none-passed t.vregs);
+  tables = λ k. subst (λ (o : Option Passed). ListsPassed t.vregs o) (sym (h k)) (none-passed t.vregs);
 }
 
 -- tables that hold nothing show nothing

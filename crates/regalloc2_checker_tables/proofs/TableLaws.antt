@@ -6,11 +6,11 @@ use Rattle.std.specs.declared.alloc.AllocError.{AllocError}
 use Rattle.std.specs.List.Sorted.{IsStrictlyIncreasing}
 use Rattle.std.proofs.lemmas.Bool.{cases_eq, cases_lt, eqb-true, le-ltb, ne_eqb, or_left}
 use Rattle.std.proofs.lemmas.List.{get_or-set_other, get_or-set_same, length-set, take_more}
-use Rattle.regalloc2_cfg.specs.Numbers.{NumberSet, has_number, times_in}
-use Rattle.regalloc2_checker_tables.specs.SavedNumbers.{Numbers, copy_count, number_at, number_now}
+use Rattle.regalloc2_cfg.specs.Numbers.{NumberSet, has_number, times_listed}
+use Rattle.regalloc2_checker_tables.specs.SavedNumbers.{NumberCopies, copy_count, saved_number, number_now}
 use Rattle.regalloc2_checker_tables.specs.EntrySets.{is_member, AreMore, IsSetOf, ListsBits}
 use Rattle.regalloc2_checker_tables.specs.Holding.{Holding, held, holds_now, holds_in, IsHome, AreEntries}
-use Rattle.regalloc2_checker_tables.specs.Holding.{AreTables, AreStill, AreMoreHomes, AreKeptTables, HoldsNow, is_in}
+use Rattle.regalloc2_checker_tables.specs.Holding.{IsSoundHolding, AreStill, AreMoreHomes, AreKeptTables, HoldsNow, is_in}
 use Rattle.regalloc2_checker_tables.proofs.Holders.{homes-same, home-kept, is_in-more}
 
 -- sets and homes are added
@@ -51,12 +51,12 @@ entries-set s v h n f g place set small q here home e = record { below = low; ho
 
 -- what a change of tables keeps
 pub record IsChanged (t u : Holding) (has : ℕ → ℕ → Bool) : Type 0 where
-  pub tables : AreTables u
+  pub tables : IsSoundHolding u
   pub kept : AreKeptTables t u
   pub now : HoldsNow u has
 
 -- sets and homes are added
-pub more-all : (t : Holding) (s h : List NumberSet) → AreTables t → AreMore t.sets s → AreMoreHomes t.homes h →
+pub more-all : (t : Holding) (s h : List NumberSet) → IsSoundHolding t → AreMore t.sets s → AreMoreHomes t.homes h →
     IsChanged t (record t { sets = s; homes = h }) (holds_now t)
 more-all t s h a m k =
     let long = a.long in
@@ -72,19 +72,19 @@ more-all t s h a m k =
         empty = record { below = omega arith; members = λ y. m.kept 0 y first ∙ zero-set.members y };
         homes_long = k.long ∙ a.homes_long;
         now = entries-more t.sets s t.vregs t.homes h _ (number_now t.entries) m k a.now;
-        tables = λ n. entries-more t.sets s t.vregs t.homes h _ (number_at t.entries n) m k (a.tables n);
+        tables = λ n. entries-more t.sets s t.vregs t.homes h _ (saved_number t.entries n) m k (a.tables n);
       };
       kept = record {
         places = refl;
         vregs = refl;
         count = refl;
-        tables = λ n i y l. m.kept (number_at t.entries n i) y ((a.tables n).below i (omega arith));
+        tables = λ n i y l. m.kept (saved_number t.entries n i) y ((a.tables n).below i (omega arith));
       };
       now = λ i y l. m.kept (number_now t.entries i) y (a.now.below i (omega arith));
     }
 
 -- a place gets a set
-put-one : (t : Holding) (h : List NumberSet) (place set : ℕ) → AreTables t → place < length t.places → set < length t.sets →
+put-one : (t : Holding) (h : List NumberSet) (place set : ℕ) → IsSoundHolding t → place < length t.places → set < length t.sets →
     AreMoreHomes t.homes h → ((y : ℕ) → is_member t.sets set y ≡ true → IsHome t.vregs h place y) →
     IsChanged t (record t { entries = record t.entries { cells = slice_set t.entries.cells place set }; homes = h })
     (λ i y. if nat_eq i place then is_member t.sets set y else holds_now t i y)
@@ -108,8 +108,8 @@ put-one t h place set a less small k home =
             (entries-set t.sets t.vregs h (length t.entries.cells) (number_now t.entries) (λ i. get_or (slice_set t.entries.cells place set) i 0) place set
             small
             other here home (entries-more t.sets t.sets t.vregs t.homes h _ (number_now t.entries) more k a.now));
-        tables = λ n. subst (λ (m : ℕ). AreEntries t.sets t.vregs h m (number_at t.entries n)) size
-            (entries-more t.sets t.sets t.vregs t.homes h _ (number_at t.entries n) more k (a.tables n));
+        tables = λ n. subst (λ (m : ℕ). AreEntries t.sets t.vregs h m (saved_number t.entries n)) size
+            (entries-more t.sets t.sets t.vregs t.homes h _ (saved_number t.entries n) more k (a.tables n));
       };
       kept = record { places = refl; vregs = refl; count = refl; tables = λ n i y l. refl };
       now = λ i y l. elim (cases_eq i place) [
@@ -122,17 +122,17 @@ put-one t h place set a less small k home =
     }
 
 -- a place that is given a set holds the set's members, and the others hold what they held
-pub put-all : (t : Holding) (h : List NumberSet) (place set : ℕ) (f : Numbers) → AreTables t → place < length t.places → set < length t.sets →
+pub put-all : (t : Holding) (h : List NumberSet) (place set : ℕ) (f : NumberCopies) → IsSoundHolding t → place < length t.places → set < length t.sets →
     AreMoreHomes t.homes h → ((y : ℕ) → is_member t.sets set y ≡ true → IsHome t.vregs h place y) →
     f ≡ record t.entries { cells = slice_set t.entries.cells place set } →
     IsChanged t (record t { entries = f; homes = h }) (λ i y. if nat_eq i place then is_member t.sets set y else holds_now t i y)
 put-all t h place set f a less small k home e =
-    subst (λ (x : Numbers). IsChanged t (record t { entries = x; homes = h }) (λ i y. if nat_eq i place then is_member t.sets set y else holds_now t i y))
+    subst (λ (x : NumberCopies). IsChanged t (record t { entries = x; homes = h }) (λ i y. if nat_eq i place then is_member t.sets set y else holds_now t i y))
     (sym e)
     (put-one t h place set a less small k home)
 
 -- the empty set is put
-pub clear-all : (t : Holding) (place : ℕ) (f : Numbers) → AreTables t → place < length t.places →
+pub clear-all : (t : Holding) (place : ℕ) (f : NumberCopies) → IsSoundHolding t → place < length t.places →
     f ≡ record t.entries { cells = slice_set t.entries.cells place 0 } →
     IsChanged t (record t { entries = f }) (λ i y. if nat_eq i place then false else holds_now t i y)
 clear-all t place f a less e =
@@ -147,8 +147,8 @@ clear-all t place f a less e =
     no y is = true-false (is_member t.sets 0 y) is (a.empty.members y)
 
 -- a virtual register is dropped, in part or in all places
-pub drop-all : (t : Holding) (s : List NumberSet) (f : Numbers) → AreTables t → AreStill t.sets t.entries s f →
-    ((i y : ℕ) → i < length t.entries.cells → held s f i y ≡ true → holds_now t i y ≡ true) → AreTables (record t { entries = f; sets = s })
+pub drop-all : (t : Holding) (s : List NumberSet) (f : NumberCopies) → IsSoundHolding t → AreStill t.sets t.entries s f →
+    ((i y : ℕ) → i < length t.entries.cells → held s f i y ≡ true → holds_now t i y ≡ true) → IsSoundHolding (record t { entries = f; sets = s })
 drop-all t s f a k less =
     let zero-set = a.empty in
     let first = zero-set.below in
@@ -166,13 +166,13 @@ drop-all t s f a k less =
         below = k.below;
         homed = λ i y l is. a.now.homed i y (omega arith) (less i y (omega arith) is);
       };
-      tables = λ n. subst (λ (m : ℕ). AreEntries s t.vregs t.homes m (number_at f n)) (sym same)
-          (entries-as s t.vregs t.homes (length t.entries.cells) (number_at t.entries n) (number_at f n) (λ i l. k.saved n i)
-          (entries-more t.sets s t.vregs t.homes t.homes _ (number_at t.entries n) k.more (homes-same t.homes) (a.tables n)));
+      tables = λ n. subst (λ (m : ℕ). AreEntries s t.vregs t.homes m (saved_number f n)) (sym same)
+          (entries-as s t.vregs t.homes (length t.entries.cells) (saved_number t.entries n) (saved_number f n) (λ i l. k.saved n i)
+          (entries-more t.sets s t.vregs t.homes t.homes _ (saved_number t.entries n) k.more (homes-same t.homes) (a.tables n)));
     }
 
 -- where only the array that is worked on changed, the tables are kept
-pub drop-kept : (t : Holding) (s : List NumberSet) (f : Numbers) → AreTables t → AreStill t.sets t.entries s f →
+pub drop-kept : (t : Holding) (s : List NumberSet) (f : NumberCopies) → IsSoundHolding t → AreStill t.sets t.entries s f →
     AreKeptTables t (record t { entries = f; sets = s })
 drop-kept t s f a k =
     let long = a.long in
@@ -180,11 +180,11 @@ drop-kept t s f a k =
       places = refl;
       vregs = refl;
       count = k.count;
-      tables = λ n i y l. ap (λ x. is_member s x y) (k.saved n i) ∙ k.more.kept (number_at t.entries n i) y ((a.tables n).below i (omega arith));
+      tables = λ n i y l. ap (λ x. is_member s x y) (k.saved n i) ∙ k.more.kept (saved_number t.entries n i) y ((a.tables n).below i (omega arith));
     }
 
 -- dropped where it may be is dropped everywhere
-pub drop-now : (t : Holding) (s : List NumberSet) (f : Numbers) (j : ℕ) → AreTables t → j < length t.vregs →
+pub drop-now : (t : Holding) (s : List NumberSet) (f : NumberCopies) (j : ℕ) → IsSoundHolding t → j < length t.vregs →
     ((i y : ℕ) → i < length t.entries.cells → held s f i y ≡
     (if has_number (get_or t.homes j []) i && nat_eq y (get_or t.vregs j 0) then false else holds_now t i y)) →
     HoldsNow (record t { entries = f; sets = s }) (λ i y. if nat_eq y (get_or t.vregs j 0) then false else holds_now t i y)
@@ -223,9 +223,9 @@ kept_then a b c h g = record {
 }
 
 -- a table is loaded
-pub load-all : (t : Holding) (f : Numbers) (k : ℕ) → AreTables t → copy_count f ≡ copy_count t.entries →
-    ((n i : ℕ) → number_at f n i ≡ number_at t.entries n i) → length f.cells ≡ length t.entries.cells → ((i : ℕ) → i < length f.cells → number_now f i ≡
-    number_at t.entries k i) →
+pub load-all : (t : Holding) (f : NumberCopies) (k : ℕ) → IsSoundHolding t → copy_count f ≡ copy_count t.entries →
+    ((n i : ℕ) → saved_number f n i ≡ saved_number t.entries n i) → length f.cells ≡ length t.entries.cells → ((i : ℕ) → i < length f.cells → number_now f i ≡
+    saved_number t.entries k i) →
     IsChanged t (record t { entries = f }) (holds_in t k)
 load-all t f k a ec same el h =
     let long = a.long in
@@ -238,9 +238,9 @@ load-all t f k a ec same el h =
         empty = a.empty;
         homes_long = a.homes_long;
         now = subst (λ (m : ℕ). AreEntries t.sets t.vregs t.homes m (number_now f)) (sym el)
-            (entries-as t.sets t.vregs t.homes (length t.entries.cells) (number_at t.entries k) (number_now f) (λ i l. h i (omega arith)) (a.tables k));
-        tables = λ n. subst (λ (m : ℕ). AreEntries t.sets t.vregs t.homes m (number_at f n)) (sym el)
-            (entries-as t.sets t.vregs t.homes (length t.entries.cells) (number_at t.entries n) (number_at f n) (λ i l. same n i) (a.tables n));
+            (entries-as t.sets t.vregs t.homes (length t.entries.cells) (saved_number t.entries k) (number_now f) (λ i l. h i (omega arith)) (a.tables k));
+        tables = λ n. subst (λ (m : ℕ). AreEntries t.sets t.vregs t.homes m (saved_number f n)) (sym el)
+            (entries-as t.sets t.vregs t.homes (length t.entries.cells) (saved_number t.entries n) (saved_number f n) (λ i l. same n i) (a.tables n));
       };
       kept = record {
         places = refl;
@@ -253,9 +253,9 @@ load-all t f k a ec same el h =
     }
 
 -- saved copies change, each to one of the same kind
-pub save-tables : (t : Holding) (f : Numbers) → AreTables t → f.cells ≡ t.entries.cells →
-    ((k : ℕ) → (h : ℕ → ℕ) × AreEntries t.sets t.vregs t.homes (length t.entries.cells) h × ((i : ℕ) → i < length t.entries.cells → number_at f k i ≡ h i)) →
-    AreTables (record t { entries = f })
+pub save-tables : (t : Holding) (f : NumberCopies) → IsSoundHolding t → f.cells ≡ t.entries.cells →
+    ((k : ℕ) → (h : ℕ → ℕ) × AreEntries t.sets t.vregs t.homes (length t.entries.cells) h × ((i : ℕ) → i < length t.entries.cells → saved_number f k i ≡ h i)) →
+    IsSoundHolding (record t { entries = f })
 save-tables t f a ec h =
     let long = a.long in
     let el : length f.cells ≡ length t.entries.cells = ap (λ (c : List ℕ). length c) ec in
@@ -267,23 +267,23 @@ save-tables t f a ec h =
       empty = a.empty;
       homes_long = a.homes_long;
       now = subst (λ (c : List ℕ). AreEntries t.sets t.vregs t.homes (length c) (λ i. get_or c i 0)) (sym ec) a.now;
-      tables = λ k. subst (λ (m : ℕ). AreEntries t.sets t.vregs t.homes m (number_at f k)) (sym el)
-          (entries-as t.sets t.vregs t.homes (length t.entries.cells) (h k).0 (number_at f k) (h k).2 (h k).1);
+      tables = λ k. subst (λ (m : ℕ). AreEntries t.sets t.vregs t.homes m (saved_number f k)) (sym el)
+          (entries-as t.sets t.vregs t.homes (length t.entries.cells) (h k).0 (saved_number f k) (h k).2 (h k).1);
     }
 
 -- the number that the array has for a place is that of a set
-pub get-below : (t : Holding) (from n : ℕ) → AreTables t → from < length t.places → n ≡ number_now t.entries from → n < length t.sets
+pub get-below : (t : Holding) (from n : ℕ) → IsSoundHolding t → from < length t.places → n ≡ number_now t.entries from → n < length t.sets
 get-below t from n a less e = let long = a.long in subst (λ (x : ℕ). x < length t.sets) (sym e) (a.now.below from (omega arith))
 
 -- a listed member came
-pub listed-times : (has : ℕ → Bool) (ys zs : List ℕ) → zs ≡ ys → ListsBits has ys → (y : ℕ) → has y ≡ true → 0 < times_in zs y
+pub listed-times : (has : ℕ → Bool) (ys zs : List ℕ) → zs ≡ ys → ListsBits has ys → (y : ℕ) → has y ≡ true → 0 < times_listed zs y
 listed-times has ys zs e h y is =
-    let a : times_in zs y ≡ (if has y then 1 else 0) = ap (λ (l : List ℕ). times_in l y) e ∙ h y in
+    let a : times_listed zs y ≡ (if has y then 1 else 0) = ap (λ (l : List ℕ). times_listed l y) e ∙ h y in
     let b : ◌≡◌ {A = ℕ} (if has y then 1 else 0) 1 = ap (λ c. if c then 1 else 0) is in
     omega arith
 
 -- the members of a set that a place gets may be there
-pub put-home : (t : Holding) (h : List NumberSet) (place vreg set : ℕ) → AreTables t → place < length t.places → AreMoreHomes t.homes h →
+pub put-home : (t : Holding) (h : List NumberSet) (place vreg set : ℕ) → IsSoundHolding t → place < length t.places → AreMoreHomes t.homes h →
     IsHome t.vregs h place (get_or t.vregs vreg 0) →
     ((y : ℕ) → is_member t.sets set y ≡ true → (nat_eq y (get_or t.vregs vreg 0) || holds_now t place y) ≡ true) → (y : ℕ) →
     is_member t.sets set y ≡ true → IsHome t.vregs h place y
@@ -316,7 +316,7 @@ pub kept_same : (t : Holding) → AreKeptTables t t
 kept_same t = record { places = refl; vregs = refl; count = refl; tables = λ k i y l. refl }
 
 -- what holds it is at its homes
-pub holders-are : (t : Holding) (vreg : ℕ) (holders : List ℕ) → AreTables t → vreg < length t.vregs →
+pub holders-are : (t : Holding) (vreg : ℕ) (holders : List ℕ) → IsSoundHolding t → vreg < length t.vregs →
     ((i : ℕ) → is_in holders i ≡ (nat_lt i (length t.places) && (has_number (get_or t.homes vreg []) i && holds_now t i (get_or t.vregs vreg 0)))) → (i : ℕ) →
     is_in holders i ≡ (nat_lt i (length t.places) && holds_now t i (get_or t.vregs vreg 0))
 holders-are t vreg holders a less h i = elim (cases_lt i (length t.places)) [
@@ -434,34 +434,34 @@ is_in-at (x ∷ xs) (suc k) l = ap (λ b. nat_eq x (get_or xs k 0) || b) (is_in-
     or-true false = refl
 
 -- a saved copy gets what is worked on, or stays
-pub save-all : (t : Holding) (f : Numbers) (k : ℕ) (r : Result (Unit {0}) AllocError) → AreTables t → f.cells ≡ t.entries.cells →
-    ((n i : ℕ) → (n ≡ k → ⊥) → i < length t.entries.cells → number_at f n i ≡ number_at t.entries n i) →
-    OnOk r ((i : ℕ) → i < length t.entries.cells → number_at f k i ≡ number_now t.entries i) →
-    OnErr r ((i : ℕ) → i < length t.entries.cells → number_at f k i ≡ number_at t.entries k i) → AreTables (record t { entries = f })
+pub save-all : (t : Holding) (f : NumberCopies) (k : ℕ) (r : Result (Unit {0}) AllocError) → IsSoundHolding t → f.cells ≡ t.entries.cells →
+    ((n i : ℕ) → (n ≡ k → ⊥) → i < length t.entries.cells → saved_number f n i ≡ saved_number t.entries n i) →
+    OnOk r ((i : ℕ) → i < length t.entries.cells → saved_number f k i ≡ number_now t.entries i) →
+    OnErr r ((i : ℕ) → i < length t.entries.cells → saved_number f k i ≡ saved_number t.entries k i) → IsSoundHolding (record t { entries = f })
 save-all t f k (Ok x) a ec others ok err = save-tables t f a ec (λ n. elim (cases_eq n k) [
-  | inl e ↦ (number_now t.entries, a.now, λ i l. ap (λ m. number_at f m i) e ∙ ok i l)
-  | inr d ↦ (number_at t.entries n, a.tables n, λ i l. others n i d l)
+  | inl e ↦ (number_now t.entries, a.now, λ i l. ap (λ m. saved_number f m i) e ∙ ok i l)
+  | inr d ↦ (saved_number t.entries n, a.tables n, λ i l. others n i d l)
 ])
 save-all t f k (Err x) a ec others ok err = save-tables t f a ec (λ n. elim (cases_eq n k) [
-  | inl e ↦ (number_at t.entries k, a.tables k, λ i l. ap (λ m. number_at f m i) e ∙ err i l)
-  | inr d ↦ (number_at t.entries n, a.tables n, λ i l. others n i d l)
+  | inl e ↦ (saved_number t.entries k, a.tables k, λ i l. ap (λ m. saved_number f m i) e ∙ err i l)
+  | inr d ↦ (saved_number t.entries n, a.tables n, λ i l. others n i d l)
 ])
 
 -- a saved table holds what the one that is worked on held, and the others what they held
-pub save-in : (t : Holding) (f : Numbers) (k : ℕ) → AreTables t →
-    ((n i : ℕ) → (n ≡ k → ⊥) → i < length t.entries.cells → number_at f n i ≡ number_at t.entries n i) →
-    ((i : ℕ) → i < length t.entries.cells → number_at f k i ≡ number_now t.entries i) → (n i y : ℕ) → i < length t.places →
+pub save-in : (t : Holding) (f : NumberCopies) (k : ℕ) → IsSoundHolding t →
+    ((n i : ℕ) → (n ≡ k → ⊥) → i < length t.entries.cells → saved_number f n i ≡ saved_number t.entries n i) →
+    ((i : ℕ) → i < length t.entries.cells → saved_number f k i ≡ number_now t.entries i) → (n i y : ℕ) → i < length t.places →
     holds_in (record t { entries = f }) n i y ≡ (if nat_eq n k then holds_now t i y else holds_in t n i y)
 save-in t f k a others ok n i y l = (let long = a.long in elim (cases_eq n k) [
   | inl e ↦
-      ap (λ m. is_member t.sets (number_at f m i) y) e ∙ ap (λ m. is_member t.sets m y) (ok i (omega arith))
+      ap (λ m. is_member t.sets (saved_number f m i) y) e ∙ ap (λ m. is_member t.sets m y) (ok i (omega arith))
       ∙ sym (ap (λ b. if b then holds_now t i y else holds_in t n i y) (eq-eqb n k e))
   | inr d ↦
       ap (λ m. is_member t.sets m y) (others n i d (omega arith)) ∙ sym (ap (λ b. if b then holds_now t i y else holds_in t n i y) (ne_eqb n k d))
 ])
 
 -- a meet that loses nothing
-pub meet-false : (t : Holding) (s : List NumberSet) (f : Numbers) (k : ℕ) → AreTables t → AreStill t.sets t.entries s f →
+pub meet-false : (t : Holding) (s : List NumberSet) (f : NumberCopies) (k : ℕ) → IsSoundHolding t → AreStill t.sets t.entries s f →
     ((i y : ℕ) → i < length t.places → holds_in t k i y ≡ true → holds_now t i y ≡ true) → (n i y : ℕ) → i < length t.places →
     holds_in (record t { entries = f; sets = s }) n i y ≡ (if nat_eq n k then holds_in t n i y && holds_now t i y else holds_in t n i y)
 meet-false t s f k a st same n i y l = (drop-kept t s f a st).tables n i y l ∙ elim (cases_eq n k) [
@@ -476,9 +476,9 @@ meet-false t s f k a st same n i y l = (drop-kept t s f a st).tables n i y l ∙
     whole false q h = refl
 
 -- and one that is saved
-pub meet-true : (t : Holding) (s : List NumberSet) (f h : Numbers) (k : ℕ) → AreTables t → AreStill t.sets t.entries s f →
-    AreTables (record t { entries = f; sets = s }) → ((n i : ℕ) → (n ≡ k → ⊥) → i < length f.cells → number_at h n i ≡ number_at f n i) →
-    ((i : ℕ) → i < length f.cells → number_at h k i ≡ number_now f i) →
+pub meet-true : (t : Holding) (s : List NumberSet) (f h : NumberCopies) (k : ℕ) → IsSoundHolding t → AreStill t.sets t.entries s f →
+    IsSoundHolding (record t { entries = f; sets = s }) → ((n i : ℕ) → (n ≡ k → ⊥) → i < length f.cells → saved_number h n i ≡ saved_number f n i) →
+    ((i : ℕ) → i < length f.cells → saved_number h k i ≡ number_now f i) →
     ((i y : ℕ) → i < length t.places → held s f i y ≡ (holds_in t k i y && holds_now t i y)) → (n i y : ℕ) → i < length t.places →
     holds_in (record t { entries = h; sets = s }) n i y ≡ (if nat_eq n k then holds_in t n i y && holds_now t i y else holds_in t n i y)
 meet-true t s f h k a st b others saved met n i y l =
@@ -496,9 +496,9 @@ meet-true t s f h k a st b others saved met n i y l =
     ]
 
 -- nothing is held yet
-pub new-all : (places vregs : List ℕ) (e : Numbers) (s h : List NumberSet) → IsStrictlyIncreasing places → IsStrictlyIncreasing vregs →
+pub new-all : (places vregs : List ℕ) (e : NumberCopies) (s h : List NumberSet) → IsStrictlyIncreasing places → IsStrictlyIncreasing vregs →
     length places < length e.cells → length places < 274877906944 → IsSetOf s 0 (λ y. false) → length h ≡ length vregs → ((i : ℕ) → number_now e i ≡ 0) →
-    ((k i : ℕ) → number_at e k i ≡ 0) → AreTables (record { places = places; vregs = vregs; entries = e; sets = s; homes = h })
+    ((k i : ℕ) → saved_number e k i ≡ 0) → IsSoundHolding (record { places = places; vregs = vregs; entries = e; sets = s; homes = h })
 new-all places vregs e s h pr vr long few empty hl cells saved = record {
   places_rise = pr;
   vregs_rise = vr;
@@ -507,7 +507,7 @@ new-all places vregs e s h pr vr long few empty hl cells saved = record {
   empty = empty;
   homes_long = hl;
   now = zeros (number_now e) cells;
-  tables = λ k. zeros (number_at e k) (saved k);
+  tables = λ k. zeros (saved_number e k) (saved k);
 }
   where
     true-false : (b : Bool) → b ≡ true → b ≡ false → ⊥

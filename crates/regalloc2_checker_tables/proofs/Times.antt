@@ -4,21 +4,21 @@ use Rattle.std.proofs.Common.{cond, nat_eq, eq-eqb, List, [], ◌∷◌, length,
 use Rattle.std.specs.Prelude.{Contains, ◌↔◌, if◌then◌else◌}
 use Rattle.regalloc2_checker_tables.specs.EntrySets.{ListsBits}
 use Rattle.std.proofs.lemmas.Bool.{cases_eq, ne_eqb}
-use Rattle.regalloc2_cfg.specs.Numbers.{times_in}
+use Rattle.regalloc2_cfg.specs.Numbers.{times_listed}
 
-to-times : (xs : List ℕ) (i y : ℕ) → i < length xs → get_or xs i y ≡ y → 0 < times_in xs y
-unfolding times_in
+to-times : (xs : List ℕ) (i y : ℕ) → i < length xs → get_or xs i y ≡ y → 0 < times_listed xs y
+unfolding times_listed
 to-times [] i y l e = absurd (omega arith)
 to-times (x ∷ xs) zero y l e = let a : ◌≡◌ {A = ℕ} (cond (nat_eq x y) 1 0) 1 = ap (λ b. cond b 1 0) (eq-eqb x y e) in omega arith
 to-times (x ∷ xs) (suc i) y l e = let a = to-times xs i y (omega arith) e in omega arith
 
 -- a number in a list is there at least once
-pub times-of : (xs : List ℕ) (y : ℕ) → Contains xs y → 0 < times_in xs y
+pub times-of : (xs : List ℕ) (y : ℕ) → Contains xs y → 0 < times_listed xs y
 times-of xs y h = to-times xs h.0 y h.1 h.2
 
 -- a number that is there at least once is in the list
-pub contains-of : (xs : List ℕ) (y : ℕ) → 0 < times_in xs y → Contains xs y
-unfolding times_in
+pub contains-of : (xs : List ℕ) (y : ℕ) → 0 < times_listed xs y → Contains xs y
+unfolding times_listed
 contains-of [] y l = absurd (omega arith)
 contains-of (x ∷ xs) y l = elim (cases_eq x y) [
   | inl e ↦ (zero, omega arith, e)

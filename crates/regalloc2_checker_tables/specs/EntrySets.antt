@@ -1,7 +1,7 @@
 -- Sets of bits, by number. Bits are words of 32 bits.
 use Rattle.std.specs.Prelude.{ℕ, ◌≡◌, ◌<◌, ◌≤◌, Bool, true, false, ◌&&◌, nat_eq, nat_lt, List, [], length, get_or, if◌then◌else◌}
 use Rattle.std.specs.Prelude.{Option, None, Some}
-use Rattle.regalloc2_cfg.specs.Numbers.{NumberSet, has_number, times_in}
+use Rattle.regalloc2_cfg.specs.Numbers.{NumberSet, has_number, times_listed}
 use Rattle.regalloc2_checker_tables.specs.declared.sets.Grown.{Grown}
 
 -- whether bits are a member
@@ -23,7 +23,7 @@ pub record IsSetOf (sets : List NumberSet) (n : ℕ) (has : ℕ → Bool) : Type
   pub members : (y : ℕ) → is_member sets n y ≡ has y
 
 -- what stays true of sets, and of what is kept beside them: the first is empty, and each for which one member is kept has that alone
-pub record AreKnown (sets : List NumberSet) (only : List (Option ℕ)) : Type 0 where
+pub record AreEntrySets (sets : List NumberSet) (only : List (Option ℕ)) : Type 0 where
   pub long : length only ≡ length sets
   pub first : 0 < length sets
   pub empty : (y : ℕ) → is_member sets 0 y ≡ false
@@ -31,7 +31,7 @@ pub record AreKnown (sets : List NumberSet) (only : List (Option ℕ)) : Type 0 
 
 -- each member is listed once, and nothing else
 abbrev pub ListsBits : (ℕ → Bool) → List ℕ → Type 0
-ListsBits has ys = (y : ℕ) → times_in ys y ≡ (if has y then 1 else 0)
+ListsBits has ys = (y : ℕ) → times_listed ys y ≡ (if has y then 1 else 0)
 
 -- some bits are a member of a set and not of another
 pub record IsLess (has other : ℕ → Bool) : Type 0 where

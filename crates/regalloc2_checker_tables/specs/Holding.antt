@@ -3,14 +3,14 @@ use Rattle.std.specs.Prelude.{ℕ, ◌≡◌, ◌<◌, ◌≤◌, Bool, true, fa
 use Rattle.std.specs.List.{list_any}
 use Rattle.std.specs.List.Sorted.{IsStrictlyIncreasing}
 use Rattle.regalloc2_cfg.specs.Numbers.{NumberSet, has_number}
-use Rattle.regalloc2_checker_tables.specs.SavedNumbers.{Numbers, copy_count, number_at, number_now}
+use Rattle.regalloc2_checker_tables.specs.SavedNumbers.{NumberCopies, copy_count, saved_number, number_now}
 use Rattle.regalloc2_checker_tables.specs.EntrySets.{is_member, AreMore, IsSetOf}
 
 -- the listed places and virtual registers, by their bits; the numbers of the sets that tables have; the sets; and the places where each virtual register may be
 pub record Holding : Type 0 where
   pub places : List ℕ
   pub vregs : List ℕ
-  pub entries : Numbers
+  pub entries : NumberCopies
   pub sets : List NumberSet
   pub homes : List NumberSet
 
@@ -19,7 +19,7 @@ abbrev pub count_of : Holding → ℕ
 count_of t = copy_count t.entries
 
 -- whether an array of numbers has a set with bits at a position
-abbrev pub held : List NumberSet → Numbers → ℕ → ℕ → Bool
+abbrev pub held : List NumberSet → NumberCopies → ℕ → ℕ → Bool
 held sets e i y = is_member sets (number_now e i) y
 
 -- whether the place at a position holds the virtual register with bits, in the table that is worked on
@@ -28,7 +28,7 @@ holds_now t i y = held t.sets t.entries i y
 
 -- and in a table
 abbrev pub holds_in : Holding → ℕ → ℕ → ℕ → Bool
-holds_in t k i y = is_member t.sets (number_at t.entries k i) y
+holds_in t k i y = is_member t.sets (saved_number t.entries k i) y
 
 -- a place is one where the virtual register with bits may be
 abbrev pub IsHome : List ℕ → List NumberSet → ℕ → ℕ → Type 0
@@ -40,7 +40,7 @@ pub record AreEntries (sets : List NumberSet) (vregs : List ℕ) (homes : List N
   pub homed : (i y : ℕ) → i < size → is_member sets (number i) y ≡ true → IsHome vregs homes i y
 
 -- what stays true of tables: each has an entry for each place
-pub record AreTables (t : Holding) : Type 0 where
+pub record IsSoundHolding (t : Holding) : Type 0 where
   pub places_rise : IsStrictlyIncreasing t.places
   pub vregs_rise : IsStrictlyIncreasing t.vregs
   pub long : length t.places < length t.entries.cells
@@ -48,18 +48,18 @@ pub record AreTables (t : Holding) : Type 0 where
   pub empty : IsSetOf t.sets 0 (λ y. false)
   pub homes_long : length t.homes ≡ length t.vregs
   pub now : AreEntries t.sets t.vregs t.homes (length t.entries.cells) (number_now t.entries)
-  pub tables : (k : ℕ) → AreEntries t.sets t.vregs t.homes (length t.entries.cells) (number_at t.entries k)
+  pub tables : (k : ℕ) → AreEntries t.sets t.vregs t.homes (length t.entries.cells) (saved_number t.entries k)
 
 -- the numbers of the array that is worked on are of sets
-abbrev pub AreBelow : List NumberSet → Numbers → Type 0
+abbrev pub AreBelow : List NumberSet → NumberCopies → Type 0
 AreBelow sets e = (i : ℕ) → i < length e.cells → number_now e i < length sets
 
 -- only the array that is worked on changed, and sets were added
-pub record AreStill (s : List NumberSet) (e : Numbers) (t : List NumberSet) (f : Numbers) : Type 0 where
+pub record AreStill (s : List NumberSet) (e : NumberCopies) (t : List NumberSet) (f : NumberCopies) : Type 0 where
   pub more : AreMore s t
   pub long : length f.cells ≡ length e.cells
   pub count : copy_count f ≡ copy_count e
-  pub saved : (k i : ℕ) → number_at f k i ≡ number_at e k i
+  pub saved : (k i : ℕ) → saved_number f k i ≡ saved_number e k i
   pub below : AreBelow t f
 
 -- homes are added
@@ -92,10 +92,10 @@ pub record LosesSome (size : ℕ) (has other : ℕ → ℕ → Bool) : Type 0 wh
   pub not_there : other place bits ≡ false
 
 -- how far a meet went: the array has what it had and a saved copy has too, below a position
-pub record IsMetBelow (s : List NumberSet) (e : Numbers) (t : List NumberSet) (f : Numbers) (k from bound : ℕ) (changed : Bool) : Type 0 where
+pub record IsMetBelow (s : List NumberSet) (e : NumberCopies) (t : List NumberSet) (f : NumberCopies) (k from bound : ℕ) (changed : Bool) : Type 0 where
   pub still : AreStill s e t f
-  pub done : (i y : ℕ) → i < from → i < bound → held t f i y ≡ (is_member s (number_at e k i) y && held s e i y)
+  pub done : (i y : ℕ) → i < from → i < bound → held t f i y ≡ (is_member s (saved_number e k i) y && held s e i y)
   pub rest : (i : ℕ) → from ≤ i → number_now f i ≡ number_now e i
   pub fewer : (i y : ℕ) → i < length e.cells → held t f i y ≡ true → held s e i y ≡ true
-  pub less : changed ≡ true → LosesSome bound (λ i y. is_member s (number_at e k i) y) (held s e)
-  pub same : changed ≡ false → (i y : ℕ) → i < from → i < bound → is_member s (number_at e k i) y ≡ true → held s e i y ≡ true
+  pub less : changed ≡ true → LosesSome bound (λ i y. is_member s (saved_number e k i) y) (held s e)
+  pub same : changed ≡ false → (i y : ℕ) → i < from → i < bound → is_member s (saved_number e k i) y ≡ true → held s e i y ≡ true

@@ -16,8 +16,8 @@ abbrev pub saved_at : Copies → ℕ → ℕ → ℕ
 saved_at v k i = number_in v.words (get_or v.saved k []) i
 
 -- the number at a position of the array
-abbrev pub cell_at : Copies → ℕ → ℕ
-cell_at v i = get_or v.cells i 0
+abbrev pub number_in_cell : Copies → ℕ → ℕ
+number_in_cell v i = get_or v.cells i 0
 
 -- a chunk of the array has the words from a base on
 pub record IsChunkAt (words cells : List ℕ) (chunk base : ℕ) : Type 0 where
@@ -62,7 +62,7 @@ pub record IsFirstDifference (words bases cells : List ℕ) (from i : ℕ) : Typ
 
 -- a saved copy and the array have the same from a position up to another
 abbrev pub AreSameBetween : Copies → ℕ → ℕ → ℕ → Type 0
-AreSameBetween v k from end = (i : ℕ) → from ≤ i → i < end → cell_at v i ≡ saved_at v k i
+AreSameBetween v k from end = (i : ℕ) → from ≤ i → i < end → number_in_cell v i ≡ saved_at v k i
 
 -- the first position from one on at which a chunk of the array differs from the words from a base on
 pub record IsDifferenceIn (words : List ℕ) (base : ℕ) (cells : List ℕ) (first from i : ℕ) : Type 0 where

@@ -1,44 +1,44 @@
 -- An array of numbers, and saved copies of it in chunks of 64 that stand among words. Where they stand is an array of its own, with saved copies.
 use Rattle.std.specs.Prelude.{ℕ, ◌≡◌, ◌+◌, ◌*◌, ◌/◌, ◌%◌, ◌<◌, ◌≤◌, List, [], length, get_or}
-use Rattle.regalloc2_checker_tables.specs.SavedCopies.{Copies, number_in, saved_at, cell_at, IsChunkAt}
+use Rattle.regalloc2_checker_tables.specs.SavedCopies.{Copies, number_in, saved_at, number_in_cell, IsChunkAt}
 
 -- saved copies: where their chunks begin among the words is what chunks of other words make
-pub record Numbers : Type 0 where
+pub record NumberCopies : Type 0 where
   pub words : List ℕ
   pub base_words : List ℕ
   pub base_rows : List (List ℕ)
   pub cells : List ℕ
 
 -- how many saved copies there are
-abbrev pub copy_count : Numbers → ℕ
+abbrev pub copy_count : NumberCopies → ℕ
 copy_count v = length v.base_rows
 
 -- where a chunk of a saved copy begins
-abbrev pub base_at : Numbers → ℕ → ℕ → ℕ
+abbrev pub base_at : NumberCopies → ℕ → ℕ → ℕ
 base_at v k j = number_in v.base_words (get_or v.base_rows k []) j
 
 -- the number at a position of a saved copy
-abbrev pub number_at : Numbers → ℕ → ℕ → ℕ
-number_at v k i = get_or v.words (base_at v k (i / 64) + i % 64) 0
+abbrev pub saved_number : NumberCopies → ℕ → ℕ → ℕ
+saved_number v k i = get_or v.words (base_at v k (i / 64) + i % 64) 0
 
 -- the number at a position of the array
-abbrev pub number_now : Numbers → ℕ → ℕ
+abbrev pub number_now : NumberCopies → ℕ → ℕ
 number_now v i = get_or v.cells i 0
 
 -- a saved copy and the array have the same from a position up to another
-abbrev pub AreAlikeBetween : Numbers → ℕ → ℕ → ℕ → Type 0
-AreAlikeBetween v k from end = (i : ℕ) → from ≤ i → i < end → number_now v i ≡ number_at v k i
+abbrev pub AreAlikeBetween : NumberCopies → ℕ → ℕ → ℕ → Type 0
+AreAlikeBetween v k from end = (i : ℕ) → from ≤ i → i < end → number_now v i ≡ saved_number v k i
 
 -- the same of the parts
-abbrev pub AreAlike : List ℕ → List ℕ → Copies → ℕ → ℕ → ℕ → Type 0
-AreAlike words cells bases k from end = (i : ℕ) → from ≤ i → i < end → get_or cells i 0 ≡ get_or words (saved_at bases k (i / 64) + i % 64) 0
+abbrev pub ArePartsAlike : List ℕ → List ℕ → Copies → ℕ → ℕ → ℕ → Type 0
+ArePartsAlike words cells bases k from end = (i : ℕ) → from ≤ i → i < end → get_or cells i 0 ≡ get_or words (saved_at bases k (i / 64) + i % 64) 0
 
 -- what stays true of the parts: the chunks of saved copies lie among the words, and those of the array that stand there do so where they say
 pub record AreChunksKept (words cells : List ℕ) (bases : Copies) : Type 0 where
   pub long : length cells ≡ 64 * length bases.cells
   pub within : (k j : ℕ) → j < length bases.cells → saved_at bases k j + 64 ≤ length words
   pub small : (k j : ℕ) → j < length bases.cells → saved_at bases k j < 4294967295
-  pub known : (j : ℕ) → j < length bases.cells → cell_at bases j < 4294967295 → IsChunkAt words cells j (cell_at bases j)
+  pub known : (j : ℕ) → j < length bases.cells → number_in_cell bases j < 4294967295 → IsChunkAt words cells j (number_in_cell bases j)
 
 -- only the working array of where chunks stand changed
 pub record AreCopiesKept (old new : Copies) : Type 0 where
@@ -52,4 +52,4 @@ AreLoaded words cells bases k end = (j : ℕ) → j < end → j < length bases.c
 
 -- the chunks of the array below a chunk stand among the words
 abbrev pub AreSaved : Copies → ℕ → Type 0
-AreSaved bases end = (j : ℕ) → j < end → j < length bases.cells → cell_at bases j < 4294967295
+AreSaved bases end = (j : ℕ) → j < end → j < length bases.cells → number_in_cell bases j < 4294967295

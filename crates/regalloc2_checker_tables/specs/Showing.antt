@@ -1,7 +1,7 @@
 -- What tables show in which one virtual register may stand for a second, whose places aren't noted yet: a parameter that was passed for its argument.
 use Rattle.std.specs.Prelude.{ℕ, ◌≡◌, ◌+◌, ◌<◌, Bool, ◌&&◌, nat_eq, nat_lt, if◌then◌else◌, List, length, get_or, Option, None, Some}
 use Rattle.regalloc2_cfg.specs.Numbers.{NumberSet}
-use Rattle.regalloc2_checker_tables.specs.SavedNumbers.{Numbers}
+use Rattle.regalloc2_checker_tables.specs.SavedNumbers.{NumberCopies}
 use Rattle.regalloc2_checker_tables.specs.Holding.{Holding, count_of, holds_now, holds_in}
 use Rattle.regalloc2_checker_tables.specs.declared.passing.Passed.{Passed}
 
@@ -9,7 +9,7 @@ use Rattle.regalloc2_checker_tables.specs.declared.passing.Passed.{Passed}
 pub record Showing : Type 0 where
   pub places : List ℕ
   pub vregs : List ℕ
-  pub entries : Numbers
+  pub entries : NumberCopies
   pub sets : List NumberSet
   pub homes : List NumberSet
   pub passed : Option Passed
@@ -49,8 +49,8 @@ abbrev pub shows_in : Showing → ℕ → ℕ → ℕ → Bool
 shows_in t k i y = nat_lt k (table_count t) && holds_in (bare t) k i (read_as t.vregs (get_or t.saved k None) y)
 
 -- a parameter and its argument are listed
-abbrev pub ArePassed : List ℕ → Option Passed → Type 0
-ArePassed vregs o = (p : Passed) → o ≡ Some p → (p.parameter < length vregs) × (p.argument < length vregs)
+abbrev pub ListsPassed : List ℕ → Option Passed → Type 0
+ListsPassed vregs o = (p : Passed) → o ≡ Some p → (p.parameter < length vregs) × (p.argument < length vregs)
 
 -- no other virtual register is held under some bits, nor do they stand for others
 abbrev pub IsReadApart : List ℕ → Option Passed → ℕ → Type 0
@@ -59,8 +59,8 @@ IsReadApart vregs o n = (y : ℕ) → nat_eq (read_as vregs o y) n ≡ nat_eq y 
 -- what stays true: one table is spare, and what is passed is listed
 pub record AreShown (t : Showing) : Type 0 where
   pub spare : count_of (bare t) ≡ length t.saved + 1
-  pub now : ArePassed t.vregs t.passed
-  pub tables : (k : ℕ) → ArePassed t.vregs (get_or t.saved k None)
+  pub now : ListsPassed t.vregs t.passed
+  pub tables : (k : ℕ) → ListsPassed t.vregs (get_or t.saved k None)
 
 -- what is listed stays, and so do the tables
 pub record AreTablesKept (old new : Showing) : Type 0 where

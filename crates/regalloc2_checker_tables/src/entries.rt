@@ -6,9 +6,9 @@
 
 ghost use Rattle.std.specs.Prelude.{◌≡◌, ◌≢◌, ℕ, ◌+◌, ◌*◌, ◌/◌, ◌%◌, ◌-◌, ◌^◌, ◌<◌, ◌≤◌, length, get_or, slice_set};
 ghost use Rattle.std.specs.Prelude.{IfOk, OnOk, OnErr, MatchOption};
-ghost use Rattle.regalloc2_checker_tables.specs.SavedCopies.{cell_at, saved_at, AreMoreWords};
-ghost use Rattle.regalloc2_checker_tables.specs.SavedNumbers.{copy_count, number_at, number_now, AreAlikeBetween, AreChunksKept, AreCopiesKept, AreLoaded};
-ghost use Rattle.regalloc2_checker_tables.specs.SavedNumbers.{AreSaved, AreAlike};
+ghost use Rattle.regalloc2_checker_tables.specs.SavedCopies.{number_in_cell, saved_at, AreMoreWords};
+ghost use Rattle.regalloc2_checker_tables.specs.SavedNumbers.{copy_count, saved_number, number_now, AreAlikeBetween, AreChunksKept, AreCopiesKept, AreLoaded};
+ghost use Rattle.regalloc2_checker_tables.specs.SavedNumbers.{AreSaved, ArePartsAlike};
 
 use crate::versions::{Versions, copy_chunk, difference_in, is_same_chunk};
 use std::alloc::{AllocError, Allocator};
@@ -27,9 +27,9 @@ pub struct Entries<A: Allocator> {
 }
 
 impl<A: Allocator> Model for Entries<A> {
-    ghost use Rattle.regalloc2_checker_tables.specs.SavedNumbers.{Numbers, AreChunksKept};
+    ghost use Rattle.regalloc2_checker_tables.specs.SavedNumbers.{NumberCopies, AreChunksKept};
 
-    ghost Value = { Numbers };
+    ghost Value = { NumberCopies };
 
     ghost view = { λ v. record { words = v.words.items; base_words = v.bases.words; base_rows = v.bases.saved; cells = v.cells.items } };
 
@@ -69,8 +69,8 @@ fn save_chunk<A: Allocator + Copy>(
     ensures words { AreMoreWords words.old.items words.new.items }
     ensures kept { AreChunksKept words.new.items cells.now bases.new }
     ensures copies { AreCopiesKept bases.old bases.new }
-    ensures others { (j : ℕ) → j ≢ chunk → cell_at bases.new j ≡ cell_at bases.old j }
-    ensures saved { OnOk result (cell_at bases.new chunk < 4294967295) }
+    ensures others { (j : ℕ) → j ≢ chunk → number_in_cell bases.new j ≡ number_in_cell bases.old j }
+    ensures saved { OnOk result (number_in_cell bases.new chunk < 4294967295) }
 {
     if bases.get(chunk) != UNSAVED {
         return Ok(());
@@ -124,10 +124,10 @@ fn first_position<A: Allocator + Copy>(
 ) -> Option<usize>
     requires copy { copy < length bases.now.saved }
     requires kept { AreChunksKept words.now cells.now bases.now }
-    requires start { AreAlike words.now cells.now bases.now copy from (64 * start) }
-    ensures { MatchOption result (AreAlike words.now cells.now bases.now copy from (length cells.now))
+    requires start { ArePartsAlike words.now cells.now bases.now copy from (64 * start) }
+    ensures { MatchOption result (ArePartsAlike words.now cells.now bases.now copy from (length cells.now))
         (λ i. (from ≤ i) × (i < length cells.now) × (get_or cells.now i 0 ≢ get_or words.now (saved_at bases.now copy (i / 64) + i % 64) 0)
-        × AreAlike words.now cells.now bases.now copy from i) }
+        × ArePartsAlike words.now cells.now bases.now copy from i) }
 {
     let mut first = start;
     'chunks: while let Some(chunk) = bases.next_difference(copy, first) {
@@ -152,9 +152,9 @@ fn next_position<A: Allocator + Copy>(
 ) -> Option<usize>
     requires copy { copy < length bases.now.saved }
     requires kept { AreChunksKept words.now cells.now bases.now }
-    ensures { MatchOption result (AreAlike words.now cells.now bases.now copy from (length cells.now))
+    ensures { MatchOption result (ArePartsAlike words.now cells.now bases.now copy from (length cells.now))
         (λ i. (from ≤ i) × (i < length cells.now) × (get_or cells.now i 0 ≢ get_or words.now (saved_at bases.now copy (i / 64) + i % 64) 0)
-        × AreAlike words.now cells.now bases.now copy from i) }
+        × ArePartsAlike words.now cells.now bases.now copy from i) }
 {
     let chunk = from / 64;
     if from % 64 == 0 || chunk >= bases.len() {
@@ -175,7 +175,7 @@ impl<A: Allocator + Copy> Entries<A> {
         ensures long { IfOk result (λ v. size < length v.cells) }
         ensures count { IfOk result (λ v. copy_count v ≡ count) }
         ensures cells { IfOk result (λ v. (i : ℕ) → number_now v i ≡ 0) }
-        ensures saved { IfOk result (λ v. (k i : ℕ) → number_at v k i ≡ 0) }
+        ensures saved { IfOk result (λ v. (k i : ℕ) → saved_number v k i ≡ 0) }
     {
         let bases = Versions::new(alloc, count, size / 64)?;
         let mut words = Vec::new(alloc);
@@ -221,7 +221,7 @@ impl<A: Allocator + Copy> Entries<A> {
     pub fn saved(&self, copy: usize, position: usize) -> u32
         requires copy { copy < copy_count self.now }
         requires position { position < length self.now.cells }
-        ensures { result ≡ number_at self.now copy position }
+        ensures { result ≡ saved_number self.now copy position }
     {
         let base = self.bases.saved(copy, position / 64) as usize;
         self.words[base + position % 64]
@@ -231,9 +231,9 @@ impl<A: Allocator + Copy> Entries<A> {
     pub fn load(&mut self, copy: usize)
         requires { copy < copy_count self.old }
         ensures count { copy_count self.new ≡ copy_count self.old }
-        ensures saved { (k i : ℕ) → number_at self.new k i ≡ number_at self.old k i }
+        ensures saved { (k i : ℕ) → saved_number self.new k i ≡ saved_number self.old k i }
         ensures long { length self.new.cells ≡ length self.old.cells }
-        ensures loaded { (i : ℕ) → i < length self.new.cells → number_now self.new i ≡ number_at self.old copy i }
+        ensures loaded { (i : ℕ) → i < length self.new.cells → number_now self.new i ≡ saved_number self.old copy i }
     {
         load_chunks(&self.words, &self.bases, copy, &mut self.cells);
         self.bases.load(copy);
@@ -245,9 +245,9 @@ impl<A: Allocator + Copy> Entries<A> {
         requires { copy < copy_count self.old }
         ensures cells { self.new.cells ≡ self.old.cells }
         ensures count { copy_count self.new ≡ copy_count self.old }
-        ensures others { (k i : ℕ) → (k ≡ copy → ⊥) → i < length self.old.cells → number_at self.new k i ≡ number_at self.old k i }
-        ensures saved { OnOk result ((i : ℕ) → i < length self.old.cells → number_at self.new copy i ≡ number_now self.old i) }
-        ensures err { OnErr result ((i : ℕ) → i < length self.old.cells → number_at self.new copy i ≡ number_at self.old copy i) }
+        ensures others { (k i : ℕ) → (k ≡ copy → ⊥) → i < length self.old.cells → saved_number self.new k i ≡ saved_number self.old k i }
+        ensures saved { OnOk result ((i : ℕ) → i < length self.old.cells → saved_number self.new copy i ≡ number_now self.old i) }
+        ensures err { OnErr result ((i : ℕ) → i < length self.old.cells → saved_number self.new copy i ≡ saved_number self.old copy i) }
     {
         let near = if self.last < self.bases.count() {
             self.last
@@ -263,7 +263,7 @@ impl<A: Allocator + Copy> Entries<A> {
     pub fn next_difference(&self, copy: usize, from: usize) -> Option<usize>
         requires { copy < copy_count self.now }
         ensures { MatchOption result (AreAlikeBetween self.now copy from (length self.now.cells))
-            (λ i. (from ≤ i) × (i < length self.now.cells) × (number_now self.now i ≢ number_at self.now copy i) × AreAlikeBetween self.now copy from i) }
+            (λ i. (from ≤ i) × (i < length self.now.cells) × (number_now self.now i ≢ saved_number self.now copy i) × AreAlikeBetween self.now copy from i) }
     {
         next_position(&self.words, &self.bases, copy, &self.cells, from)
     }

@@ -10,7 +10,7 @@ ghost use Rattle.std.specs.List.{position};
 ghost use Rattle.std.specs.List.Sorted.{IsStrictlyIncreasing};
 ghost use Rattle.regalloc2_names.specs.PlaceBits.{bits_of_place};
 ghost use Rattle.regalloc2_checker_tables.specs.Holding.{count_of, holds_now, holds_in, is_in, AreKeptTables, HoldsNow, LosesSome};
-ghost use Rattle.regalloc2_checker_tables.specs.Showing.{read_as, table_count, shows_now, shows_in, ArePassed, IsReadApart, AreTablesKept, ShowsNow};
+ghost use Rattle.regalloc2_checker_tables.specs.Showing.{read_as, table_count, shows_now, shows_in, ListsPassed, IsReadApart, AreTablesKept, ShowsNow};
 
 use crate::positions::Positions;
 use crate::tables::Tables;
@@ -50,7 +50,7 @@ fn settle<A: Allocator + Copy>(
     tables: &mut Tables<A>,
     passed: Option<Passed>,
 ) -> Result<(), AllocError>
-    requires { ArePassed tables.old.vregs passed }
+    requires { ListsPassed tables.old.vregs passed }
     ensures kept { AreKeptTables tables.old tables.new }
     ensures now { OnOk result (HoldsNow tables.new (λ i y. holds_now tables.old i (read_as tables.old.vregs passed y))) }
 {
@@ -69,7 +69,7 @@ fn settle_in<A: Allocator + Copy>(
     table: usize,
     spare: usize,
 ) -> Result<(), AllocError>
-    requires passed { ArePassed tables.old.vregs passed }
+    requires passed { ListsPassed tables.old.vregs passed }
     requires table { table < count_of tables.old }
     requires spare { spare < count_of tables.old }
     requires apart { table ≢ spare }

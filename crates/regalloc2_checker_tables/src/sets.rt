@@ -34,13 +34,13 @@ pub struct Grown {
 impl<A: Allocator> Model for Sets<A> {
     ghost use Rattle.std.specs.Prelude.{List};
     ghost use Rattle.regalloc2_cfg.specs.Numbers.{NumberSet};
-    ghost use Rattle.regalloc2_checker_tables.specs.EntrySets.{AreKnown, IsGrown};
+    ghost use Rattle.regalloc2_checker_tables.specs.EntrySets.{AreEntrySets, IsGrown};
 
     ghost Value = { List NumberSet };
 
     ghost view = { λ s. s.sets.items };
 
-    ghost invariant = { λ s. AreKnown s.sets.items s.lone.items × IsGrown s.sets.items s.grown };
+    ghost invariant = { λ s. AreEntrySets s.sets.items s.lone.items × IsGrown s.sets.items s.grown };
 }
 
 /// Whether bits are a member.

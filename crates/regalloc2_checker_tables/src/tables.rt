@@ -7,8 +7,8 @@ ghost use Rattle.std.specs.Bool.{OnTrue, OnFalse};
 ghost use Rattle.std.specs.List.{position};
 ghost use Rattle.std.specs.List.Sorted.{IsStrictlyIncreasing};
 ghost use Rattle.regalloc2_names.specs.PlaceBits.{bits_of_place};
-ghost use Rattle.regalloc2_cfg.specs.Numbers.{has_number, times_in};
-ghost use Rattle.regalloc2_checker_tables.specs.SavedNumbers.{copy_count, number_now, number_at};
+ghost use Rattle.regalloc2_cfg.specs.Numbers.{has_number, times_listed};
+ghost use Rattle.regalloc2_checker_tables.specs.SavedNumbers.{copy_count, number_now, saved_number};
 ghost use Rattle.regalloc2_checker_tables.specs.EntrySets.{is_member, IsSetOf, IsLess};
 ghost use Rattle.regalloc2_checker_tables.specs.Holding.{count_of, held, holds_now, holds_in, AreBelow, AreStill, AreMoreHomes};
 ghost use Rattle.regalloc2_checker_tables.specs.Holding.{is_in, AreKeptTables, HoldsNow, IsHome};
@@ -37,13 +37,13 @@ pub struct Tables<A: Allocator> {
 }
 
 impl<A: Allocator> Model for Tables<A> {
-    ghost use Rattle.regalloc2_checker_tables.specs.Holding.{Holding, AreTables};
+    ghost use Rattle.regalloc2_checker_tables.specs.Holding.{Holding, IsSoundHolding};
 
     ghost Value = { Holding };
 
     ghost view = { λ t. record { places = t.places; vregs = t.vregs; entries = t.entries; sets = t.sets; homes = t.homes.items } };
 
-    ghost invariant = { λ t. AreTables (record { places = t.places; vregs = t.vregs; entries = t.entries; sets = t.sets; homes = t.homes.items }) };
+    ghost invariant = { λ t. IsSoundHolding (record { places = t.places; vregs = t.vregs; entries = t.entries; sets = t.sets; homes = t.homes.items }) };
 }
 
 /// Where places may be listed: each register, and each slot.
@@ -221,7 +221,7 @@ fn note_all<A: Allocator + Copy>(
     requires homes { length homes.old.items ≡ length vregs.now }
     requires place { place < 2 ^ 38 }
     ensures more { AreMoreHomes homes.old.items homes.new.items }
-    ensures noted { OnOk result ((y : ℕ) → 0 < times_in members.now y → IsHome vregs.now homes.new.items place y) }
+    ensures noted { OnOk result ((y : ℕ) → 0 < times_listed members.now y → IsHome vregs.now homes.new.items place y) }
 {
     for bits in members {
         note(vregs, homes, *bits, place)?;
@@ -277,15 +277,15 @@ fn meet_at<A: Allocator + Copy>(
     requires table { table < copy_count entries.old }
     requires place { place < length entries.old.cells }
     requires below { AreBelow sets.old entries.old }
-    requires saved { number_at entries.old table place < length sets.old }
+    requires saved { saved_number entries.old table place < length sets.old }
     ensures still { AreStill sets.old entries.old sets.new entries.new }
     ensures others { (i : ℕ) → (i ≡ place → ⊥) → number_now entries.new i ≡ number_now entries.old i }
     ensures met { OnOk result ((y : ℕ) → held sets.new entries.new place y
-        ≡ (is_member sets.old (number_at entries.old table place) y && held sets.old entries.old place y)) }
+        ≡ (is_member sets.old (saved_number entries.old table place) y && held sets.old entries.old place y)) }
     ensures less { IfOk result (λ less. less ≡ true → (before ≡ true)
-        ⊎ IsLess (is_member sets.old (number_at entries.old table place)) (held sets.old entries.old place)) }
+        ⊎ IsLess (is_member sets.old (saved_number entries.old table place)) (held sets.old entries.old place)) }
     ensures same { IfOk result (λ less. less ≡ false → (before ≡ false)
-        × ((y : ℕ) → is_member sets.old (number_at entries.old table place) y ≡ true → held sets.old entries.old place y ≡ true)) }
+        × ((y : ℕ) → is_member sets.old (saved_number entries.old table place) y ≡ true → held sets.old entries.old place y ≡ true)) }
     ensures err { OnErr result (entries.new ≡ entries.old) }
 {
     let had = entries.saved(table, place);
@@ -303,9 +303,9 @@ fn next_below<A: Allocator + Copy>(
 ) -> Option<usize>
     requires table { table < copy_count entries.now }
     requires bound { bound ≤ length entries.now.cells }
-    ensures none { result ≡ None → (i : ℕ) → from ≤ i → i < bound → number_now entries.now i ≡ number_at entries.now table i }
+    ensures none { result ≡ None → (i : ℕ) → from ≤ i → i < bound → number_now entries.now i ≡ saved_number entries.now table i }
     ensures some { (p : ℕ) → result ≡ Some p → (from ≤ p) × (p < bound)
-        × ((i : ℕ) → from ≤ i → i < p → number_now entries.now i ≡ number_at entries.now table i) }
+        × ((i : ℕ) → from ≤ i → i < p → number_now entries.now i ≡ saved_number entries.now table i) }
 {
     let place = entries.next_difference(table, from)?;
     if place < bound { Some(place) } else { None }
@@ -321,15 +321,15 @@ fn meet_entries<A: Allocator + Copy>(
     requires table { table < copy_count entries.old }
     requires bound { bound ≤ length entries.old.cells }
     requires below { AreBelow sets.old entries.old }
-    requires saved { (i : ℕ) → i < length entries.old.cells → number_at entries.old table i < length sets.old }
+    requires saved { (i : ℕ) → i < length entries.old.cells → saved_number entries.old table i < length sets.old }
     ensures still { AreStill sets.old entries.old sets.new entries.new }
     ensures fewer { (i y : ℕ) → i < length entries.old.cells → held sets.new entries.new i y ≡ true → held sets.old entries.old i y ≡ true }
     ensures met { OnOk result ((i y : ℕ) → i < bound → held sets.new entries.new i y
-        ≡ (is_member sets.old (number_at entries.old table i) y && held sets.old entries.old i y)) }
+        ≡ (is_member sets.old (saved_number entries.old table i) y && held sets.old entries.old i y)) }
     ensures less { IfOk result (λ less. less ≡ true
-        → LosesSome bound (λ i y. is_member sets.old (number_at entries.old table i) y) (held sets.old entries.old)) }
+        → LosesSome bound (λ i y. is_member sets.old (saved_number entries.old table i) y) (held sets.old entries.old)) }
     ensures same { IfOk result (λ less. less ≡ false
-        → (i y : ℕ) → i < bound → is_member sets.old (number_at entries.old table i) y ≡ true → held sets.old entries.old i y ≡ true) }
+        → (i y : ℕ) → i < bound → is_member sets.old (saved_number entries.old table i) y ≡ true → held sets.old entries.old i y ≡ true) }
 {
     let mut is_less = false;
     let mut from = 0;

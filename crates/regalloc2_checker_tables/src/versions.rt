@@ -6,7 +6,7 @@
 
 ghost use Rattle.std.specs.Prelude.{◌≡◌, ℕ, [], true, ◌+◌, ◌*◌, ◌/◌, ◌%◌, ◌-◌, ◌^◌, ◌<◌, ◌≤◌, ◌++◌, Some, None, length, get_or, slice_set, slice_index, map};
 ghost use Rattle.std.specs.Prelude.{List, ◌≢◌, IfOk, OnOk, OnErr, IsTrue, ◌↔◌, MatchOption};
-ghost use Rattle.regalloc2_checker_tables.specs.SavedCopies.{saved_at, cell_at, IsChunkAt, IsDifferenceIn, AreSameBetween, AreClean, AreWithin, AreMoreWords};
+ghost use Rattle.regalloc2_checker_tables.specs.SavedCopies.{saved_at, number_in_cell, IsChunkAt, IsDifferenceIn, AreSameBetween, AreClean, AreWithin, AreMoreWords};
 ghost use Rattle.regalloc2_checker_tables.specs.SavedCopies.{AreBases, AreSame, IsFirstDifference};
 
 use std::alloc::{AllocError, Allocator};
@@ -246,7 +246,7 @@ impl<A: Allocator + Copy> Versions<A> {
         requires { size < 2 ^ 62 }
         ensures long { IfOk result (λ v. length v.cells ≡ 64 * (size / 64 + 1)) }
         ensures count { IfOk result (λ v. length v.saved ≡ count) }
-        ensures cells { IfOk result (λ v. (i : ℕ) → cell_at v i ≡ 0) }
+        ensures cells { IfOk result (λ v. (i : ℕ) → number_in_cell v i ≡ 0) }
         ensures saved { IfOk result (λ v. (k i : ℕ) → saved_at v k i ≡ 0) }
     {
         let chunks = size / 64 + 1;
@@ -283,7 +283,7 @@ impl<A: Allocator + Copy> Versions<A> {
     /// The number at a position.
     pub fn get(&self, position: usize) -> u32
         requires { position < length self.now.cells }
-        ensures { result ≡ cell_at self.now position }
+        ensures { result ≡ number_in_cell self.now position }
     {
         self.cells[position]
     }
@@ -312,7 +312,7 @@ impl<A: Allocator + Copy> Versions<A> {
         ensures words { self.new.words ≡ self.old.words }
         ensures saved { self.new.saved ≡ self.old.saved }
         ensures long { length self.new.cells ≡ length self.old.cells }
-        ensures loaded { (i : ℕ) → i < length self.new.cells → cell_at self.new i ≡ saved_at self.old copy i }
+        ensures loaded { (i : ℕ) → i < length self.new.cells → number_in_cell self.new i ≡ saved_at self.old copy i }
     {
         load_all(
             &self.words,
@@ -328,7 +328,7 @@ impl<A: Allocator + Copy> Versions<A> {
         ensures cells { self.new.cells ≡ self.old.cells }
         ensures count { length self.new.saved ≡ length self.old.saved }
         ensures others { (k i : ℕ) → (k ≡ copy → ⊥) → i < length self.old.cells → saved_at self.new k i ≡ saved_at self.old k i }
-        ensures saved { OnOk result ((i : ℕ) → i < length self.old.cells → saved_at self.new copy i ≡ cell_at self.old i) }
+        ensures saved { OnOk result ((i : ℕ) → i < length self.old.cells → saved_at self.new copy i ≡ number_in_cell self.old i) }
         ensures err { OnErr result ((i : ℕ) → i < length self.old.cells → saved_at self.new copy i ≡ saved_at self.old copy i) }
     {
         let bases = save_all(
@@ -346,7 +346,7 @@ impl<A: Allocator + Copy> Versions<A> {
     pub fn next_difference(&self, copy: usize, from: usize) -> Option<usize>
         requires { copy < length self.now.saved }
         ensures { MatchOption result (AreSameBetween self.now copy from (length self.now.cells))
-            (λ i. (from ≤ i) × (i < length self.now.cells) × (cell_at self.now i ≢ saved_at self.now copy i) × AreSameBetween self.now copy from i) }
+            (λ i. (from ≤ i) × (i < length self.now.cells) × (number_in_cell self.now i ≢ saved_at self.now copy i) × AreSameBetween self.now copy from i) }
     {
         first_difference(
             &self.words,

@@ -18,7 +18,7 @@ use Rattle.regalloc2_fastalloc_proofs.proofs.Walk.LastInstAndRest.{walk_listed}
 use Rattle.regalloc2_fastalloc_proofs.proofs.Walk.BlockCarries.{IsBelow}
 use Rattle.regalloc2_fastalloc_proofs.proofs.Walk.FunctionLaws.{PlacedCode}
 use Rattle.regalloc2_fastalloc_proofs.proofs.Walk.InstBoundaries.{kept_of}
-use Rattle.regalloc2_fastalloc_proofs.proofs.Changes.WalkChanges.{begun_changes, any_begin}
+use Rattle.regalloc2_fastalloc_proofs.proofs.Changes.WalkChanges.{begins_block_changes, any_begin}
 
 -- the block b in the walk, with what comes after it until final
 pub record MetBlock (f : FunctionValue) (placesf : ℕ → List Place) (start : List Place) (begin : StateValue) (b : ℕ) (final : StateValue) : Type 0 where
@@ -67,7 +67,7 @@ module _ (code : PlacedCode) (start : List Place) (begin final : StateValue) (b 
             (grown_then (IsBelow end) s u final (grown_weaken (IsWithin first end) (IsBelow end) s u (λ m h. h.1)
             (walk_grown (kept_of Known f proper kept) follow d ld p s first q u walk))
             (grown_then (IsBelow end) u w final
-            (changes_grow (IsBelow end) (begun_changes (any_begin (λ e. IsBelow end e.0) f d (λ m r. omega (arith, some))) begins))
+            (changes_grow (IsBelow end) (begins_block_changes (any_begin (λ e. IsBelow end e.0) f d (λ m r. omega (arith, some))) begins))
             (grown_weaken (IsBelow first) (IsBelow end) w final (λ m h. omega (arith, h, some)) rest_here)))
             (omega (arith, le, ne))
       ]

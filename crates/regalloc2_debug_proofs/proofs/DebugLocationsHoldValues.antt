@@ -3,7 +3,7 @@ use Rattle.std.proofs.Common.{ℕ, ◌≡◌, ◌<◌, inl, inr, false, length, 
 use Rattle.std.specs.Prelude.{Option}
 use Rattle.regalloc2_names.specs.Register.{VirtualRegister}
 use Rattle.regalloc2_names.specs.Place.{Place, NoPlace, InRegister, InSlot}
-use Rattle.regalloc2_function.specs.FunctionValue.{FunctionValue, IsLimited, Label, inst_at}
+use Rattle.regalloc2_function.specs.FunctionValue.{FunctionValue, IsLimited, Label, inst_at, no_operand}
 use Rattle.regalloc2_function.specs.Fitting.{IsProperPlace, MachineFits}
 use Rattle.regalloc2_function.specs.Machine.{MachineValue}
 use Rattle.regalloc2_function.specs.OutputValue.{allocs_of, place_at}
@@ -12,7 +12,7 @@ use Rattle.regalloc2_names.specs.Operand.{is_fixed_nonallocatable}
 use Rattle.regalloc2_function.specs.DebugPaths.{HoldsValue}
 use Rattle.regalloc2_function.specs.WellFormed.{IsWellFormed}
 use Rattle.regalloc2_semantics.specs.Laws.{ReadsAgreeOnPaths}
-use Rattle.regalloc2_semantics.specs.Listing.{op_at, no_operand}
+use Rattle.regalloc2_function.specs.FunctionValue.{op_at}
 use Rattle.regalloc2_semantics.proofs.SingleDef.{Made, by_operand}
 use Rattle.regalloc2_live_ranges.specs.declared.InstOperand.{InstOperand}
 use Rattle.regalloc2_live_ranges.specs.declared.LiveRange.{LiveRange}
@@ -22,11 +22,11 @@ use Rattle.regalloc2_fastalloc_state.specs.StateParts.{SlotsHaveOneOwner, IsSlot
 use Rattle.regalloc2_fastalloc_proofs.proofs.Operands.AllocsSoFar.{IsTame, reads_allocated}
 use Rattle.regalloc2_fastalloc_proofs.proofs.Safety.OutputOfWalk.{IsMade, made_proper}
 use Rattle.regalloc2_fastalloc_proofs.proofs.Safety.BlocksKeepSafe.{MayInBlocks}
-use Rattle.regalloc2_fastalloc_proofs.proofs.Safety.BranchArgsKeepState.{passes_between}
+use Rattle.regalloc2_fastalloc_proofs.proofs.Safety.BranchArgsKeepState.{processes_branch_between}
 use Rattle.regalloc2_fastalloc_proofs.proofs.Walk.BlocksCarryFromFreshState.{passed_slots}
 use Rattle.regalloc2_fastalloc_proofs.proofs.Walk.DefsBeforeUses.{used_made}
 use Rattle.regalloc2_fastalloc_proofs.proofs.Inst.ProperInsts.{all_proper}
-use Rattle.regalloc2_debug_proofs.specs.ShownPlace.{operand_place, shown_place}
+use Rattle.regalloc2_debug_proofs.specs.ShownPlace.{place_of_operand, shown_place}
 use Rattle.regalloc2_debug_proofs.proofs.ShownPlaceHoldsValue.{shown}
 use Rattle.regalloc2_debug_proofs.proofs.SlotAtBlockBegin.{AreAtBegin}
 use Rattle.regalloc2_fastalloc_proofs.proofs.Walk.WholeWalk.{WholeWalk}
@@ -59,7 +59,7 @@ module _ (walk : WholeWalk) (m : IsMade walk.f walk.env (Made walk.f) (MayInBloc
 
   -- where there is no slot
   by_proper : IsWrittenFirst f → (v : VirtualRegister) {by : Option InstOperand} → IsShownBy f v by → slot_name last.slots v.number ≡ NoPlace →
-      IsProperPlace env out v.class (operand_place out by)
+      IsProperPlace env out v.class (place_of_operand out by)
   by_proper written v (by_late_use o most r) none = operand_proper v o r.reader.inst r.reader.index
       (reads_allocated (op_at (inst_at f o.inst).operands o.index) r.reader.reading) r.reader.vreg
   by_proper written v (by_early_use o most never r) none = operand_proper v o r.reader.inst r.reader.index
@@ -68,7 +68,7 @@ module _ (walk : WholeWalk) (m : IsMade walk.f walk.env (Made walk.f) (MayInBloc
     | inl a ↦ nor a
     | inr rest ↦ elim rest [
       | inl b ↦ never b
-      | inr p ↦ passed_slots walk (passes_between f) v i p none
+      | inr p ↦ passed_slots walk (processes_branch_between f) v i p none
     ]
   ])
   by_proper written v (by_definition o never d) none = operand_proper v o d.inst d.index

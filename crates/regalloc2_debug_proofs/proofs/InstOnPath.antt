@@ -8,7 +8,7 @@ use Rattle.regalloc2_function.specs.OutputValue.{OutputValue, MoveValue, allocs_
 use Rattle.regalloc2_function.specs.Path.{Way, Onward, end_of}
 use Rattle.regalloc2_function.specs.SourceRun.{source_before, over_edge}
 use Rattle.regalloc2_function.specs.AllocatedRun.{Cells, after_moves, moves_at, cells_before}
-use Rattle.regalloc2_semantics.specs.Listing.{Item, executed, with_moves}
+use Rattle.regalloc2_semantics.specs.Listing.{Item, exec_item, with_moves}
 use Rattle.regalloc2_semantics.specs.Carry.{Carries, CarriesFrom}
 use Rattle.regalloc2_semantics.specs.BlockByPoints.{at_point, walked, Rising}
 use Rattle.regalloc2_semantics.proofs.CarryRules.{after_their_moves}
@@ -48,8 +48,8 @@ module _ (f : FunctionValue) (out : OutputValue) (rising : Rising out.edits) whe
       let i : ℕ = (end_of f ws).inst in
       let all = carries (source_before f ws) c (length ws) holds in
       let behind_it : List Item = with_moves (moves_on (after i)) [] in
-      let exec = after_their_moves (moves_on (before i)) v E (executed (inst_at f i) (allocs_of out i) ∷ behind_it) (source_before f ws) c (length ws) all in
-      let same = subst (λ (d : Cells). CarriesFrom v E (executed (inst_at f i) (allocs_of out i) ∷ behind_it) (source_before f ws) d (length ws)) (sym is)
+      let exec = after_their_moves (moves_on (before i)) v E (exec_item (inst_at f i) (allocs_of out i) ∷ behind_it) (source_before f ws) c (length ws) all in
+      let same = subst (λ (d : Cells). CarriesFrom v E (exec_item (inst_at f i) (allocs_of out i) ∷ behind_it) (source_before f ws) d (length ws)) (sym is)
       exec in
       let last = after_their_moves (moves_on (after i)) v E [] (source_before f (Onward ∷ ws)) (cells_before f out (Onward ∷ ws)) (suc (length ws)) same.2 in
       last p e

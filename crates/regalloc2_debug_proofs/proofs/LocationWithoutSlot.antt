@@ -10,9 +10,9 @@ use Rattle.regalloc2_names.specs.Operand.{is_def, is_reading}
 use Rattle.regalloc2_function.specs.WellFormed.{last_of}
 use Rattle.regalloc2_semantics.specs.OperandsPlaced.{Counts}
 use Rattle.regalloc2_semantics.proofs.Order.{ends_within}
-use Rattle.regalloc2_validate.specs.Constraints.{op_at}
+use Rattle.regalloc2_function.specs.FunctionValue.{op_at}
 use Rattle.regalloc2_fastalloc_proofs.specs.InstSteps.{StateValue}
-use Rattle.regalloc2_fastalloc_proofs.specs.BlockStart.{no_vreg}
+use Rattle.regalloc2_names.specs.Register.{no_vreg}
 use Rattle.regalloc2_fastalloc_proofs.specs.BlockSteps.{AllocsInstInBlock, AllocsBlockInsts, at_end, one_in, AllocsBlocks, all_left, one_block}
 use Rattle.regalloc2_fastalloc_proofs.proofs.Safety.StepsKeepState.{place_in, slot_in}
 use Rattle.regalloc2_fastalloc_proofs.proofs.Walk.InstsCarry.{AreListed}
@@ -20,12 +20,12 @@ use Rattle.regalloc2_fastalloc_proofs.proofs.Slots.StepsKeepSlots.{Grown, grown_
 use Rattle.regalloc2_fastalloc_proofs.proofs.Safety.StateKept.{ends_in_branch}
 use Rattle.regalloc2_fastalloc_proofs.proofs.Walk.InstBoundaries.{IsEdge, grown_weaken, edge_next}
 use Rattle.regalloc2_fastalloc_proofs.proofs.Walk.LastInstAndRest.{listed_behind}
-use Rattle.regalloc2_debug_proofs.proofs.UnnamedStaysUnlocated.{Absent, IsUnpassed, inst_out, begun_absent}
-use Rattle.regalloc2_debug_proofs.proofs.LocatedStaysOrHasSlot.{Holds, hold_then, allocates_hold, branch_hold}
+use Rattle.regalloc2_debug_proofs.proofs.UnnamedStaysUnlocated.{Absent, IsUnpassed, allocs_inst_in_block_out, begins_block_absent}
+use Rattle.regalloc2_debug_proofs.proofs.LocatedStaysOrHasSlot.{Holds, hold_then, allocs_inst_hold, branch_hold}
 use Rattle.regalloc2_debug_proofs.proofs.InstWithinWalk.{Met, IsBefore}
 use Rattle.regalloc2_debug_proofs.proofs.LocationBeforeFirstRead.{ComesFirst, reads_at}
 use Rattle.regalloc2_fastalloc_proofs.proofs.Walk.FunctionLaws.{PlacedCode}
-use Rattle.regalloc2_fastalloc_proofs.proofs.Changes.WalkChanges.{in_changes, any_inst}
+use Rattle.regalloc2_fastalloc_proofs.proofs.Changes.WalkChanges.{allocs_inst_in_block_changes, any_inst}
 
 -- x is defined at the instruction id, used last at il, where its operand ko reads it and is placed first, and has no slot at the walk's end
 pub record IsUnslotted (f : FunctionValue) (placesf : ℕ → List Place) (final : StateValue) (x id il ko : ℕ) : Type 0 where
@@ -65,7 +65,7 @@ module _ (code : PlacedCode) (final : StateValue) (x id il ko : ℕ) (un : IsUns
     past : (j : ℕ) (p q : List Place) (s u : StateValue) → (block_at f b).range.first ≤ j → j < (block_at f b).range.end → il < j →
         AllocsInstInBlock f b j p q s u → Absent x s → Absent x u
     past j p q s u ge less behind a absent =
-        (inst_out x f b j p q s u (un.later j behind (of_function j less))
+        (allocs_inst_in_block_out x f b j p q s u (un.later j behind (of_function j less))
         (λ is. un.passes b lb (let e = ends_in_branch f ends b j lb ge less is in omega (arith, e, behind))) a absent).0
 
     -- its last use
@@ -90,7 +90,7 @@ module _ (code : PlacedCode) (final : StateValue) (x id il ko : ℕ) (un : IsUns
     amid : (j : ℕ) (p q : List Place) (s u : StateValue) → id < j → j < length f.insts → AllocsInstInBlock f b j p q s u → Grown AnyPlace u final →
         place_in s x ≡ place_at (placesf il) ko → place_in u x ≡ place_at (placesf il) ko
     amid j p q s u sooner lt a rest at =
-        let h : Holds x s u = hold_then x s a.middle u (allocates_hold x j (inst_at f j) a.allocates.blank a.allocates.here s a.middle
+        let h : Holds x s u = hold_then x s a.middle u (allocs_inst_hold x j (inst_at f j) a.allocates.blank a.allocates.here s a.middle
         (un.undefined j sooner lt) a.allocates.allocates) (branch_hold x f b j p q s u a) in
         elim (h.same (λ z. un.real (sym at ∙ z))) [ inl e ↦ (e ∙ at) | inr has ↦ absurd (has (none_before u rest)) ]
 
@@ -117,7 +117,7 @@ module _ (code : PlacedCode) (final : StateValue) (x id il ko : ℕ) (un : IsUns
         (in_stays h prev (listed_behind code final b k p q s u (of_function k less) a
         are)
         (grown_then AnyPlace s u final (changes_grow AnyPlace
-        (in_changes (any_inst (λ e. AnyPlace e.0) f b k (λ n r. tt) (λ n r. tt)) a)) rest))
+        (allocs_inst_in_block_changes (any_inst (λ e. AnyPlace e.0) f b k (λ n r. tt) (λ n r. tt)) a)) rest))
 
     walk_absent : (blank : List Place) (old : StateValue) → Absent x old → (j : ℕ) (places : List Place) (t : StateValue) →
         AllocsBlockInsts f b blank old j places t → il < j → Absent x t
@@ -126,16 +126,16 @@ module _ (code : PlacedCode) (final : StateValue) (x id il ko : ℕ) (un : IsUns
         λ behind. past k p q s u ge less behind a (walk_absent blank old h (k + 1) p s prev (omega (arith, behind)))
 
   -- the blocks behind its last use
-  pub blocks_absent : {start : List Place} {begin : StateValue} → Absent x begin → {b : ℕ} {places : List Place} {t : StateValue} →
+  pub allocs_blocks_absent : {start : List Place} {begin : StateValue} → Absent x begin → {b : ℕ} {places : List Place} {t : StateValue} →
       AllocsBlocks f start begin b places t → (e : ℕ) → IsEdge f b e → il < e → Absent x t
-  blocks_absent h all_left = λ e edge behind. h
-  blocks_absent {start} {begin} h (one_block d p q s u w lt prev walk begins) = λ e edge behind.
+  allocs_blocks_absent h all_left = λ e edge behind. h
+  allocs_blocks_absent {start} {begin} h (one_block d p q s u w lt prev walk begins) = λ e edge behind.
       let first : ℕ = (block_at f d).range.first in
       let end : ℕ = (block_at f d).range.end in
       let some : first < end = (follow d lt).0 in
       let here : il < first = (let z = edge.0 lt in omega (arith, z, behind)) in
-      let before_it : Absent x s = blocks_absent h prev end (edge_next f follow d lt) (omega (arith, some, here)) in
-      begun_absent x f d u w (un.params d lt) begins (walk_absent d lt p s before_it first q u walk here)
+      let before_it : Absent x s = allocs_blocks_absent h prev end (edge_next f follow d lt) (omega (arith, some, here)) in
+      begins_block_absent x f d u w (un.params d lt) begins (walk_absent d lt p s before_it first q u walk here)
 
   -- around an instruction that is met
   module _ (start : List Place) (begin : StateValue) (absent : Absent x begin) (j : ℕ) (w : Met f placesf start begin j final)
@@ -145,12 +145,12 @@ module _ (code : PlacedCode) (final : StateValue) (x id il ko : ℕ) (un : IsUns
     old_stays =
         in_stays w.block w.within
         (record {
-          after_it = λ behind. blocks_absent absent w.blocks (block_at f w.block).range.end
+          after_it = λ behind. allocs_blocks_absent absent w.blocks (block_at f w.block).range.end
               (edge_next f follow w.block w.within) behind;
           there = λ low high. absurd (omega (arith, high, upto));
         }) w.inside w.listed
         (grown_then AnyPlace w.old w.new final
-        (changes_grow AnyPlace (in_changes (any_inst (λ e. AnyPlace e.0) f w.block j (λ n r. tt) (λ n r. tt)) w.allocates))
+        (changes_grow AnyPlace (allocs_inst_in_block_changes (any_inst (λ e. AnyPlace e.0) f w.block j (λ n r. tt) (λ n r. tt)) w.allocates))
         (grown_weaken (IsBefore f j) AnyPlace w.new final (λ n y. tt) w.rest))
 
     -- in the state that the walk goes on with, x is where it is before this one

@@ -6,16 +6,16 @@ use Rattle.std.proofs.lemmas.Bool.{and_parts, ltb-true, or_cases}
 use Rattle.regalloc2_names.specs.Register.{VirtualRegister}
 use Rattle.regalloc2_names.specs.Place.{Place, InSlot}
 use Rattle.regalloc2_names.specs.Point.{before}
-use Rattle.regalloc2_function.specs.FunctionValue.{FunctionValue, block_at, inst_at}
+use Rattle.regalloc2_function.specs.FunctionValue.{FunctionValue, block_at, inst_at, no_operand, op_at}
 use Rattle.regalloc2_function.specs.OutputValue.{OutputValue, MoveValue, allocs_of, is_listed_at}
 use Rattle.regalloc2_function.specs.Path.{Way, Onward, end_of, IsPath}
 use Rattle.regalloc2_function.specs.WellFormed.{BlocksFollow}
-use Rattle.regalloc2_semantics.specs.Listing.{op_at, no_operand, with_moves}
+use Rattle.regalloc2_semantics.specs.Listing.{with_moves}
 use Rattle.regalloc2_semantics.specs.Carry.{Spares, Undefined, Untouched}
 use Rattle.regalloc2_semantics.proofs.Cells.{cases_place}
 use Rattle.regalloc2_semantics.proofs.Order.{stands_later}
 use Rattle.regalloc2_semantics.proofs.UnwrittenPlaces.{NoMoveTo}
-use Rattle.regalloc2_debug_proofs.specs.SlotHoldsValue.{IsReadIn, IsKeptInSlot}
+use Rattle.regalloc2_debug_proofs.specs.SlotHoldsValue.{ReadsInPlace, IsKeptInSlot}
 use Rattle.regalloc2_debug_proofs.specs.SlotWrites.{MayWrite, after_definition, before_read, before_branch, at_begin, IsSlotOfValue}
 
 -- where a listed point is
@@ -37,11 +37,11 @@ module _ (f : FunctionValue) (out : OutputValue) (v : VirtualRegister) (p : Plac
 
   -- a move that is listed before an instruction and may write the place is there for a read
   listed_reads : (first i q : ℕ) → (inst_at f i).is_branch ≡ false → Inner i → Quiet first i → MayWrite f out v p q → (q ≡ before i)
-      ⊎ ((first < i) × (q + 1 ≡ before i)) → (k : ℕ) × IsReadIn f out v p i k
+      ⊎ ((first < i) × (q + 1 ≡ before i)) → (k : ℕ) × ReadsInPlace f out v p i k
   listed_reads first i q plain inner quiet (after_definition j k lt def is) (inl e) = absurd (omega (arith, e))
   listed_reads first i q plain inner quiet (after_definition j k lt def is) (inr (less, e)) = absurd (quiet less j (omega (arith, e)) k lt def is)
   listed_reads first i q plain inner quiet (before_read j k r) (inl e) = (let same : j ≡ i = omega (arith, e) in
-      (k, subst (λ (m : ℕ). IsReadIn f out v p m k) same r))
+      (k, subst (λ (m : ℕ). ReadsInPlace f out v p m k) same r))
   listed_reads first i q plain inner quiet (before_read j k r) (inr (less, e)) = absurd (omega (arith, e))
   listed_reads first i q plain inner quiet (before_branch j b) (inl e) =
       let same : j ≡ i = omega (arith, e) in
@@ -52,7 +52,7 @@ module _ (f : FunctionValue) (out : OutputValue) (v : VirtualRegister) (p : Plac
   listed_reads first i q plain inner quiet (at_begin b lb stored) (inr (less, e)) = absurd (omega (arith, e))
 
   abbrev Fine : ℕ → List MoveValue → Type 0
-  Fine i ms = NoMoveTo p ms ⊎ ((k : ℕ) × IsReadIn f out v p i k)
+  Fine i ms = NoMoveTo p ms ⊎ ((k : ℕ) × ReadsInPlace f out v p i k)
 
   -- one more move that doesn't go there
   one_more : (i : ℕ) (m : MoveValue) (ms : List MoveValue) → (p ≡ m.to → ⊥) → Fine i ms → Fine i (m ∷ ms)

@@ -13,7 +13,7 @@ use Rattle.regalloc2_function.specs.SourceRun.{IsWrittenFirst, source_before}
 use Rattle.regalloc2_function.specs.AllocatedRun.{Cells, after_moves}
 use Rattle.regalloc2_function.specs.DebugPaths.{GoesOn, there, further, HoldsValue}
 use Rattle.regalloc2_function.specs.DebugPoints.{UsesAt}
-use Rattle.regalloc2_semantics.specs.Listing.{op_at}
+use Rattle.regalloc2_function.specs.FunctionValue.{op_at}
 use Rattle.regalloc2_semantics.specs.Carry.{Carries}
 use Rattle.regalloc2_semantics.specs.Live.{IsLive, later, HasEntered}
 use Rattle.regalloc2_semantics.specs.Blocks.{IsUnwritten}
@@ -32,7 +32,7 @@ use Rattle.regalloc2_fastalloc_proofs.proofs.Operands.DefinedNumbers.{defined_by
 use Rattle.regalloc2_fastalloc_proofs.proofs.Moves.StepsAppendEdits.{pushed_at}
 use Rattle.regalloc2_fastalloc_proofs.proofs.Safety.BlocksKeepSafe.{MayInBlocks}
 use Rattle.regalloc2_fastalloc_proofs.proofs.Operands.RecordOverState.{opt, opt_some, opt_from}
-use Rattle.regalloc2_fastalloc_proofs.proofs.Safety.BranchArgsKeepState.{passes_between}
+use Rattle.regalloc2_fastalloc_proofs.proofs.Safety.BranchArgsKeepState.{processes_branch_between}
 use Rattle.regalloc2_fastalloc_proofs.proofs.Walk.InstForOneVReg.{needed_parts, parts_needed}
 use Rattle.regalloc2_fastalloc_proofs.proofs.Inst.ProperInsts.{all_proper}
 use Rattle.regalloc2_debug_proofs.specs.SlotHoldsValue.{ShowsAt}
@@ -71,7 +71,7 @@ module _ (walk : WholeWalk) (m : IsMade walk.f walk.env (Made walk.f) (MayInBloc
 
   -- it is live where no path comes to a block
   never_entered : (ws : List Way) → IsPath f ws → HasEntered f ws → IsLive f v (end_of f ws) → ⊥
-  never_entered ws path entered live = used_slots walk (passes_between f) v
+  never_entered ws path entered live = used_slots walk (processes_branch_between f) v
       (live_is_used env f ok written ws path entered v live) un.unslotted
 
   some_block : 0 < length f.blocks
@@ -94,7 +94,7 @@ module _ (walk : WholeWalk) (m : IsMade walk.f walk.env (Made walk.f) (MayInBloc
         let same = one_operand f ok.defined_once v.number id i d j defines
         (record { inst = i_lt; operand = few; definition = def; number = ap (λ (x : VirtualRegister). x.number) is }) in
         omega (arith, same.0, ge, lt) in
-        absurd (used_slots walk (passes_between f) v
+        absurd (used_slots walk (processes_branch_between f) v
         (record { block = w.block; within = w.within; unwritten = unwritten; used = inl (il, ko, w.ge, w.less, un.within, un.reads, reads_v) })
         un.unslotted))
   ]

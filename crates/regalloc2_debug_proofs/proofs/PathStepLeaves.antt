@@ -6,20 +6,20 @@ use Rattle.regalloc2_names.specs.declared.OperandPos.TheVariants.{Early, Late}
 use Rattle.regalloc2_names.specs.Register.{VirtualRegister}
 use Rattle.regalloc2_names.specs.Operand.{OperandValue}
 use Rattle.regalloc2_names.specs.Place.{Place}
-use Rattle.regalloc2_function.specs.FunctionValue.{FunctionValue, block_at, inst_at}
+use Rattle.regalloc2_function.specs.FunctionValue.{FunctionValue, block_at, inst_at, no_operand}
 use Rattle.regalloc2_function.specs.OutputValue.{OutputValue, allocs_of, place_at}
 use Rattle.regalloc2_function.specs.Path.{Way, Onward, ToSuccessor, end_of}
 use Rattle.regalloc2_function.specs.SourceRun.{Stamp, read_of, arguments_at, source_before, source_after, over_edge}
 use Rattle.regalloc2_function.specs.AllocatedRun.{Cells, after_moves, moves_at, cells_early, cells_late, cells_before}
 use Rattle.regalloc2_function.specs.Faithful.{ReadsAgree}
-use Rattle.regalloc2_semantics.specs.Listing.{op_at, no_operand}
+use Rattle.regalloc2_function.specs.FunctionValue.{op_at}
 use Rattle.regalloc2_semantics.specs.Carry.{Spares, Undefined}
 use Rattle.regalloc2_semantics.specs.Blocks.{target_at}
 use Rattle.regalloc2_semantics.specs.Live.{IsAside}
 use Rattle.regalloc2_semantics.proofs.UnwrittenPlaces.{NoMoveTo, moves_kept}
 use Rattle.regalloc2_semantics.proofs.ParamsOnEdge.{passed-other}
 use Rattle.regalloc2_semantics.proofs.BothRuns.{after_defs-other, early-other, late-spared}
-use Rattle.regalloc2_debug_proofs.specs.SlotHoldsValue.{IsReadIn, ShowsAt}
+use Rattle.regalloc2_debug_proofs.specs.SlotHoldsValue.{ReadsInPlace, ShowsAt}
 
 -- a step that gives v no write leaves the last one
 pub source_on : (f : FunctionValue) (ws : List Way) (w : Way) (v : VirtualRegister) → Undefined (inst_at f (end_of f ws).inst).operands v →
@@ -45,7 +45,7 @@ read_both Late a b x e h = h
 
 -- where an operand reads v in a place that its instruction doesn't write, the place holds v's last write
 pub read_shows : (f : FunctionValue) (out : OutputValue) (ws : List Way) (v : VirtualRegister) (p : Place) (k : ℕ) → ReadsAgree f out ws →
-    IsReadIn f out v p (end_of f ws).inst k → Undefined (inst_at f (end_of f ws).inst).operands v →
+    ReadsInPlace f out v p (end_of f ws).inst k → Undefined (inst_at f (end_of f ws).inst).operands v →
     Spares (inst_at f (end_of f ws).inst).operands (allocs_of out (end_of f ws).inst) (inst_at f (end_of f ws).inst).clobbers p → ShowsAt f out v p ws
 read_shows f out ws v p k agree r undefined spares =
     let ops : List OperandValue = (inst_at f (end_of f ws).inst).operands in
@@ -67,7 +67,7 @@ read_shows f out ws v p k agree r undefined spares =
 pub shows_after : (f : FunctionValue) (out : OutputValue) (ws : List Way) (v : VirtualRegister) (p : Place) → ReadsAgree f out ws →
     Undefined (inst_at f (end_of f ws).inst).operands v →
     Spares (inst_at f (end_of f ws).inst).operands (allocs_of out (end_of f ws).inst) (inst_at f (end_of f ws).inst).clobbers p →
-    cells_before f out ws p ≡ source_before f ws v → NoMoveTo p (moves_at f out (end_of f ws)) ⊎ ((k : ℕ) × IsReadIn f out v p (end_of f ws).inst k) →
+    cells_before f out ws p ≡ source_before f ws v → NoMoveTo p (moves_at f out (end_of f ws)) ⊎ ((k : ℕ) × ReadsInPlace f out v p (end_of f ws).inst k) →
     ShowsAt f out v p ws
 shows_after f out ws v p agree undefined spares held (inl none) = moves_kept p (moves_at f out (end_of f ws)) (cells_before f out ws) none ∙ held
 shows_after f out ws v p agree undefined spares held (inr (k, r)) = read_shows f out ws v p k agree r undefined spares

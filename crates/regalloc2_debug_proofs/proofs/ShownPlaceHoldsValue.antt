@@ -7,7 +7,7 @@ use Rattle.regalloc2_names.specs.declared.OperandPos.TheVariants.{Early, Late}
 use Rattle.regalloc2_names.specs.Register.{VirtualRegister}
 use Rattle.regalloc2_names.specs.Operand.{OperandValue, is_def, is_late, is_reading}
 use Rattle.regalloc2_names.specs.Place.{Place, NoPlace, InRegister, InSlot}
-use Rattle.regalloc2_function.specs.FunctionValue.{FunctionValue, block_at, inst_at}
+use Rattle.regalloc2_function.specs.FunctionValue.{FunctionValue, block_at, inst_at, no_operand}
 use Rattle.regalloc2_function.specs.Fitting.{MachineFits}
 use Rattle.regalloc2_function.specs.OutputValue.{allocs_of, place_at}
 use Rattle.regalloc2_function.specs.Path.{end_of}
@@ -15,8 +15,8 @@ use Rattle.regalloc2_function.specs.SourceRun.{IsWrittenFirst, arguments_at}
 use Rattle.regalloc2_function.specs.DebugPaths.{HoldsValue}
 use Rattle.regalloc2_function.specs.DebugPoints.{DefinesAt, ReadsAt, UsesAt}
 use Rattle.regalloc2_function.specs.WellFormed.{last_of}
-use Rattle.regalloc2_semantics.specs.Listing.{op_at, no_operand}
-use Rattle.regalloc2_semantics.specs.Blocks.{IsSound, IsUnwritten, target_at}
+use Rattle.regalloc2_function.specs.FunctionValue.{op_at}
+use Rattle.regalloc2_semantics.specs.Blocks.{HasSoundBlocks, IsUnwritten, target_at}
 use Rattle.regalloc2_semantics.specs.Laws.{ReadsAgreeOnPaths}
 use Rattle.regalloc2_semantics.proofs.SingleDef.{Made, by_operand, one_made, one_operand, not_both, reads_defined}
 use Rattle.regalloc2_semantics.proofs.SingleDef as defined
@@ -33,9 +33,9 @@ use Rattle.regalloc2_fastalloc_proofs.proofs.Safety.OutputOfWalk.{IsMade, operan
 use Rattle.regalloc2_fastalloc_proofs.proofs.Safety.StepsKeepState.{slot_in}
 use Rattle.regalloc2_fastalloc_proofs.proofs.Safety.BlocksKeepSafe.{MayInBlocks}
 use Rattle.regalloc2_fastalloc_proofs.proofs.Walk.DefsBeforeUses.{used_made}
-use Rattle.regalloc2_fastalloc_proofs.proofs.Safety.BranchArgsKeepState.{passes_between}
+use Rattle.regalloc2_fastalloc_proofs.proofs.Safety.BranchArgsKeepState.{processes_branch_between}
 use Rattle.regalloc2_fastalloc_proofs.proofs.Inst.ProperInsts.{all_proper}
-use Rattle.regalloc2_debug_proofs.specs.ShownPlace.{operand_place, shown_place}
+use Rattle.regalloc2_debug_proofs.specs.ShownPlace.{place_of_operand, shown_place}
 use Rattle.regalloc2_debug_proofs.proofs.SlotHoldsDefinedValue.{defined_shows, met_at}
 use Rattle.regalloc2_debug_proofs.proofs.OperandPlaceHoldsValue.{register_shows}
 use Rattle.regalloc2_debug_proofs.proofs.SlotAfterWalk.{left_slot_shows}
@@ -74,7 +74,7 @@ module _ (walk : WholeWalk) (m : IsMade walk.f walk.env (Made walk.f) (MayInBloc
     (v : VirtualRegister) (known : Made walk.f v) where
   open walk use {env, f, limited, ok, blank, begin, last, out, empty, fit, walks}
 
-  sound : IsSound f
+  sound : HasSoundBlocks f
   sound = well_formed_are_sound env f ok
 
   some_block : 0 < length f.blocks
@@ -149,7 +149,7 @@ module _ (walk : WholeWalk) (m : IsMade walk.f walk.env (Made walk.f) (MayInBloc
         let i_lt : i < length f.insts = (let q = ends_within f ok.follow w.block w.within in omega (arith, less, q)) in
         not_both f ok.defined_once v.number i j b k (record { inst = i_lt; operand = few; definition = def; number = ap (λ (u : VirtualRegister). u.number) e })
         at in
-        used_slots walk (passes_between f) v
+        used_slots walk (processes_branch_between f) v
         (record { block = w.block; within = w.within; unwritten = unwritten; used = inl (il, ko, w.ge, w.less, within, reads, is) }) none
 
     by_maker : Made f v → ((id d : ℕ) → defined.DefinesAt f v.number id d → ComesFirst (inst_at f il).operands v.number ko) →
@@ -190,7 +190,7 @@ module _ (walk : WholeWalk) (m : IsMade walk.f walk.env (Made walk.f) (MayInBloc
         ]))
 
   -- where it has no slot
-  operand_shows : {by : Option InstOperand} → IsShownBy f v by → slot_in last v.number ≡ NoPlace → HoldsValue f out v (operand_place out by)
+  operand_shows : {by : Option InstOperand} → IsShownBy f v by → slot_in last v.number ≡ NoPlace → HoldsValue f out v (place_of_operand out by)
   operand_shows (by_late_use o most r) none = late_shows o.inst o.index r.reader.inst r.reader.index r.reader.reading r.reader.vreg most.1 none
       r.reader.position r.first
   operand_shows (by_early_use o most never r) none = early_shows o.inst o.index r.reader.inst r.reader.index r.reader.reading r.reader.vreg most.1 none
@@ -201,7 +201,7 @@ module _ (walk : WholeWalk) (m : IsMade walk.f walk.env (Made walk.f) (MayInBloc
         | inr rest ↦ elim rest [
           | inl b ↦ never b
           | inr p ↦ passed_slots walk
-              (passes_between f) v i p none
+              (processes_branch_between f) v i p none
         ]
       ])
   operand_shows (by_definition o never d) none = λ given w here used s path is_given source on later_on uses no_branch. absurd (never (end_of f used).inst uses)
@@ -212,7 +212,7 @@ module _ (walk : WholeWalk) (m : IsMade walk.f walk.env (Made walk.f) (MayInBloc
       IsShownBy f v by →
       HoldsValue f out v (shown_place out (slot_name last.slots v.number) by)
   shown fits owned tame agree stand begins {by} is = by_slot (slot_name last.slots v.number) refl
-      ((at_walks_end walk (passes_between f)).whole.below v.number)
+      ((at_walks_end walk (processes_branch_between f)).whole.below v.number)
     where
       by_slot : (q : Place) → slot_name last.slots v.number ≡ q → IsSlotOrNone last.slots.count q → HoldsValue f out v (shown_place out q by)
       by_slot NoPlace e below = operand_shows is e

@@ -5,7 +5,7 @@ use Rattle.std.specs.Prelude.{All, Option, Some, slice_index_or}
 use Rattle.regalloc2_names.specs.Register.{VirtualRegister}
 use Rattle.regalloc2_names.specs.Place.{Place, NoPlace, InRegister, InSlot, is_memory}
 use Rattle.regalloc2_names.specs.Point.{before}
-use Rattle.regalloc2_function.specs.FunctionValue.{FunctionValue, block_at, inst_at}
+use Rattle.regalloc2_function.specs.FunctionValue.{FunctionValue, block_at, inst_at, no_operand}
 use Rattle.regalloc2_function.specs.Fitting.{MachineFits}
 use Rattle.regalloc2_function.specs.Machine.{MachineValue}
 use Rattle.regalloc2_function.specs.OutputValue.{OutputValue, MoveValue, allocs_of, moves_before}
@@ -16,7 +16,7 @@ use Rattle.regalloc2_function.specs.WellFormed.{last_of}
 use Rattle.regalloc2_semantics.specs.BlockByPoints.{at_point, listed}
 use Rattle.regalloc2_semantics.specs.Carry.{Undefined}
 use Rattle.regalloc2_semantics.specs.Laws.{ReadsAgreeOnPaths}
-use Rattle.regalloc2_semantics.specs.Listing.{op_at, no_operand}
+use Rattle.regalloc2_function.specs.FunctionValue.{op_at}
 use Rattle.regalloc2_semantics.specs.Live.{IsLive, HasEntered, LiveStandInPlaces}
 use Rattle.regalloc2_semantics.specs.Stores.{store_moves}
 use Rattle.regalloc2_semantics.proofs.LiveIn.{live_is_used}
@@ -28,12 +28,12 @@ use Rattle.regalloc2_semantics.proofs.StoresInFront.{stores_there, stores_else, 
 use Rattle.regalloc2_semantics.proofs.UnwrittenPlaces.{NoMoveTo, moves_kept}
 use Rattle.regalloc2_branch_defs.specs.BranchDefs.{IsUsedElsewhere}
 use Rattle.regalloc2_fastalloc_state.specs.StateParts.{SlotsHaveOneOwner, slot_name}
-use Rattle.regalloc2_fastalloc_proofs.specs.BlockStart.{no_vreg}
+use Rattle.regalloc2_names.specs.Register.{no_vreg}
 use Rattle.regalloc2_fastalloc_proofs.specs.InstSteps.{StateValue}
 use Rattle.regalloc2_fastalloc_proofs.specs.Safety.{IsSafe}
 use Rattle.regalloc2_fastalloc_proofs.specs.StoreSteps.{StoresBranchDefs, none_stored, all_stored}
 use Rattle.regalloc2_fastalloc_proofs.proofs.BlockBegin.BranchDefsCarried.{brought}
-use Rattle.regalloc2_fastalloc_proofs.proofs.BlockBegin.StoresOfDefs.{stores_grown}
+use Rattle.regalloc2_fastalloc_proofs.proofs.BlockBegin.StoresOfDefs.{stores_branch_defs_grown}
 use Rattle.regalloc2_fastalloc_proofs.proofs.Branches.Arrivals.{Arrive, DefsPlaced}
 use Rattle.regalloc2_fastalloc_proofs.proofs.Branches.EdgesInto.{one_edge_into}
 use Rattle.regalloc2_fastalloc_proofs.proofs.Branches.PlacesOnArrival.{live_used}
@@ -41,8 +41,8 @@ use Rattle.regalloc2_fastalloc_proofs.proofs.Moves.StepsAppendEdits.{pushed_at}
 use Rattle.regalloc2_fastalloc_proofs.proofs.Operands.AllocsSoFar.{IsTame}
 use Rattle.regalloc2_fastalloc_proofs.proofs.Operands.RecordOverState.{slots_at, opt, opt_from, opt_real, grown_slots}
 use Rattle.regalloc2_fastalloc_proofs.proofs.Safety.BlocksKeepSafe.{MayInBlocks}
-use Rattle.regalloc2_fastalloc_proofs.proofs.Safety.BlockStartKeepsSafe.{begins_block_kept}
-use Rattle.regalloc2_fastalloc_proofs.proofs.Safety.BranchArgsKeepState.{passes_between}
+use Rattle.regalloc2_fastalloc_proofs.proofs.Safety.BlockStartKeepsSafe.{reloads_at_begin_kept}
+use Rattle.regalloc2_fastalloc_proofs.proofs.Safety.BranchArgsKeepState.{processes_branch_between}
 use Rattle.regalloc2_fastalloc_proofs.proofs.Safety.FunctionKeepsSafe.{SafeWithin}
 use Rattle.regalloc2_fastalloc_proofs.proofs.Safety.InstsKeepSafe.{WritesFrom}
 use Rattle.regalloc2_fastalloc_proofs.proofs.Safety.OutputOfWalk.{IsMade, machine_apart}
@@ -59,7 +59,7 @@ use Rattle.regalloc2_fastalloc_proofs.proofs.Walk.DefsBeforeUses.{param_before}
 use Rattle.regalloc2_fastalloc_proofs.proofs.Walk.InstBoundaries.{grown_weaken, grown_pushes}
 use Rattle.regalloc2_fastalloc_proofs.proofs.Walk.InstsCarry.{AreListed}
 use Rattle.regalloc2_fastalloc_proofs.proofs.Inst.ProperInsts.{all_proper}
-use Rattle.regalloc2_debug_proofs.specs.SlotHoldsValue.{IsReadIn, ShowsAt}
+use Rattle.regalloc2_debug_proofs.specs.SlotHoldsValue.{ReadsInPlace, ShowsAt}
 use Rattle.regalloc2_debug_proofs.proofs.BlockWithinWalk.{MetBlock, meet_block, pushed_front}
 use Rattle.regalloc2_debug_proofs.proofs.PathStepLeaves.{read_shows}
 use Rattle.regalloc2_debug_proofs.proofs.SlotAfterWalk.{own_alone}
@@ -96,7 +96,7 @@ module _ (walk : WholeWalk) (fits : MachineFits walk.f walk.env) (m : IsMade wal
   places_listed = are_listed walk m
 
   whole : IsWhole last
-  whole = (at_walks_end walk (passes_between f)).whole
+  whole = (at_walks_end walk (processes_branch_between f)).whole
 
   mine_there : slots_at last v.number ≡ Some (InSlot n)
   mine_there = ap opt mine
@@ -128,14 +128,14 @@ module _ (walk : WholeWalk) (fits : MachineFits walk.f walk.env) (m : IsMade wal
     some = (ok.follow b lb).0
 
     reloaded_safe : IsSafe env (Made f) (WritesFrom f out.allocs (b + 1)) (MayInBlocks f) reloaded
-    reloaded_safe = (begins_block_kept (rules_of env (machine_apart f env fits) (Made f) (WritesFrom f out.allocs (b + 1)) (MayInBlocks f) (before first)
+    reloaded_safe = (reloads_at_begin_kept (rules_of env (machine_apart f env fits) (Made f) (WritesFrom f out.allocs (b + 1)) (MayInBlocks f) (before first)
         (b, first, lb, omega arith, some, inl refl)) (block_at f b).params
         (λ k less. Made.by_param b k (record { block = lb; param = less; number = refl }) refl) w.tables reloaded w.begins.reloads
         (at.safe b lb w.end_places w.end_tables w.blocks first w.places w.tables w.inside
         (λ j k le less within. sym (places_listed j (omega arith) less k within) ∙ w.listed j le less k within))).safe
 
     grows : Grown AnyPlace reloaded last
-    grows = grown_then AnyPlace reloaded w.begun last (stores_grown AnyPlace f b reloaded w.begun tt w.begins.stores)
+    grows = grown_then AnyPlace reloaded w.begun last (stores_branch_defs_grown AnyPlace f b reloaded w.begun tt w.begins.stores)
         (grown_weaken (IsBelow first) AnyPlace w.begun last (λ k x. tt) w.rest)
 
     -- the moves so far that go to the slot
@@ -149,7 +149,7 @@ module _ (walk : WholeWalk) (fits : MachineFits walk.f walk.env) (m : IsMade wal
         ]) n v known mine_there)
 
     -- so the first instruction reads v there, if one does
-    read_first : (inst_at f first).is_branch ≡ false → WritesFrom f out.allocs (b + 1) (before first) v n → (k : ℕ) × IsReadIn f out v (InSlot n) first k
+    read_first : (inst_at f first).is_branch ≡ false → WritesFrom f out.allocs (b + 1) (before first) v n → (k : ℕ) × ReadsInPlace f out v (InSlot n) first k
     read_first plain (inl x) =
         let r = (writes_sound f (allocs_of out) out.allocs places_listed first plain).sooner v n x in
         (r.0, record { within = r.1; reading = r.2; vreg = r.3; place = r.4 })
@@ -160,8 +160,8 @@ module _ (walk : WholeWalk) (fits : MachineFits walk.f walk.env) (m : IsMade wal
         absurd (omega (arith, same, apart, less))
 
     later_fine : (inst_at f first).is_branch ≡ false → NoMoveTo (InSlot n) (at_point (listed reloaded.edits) (before first))
-        ⊎ ((k : ℕ) × IsReadIn f out v (InSlot n) first k)
-    later_fine plain = no_move_or (InSlot n) (before first) (listed reloaded.edits) ((k : ℕ) × IsReadIn f out v (InSlot n) first k)
+        ⊎ ((k : ℕ) × ReadsInPlace f out v (InSlot n) first k)
+    later_fine plain = no_move_or (InSlot n) (before first) (listed reloaded.edits) ((k : ℕ) × ReadsInPlace f out v (InSlot n) first k)
         (λ k d less is to. read_first plain (subst (λ q. WritesFrom f out.allocs (b + 1) q v n) is (so_far k d less to)))
 
     -- the moves there are those of the stores, and then the others
@@ -249,7 +249,7 @@ module _ (walk : WholeWalk) (fits : MachineFits walk.f walk.env) (m : IsMade wal
         let first : ℕ = (block_at f b).range.first in
         let here : (end_of f ws).inst ≡ first = entered in
         elim (later_fine b lb (ap (λ (i : ℕ). (inst_at f i).is_branch) (sym here) ∙ plain)) [
-          | inr (k, r) ↦ read_shows f out ws v (InSlot n) k (agree ws path) (subst (λ (i : ℕ). IsReadIn f out v (InSlot n) i k) (sym here) r) undefined
+          | inr (k, r) ↦ read_shows f out ws v (InSlot n) k (agree ws path) (subst (λ (i : ℕ). ReadsInPlace f out v (InSlot n) i k) (sym here) r) undefined
               (record {
                 no_definition = λ j less def is. undefined j less def (own_alone env f ok.defined_once last out m owned v known n mine tame
                     (op_at (inst_at f (end_of f ws).inst).operands j).vreg

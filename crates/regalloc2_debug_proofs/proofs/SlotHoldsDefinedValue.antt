@@ -6,7 +6,7 @@ use Rattle.regalloc2_names.specs.Register.{VirtualRegister}
 use Rattle.regalloc2_names.specs.Operand.{OperandValue, is_def}
 use Rattle.regalloc2_names.specs.Place.{Place, InSlot}
 use Rattle.regalloc2_names.specs.Point.{before}
-use Rattle.regalloc2_function.specs.FunctionValue.{FunctionValue, IsLimited, block_at, inst_at}
+use Rattle.regalloc2_function.specs.FunctionValue.{FunctionValue, IsLimited, block_at, inst_at, no_operand, op_at}
 use Rattle.regalloc2_function.specs.Machine.{MachineValue}
 use Rattle.regalloc2_function.specs.OutputValue.{MoveValue, allocs_of}
 use Rattle.regalloc2_function.specs.Path.{Way, Onward, ToSuccessor, end_of, IsPath}
@@ -14,14 +14,14 @@ use Rattle.regalloc2_function.specs.SourceRun.{IsWrittenFirst, arguments_at, sou
 use Rattle.regalloc2_function.specs.AllocatedRun.{Cells, cells_before}
 use Rattle.regalloc2_function.specs.DebugPoints.{DefinesAt}
 use Rattle.regalloc2_function.specs.WellFormed.{IsWellFormed, last_of}
-use Rattle.regalloc2_semantics.specs.Listing.{Item, executed, op_at, no_operand}
+use Rattle.regalloc2_semantics.specs.Listing.{Item, exec_item}
 use Rattle.regalloc2_semantics.specs.Listing.Item.{Move}
 use Rattle.regalloc2_semantics.proofs.CarryRules.{carries_moves}
 use Rattle.regalloc2_semantics.proofs.PushedMoves.{before_part-more, walked-pushed}
 use Rattle.regalloc2_semantics.proofs.MoveInFront.{walked-more, with_moves-more, with_moves-none}
 use Rattle.regalloc2_semantics.specs.Carry.{Carries, Undefined}
 use Rattle.regalloc2_semantics.specs.BlockByPoints.{at_point, walked, before_part, Rising, listed}
-use Rattle.regalloc2_semantics.specs.Blocks.{target_at, IsSound}
+use Rattle.regalloc2_semantics.specs.Blocks.{target_at, HasSoundBlocks}
 use Rattle.regalloc2_semantics.specs.Laws.{ReadsAgreeOnPaths}
 use Rattle.regalloc2_semantics.proofs.SingleDef.{Made, one_operand, not_both, reads_defined}
 use Rattle.regalloc2_semantics.proofs.SingleDef as defined
@@ -43,7 +43,7 @@ use Rattle.regalloc2_fastalloc_proofs.proofs.Moves.StepsAppendEdits.{Pushes, non
 use Rattle.regalloc2_fastalloc_proofs.proofs.Walk.InstsCarry.{AreListed}
 use Rattle.regalloc2_fastalloc_proofs.proofs.Safety.BlocksKeepSafe.{MayInBlocks}
 use Rattle.regalloc2_fastalloc_proofs.proofs.Operands.RecordOverState.{opt_none}
-use Rattle.regalloc2_fastalloc_proofs.proofs.Safety.BranchArgsKeepState.{passes_between}
+use Rattle.regalloc2_fastalloc_proofs.proofs.Safety.BranchArgsKeepState.{processes_branch_between}
 use Rattle.regalloc2_fastalloc_proofs.proofs.Walk.AllBlocksCarry.{begin_between, first_edge}
 use Rattle.regalloc2_fastalloc_proofs.proofs.Inst.ProperInsts.{all_proper}
 use Rattle.regalloc2_debug_proofs.specs.SlotHoldsValue.{ShowsAt}
@@ -62,9 +62,9 @@ use Rattle.regalloc2_fastalloc_proofs.proofs.Inst.ProperInsts.{proper_of}
 module _ (env : MachineValue) (f : FunctionValue) (limited : IsLimited f) (ok : IsWellFormed env f) where
   -- the arguments of a branch keep what holds between instructions, slots and located vregs
   pub branch : BranchKept f
-  branch = branch_kept f ok.counted (passes_between f)
+  branch = branch_kept f ok.counted (processes_branch_between f)
 
-  sound : IsSound f
+  sound : HasSoundBlocks f
   sound = well_formed_are_sound env f ok
 
   pub some_block : 0 < length f.blocks
@@ -156,7 +156,7 @@ module _ (walk : WholeWalk) (m : IsMade walk.f walk.env (Made walk.f) (MayInBloc
               Carries v (walked (inst_at f) (at_point (listed (es ++ (q, n) ∷ []))) (allocs_of out) i 1) (λ p. ⊥) E
           one_more v E i es q n (inl sooner) c = subst (λ l. Carries v l (λ p. ⊥) E) (sym (walked-pushed (inst_at f) q n es (allocs_of out) i 1 sooner)) c
           one_more v E i es q n (inr at) c =
-              let item : Item = executed (inst_at f i) (allocs_of out i) in
+              let item : Item = exec_item (inst_at f i) (allocs_of out i) in
               let L : List Item = before_part (inst_at f) (listed es) (allocs_of out) i 0 item in
               let front_move : Carries v (Move n ∷ L) (λ p. ⊥) E = subst (λ l. Carries v l (λ p. ⊥) E)
               (with_moves-more n [] L ∙ ap (λ l. Move n ∷ l) (with_moves-none L))

@@ -6,16 +6,16 @@ use Rattle.regalloc2_names.specs.declared.OperandPos.{OperandPos}
 use Rattle.regalloc2_names.specs.declared.OperandPos.TheVariants.{Early, Late}
 use Rattle.regalloc2_names.specs.Register.{VirtualRegister, is_vreg}
 use Rattle.regalloc2_names.specs.Operand.{OperandValue, is_reading}
-use Rattle.regalloc2_function.specs.FunctionValue.{FunctionValue, block_at, inst_at}
+use Rattle.regalloc2_function.specs.FunctionValue.{FunctionValue, block_at, inst_at, no_operand}
 use Rattle.regalloc2_function.specs.Machine.{MachineValue}
 use Rattle.regalloc2_function.specs.Path.{Way, Onward, ToSuccessor, end_of, IsPath}
 use Rattle.regalloc2_function.specs.SourceRun.{IsWrittenFirst}
 use Rattle.regalloc2_function.specs.WellFormed.{IsWellFormed}
 use Rattle.regalloc2_function.specs.DebugPaths.{IsGiven}
 use Rattle.regalloc2_function.specs.DebugPoints.{UsesAt, ReadsAt, PassesAt}
-use Rattle.regalloc2_semantics.specs.Listing.{op_at, no_operand}
+use Rattle.regalloc2_function.specs.FunctionValue.{op_at}
 use Rattle.regalloc2_semantics.specs.Carry.{Undefined}
-use Rattle.regalloc2_semantics.specs.Blocks.{names, target_at, IsSound}
+use Rattle.regalloc2_semantics.specs.Blocks.{names, target_at, HasSoundBlocks}
 use Rattle.regalloc2_semantics.specs.Live.{IsLive, read_there, passed_there, IsAside}
 use Rattle.regalloc2_semantics.proofs.Cells.{is_vreg-true}
 use Rattle.regalloc2_semantics.proofs.SingleDef.{reads_defined}
@@ -49,7 +49,7 @@ not_named v ps h = by (names v ps) refl
     by false e = e
 
 module _ (env : MachineValue) (f : FunctionValue) (ok : IsWellFormed env f) (written : IsWrittenFirst f) (v : VirtualRegister) where
-  sound : IsSound f
+  sound : HasSoundBlocks f
   sound = well_formed_are_sound env f ok
 
   -- each path is in a block of the function

@@ -5,12 +5,12 @@ use Rattle.regalloc2_function.specs.OutputValue.{OutputValue, allocs_of, place_a
 use Rattle.regalloc2_live_ranges.specs.declared.InstOperand.{InstOperand}
 
 -- the place of an operand; none where there is none
-abbrev pub operand_place : OutputValue → Option InstOperand → Place
-operand_place out None = NoPlace
-operand_place out (Some o) = place_at (allocs_of out o.inst) o.index
+abbrev pub place_of_operand : OutputValue → Option InstOperand → Place
+place_of_operand out None = NoPlace
+place_of_operand out (Some o) = place_at (allocs_of out o.inst) o.index
 
 -- a virtual register's slot where it has one, else the place of the operand by which it is shown
 abbrev pub shown_place : OutputValue → Place → Option InstOperand → Place
-shown_place out NoPlace by = operand_place out by
+shown_place out NoPlace by = place_of_operand out by
 shown_place out (InRegister r) by = InRegister r
 shown_place out (InSlot n) by = InSlot n

@@ -9,13 +9,13 @@ use Rattle.regalloc2_function.specs.SourceRun.{source_before}
 use Rattle.regalloc2_names.specs.Operand.{is_reading}
 use Rattle.regalloc2_function.specs.AllocatedRun.{after_moves, moves_at, cells_before}
 use Rattle.regalloc2_function.specs.DebugPoints.{DefinesAt}
-use Rattle.regalloc2_semantics.specs.Listing.{op_at}
+use Rattle.regalloc2_function.specs.FunctionValue.{op_at}
 use Rattle.regalloc2_semantics.specs.Carry.{Spares, Undefined}
 use Rattle.regalloc2_semantics.specs.Live.{IsLive, HasEntered}
 use Rattle.regalloc2_semantics.proofs.UnwrittenPlaces.{NoMoveTo}
 
 -- an operand of an instruction reads v in a place
-pub record IsReadIn (f : FunctionValue) (out : OutputValue) (v : VirtualRegister) (p : Place) (i k : ℕ) : Type 0 where
+pub record ReadsInPlace (f : FunctionValue) (out : OutputValue) (v : VirtualRegister) (p : Place) (i k : ℕ) : Type 0 where
   pub within : k < length (inst_at f i).operands
   pub reading : is_reading (op_at (inst_at f i).operands k) ≡ true
   pub vreg : (op_at (inst_at f i).operands k).vreg ≡ v
@@ -38,6 +38,6 @@ pub record IsKeptInSlot (f : FunctionValue) (out : OutputValue) (v : VirtualRegi
       (inst_at f ((end_of f ws).inst + 1)).is_branch ≡ false → ShowsAt f out v p (Onward ∷ ws)
   pub written : (ws : List Way) → IsPath f (Onward ∷ ws) → Undefined (inst_at f (end_of f ws).inst).operands v →
       Undefined (inst_at f ((end_of f ws).inst + 1)).operands v → (inst_at f ((end_of f ws).inst + 1)).is_branch ≡ false →
-      NoMoveTo p (moves_at f out (end_of f (Onward ∷ ws))) ⊎ ((k : ℕ) × IsReadIn f out v p ((end_of f ws).inst + 1) k)
+      NoMoveTo p (moves_at f out (end_of f (Onward ∷ ws))) ⊎ ((k : ℕ) × ReadsInPlace f out v p ((end_of f ws).inst + 1) k)
   pub spared : (ws : List Way) → IsPath f ws → Undefined (inst_at f (end_of f ws).inst).operands v →
       Spares (inst_at f (end_of f ws).inst).operands (allocs_of out (end_of f ws).inst) (inst_at f (end_of f ws).inst).clobbers p

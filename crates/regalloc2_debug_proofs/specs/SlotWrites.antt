@@ -10,17 +10,17 @@ use Rattle.regalloc2_function.specs.DebugPoints.{DefinesAt}
 use Rattle.regalloc2_function.specs.Slots.{StandsInSlot}
 use Rattle.regalloc2_semantics.specs.Carry.{Undefined}
 use Rattle.regalloc2_semantics.specs.Live.{IsLive, HasEntered}
-use Rattle.regalloc2_semantics.specs.Listing.{op_at}
+use Rattle.regalloc2_function.specs.FunctionValue.{op_at}
 use Rattle.regalloc2_names.specs.Operand.{is_def}
 use Rattle.regalloc2_fastalloc_proofs.proofs.Safety.InstsKeepSafe.{IsStoredAt}
-use Rattle.regalloc2_debug_proofs.specs.SlotHoldsValue.{IsReadIn, ShowsAt}
+use Rattle.regalloc2_debug_proofs.specs.SlotHoldsValue.{ReadsInPlace, ShowsAt}
 
 -- where a move may write the place that is v's: behind an instruction that defines v, before one that reads v there, before a branch, or at the beginning of
 -- a block for which the branch into it defines v, or gives v what it defines
 pub data MayWrite (f : FunctionValue) (out : OutputValue) (v : VirtualRegister) (p : Place) : ℕ → Type 0 where
   after_definition : (i k : ℕ) → k < length (inst_at f i).operands → is_def (op_at (inst_at f i).operands k).kind ≡ true →
       (op_at (inst_at f i).operands k).vreg ≡ v → MayWrite f out v p (after i)
-  before_read : (i k : ℕ) → IsReadIn f out v p i k → MayWrite f out v p (before i)
+  before_read : (i k : ℕ) → ReadsInPlace f out v p i k → MayWrite f out v p (before i)
   before_branch : (i : ℕ) → (inst_at f i).is_branch ≡ true → MayWrite f out v p (before i)
   at_begin : (b : ℕ) → b < length f.blocks → IsStoredAt f b v → MayWrite f out v p (before (block_at f b).range.first)
 

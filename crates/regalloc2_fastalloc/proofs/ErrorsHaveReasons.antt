@@ -12,8 +12,8 @@ use Rattle.regalloc2_function.specs.Reasons.IsSoundnessFault.{arguments, definit
 use Rattle.regalloc2_validate.specs.Constraints.{IsFixedFault}
 use Rattle.regalloc2_fastalloc_state.specs.OutOfResources.{Lacks, IsResourceError}
 use Rattle.regalloc2_fastalloc.specs.ErrorReason.{HasFewOperands, PassesAllChecks, IsReason, SomeDoesNotFit, units_at_most}
-use Rattle.regalloc2_validate.specs.Validated.{IsFault}
-use Rattle.regalloc2_validate.specs.Validated.IsFault.{memory, misshapen, unsound, clashing}
+use Rattle.regalloc2_validate.specs.Validated.{IsFunctionFault}
+use Rattle.regalloc2_validate.specs.Validated.IsFunctionFault.{memory, misshapen, unsound, clashing}
 
 shape_reason : (f : FunctionValue) (env : MachineValue) (asked : Bool) {e : RegAllocError} → HasFewOperands f → asked ≡ true → IsShapeFault f e →
     IsReason f env asked e
@@ -36,7 +36,7 @@ fixed_reason : (f : FunctionValue) (env : MachineValue) (asked : Bool) (e : RegA
 fixed_reason f env asked e p on shape sound h = rw h.1 (inl (p, on, clashing shape sound (h.0, refl, h.2)))
 
 -- a fault is a reason, where it is asked for
-pub fault_is_reason : (f : FunctionValue) (env : MachineValue) (asked : Bool) {e : RegAllocError} → HasFewOperands f → asked ≡ true → IsFault f env e →
+pub fault_is_reason : (f : FunctionValue) (env : MachineValue) (asked : Bool) {e : RegAllocError} → HasFewOperands f → asked ≡ true → IsFunctionFault f env e →
     IsReason f env asked e
 fault_is_reason f env asked p on memory = p
 fault_is_reason f env asked p on (misshapen h) = shape_reason f env asked p on h

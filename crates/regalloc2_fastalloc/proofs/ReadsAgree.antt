@@ -14,7 +14,7 @@ use Rattle.regalloc2_function.specs.Path.{Way, end_of, IsPath}
 use Rattle.regalloc2_function.specs.SourceRun.{IsWrittenFirst}
 use Rattle.regalloc2_semantics.specs.BlockByPoints.{block_walked, Rising, EndsQuiet}
 use Rattle.regalloc2_semantics.specs.Blocks.{BlockCarriesOn}
-use Rattle.regalloc2_semantics.specs.Live.{IsLive, HasEntered, HoldsValue, LiveStandInPlaces}
+use Rattle.regalloc2_semantics.specs.Live.{IsLive, HasEntered, HoldsValueAt, LiveStandInPlaces}
 use Rattle.regalloc2_semantics.specs.Laws.{ReadsAgreeOnPaths}
 use Rattle.regalloc2_semantics.proofs.Points.{rising_by}
 use Rattle.regalloc2_semantics.proofs.SingleDef.{Made}
@@ -37,10 +37,10 @@ use Rattle.regalloc2_fastalloc_proofs.proofs.Safety.InstsKeepSafe.{WritesFrom, W
 use Rattle.regalloc2_fastalloc_proofs.proofs.Safety.OutputOfWalk.{IsMade, made_in_order, place_is}
 use Rattle.regalloc2_fastalloc_proofs.proofs.Safety.BlocksKeepSafe.{MayInBlocks}
 use Rattle.regalloc2_fastalloc_proofs.proofs.Safety.FunctionKeepsSafe.{SafeWithin, made_listed_blocks, walk_blocks_good, walk_safe}
-use Rattle.regalloc2_fastalloc_proofs.proofs.Walk.InstBoundaries.{blocks_outside}
+use Rattle.regalloc2_fastalloc_proofs.proofs.Walk.InstBoundaries.{allocs_blocks_outside}
 use Rattle.regalloc2_fastalloc_proofs.proofs.Branches.LocationsAfterBranch.{branch_kept}
 use Rattle.regalloc2_fastalloc_proofs.proofs.Walk.AllBlocksCarry.{begin_between}
-use Rattle.regalloc2_fastalloc_proofs.proofs.Safety.BranchArgsKeepState.{passes_between}
+use Rattle.regalloc2_fastalloc_proofs.proofs.Safety.BranchArgsKeepState.{processes_branch_between}
 use Rattle.regalloc2_fastalloc_proofs.proofs.Slots.InstsLeaveSlots.{writes_sound_in}
 use Rattle.regalloc2_fastalloc_proofs.proofs.BlockEnd.NoMoveForOperand.{IsOutside}
 use Rattle.regalloc2_fastalloc_proofs.proofs.Branches.Arrivals.{Arrive, left_at}
@@ -94,7 +94,7 @@ module _ (walk : WholeWalk) (taken : AreTaken walk.f) (in_place : (i : ℕ) → 
   -- each block carries what the laws on paths want
   made_blocks_carry : (b : ℕ) → BlockCarriesOn f standing b (block_walked f out b)
   made_blocks_carry =
-      blocks_carry walk (passes_between f) m.edits are_listed (λ b. WritesFrom f out.allocs (b + 1))
+      blocks_carry walk (processes_branch_between f) m.edits are_listed (λ b. WritesFrom f out.allocs (b + 1))
       (MayInBlocks f) (λ b lb p s prev i q u walk listed. safe b lb p s prev i q u walk
       (λ j k le less within. sym (are_listed j (omega arith) less k within) ∙ listed j le less k within))
       (λ j k lt less. m.kept.good j k (omega arith) lt less)
@@ -116,7 +116,7 @@ module _ (walk : WholeWalk) (taken : AreTaken walk.f) (in_place : (i : ℕ) → 
   -- it has a slot
   pub made_live_slots : IsWrittenFirst f → (ws : List Way) → IsPath f ws → HasEntered f ws → (v : VirtualRegister) → IsLive f v (end_of f ws) →
       slot_in last v.number ≢ NoPlace
-  made_live_slots written ws path entered v live = used_slots walk (passes_between f) v
+  made_live_slots written ws path entered v live = used_slots walk (processes_branch_between f) v
       (live_is_used env f ok written ws path entered v live)
 
   -- all as `run` promises it
@@ -129,13 +129,13 @@ module _ (walk : WholeWalk) (taken : AreTaken walk.f) (in_place : (i : ℕ) → 
   }
     where
       whole : IsWhole last
-      whole = (at_walks_end walk (passes_between f)).whole
+      whole = (at_walks_end walk (processes_branch_between f)).whole
 
       arrive : Arrive f (allocs_of out) (slots_at last) standing
       arrive = arrives env f ok (allocs_of out) (slots_at last)
 
       by_arrival : (ws : List Way) → IsPath f ws → HasEntered f ws → (v : VirtualRegister) → IsLive f v (end_of f ws) → (p : Place) →
-          ArrivesAt f out (λ w. number_of (slot_in last w.number)) (end_of f ws).block v p → HoldsValue f out ws p v
+          ArrivesAt f out (λ w. number_of (slot_in last w.number)) (end_of f ws).block v p → HoldsValueAt f out ws p v
       by_arrival ws path entered v live p (defined e k j edge d) =
           made_live_stand written ws path entered v _ live (arrive.own (end_of f ws).block e k j v edge d (live_used f v (end_of f ws) live))
       by_arrival ws path entered v live p (given e k n j edge lt is d) =
@@ -146,7 +146,7 @@ module _ (walk : WholeWalk) (taken : AreTaken walk.f) (in_place : (i : ℕ) → 
           let there : q ≢ NoPlace = made_live_slots written ws path entered v live in
           let at : standing (end_of f ws).block v ≡ slots_at last v.number = arrive.other (end_of f ws).block v (live_needed f v (end_of f ws) live)
           (λ e k edge own. no_own e k own.0 edge own.1) (λ e k n edge lt is own. no_given e k n own.0 edge lt is own.1) in
-          subst (λ r. HoldsValue f out ws r v) (is_numbered last.slots.count q (whole.below v.number) there)
+          subst (λ r. HoldsValueAt f out ws r v) (is_numbered last.slots.count q (whole.below v.number) there)
           (made_live_stand written ws path entered v q live (at ∙ opt_some q there))
 
   -- the place by which a label's virtual register is shown holds its value
@@ -156,7 +156,7 @@ module _ (walk : WholeWalk) (taken : AreTaken walk.f) (in_place : (i : ℕ) → 
   made_label_shown fits owned tame written l r k =
       (label_shown walk m fits written owned tame (made_blocks_agree written) standing (record {
         arrive = arrives env f ok (allocs_of out) (slots_at last);
-        placed = walk_places_defs walk (passes_between f) are_listed
+        placed = walk_places_defs walk (processes_branch_between f) are_listed
             (λ j k lt less. m.kept.good j k (omega arith) lt less) taken in_place;
         live = made_live_stand written;
         safe = safe;
@@ -167,7 +167,7 @@ module _ (fresh : FreshWalk) (empty : Blank fresh.begin) (fit : Fit fresh.begin)
   open fresh use {env, f, fits, limited, ok, taken, blank, places, begin, last, n, m, sizes, by_last, nobody, slots, none, units, machine, walks}
 
   bare : (c : ℕ) (ps : List Place) (u : StateValue) → AllocsBlocks f blank begin c ps u → IsOutside u
-  bare = blocks_outside (kept_of (Made f) f (all_proper env f limited ok) (branch_kept f ok.counted (passes_between f))) ok.follow blank begin
+  bare = allocs_blocks_outside (kept_of (Made f) f (all_proper env f limited ok) (branch_kept f ok.counted (processes_branch_between f))) ok.follow blank begin
       (begin_between f begin empty fit) (record { nowhere = empty.nowhere; nobody = empty.nobody })
 
   -- at its end

@@ -10,7 +10,7 @@ use Rattle.regalloc2_function.specs.Fitting.{allocatable_count, count_below, reg
 use Rattle.regalloc2_function.specs.FunctionValue.{FunctionValue, InstValue, no_inst}
 use Rattle.regalloc2_function.specs.Machine.{MachineValue, is_allocatable}
 use Rattle.regalloc2_fastalloc_state.proofs.CountingLaws.{count_le}
-use Rattle.regalloc2_validate.specs.Constraints.{op_at}
+use Rattle.regalloc2_function.specs.FunctionValue.{op_at}
 use Rattle.regalloc2_unspilled_proofs.specs.SpillFree.{FitInRegs, HasRegOperandsOnly}
 use Rattle.regalloc2_fastalloc.specs.Promise.{HasRegistersForAll}
 

@@ -10,7 +10,7 @@ use Rattle.regalloc2_function.specs.Fitting.{Fits}
 use Rattle.regalloc2_function.specs.Machine.{MachineValue}
 use Rattle.regalloc2_function.specs.WellFormed.{IsWellFormed}
 use Rattle.regalloc2_validate.specs.Constraints.{AreUnlimited, BranchDefinesInPlace, IsUnsupported}
-use Rattle.regalloc2_validate.specs.Validated.{IsFault}
+use Rattle.regalloc2_validate.specs.Validated.{IsFunctionFault}
 
 -- The first test needs no memory: fewer than 2^32 operands.
 abbrev pub HasFewOperands : FunctionValue → Type 0
@@ -29,7 +29,7 @@ pub record PassesAllChecks (f : FunctionValue) (env : MachineValue) (asked : Boo
 
 -- the function isn't well-formed, where that is asked for
 abbrev pub FailsValidation : FunctionValue → MachineValue → Bool → RegAllocError → Type 0
-FailsValidation f env asked e = HasFewOperands f × (asked ≡ true) × IsFault f env e
+FailsValidation f env asked e = HasFewOperands f × (asked ≡ true) × IsFunctionFault f env e
 
 -- an instruction has too few registers
 abbrev pub SomeDoesNotFit : FunctionValue → MachineValue → Type 0

@@ -22,10 +22,10 @@ use Rattle.regalloc2_function.specs.DebugPoints.{AreDebugLocations}
 use Rattle.regalloc2_function.specs.Fitting.{IsProperPlace, PlacesAreProper, allocatable_count}
 use Rattle.regalloc2_function.specs.Slots.{Owner, OfVReg, OfBranch, IsSlotOf, AreSlotsOwned, StandsInSlot}
 use Rattle.regalloc2_function.specs.Values.{Meaning, SameNumbers, numbers, source_reads}
-use Rattle.regalloc2_validate.specs.Constraints.{op_at}
+use Rattle.regalloc2_function.specs.FunctionValue.{op_at}
 use Rattle.regalloc2_branch_defs.specs.BranchDefs.{DefinesNumber, IsEdgeInto}
-use Rattle.regalloc2_fastalloc_proofs.specs.BlockStart.{no_vreg}
-use Rattle.regalloc2_semantics.specs.Live.{IsLive, HasEntered, HoldsValue}
+use Rattle.regalloc2_names.specs.Register.{no_vreg}
+use Rattle.regalloc2_semantics.specs.Live.{IsLive, HasEntered, HoldsValueAt}
 use Rattle.regalloc2_fastalloc.specs.ErrorReason.{units_at_most}
 
 -- on every path each use of the function reads a number, whatever the instructions mean
@@ -65,7 +65,7 @@ pub record LiveInSlots (f : FunctionValue) (out : OutputValue) : Type 0 where
   pub slot : VirtualRegister → ℕ
   pub operands : (v : VirtualRegister) (n : ℕ) → StandsInSlot f out v n → slot v ≡ n
   pub live : (ws : List Way) → IsPath f ws → HasEntered f ws → (v : VirtualRegister) → IsLive f v (end_of f ws) → (p : Place) →
-      ArrivesAt f out slot (end_of f ws).block v p → HoldsValue f out ws p v
+      ArrivesAt f out slot (end_of f ws).block v p → HoldsValueAt f out ws p v
 
 -- Slots take no more units than these bounds.
 pub record SlotsAreBounded (f : FunctionValue) (out : OutputValue) : Type 0 where

@@ -4,8 +4,8 @@
 -- Main theorem: `own_moves` in `BranchEndsBlock`. A branch with its own moves carries a vreg that it doesn't define
 -- from where it may be relied on before the branch to where it may be behind it, and leaves slots to their vregs
 -- (`keeps_own`). For a return: `return_owes` in `LastInst`.
--- `calm_end`: allocating the operands adds no edit. `NoMoveForOperand` is one operand (`gets_calm`, `defines_calm`),
--- `NoMoveInPasses` one step of a pass (`one_calm`), `NoMoveInLastInst` both passes (`still_end`);
+-- `calm_end`: allocating the operands adds no edit. `NoMoveForOperand` is one operand (`allocs_operand_calm`, `frees_alloc_calm`),
+-- `NoMoveInPasses` one step of a pass (`processes_operand_calm`), `NoMoveInLastInst` both passes (`still_end`);
 -- `Safety/BlocksKeepSafe` uses it too, since no edit may be behind a block. `BranchAlone` (`branched`) is a branch so:
 -- its moves are before it, each to a register or to the place of a use. `BranchEndsBlock` imports it. `LastInst` is
 -- apart from these: what is wanted behind a block (`owed_there`).

@@ -4,8 +4,8 @@
 -- Main theorem: `laid_both` in `AllOperands`. Both passes keep the record `Laid`: which operands have claimed a place,
 -- which are done, and that the listing behind carries each known vreg from where the record needs it.
 -- All files keep the records `Ready` and `Laid`. One operand: `ClaimAndUse` and `ClaimKeepsRecord`, then
--- `AllocOperand` (it gets a place, `gets_step`); `FreeDef` and `DefRecord` (a definition ends its vreg,
--- `defines_step`); `RecordAfterOperand` joins the two. `UsesAndPlainDefs` and `ReuseDefs` are one step of a pass.
+-- `AllocOperand` (it gets a place, `allocs_operand_step`); `FreeDef` and `DefRecord` (a definition ends its vreg,
+-- `frees_alloc_step`); `RecordAfterOperand` joins the two. `UsesAndPlainDefs` and `ReuseDefs` are one step of a pass.
 -- `WellFormedInsts` (`orderly`, `knows`) gives the premises for a well-formed function; `DefinedNumbers` says which
 -- numbers operands define. `AllocsSoFar` is the record of `Safety` (`Filled`, `IsTame`) and isn't used here;
 -- `SelectedPlace` and `OperandRules` serve contracts of the code.

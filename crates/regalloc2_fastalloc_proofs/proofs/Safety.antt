@@ -1,13 +1,13 @@
 -- The safety invariant: slots have one owner, edits have legal ends, and there are no stack-to-stack moves.
--- Read first: the record `IsSafe` in the specs, then `sends_kept` in `StepsKeepSafe`, a typical step.
+-- Read first: the record `IsSafe` in the specs, then `adds_move_if_kept` in `StepsKeepSafe`, a typical step.
 -- Depends on `Changes`, on `Operands` for the operands so far, and on `Slots` for growth.
 -- Main theorem: `walk_blocks_good` in `FunctionKeepsSafe`. From a fresh state, where between blocks no vreg is in a
 -- register, allocating a well-formed function ends in a safe state, with a good place for each operand. `OutputOfWalk`
 -- turns that into what is promised of the output.
--- Upwards from `sends_kept`: `OperandKeepsSafe` (`gets_kept`), `OperandPassesKeepSafe` (`lates_kept`, `earlies_kept`),
--- `InstKeepsSafe` (`allocates_kept`, and `allocates_last_kept` for a block's last instruction), `InstsKeepSafe` (what
+-- Upwards from `adds_move_if_kept`: `OperandKeepsSafe` (`allocs_operand_kept`), `OperandPassesKeepSafe` (`late_operands_kept`, `early_operands_kept`),
+-- `InstKeepsSafe` (`allocs_inst_kept`, and `allocs_inst_last_kept` for a block's last instruction), `InstsKeepSafe` (what
 -- the walk may write); then, with `BlockStartKeepsSafe`, `StoresKeepSafe` and `BranchKeepsSafe`, `BlocksKeepSafe`
--- (`blocks_kept`). `InitialState` is its start; `WellFormedKeepsSafe` and `OperandAssumptions` give its premises.
+-- (`allocs_blocks_kept`). `InitialState` is its start; `WellFormedKeepsSafe` and `OperandAssumptions` give its premises.
 -- `StepsKeepState` and `BranchArgsKeepState` are of another kind: a whole state (each table the other's inverse), on
 -- which the folders on what listings carry rest. `MachineRegs` serves `Walk/UsesReadOwnDefs`; `StateKept` serves other
 -- crates alone.

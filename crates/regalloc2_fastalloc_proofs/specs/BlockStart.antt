@@ -1,7 +1,6 @@
 -- What a block's beginning does to the tables.
 use Rattle.std.specs.Prelude.{ℕ, ◌≡◌, ◌≢◌, ◌+◌, ◌<◌, not, List, length, None, slice_index_or}
-use Rattle.regalloc2_names.specs.declared.RegClass.TheVariants.{Int}
-use Rattle.regalloc2_names.specs.Register.{Register, VirtualRegister}
+use Rattle.regalloc2_names.specs.Register.{Register, VirtualRegister, no_vreg}
 use Rattle.regalloc2_names.specs.Place.{Place, NoPlace, is_place}
 use Rattle.regalloc2_fastalloc_state.specs.declared.inst_regs.InstRegs.{InstRegs}
 use Rattle.regalloc2_fastalloc_state.specs.StateParts.{IsNewest, alloc_of, vreg_of_preg, GetsSpillSlot, SetsAlloc}
@@ -18,10 +17,6 @@ pub data ReloadParam (point : ℕ) (v : VirtualRegister) (t : InstRegs) (old : S
 
 abbrev pub ReloadsParam : ℕ → VirtualRegister → InstRegs → InstRegs → StateValue → StateValue → Type 0
 ReloadsParam point v t u old new = ReloadParam point v t old (next u new)
-
--- a vreg that no function has
-abbrev pub no_vreg : VirtualRegister
-no_vreg = record { number = 0; class = Int }
 
 -- the first k parameters, in order
 pub data ReloadsParams (point : ℕ) (params : List VirtualRegister) (t : InstRegs) (old : StateValue) : ℕ → InstRegs → StateValue → Type 0 where

@@ -13,14 +13,14 @@ use Rattle.regalloc2_function.specs.SourceRun.{arguments_at}
 use Rattle.regalloc2_function.specs.WellFormed.{last_of}
 use Rattle.regalloc2_semantics.specs.Blocks.{HasEdge, target_at}
 use Rattle.regalloc2_branch_defs.specs.BranchDefs.{DefinesNumber}
-use Rattle.regalloc2_parts.specs.AtOnce.{ends_of, names, in_turn, HasOneSourceEach}
+use Rattle.regalloc2_parts.specs.AtOnce.{ends_of, own_names, in_turn, HasOneSourceEach}
 use Rattle.regalloc2_fastalloc_state.specs.declared.inst_regs.InstRegs.{InstRegs}
 use Rattle.regalloc2_parts.specs.declared.scratch_pool.ScratchPair.{ScratchPair}
 use Rattle.regalloc2_fastalloc_state.specs.StateParts.{SpillSlotsValue, alloc_of, SetsAlloc, GetsSpillSlot, SlotsHaveOneOwner, AddsTempSlots, later_end}
 use Rattle.regalloc2_fastalloc_state.specs.StateParts.{NoneIsFrom, later_slot, most_units}
-use Rattle.regalloc2_fastalloc_proofs.specs.BlockStart.{no_vreg}
+use Rattle.regalloc2_names.specs.Register.{no_vreg}
 use Rattle.regalloc2_fastalloc_state.specs.ScratchPool.{Moves, pushed, HasTooFewSlots}
-use Rattle.regalloc2_fastalloc_state.specs.InstRegs.{IsAvailableAt, both}
+use Rattle.regalloc2_fastalloc_state.specs.InstRegs.{IsAvailableAt, both_positions}
 use Rattle.regalloc2_fastalloc_proofs.specs.InstSteps.{StateValue, Outcome, next, no_register, InTurn, SameMachine, EvictPReg}
 use Rattle.regalloc2_fastalloc_proofs.specs.InstSteps.{EvictsPReg, MayHold}
 
@@ -33,13 +33,14 @@ pub record AreNextTempSlots (s : SpillSlotsValue) (class : RegClass) (pair : Scr
 
 -- a scratch register for moves of a class: the one that the machine keeps for moves, or an allocatable one that is free at both positions
 abbrev pub MayBeScratch : InstRegs → StateValue → RegClass → Register → Type 0
-MayBeScratch inst_regs t class r = (slice_index_or t.dedicated_scratch (class_code class) None ≡ Some r) ⊎ (MayHold t class r × IsAvailableAt inst_regs both r)
+MayBeScratch inst_regs t class r = (slice_index_or t.dedicated_scratch (class_code class) None ≡ Some r)
+    ⊎ (MayHold t class r × IsAvailableAt inst_regs both_positions r)
 
 abbrev pub IsScratchRegFor : InstRegs → StateValue → RegClass → Place → Type 0
 IsScratchRegFor inst_regs t class p = (r : Register) × (p ≡ InRegister r) × MayBeScratch inst_regs t class r
 
 -- no allocatable register, and none that is kept for moves, is in memory
-pub record AreApart (t : StateValue) : Type 0 where
+pub record RegsAvoidStack (t : StateValue) : Type 0 where
   pub allocatable : (r : Register) → has_register t.allocatable r ≡ true → has_register t.fixed_stack r ≡ false
   pub dedicated_scratch : (class : RegClass) (r : Register) → slice_index_or t.dedicated_scratch (class_code class) None ≡ Some r
       → has_register t.fixed_stack r ≡ false
@@ -80,9 +81,9 @@ pub record OrdersMoves (inst_regs : InstRegs) (class : RegClass) (given made : M
   pub lrus : new.lrus ≡ old.lrus
   pub lends : (taken : ℕ) × (taken ≤ 2) × AddsTempSlots old.slots new.slots class taken
   pub grows : old.slots.count ≤ new.slots.count
-  pub assigned : (m : Place × Place × Unit {0}) → Contains given m → in_turn (ends_of made) names m.1 ≡ m.0
+  pub assigned : (m : Place × Place × Unit {0}) → Contains given m → in_turn (ends_of made) own_names m.1 ≡ m.0
   pub kept : (q : Place) → q ≢ NoPlace → (IsScratchPlace inst_regs old class q → ⊥) → ((m : Place × Place × Unit {0}) → Contains given m → m.1 ≢ q) →
-      in_turn (ends_of made) names q ≡ q
+      in_turn (ends_of made) own_names q ≡ q
   pub each : All (IsOrdered inst_regs class given old new) made
   pub idle : given ≡ [] → (made ≡ []) × (new ≡ old)
 
@@ -145,8 +146,8 @@ of_class c [] = []
 of_class c (g ∷ gs) = if is_class c g.class then (g.from, g.to, tt) ∷ of_class c gs else of_class c gs
 
 -- what the branch at the end of the block b defines itself
-abbrev pub IsOwn : FunctionValue → ℕ → VirtualRegister → Type 0
-IsOwn f b v = (j : ℕ) × DefinesNumber (inst_at f (last_of (block_at f b))).operands v.number j
+abbrev pub IsOwnDef : FunctionValue → ℕ → VirtualRegister → Type 0
+IsOwnDef f b v = (j : ℕ) × DefinesNumber (inst_at f (last_of (block_at f b))).operands v.number j
 
 -- The first n parameters of an edge with their arguments: each parameter's slot is made, then the argument is spilled, and its value is to go from slot to
 -- slot. Nothing is done for arguments that the branch defines itself.
@@ -175,13 +176,14 @@ pub data GathersMoves (f : FunctionValue) (b point : ℕ) (t : InstRegs) (old : 
   no_edge : GathersMoves f b point t old 0 t old []
   one_edge : (k : ℕ) (given more : List ClassMove) (u w : InstRegs) (m n : StateValue) → k < length (block_at f b).succs
       → GathersMoves f b point t old k u m given
-      → GathersEdgeMoves (IsOwn f b) point (block_at f (target_at f b k)).params (arguments_at f b k) u m given (length (block_at f (target_at f b k)).params)
+      → GathersEdgeMoves (IsOwnDef f b) point (block_at f (target_at f b k)).params (arguments_at f b k) u m given
+          (length (block_at f (target_at f b k)).params)
       w n more →
       GathersMoves f b point t old (k + 1) w n more
 
 abbrev pub GatherMoves : FunctionValue → ℕ → ℕ → InstRegs → StateValue → Outcome (InstRegs × List ClassMove) → Type 0
 GatherMoves f b point t old = InTurn (length (block_at f b).succs) (λ k g m. GathersMoves f b point t old k g.0 m g.1)
-    (λ k g m. GatherEdge (IsOwn f b) point (block_at f (target_at f b k)).params (arguments_at f b k) g.0 m g.1 no_register)
+    (λ k g m. GatherEdge (IsOwnDef f b) point (block_at f (target_at f b k)).params (arguments_at f b k) g.0 m g.1 no_register)
 
 -- a branch at the end of the block b passes its arguments: all are spilled, then the moves of each class are pushed
 pub record ProcessesBranch (f : FunctionValue) (b i : ℕ) (t u : InstRegs) (old new : StateValue) : Type 0 where
@@ -212,8 +214,8 @@ pub record AreOf (ints floats vectors : Moves) (given : List ClassMove) : Type 0
   pub vector : vectors ≡ of_class Vector given
 
 -- all of these are vregs of the tables
-abbrev pub AreKnown : List VirtualRegister → StateValue → Type 0
-AreKnown vs t = All (λ v. v.number < length t.places.vreg_allocs) vs
+abbrev pub AreVRegsInTables : List VirtualRegister → StateValue → Type 0
+AreVRegsInTables vs t = All (λ v. v.number < length t.places.vreg_allocs) vs
 
 -- the parameters of all edges out of a block are distinct by their numbers
 abbrev pub ParametersDiffer : FunctionValue → ℕ → Type 0
@@ -225,8 +227,8 @@ ParametersDiffer f b = (k l i j : ℕ) → HasEdge f b k → HasEdge f b l → (
 pub record MayBranch (f : FunctionValue) (b : ℕ) (t : StateValue) : Type 0 where
   pub targets : (k : ℕ) → HasEdge f b k → target_at f b k < length f.blocks
   pub counted : (k : ℕ) → HasEdge f b k → length (arguments_at f b k) ≡ length (block_at f (target_at f b k)).params
-  pub parameters : (k : ℕ) → HasEdge f b k → AreKnown (block_at f (target_at f b k)).params t
-  pub arguments : (k : ℕ) → HasEdge f b k → AreKnown (arguments_at f b k) t
+  pub parameters : (k : ℕ) → HasEdge f b k → AreVRegsInTables (block_at f (target_at f b k)).params t
+  pub arguments : (k : ℕ) → HasEdge f b k → AreVRegsInTables (arguments_at f b k) t
 
 -- the machine's registers stay, and so do the sizes of slots and the number of vregs; so many temporary slots more are added at most
 pub record AddsTempSlotsAtMost (more : ℕ) (old new : StateValue) : Type 0 where

@@ -19,9 +19,10 @@ use Rattle.regalloc2_function.specs.OutputValue.{MoveValue}
 use Rattle.regalloc2_fastalloc_state.specs.StateParts.{VRegAllocsValue, SpillSlotsValue, alloc_of, vreg_of_preg, SetsAlloc, GetsSpillSlot, slot_name}
 use Rattle.regalloc2_fastalloc_state.specs.StateParts.{needs_scratch_reserve}
 use Rattle.regalloc2_fastalloc_state.specs.Choice.{chosen}
-use Rattle.regalloc2_fastalloc_state.specs.InstRegs.{IsAvailableAt, RemovesAvailable, SameAvailable, positions_of, both, awaited_of, free_count, is_free}
+use Rattle.regalloc2_fastalloc_state.specs.InstRegs.{IsAvailableAt, RemovesAvailable, SameAvailable, positions_of, both_positions, awaited_of, free_count}
+use Rattle.regalloc2_fastalloc_state.specs.InstRegs.{is_free}
 use Rattle.regalloc2_fastalloc_state.specs.InstRegs.{is_available_at, is_free_throughout}
-use Rattle.regalloc2_validate.specs.Constraints.{op_at}
+use Rattle.regalloc2_function.specs.FunctionValue.{op_at}
 use Rattle.regalloc2_fastalloc_state.specs.declared.inst_regs.InstRegs.{InstRegs}
 use Rattle.regalloc2_fastalloc_state.specs.declared.inst_regs.Positions.{Positions}
 use Rattle.regalloc2_fastalloc_state.specs.declared.request.Requirement.{Requirement}
@@ -150,14 +151,14 @@ abbrev pub EvictsPReg : ℕ → Register → InstRegs → InstRegs → StateValu
 EvictsPReg point r t u old new = EvictPReg point r t old (next u new)
 
 -- and of all vregs but that of one number
-pub data EvictOthers (point : ℕ) (r : Register) (v : VirtualRegister) (t : InstRegs) (old : StateValue) : Outcome InstRegs → Type 0 where
+pub data EvictOtherVRegs (point : ℕ) (r : Register) (v : VirtualRegister) (t : InstRegs) (old : StateValue) : Outcome InstRegs → Type 0 where
   own : {u : InstRegs} {new : StateValue} (w : VirtualRegister) → vreg_of_preg old.places r ≡ Some w → w.number ≡ v.number → u ≡ t → new ≡ old →
-      EvictOthers point r v t old (next u new)
+      EvictOtherVRegs point r v t old (next u new)
   others : {o : Outcome InstRegs} → ((w : VirtualRegister) → vreg_of_preg old.places r ≡ Some w → w.number ≢ v.number) → EvictPReg point r t old o
-      → EvictOthers point r v t old o
+      → EvictOtherVRegs point r v t old o
 
-abbrev pub EvictsOthers : ℕ → Register → VirtualRegister → InstRegs → InstRegs → StateValue → StateValue → Type 0
-EvictsOthers point r v t u old new = EvictOthers point r v t old (next u new)
+abbrev pub EvictsOtherVRegs : ℕ → Register → VirtualRegister → InstRegs → InstRegs → StateValue → StateValue → Type 0
+EvictsOtherVRegs point r v t u old new = EvictOtherVRegs point r v t old (next u new)
 
 -- a place meets what is asked
 unfoldable pub MeetsRequirement : StateValue → Requirement → Place → Type 0
@@ -203,7 +204,7 @@ awaited_less (InPReg r) class awaited = awaited
 -- a place is claimed: a register is emptied of others, and is held
 pub data ClaimsPlace (point : ℕ) (o : OperandRequest) (p : Place) (t u : InstRegs) (old new : StateValue) : Type 0 where
   in_slot : (k : ℕ) → p ≡ InSlot k → SameAvailable t u → new ≡ old → ClaimsPlace point o p t u old new
-  in_register : (r : Register) (m : InstRegs) → p ≡ InRegister r → EvictsOthers point r o.vreg t m old new → RemovesAvailable m u r o.positions
+  in_register : (r : Register) (m : InstRegs) → p ≡ InRegister r → EvictsOtherVRegs point r o.vreg t m old new → RemovesAvailable m u r o.positions
       → ClaimsPlace point o p t u old new
 
 -- a register counts as the one of its class that was used last
@@ -225,9 +226,9 @@ pub record TakesPlace (point : ℕ) (o : OperandRequest) (p : Place) (t u : Inst
   pub uses : UsesPlace o.requirement p claimed new
 
 -- or the register can't be emptied
-abbrev pub ClaimPlace : ℕ → OperandRequest → Place → InstRegs → StateValue → Outcome InstRegs → Type 0
-ClaimPlace point o p t old (next u new) = TakesPlace point o p t u old new
-ClaimPlace point o p t old no_register = (r : Register) × (p ≡ InRegister r) × EvictOthers point r o.vreg t old no_register
+abbrev pub TakePlace : ℕ → OperandRequest → Place → InstRegs → StateValue → Outcome InstRegs → Type 0
+TakePlace point o p t old (next u new) = TakesPlace point o p t u old new
+TakePlace point o p t old no_register = (r : Register) × (p ≡ InRegister r) × EvictOtherVRegs point r o.vreg t old no_register
 
 -- an operand gets a place
 pub record AllocsOperand (point : ℕ) (o : OperandRequest) (p : Place) (t u : InstRegs) (old new : StateValue) : Type 0 where
@@ -241,7 +242,7 @@ pub record AllocsOperand (point : ℕ) (o : OperandRequest) (p : Place) (t u : I
 -- no place is there for it, or the place can't be claimed
 pub data LacksPlace (point : ℕ) (o : OperandRequest) (t : InstRegs) (old : StateValue) : Type 0 where
   in_pick : SelectPlace t o old no_register → LacksPlace point o t old
-  in_clear : (p : Place) (m : StateValue) → SelectsPlace t o p old m → ClaimPlace point o p t m no_register → LacksPlace point o t old
+  in_clear : (p : Place) (m : StateValue) → SelectsPlace t o p old m → TakePlace point o p t m no_register → LacksPlace point o t old
 
 abbrev pub AllocOperand : ℕ → OperandRequest → InstRegs → StateValue → Outcome (Place × InstRegs) → Type 0
 AllocOperand point o t old (next (p, u) new) = AllocsOperand point o p t u old new
@@ -260,7 +261,7 @@ abbrev pub is_another : Place → Place → Bool
 is_another p q = not (is_place p NoPlace) && not (is_place p q)
 
 -- the definition of a vreg in a place: it leaves the tables, and is moved to where it was awaited and to its slot; a return sends nothing
-pub record FreesDef (point : ℕ) (v : VirtualRegister) (is_ret : Bool) (p : Place) (t u : InstRegs) (old new : StateValue) : Type 0 where
+pub record FreesAlloc (point : ℕ) (v : VirtualRegister) (is_ret : Bool) (p : Place) (t u : InstRegs) (old new : StateValue) : Type 0 where
   pub left : StateValue
   pub inst_regs : InstRegs
   pub middle : StateValue
@@ -285,9 +286,9 @@ pub data DefIsNotFreed (point : ℕ) (v : VirtualRegister) (is_ret : Bool) (p : 
       && not (is_place (slot_name old.slots v.number) (alloc_of old.places v.number)))) p (slot_name old.slots v.number) inst_regs middle no_register
       → DefIsNotFreed point v is_ret p t old
 
-abbrev pub FreeDef : ℕ → VirtualRegister → Bool → Place → InstRegs → StateValue → Outcome InstRegs → Type 0
-FreeDef point v is_ret p t old (next u new) = FreesDef point v is_ret p t u old new
-FreeDef point v is_ret p t old no_register = DefIsNotFreed point v is_ret p t old
+abbrev pub FreeAlloc : ℕ → VirtualRegister → Bool → Place → InstRegs → StateValue → Outcome InstRegs → Type 0
+FreeAlloc point v is_ret p t old (next u new) = FreesAlloc point v is_ret p t u old new
+FreeAlloc point v is_ret p t old no_register = DefIsNotFreed point v is_ret p t old
 
 -- the use of a vreg in a place: it is there from now on if it had no location
 pub data LocatesUse (v : VirtualRegister) (p : Place) (old new : StateValue) : Type 0 where
@@ -300,7 +301,7 @@ pub record AllocsDefOp (point : ℕ) (o : OperandRequest) (is_ret : Bool) (p : P
   pub inst_regs : InstRegs
   pub middle : StateValue
   pub gets : AllocsOperand point o p t inst_regs old middle
-  pub defines : FreesDef point o.vreg is_ret p inst_regs u middle new
+  pub defines : FreesAlloc point o.vreg is_ret p inst_regs u middle new
   pub awaited : u.awaited ≡ awaited_less o.requirement o.vreg.class t.awaited
 
 pub record AllocsUse (point : ℕ) (o : OperandRequest) (p : Place) (t u : InstRegs) (old new : StateValue) : Type 0 where
@@ -313,7 +314,7 @@ pub record AllocsUse (point : ℕ) (o : OperandRequest) (p : Place) (t u : InstR
 pub data DefIsNotAllocated (point : ℕ) (o : OperandRequest) (is_ret : Bool) (t : InstRegs) (old : StateValue) : Type 0 where
   in_get : AllocOperand point o t old no_register → DefIsNotAllocated point o is_ret t old
   in_define : (p : Place) (inst_regs : InstRegs) (middle : StateValue) → AllocsOperand point o p t inst_regs old middle →
-      FreeDef point o.vreg is_ret p inst_regs middle no_register → DefIsNotAllocated point o is_ret t old
+      FreeAlloc point o.vreg is_ret p inst_regs middle no_register → DefIsNotAllocated point o is_ret t old
 
 abbrev pub AllocDefOp : ℕ → OperandRequest → Bool → InstRegs → StateValue → Outcome (Place × InstRegs) → Type 0
 AllocDefOp point o is_ret t old (next (p, u) new) = AllocsDefOp point o is_ret p t u old new
@@ -356,7 +357,7 @@ abbrev pub def_request : OperandValue → OperandRequest
 def_request o = record { vreg = o.vreg; requirement = requirement_of o.constraint; positions = positions_of o; is_def = true }
 
 abbrev pub reuse_request : OperandValue → OperandValue → OperandRequest
-reuse_request o named = record { vreg = o.vreg; requirement = reuse_requirement_of named.constraint; positions = both; is_def = true }
+reuse_request o named = record { vreg = o.vreg; requirement = reuse_requirement_of named.constraint; positions = both_positions; is_def = true }
 
 -- an operand is allocated; here has the places of the instruction before, there after
 pub data ProcessesOperand (i : ℕ) (is_ret : Bool) (operands : List OperandValue) (k : ℕ) (here there : List Place) (t u : InstRegs)
@@ -431,11 +432,11 @@ pub data NeedsFixedReg (operands : List OperandValue) (k : ℕ) (r : Register) (
       p ≡ record { early = false; late = true } → NeedsFixedReg operands k r p
 
 -- whether an operand asks for any register of a class, and how many do
-abbrev pub asks : RegClass → OperandValue → Bool
-asks class o = is_under_reg o.constraint && nat_eq (class_code o.vreg.class) (class_code class)
+abbrev pub asks_reg_of_class : RegClass → OperandValue → Bool
+asks_reg_of_class class o = is_under_reg o.constraint && nat_eq (class_code o.vreg.class) (class_code class)
 
 abbrev pub asking : List OperandValue → RegClass → ℕ
-asking operands class = count_by (asks class) operands
+asking operands class = count_by (asks_reg_of_class class) operands
 
 -- an operand is fixed to the register
 abbrev pub IsFixedIn : List OperandValue → Register → Type 0
@@ -486,7 +487,7 @@ pub data EvictsFixed (point : ℕ) (operands : List OperandValue) (t : InstRegs)
       → ((n : ℕ) (r : Register) → (op_at operands k).constraint ≡ Reuse n → n < length operands → (op_at operands n).constraint ≡ FixedReg r → ⊥) →
       EvictsFixed point operands t old (k + 1) u m
   of_fixed : (k : ℕ) (r : Register) (u w : InstRegs) (m n : StateValue) → EvictsFixed point operands t old k u m → (op_at operands k).constraint ≡ FixedReg r →
-      EvictsOthers point r (op_at operands k).vreg u w m n → EvictsFixed point operands t old (k + 1) w n
+      EvictsOtherVRegs point r (op_at operands k).vreg u w m n → EvictsFixed point operands t old (k + 1) w n
   of_reuse : (k j : ℕ) (r : Register) (u w : InstRegs) (m n : StateValue) → EvictsFixed point operands t old k u m → (op_at operands k).constraint ≡ Reuse j →
       j < length operands → (op_at operands j).constraint ≡ FixedReg r
       → EvictsPReg point r u w m n → EvictsFixed point operands t old (k + 1) w n

@@ -42,13 +42,13 @@ pub record IsMoveOfValue (env : MachineValue) (Known : VirtualRegister → Type 
   pub written : (n : ℕ) → e.1.to ≡ InSlot n → Writes e.0 vreg n
 
 -- a register through which moves of a class go: an allocatable one, or the one that is kept for them
-abbrev pub IsThrough : MachineValue → RegClass → Register → Type 0
-IsThrough env class r = ((is_allocatable env r.class r ≡ true) × (r.class ≡ class)) ⊎ (scratch_of env class ≡ Some r)
+abbrev pub IsMoveReg : MachineValue → RegClass → Register → Type 0
+IsMoveReg env class r = ((is_allocatable env r.class r ≡ true) × (r.class ≡ class)) ⊎ (scratch_of env class ≡ Some r)
 
 -- an end of a move of a branch's arguments: such a register, or a slot, a vreg's or a temporary one
 abbrev pub IsEndOfArgMove : MachineValue → SpillSlotsValue → RegClass → Place → Type 0
 IsEndOfArgMove env slots class NoPlace = ⊥
-IsEndOfArgMove env slots class (InRegister r) = IsThrough env class r
+IsEndOfArgMove env slots class (InRegister r) = IsMoveReg env class r
 IsEndOfArgMove env slots class (InSlot n) = n < slots.count
 
 -- a move of a branch's arguments of a class; into a known vreg's slot where Writes lets its value be written there, or into one that is no vreg's

@@ -20,39 +20,39 @@ units_in sizes owner = slice_index sizes (class_code (class_of_owner owner))
 abbrev pub start_in : Bool → ℕ → ℕ → ℕ
 start_in by_last size name = if by_last then name + 1 - size else name
 
-abbrev pub start_of : List ℕ → Bool → OwnedSlot → ℕ
-start_of sizes by_last c = start_in by_last (units_in sizes c.owner) c.name
+abbrev pub start_of_slot : List ℕ → Bool → OwnedSlot → ℕ
+start_of_slot sizes by_last c = start_in by_last (units_in sizes c.owner) c.name
 
-abbrev pub end_of : List ℕ → Bool → OwnedSlot → ℕ
-end_of sizes by_last c = start_of sizes by_last c + units_in sizes c.owner
+abbrev pub end_of_slot : List ℕ → Bool → OwnedSlot → ℕ
+end_of_slot sizes by_last c = start_of_slot sizes by_last c + units_in sizes c.owner
 
 -- it lies at its units, which are aligned to their number and lie below the count
 pub record IsLaidOut (sizes : List ℕ) (by_last : Bool) (count : ℕ) (c : OwnedSlot) : Type 0 where
   pub some : 0 < units_in sizes c.owner
   pub named : by_last ≡ true → units_in sizes c.owner ≤ c.name + 1
-  pub aligned : start_of sizes by_last c % units_in sizes c.owner ≡ 0
-  pub within : end_of sizes by_last c ≤ count
+  pub aligned : start_of_slot sizes by_last c % units_in sizes c.owner ≡ 0
+  pub within : end_of_slot sizes by_last c ≤ count
 
 -- each lies behind those that were made before it
-abbrev pub AreApart : List ℕ → Bool → List OwnedSlot → Type 0
-AreApart sizes by_last made = (i j : ℕ) (d : OwnedSlot) → i < j → j < length made →
-    end_of sizes by_last (slice_index_or made j d) ≤ start_of sizes by_last (slice_index_or made i d)
+abbrev pub AreSlotsApart : List ℕ → Bool → List OwnedSlot → Type 0
+AreSlotsApart sizes by_last made = (i j : ℕ) (d : OwnedSlot) → i < j → j < length made →
+    end_of_slot sizes by_last (slice_index_or made j d) ≤ start_of_slot sizes by_last (slice_index_or made i d)
 
 -- no two have one owner
 abbrev pub HaveDistinctOwners : List OwnedSlot → Type 0
 HaveDistinctOwners made = (i j : ℕ) (d : OwnedSlot) → i < j → j < length made → (slice_index_or made i d).owner ≢ (slice_index_or made j d).owner
 
 -- the slot of a vreg is the one that the tables give it
-abbrev pub IsOwn : SpillSlotsValue → OwnedSlot → Type 0
-IsOwn s c = (v : VirtualRegister) → c.owner ≡ OfVReg v → slot_name s v.number ≡ InSlot c.name
+abbrev pub IsOwnSlot : SpillSlotsValue → OwnedSlot → Type 0
+IsOwnSlot s c = (v : VirtualRegister) → c.owner ≡ OfVReg v → slot_name s v.number ≡ InSlot c.name
 
 -- all slots lie so, and those of known vregs are among them
 pub record AreLaidOut (Known : VirtualRegister → Type 0) (s : SpillSlotsValue) (made : List OwnedSlot) : Type 0 where
   pub each : All (IsLaidOut s.sizes s.by_last s.count) made
-  pub apart : AreApart s.sizes s.by_last made
+  pub apart : AreSlotsApart s.sizes s.by_last made
   pub differ : HaveDistinctOwners made
   pub known : (v : VirtualRegister) → Known v → (k : ℕ) → slot_name s v.number ≡ InSlot k → Contains made (record { owner = OfVReg v; name = k })
-  pub own : All (IsOwn s) made
+  pub own : All (IsOwnSlot s) made
 
 -- the slots once some more were made, of all of which something holds
 pub record LaysOut (Known : VirtualRegister → Type 0) (Holds : OwnedSlot → Type 0) (s : SpillSlotsValue) (before_it : List OwnedSlot) : Type 0 where
@@ -62,8 +62,8 @@ pub record LaysOut (Known : VirtualRegister → Type 0) (Holds : OwnedSlot → T
   pub all : All Holds made
 
 -- a name is that of a slot that was made
-abbrev pub IsNamed : List OwnedSlot → ℕ → Type 0
-IsNamed made n = (c : OwnedSlot) × Contains made c × (c.name ≡ n)
+abbrev pub IsNameOfSlot : List OwnedSlot → ℕ → Type 0
+IsNameOfSlot made n = (c : OwnedSlot) × Contains made c × (c.name ≡ n)
 
 -- moves at a point may name the slot of an owner: a branch's slot serves the moves before that branch alone
 abbrev pub ServesAt : ℕ → Owner → Type 0

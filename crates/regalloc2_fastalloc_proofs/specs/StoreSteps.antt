@@ -10,25 +10,25 @@ use Rattle.regalloc2_function.specs.OutputValue.{MoveValue}
 use Rattle.regalloc2_function.specs.SourceRun.{arguments_at}
 use Rattle.regalloc2_function.specs.WellFormed.{last_of}
 use Rattle.regalloc2_semantics.specs.Blocks.{target_at}
-use Rattle.regalloc2_semantics.specs.Listing.{op_at}
+use Rattle.regalloc2_function.specs.FunctionValue.{op_at}
 use Rattle.regalloc2_semantics.specs.Stores.{Store, store_moves, IsOneOf, AreInOrder}
 use Rattle.regalloc2_branch_defs.specs.BranchDefs.{DefinesNumber, IsStoredOperand, IsEdgeInto, fixed_definition}
 use Rattle.regalloc2_fastalloc_state.specs.StateParts.{SpillSlotsValue, GetsSpillSlot, NoneIsFrom, slot_name}
 use Rattle.regalloc2_fastalloc_proofs.specs.InstSteps.{StateValue, Outcome, next, no_register, SameMachine, MayHold}
-use Rattle.regalloc2_fastalloc_proofs.specs.BlockStart.{no_vreg}
+use Rattle.regalloc2_names.specs.Register.{no_vreg}
 
 -- the operands of the branch at a block's end
 abbrev pub branch_operands : FunctionValue → ℕ → List OperandValue
 branch_operands f e = (inst_at f (last_of (block_at f e))).operands
 
 -- a place by the register to which a definition is fixed, or else by its vreg's slot
-abbrev pub place_by : Option Register → Place → Place
-place_by (Some r) s = InRegister r
-place_by None s = s
+abbrev pub fixed_or_slot : Option Register → Place → Place
+fixed_or_slot (Some r) s = InRegister r
+fixed_or_slot None s = s
 
 -- where a branch leaves what an operand defines
 abbrev pub defined_place : SpillSlotsValue → OperandValue → Place
-defined_place slots o = place_by (fixed_definition o) (slot_name slots o.vreg.number)
+defined_place slots o = fixed_or_slot (fixed_definition o) (slot_name slots o.vreg.number)
 
 -- On the edge k out of the block e the value of the operand j of the branch is stored for v: it defines v, is fixed, and something else uses v; or v
 -- is a parameter that is given what it defines, and has a slot.

@@ -147,8 +147,8 @@ abbrev pub marked : Marks → VRegAllocsValue
 marked m = record { vreg_allocs = set m.vreg_allocs m.number m.place; vreg_in_preg = m.filled; in_registers = m.now_listed }
 
 -- one register is emptied, and another filled
-pub settles_by_marks : (m : Marks) → SetsAlloc (unmarked m) (marked m) m.vreg m.place
-settles_by_marks m =
+pub sets_alloc_by_marks : (m : Marks) → SetsAlloc (unmarked m) (marked m) m.vreg m.place
+sets_alloc_by_marks m =
     let T : List Place = m.vreg_allocs in
     let n : ℕ = m.number in
     let p : Place = m.place in
@@ -168,7 +168,7 @@ pub inverse_marked : (m : Marks) → ((r : Register) → m.place ≡ InRegister 
     → ((r : Register) → m.place ≡ InRegister r → (vreg_of_preg (unmarked m) r ≡ None) ⊎ (vreg_of_preg (unmarked m) r ≡ Some m.vreg))
     → IsInverse (unmarked m) → IsInverse (marked m)
 inverse_marked m small alone i = inverse_kept (unmarked m) (marked m) m.vreg m.place (rw (← m.numbered) m.known)
-    (m.fills.long ∙ m.empties.long ∙ i.registers) small alone i (settles_by_marks m)
+    (m.fills.long ∙ m.empties.long ∙ i.registers) small alone i (sets_alloc_by_marks m)
 
 -- the vreg of a number is in the list exactly if it is in a register
 pub listed_if : (t : VRegAllocsValue) (n : ℕ) (p : Place) → p ≡ alloc_of t n → IsInverse t → HasIf (is_in_register p) t.in_registers n

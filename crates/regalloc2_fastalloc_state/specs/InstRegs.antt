@@ -51,5 +51,5 @@ pub record SameAvailable (old new : InstRegs) : Type 0 where
 abbrev pub positions_of : OperandValue → Positions
 positions_of o = record { early = not (is_def o.kind) || not (is_late o.position); late = is_def o.kind || is_late o.position }
 
-abbrev pub both : Positions
-both = record { early = true; late = true }
+abbrev pub both_positions : Positions
+both_positions = record { early = true; late = true }

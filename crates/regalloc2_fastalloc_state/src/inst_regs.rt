@@ -3,7 +3,7 @@
 ghost use Rattle.std.specs.Prelude.{IsTrue, ◌≡◌, ◌+◌, ◌-◌, ◌&&◌, ◌||◌, ◌∷◌, [], true, None, Some, not, length, min, slice_index_or, slice_set};
 ghost use Rattle.regalloc2_names.specs.Register.{Register, class_code, is_register};
 ghost use Rattle.regalloc2_names.specs.RegisterSet.{has_register};
-ghost use Rattle.regalloc2_fastalloc_state.specs.InstRegs.{RemovesAvailable, IsAvailableAt, SameAvailable, awaited_of, both};
+ghost use Rattle.regalloc2_fastalloc_state.specs.InstRegs.{RemovesAvailable, IsAvailableAt, SameAvailable, awaited_of, both_positions};
 ghost use Rattle.regalloc2_fastalloc_state.specs.InstRegs.{is_available_at, is_free_throughout, positions_of};
 
 use regalloc2_names::{Operand, OperandKind, OperandPos, PReg, PRegSet, RegClass};
@@ -20,7 +20,7 @@ pub struct Positions {
 impl Positions {
     /// Both.
     pub fn both() -> Positions
-        ensures { result ≡ both }
+        ensures { result ≡ both_positions }
     {
         Positions {
             early: true,

@@ -10,14 +10,14 @@ use Rattle.regalloc2_names.specs.Register.{Register, is_register}
 use Rattle.regalloc2_names.specs.RegisterSet.{has_register, registers_of}
 use Rattle.regalloc2_function.specs.Fitting.{register_number}
 use Rattle.regalloc2_fastalloc_state.specs.declared.inst_regs.InstRegs.{InstRegs}
-use Rattle.regalloc2_fastalloc_state.specs.InstRegs.{IsAvailableAt, both, free_count, is_free, is_free_throughout}
+use Rattle.regalloc2_fastalloc_state.specs.InstRegs.{IsAvailableAt, both_positions, free_count, is_free, is_free_throughout}
 use Rattle.regalloc2_fastalloc_state.proofs.CountingLaws.{count_same}
 use Rattle.regalloc2_fastalloc_state.proofs.SetMembers.{members_of_class}
 use Rattle.regalloc2_semantics.proofs.Cells.{is_register-true}
 
 -- the members of a set of free registers, met with that of a class
 pub free_counted : (set free own allocatable : PRegSet) (inst_regs : InstRegs) (class : RegClass) →
-    ((r : Register) → has_register free r ≡ true → IsAvailableAt inst_regs both r) →
+    ((r : Register) → has_register free r ≡ true → IsAvailableAt inst_regs both_positions r) →
     ((r : Register) → is_free_throughout inst_regs r ≡ true → has_register free r ≡ true)
     → ((r : Register) → (has_register own r ≡ true) ↔ ((r.class ≡ class) × (has_register allocatable r ≡ true))) →
     ((r : Register) → has_register set r ≡ (has_register free r && has_register own r))

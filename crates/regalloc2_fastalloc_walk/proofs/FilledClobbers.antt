@@ -13,7 +13,7 @@ use Rattle.regalloc2_names.specs.RegisterSet.{has_register, registers_of, regist
 use Rattle.regalloc2_fastalloc_state.specs.StateParts.{vreg_of_preg}
 use Rattle.regalloc2_fastalloc_state.specs.declared.inst_regs.InstRegs.{InstRegs}
 use Rattle.regalloc2_fastalloc_proofs.specs.InstSteps.{StateValue, EvictsPReg, empty, EvictsEach, none_left, one_more}
-use Rattle.regalloc2_fastalloc_proofs.proofs.Evictions.PushedAndRemoved.{clears_empty}
+use Rattle.regalloc2_fastalloc_proofs.proofs.Evictions.PushedAndRemoved.{evicts_preg_empty}
 
 -- the members of a word that a test lets through are those of the word that has only these bits
 kept_step : {X : Type 0} (p : X → Bool) (b : Bool) (x : X) (xs ys : List X) → ys ≡ filter p xs →
@@ -73,7 +73,7 @@ module _ (point : ℕ) (p : Register → Bool) where
       let head : q ≡ r = cc in
       let tail : qs ≡ kept = cc in
       let now : EvictsPReg point r a b k l = subst (λ (x : Register). EvictsPReg point x a b k l) head first in
-      one_more r rs a b d k l n now (rest b l (λ x lt out. clears_empty point r a b k l now x lt (h x lt out))
+      one_more r rs a b d k l n now (rest b l (λ x lt out. evicts_preg_empty point r a b k l now x lt (h x lt out))
       (subst (λ ys. EvictsEach point ys b l d n) tail more))
 
   -- so emptying those that it lets through is emptying all

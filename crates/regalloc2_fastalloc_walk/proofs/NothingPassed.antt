@@ -11,7 +11,7 @@ use Rattle.regalloc2_semantics.specs.Blocks.{HasEdge, target_at}
 use Rattle.regalloc2_parts.specs.AtOnce.{in_turn}
 use Rattle.regalloc2_fastalloc_state.specs.declared.inst_regs.InstRegs.{InstRegs}
 use Rattle.regalloc2_fastalloc_proofs.specs.InstSteps.{StateValue}
-use Rattle.regalloc2_fastalloc_proofs.specs.BranchSteps.{GathersEdgeMoves, GathersMoves, IsOwn, OrdersMoves, ProcessesBranch, Pushes, no_edge, none_gathered}
+use Rattle.regalloc2_fastalloc_proofs.specs.BranchSteps.{GathersEdgeMoves, GathersMoves, IsOwnDef, OrdersMoves, ProcessesBranch, Pushes, no_edge, none_gathered}
 use Rattle.regalloc2_fastalloc_proofs.specs.BranchSteps.{of_class, one_edge}
 use Rattle.regalloc2_fastalloc_proofs.proofs.Moves.ParallelMovesOrdered.{none_taken}
 
@@ -45,14 +45,14 @@ pushes_nothing point inst_regs class t = record {
 module _ (f : FunctionValue) (b : ℕ) (t : InstRegs) (old : StateValue)
     (empty : (k : ℕ) → HasEdge f b k → (block_at f (target_at f b k)).params ≡ []) where
   -- no moves are gathered on the first edges
-  gathers_nothing : (point n : ℕ) → n ≤ length (block_at f b).succs → GathersMoves f b point t old n t old []
-  gathers_nothing point zero le = no_edge
-  gathers_nothing point (suc n) le =
+  gathers_moves_nothing : (point n : ℕ) → n ≤ length (block_at f b).succs → GathersMoves f b point t old n t old []
+  gathers_moves_nothing point zero le = no_edge
+  gathers_moves_nothing point (suc n) le =
       let lt : n < length (block_at f b).succs = omega arith in
       let none : length (block_at f (target_at f b n)).params ≡ 0 = ap length (empty n lt) in
-      let Edge : ℕ → Type 0 = λ m. GathersEdgeMoves (IsOwn f b) point (block_at f (target_at f b n)).params (arguments_at f b n) t old [] m t old [] in
+      let Edge : ℕ → Type 0 = λ m. GathersEdgeMoves (IsOwnDef f b) point (block_at f (target_at f b n)).params (arguments_at f b n) t old [] m t old [] in
       subst (λ (m : ℕ). GathersMoves f b point t old m t old []) (add-one n)
-      (one_edge n [] [] t t old old lt (gathers_nothing point n (omega arith)) (subst Edge (sym none) none_gathered))
+      (one_edge n [] [] t t old old lt (gathers_moves_nothing point n (omega arith)) (subst Edge (sym none) none_gathered))
 
   -- so the branch does nothing
   pub processes_nothing : (i : ℕ) → ProcessesBranch f b i t t old old
@@ -62,7 +62,7 @@ module _ (f : FunctionValue) (b : ℕ) (t : InstRegs) (old : StateValue)
     gathered = old;
     ints = old;
     floats = old;
-    gathers = gathers_nothing (before i) (length (block_at f b).succs) (omega arith);
+    gathers = gathers_moves_nothing (before i) (length (block_at f b).succs) (omega arith);
     int = pushes_nothing (before i) t Int old;
     float = pushes_nothing (before i) t Float old;
     vector = pushes_nothing (before i) t Vector old;

@@ -12,7 +12,7 @@ use Rattle.regalloc2_branch_defs.specs.declared.DefSite.{DefSite}
 use Rattle.regalloc2_branch_defs.proofs.BlockEnds.{site_defines}
 use Rattle.regalloc2_fastalloc_state.specs.declared.inst_regs.InstRegs.{InstRegs}
 use Rattle.regalloc2_fastalloc_proofs.specs.InstSteps.{StateValue, no_register}
-use Rattle.regalloc2_fastalloc_proofs.specs.BranchSteps.{ClassMove, GathersEdgeMoves, none_gathered, one_gathered, own_argument, IsOwn}
+use Rattle.regalloc2_fastalloc_proofs.specs.BranchSteps.{ClassMove, GathersEdgeMoves, none_gathered, one_gathered, own_argument, IsOwnDef}
 use Rattle.regalloc2_fastalloc_proofs.specs.BranchSteps.{GatherEdge}
 use Rattle.regalloc2_fastalloc_walk.specs.OwnDefs.{IsOwnBy}
 
@@ -30,13 +30,13 @@ site_found f t are once n i j here = by_answer (site_of t n) refl
 
 -- what the tables say that the branch at a block's end defines is its own, and the other way round
 pub own_by : {A : Type 0} (f : FunctionValue) (t : BranchDefs A) → AreBranchDefsOf f t → (b i : ℕ) → i ≡ last_of (block_at f b) → (v : VirtualRegister) →
-    IsOwnBy t i v → IsOwn f b v
+    IsOwnBy t i v → IsOwnDef f b v
 own_by f t are b i last v own =
     let s = are.site v.number (record { branch = i; index = own.0 }) own.1 in
     (own.0, subst (λ (n : ℕ). DefinesNumber (inst_at f n).operands v.number own.0) last s.defines)
 
 pub by_own : {A : Type 0} (f : FunctionValue) (t : BranchDefs A) → AreBranchDefsOf f t → DefinedOnce f → (b i : ℕ) → i ≡ last_of (block_at f b) →
-    i < length f.insts → (inst_at f i).is_branch ≡ true → (v : VirtualRegister) → IsOwn f b v → IsOwnBy t i v
+    i < length f.insts → (inst_at f i).is_branch ≡ true → (v : VirtualRegister) → IsOwnDef f b v → IsOwnBy t i v
 by_own f t are once b i last lt branch v own = (
   own.0,
   site_found f t are once v.number i own.0 (record {

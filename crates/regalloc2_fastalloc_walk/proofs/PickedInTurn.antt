@@ -9,9 +9,10 @@ use Rattle.regalloc2_names.specs.declared.OperandKind.TheVariants.{Def, Use}
 use Rattle.regalloc2_names.specs.declared.OperandPos.{OperandPos}
 use Rattle.regalloc2_names.specs.declared.OperandPos.TheVariants.{Early, Late}
 use Rattle.regalloc2_names.specs.Operand.{OperandValue, is_def, is_fixed_nonallocatable, is_late, is_reading}
-use Rattle.regalloc2_parts.specs.Picked.{is_use, left_from, stands_early, stands_late, uses}
+use Rattle.regalloc2_parts.specs.Picked.{is_use_operand, left_from, stands_early, stands_late, is_use_kind}
 use Rattle.regalloc2_fastalloc_walk.specs.OperandsAt.{is_at}
-use Rattle.regalloc2_validate.specs.Constraints.{op_at, no_operand}
+use Rattle.regalloc2_function.specs.FunctionValue.{op_at}
+use Rattle.regalloc2_function.specs.FunctionValue.{no_operand}
 
 module _ (test : OperandValue → Bool) (ops : List OperandValue) where
   -- the operand at an index is the next where it passes
@@ -99,10 +100,10 @@ pub not_there : (pos : OperandPos) (o : OperandValue) → is_at pos o ≡ false 
 not_there Early o e h = let other = early_elsewhere o.position e in absurd cc
 not_there Late o e h = let other = late_elsewhere o.position e in absurd cc
 
-by_kind : (k : OperandKind) (b : Bool) → uses k ≡ false → (not (is_def k) && b) ≡ false
+by_kind : (k : OperandKind) (b : Bool) → is_use_kind k ≡ false → (not (is_def k) && b) ≡ false
 by_kind Def b e = refl
 by_kind Use b e = absurd cc
 
 -- an operand that isn't picked as a use doesn't read
-pub no_use_reads : (o : OperandValue) → is_use o ≡ false → is_reading o ≡ false
+pub no_use_reads : (o : OperandValue) → is_use_operand o ≡ false → is_reading o ≡ false
 no_use_reads o e = by_kind o.kind (not (is_fixed_nonallocatable o)) e

@@ -17,13 +17,14 @@ use Rattle.regalloc2_fastalloc_state.specs.declared.inst_regs.InstRegs.{InstRegs
 use Rattle.regalloc2_fastalloc_walk.specs.declared.reserve_regs.ReservedRegs.{ReservedRegs}
 use Rattle.regalloc2_fastalloc_state.specs.InstRegs.{RemovesAvailable, awaited_of, is_free_throughout}
 use Rattle.regalloc2_fastalloc_state.proofs.ArraysByClass.{zeros}
-use Rattle.regalloc2_validate.specs.Constraints.{op_at, no_operand}
-use Rattle.regalloc2_fastalloc_proofs.specs.InstSteps.{StateValue, NeedsFixedReg, own, named, IsFixedIn, ReservesRegs, asks, asking}
+use Rattle.regalloc2_function.specs.FunctionValue.{op_at}
+use Rattle.regalloc2_fastalloc_proofs.specs.InstSteps.{StateValue, NeedsFixedReg, own, named, IsFixedIn, ReservesRegs, asks_reg_of_class, asking}
 use Rattle.regalloc2_fastalloc_proofs.specs.InstSteps.{EvictsFixed, none_cleared, not_fixed}
-use Rattle.regalloc2_fastalloc_walk.specs.ReserveSteps.{IsKnown, Shrinks, Grows, IsNewlyReserved, IsReserved, ReservesRegForOperand, TakesOnly}
+use Rattle.regalloc2_fastalloc_walk.specs.ReserveSteps.{IsMachineReg, Shrinks, KeepsReserved, IsNewlyReserved, IsReserved, ReservesRegForOperand, TakesOnly}
 use Rattle.regalloc2_fastalloc_walk.specs.ReserveSteps.{TakesFixed, AwaitsOne, ReservesOnly, OperandReserves, RegIsNotReserved}
 use Rattle.regalloc2_fastalloc_proofs.specs.InstSteps.{RegsAreNotReserved, SameButOrder, unknown, shared}
 use Rattle.regalloc2_fastalloc_proofs.proofs.BlockEnd.NoMoveInPasses.{overlap_cases}
+use Rattle.regalloc2_function.specs.FunctionValue.{no_operand}
 
 -- no register becomes available where nothing changes
 pub shrinks_none : (t : InstRegs) → Shrinks t t
@@ -107,7 +108,7 @@ held_now false same before now e a b = absurd cc
 held_now true false before now e a b = absurd cc
 
 -- a register of the machine that is reserved and then removed from the available ones is reserved as it has to be
-pub reserved_held : (t : StateValue) (r : Register) (p : Positions) (u w : InstRegs) (c d : ReservedRegs) → IsKnown t r → IsNewlyReserved c d r p →
+pub reserved_held : (t : StateValue) (r : Register) (p : Positions) (u w : InstRegs) (c d : ReservedRegs) → IsMachineReg t r → IsNewlyReserved c d r p →
     RemovesAvailable u w r p → IsReserved t r p w c d
 reserved_held t r p u w c d known claimed h = record {
   known = known;
@@ -139,7 +140,7 @@ reserved_more t r p u w c d e h s x y = record {
 -- what the first k operands reserved
 pub record Reserving (ops : List OperandValue) (k : ℕ) (t u : InstRegs) (c : ReservedRegs) (old : StateValue) : Type 0 where
   pub shrinks : Shrinks t u
-  pub known : (j : ℕ) (r : Register) (p : Positions) → j < k → NeedsFixedReg ops j r p → IsKnown old r
+  pub known : (j : ℕ) (r : Register) (p : Positions) → j < k → NeedsFixedReg ops j r p → IsMachineReg old r
   pub claimed_early : (j : ℕ) (r : Register) (p : Positions) → j < k → NeedsFixedReg ops j r p → p.early ≡ true → has_register c.early r ≡ true
   pub claimed_late : (j : ℕ) (r : Register) (p : Positions) → j < k → NeedsFixedReg ops j r p → p.late ≡ true → has_register c.late r ≡ true
   pub held_early : (j : ℕ) (r : Register) (p : Positions) → j < k → NeedsFixedReg ops j r p → p.early ≡ true → has_register u.early r ≡ false
@@ -188,7 +189,7 @@ module _ (ops : List OperandValue) (k : ℕ) (t u w : InstRegs) (c d : ReservedR
   pub reserving_more : Reserving ops (k + 1) t w d old
   reserving_more = record {
     shrinks = shrinks_then t u w h.shrinks s.shrinks;
-    known = λ j r p lt. newest (λ x. NeedsFixedReg ops x r p → IsKnown old r) j lt (λ l. h.known j r p l) (λ a. (s.reserved r p a).known);
+    known = λ j r p lt. newest (λ x. NeedsFixedReg ops x r p → IsMachineReg old r) j lt (λ l. h.known j r p l) (λ a. (s.reserved r p a).known);
     claimed_early = λ j r p lt. newest (λ x. NeedsFixedReg ops x r p → p.early ≡ true → has_register d.early r ≡ true) j lt
         (λ l a e. s.grows.early r (h.claimed_early j r p l a e)) (λ a e. (s.reserved r p a).claimed.early e);
     claimed_late = λ j r p lt. newest (λ x. NeedsFixedReg ops x r p → p.late ≡ true → has_register d.late r ≡ true) j lt
@@ -248,7 +249,8 @@ pub awaiting_none : (ops : List OperandValue) (t : InstRegs) → Awaiting ops 0 
 awaiting_none ops t e class = ap (λ xs. slice_index xs (class_code class)) e ∙ zeros class
 
 asking_few : (ops : List OperandValue) (k : ℕ) (class : RegClass) → k < length ops → asking (take k ops) class ≤ k
-asking_few ops k class lt = (let a = count_by-le-length (asks class) (take k ops) in let b = length-take-le k ops (omega (arith, lt)) in omega (arith, a, b))
+asking_few ops k class lt = (let a = count_by-le-length (asks_reg_of_class class) (take k ops) in let b = length-take-le k ops (omega (arith, lt)) in omega
+    (arith, a, b))
 
 -- operand k is counted if it is under `Reg`: then the count is that of the first k + 1 operands, as long as it fits in 64 bits
 pub awaiting_more : (ops : List OperandValue) (k : ℕ) (t u w : InstRegs) → k < length ops → k < 18446744073709551615 → AwaitsOne ops k u w →
@@ -257,9 +259,9 @@ awaiting_more ops k t u w lt small one h e class =
     let was = h e class in
     let few = asking_few ops k class lt in
     let now = one class (omega (arith, was, few, small)) in
-    elim (cases_Bool (asks class (op_at ops k))) [
-      | inl asked ↦ (let n = rw asked at now in let m = count_by_more_yes (asks class) ops k no_operand lt asked in omega (arith, was, n, m))
-      | inr unasked ↦ (let n = rw unasked at now in let m = count_by_more_no (asks class) ops k no_operand lt unasked in omega (arith, was, n, m))
+    elim (cases_Bool (asks_reg_of_class class (op_at ops k))) [
+      | inl asked ↦ (let n = rw asked at now in let m = count_by_more_yes (asks_reg_of_class class) ops k no_operand lt asked in omega (arith, was, n, m))
+      | inr unasked ↦ (let n = rw unasked at now in let m = count_by_more_no (asks_reg_of_class class) ops k no_operand lt unasked in omega (arith, was, n, m))
     ]
 
 -- once all operands have reserved what they need and are counted, the instruction's registers are reserved
@@ -278,7 +280,7 @@ reserves_all ops k t u c old e w h = record {
 }
 
 -- what is reserved stays so where nothing changes
-pub grows_none : (c : ReservedRegs) → Grows c c
+pub grows_none : (c : ReservedRegs) → KeepsReserved c c
 grows_none c = record { early = λ r h. h; late = λ r h. h }
 
 -- an operand that claims nothing
@@ -295,7 +297,7 @@ reserves_nothing ops k t c old none = record {
 -- one that claims a register
 pub reserves_it : {ops : List OperandValue} {k : ℕ} {t u : InstRegs} {c d : ReservedRegs} {old : StateValue} {q : Register} {o : Positions} →
     ((r : Register) (p : Positions) → NeedsFixedReg ops k r p → (r ≡ q) × (p ≡ o)) →
-    k < length ops → NeedsFixedReg ops k q o → Shrinks t u → TakesOnly q t u → Grows c d → ReservesOnly c d q o → IsReserved old q o u c d →
+    k < length ops → NeedsFixedReg ops k q o → Shrinks t u → TakesOnly q t u → KeepsReserved c d → ReservesOnly c d q o → IsReserved old q o u c d →
     ReservesRegForOperand ops k t u c d old
 reserves_it {ops} {k} {t} {u} {c} {d} {old} {q} {o} only lt claim s taken g added h = record {
   shrinks = s;

@@ -7,7 +7,7 @@ use Rattle.regalloc2_names.specs.Place.{Place, NoPlace, InRegister, InSlot, is_i
 use Rattle.regalloc2_names.specs.Point.{after}
 use Rattle.regalloc2_names.specs.Operand.{OperandValue, is_def, is_fixed, is_fixed_nonallocatable, is_reading}
 use Rattle.regalloc2_names.specs.Register.{Register, VirtualRegister}
-use Rattle.regalloc2_validate.specs.Constraints.{op_at}
+use Rattle.regalloc2_function.specs.FunctionValue.{op_at}
 use Rattle.regalloc2_fastalloc_state.specs.declared.inst_regs.InstRegs.{InstRegs}
 use Rattle.regalloc2_fastalloc_state.specs.declared.request.OperandRequest.{OperandRequest}
 use Rattle.regalloc2_fastalloc_state.specs.declared.request.Requirement.{Requirement}

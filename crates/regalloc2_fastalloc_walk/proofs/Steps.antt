@@ -5,7 +5,7 @@ use Rattle.regalloc2_names.specs.declared.RegAllocError.{RegAllocError}
 use Rattle.regalloc2_names.specs.Register.{Register, VirtualRegister}
 use Rattle.regalloc2_fastalloc_state.specs.declared.inst_regs.InstRegs.{InstRegs}
 use Rattle.regalloc2_fastalloc_proofs.proofs.Evictions.PushedAndRemoved.{same_then}
-use Rattle.regalloc2_fastalloc_proofs.specs.InstSteps.{StateValue, SameButOrder, SameMachine, no_register, EvictPReg, EvictOthers, others}
+use Rattle.regalloc2_fastalloc_proofs.specs.InstSteps.{StateValue, SameButOrder, SameMachine, no_register, EvictPReg, EvictOtherVRegs, others}
 use Rattle.regalloc2_fastalloc_proofs.proofs.Evictions.FixedUsed.{same_used}
 use Rattle.regalloc2_fastalloc_state.specs.OutOfResources.{IsResourceErrorIn}
 use Rattle.regalloc2_fastalloc_state.specs.StateParts.{AllAtOrAfter}
@@ -55,6 +55,6 @@ outcome_of (Ok x) p q ok err = ok p
 outcome_of (Err e) p q ok err = err e q
 
 -- a register that can't be emptied of others can't be emptied
-pub stops_others : {point : ℕ} {r : Register} {v : VirtualRegister} {t : InstRegs} {old : StateValue} → EvictOthers point r v t old no_register →
+pub stops_others : {point : ℕ} {r : Register} {v : VirtualRegister} {t : InstRegs} {old : StateValue} → EvictOtherVRegs point r v t old no_register →
     EvictPReg point r t old no_register
 stops_others (others not_own stops) = stops

@@ -15,7 +15,7 @@ use Rattle.regalloc2_function.specs.FunctionValue.{FunctionValue, block_at, inst
 use Rattle.regalloc2_function.specs.SourceRun.{arguments_at}
 use Rattle.regalloc2_function.specs.WellFormed.{last_of}
 use Rattle.regalloc2_semantics.specs.Blocks.{target_at}
-use Rattle.regalloc2_semantics.specs.Listing.{op_at}
+use Rattle.regalloc2_function.specs.FunctionValue.{op_at}
 use Rattle.regalloc2_semantics.proofs.SingleDef.{DefinesAt, TakesAt, one_operand, one_param as one_taken, not_both}
 use Rattle.regalloc2_semantics.proofs.Soundness.{well_formed_are_sound}
 use Rattle.regalloc2_branch_defs.specs.BranchDefs.{AreStoredOperands, DefinesNumber, IsEdgeInto, IsSite, IsStoredOperand}
@@ -25,10 +25,10 @@ use Rattle.regalloc2_branch_defs.specs.declared.DefSite.{DefSite}
 use Rattle.regalloc2_branch_defs.proofs.BlockEnds.{last_within}
 use Rattle.regalloc2_branch_defs.proofs.EdgeNotes.{fixed_defines}
 use Rattle.regalloc2_fastalloc_state.specs.StateParts.{SpillSlotsValue, slot_name}
-use Rattle.regalloc2_fastalloc_proofs.specs.BlockStart.{no_vreg}
+use Rattle.regalloc2_names.specs.Register.{no_vreg}
 use Rattle.regalloc2_fastalloc_proofs.specs.BlockSteps.{MayBeAllocated}
 use Rattle.regalloc2_fastalloc_proofs.specs.StoreSteps.{IsStoredFor, branch_operands, given, its_own}
-use Rattle.regalloc2_fastalloc_walk.specs.BranchStores.{IsGiven, ListsGiven, ListsParams, ListsStores, is_for, listed, no_param, no_store, not_given}
+use Rattle.regalloc2_fastalloc_walk.specs.BranchStores.{IsArgumentStored, ListsGiven, ListsParams, ListsStores, is_for, listed, no_param, no_store, not_given}
 use Rattle.regalloc2_fastalloc_walk.specs.BranchStores.{one_param, own_store}
 use Rattle.regalloc2_fastalloc_walk.specs.declared.store.StoredDef.{StoredDef}
 use Rattle.regalloc2_fastalloc_walk.proofs.CountedOnce.{one_counted, two_counted}
@@ -52,7 +52,7 @@ module _ {A : Type 0} (defs : BranchDefs A) (branch : ℕ) (slots : SpillSlotsVa
   argument_at k = slice_index_or arguments k no_vreg
 
   -- each is of the old list, or of a parameter
-  pub listed_each : (P : StoredDef → Type 0) → All P old → ((k j : ℕ) → k < length params → IsGiven defs branch slots (param_at k) (argument_at k) j
+  pub listed_each : (P : StoredDef → Type 0) → All P old → ((k j : ℕ) → k < length params → IsArgumentStored defs branch slots (param_at k) (argument_at k) j
       → P (record { index = j; to = param_at k })) → (k : ℕ) (new : List StoredDef) → ListsParams defs branch slots params arguments old k new → All P new
   listed_each P first each k new no_param = first
   listed_each P first each k new (one_param i m n lt prev (listed j is at)) =
@@ -70,7 +70,7 @@ module _ {A : Type 0} (defs : BranchDefs A) (branch : ℕ) (slots : SpillSlotsVa
       subst (λ (l : List StoredDef). Contains l s) (sym same) (listed_keeps s has i m prev)
 
   -- what the first parameters are given is listed
-  pub listed_all : (i j : ℕ) → IsGiven defs branch slots (param_at i) (argument_at i) j → (k : ℕ) (new : List StoredDef) → i < k →
+  pub listed_all : (i j : ℕ) → IsArgumentStored defs branch slots (param_at i) (argument_at i) j → (k : ℕ) (new : List StoredDef) → i < k →
       ListsParams defs branch slots params arguments old k new → Contains new (record { index = j; to = param_at i })
   unfolding index_of
   listed_all i j is k new less no_param = absurd (omega (arith, less))
@@ -89,13 +89,14 @@ module _ {A : Type 0} (defs : BranchDefs A) (branch : ℕ) (slots : SpillSlotsVa
 
       here : i ≡ h → ListsGiven defs branch slots (param_at h) (argument_at h) m n → Contains n S
       here e (listed x y at) =
-          let mine : IsGiven defs branch slots (param_at h) (argument_at h) j = subst (λ (p : ℕ). IsGiven defs branch slots (param_at p) (argument_at p) j)
+          let mine : IsArgumentStored defs branch slots (param_at h) (argument_at h) j = subst (λ (p : ℕ). IsArgumentStored defs branch slots (param_at p)
+              (argument_at p) j)
           e is in
           let same : x ≡ j = ap index_of (sym y.0 ∙ mine.0) in
           let item : record { index = x; to = param_at h } ≡ S = ap (λ (p : ℕ). record { index = p; to = param_at h }) same
           ∙ ap (λ (p : ℕ). record { index = j; to = param_at p }) (sym e) in
           subst (λ (l : List StoredDef). Contains l S) (sym at) (subst (λ (s : StoredDef). Contains (m ++ s ∷ []) S) (sym item) (Contains-push m S))
-      here e (not_given none same) = absurd (none j (subst (λ (p : ℕ). IsGiven defs branch slots (param_at p) (argument_at p) j) e is))
+      here e (not_given none same) = absurd (none j (subst (λ (p : ℕ). IsArgumentStored defs branch slots (param_at p) (argument_at p) j) e is))
 
   -- each parameter at most once
   pub listed_counted : (n k : ℕ) (new : List StoredDef) → ListsParams defs branch slots params arguments old k new →

@@ -12,7 +12,7 @@ use Rattle.regalloc2_names.specs.Place.{Place, NoPlace, InRegister, InSlot, is_m
 use Rattle.regalloc2_function.specs.FunctionValue.{FunctionValue, block_at}
 use Rattle.regalloc2_function.specs.OutputValue.{MoveValue}
 use Rattle.regalloc2_function.specs.WellFormed.{IsWellFormed, last_of}
-use Rattle.regalloc2_semantics.specs.Listing.{op_at}
+use Rattle.regalloc2_function.specs.FunctionValue.{op_at}
 use Rattle.regalloc2_semantics.specs.Stores.{Store, moves_by, store_moves, IsOneOf, AreInOrder}
 use Rattle.regalloc2_semantics.specs.Stores.IsOneOf.{first, later}
 use Rattle.regalloc2_semantics.proofs.SingleDef.{DefinesAt, not_both, one_operand}
@@ -21,9 +21,10 @@ use Rattle.regalloc2_branch_defs.specs.BranchDefs.{DefinesNumber, IsEdgeInto, fi
 use Rattle.regalloc2_fastalloc_state.specs.StateParts.{SpillSlotsValue, GetsSpillSlot, NoneIsFrom, slot_name}
 use Rattle.regalloc2_fastalloc_proofs.specs.InstSteps.{StateValue, SameMachine, no_register}
 use Rattle.regalloc2_fastalloc_proofs.specs.BlockSteps.{MayBeAllocated}
-use Rattle.regalloc2_fastalloc_proofs.specs.BranchSteps.{AreApart}
+use Rattle.regalloc2_fastalloc_proofs.specs.BranchSteps.{RegsAvoidStack}
 use Rattle.regalloc2_fastalloc_proofs.specs.StoreSteps.{StoreBranchDefs}
-use Rattle.regalloc2_fastalloc_proofs.specs.StoreSteps.{branch_operands, place_by, defined_place, IsStoredFor, its_own, given, IsConcerned, GetsSlots, no_slot}
+use Rattle.regalloc2_fastalloc_proofs.specs.StoreSteps.{branch_operands, fixed_or_slot, defined_place, IsStoredFor, its_own, given, IsConcerned, GetsSlots}
+use Rattle.regalloc2_fastalloc_proofs.specs.StoreSteps.{no_slot}
 use Rattle.regalloc2_fastalloc_proofs.specs.StoreSteps.{one_slot, IsByWay, StoresFor, StoresOn, pushed_moves}
 use Rattle.regalloc2_fastalloc_proofs.proofs.Safety.StoredDefs.{last_within}
 use Rattle.regalloc2_fastalloc_proofs.proofs.Safety.StoresKeepSafe.{stored_concerned, stored_defines}
@@ -117,20 +118,20 @@ record Fits (operands : List OperandValue) (slots : SpillSlotsValue) (d : Stored
   class : m.class ≡ (op_at operands d.index).vreg.class
 
 -- and it stays
-gets_stays : (old new final : SpillSlotsValue) (v : VirtualRegister) (p : Place) → GetsSpillSlot old new v p → SlotsStay new final → slot_name final
+gets_spillslot_stays : (old new final : SpillSlotsValue) (v : VirtualRegister) (p : Place) → GetsSpillSlot old new v p → SlotsStay new final → slot_name final
     v.number ≡ p
-gets_stays old new final v p g stay =
+gets_spillslot_stays old new final v p g stay =
     let n = real_slot new.count p g.below g.there in stay v.number n.0 (g.gives ∙ n.1) ∙ sym n.1
 
 module _ (operands : List OperandValue) (final : SpillSlotsValue) where
   place_found : (o : OperandValue) (p : Place) (old new : SpillSlotsValue) → FindsDefined o p old new → SlotsStay new final →
       (p ≡ defined_place final o) × (p ≢ NoPlace)
   place_found o p old new (held r fixed at same) stay = (
-    at ∙ sym (ap (λ x. place_by x (slot_name final o.vreg.number)) fixed),
+    at ∙ sym (ap (λ x. fixed_or_slot x (slot_name final o.vreg.number)) fixed),
     λ none. (let y : InRegister r ≡ NoPlace = sym at ∙ none in cc),
   )
   place_found o p old new (in_slot free gets temps) stay = (
-    sym (gets_stays old new final o.vreg p gets stay) ∙ sym (ap (λ x. place_by x (slot_name final o.vreg.number)) free),
+    sym (gets_spillslot_stays old new final o.vreg p gets stay) ∙ sym (ap (λ x. fixed_or_slot x (slot_name final o.vreg.number)) free),
     gets.there,
   )
 
@@ -147,7 +148,7 @@ module _ (operands : List OperandValue) (final : SpillSlotsValue) where
       let p = place_found (op_at operands d.index) m.from old h.middle h.from (λ n k is. stay n k (gives_stay h.middle new d.to m.to h.slot n k is)) in record {
         from = p.0;
         there = p.1;
-        to = gets_stays h.middle new final d.to m.to h.slot stay;
+        to = gets_spillslot_stays h.middle new final d.to m.to h.slot stay;
         slot = real_slot new.count m.to h.slot.below h.slot.there;
         class = h.class;
       }
@@ -174,13 +175,13 @@ place_made : (P : VirtualRegister → Type 0) (operands : List OperandValue) (j 
 place_made P operands j p old m n concerned prev (held q fixed at same) = subst (GetsSlots P old) (sym same) prev
 place_made P operands j p old m n concerned prev (in_slot free gets temps) = one_slot (op_at operands j).vreg p m n prev concerned gets temps
 
-slots_made : (P : VirtualRegister → Type 0) (operands : List OperandValue) (ds : List StoredDef) (old : SpillSlotsValue) →
+gets_slots_made : (P : VirtualRegister → Type 0) (operands : List OperandValue) (ds : List StoredDef) (old : SpillSlotsValue) →
     ((i : ℕ) → i < length ds → P (op_at operands (store_at ds i).index).vreg × P (store_at ds i).to) → (k : ℕ) (ms : List PlaceMove) (s : SpillSlotsValue) →
     FindsStores operands ds old k ms s → GetsSlots P old s
-slots_made P operands ds old each k ms s none_found = no_slot
-slots_made P operands ds old each k ms s (one_found j ns m r t lt prev one) =
+gets_slots_made P operands ds old each k ms s none_found = no_slot
+gets_slots_made P operands ds old each k ms s (one_found j ns m r t lt prev one) =
     one_slot (store_at ds j).to m.to one.middle s (place_made P operands (store_at ds j).index m.from old r one.middle (each j lt).0
-    (slots_made P operands ds old each j ns r prev) one.from) (each j lt).1 one.slot one.temps
+    (gets_slots_made P operands ds old each j ns r prev) one.from) (each j lt).1 one.slot one.temps
 
 -- no moves are found without making a slot
 no_slots_made : (f : FunctionValue) (e : ℕ) (t : StateValue) (ds : List StoredDef) (n : ℕ) (ns : List PlaceMove) (z : SpillSlotsValue) →
@@ -210,7 +211,7 @@ made_on t s es from_memory ms ss (one_made m x ns ts is made rest) = one_made m 
   };
 }) (made_on t s es from_memory ns ts rest)
 
-module _ (t : StateValue) (apart : AreApart t) where
+module _ (t : StateValue) (apart : RegsAvoidStack t) where
   abbrev Memory : Place → Bool
   Memory = is_memory t.fixed_stack
 
@@ -301,7 +302,7 @@ pub record EdgeStores : Type 0 where
   pub k : ℕ
   pub edge : IsEdgeInto f b e k
   pub t : StateValue
-  pub apart : AreApart t
+  pub apart : RegsAvoidStack t
   pub ds : List StoredDef
   pub lists : ListsStores f e k t.slots ds
   pub ms : List PlaceMove
@@ -309,7 +310,8 @@ pub record EdgeStores : Type 0 where
   pub finds : FindsStores (branch_operands f e) ds t.slots (length ds) ms s
   pub own : (m n i : ℕ) → slot_name s m ≡ InSlot i → slot_name s n ≡ InSlot i → m ≡ n
 
-abbrev pub edge_stores : (f : FunctionValue) → MayBeAllocated f → (b e k : ℕ) → IsEdgeInto f b e k → (t : StateValue) → AreApart t → (ds : List StoredDef) →
+abbrev pub edge_stores : (f : FunctionValue) → MayBeAllocated f → (b e k : ℕ) → IsEdgeInto f b e k → (t : StateValue) → RegsAvoidStack t →
+    (ds : List StoredDef) →
     ListsStores f e k t.slots ds → (ms : List PlaceMove) (s : SpillSlotsValue) → FindsStores (branch_operands f e) ds t.slots (length ds) ms s →
     ((m n i : ℕ) → slot_name s m ≡ InSlot i → slot_name s n ≡ InSlot i → m ≡ n) → EdgeStores
 edge_stores f may b e k edge t apart ds lists ms s finds own = record {
@@ -404,12 +406,12 @@ module _ (at_edge : EdgeStores) where
 
       from_by : (o : Option Register) → fixed_definition (op_at (branch_operands f e) (store_at ds j).index) ≡ o →
           defined_place s (op_at (branch_operands f e) (store_at ds j).index)
-          ≡ place_by o (slot_name s (op_at (branch_operands f e) (store_at ds j).index).vreg.number)
-      from_by o is = ap (λ x. place_by x (slot_name s (op_at (branch_operands f e) (store_at ds j).index).vreg.number)) is
+          ≡ fixed_or_slot o (slot_name s (op_at (branch_operands f e) (store_at ds j).index).vreg.number)
+      from_by o is = ap (λ x. fixed_or_slot x (slot_name s (op_at (branch_operands f e) (store_at ds j).index).vreg.number)) is
 
   -- what is concerned gets slots
-  slots_got : GetsSlots (IsConcerned f e k) t.slots s
-  slots_got = slots_made (IsConcerned f e k) (branch_operands f e) ds t.slots (λ i lt.
+  gets_slots_got : GetsSlots (IsConcerned f e k) t.slots s
+  gets_slots_got = gets_slots_made (IsConcerned f e k) (branch_operands f e) ds t.slots (λ i lt.
       let stored : IsStoredFor f e k t.slots (store_at ds i).index (store_at ds i).to = lists.each i no_store lt in (
         inl ((store_at ds i).index, stored_defines f e k t.slots (store_at ds i).index (store_at ds i).to stored, refl),
         stored_concerned f e k t.slots (store_at ds i).index (store_at ds i).to stored,
@@ -467,7 +469,7 @@ module _ (at_edge : EdgeStores) where
           | inr none ↦ (let o = makes_one t apart false ms q.stores from_registers c.0 lt none in
               (o.0, of_first o.0 q.stores p.stores o.1, is_for_vreg w slots_are c.0 lt o.0 o.2))
         ]));
-    slots = subst (GetsSlots (IsConcerned f e k) t.slots) (sym slots_are) slots_got;
+    slots = subst (GetsSlots (IsConcerned f e k) t.slots) (sym slots_are) gets_slots_got;
     idle = λ none. slots_are ∙ slots_idle none;
     places = ap (λ (z : StateValue). z.places) after_both;
     edits = ap (λ (z : StateValue). z.edits) after_both ∙ append_assoc t.edits (pushed_moves point (store_moves p.stores)) (pushed_moves point (store_moves

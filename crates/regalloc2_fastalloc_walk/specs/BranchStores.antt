@@ -5,29 +5,29 @@ use Rattle.regalloc2_names.specs.Register.{Register, VirtualRegister}
 use Rattle.regalloc2_names.specs.Operand.{OperandValue}
 use Rattle.regalloc2_names.specs.Place.{Place, NoPlace, InRegister, is_memory}
 use Rattle.regalloc2_function.specs.FunctionValue.{FunctionValue}
-use Rattle.regalloc2_semantics.specs.Listing.{op_at}
+use Rattle.regalloc2_function.specs.FunctionValue.{op_at}
 use Rattle.regalloc2_semantics.specs.Stores.{Store, moves_by, store_moves}
 use Rattle.regalloc2_branch_defs.specs.BranchDefs.{fixed_definition}
 use Rattle.regalloc2_branch_defs.specs.Tables.{site_of}
 use Rattle.regalloc2_branch_defs.specs.declared.BranchDefs.{BranchDefs}
 use Rattle.regalloc2_fastalloc_state.specs.StateParts.{SpillSlotsValue, GetsSpillSlot, NoneIsFrom, slot_name}
-use Rattle.regalloc2_fastalloc_proofs.specs.BlockStart.{no_vreg}
+use Rattle.regalloc2_names.specs.Register.{no_vreg}
 use Rattle.regalloc2_fastalloc_proofs.specs.InstSteps.{StateValue, Outcome, next, no_register}
 use Rattle.regalloc2_fastalloc_proofs.specs.StoreSteps.{IsByWay, IsStoredFor, pushed_moves}
 use Rattle.regalloc2_fastalloc_walk.specs.declared.operand.PlaceMove.{PlaceMove}
 use Rattle.regalloc2_fastalloc_walk.specs.declared.store.StoredDef.{StoredDef}
 
 -- the tables say that the branch defines the argument of a parameter with a slot, by the operand j
-abbrev pub IsGiven : {A : Type 0} → BranchDefs A → ℕ → SpillSlotsValue → VirtualRegister → VirtualRegister → ℕ → Type 0
-IsGiven defs branch slots param argument j = (site_of defs argument.number ≡ Some (record { branch = branch; index = j }))
+abbrev pub IsArgumentStored : {A : Type 0} → BranchDefs A → ℕ → SpillSlotsValue → VirtualRegister → VirtualRegister → ℕ → Type 0
+IsArgumentStored defs branch slots param argument j = (site_of defs argument.number ≡ Some (record { branch = branch; index = j }))
     × (slot_name slots param.number ≢ NoPlace)
 
 -- if so, it is listed
 pub data ListsGiven {A : Type 0} (defs : BranchDefs A) (branch : ℕ) (slots : SpillSlotsValue) (param argument : VirtualRegister) (old new : List StoredDef) :
     Type 0 where
-  listed : (j : ℕ) → IsGiven defs branch slots param argument j → new ≡ old ++ record { index = j; to = param } ∷ []
+  listed : (j : ℕ) → IsArgumentStored defs branch slots param argument j → new ≡ old ++ record { index = j; to = param } ∷ []
       → ListsGiven defs branch slots param argument old new
-  not_given : ((j : ℕ) → IsGiven defs branch slots param argument j → ⊥) → new ≡ old → ListsGiven defs branch slots param argument old new
+  not_given : ((j : ℕ) → IsArgumentStored defs branch slots param argument j → ⊥) → new ≡ old → ListsGiven defs branch slots param argument old new
 
 -- the first k parameters
 pub data ListsParams {A : Type 0} (defs : BranchDefs A) (branch : ℕ) (slots : SpillSlotsValue) (params arguments : List VirtualRegister)

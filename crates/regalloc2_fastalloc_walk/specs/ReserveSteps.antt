@@ -7,13 +7,13 @@ use Rattle.regalloc2_names.specs.Operand.{OperandValue}
 use Rattle.regalloc2_fastalloc_state.specs.declared.inst_regs.Positions.{Positions}
 use Rattle.regalloc2_fastalloc_state.specs.declared.inst_regs.InstRegs.{InstRegs}
 use Rattle.regalloc2_fastalloc_state.specs.InstRegs.{awaited_of, is_free_throughout}
-use Rattle.regalloc2_validate.specs.Constraints.{op_at}
+use Rattle.regalloc2_function.specs.FunctionValue.{op_at}
 use Rattle.regalloc2_fastalloc_walk.specs.declared.reserve_regs.ReservedRegs.{ReservedRegs}
-use Rattle.regalloc2_fastalloc_proofs.specs.InstSteps.{StateValue, NeedsFixedReg, IsFixedIn, asks}
+use Rattle.regalloc2_fastalloc_proofs.specs.InstSteps.{StateValue, NeedsFixedReg, IsFixedIn, asks_reg_of_class}
 
 -- one of the machine's registers or fixed stack slots
-abbrev pub IsKnown : StateValue → Register → Type 0
-IsKnown t r = (has_register t.allocatable r ≡ true) ⊎ (has_register t.fixed_stack r ≡ true)
+abbrev pub IsMachineReg : StateValue → Register → Type 0
+IsMachineReg t r = (has_register t.allocatable r ≡ true) ⊎ (has_register t.fixed_stack r ≡ true)
 
 -- registers may be taken at the two positions, and none is given back; moves from stack to stack go where they went
 pub record Shrinks (t u : InstRegs) : Type 0 where
@@ -33,10 +33,10 @@ TakesFixed operands t u = (r : Register) → is_free_throughout t r ≡ true →
 -- the operand k is awaited if it asks for any register
 abbrev pub AwaitsOne : List OperandValue → ℕ → InstRegs → InstRegs → Type 0
 AwaitsOne operands k t u = (class : RegClass) → awaited_of t class < 18446744073709551615 →
-    awaited_of u class ≡ awaited_of t class + (if asks class (op_at operands k) then 1 else 0)
+    awaited_of u class ≡ awaited_of t class + (if asks_reg_of_class class (op_at operands k) then 1 else 0)
 
 -- claims are kept
-pub record Grows (c d : ReservedRegs) : Type 0 where
+pub record KeepsReserved (c d : ReservedRegs) : Type 0 where
   pub early : (r : Register) → has_register c.early r ≡ true → has_register d.early r ≡ true
   pub late : (r : Register) → has_register c.late r ≡ true → has_register d.late r ≡ true
 
@@ -64,7 +64,7 @@ pub record IsNewlyReserved (c d : ReservedRegs) (r : Register) (p : Positions) :
 
 -- the register is one of the machine's, is claimed, and isn't free at the positions any more
 pub record IsReserved (t : StateValue) (r : Register) (p : Positions) (u : InstRegs) (c d : ReservedRegs) : Type 0 where
-  pub known : IsKnown t r
+  pub known : IsMachineReg t r
   pub claimed : IsNewlyReserved c d r p
   pub held_early : p.early ≡ true → has_register u.early r ≡ false
   pub held_late : p.late ≡ true → has_register u.late r ≡ false
@@ -72,7 +72,7 @@ pub record IsReserved (t : StateValue) (r : Register) (p : Positions) (u : InstR
 -- the operand k reserves what it claims
 pub record ReservesRegForOperand (operands : List OperandValue) (k : ℕ) (t u : InstRegs) (c d : ReservedRegs) (old : StateValue) : Type 0 where
   pub shrinks : Shrinks t u
-  pub grows : Grows c d
+  pub grows : KeepsReserved c d
   pub takes : TakesFixed operands t u
   pub claims : OperandReserves operands k c d
   pub reserved : (r : Register) (p : Positions) → NeedsFixedReg operands k r p → IsReserved old r p u c d

@@ -8,7 +8,7 @@ ghost use Rattle.regalloc2_fastalloc_walk.specs.StateView.{IsStepAt, SameTables,
 ghost use Rattle.regalloc2_fastalloc_state.specs.StateParts.{AllAtOrAfter, vreg_of_preg, alloc_of};
 ghost use Rattle.regalloc2_fastalloc_proofs.specs.BlockStart.{ReloadParam, ReloadParams, ReloadRegs, ReloadAtBegin};
 
-use super::inst::differ;
+use super::inst::are_places_different;
 use super::operand::PlaceMove;
 use super::state::State;
 use regalloc2_fastalloc_state::inst_regs::InstRegs;
@@ -36,7 +36,7 @@ impl<'a, A: Allocator> State<'a, A> {
         }
         let slot = self.slots.get_spillslot(param)?;
         self.places.set_alloc(param, Allocation::none());
-        let is_moved = differ(slot, current);
+        let is_moved = are_places_different(slot, current);
         self.add_move_if(
             inst_regs,
             point,

@@ -8,8 +8,8 @@ ghost use Rattle.regalloc2_names.specs.Point.{before, inst_limit};
 ghost use Rattle.regalloc2_names.specs.Register.{Register, class_code};
 ghost use Rattle.regalloc2_function.specs.FunctionValue.{block_at, inst_at};
 ghost use Rattle.regalloc2_parts.specs.AtOnce.{ends_of, HasOneSourceEach};
-ghost use Rattle.regalloc2_parts.specs.Resolved.{has_scratch, listed, with_place, IsResolution, IsRunnable};
-ghost use Rattle.regalloc2_fastalloc_proofs.specs.BranchSteps.{AreApart, AreBetweenSlots, AreKnown, AreNextTempSlots, AreOf, ClassMove, OrderMoves};
+ghost use Rattle.regalloc2_parts.specs.Resolved.{has_scratch, moves_listed, with_place, IsResolution, IsRunnable};
+ghost use Rattle.regalloc2_fastalloc_proofs.specs.BranchSteps.{RegsAvoidStack, AreBetweenSlots, AreVRegsInTables, AreNextTempSlots, AreOf, ClassMove, OrderMoves};
 ghost use Rattle.regalloc2_fastalloc_proofs.specs.BranchSteps.{IsScratchRegFor, AddsTempSlotsAtMost, MayBeParallel, MayBranch, PushMoves, SpillArgument};
 ghost use Rattle.regalloc2_fastalloc_proofs.specs.BranchSteps.{ParametersDiffer, GatherEdge, GatherMoves, PushAllClasses, ProcessBranch};
 ghost use Rattle.regalloc2_fastalloc_state.specs.OutOfResources.{SlotsExhaustedWith, IsResourceError};
@@ -80,8 +80,8 @@ fn passes_nothing<F: Function>(f: &F, block: Block) -> bool
 
 /// Whether there are no moves.
 fn are_none<A: Allocator + Copy>(moves: &MoveVecWithScratch<(), A>) -> bool
-    ensures same { IsTrue result → with_place NoPlace moves.now ≡ listed moves.now }
-    ensures none { IsTrue result ↔ (listed moves.now ≡ []) }
+    ensures same { IsTrue result → with_place NoPlace moves.now ≡ moves_listed moves.now }
+    ensures none { IsTrue result ↔ (moves_listed moves.now ≡ []) }
 {
     match moves {
         MoveVecWithScratch::NoScratch(list) => list.is_empty(),
@@ -94,7 +94,7 @@ fn resolve<A: Allocator + Copy>(
     moves: ParallelMoves<(), A>,
 ) -> Result<MoveVecWithScratch<(), A>, RegAllocError>
     requires { HasOneSourceEach (ends_of moves) }
-    ensures resolved { IfOk result (λ r. IsResolution moves (has_scratch r) (listed r)) }
+    ensures resolved { IfOk result (λ r. IsResolution moves (has_scratch r) (moves_listed r)) }
     ensures runnable { IfOk result (λ r. IsRunnable r) }
     ensures err { IfErr result (λ e. e ≡ RegAllocError.Memory) }
 {
@@ -221,7 +221,7 @@ impl<'a, A: Allocator> State<'a, A> {
     ) -> Result<MoveVec<(), &'b B>, RegAllocError>
         requires ends { AreBetweenSlots self.old.slots.count moves }
         requires one_source { HasOneSourceEach (ends_of moves) }
-        requires apart { AreApart (tables_of self.old) }
+        requires apart { RegsAvoidStack (tables_of self.old) }
         ensures outcome { ComesToOne (OrderMoves inst_regs.now class moves.entry) (λ made. made.items) result self.old self.new }
         ensures unchanged { OnErr result (SameTables self.old self.new) }
         ensures err { IfErr result (IsResourceError (SlotsExhaustedWith self.old.slots (self.old.slots.num_temp_slots + 2))) }
@@ -255,7 +255,7 @@ impl<'a, A: Allocator> State<'a, A> {
     ) -> Result<(), RegAllocError>
         requires ends { AreBetweenSlots self.old.slots.count moves }
         requires one_source { HasOneSourceEach (ends_of moves) }
-        requires apart { AreApart (tables_of self.old) }
+        requires apart { RegsAvoidStack (tables_of self.old) }
         requires later { AllAtOrAfter point self.old.edits }
         ensures outcome { ComesTo (PushMoves point inst_regs.now class moves.entry) tt result self.old self.new }
         ensures later { OnOk result (AllAtOrAfter point self.new.edits) }
@@ -301,7 +301,7 @@ impl<'a, A: Allocator> State<'a, A> {
     ) -> Result<(), RegAllocError>
         requires ends { AreBetweenSlots self.old.slots.count moves }
         requires one_source { HasOneSourceEach (ends_of moves) }
-        requires apart { AreApart (tables_of self.old) }
+        requires apart { RegsAvoidStack (tables_of self.old) }
         requires later { AllAtOrAfter point self.old.edits }
         ensures outcome { ComesTo (PushMoves point inst_regs.now class moves.entry) tt result self.old self.new }
         ensures later { OnOk result (AllAtOrAfter point self.new.edits) }
@@ -383,8 +383,8 @@ impl<'a, A: Allocator> State<'a, A> {
         requires inst { own.now.branch < inst_limit }
         requires later { AllAtOrAfter (before own.now.branch) self.old.edits }
         requires counted { length arguments.now ≡ length params.now }
-        requires parameters { AreKnown params.now (tables_of self.old) }
-        requires arguments { AreKnown arguments.now (tables_of self.old) }
+        requires parameters { AreVRegsInTables params.now (tables_of self.old) }
+        requires arguments { AreVRegsInTables arguments.now (tables_of self.old) }
         ensures outcome { (given : List ClassMove) → AreOf moves.old.int moves.old.float moves.old.vector given → MatchResult result
             (λ x. (more : List ClassMove) × AreOf moves.new.int moves.new.float moves.new.vector more
             × GatherEdge (IsOwnBy own.now.defs.now own.now.branch) (before own.now.branch) params.now arguments.now inst_regs.old (tables_of self.old)
@@ -451,7 +451,7 @@ impl<'a, A: Allocator> State<'a, A> {
         requires ints { MayBeParallel self.old.slots.count moves.int }
         requires floats { MayBeParallel self.old.slots.count moves.float }
         requires vectors { MayBeParallel self.old.slots.count moves.vector }
-        requires apart { AreApart (tables_of self.old) }
+        requires apart { RegsAvoidStack (tables_of self.old) }
         requires later { AllAtOrAfter point self.old.edits }
         ensures outcome { ComesTo (PushAllClasses point inst_regs.now moves.entry.int moves.entry.float moves.entry.vector) tt result self.old self.new }
         ensures later { OnOk result (AllAtOrAfter point self.new.edits) }
@@ -492,7 +492,7 @@ impl<'a, A: Allocator> State<'a, A> {
         requires later { AllAtOrAfter (before inst) self.old.edits }
         requires may_pass { MayBranch (F.function cx.now.f.now) block (tables_of self.old) }
         requires differ { ParametersDiffer (F.function cx.now.f.now) block }
-        requires apart { AreApart (tables_of self.old) }
+        requires apart { RegsAvoidStack (tables_of self.old) }
         ensures outcome { ComesTo (ProcessBranch (F.function cx.now.f.now) block inst inst_regs.old) inst_regs.new result self.old self.new }
         ensures step { IsBranchStepAt (before inst) 6 result self.old self.new }
     {

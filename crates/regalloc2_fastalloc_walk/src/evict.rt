@@ -3,7 +3,7 @@
 ghost use Rattle.std.specs.Prelude.{◌≡◌, ◌<◌, OnOk, IfErr, None, Some};
 ghost use Rattle.regalloc2_names.specs.Place.{NoPlace};
 ghost use Rattle.regalloc2_fastalloc_state.specs.StateParts.{AllAtOrAfter, IsInverse, vreg_of_preg, alloc_of};
-ghost use Rattle.regalloc2_fastalloc_proofs.specs.InstSteps.{is_stack_in, AllocScratchReg, AddMove, EvictPReg, EvictOthers, EvictVReg};
+ghost use Rattle.regalloc2_fastalloc_proofs.specs.InstSteps.{is_stack_in, AllocScratchReg, AddMove, EvictPReg, EvictOtherVRegs, EvictVReg};
 ghost use Rattle.regalloc2_fastalloc_walk.specs.StateView.{IsStepAt, tables_of, ComesTo, ComesToOne};
 
 use super::state::State;
@@ -93,7 +93,7 @@ impl<'a, A: Allocator> State<'a, A> {
     /// Empties a register or fixed stack slot in which a vreg is: that is in its slot from now on, and is reloaded from there at the
     /// point. Its callers, which mostly find no vreg there, have only the test inlined.
     #[inline(never)]
-    fn evict_held(
+    fn evict_occupied_preg(
         &mut self,
         inst_regs: &mut InstRegs,
         point: ProgPoint,
@@ -133,13 +133,13 @@ impl<'a, A: Allocator> State<'a, A> {
         let Some(vreg) = self.places.vreg_in(preg) else {
             return Ok(());
         };
-        self.evict_held(inst_regs, point, preg, vreg)?;
+        self.evict_occupied_preg(inst_regs, point, preg, vreg)?;
         Ok(())
     }
 
     /// Empties a register or fixed stack slot of all vregs but one.
     #[inline(always)]
-    pub fn evict_others(
+    pub fn evict_other_vregs(
         &mut self,
         inst_regs: &mut InstRegs,
         point: ProgPoint,
@@ -147,7 +147,7 @@ impl<'a, A: Allocator> State<'a, A> {
         vreg: VReg,
     ) -> Result<(), RegAllocError>
         requires { AllAtOrAfter point self.old.edits }
-        ensures outcome { ComesTo (EvictOthers point preg vreg inst_regs.old) inst_regs.new result self.old self.new }
+        ensures outcome { ComesTo (EvictOtherVRegs point preg vreg inst_regs.old) inst_regs.new result self.old self.new }
         ensures awaited { inst_regs.new.awaited ≡ inst_regs.old.awaited }
         ensures alone { OnOk result (alloc_of self.new.places vreg.number ≡ NoPlace → vreg_of_preg self.new.places preg ≡ None) }
         ensures step { IsStepAt point result self.old self.new }

@@ -11,7 +11,7 @@ ghost use Rattle.regalloc2_names.specs.Operand.{is_def, is_late, is_reading};
 ghost use Rattle.regalloc2_parts.specs.Picked.{picked};
 ghost use Rattle.regalloc2_fastalloc_walk.specs.OperandsAt.{is_at};
 ghost use Rattle.regalloc2_fastalloc_state.specs.StateParts.{AllAtOrAfter, alloc_of};
-ghost use Rattle.regalloc2_validate.specs.Constraints.{op_at};
+ghost use Rattle.regalloc2_function.specs.FunctionValue.{op_at};
 ghost use Rattle.regalloc2_fastalloc_proofs.specs.InstSteps.{IsFresh, reuse_requirement_of, requirement_of, def_request, reuse_request, ProcessOperand};
 ghost use Rattle.regalloc2_fastalloc_proofs.specs.InstSteps.{use_request, InTables, ProcessOperandsAt, MoveUse, MoveUses, PrepareRegs, AllocInst};
 ghost use Rattle.regalloc2_fastalloc_walk.specs.StateView.{IsStepAt, tables_of, ComesTo};
@@ -40,7 +40,7 @@ fn operands_at<'o>(operands: &'o [Operand], pos: OperandPos) -> PickedOperands<'
 }
 
 /// Whether two places aren't one.
-pub fn differ(place: Allocation, other: Allocation) -> bool
+pub fn are_places_different(place: Allocation, other: Allocation) -> bool
     ensures { result ≡ not (is_place place other) }
 {
     place != other
@@ -198,15 +198,15 @@ impl<'a, A: Allocator> State<'a, A> {
         &mut self,
         inst_regs: &mut InstRegs,
         cx: &InstCx<'_>,
-        here: &mut [Allocation],
+        allocs: &mut [Allocation],
         k: usize,
     ) -> Result<(), RegAllocError>
         requires inside { k < length cx.now.operands.now }
         requires inst { cx.now.inst < inst_limit }
         requires later { AllAtOrAfter (after cx.now.inst) self.old.edits }
         requires in_tables { InTables cx.now.operands.now (tables_of self.old) }
-        requires here_long { length here.old ≡ length cx.now.operands.now }
-        ensures outcome { ComesTo (ProcessOperand cx.now.inst cx.now.ends_block cx.now.operands.now k here.old inst_regs.old) (here.new, inst_regs.new)
+        requires allocs_long { length allocs.old ≡ length cx.now.operands.now }
+        ensures outcome { ComesTo (ProcessOperand cx.now.inst cx.now.ends_block cx.now.operands.now k allocs.old inst_regs.old) (allocs.new, inst_regs.new)
             result self.old self.new }
         ensures step { IsStepAt (after cx.now.inst) result self.old self.new }
     {
@@ -214,22 +214,22 @@ impl<'a, A: Allocator> State<'a, A> {
         let operand = operands[k];
         let point = ProgPoint::after(cx.inst);
         if let Some(preg) = operand.as_fixed_nonallocatable() {
-            here[k] = Allocation::reg(preg);
+            allocs[k] = Allocation::reg(preg);
             return Ok(());
         }
         if !operand.is_def() {
-            let request = use_request(operand, here[k]);
-            here[k] = self.alloc_use(inst_regs, point, &request)?;
+            let request = use_request(operand, allocs[k]);
+            allocs[k] = self.alloc_use(inst_regs, point, &request)?;
             return Ok(());
         }
         if let Some(index) = reused(operand) {
             let request = reuse_request(operand, operands, index);
             let place = self.alloc_def_op(inst_regs, point, &request, cx.ends_block)?;
-            here[k] = place;
-            set_place(here, index, place);
+            allocs[k] = place;
+            set_place(allocs, index, place);
             return Ok(());
         }
-        here[k] = self.alloc_def_op(inst_regs, point, &def_request(operand), cx.ends_block)?;
+        allocs[k] = self.alloc_def_op(inst_regs, point, &def_request(operand), cx.ends_block)?;
         Ok(())
     }
 
@@ -239,17 +239,17 @@ impl<'a, A: Allocator> State<'a, A> {
         &mut self,
         inst_regs: &mut InstRegs,
         cx: &InstCx<'_>,
-        here: &mut [Allocation],
+        allocs: &mut [Allocation],
         k: usize,
     ) -> Result<(), RegAllocError>
         requires inside { k < length cx.now.operands.now }
         requires inst { cx.now.inst < inst_limit }
         requires later { AllAtOrAfter (after cx.now.inst) self.old.edits }
         requires in_tables { InTables cx.now.operands.now (tables_of self.old) }
-        requires here_long { length here.old ≡ length cx.now.operands.now }
+        requires allocs_long { length allocs.old ≡ length cx.now.operands.now }
         requires reg { (op_at cx.now.operands.now k).constraint ≡ OperandConstraint.Reg }
-        requires unplaced { slice_index_or here.old k NoPlace ≡ NoPlace }
-        ensures outcome { ComesTo (ProcessOperand cx.now.inst cx.now.ends_block cx.now.operands.now k here.old inst_regs.old) (here.new, inst_regs.new)
+        requires unplaced { slice_index_or allocs.old k NoPlace ≡ NoPlace }
+        ensures outcome { ComesTo (ProcessOperand cx.now.inst cx.now.ends_block cx.now.operands.now k allocs.old inst_regs.old) (allocs.new, inst_regs.new)
             result self.old self.new }
         ensures step { IsStepAt (after cx.now.inst) result self.old self.new }
     {
@@ -258,10 +258,10 @@ impl<'a, A: Allocator> State<'a, A> {
         let point = ProgPoint::after(cx.inst);
         let request = reg_request(operand);
         if !operand.is_def() {
-            here[k] = self.alloc_use(inst_regs, point, &request)?;
+            allocs[k] = self.alloc_use(inst_regs, point, &request)?;
             return Ok(());
         }
-        here[k] = self.alloc_def_op(inst_regs, point, &request, cx.ends_block)?;
+        allocs[k] = self.alloc_def_op(inst_regs, point, &request, cx.ends_block)?;
         Ok(())
     }
 
@@ -272,7 +272,7 @@ impl<'a, A: Allocator> State<'a, A> {
         &mut self,
         inst_regs: &mut InstRegs,
         cx: &InstCx<'_>,
-        here: &mut [Allocation],
+        allocs: &mut [Allocation],
         k: usize,
         preg: PReg,
     ) -> Result<(), RegAllocError>
@@ -280,10 +280,10 @@ impl<'a, A: Allocator> State<'a, A> {
         requires inst { cx.now.inst < inst_limit }
         requires later { AllAtOrAfter (after cx.now.inst) self.old.edits }
         requires in_tables { InTables cx.now.operands.now (tables_of self.old) }
-        requires here_long { length here.old ≡ length cx.now.operands.now }
+        requires allocs_long { length allocs.old ≡ length cx.now.operands.now }
         requires reading { is_reading (op_at cx.now.operands.now k) ≡ true }
-        requires known { (use_request (op_at cx.now.operands.now k) (slice_index_or here.old k NoPlace)).requirement ≡ Requirement.InPReg preg }
-        ensures outcome { ComesTo (ProcessOperand cx.now.inst cx.now.ends_block cx.now.operands.now k here.old inst_regs.old) (here.new, inst_regs.new)
+        requires known { (use_request (op_at cx.now.operands.now k) (slice_index_or allocs.old k NoPlace)).requirement ≡ Requirement.InPReg preg }
+        ensures outcome { ComesTo (ProcessOperand cx.now.inst cx.now.ends_block cx.now.operands.now k allocs.old inst_regs.old) (allocs.new, inst_regs.new)
             result self.old self.new }
         ensures step { IsStepAt (after cx.now.inst) result self.old self.new }
     {
@@ -296,7 +296,7 @@ impl<'a, A: Allocator> State<'a, A> {
             positions: Positions::of(operand),
             is_def: false,
         };
-        here[k] = self.alloc_use(inst_regs, point, &request)?;
+        allocs[k] = self.alloc_use(inst_regs, point, &request)?;
         Ok(())
     }
 
@@ -327,34 +327,34 @@ impl<'a, A: Allocator> State<'a, A> {
         &mut self,
         inst_regs: &mut InstRegs,
         cx: &InstCx<'_>,
-        here: &mut [Allocation],
+        allocs: &mut [Allocation],
         k: usize,
     ) -> Result<(), RegAllocError>
         requires inside { k < length cx.now.operands.now }
         requires inst { cx.now.inst < inst_limit }
         requires later { AllAtOrAfter (after cx.now.inst) self.old.edits }
         requires in_tables { InTables cx.now.operands.now (tables_of self.old) }
-        requires here_long { length here.old ≡ length cx.now.operands.now }
-        ensures outcome { ComesTo (ProcessOperand cx.now.inst cx.now.ends_block cx.now.operands.now k here.old inst_regs.old) (here.new, inst_regs.new)
+        requires allocs_long { length allocs.old ≡ length cx.now.operands.now }
+        ensures outcome { ComesTo (ProcessOperand cx.now.inst cx.now.ends_block cx.now.operands.now k allocs.old inst_regs.old) (allocs.new, inst_regs.new)
             result self.old self.new }
         ensures step { IsStepAt (after cx.now.inst) result self.old self.new }
     {
         let operands = cx.operands;
         let operand = operands[k];
-        let place = here[k];
+        let place = allocs[k];
         if asks_any_reg(operand, place) {
-            self.process_reg_operand(inst_regs, cx, here, k)?;
+            self.process_reg_operand(inst_regs, cx, allocs, k)?;
             return Ok(());
         }
         if let Some(preg) = known_register(operand, place) {
-            self.process_placed_use(inst_regs, cx, here, k, preg)?;
+            self.process_placed_use(inst_regs, cx, allocs, k, preg)?;
             return Ok(());
         }
         if let Some(slot) = self.slot_of_any_use(operand) {
-            here[k] = slot;
+            allocs[k] = slot;
             return Ok(());
         }
-        self.process_operand(inst_regs, cx, here, k)?;
+        self.process_operand(inst_regs, cx, allocs, k)?;
         Ok(())
     }
 
@@ -365,18 +365,18 @@ impl<'a, A: Allocator> State<'a, A> {
         inst_regs: &mut InstRegs,
         pos: OperandPos,
         cx: &InstCx<'_>,
-        here: &mut [Allocation],
+        allocs: &mut [Allocation],
     ) -> Result<(), RegAllocError>
         requires inst { cx.now.inst < inst_limit }
         requires later { AllAtOrAfter (after cx.now.inst) self.old.edits }
         requires in_tables { InTables cx.now.operands.now (tables_of self.old) }
-        requires here_long { length here.old ≡ length cx.now.operands.now }
-        ensures outcome { ComesTo (ProcessOperandsAt cx.now.inst cx.now.ends_block (is_late pos) cx.now.operands.now here.old inst_regs.old)
-            (here.new, inst_regs.new) result self.old self.new }
+        requires allocs_long { length allocs.old ≡ length cx.now.operands.now }
+        ensures outcome { ComesTo (ProcessOperandsAt cx.now.inst cx.now.ends_block (is_late pos) cx.now.operands.now allocs.old inst_regs.old)
+            (allocs.new, inst_regs.new) result self.old self.new }
         ensures step { IsStepAt (after cx.now.inst) result self.old self.new }
     {
         for (k, _operand) in operands_at(cx.operands, pos) {
-            self.process_operand_allocation(inst_regs, cx, here, k)?;
+            self.process_operand_allocation(inst_regs, cx, allocs, k)?;
         }
         Ok(())
     }
@@ -395,7 +395,7 @@ impl<'a, A: Allocator> State<'a, A> {
         ensures step { IsStepAt point result self.old self.new }
     {
         let current = self.places.current_alloc(operand.vreg());
-        let is_moved = differ(current, place);
+        let is_moved = are_places_different(current, place);
         self.add_move_if(
             inst_regs,
             point,
@@ -415,17 +415,17 @@ impl<'a, A: Allocator> State<'a, A> {
         inst_regs: &mut InstRegs,
         point: ProgPoint,
         operands: &[Operand],
-        here: &[Allocation],
+        allocs: &[Allocation],
     ) -> Result<(), RegAllocError>
         requires later { AllAtOrAfter point self.old.edits }
         requires in_tables { InTables operands.now (tables_of self.old) }
-        requires here_long { length here.now ≡ length operands.now }
-        ensures outcome { ComesTo (MoveUses point operands.now here.now inst_regs.old) inst_regs.new result self.old self.new }
+        requires allocs_long { length allocs.now ≡ length operands.now }
+        ensures outcome { ComesTo (MoveUses point operands.now allocs.now inst_regs.old) inst_regs.new result self.old self.new }
         ensures step { IsStepAt point result self.old self.new }
     {
         for (k, operand) in Operands::new(operands).use_ops() {
             if operand.is_reading() {
-                self.move_use(inst_regs, point, operand, here[k])?;
+                self.move_use(inst_regs, point, operand, allocs[k])?;
             }
         }
         Ok(())
@@ -454,27 +454,27 @@ impl<'a, A: Allocator> State<'a, A> {
         Ok(())
     }
 
-    /// Allocates an instruction: `here`, which has no place yet, gets those of its operands.
+    /// Allocates an instruction: `allocs`, which has no place yet, gets those of its operands.
     pub fn alloc_inst(
         &mut self,
         inst_regs: &mut InstRegs,
         cx: &InstCx<'_>,
-        here: &mut [Allocation],
+        allocs: &mut [Allocation],
     ) -> Result<(), RegAllocError>
         requires inst { cx.now.inst < inst_limit }
         requires later { AllAtOrAfter (after cx.now.inst) self.old.edits }
         requires in_tables { InTables cx.now.operands.now (tables_of self.old) }
-        requires here_long { length here.old ≡ length cx.now.operands.now }
-        requires no_places { (k : ℕ) → slice_index_or here.old k NoPlace ≡ NoPlace }
+        requires allocs_long { length allocs.old ≡ length cx.now.operands.now }
+        requires no_places { (k : ℕ) → slice_index_or allocs.old k NoPlace ≡ NoPlace }
         requires fresh { IsFresh inst_regs.old (tables_of self.old) }
-        ensures outcome { ComesTo (AllocInst cx.now.inst cx.now.operands.now cx.now.clobbers cx.now.ends_block here.old inst_regs.old)
-            (here.new, inst_regs.new) result self.old self.new }
+        ensures outcome { ComesTo (AllocInst cx.now.inst cx.now.operands.now cx.now.clobbers cx.now.ends_block allocs.old inst_regs.old)
+            (allocs.new, inst_regs.new) result self.old self.new }
         ensures step { IsStepAt (before cx.now.inst) result self.old self.new }
     {
         self.prepare_regs(inst_regs, cx)?;
-        self.process_operands_at(inst_regs, OperandPos::Late, cx, here)?;
-        self.process_operands_at(inst_regs, OperandPos::Early, cx, here)?;
-        self.move_uses(inst_regs, ProgPoint::before(cx.inst), cx.operands, here)?;
+        self.process_operands_at(inst_regs, OperandPos::Late, cx, allocs)?;
+        self.process_operands_at(inst_regs, OperandPos::Early, cx, allocs)?;
+        self.move_uses(inst_regs, ProgPoint::before(cx.inst), cx.operands, allocs)?;
         Ok(())
     }
 

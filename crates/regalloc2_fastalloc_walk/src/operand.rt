@@ -9,8 +9,8 @@ ghost use Rattle.regalloc2_fastalloc_state.specs.Choice.{chosen};
 ghost use Rattle.regalloc2_fastalloc_state.specs.StateParts.{IsInverse, AllAtOrAfter, vreg_of_preg, lru_of, alloc_of};
 ghost use Rattle.regalloc2_fastalloc_state.specs.OutOfResources.{IsResourceErrorIn};
 ghost use Rattle.regalloc2_fastalloc_state.specs.InstRegs.{IsAvailableAt, SameAvailable, free_count, is_available_at};
-ghost use Rattle.regalloc2_fastalloc_proofs.specs.InstSteps.{awaited_less, is_another, scratch_reserve_left, IsAffordable, SelectPlace, ClaimPlace, UsesPlace};
-ghost use Rattle.regalloc2_fastalloc_proofs.specs.InstSteps.{MayHold, SameMachine, AllocOperand, AddMoveIf, FreeDef, AllocDefOp, AllocUse, NoneIsAvailable};
+ghost use Rattle.regalloc2_fastalloc_proofs.specs.InstSteps.{awaited_less, is_another, scratch_reserve_left, IsAffordable, SelectPlace, TakePlace, UsesPlace};
+ghost use Rattle.regalloc2_fastalloc_proofs.specs.InstSteps.{MayHold, SameMachine, AllocOperand, AddMoveIf, FreeAlloc, AllocDefOp, AllocUse, NoneIsAvailable};
 ghost use Rattle.regalloc2_fastalloc_proofs.specs.InstSteps.{MeetsRequirement};
 ghost use Rattle.regalloc2_fastalloc_walk.specs.PlaceChoice.{IsUnaffordable};
 ghost use Rattle.regalloc2_fastalloc_walk.specs.StateView.{Between, IsStepAt, tables_of, ComesTo, ComesToOne};
@@ -44,7 +44,7 @@ fn is_any_register(requirement: Requirement) -> bool
 }
 
 /// An operand that asked for any register is placed.
-fn note_placed(inst_regs: &mut InstRegs, request: &OperandRequest)
+fn remove_if_any_reg_op(inst_regs: &mut InstRegs, request: &OperandRequest)
     ensures sets { SameAvailable inst_regs.old inst_regs.new }
     ensures awaited { inst_regs.new.awaited ≡ awaited_less request.now.requirement request.now.vreg.class inst_regs.old.awaited }
 {
@@ -311,7 +311,7 @@ impl<'a, A: Allocator> State<'a, A> {
 
     /// The register is the operand's: others are evicted, and it is held.
     #[inline(always)]
-    fn claim_preg(
+    fn take_preg(
         &mut self,
         inst_regs: &mut InstRegs,
         point: ProgPoint,
@@ -319,12 +319,12 @@ impl<'a, A: Allocator> State<'a, A> {
         preg: PReg,
     ) -> Result<(), RegAllocError>
         requires { AllAtOrAfter point self.old.edits }
-        ensures outcome { ComesTo (ClaimPlace point request.now (InRegister preg) inst_regs.old) inst_regs.new result self.old self.new }
+        ensures outcome { ComesTo (TakePlace point request.now (InRegister preg) inst_regs.old) inst_regs.new result self.old self.new }
         ensures awaited { inst_regs.new.awaited ≡ inst_regs.old.awaited }
         ensures alone { OnOk result (alloc_of self.new.places request.now.vreg.number ≡ NoPlace → vreg_of_preg self.new.places preg ≡ None) }
         ensures step { IsStepAt point result self.old self.new }
     {
-        self.evict_others(inst_regs, point, preg, request.vreg)?;
+        self.evict_other_vregs(inst_regs, point, preg, request.vreg)?;
         inst_regs.remove_available(preg, request.positions);
         self.note_taken(request.requirement, preg);
         Ok(())
@@ -332,7 +332,7 @@ impl<'a, A: Allocator> State<'a, A> {
 
     /// The place is the operand's: a register is claimed.
     #[inline(always)]
-    fn claim_place(
+    fn take_place(
         &mut self,
         inst_regs: &mut InstRegs,
         point: ProgPoint,
@@ -341,7 +341,7 @@ impl<'a, A: Allocator> State<'a, A> {
     ) -> Result<(), RegAllocError>
         requires later { AllAtOrAfter point self.old.edits }
         requires there { place ≢ NoPlace }
-        ensures outcome { ComesTo (ClaimPlace point request.now place inst_regs.old) inst_regs.new result self.old self.new }
+        ensures outcome { ComesTo (TakePlace point request.now place inst_regs.old) inst_regs.new result self.old self.new }
         ensures awaited { inst_regs.new.awaited ≡ inst_regs.old.awaited }
         ensures alone { OnOk result ((r : Register) → place ≡ InRegister r → alloc_of self.new.places request.now.vreg.number ≡ NoPlace →
             vreg_of_preg self.new.places r ≡ None) }
@@ -350,7 +350,7 @@ impl<'a, A: Allocator> State<'a, A> {
         let Some(preg) = place.as_reg() else {
             return Ok(());
         };
-        self.claim_preg(inst_regs, point, request, preg)?;
+        self.take_preg(inst_regs, point, request, preg)?;
         Ok(())
     }
 
@@ -371,8 +371,8 @@ impl<'a, A: Allocator> State<'a, A> {
         ensures step { IsStepAt point result self.old self.new }
     {
         let place = self.select_place(inst_regs, request)?;
-        self.claim_place(inst_regs, point, request, place)?;
-        note_placed(inst_regs, request);
+        self.take_place(inst_regs, point, request, place)?;
+        remove_if_any_reg_op(inst_regs, request);
         Ok(place)
     }
 
@@ -400,7 +400,7 @@ impl<'a, A: Allocator> State<'a, A> {
     /// The definition of a vreg in a place: the vreg has no location before it, and is moved to where it was awaited and to its
     /// slot, unless the instruction is a return.
     #[inline(always)]
-    fn free_def(
+    fn freealloc(
         &mut self,
         inst_regs: &mut InstRegs,
         point: ProgPoint,
@@ -410,7 +410,7 @@ impl<'a, A: Allocator> State<'a, A> {
     ) -> Result<(), RegAllocError>
         requires later { AllAtOrAfter point self.old.edits }
         requires vreg { vreg.number < length self.old.places.vreg_allocs }
-        ensures outcome { ComesTo (FreeDef point vreg is_ret place inst_regs.old) inst_regs.new result self.old self.new }
+        ensures outcome { ComesTo (FreeAlloc point vreg is_ret place inst_regs.old) inst_regs.new result self.old self.new }
         ensures awaited { inst_regs.new.awaited ≡ inst_regs.old.awaited }
         ensures step { IsStepAt point result self.old self.new }
     {
@@ -451,7 +451,7 @@ impl<'a, A: Allocator> State<'a, A> {
         ensures step { IsStepAt point result self.old self.new }
     {
         let place = self.alloc_operand(inst_regs, point, request)?;
-        self.free_def(inst_regs, point, request.vreg, is_ret, place)?;
+        self.freealloc(inst_regs, point, request.vreg, is_ret, place)?;
         Ok(place)
     }
 

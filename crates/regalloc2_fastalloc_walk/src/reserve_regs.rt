@@ -5,10 +5,10 @@ ghost use Rattle.regalloc2_names.specs.Register.{Register};
 ghost use Rattle.regalloc2_names.specs.RegisterSet.{has_register, registers_of};
 ghost use Rattle.regalloc2_fastalloc_state.specs.StateParts.{AllAtOrAfter};
 ghost use Rattle.regalloc2_fastalloc_state.specs.OutOfResources.{IsResourceErrorIn};
-ghost use Rattle.regalloc2_validate.specs.Constraints.{op_at};
+ghost use Rattle.regalloc2_function.specs.FunctionValue.{op_at};
 ghost use Rattle.regalloc2_fastalloc_proofs.specs.InstSteps.{NeedsFixedReg, NoneUsed, RemovesClobbers, ReserveRegs, EvictFixed, EvictEach, SameButOrder};
 ghost use Rattle.regalloc2_fastalloc_walk.specs.StateView.{Between, IsStepAt, SameTables, tables_of, ComesTo};
-ghost use Rattle.regalloc2_fastalloc_walk.specs.ReserveSteps.{AwaitsOne, ReservesOnly, IsNewlyReserved, IsReservedAt, IsReserved, Grows, Shrinks};
+ghost use Rattle.regalloc2_fastalloc_walk.specs.ReserveSteps.{AwaitsOne, ReservesOnly, IsNewlyReserved, IsReservedAt, IsReserved, KeepsReserved, Shrinks};
 ghost use Rattle.regalloc2_fastalloc_walk.specs.ReserveSteps.{ReservesRegForOperand, TakesOnly, RegIsNotReserved};
 
 use super::state::State;
@@ -40,7 +40,7 @@ impl ReservedRegs {
     /// Reserves the register at the positions, unless an earlier operand did at one of them.
     fn reserve(&mut self, preg: PReg, positions: Positions) -> Result<(), RegAllocError>
         ensures ok { OnOk result (IsNewlyReserved self.old self.new preg positions) }
-        ensures grows { Grows self.old self.new }
+        ensures grows { KeepsReserved self.old self.new }
         ensures only { ReservesOnly self.old self.new preg positions }
         ensures err { IfErr result (λ e. e ≡ RegAllocError.TooManyLiveRegs) }
         ensures claimed { IfErr result (λ e. IsReservedAt self.old preg positions) }
@@ -146,7 +146,7 @@ impl<'a, A: Allocator> State<'a, A> {
         ensures shrinks { Shrinks inst_regs.old inst_regs.new }
         ensures takes { TakesOnly preg inst_regs.old inst_regs.new }
         ensures awaited { inst_regs.new.awaited ≡ inst_regs.old.awaited }
-        ensures grows { Grows claims.old claims.new }
+        ensures grows { KeepsReserved claims.old claims.new }
         ensures only { ReservesOnly claims.old claims.new preg positions }
         ensures err { IfErr result (IsResourceErrorIn self.now.slots) }
         ensures stops { IfErr result (λ e. e ≡ RegAllocError.TooManyLiveRegs →
@@ -277,7 +277,7 @@ impl<'a, A: Allocator> State<'a, A> {
             let operand = operands[k];
             match operand.constraint() {
                 OperandConstraint::FixedReg(preg) => {
-                    self.evict_others(inst_regs, point, preg, operand.vreg())?;
+                    self.evict_other_vregs(inst_regs, point, preg, operand.vreg())?;
                 }
                 OperandConstraint::Reuse(_) => {
                     if let Some(preg) = reused_register(operand, operands) {

@@ -4,14 +4,14 @@ ghost use Rattle.std.specs.Prelude.{ℕ, ◌≡◌, ◌≢◌, ◌+◌, ◌<◌,
 ghost use Rattle.regalloc2_names.specs.Register.{VirtualRegister, class_code};
 ghost use Rattle.regalloc2_names.specs.Point.{before};
 ghost use Rattle.regalloc2_function.specs.FunctionValue.{block_at};
-ghost use Rattle.regalloc2_semantics.specs.Listing.{op_at};
+ghost use Rattle.regalloc2_function.specs.FunctionValue.{op_at};
 ghost use Rattle.regalloc2_semantics.specs.Stores.{Store, moves_by};
 ghost use Rattle.regalloc2_branch_defs.specs.BranchDefs.{IsEdgeInto};
 ghost use Rattle.regalloc2_branch_defs.specs.Tables.{AreBranchDefsOf, IsEdgeOf};
 ghost use Rattle.regalloc2_fastalloc_state.specs.StateParts.{AllAtOrAfter, NoneIsFrom};
 ghost use Rattle.regalloc2_fastalloc_proofs.specs.InstSteps.{MayHold};
 ghost use Rattle.regalloc2_fastalloc_proofs.specs.BlockSteps.{DefinesBelow, MayBeAllocated};
-ghost use Rattle.regalloc2_fastalloc_proofs.specs.BranchSteps.{AreApart};
+ghost use Rattle.regalloc2_fastalloc_proofs.specs.BranchSteps.{RegsAvoidStack};
 ghost use Rattle.regalloc2_fastalloc_proofs.specs.StoreSteps.{IsStoredFor, StoreBranchDefs};
 ghost use Rattle.regalloc2_fastalloc_walk.specs.BranchStores.{FindsDefined, FindsStore, FindsStores, ListsGiven, ListsParams, PushStore, PushStores};
 ghost use Rattle.regalloc2_fastalloc_walk.specs.BranchStores.{ListsStores, own_store};
@@ -252,7 +252,7 @@ impl<'a, A: Allocator> State<'a, A> {
         requires well_formed { MayBeAllocated (F.function f.now) }
         requires defs { AreBranchDefsOf (F.function f.now) defs.now }
         requires room { DefinesBelow (F.function f.now) (length self.old.slots.vreg_spillslots) }
-        requires apart { AreApart (tables_of self.old) }
+        requires apart { RegsAvoidStack (tables_of self.old) }
         requires later { AllAtOrAfter (before (block_at (F.function f.now) block).range.first) self.old.edits }
         ensures outcome { ComesTo (StoreBranchDefs (F.function f.now) block) tt result self.old self.new }
         ensures step { IsStepAt (before (block_at (F.function f.now) block).range.first) result self.old self.new }

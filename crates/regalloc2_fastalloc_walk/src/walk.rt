@@ -14,7 +14,7 @@ ghost use Rattle.regalloc2_function.specs.FunctionValue.{block_at, inst_at, oper
 ghost use Rattle.regalloc2_branch_defs.specs.Tables.{AreBranchDefsOf};
 ghost use Rattle.regalloc2_fastalloc_state.specs.StateParts.{AllAtOrAfter, SpillSlotsValue, alloc_of};
 ghost use Rattle.regalloc2_fastalloc_proofs.specs.InstSteps.{ends_block};
-ghost use Rattle.regalloc2_fastalloc_proofs.specs.BranchSteps.{AreApart, AddsTempSlotsAtMost};
+ghost use Rattle.regalloc2_fastalloc_proofs.specs.BranchSteps.{RegsAvoidStack, AddsTempSlotsAtMost};
 ghost use Rattle.regalloc2_fastalloc_state.specs.OutOfResources.{SlotsExhaustedWith, IsResourceError};
 ghost use Rattle.regalloc2_branch_defs.specs.BranchDefs.{IsEdgeInto};
 ghost use Rattle.regalloc2_fastalloc_proofs.specs.StoreSteps.{IsStoredFor};
@@ -70,7 +70,7 @@ impl<'a, A: Allocator> State<'a, A> {
         requires well_formed { MayBeAllocated (F.function cx.now.f.now) }
         requires defs { AreBranchDefsOf (F.function cx.now.f.now) cx.now.defs.now }
         requires room { DefinesBelow (F.function cx.now.f.now) (length self.old.places.vreg_allocs) }
-        requires apart { AreApart (tables_of self.old) }
+        requires apart { RegsAvoidStack (tables_of self.old) }
         requires later { AllAtOrAfter (after at.inst) self.old.edits }
         requires start { at.start ≡ offset_of (F.function cx.now.f.now) at.inst }
         requires allocs_long { length allocs.old ≡ operand_count (F.function cx.now.f.now) }
@@ -110,7 +110,7 @@ impl<'a, A: Allocator> State<'a, A> {
         requires well_formed { MayBeAllocated (F.function cx.now.f.now) }
         requires defs { AreBranchDefsOf (F.function cx.now.f.now) cx.now.defs.now }
         requires room { DefinesBelow (F.function cx.now.f.now) (length self.old.places.vreg_allocs) }
-        requires apart { AreApart (tables_of self.old) }
+        requires apart { RegsAvoidStack (tables_of self.old) }
         requires later { AllAtOrAfter (before (block_at (F.function cx.now.f.now) block).range.end) self.old.edits }
         requires offsets_long { length offsets.now ≡ length (F.function cx.now.f.now).insts }
         requires offsets { (i : ℕ) → i < length (F.function cx.now.f.now).insts → slice_index offsets.now i ≡ offset_of (F.function cx.now.f.now) i }
@@ -147,7 +147,7 @@ impl<'a, A: Allocator> State<'a, A> {
         requires well_formed { MayBeAllocated (F.function cx.now.f.now) }
         requires defs { AreBranchDefsOf (F.function cx.now.f.now) cx.now.defs.now }
         requires room { DefinesBelow (F.function cx.now.f.now) (length self.old.places.vreg_allocs) }
-        requires apart { AreApart (tables_of self.old) }
+        requires apart { RegsAvoidStack (tables_of self.old) }
         requires later { AllAtOrAfter (before (block_at (F.function cx.now.f.now) block).range.first) self.old.edits }
         ensures outcome { ComesTo (BeginBlock (F.function cx.now.f.now) block) tt result self.old self.new }
         ensures step { IsStepAt (before (block_at (F.function cx.now.f.now) block).range.first) result self.old self.new }
@@ -170,7 +170,7 @@ impl<'a, A: Allocator> State<'a, A> {
         requires fresh { self.old.edits ≡ [] }
         requires well_formed { MayBeAllocated (F.function f.now) }
         requires room { DefinesBelow (F.function f.now) (length self.old.places.vreg_allocs) }
-        requires apart { AreApart (tables_of self.old) }
+        requires apart { RegsAvoidStack (tables_of self.old) }
         requires offsets_long { length offsets.now ≡ length (F.function f.now).insts }
         requires offsets { (i : ℕ) → i < length (F.function f.now).insts → slice_index offsets.now i ≡ offset_of (F.function f.now) i }
         requires allocs_long { length allocs.old ≡ operand_count (F.function f.now) }

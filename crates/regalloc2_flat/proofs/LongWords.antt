@@ -2,7 +2,7 @@
 use Rattle.std.proofs.Common.{ℕ, zero, suc, ◌≡◌, ◌<◌, ◌+◌, List, [], ◌∷◌, ◌++◌, length, slice_index_or, arith, sym, ◌∙◌, ap, append_assoc}
 use Rattle.std.proofs.Common.{subst}
 use Rattle.std.specs.List.{flat_map}
-use Rattle.regalloc2_flat.specs.Flat.{HasLongWord, list}
+use Rattle.regalloc2_flat.specs.Flat.{HasLongWord, words_of_list}
 
 -- in front of others
 pub long_before : (a b : List ℕ) → HasLongWord a → HasLongWord (a ++ b)
@@ -33,7 +33,7 @@ long_member u (y ∷ ys) (suc i) x l e h =
     let within : i < length ys = omega arith in
     long_after (u y) (flat_map u ys) (long_member u ys i x within e h)
 
-pub long_in_list : {A : Type 0} (u : A → List ℕ) (xs : List A) → HasLongWord (flat_map u xs) → HasLongWord (list u xs)
+pub long_in_list : {A : Type 0} (u : A → List ℕ) (xs : List A) → HasLongWord (flat_map u xs) → HasLongWord (words_of_list u xs)
 long_in_list u xs h = long_after (length xs ∷ []) (flat_map u xs) h
 
 -- in one of the five parts of an output's words

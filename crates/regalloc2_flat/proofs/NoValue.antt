@@ -4,7 +4,7 @@ use Rattle.std.proofs.Common.{sym, ◌∙◌, append_assoc, ap}
 use Rattle.std.proofs.lemmas.List.{append-nil}
 use Rattle.std.specs.List.{flat_map}
 use Rattle.regalloc2_serialize.specs.declared.data.InstOpcode.{InstOpcode}
-use Rattle.regalloc2_flat.specs.Flat.{BeginsNone, IsNone, list}
+use Rattle.regalloc2_flat.specs.Flat.{BeginsNone, IsNone, words_of_list}
 use Rattle.regalloc2_flat.specs.OneRest.{HasOneRest}
 
 -- fewer members than a list has, after which no further one comes
@@ -21,7 +21,7 @@ no_member u one (i ∷ items) (x ∷ xs) after rest less none h =
 
 -- so there is no list
 pub no_list : {A : Type 0} (u : A → List ℕ) → HasOneRest u → (items : List A) (given after : List ℕ) (count : ℕ) →
-    given ≡ count ∷ flat_map u items ++ after → length items < count → BeginsNone u after → BeginsNone (λ xs. list u xs) given
+    given ≡ count ∷ flat_map u items ++ after → length items < count → BeginsNone u after → BeginsNone (λ xs. words_of_list u xs) given
 no_list u one items given after count e less none xs rest h =
     let same : count ≡ length xs = cc in
     let members : flat_map u items ++ after ≡ flat_map u xs ++ rest = cc in

@@ -9,16 +9,16 @@ use Rattle.regalloc2_serialize.specs.declared.data.StoredMachine.{StoredMachine}
 use Rattle.regalloc2_serialize.specs.declared.data.StoredFunction.{StoredFunction}
 
 -- a number is one word
-abbrev pub word : ℕ → List ℕ
-word n = n ∷ []
+abbrev pub one_word : ℕ → List ℕ
+one_word n = n ∷ []
 
 -- a number of 8 bits too
-abbrev pub byte : ℕ → List ℕ
-byte n = word (n % 2 ^ 8)
+abbrev pub words_of_byte : ℕ → List ℕ
+words_of_byte n = one_word (n % 2 ^ 8)
 
 -- a number of 64 bits is two, the lower one first
-abbrev pub long : ℕ → List ℕ
-long n = n % 2 ^ 32 ∷ n / 2 ^ 32 ∷ []
+abbrev pub words_of_long : ℕ → List ℕ
+words_of_long n = n % 2 ^ 32 ∷ n / 2 ^ 32 ∷ []
 
 abbrev pub flag_number : Bool → ℕ
 flag_number false = 0
@@ -35,52 +35,55 @@ opcode_number Ret = 1
 opcode_number Branch = 2
 
 -- a list is its length, and then its members
-abbrev pub list : {A : Type 0} → (A → List ℕ) → List A → List ℕ
-list words xs = length xs ∷ flat_map words xs
+abbrev pub words_of_list : {A : Type 0} → (A → List ℕ) → List A → List ℕ
+words_of_list words xs = length xs ∷ flat_map words xs
 
 -- lists of lists
-abbrev pub lists : {A B : Type 0} → (A → List B) → (B → List ℕ) → List A → List ℕ
-lists items words xs = list (λ l. list words (items l)) xs
+abbrev pub words_of_lists : {A B : Type 0} → (A → List B) → (B → List ℕ) → List A → List ℕ
+words_of_lists items words xs = words_of_list (λ l. words_of_list words (items l)) xs
 
-abbrev pub pair : (ℕ × ℕ) → List ℕ
-pair p = word p.0 ++ word p.1
+abbrev pub words_of_pair : (ℕ × ℕ) → List ℕ
+words_of_pair p = one_word p.0 ++ one_word p.1
 
-abbrev pub triple : (ℕ × ℕ × ℕ) → List ℕ
-triple p = word p.0 ++ (word p.1 ++ word p.2)
+abbrev pub words_of_triple : (ℕ × ℕ × ℕ) → List ℕ
+words_of_triple p = one_word p.0 ++ (one_word p.1 ++ one_word p.2)
 
-abbrev pub quadruple : (ℕ × ℕ × ℕ × ℕ) → List ℕ
-quadruple p = word p.0 ++ (word p.1 ++ (word p.2 ++ word p.3))
+abbrev pub words_of_quadruple : (ℕ × ℕ × ℕ × ℕ) → List ℕ
+words_of_quadruple p = one_word p.0 ++ (one_word p.1 ++ (one_word p.2 ++ one_word p.3))
 
 -- an instruction is its fields, in the order of `StoredInst`
 abbrev pub inst_words : {A : Type 0} → StoredInst A → List ℕ
-inst_words i = word (opcode_number i.op) ++ (list long i.operands.items ++ list byte i.clobbers.items)
+inst_words i = one_word (opcode_number i.op) ++ (words_of_list words_of_long i.operands.items ++ words_of_list words_of_byte i.clobbers.items)
 
 -- and a machine, in the order of `StoredMachine`
 abbrev pub machine_words : {A : Type 0} → StoredMachine A → List ℕ
-machine_words m = lists (λ l. l.items) byte m.preferred_regs_by_class.items ++ (lists (λ l. l.items) byte m.non_preferred_regs_by_class.items
-    ++ (list (λ r. word (optional_number r)) m.scratch_by_class.items ++ list byte m.fixed_stack_slots.items))
+machine_words m = words_of_lists (λ l. l.items) words_of_byte m.preferred_regs_by_class.items
+    ++ (words_of_lists (λ l. l.items) words_of_byte m.non_preferred_regs_by_class.items
+    ++ (words_of_list (λ r. one_word (optional_number r)) m.scratch_by_class.items ++ words_of_list words_of_byte m.fixed_stack_slots.items))
 
 -- the fields of a function come in four parts, each field in the order of `StoredFunction`
 abbrev pub code_words : {A : Type 0} → StoredFunction A → List ℕ
-code_words s = machine_words s.machine_env ++ (word s.entry_block ++ (list inst_words s.insts.items ++ list pair s.blocks.items))
+code_words s = machine_words s.machine_env ++ (one_word s.entry_block ++ (words_of_list inst_words s.insts.items ++ words_of_list words_of_pair s.blocks.items))
 
 abbrev pub edge_words : {A : Type 0} → StoredFunction A → List ℕ
-edge_words s = lists (λ l. l.items) word s.block_preds.items ++ (lists (λ l. l.items) word s.block_succs.items
-    ++ (lists (λ l. l.items) word s.block_params_in.items ++ list (λ l. lists (λ k. k.items) word l.items) s.block_params_out.items))
+edge_words s = words_of_lists (λ l. l.items) one_word s.block_preds.items ++ (words_of_lists (λ l. l.items) one_word s.block_succs.items
+    ++ (words_of_lists (λ l. l.items) one_word s.block_params_in.items ++ words_of_list (λ l. words_of_lists (λ k. k.items) one_word l.items)
+        s.block_params_out.items))
 
 abbrev pub vreg_words : {A : Type 0} → StoredFunction A → List ℕ
-vreg_words s = long s.num_vregs ++ (list quadruple s.debug_value_labels.items ++ list long s.spillslot_size.items)
+vreg_words s = words_of_long s.num_vregs ++ (words_of_list words_of_quadruple s.debug_value_labels.items ++ words_of_list words_of_long s.spillslot_size.items)
 
 abbrev pub flag_words : {A : Type 0} → StoredFunction A → List ℕ
-flag_words s = word (flag_number s.multi_spillslot_named_by_last_slot) ++ word (flag_number s.allow_multiple_vreg_defs)
+flag_words s = one_word (flag_number s.multi_spillslot_named_by_last_slot) ++ one_word (flag_number s.allow_multiple_vreg_defs)
 
 abbrev pub function_words : {A : Type 0} → StoredFunction A → List ℕ
 function_words s = code_words s ++ (edge_words s ++ (vreg_words s ++ flag_words s))
 
 -- an output is its fields, in the order of `StoredOutput`
 abbrev pub output_words : {A : Type 0} → StoredOutput A → List ℕ
-output_words o = long o.num_spillslots ++ (list triple o.edits.items ++ (list word o.allocs.items ++ (list word o.inst_alloc_offsets.items
-    ++ list quadruple o.debug_locations.items)))
+output_words o = words_of_long o.num_spillslots
+    ++ (words_of_list words_of_triple o.edits.items ++ (words_of_list one_word o.allocs.items ++ (words_of_list one_word o.inst_alloc_offsets.items
+    ++ words_of_list words_of_quadruple o.debug_locations.items)))
 
 -- words begin those of no value
 abbrev pub BeginsNone : {A : Type 0} → (A → List ℕ) → List ℕ → Type 0

@@ -1,17 +1,17 @@
 -- Where a value's words end is known from the words: what begins with the words of two values goes on alike after both.
 use Rattle.std.proofs.Common.{ℕ, ◌≡◌, List, [], ◌∷◌, ◌++◌, length, sym, ◌∙◌, append_assoc}
 use Rattle.std.specs.List.{flat_map}
-use Rattle.regalloc2_flat.specs.Flat.{word, long, list}
+use Rattle.regalloc2_flat.specs.Flat.{one_word, words_of_long, words_of_list}
 
 abbrev pub HasOneRest : {A : Type 0} → (A → List ℕ) → Type 0
 HasOneRest {A} words = (x y : A) (r s : List ℕ) → words x ++ r ≡ words y ++ s → r ≡ s
 
 -- of single words
-pub one_rest-word : {A : Type 0} (f : A → ℕ) → HasOneRest (λ x. word (f x))
+pub one_rest-word : {A : Type 0} (f : A → ℕ) → HasOneRest (λ x. one_word (f x))
 one_rest-word f x y r s h = cc
 
 -- of two words
-pub one_rest-long : HasOneRest long
+pub one_rest-long : HasOneRest words_of_long
 one_rest-long x y r s h = cc
 
 -- of two values after one another
@@ -47,7 +47,7 @@ one_rest-members u one (x ∷ xs) (y ∷ ys) r s e h =
     one_rest-members u one xs ys r s same (one x y (flat_map u xs ++ r) (flat_map u ys ++ s) joined)
 
 -- of lists
-pub one_rest-list : {A : Type 0} (u : A → List ℕ) → HasOneRest u → HasOneRest (λ xs. list u xs)
+pub one_rest-list : {A : Type 0} (u : A → List ℕ) → HasOneRest u → HasOneRest (λ xs. words_of_list u xs)
 one_rest-list u one xs ys r s h =
     let same : length xs ≡ length ys = cc in
     let members : flat_map u xs ++ r ≡ flat_map u ys ++ s = cc in

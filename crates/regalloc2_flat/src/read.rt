@@ -46,10 +46,10 @@ pub trait Flat {
 }
 
 impl Flat for u32 {
-    ghost use Rattle.regalloc2_flat.specs.Flat.{word};
+    ghost use Rattle.regalloc2_flat.specs.Flat.{one_word};
     ghost use Rattle.regalloc2_flat.specs.OneRest.{one_rest-word};
 
-    ghost words = { word };
+    ghost words = { one_word };
 
     ghost one_rest = { one_rest-word (λ n. n) };
 
@@ -59,11 +59,11 @@ impl Flat for u32 {
 }
 
 impl Flat for u8 {
-    ghost use Rattle.regalloc2_flat.specs.Flat.{byte};
+    ghost use Rattle.regalloc2_flat.specs.Flat.{words_of_byte};
     ghost use Rattle.std.specs.Prelude.{◌%◌, ◌^◌};
     ghost use Rattle.regalloc2_flat.specs.OneRest.{one_rest-word};
 
-    ghost words = { byte };
+    ghost words = { words_of_byte };
 
     ghost one_rest = { one_rest-word (λ n. n % 2 ^ 8) };
 
@@ -74,10 +74,10 @@ impl Flat for u8 {
 }
 
 impl Flat for u64 {
-    ghost use Rattle.regalloc2_flat.specs.Flat.{long};
+    ghost use Rattle.regalloc2_flat.specs.Flat.{words_of_long};
     ghost use Rattle.regalloc2_flat.specs.OneRest.{one_rest-long};
 
-    ghost words = { long };
+    ghost words = { words_of_long };
 
     ghost one_rest = { one_rest-long };
 
@@ -89,10 +89,10 @@ impl Flat for u64 {
 }
 
 impl Flat for bool {
-    ghost use Rattle.regalloc2_flat.specs.Flat.{word, flag_number};
+    ghost use Rattle.regalloc2_flat.specs.Flat.{one_word, flag_number};
     ghost use Rattle.regalloc2_flat.specs.OneRest.{one_rest-word};
 
-    ghost words = { λ b. word (flag_number b) };
+    ghost words = { λ b. one_word (flag_number b) };
 
     ghost one_rest = { one_rest-word flag_number };
 
@@ -106,10 +106,10 @@ impl Flat for bool {
 }
 
 impl Flat for Option<u8> {
-    ghost use Rattle.regalloc2_flat.specs.Flat.{word, optional_number};
+    ghost use Rattle.regalloc2_flat.specs.Flat.{one_word, optional_number};
     ghost use Rattle.regalloc2_flat.specs.OneRest.{one_rest-word};
 
-    ghost words = { λ o. word (optional_number o) };
+    ghost words = { λ o. one_word (optional_number o) };
 
     ghost one_rest = { one_rest-word optional_number };
 
@@ -166,10 +166,10 @@ impl<A: Flat + Drop, B: Flat + Drop, C: Flat + Drop, D: Flat + Drop> Flat for (A
 }
 
 impl<T: Flat + Drop> Flat for Vec<T> {
-    ghost use Rattle.regalloc2_flat.specs.Flat.{list};
+    ghost use Rattle.regalloc2_flat.specs.Flat.{words_of_list};
     ghost use Rattle.regalloc2_flat.specs.OneRest.{one_rest-list};
 
-    ghost words = { λ v. list T.words v.items };
+    ghost words = { λ v. words_of_list T.words v.items };
 
     ghost one_rest = { λ x y. one_rest-list T.words T.one_rest x.items y.items };
 

@@ -8,10 +8,10 @@ use regalloc2_serialize::{InstOpcode, StoredFunction, StoredInst, StoredMachine}
 use std::alloc::Global;
 
 impl Flat for InstOpcode {
-    ghost use Rattle.regalloc2_flat.specs.Flat.{word, opcode_number};
+    ghost use Rattle.regalloc2_flat.specs.Flat.{one_word, opcode_number};
     ghost use Rattle.regalloc2_flat.specs.OneRest.{one_rest-word};
 
-    ghost words = { λ op. word (opcode_number op) };
+    ghost words = { λ op. one_word (opcode_number op) };
 
     ghost one_rest = { one_rest-word opcode_number };
 

@@ -8,6 +8,9 @@ use Rattle.regalloc2_names.specs.Operand.{OperandValue}
 use Rattle.regalloc2_names.specs.declared.RegClass.{RegClass}
 use Rattle.regalloc2_names.specs.declared.RegClass.TheVariants.{Int, Float, Vector}
 use Rattle.regalloc2_names.specs.declared.sets.PRegSet.{PRegSet}
+use Rattle.regalloc2_names.specs.declared.OperandConstraint.TheVariants.{Any}
+use Rattle.regalloc2_names.specs.declared.OperandKind.TheVariants.{Use}
+use Rattle.regalloc2_names.specs.declared.OperandPos.TheVariants.{Early}
 
 -- an instruction
 pub record InstValue : Type 0 where
@@ -91,3 +94,11 @@ pub record IsLimited (f : FunctionValue) : Type 0 where
   pub vregs : f.num_vregs < 2 ^ 30
   pub slot_sizes : (class : RegClass) → IsSlotSize (slot_size f.slot_sizes class)
   pub labels : All (λ l. l.vreg.number < f.num_vregs) f.labels
+
+-- an operand that no instruction has
+abbrev pub no_operand : OperandValue
+no_operand = record { vreg = record { number = 0; class = Int }; constraint = Any; kind = Use; position = Early }
+
+-- the operand of an index
+abbrev pub op_at : List OperandValue → ℕ → OperandValue
+op_at operands k = slice_index_or operands k no_operand

@@ -24,11 +24,11 @@ IsSlotOf f out n = SomeIn (λ p. p ≡ InSlot n) out.allocs ⊎ SomeIn (λ e. (e
     ⊎ SomeIn (λ d. d.place ≡ InSlot n) out.debug_locations
 
 -- how many units a slot takes that has an owner, and the first of them where a slot has that name
-abbrev pub units_of : FunctionValue → Owner → ℕ
-units_of f owner = slot_size f.slot_sizes (class_of_owner owner)
+abbrev pub units_of_owner : FunctionValue → Owner → ℕ
+units_of_owner f owner = slot_size f.slot_sizes (class_of_owner owner)
 
 abbrev pub first_unit : FunctionValue → Owner → ℕ → ℕ
-first_unit f owner n = if f.named_by_last_slot then n + 1 - units_of f owner else n
+first_unit f owner n = if f.named_by_last_slot then n + 1 - units_of_owner f owner else n
 
 -- the class of what a place takes
 abbrev pub IsOfClass : (ℕ → Owner) → Place → RegClass → Type 0
@@ -45,12 +45,12 @@ pub record AreSlotsOwned (f : FunctionValue) (out : OutputValue) : Type 0 where
   pub branches : (n i : ℕ) (class : RegClass) (time : ℕ) → IsSlotOf f out n → owner n ≡ OfBranch i class time → (i < length f.insts)
       × ((inst_at f i).is_branch ≡ true)
   pub operands : (i : ℕ) → i < length f.insts → EachOperand (inst_at f i) (λ k o. (n : ℕ) → place_at (allocs_of out i) k ≡ InSlot n → owner n ≡ OfVReg o.vreg)
-  pub named : (n : ℕ) → IsSlotOf f out n → f.named_by_last_slot ≡ true → units_of f (owner n) ≤ n + 1
-  pub aligned : (n : ℕ) → IsSlotOf f out n → first_unit f (owner n) n % units_of f (owner n) ≡ 0
-  pub within : (n : ℕ) → IsSlotOf f out n → first_unit f (owner n) n + units_of f (owner n) ≤ out.num_spillslots
+  pub named : (n : ℕ) → IsSlotOf f out n → f.named_by_last_slot ≡ true → units_of_owner f (owner n) ≤ n + 1
+  pub aligned : (n : ℕ) → IsSlotOf f out n → first_unit f (owner n) n % units_of_owner f (owner n) ≡ 0
+  pub within : (n : ℕ) → IsSlotOf f out n → first_unit f (owner n) n + units_of_owner f (owner n) ≤ out.num_spillslots
   pub apart : (m n : ℕ) → IsSlotOf f out m → IsSlotOf f out n → m ≢ n →
-      (first_unit f (owner m) m + units_of f (owner m) ≤ first_unit f (owner n) n)
-      ⊎ (first_unit f (owner n) n + units_of f (owner n) ≤ first_unit f (owner m) m)
+      (first_unit f (owner m) m + units_of_owner f (owner m) ≤ first_unit f (owner n) n)
+      ⊎ (first_unit f (owner n) n + units_of_owner f (owner n) ≤ first_unit f (owner m) m)
   pub moves : All (λ e. (class : RegClass) × IsOfClass owner e.1.from class × IsOfClass owner e.1.to class) out.edits
 
 -- an operand names the virtual register, and its place is the slot

@@ -104,12 +104,13 @@ abbrev pub ArgumentsFit : FunctionValue → Type 0
 ArgumentsFit f = EachBlock f (ArgumentsFitAt f)
 
 -- an operand that defines
-abbrev pub defines : ℕ → OperandValue → Bool
-defines n o = is_def o.kind && nat_eq o.vreg.number n
+abbrev pub defines_number : ℕ → OperandValue → Bool
+defines_number n o = is_def o.kind && nat_eq o.vreg.number n
 
 -- how often a virtual register's number is defined: as a parameter and by instructions
 abbrev pub definitions_of : FunctionValue → ℕ → ℕ
-definitions_of f n = sum_of (map (λ b. count_by (λ v. nat_eq v.number n) b.params) f.blocks) + sum_of (map (λ i. count_by (defines n) i.operands) f.insts)
+definitions_of f n = sum_of (map (λ b. count_by (λ v. nat_eq v.number n) b.params) f.blocks) + sum_of
+    (map (λ i. count_by (defines_number n) i.operands) f.insts)
   where
     sum_of : List ℕ → ℕ
     sum_of [] = 0

@@ -11,7 +11,7 @@ use Rattle.regalloc2_function.specs.FunctionValue.{FunctionValue, block_at, inst
 use Rattle.regalloc2_function.specs.DebugPoints.{DefinesAt, IsFirstPoint, IsLastPoint, IsLastUse, PassesAt, ReadsAt, UsesAt}
 use Rattle.regalloc2_function.specs.DebugPoints.IsFirstPoint.{of_definition as begins_at_definition, of_parameter}
 use Rattle.regalloc2_function.specs.DebugPoints.IsLastPoint.{of_late_use, of_early_use, of_argument, of_definition as ends_at_definition}
-use Rattle.regalloc2_semantics.specs.Listing.{op_at}
+use Rattle.regalloc2_function.specs.FunctionValue.{op_at}
 use Rattle.regalloc2_semantics.proofs.SingleDef.{Made, not_both, one_operand, one_param}
 use Rattle.regalloc2_live_ranges.specs.declared.InstOperand.{InstOperand}
 use Rattle.regalloc2_live_ranges.specs.declared.ends.RangeEnd.{RangeEnd}

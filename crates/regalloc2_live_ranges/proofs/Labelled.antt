@@ -7,9 +7,10 @@ use Rattle.regalloc2_function.specs.FunctionValue.{FunctionValue, Label, label_o
 use Rattle.regalloc2_function.specs.DebugPoints.{IsFirstPoint}
 use Rattle.regalloc2_function.specs.DebugPoints.IsFirstPoint.{of_definition, of_parameter}
 use Rattle.regalloc2_cfg.specs.TableLength.{HasRoom}
+use Rattle.regalloc2_cfg.specs.MarkedNumbers.{Marks}
 use Rattle.regalloc2_live_ranges.specs.declared.LiveRange.{LiveRange}
 use Rattle.regalloc2_live_ranges.specs.LiveRanges.{AreLiveRanges, IsLabelled, IsSSA, IsWanted}
-use Rattle.regalloc2_live_ranges.specs.Marks.{Marks, NamedAmong}
+use Rattle.regalloc2_live_ranges.specs.Marks.{NamedAmong}
 use Rattle.regalloc2_live_ranges.proofs.UsesInSSA.{defined_small, parameter_small}
 
 pub none_is : (b : Bool) → (b ≡ true → ⊥) → not b ≡ true

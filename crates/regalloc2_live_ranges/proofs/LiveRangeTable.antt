@@ -6,24 +6,24 @@ use Rattle.std.proofs.lemmas.Bool.{cases_Bool, cases_eq, cases_lt}
 use Rattle.std.proofs.lemmas.Bool.Decides.{Decides-eqb}
 use Rattle.std.proofs.lemmas.List.{get_or_default}
 use Rattle.regalloc2_index.proofs.Numbers.{below_or_last}
-use Rattle.regalloc2_names.specs.Register.{VirtualRegister}
+use Rattle.regalloc2_names.specs.Register.{VirtualRegister, no_vreg}
 use Rattle.regalloc2_function.specs.FunctionValue.{FunctionValue, block_at}
 use Rattle.regalloc2_names.specs.Operand.{OperandValue, is_def}
 use Rattle.regalloc2_names.specs.Point.{before, after}
 use Rattle.regalloc2_function.specs.WellFormed.{BlocksFollow}
 use Rattle.regalloc2_function.specs.DebugPoints.{DefinesAt, IsFirstPoint, UsesAt}
 use Rattle.regalloc2_function.specs.DebugPoints.IsFirstPoint.{of_definition, of_parameter}
-use Rattle.regalloc2_semantics.specs.Listing.{op_at}
+use Rattle.regalloc2_function.specs.FunctionValue.{op_at}
 use Rattle.regalloc2_semantics.proofs.SingleDef.{Made, one_made}
 use Rattle.regalloc2_semantics.proofs.Order.{ends_within}
 use Rattle.regalloc2_cfg.specs.TableLength.{HasRoom}
 use Rattle.regalloc2_live_ranges.specs.declared.LiveRange.{LiveRange}
 use Rattle.regalloc2_live_ranges.specs.declared.ends.RangeEnd.{RangeEnd}
 use Rattle.regalloc2_live_ranges.specs.LiveRanges.{AreLiveRanges, IsDefiner, IsLiveRange, IsSSA, range_at}
-use Rattle.regalloc2_live_ranges.specs.LastUses.{EndsFrom, EndsUse, NotesUses, UsesNumber, end_at, end_behind, no_vreg}
+use Rattle.regalloc2_live_ranges.specs.LastUses.{EndsFrom, EndsUse, NotesUses, UsesNumber, end_at, end_behind}
 use Rattle.regalloc2_live_ranges.specs.LastUses.UsesNumber.{reads, passes}
 use Rattle.regalloc2_live_ranges.specs.Slots.{spread}
-use Rattle.regalloc2_live_ranges.specs.WalkInvariant.{AreEndsFrom, AreRight, IsWalked, NamesNone, Stay, begin_of}
+use Rattle.regalloc2_live_ranges.specs.WalkInvariant.{AreEndsFrom, AreRight, AreRangesWalked, NamesNoAsked, Stay, begin_of}
 use Rattle.regalloc2_live_ranges.proofs.ItemsPastEnd.{op_is}
 use Rattle.regalloc2_live_ranges.proofs.Spread.{spread_length, spread_nothing}
 use Rattle.regalloc2_live_ranges.proofs.UsesNoted.{ends_more, notes_nothing, passed_here}
@@ -142,7 +142,7 @@ taken_all f ssa Asked b vs m ends t params noted h v j asked has used =
 
 -- before the walk
 pub walked_none : (f : FunctionValue) → IsSSA f → (Asked : ℕ → Type 0) (slots : List ℕ) (m : ℕ) → HasRoom f (length slots) →
-    IsWalked f Asked (length f.insts) (length f.blocks) (spread slots (replicate m None)) (spread slots (replicate m None))
+    AreRangesWalked f Asked (length f.insts) (length f.blocks) (spread slots (replicate m None)) (spread slots (replicate m None))
 walked_none f ssa Asked slots m room = record {
   ends_room = subst (HasRoom f) (sym (spread_length slots (replicate m None))) room;
   ranges_room = subst (HasRoom f) (sym (spread_length slots (replicate m None))) room;
@@ -161,9 +161,10 @@ here_or_later i j le = grind arith
 
 -- one instruction more
 pub walked_inst : (f : FunctionValue) (Asked : ℕ → Type 0) (i b : ℕ) (ends ends' : List (Option RangeEnd)) (ranges ranges' : List (Option LiveRange)) →
-    IsWalked f Asked (i + 1) b ends ranges → length ends' ≡ length ends → length ranges' ≡ length ranges → AreEndsFrom f Asked i ends' → AreRight f ranges' →
+    AreRangesWalked f Asked (i + 1) b ends ranges → length ends' ≡ length ends → length ranges' ≡ length ranges → AreEndsFrom f Asked i ends' →
+        AreRight f ranges' →
     Stay ranges ranges'
-    → ((v : VirtualRegister) → Asked v.number → DefinesAt f v i → range_at ranges' v.number ≢ None) → IsWalked f Asked i b ends' ranges'
+    → ((v : VirtualRegister) → Asked v.number → DefinesAt f v i → range_at ranges' v.number ≢ None) → AreRangesWalked f Asked i b ends' ranges'
 walked_inst f Asked i b ends ends' ranges ranges' w long longs noted right stay defined = record {
   ends_room = subst (HasRoom f) (sym long) w.ends_room;
   ranges_room = subst (HasRoom f) (sym longs) w.ranges_room;
@@ -179,19 +180,19 @@ walked_inst f Asked i b ends ends' ranges ranges' w long longs noted right stay 
 
 -- nothing that is asked for is used or defined by an instruction whose operands name none, unless it is the last one of its block
 unused_here : (f : FunctionValue) → BlocksFollow f → (Asked : ℕ → Type 0) (b i n : ℕ) → b < length f.blocks → (block_at f b).range.first ≤ i →
-    i < (block_at f b).range.end → i + 1 ≢ (block_at f b).range.end → NamesNone f Asked i → Asked n → UsesNumber f n i → ⊥
+    i < (block_at f b).range.end → i + 1 ≢ (block_at f b).range.end → NamesNoAsked f Asked i → Asked n → UsesNumber f n i → ⊥
 unused_here f follow Asked b i n lt from upto inside none asked (reads at k less r) =
     none k r.within (subst Asked (sym r.number) asked)
 unused_here f follow Asked b i n lt from upto inside none asked (passes p) = inside (passed_here f follow b i n lt from upto p).0
 
-undefined_here : (f : FunctionValue) (Asked : ℕ → Type 0) (i : ℕ) (v : VirtualRegister) → NamesNone f Asked i → Asked v.number → DefinesAt f v i → ⊥
+undefined_here : (f : FunctionValue) (Asked : ℕ → Type 0) (i : ℕ) (v : VirtualRegister) → NamesNoAsked f Asked i → Asked v.number → DefinesAt f v i → ⊥
 undefined_here f Asked i v none asked d =
     let n = defines_number f v i d in none d.1.0 n.operand (subst Asked (sym n.number) asked)
 
 -- so the walk passes over it
 pub walked_over : (f : FunctionValue) → BlocksFollow f → (Asked : ℕ → Type 0) (b c i : ℕ) (ends : List (Option RangeEnd)) (ranges : List (Option LiveRange)) →
-    b < length f.blocks → (block_at f b).range.first ≤ i → i < (block_at f b).range.end → i + 1 ≢ (block_at f b).range.end → NamesNone f Asked i →
-    IsWalked f Asked (i + 1) c ends ranges → IsWalked f Asked i c ends ranges
+    b < length f.blocks → (block_at f b).range.first ≤ i → i < (block_at f b).range.end → i + 1 ≢ (block_at f b).range.end → NamesNoAsked f Asked i →
+    AreRangesWalked f Asked (i + 1) c ends ranges → AreRangesWalked f Asked i c ends ranges
 walked_over f follow Asked b c i ends ranges lt from upto inside none w =
     walked_inst f Asked i c ends ends ranges ranges w refl refl
     (λ n less asked. ends_more f i n (end_at ends n) (end_at ends n) (w.noted n less asked)
@@ -206,9 +207,9 @@ noted_more f Asked i ends ends' h long uses n lt asked = let less : n < length e
 
 -- one block's beginning more
 pub walked_block : (f : FunctionValue) (Asked : ℕ → Type 0) (i b : ℕ) (ends : List (Option RangeEnd)) (ranges ranges' : List (Option LiveRange)) →
-    IsWalked f Asked i (b + 1) ends ranges → length ranges' ≡ length ranges → AreRight f ranges' → Stay ranges ranges'
+    AreRangesWalked f Asked i (b + 1) ends ranges → length ranges' ≡ length ranges → AreRight f ranges' → Stay ranges ranges'
     → ((v : VirtualRegister) (j : ℕ) → Asked v.number → Contains (block_at f b).params v → UsesAt f v j → range_at ranges' v.number ≢ None) →
-    IsWalked f Asked i b ends ranges'
+    AreRangesWalked f Asked i b ends ranges'
 walked_block f Asked i b ends ranges ranges' w long right stay taken = record {
   ends_room = w.ends_room;
   ranges_room = subst (HasRoom f) (sym long) w.ranges_room;
@@ -223,7 +224,7 @@ walked_block f Asked i b ends ranges ranges' w long right stay taken = record {
 
 -- after the walk
 pub walked_all : (f : FunctionValue) → IsSSA f → (Asked : ℕ → Type 0) (ends : List (Option RangeEnd)) (ranges : List (Option LiveRange)) →
-    IsWalked f Asked 0 0 ends ranges → AreLiveRanges f Asked ranges
+    AreRangesWalked f Asked 0 0 ends ranges → AreLiveRanges f Asked ranges
 walked_all f ssa Asked ends ranges w = record {
   room = w.ranges_room;
   found = w.right;

@@ -4,15 +4,15 @@ use Rattle.std.specs.Prelude.{Contains, slice_index_or}
 use Rattle.std.proofs.lemmas.Bool.{cases_lt}
 use Rattle.std.proofs.lemmas.List.{get_or_default}
 use Rattle.regalloc2_names.specs.declared.OperandPos.{OperandPos}
-use Rattle.regalloc2_names.specs.Register.{VirtualRegister}
+use Rattle.regalloc2_names.specs.Register.{VirtualRegister, no_vreg}
 use Rattle.regalloc2_names.specs.Operand.{OperandValue, is_def, is_reading}
 use Rattle.regalloc2_names.specs.Point.{before, after}
-use Rattle.regalloc2_function.specs.FunctionValue.{FunctionValue, block_at, inst_at}
+use Rattle.regalloc2_function.specs.FunctionValue.{FunctionValue, block_at, inst_at, no_operand}
 use Rattle.regalloc2_function.specs.Machine.{MachineValue}
 use Rattle.regalloc2_function.specs.WellFormed.{IsDefinedBy, IsWellFormed, last_of}
 use Rattle.regalloc2_function.specs.DebugPoints.{DefinesAt, PassesAt, ReadsAt, UsesAt}
 use Rattle.regalloc2_cfg.specs.TableLength.{HasRoom}
-use Rattle.regalloc2_semantics.specs.Listing.{no_operand, op_at}
+use Rattle.regalloc2_function.specs.FunctionValue.{op_at}
 use Rattle.regalloc2_semantics.proofs.SingleDef.{DefinesAt as DefinesNumber, Made, TakesAt, is_made, made_before, made_behind, made_small, not_both, one_made}
 use Rattle.regalloc2_semantics.proofs.SingleDef.{one_param, reads_defined}
 use Rattle.regalloc2_semantics.proofs.SingleDef.Made.{by_operand, by_param}
@@ -20,7 +20,7 @@ use Rattle.regalloc2_semantics.proofs.SingleDef.{no_vreg as nowhere}
 use Rattle.regalloc2_semantics.proofs.Order.{ends_within, passes_later, reads_later}
 use Rattle.regalloc2_live_ranges.specs.declared.InstOperand.{InstOperand}
 use Rattle.regalloc2_live_ranges.specs.LiveRanges.{IsDefiner, IsReader, IsSSA}
-use Rattle.regalloc2_live_ranges.specs.LastUses.{HasNumber, PassesNumber, ReadsNumber, UsesNumber, no_vreg}
+use Rattle.regalloc2_live_ranges.specs.LastUses.{HasNumber, PassesNumber, ReadsNumber, UsesNumber}
 use Rattle.regalloc2_live_ranges.specs.LastUses.UsesNumber.{reads, passes}
 use Rattle.regalloc2_live_ranges.proofs.ItemsPastEnd.{op_is}
 

@@ -11,10 +11,10 @@ use Rattle.regalloc2_names.specs.Operand.{OperandValue, is_position, is_reading,
 use Rattle.regalloc2_names.proofs.EqualNames.{is_position-true, is_position-same}
 use Rattle.regalloc2_function.specs.FunctionValue.{FunctionValue, block_at, inst_at}
 use Rattle.regalloc2_function.specs.WellFormed.{BlocksFollow}
-use Rattle.regalloc2_semantics.specs.Listing.{op_at}
+use Rattle.regalloc2_function.specs.FunctionValue.{op_at}
 use Rattle.regalloc2_semantics.proofs.Order.{stands_later}
 use Rattle.regalloc2_live_ranges.specs.declared.ends.RangeEnd.{RangeEnd}
-use Rattle.regalloc2_live_ranges.specs.LastUses.{EndsFrom, EndsUse, HasPassed, Notes, NotesPassed, NotesReads, NotesUses}
+use Rattle.regalloc2_live_ranges.specs.LastUses.{EndsFrom, EndsUse, HasPassed, NotesRangeEnd, NotesPassed, NotesReads, NotesUses}
 use Rattle.regalloc2_live_ranges.specs.LastUses.{PassesNumber, ReadsFirst, ReadsNumber, UsesNumber, end_at, end_of_argument, end_of_reader}
 use Rattle.regalloc2_live_ranges.specs.LastUses.{read_end}
 use Rattle.regalloc2_live_ranges.specs.LastUses.UsesNumber.{reads, passes}
@@ -22,26 +22,26 @@ use Rattle.regalloc2_live_ranges.specs.LastUses.EndsUse.{late, early, passed}
 use Rattle.regalloc2_live_ranges.proofs.ItemsPastEnd.{op_is}
 
 -- what is noted stays so where no more than before is looked for, and all that fitted before fits
-pub notes_weaker : (F G : Type 0) (S T : RangeEnd → Type 0) (old new : Option RangeEnd) → (G → F) → ((e : RangeEnd) → S e → T e) → Notes F S old new →
-    Notes G T old new
+pub notes_weaker : (F G : Type 0) (S T : RangeEnd → Type 0) (old new : Option RangeEnd) → (G → F) → ((e : RangeEnd) → S e → T e) → NotesRangeEnd F S old new →
+    NotesRangeEnd G T old new
 notes_weaker F G S T (Some e) new back forth h = h
 notes_weaker F G S T None None back forth h = λ g. h (back g)
 notes_weaker F G S T None (Some e) back forth h = forth e h
 
 -- one more is found
 notes_found : (F G : Type 0) (S T : RangeEnd → Type 0) (old new : Option RangeEnd) (u : RangeEnd) → ((e : RangeEnd) → S e → T e) → ((F → ⊥) → T u) →
-    Notes F S old new → Notes G T old (option_or new (Some u))
+    NotesRangeEnd F S old new → NotesRangeEnd G T old (option_or new (Some u))
 notes_found F G S T (Some e) new u forth here h = ap (λ (o : Option RangeEnd). option_or o (Some u)) h
 notes_found F G S T None None u forth here h = here h
 notes_found F G S T None (Some e) u forth here h = forth e h
 
 -- one stage, and then another
-notes_then : (F G : Type 0) (S T : RangeEnd → Type 0) (old mid new : Option RangeEnd) → Notes F S old mid → Notes G T mid new →
-    Notes (F ⊎ G) (λ e. S e ⊎ ((F → ⊥) × T e)) old new
-notes_then F G S T (Some e) mid new h k = subst (λ (o : Option RangeEnd). Notes G T o new) h k
+notes_then : (F G : Type 0) (S T : RangeEnd → Type 0) (old mid new : Option RangeEnd) → NotesRangeEnd F S old mid → NotesRangeEnd G T mid new →
+    NotesRangeEnd (F ⊎ G) (λ e. S e ⊎ ((F → ⊥) × T e)) old new
+notes_then F G S T (Some e) mid new h k = subst (λ (o : Option RangeEnd). NotesRangeEnd G T o new) h k
 notes_then F G S T None None None h k = λ s. elim s [ inl a ↦ h a | inr b ↦ k b ]
 notes_then F G S T None None (Some e) h k = inr (h, k)
-notes_then F G S T None (Some d) new h k = subst (λ (o : Option RangeEnd). Notes (F ⊎ G) (λ e. S e ⊎ ((F → ⊥) × T e)) None o) (sym k) (inl h)
+notes_then F G S T None (Some d) new h k = subst (λ (o : Option RangeEnd). NotesRangeEnd (F ⊎ G) (λ e. S e ⊎ ((F → ⊥) × T e)) None o) (sym k) (inl h)
 
 -- operands
 pub reads_more : (at : OperandPos) (i : ℕ) (ops : List OperandValue) (m n : ℕ) (old mid : Option RangeEnd) → ReadsNumber ops n at m →
@@ -141,13 +141,13 @@ passed_here f follow b i n lt from upto p =
     (subst (λ (c : ℕ). i + 1 ≡ (block_at f c).range.end) same end, subst (λ (c : ℕ). HasPassed f c (length (block_at f c).succs) n) same p.3)
 
 -- where nothing is found, what is noted stays
-pub notes_nothing : (F : Type 0) (S : RangeEnd → Type 0) (o : Option RangeEnd) → (F → ⊥) → Notes F S o o
+pub notes_nothing : (F : Type 0) (S : RangeEnd → Type 0) (o : Option RangeEnd) → (F → ⊥) → NotesRangeEnd F S o o
 notes_nothing F S (Some e) never = refl
 notes_nothing F S None never = never
 
 -- the arguments of an instruction
 abbrev NotesPasses : FunctionValue → ℕ → ℕ → Option RangeEnd → Option RangeEnd → Type 0
-NotesPasses f i n = Notes (PassesNumber f n i) (λ e. PassesNumber f n i × (e ≡ end_of_argument i))
+NotesPasses f i n = NotesRangeEnd (PassesNumber f n i) (λ e. PassesNumber f n i × (e ≡ end_of_argument i))
 
 -- an instruction stands in a block
 pub record StandsIn (f : FunctionValue) (b i : ℕ) : Type 0 where

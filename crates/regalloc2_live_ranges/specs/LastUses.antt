@@ -2,14 +2,13 @@
 use Rattle.std.specs.Prelude.{ℕ, ◌≡◌, ◌+◌, ◌<◌, ◌≤◌, List, length, slice_index_or, true, Option, None, Some, nat_eq, if◌then◌else◌}
 use Rattle.regalloc2_names.specs.declared.OperandPos.{OperandPos}
 use Rattle.regalloc2_names.specs.declared.OperandPos.TheVariants.{Early, Late}
-use Rattle.regalloc2_names.specs.declared.RegClass.TheVariants.{Int}
 use Rattle.regalloc2_names.specs.Operand.{OperandValue, is_reading}
-use Rattle.regalloc2_names.specs.Register.{VirtualRegister}
+use Rattle.regalloc2_names.specs.Register.{VirtualRegister, no_vreg}
 use Rattle.regalloc2_names.specs.Point.{before, after}
 use Rattle.regalloc2_function.specs.FunctionValue.{FunctionValue, block_at, inst_at}
 use Rattle.regalloc2_function.specs.SourceRun.{arguments_at}
 use Rattle.regalloc2_function.specs.WellFormed.{last_of}
-use Rattle.regalloc2_semantics.specs.Listing.{op_at}
+use Rattle.regalloc2_function.specs.FunctionValue.{op_at}
 use Rattle.regalloc2_live_ranges.specs.declared.ends.RangeEnd.{RangeEnd}
 
 -- what a table says of a number; nothing past its end
@@ -17,10 +16,10 @@ abbrev pub end_at : List (Option RangeEnd) → ℕ → Option RangeEnd
 end_at t n = slice_index_or t n None
 
 -- what becomes of an entry: it stays where there is one; else it is one that fits, or none where nothing is found
-abbrev pub Notes : Type 0 → (RangeEnd → Type 0) → Option RangeEnd → Option RangeEnd → Type 0
-Notes Found Fits (Some e) new = new ≡ Some e
-Notes Found Fits None None = Found → ⊥
-Notes Found Fits None (Some e) = Fits e
+abbrev pub NotesRangeEnd : Type 0 → (RangeEnd → Type 0) → Option RangeEnd → Option RangeEnd → Type 0
+NotesRangeEnd Found Fits (Some e) new = new ≡ Some e
+NotesRangeEnd Found Fits None None = Found → ⊥
+NotesRangeEnd Found Fits None (Some e) = Fits e
 
 -- an operand reads the number at a position
 pub record ReadsNumber (ops : List OperandValue) (n : ℕ) (at : OperandPos) (k : ℕ) : Type 0 where
@@ -49,11 +48,8 @@ end_of_argument i = record { last = before i; by = None }
 
 -- the first so many operands are noted that read at a position
 abbrev pub NotesReads : OperandPos → ℕ → List OperandValue → ℕ → ℕ → Option RangeEnd → Option RangeEnd → Type 0
-NotesReads at i ops m n = Notes ((k : ℕ) × (k < m) × ReadsNumber ops n at k) (λ e. (k : ℕ) × (k < m) × ReadsFirst ops n at k × (e ≡ end_of_reader at i k))
-
--- a virtual register that no list has
-abbrev pub no_vreg : VirtualRegister
-no_vreg = record { number = 0; class = Int }
+NotesReads at i ops m n = NotesRangeEnd ((k : ℕ) × (k < m) × ReadsNumber ops n at k) (λ e. (k : ℕ) × (k < m) × ReadsFirst ops n at k
+    × (e ≡ end_of_reader at i k))
 
 -- one of the first so many has the number
 abbrev pub HasNumber : List VirtualRegister → ℕ → ℕ → Type 0
@@ -61,7 +57,7 @@ HasNumber vs m n = (k : ℕ) × (k < m) × (k < length vs) × ((slice_index_or v
 
 -- the first so many arguments are noted
 abbrev pub NotesArguments : ℕ → List VirtualRegister → ℕ → ℕ → Option RangeEnd → Option RangeEnd → Type 0
-NotesArguments i vs m n = Notes (HasNumber vs m n) (λ e. HasNumber vs m n × (e ≡ end_of_argument i))
+NotesArguments i vs m n = NotesRangeEnd (HasNumber vs m n) (λ e. HasNumber vs m n × (e ≡ end_of_argument i))
 
 -- one of the first so many successors is passed the number
 abbrev pub HasPassed : FunctionValue → ℕ → ℕ → ℕ → Type 0
@@ -69,7 +65,7 @@ HasPassed f b m n = (s : ℕ) × (s < m) × HasNumber (arguments_at f b s) (leng
 
 -- the arguments for the first so many successors are noted
 abbrev pub NotesPassed : FunctionValue → ℕ → ℕ → ℕ → ℕ → Option RangeEnd → Option RangeEnd → Type 0
-NotesPassed f b i m n = Notes (HasPassed f b m n) (λ e. HasPassed f b m n × (e ≡ end_of_argument i))
+NotesPassed f b i m n = NotesRangeEnd (HasPassed f b m n) (λ e. HasPassed f b m n × (e ≡ end_of_argument i))
 
 -- the instruction passes the number to a successor of its block
 abbrev pub PassesNumber : FunctionValue → ℕ → ℕ → Type 0
@@ -92,7 +88,7 @@ pub data EndsUse (f : FunctionValue) (n i : ℕ) : RangeEnd → Type 0 where
 
 -- an instruction's uses are noted
 abbrev pub NotesUses : FunctionValue → ℕ → ℕ → Option RangeEnd → Option RangeEnd → Type 0
-NotesUses f i n = Notes (UsesNumber f n i) (EndsUse f n i)
+NotesUses f i n = NotesRangeEnd (UsesNumber f n i) (EndsUse f n i)
 
 -- the end of what an instruction defines, where its last use from there on was noted; a use at the instruction is an argument that it passes itself
 abbrev pub end_behind : ℕ → Option RangeEnd → RangeEnd → RangeEnd

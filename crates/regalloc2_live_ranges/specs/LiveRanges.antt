@@ -10,7 +10,7 @@ use Rattle.regalloc2_names.specs.Operand.{is_def, is_reading}
 use Rattle.regalloc2_function.specs.WellFormed.{BlocksFollow, DefinedOnce, UsesAreDefined}
 use Rattle.regalloc2_function.specs.DebugPoints.{IsFirstPoint, IsKept, IsLastPoint, IsLastUse, ReadsAt, UsesAt}
 use Rattle.regalloc2_cfg.specs.TableLength.{HasRoom}
-use Rattle.regalloc2_semantics.specs.Listing.{op_at}
+use Rattle.regalloc2_function.specs.FunctionValue.{op_at}
 use Rattle.regalloc2_live_ranges.specs.declared.InstOperand.{InstOperand}
 use Rattle.regalloc2_live_ranges.specs.declared.LiveRange.{LiveRange}
 use Rattle.regalloc2_live_ranges.specs.declared.KeptLabel.{KeptLabel}

@@ -4,7 +4,7 @@ use Rattle.regalloc2_names.specs.Register.{VirtualRegister}
 use Rattle.regalloc2_function.specs.FunctionValue.{FunctionValue, block_at, inst_at}
 use Rattle.regalloc2_function.specs.DebugPoints.{DefinesAt, UsesAt}
 use Rattle.regalloc2_cfg.specs.TableLength.{HasRoom}
-use Rattle.regalloc2_semantics.specs.Listing.{op_at}
+use Rattle.regalloc2_function.specs.FunctionValue.{op_at}
 use Rattle.regalloc2_live_ranges.specs.declared.ends.RangeEnd.{RangeEnd}
 use Rattle.regalloc2_live_ranges.specs.declared.LiveRange.{LiveRange}
 use Rattle.regalloc2_live_ranges.specs.LiveRanges.{IsLiveRange, range_at}
@@ -23,7 +23,7 @@ abbrev pub AreEndsFrom : FunctionValue → (ℕ → Type 0) → ℕ → List (Op
 AreEndsFrom f Asked i t = (n : ℕ) → n < length t → Asked n → EndsFrom f i n (end_at t n)
 
 -- the instructions from one on are walked, and the beginnings of the blocks from one on
-pub record IsWalked (f : FunctionValue) (Asked : ℕ → Type 0) (i b : ℕ) (ends : List (Option RangeEnd)) (ranges : List (Option LiveRange)) : Type 0 where
+pub record AreRangesWalked (f : FunctionValue) (Asked : ℕ → Type 0) (i b : ℕ) (ends : List (Option RangeEnd)) (ranges : List (Option LiveRange)) : Type 0 where
   pub ends_room : HasRoom f (length ends)
   pub ranges_room : HasRoom f (length ranges)
   pub noted : AreEndsFrom f Asked i ends
@@ -33,8 +33,8 @@ pub record IsWalked (f : FunctionValue) (Asked : ℕ → Type 0) (i b : ℕ) (en
       range_at ranges v.number ≢ None
 
 -- no operand of an instruction names a number that is asked for
-abbrev pub NamesNone : FunctionValue → (ℕ → Type 0) → ℕ → Type 0
-NamesNone f Asked i = (k : ℕ) → k < length (inst_at f i).operands → Asked (op_at (inst_at f i).operands k).vreg.number → ⊥
+abbrev pub NamesNoAsked : FunctionValue → (ℕ → Type 0) → ℕ → Type 0
+NamesNoAsked f Asked i = (k : ℕ) → k < length (inst_at f i).operands → Asked (op_at (inst_at f i).operands k).vreg.number → ⊥
 
 -- where a block begins, and past the last block where the instructions end
 abbrev pub begin_of : FunctionValue → ℕ → ℕ

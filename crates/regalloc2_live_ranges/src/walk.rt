@@ -5,7 +5,7 @@ ghost use Rattle.regalloc2_function.specs.FunctionValue.{block_at};
 ghost use Rattle.regalloc2_cfg.specs.TableLength.{HasRoom};
 ghost use Rattle.regalloc2_live_ranges.specs.LiveRanges.{AreLiveRanges, IsSSA, IsWanted};
 ghost use Rattle.regalloc2_live_ranges.specs.Slots.{AreSlots, spread};
-ghost use Rattle.regalloc2_live_ranges.specs.WalkInvariant.{IsWalked};
+ghost use Rattle.regalloc2_live_ranges.specs.WalkInvariant.{AreRangesWalked};
 
 use super::LiveRange;
 use super::ends::{RangeEnd, note_uses};
@@ -38,9 +38,9 @@ fn walk_insts<F: Function>(
     requires block { block < length (F.function f.now).blocks }
     requires ends_slots { AreSlots wanted.now slots.now (length ends.old) }
     requires ranges_slots { AreSlots wanted.now slots.now (length ranges.old) }
-    requires walked { IsWalked (F.function f.now) (IsWanted wanted.now) (block_at (F.function f.now) block).range.end (block + 1)
+    requires walked { AreRangesWalked (F.function f.now) (IsWanted wanted.now) (block_at (F.function f.now) block).range.end (block + 1)
         (spread slots.now ends.old) (spread slots.now ranges.old) }
-    ensures { IsWalked (F.function f.now) (IsWanted wanted.now) (block_at (F.function f.now) block).range.first (block + 1)
+    ensures { AreRangesWalked (F.function f.now) (IsWanted wanted.now) (block_at (F.function f.now) block).range.first (block + 1)
         (spread slots.now ends.new) (spread slots.now ranges.new) }
 {
     let range = f.block_insns(block);

@@ -3,10 +3,11 @@
 
 ghost use Rattle.std.specs.Prelude.{ℕ, ◌≡◌, ◌≢◌, ◌<◌, ◌+◌, ◌↔◌, false, length, slice_index_or, IsTrue, IfOk};
 ghost use Rattle.regalloc2_cfg.specs.TableLength.{HasRoom};
-ghost use Rattle.regalloc2_semantics.specs.Listing.{op_at};
+ghost use Rattle.regalloc2_cfg.specs.MarkedNumbers.{Marks};
+ghost use Rattle.regalloc2_function.specs.FunctionValue.{op_at};
 ghost use Rattle.regalloc2_live_ranges.specs.LiveRanges.{IsLabelled, IsWanted};
-ghost use Rattle.regalloc2_live_ranges.specs.Marks.{Marks, NamedAmong};
-ghost use Rattle.regalloc2_live_ranges.specs.WalkInvariant.{NamesNone};
+ghost use Rattle.regalloc2_live_ranges.specs.Marks.{NamedAmong};
+ghost use Rattle.regalloc2_live_ranges.specs.WalkInvariant.{NamesNoAsked};
 
 use regalloc2_cfg::table_length::table_length;
 use regalloc2_function::Function;
@@ -48,7 +49,7 @@ fn some_is_wanted(wanted: &[bool], operands: &[Operand]) -> bool
 /// it isn't the last one, which may pass some.
 pub fn is_passed_over<F: Function>(f: &F, wanted: &[bool], end: Inst, inst: Inst) -> bool
     requires { inst < length (F.function f.now).insts }
-    ensures { IsTrue result ↔ ((inst + 1 ≢ end) × NamesNone (F.function f.now) (IsWanted wanted.now) inst) }
+    ensures { IsTrue result ↔ ((inst + 1 ≢ end) × NamesNoAsked (F.function f.now) (IsWanted wanted.now) inst) }
 {
     if inst.next() == end {
         return false;

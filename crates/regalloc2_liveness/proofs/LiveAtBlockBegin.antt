@@ -15,7 +15,7 @@ use Rattle.regalloc2_semantics.specs.Listing.{defines}
 use Rattle.regalloc2_semantics.proofs.UnwrittenPlaces.{defines_none}
 use Rattle.regalloc2_liveness.specs.LiveIn.{IsRead, IsNeeded, read, passed_on, later, IsUnwrittenTo}
 use Rattle.regalloc2_liveness.specs.BlockVRegPairs.{Pair, lists, BlockSets, holds, Gains, Grows}
-use Rattle.regalloc2_liveness.specs.BlockWalk.{asks, IsWalkedTo, Passes, IsWalked, AreWrites, AreAsked, AreParameters}
+use Rattle.regalloc2_liveness.specs.BlockWalk.{asks_for_vreg, IsBlockWalkedTo, PassesNeeds, IsBlockWalked, AreWrites, AreAsked, AreParameters}
 use Rattle.regalloc2_liveness.proofs.PairSets.{holds_nothing}
 use Rattle.regalloc2_liveness.proofs.WalkSteps.{asked_read, read_asked, defines_not, names_found, names_there}
 
@@ -55,7 +55,7 @@ module _ (f : FunctionValue) (b : ℕ) (v : VirtualRegister) where
 
 -- a block's walk begins
 pub walked_start : (f : FunctionValue) (b i : ℕ) (written : BlockSets) (needs : List Pair) → i ≡ (block_at f b).range.first →
-    ((v : VirtualRegister) → holds written (b, v) ≡ false) → IsWalkedTo f b i written needs written needs
+    ((v : VirtualRegister) → holds written (b, v) ≡ false) → IsBlockWalkedTo f b i written needs written needs
 walked_start f b i written needs e fresh = record {
   writes = record { others = λ p ne. refl; unwritten = λ v none j low high. absurd (omega arith); unlisted = λ v free. fresh v };
   finds = record { kept = λ p h. h; sound = λ h. h };
@@ -85,8 +85,9 @@ gained b test old new g p h = elim (or_cases (old p) (nat_eq b p.0 && test p.1) 
 
 -- one instruction more
 pub walked_more : (f : FunctionValue) (b i : ℕ) (w0 : BlockSets) (n0 : List Pair) (w : BlockSets) (n : List Pair) (w' : BlockSets) (n' : List Pair) →
-    b < length f.blocks → (block_at f b).range.first ≤ i → i < (block_at f b).range.end → IsWalkedTo f b i w0 n0 w n →
-    Gains b (λ v. defines v (inst_at f i).operands) (holds w) (holds w') → Grows b (asks (inst_at f i).operands w b) n n' → IsWalkedTo f b (i + 1) w0 n0 w' n'
+    b < length f.blocks → (block_at f b).range.first ≤ i → i < (block_at f b).range.end → IsBlockWalkedTo f b i w0 n0 w n →
+    Gains b (λ v. defines v (inst_at f i).operands) (holds w) (holds w') → Grows b (asks_for_vreg (inst_at f i).operands w b) n n' →
+        IsBlockWalkedTo f b (i + 1) w0 n0 w' n'
 walked_more f b i w0 n0 w n w' n' lb low high h wrote grew =
     let ops : List OperandValue = (inst_at f i).operands in
     let dtest : VirtualRegister → Bool = λ v. defines v ops in
@@ -101,8 +102,8 @@ walked_more f b i w0 n0 w n w' n' lb low high h wrote grew =
             gains_here b dtest (holds w) (holds w') v wrote ∙ rw (before, here) refl;
       };
       finds = record {
-        kept = λ p e. gains_keeps b (asks ops w b) (lists n) (lists n') grew.gains p (h.finds.kept p e);
-        sound = λ all p e. elim (gained b (asks ops w b) (lists n) (lists n') grew.gains p e) [
+        kept = λ p e. gains_keeps b (asks_for_vreg ops w b) (lists n) (lists n') grew.gains p (h.finds.kept p e);
+        sound = λ all p e. elim (gained b (asks_for_vreg ops w b) (lists n) (lists n') grew.gains p e) [
           | inl there ↦ h.finds.sound all p there
           | inr more ↦ (let s = asked_read ops w b p.1 more.1 in
               let n : IsNeeded f p.1 (first_of f b) = needed_first f b p.1 i low high (read (record { block = b; inst = i }) s.1)
@@ -111,16 +112,16 @@ walked_more f b i w0 n0 w n w' n' lb low high h wrote grew =
         ];
       };
       read = λ j v lo hi is free. elim (below_or_last j i hi) [
-        | inl less ↦ gains_keeps b (asks ops w b) (lists n) (lists n') grew.gains (b, v) (h.read j v lo less is free)
+        | inl less ↦ gains_keeps b (asks_for_vreg ops w b) (lists n) (lists n') grew.gains (b, v) (h.read j v lo less is free)
         | inr e ↦ (let unwritten : holds w (b, v) ≡ false = h.writes.unlisted v (subst (λ m. IsUnwrittenTo f b m v) e free) in
-            let asked : asks ops w b v ≡ true = read_asked ops w b v unwritten (subst (λ m. IsRead v (inst_at f m).operands) e is) in
-            gains_here b (asks ops w b) (lists n) (lists n') v grew.gains ∙ or_right (lists n (b, v)) (asks ops w b v) asked)
+            let asked : asks_for_vreg ops w b v ≡ true = read_asked ops w b v unwritten (subst (λ m. IsRead v (inst_at f m).operands) e is) in
+            gains_here b (asks_for_vreg ops w b) (lists n) (lists n') v grew.gains ∙ or_right (lists n (b, v)) (asks_for_vreg ops w b v) asked)
       ];
     }
 
 -- a list that gains what a block passes to its successor k and doesn't write has that of its first k + 1 successors
-pub passes_more : (f : FunctionValue) (b k : ℕ) (written : BlockSets) (old mid new : List Pair) → Passes f b k written old mid →
-    Grows b (λ v. names v (arguments_at f b k) && not (holds written (b, v))) mid new → Passes f b (k + 1) written old new
+pub passes_more : (f : FunctionValue) (b k : ℕ) (written : BlockSets) (old mid new : List Pair) → PassesNeeds f b k written old mid →
+    Grows b (λ v. names v (arguments_at f b k) && not (holds written (b, v))) mid new → PassesNeeds f b (k + 1) written old new
 passes_more f b k written old mid new h grew =
     let test : VirtualRegister → Bool = λ v. names v (arguments_at f b k) && not (holds written (b, v)) in
     record {
@@ -142,8 +143,8 @@ passes_more f b k written old mid new h grew =
 
 -- instructions, and then what is passed
 pub walked_whole : (f : FunctionValue) (b : ℕ) (w0 : BlockSets) (n0 : List Pair) (w : BlockSets) (n n' : List Pair) → b < length f.blocks →
-    (block_at f b).range.first < (block_at f b).range.end → IsWalkedTo f b (block_at f b).range.end w0 n0 w n →
-    Passes f b (length (block_at f b).succs) w n n' → IsWalked f b w0 n0 w n'
+    (block_at f b).range.first < (block_at f b).range.end → IsBlockWalkedTo f b (block_at f b).range.end w0 n0 w n →
+    PassesNeeds f b (length (block_at f b).succs) w n n' → IsBlockWalked f b w0 n0 w n'
 walked_whole f b w0 n0 w n n' lb some h passes = record {
   walked = record {
     writes = h.writes;
@@ -174,7 +175,8 @@ writes_start f n written e none = record {
 }
 
 -- once block n is walked, the sets of the first n + 1 blocks are what they write
-pub writes_more : (f : FunctionValue) (n : ℕ) (w0 : BlockSets) (n0 : List Pair) (w : BlockSets) (n' : List Pair) → AreWrites f n w0 → IsWalked f n w0 n0 w n' →
+pub writes_more : (f : FunctionValue) (n : ℕ) (w0 : BlockSets) (n0 : List Pair) (w : BlockSets) (n' : List Pair) → AreWrites f n w0 →
+    IsBlockWalked f n w0 n0 w n' →
     AreWrites f (n + 1) w
 writes_more f n w0 n0 w n' h here = record {
   unwritten = λ b v less none. elim (below_or_last b n less) [
@@ -197,7 +199,8 @@ asked_start f n needs e none = record {
 }
 
 -- once block n is walked, the list has what the first n + 1 blocks ask for, and only what is needed
-pub asked_more : (f : FunctionValue) (n : ℕ) (w0 : BlockSets) (n0 : List Pair) (w : BlockSets) (n' : List Pair) → AreAsked f n n0 → IsWalked f n w0 n0 w n' →
+pub asked_more : (f : FunctionValue) (n : ℕ) (w0 : BlockSets) (n0 : List Pair) (w : BlockSets) (n' : List Pair) → AreAsked f n n0 →
+    IsBlockWalked f n w0 n0 w n' →
     AreAsked f (n + 1) n'
 asked_more f n w0 n0 w n' h here = record {
   sound = here.walked.finds.sound h.sound;

@@ -14,12 +14,13 @@ use Rattle.regalloc2_names.specs.Operand.{OperandValue, is_def, is_position, is_
 use Rattle.regalloc2_names.proofs.EqualNames.{is_position-true, is_position-same, is_vreg-true, is_vreg-same}
 use Rattle.regalloc2_semantics.specs.Blocks.{names}
 use Rattle.regalloc2_semantics.specs.Carry.{Undefined}
-use Rattle.regalloc2_semantics.specs.Listing.{op_at, no_operand, defines}
+use Rattle.regalloc2_semantics.specs.Listing.{defines}
 use Rattle.regalloc2_semantics.proofs.UnwrittenPlaces.{defines_none}
 use Rattle.regalloc2_liveness.specs.LiveIn.{IsReadAt, IsRead}
 use Rattle.regalloc2_liveness.specs.BlockVRegPairs.{Pair, BlockSets, holds, Gains, Grows}
-use Rattle.regalloc2_liveness.specs.BlockWalk.{reads, asks}
+use Rattle.regalloc2_liveness.specs.BlockWalk.{reads, asks_for_vreg}
 use Rattle.regalloc2_liveness.proofs.PairLists.{grows_more}
+use Rattle.regalloc2_function.specs.FunctionValue.{no_operand, op_at}
 
 -- lists, one element more
 or_no : (r w : Bool) → ((r || false) && w) ≡ (r && w)
@@ -153,7 +154,8 @@ names_there v xs (k, lt, is) = names_is v xs ∙ list_any_at (λ y. is_vreg y v)
     (subst (λ (w : VirtualRegister). is_vreg w v ≡ true) (sym is) (is_vreg-same v))
 
 -- an instruction asks for what it reads and the block didn't write before
-pub asked_read : (ops : List OperandValue) (written : BlockSets) (b : ℕ) (v : VirtualRegister) → asks ops written b v ≡ true → (holds written (b, v) ≡ false)
+pub asked_read : (ops : List OperandValue) (written : BlockSets) (b : ℕ) (v : VirtualRegister) → asks_for_vreg ops written b v ≡ true →
+    (holds written (b, v) ≡ false)
     × IsRead v ops
 asked_read ops written b v h =
     elim (or_cases (reads Early v ops && not (holds written (b, v))) (reads Late v ops && not (holds written (b, v) || defines v ops))
@@ -167,7 +169,7 @@ asked_read ops written b v h =
 
 -- an instruction asks for a vreg that it reads and that its block didn't write before
 pub read_asked : (ops : List OperandValue) (written : BlockSets) (b : ℕ) (v : VirtualRegister) → holds written (b, v) ≡ false → IsRead v ops →
-    asks ops written b v ≡ true
+    asks_for_vreg ops written b v ≡ true
 read_asked ops written b v free (inl early) = rw (reads_there Early v ops early, free) refl
 read_asked ops written b v free (inr (undefined, late)) =
     or_right (reads Early v ops && not (holds written (b, v))) (reads Late v ops && not (holds written (b, v) || defines v ops))
@@ -176,9 +178,10 @@ read_asked ops written b v free (inr (undefined, late)) =
 -- what an instruction asks for, early and late
 pub asks_twice : (ops : List OperandValue) (old mid : BlockSets) (b : ℕ) (needs asked new : List Pair) → Gains b (λ v. defines v ops) (holds old) (holds mid) →
     Grows b (λ v. reads Early v ops && not (holds old (b, v))) needs asked → Grows b (λ v. reads Late v ops && not (holds mid (b, v))) asked new →
-    Grows b (asks ops old b) needs new
+    Grows b (asks_for_vreg ops old b) needs new
 asks_twice ops old mid b needs asked new wrote early late =
-    grows_more b (λ v. reads Early v ops && not (holds old (b, v))) (λ v. reads Late v ops && not (holds mid (b, v))) (asks ops old b) needs asked new early
+    grows_more b (λ v. reads Early v ops && not (holds old (b, v))) (λ v. reads Late v ops && not (holds mid (b, v))) (asks_for_vreg ops old b) needs asked
+        new early
     late
     (λ v. let e : holds mid (b, v) ≡ (holds old (b, v) || defines v ops) = wrote (b, v) ∙ ap (λ x. holds old (b, v) || (x && defines v ops)) (nat_eq-self b) in
     rw e refl)

@@ -18,8 +18,8 @@ unfoldable pub reads : OperandPos → VirtualRegister → List OperandValue → 
 reads pos v ops = list_any (λ o. reads_at pos o && is_vreg o.vreg v) ops
 
 -- whether an instruction of a block asks for v, where the block has written some before
-abbrev pub asks : List OperandValue → BlockSets → ℕ → VirtualRegister → Bool
-asks ops written b v = (reads Early v ops && not (holds written (b, v))) || (reads Late v ops && not (holds written (b, v) || defines v ops))
+abbrev pub asks_for_vreg : List OperandValue → BlockSets → ℕ → VirtualRegister → Bool
+asks_for_vreg ops written b v = (reads Early v ops && not (holds written (b, v))) || (reads Late v ops && not (holds written (b, v) || defines v ops))
 
 -- what is listed is needed at its block's beginning
 abbrev pub AreNeeded : FunctionValue → List Pair → Type 0
@@ -37,22 +37,22 @@ pub record WritesTo (f : FunctionValue) (b i : ℕ) (old new : BlockSets) : Type
   pub unlisted : (v : VirtualRegister) → IsUnwrittenTo f b i v → holds new (b, v) ≡ false
 
 -- a walk over a block's instructions before one: what they read and the block didn't write before is needed
-pub record IsWalkedTo (f : FunctionValue) (b i : ℕ) (written : BlockSets) (needs : List Pair) (written' : BlockSets) (needs' : List Pair) : Type 0 where
+pub record IsBlockWalkedTo (f : FunctionValue) (b i : ℕ) (written : BlockSets) (needs : List Pair) (written' : BlockSets) (needs' : List Pair) : Type 0 where
   pub writes : WritesTo f b i written written'
   pub finds : FindsNeeds f needs needs'
   pub read : (j : ℕ) (v : VirtualRegister) → (block_at f b).range.first ≤ j → j < i → IsRead v (inst_at f j).operands → IsUnwrittenTo f b j v →
       lists needs' (b, v) ≡ true
 
 -- what a block passes to its first successors and doesn't write is needed
-pub record Passes (f : FunctionValue) (b n : ℕ) (written : BlockSets) (old new : List Pair) : Type 0 where
+pub record PassesNeeds (f : FunctionValue) (b n : ℕ) (written : BlockSets) (old new : List Pair) : Type 0 where
   pub kept : (p : Pair) → lists old p ≡ true → lists new p ≡ true
   pub only : (p : Pair) → lists new p ≡ true → lists old p ≡ false → (b ≡ p.0) × (holds written p ≡ false)
       × ((k : ℕ) × (k < n) × Contains (arguments_at f b k) p.1)
   pub passed : (k : ℕ) (v : VirtualRegister) → k < n → Contains (arguments_at f b k) v → holds written (b, v) ≡ false → lists new (b, v) ≡ true
 
 -- a walk over a whole block
-pub record IsWalked (f : FunctionValue) (b : ℕ) (written : BlockSets) (needs : List Pair) (written' : BlockSets) (needs' : List Pair) : Type 0 where
-  pub walked : IsWalkedTo f b (block_at f b).range.end written needs written' needs'
+pub record IsBlockWalked (f : FunctionValue) (b : ℕ) (written : BlockSets) (needs : List Pair) (written' : BlockSets) (needs' : List Pair) : Type 0 where
+  pub walked : IsBlockWalkedTo f b (block_at f b).range.end written needs written' needs'
   pub passed : (k : ℕ) (v : VirtualRegister) → k < length (block_at f b).succs → Contains (arguments_at f b k) v → IsUnwritten f b v →
       lists needs' (b, v) ≡ true
 

@@ -8,7 +8,7 @@ ghost use Rattle.regalloc2_function.specs.WellFormed.{IsFramed};
 ghost use Rattle.regalloc2_semantics.specs.Blocks.{names};
 ghost use Rattle.regalloc2_semantics.specs.Listing.{defines};
 ghost use Rattle.regalloc2_liveness.specs.BlockVRegPairs.{Gains, Grows, holds};
-ghost use Rattle.regalloc2_liveness.specs.BlockWalk.{reads, asks, IsWalkedTo, IsWalked, AreWrites, AreAsked, Passes, AreParameters};
+ghost use Rattle.regalloc2_liveness.specs.BlockWalk.{reads, asks_for_vreg, IsBlockWalkedTo, IsBlockWalked, AreWrites, AreAsked, PassesNeeds, AreParameters};
 
 use crate::needs::Needs;
 use crate::sets::BlockVRegs;
@@ -59,7 +59,7 @@ fn walk_inst<A: Allocator + Copy>(
     needs: &mut Needs<A>,
 ) -> Result<(), AllocError>
     ensures written { OnOk result (Gains block (λ v. defines v operands.now) (holds written.old) (holds written.new)) }
-    ensures needs { OnOk result (Grows block (asks operands.now written.old block) needs.old needs.new) }
+    ensures needs { OnOk result (Grows block (asks_for_vreg operands.now written.old block) needs.old needs.new) }
 {
     ask_reads(operands, OperandPos::Early, block, written, needs)?;
     write_definitions(operands, block, written)?;
@@ -76,7 +76,7 @@ fn walk_insts<A: Allocator + Copy, F: Function>(
     requires framed { IsFramed (F.function f.now) }
     requires block { block < length (F.function f.now).blocks }
     requires fresh { (v : VirtualRegister) → holds written.old (block, v) ≡ false }
-    ensures { OnOk result (IsWalkedTo (F.function f.now) block (block_at (F.function f.now) block).range.end written.old needs.old written.new needs.new) }
+    ensures { OnOk result (IsBlockWalkedTo (F.function f.now) block (block_at (F.function f.now) block).range.end written.old needs.old written.new needs.new) }
 {
     let range = f.block_insns(block);
     for i in range.first().index()..range.end().index() {
@@ -109,7 +109,7 @@ fn ask_passed<A: Allocator + Copy, F: Function>(
 ) -> Result<(), AllocError>
     requires framed { IsFramed (F.function f.now) }
     requires block { block < length (F.function f.now).blocks }
-    ensures { OnOk result (Passes (F.function f.now) block (length (block_at (F.function f.now) block).succs) written.now needs.old needs.new) }
+    ensures { OnOk result (PassesNeeds (F.function f.now) block (length (block_at (F.function f.now) block).succs) written.now needs.old needs.new) }
 {
     let last = f.block_insns(block).last();
     for k in 0..f.block_succs(block).len() {
@@ -128,7 +128,7 @@ fn walk_block<A: Allocator + Copy, F: Function>(
     requires framed { IsFramed (F.function f.now) }
     requires block { block < length (F.function f.now).blocks }
     requires fresh { (v : VirtualRegister) → holds written.old (block, v) ≡ false }
-    ensures { OnOk result (IsWalked (F.function f.now) block written.old needs.old written.new needs.new) }
+    ensures { OnOk result (IsBlockWalked (F.function f.now) block written.old needs.old written.new needs.new) }
 {
     walk_insts(f, block, written, needs)?;
     ask_passed(f, block, written, needs)

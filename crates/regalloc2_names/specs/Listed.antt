@@ -89,10 +89,11 @@ listed_step class n k w j (inl e) low one further =
     rw (← e) (here (nat_eq (bit_at w k) 1) (record { number = k; class = class }) (word_members class (k + 1) n w) (eq-eqb _ _ (rw e one)))
 listed_step class n k w j (inr ne) low one further = past (nat_eq (bit_at w k) 1) _ _ _ (further (omega arith))
 
-listed : (class : RegClass) (n k w j : ℕ) → k ≤ j → j < k + n → bit_at w j ≡ 1 → Contains (word_members class k n w) (record { number = j; class = class })
-listed class zero k w j low high one = absurd (omega arith)
-listed class (suc n) k w j low high one =
-    listed_step class n k w j (cases_eq k j) low one (λ less. listed class n (k + 1) w j (omega arith) (omega arith) one)
+listed_within : (class : RegClass) (n k w j : ℕ) → k ≤ j → j < k + n → bit_at w j ≡ 1 →
+    Contains (word_members class k n w) (record { number = j; class = class })
+listed_within class zero k w j low high one = absurd (omega arith)
+listed_within class (suc n) k w j low high one =
+    listed_step class n k w j (cases_eq k j) low one (λ less. listed_within class n (k + 1) w j (omega arith) (omega arith) one)
 
 -- what is listed is a bit that is set
 pub record IsBitOf (class : RegClass) (k n w : ℕ) (r : Register) : Type 0 where
@@ -124,14 +125,14 @@ unfolding registers_of_words
 listed_in s Int n small h =
     Contains-append_left (word_members Int 0 64 (slice_index s.bits 0) ++ word_members Float 0 64 (slice_index s.bits 1))
     (word_members Vector 0 64 (slice_index s.bits 2)) _ (Contains-append_left (word_members Int 0 64 (slice_index s.bits 0))
-    (word_members Float 0 64 (slice_index s.bits 1)) _ (listed Int 64 0 (slice_index s.bits 0) n (omega arith) (omega arith) (eqb-true _ _ h)))
+    (word_members Float 0 64 (slice_index s.bits 1)) _ (listed_within Int 64 0 (slice_index s.bits 0) n (omega arith) (omega arith) (eqb-true _ _ h)))
 listed_in s Float n small h =
     Contains-append_left (word_members Int 0 64 (slice_index s.bits 0) ++ word_members Float 0 64 (slice_index s.bits 1))
     (word_members Vector 0 64 (slice_index s.bits 2)) _ (Contains-append_right (word_members Int 0 64 (slice_index s.bits 0))
-    (word_members Float 0 64 (slice_index s.bits 1)) _ (listed Float 64 0 (slice_index s.bits 1) n (omega arith) (omega arith) (eqb-true _ _ h)))
+    (word_members Float 0 64 (slice_index s.bits 1)) _ (listed_within Float 64 0 (slice_index s.bits 1) n (omega arith) (omega arith) (eqb-true _ _ h)))
 listed_in s Vector n small h =
     Contains-append_right (word_members Int 0 64 (slice_index s.bits 0) ++ word_members Float 0 64 (slice_index s.bits 1))
-    (word_members Vector 0 64 (slice_index s.bits 2)) _ (listed Vector 64 0 (slice_index s.bits 2) n (omega arith) (omega arith) (eqb-true _ _ h))
+    (word_members Vector 0 64 (slice_index s.bits 2)) _ (listed_within Vector 64 0 (slice_index s.bits 2) n (omega arith) (omega arith) (eqb-true _ _ h))
 
 pub is_listed : (s : PRegSet) (r : Register) → r.number < 64 → has_register s r ≡ true → Contains (registers_of s) r
 unfolding has_register

@@ -48,3 +48,7 @@ invalid_register = record { number = 63; class = Int }
 -- the virtual register that stands for none where one is wanted
 abbrev pub invalid_vreg : VirtualRegister
 invalid_vreg = record { number = 1073741823; class = Int }
+
+-- a virtual register that no list has
+abbrev pub no_vreg : VirtualRegister
+no_vreg = record { number = 0; class = Int }

@@ -25,8 +25,8 @@ both false b h = absurd cc
 registers : (m n : ℕ) (c d : RegClass) → m ≡ n → c ≡ d → ◌≡◌ {A = Register} (record { number = m; class = c }) (record { number = n; class = d })
 registers m n c d e f = rw (e, f) refl
 
-vregs : (m n : ℕ) (c d : RegClass) → m ≡ n → c ≡ d → ◌≡◌ {A = VirtualRegister} (record { number = m; class = c }) (record { number = n; class = d })
-vregs m n c d e f = rw (e, f) refl
+same_vregs : (m n : ℕ) (c d : RegClass) → m ≡ n → c ≡ d → ◌≡◌ {A = VirtualRegister} (record { number = m; class = c }) (record { number = n; class = d })
+same_vregs m n c d e f = rw (e, f) refl
 
 pub is_register-true : (a b : Register) → is_register a b ≡ true → a ≡ b
 is_register-true a b h =
@@ -42,7 +42,7 @@ is_register-same a = rw (eqb-same (class_code a.class), eqb-same a.number) refl
 pub is_vreg-true : (a b : VirtualRegister) → is_vreg a b ≡ true → a ≡ b
 is_vreg-true a b h =
     let s = both (nat_eq (class_code a.class) (class_code b.class)) (nat_eq a.number b.number) h in
-    vregs a.number b.number a.class b.class (eqb-true a.number b.number s.1) (same_class a.class b.class s.0)
+    same_vregs a.number b.number a.class b.class (eqb-true a.number b.number s.1) (same_class a.class b.class s.0)
 
 pub is_vreg-same : (a : VirtualRegister) → is_vreg a a ≡ true
 is_vreg-same a = rw (eqb-same (class_code a.class), eqb-same a.number) refl

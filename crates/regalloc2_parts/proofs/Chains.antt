@@ -7,7 +7,7 @@ use Rattle.std.proofs.lemmas.List.{get_or_append_left}
 use Rattle.regalloc2_parts.specs.AtOnce.{Ends}
 use Rattle.regalloc2_parts.specs.declared.moves.order.State.{State}
 use Rattle.regalloc2_parts.specs.declared.moves.order.State.TheVariants.{Todo, Pending, Done}
-use Rattle.regalloc2_parts.specs.Giving.{from_at, to_at, state_at, number_at, AreApart, AreNexts, IsNextDone, LeadsTo, IsChain, HasGoneOn, IsSettled}
+use Rattle.regalloc2_parts.specs.Giving.{from_at, to_at, state_at, number_at, AreMovesApart, AreNexts, IsNextDone, LeadsTo, IsMoveChain, HasGoneOn, IsSettled}
 
 -- whether a move is in the state `Todo`, neither on the chain nor emitted
 unfoldable pub is_todo : State → Bool
@@ -72,8 +72,8 @@ pub set_there : (st : List State) (k j : ℕ) (s : State) → (j ≡ k → ⊥) 
 set_there st k j s n = get_or-set_other st k j s Todo n
 
 -- a chain goes on by a move that was still to be done
-pub chain_push : (nexts : List ℕ) (st : List State) (chain : List ℕ) (k : ℕ) → IsChain nexts st chain → length st ≡ length nexts → k < length nexts →
-    state_at st k ≡ Todo → ((i : ℕ) → i + 1 ≡ length chain → number_at nexts (number_at chain i) ≡ k) → IsChain nexts (set st k Pending) (chain ++ k ∷ [])
+pub chain_push : (nexts : List ℕ) (st : List State) (chain : List ℕ) (k : ℕ) → IsMoveChain nexts st chain → length st ≡ length nexts → k < length nexts →
+    state_at st k ≡ Todo → ((i : ℕ) → i + 1 ≡ length chain → number_at nexts (number_at chain i) ≡ k) → IsMoveChain nexts (set st k Pending) (chain ++ k ∷ [])
 chain_push nexts st chain k had same within todo link =
     let short : k < length st = omega arith in
     let more : length (chain ++ k ∷ []) ≡ length chain + 1 = length_push chain k in
@@ -108,8 +108,8 @@ chain_push nexts st chain k had same within todo link =
     }
 
 -- the last move of a chain is done
-pub chain_pop : (nexts : List ℕ) (st : List State) (chain : List ℕ) (k : ℕ) → IsChain nexts st (chain ++ k ∷ []) → length st ≡ length nexts →
-    IsChain nexts (set st k Done) chain
+pub chain_pop : (nexts : List ℕ) (st : List State) (chain : List ℕ) (k : ℕ) → IsMoveChain nexts st (chain ++ k ∷ []) → length st ≡ length nexts →
+    IsMoveChain nexts (set st k Done) chain
 chain_pop nexts st chain k had same =
     let more : length (chain ++ k ∷ []) ≡ length chain + 1 = length_push chain k in
     let within : k < length st = subst (λ x. x < length st) (at_end chain k)
@@ -134,7 +134,7 @@ chain_pop nexts st chain k had same =
     }
 
 -- the move before it in the chain then has its next done
-pub ready_pop : (nexts : List ℕ) (st : List State) (chain : List ℕ) (k : ℕ) → IsChain nexts st (chain ++ k ∷ []) → length st ≡ length nexts → (i : ℕ) →
+pub ready_pop : (nexts : List ℕ) (st : List State) (chain : List ℕ) (k : ℕ) → IsMoveChain nexts st (chain ++ k ∷ []) → length st ≡ length nexts → (i : ℕ) →
     i + 1 ≡ length chain → IsNextDone nexts (set st k Done) (number_at chain i)
 ready_pop nexts st chain k had same i e inside =
     let more : length (chain ++ k ∷ []) ≡ length chain + 1 = length_push chain k in
@@ -145,7 +145,7 @@ ready_pop nexts st chain k had same i e inside =
     ∙ set_here st k Done (subst (λ x. x < length st) is (subst (λ x. number_at nexts (number_at chain i) < x) (sym same) inside))
 
 -- what a move reads is written by a move that is done, if at all
-pub writers_done : (ms : List Ends) (nexts : List ℕ) (st : List State) (k : ℕ) → AreApart ms → AreNexts ms nexts → k < length ms → IsNextDone nexts st k →
+pub writers_done : (ms : List Ends) (nexts : List ℕ) (st : List State) (k : ℕ) → AreMovesApart ms → AreNexts ms nexts → k < length ms → IsNextDone nexts st k →
     (j : ℕ) → j < length ms → to_at ms j ≡ from_at ms k → state_at st j ≡ Done
 writers_done ms nexts st k apart ns within ready j inside is =
     let many : length nexts ≡ length ms = ns.as_many in
@@ -163,7 +163,7 @@ goes_on old st k s other within had j n e = ⊎_elim
     (cases_eq j k)
 
 -- the last move on a chain is one of the moves
-pub last_within : (nexts : List ℕ) (st : List State) (chain : List ℕ) (k : ℕ) → IsChain nexts st (chain ++ k ∷ []) → k < length nexts
+pub last_within : (nexts : List ℕ) (st : List State) (chain : List ℕ) (k : ℕ) → IsMoveChain nexts st (chain ++ k ∷ []) → k < length nexts
 last_within nexts st chain k is =
     let more : length (chain ++ k ∷ []) ≡ length chain + 1 = length_push chain k in
     subst (λ x. x < length nexts) (at_end chain k) (is.inside (length chain) (omega arith))
@@ -175,7 +175,7 @@ last_leads nexts chain k stop leads =
     ap (λ x. number_at nexts x) (sym (at_end chain k)) ∙ leads (length chain) (omega arith)
 
 -- with an empty chain no move is `Pending`
-pub ends_settled : (nexts : List ℕ) (st : List State) (chain : List ℕ) → IsChain nexts st chain → length chain ≡ 0 → length st ≡ length nexts → IsSettled st
+pub ends_settled : (nexts : List ℕ) (st : List State) (chain : List ℕ) → IsMoveChain nexts st chain → length chain ≡ 0 → length st ≡ length nexts → IsSettled st
 ends_settled nexts st chain is empty same k r pends =
     let at : (i : ℕ) × (i < length chain) × (number_at chain i ≡ k) = is.only k (omega arith) pends in
     let low : at.0 < length chain = at.1 in omega arith

@@ -11,13 +11,13 @@ use Rattle.regalloc2_parts.specs.declared.moves.scratch.Handed.{Handed}
 use Rattle.regalloc2_parts.specs.declared.moves.scratch.Handed.TheVariants.{Register, Slot}
 use Rattle.regalloc2_parts.specs.declared.moves.resolved.MoveVecWithScratch.{MoveVecWithScratch}
 use Rattle.regalloc2_parts.specs.declared.moves.resolved.MoveVecWithScratch.TheVariants.{NoScratch, Scratch}
-use Rattle.regalloc2_parts.specs.AtOnce.{ends_of, names, in_turn, WritesNoneFirst}
-use Rattle.regalloc2_parts.specs.Resolved.{listed, has_scratch, with_place, place_or, filled, IsRunnable, IsUnnamed, AreBetweenPlaces}
+use Rattle.regalloc2_parts.specs.AtOnce.{ends_of, own_names, in_turn, WritesNoneFirst}
+use Rattle.regalloc2_parts.specs.Resolved.{moves_listed, has_scratch, with_place, place_or, filled, IsRunnable, IsUnnamed, AreBetweenPlaces}
 use Rattle.regalloc2_parts.specs.declared.moves.passing.Held.{Held}
 use Rattle.regalloc2_parts.specs.declared.moves.passing.Held.TheVariants.{Free, InRegister}
 use Rattle.regalloc2_parts.specs.declared.moves.passing.ScratchReg.{ScratchReg}
-use Rattle.regalloc2_parts.specs.Tracking.{CanExpand, IsExpanded, IsMade, IsOneOf, IsFirst}
-use Rattle.regalloc2_parts.specs.Computed.{Asked, MayBeAskedTwice, Owes, IsHanding, IsRefusing, IsVia, IsChoice, IsAnswered, IsComputed}
+use Rattle.regalloc2_parts.specs.Tracking.{CanExpand, IsExpanded, IsMade, IsEither, IsUnused}
+use Rattle.regalloc2_parts.specs.Computed.{Asked, MayBeAskedTwice, Owes, IsHanding, IsRefusing, IsVia, IsChoice, IsAnswer, IsComputed}
 use Rattle.regalloc2_parts.specs.Computed.{AreApartInMemory, AreSeenApart}
 use Rattle.regalloc2_parts.proofs.Filling.{fills_same, fills_real, or_some, or_none}
 use Rattle.regalloc2_parts.proofs.Places.{cases_place}
@@ -49,11 +49,11 @@ module _ {T : Type 0} where
       (get_or ms h.0 x, Contains-get_or ms h.0 x here, sym (get_or-map (filled s) ms h.0 x x here) ∙ h.2)
 
 -- a longer list of answers has what a shorter one has
-answered_more : (rs ss qs ts : List (Option Place)) (p : Place) → IsAnswered rs ss p → IsAnswered (rs ++ qs) (ss ++ ts) p
+answered_more : (rs ss qs ts : List (Option Place)) (p : Place) → IsAnswer rs ss p → IsAnswer (rs ++ qs) (ss ++ ts) p
 answered_more rs ss qs ts p h = ⊎_elim (λ l. inl (Contains-append_left rs qs (Some p) l)) (λ r. inr (Contains-append_left ss ts (Some p) r)) h
 
 -- a list that needs no scratch place is as it is
-pub unfilled : {T A : Type 0} (s : Place) (moves : MoveVecWithScratch T A) → has_scratch moves ≡ false → with_place s moves ≡ listed moves
+pub unfilled : {T A : Type 0} (s : Place) (moves : MoveVecWithScratch T A) → has_scratch moves ≡ false → with_place s moves ≡ moves_listed moves
 unfilled s (NoScratch ms) e = refl
 unfilled s (Scratch ms) e = let no : true ≡ false = e in absurd cc
 
@@ -68,9 +68,9 @@ module _ {F G T : Type 0} (registers : F → Option Place → F → Type 0) (slo
     pub rs_calls : FoldsTo registers f rs f'
     pub ss_calls : FoldsTo slots g ss g'
     pub between : AreBetweenPlaces made
-    pub same : (q : Place) → q ≢ NoPlace → (IsAnswered rs ss q → ⊥) → in_turn (ends_of made) names q ≡ in_turn (ends_of given) names q
-    pub sources : (x : Place × Place × T) → Contains made x → IsAnswered rs ss x.0 ⊎ ((n : Place × Place × T) × Contains given n × (x.0 ≡ n.0))
-    pub targets : (x : Place × Place × T) → Contains made x → IsAnswered rs ss x.1 ⊎ ((n : Place × Place × T) × Contains given n × (x.1 ≡ n.1) × (x.2 ≡ n.2))
+    pub same : (q : Place) → q ≢ NoPlace → (IsAnswer rs ss q → ⊥) → in_turn (ends_of made) own_names q ≡ in_turn (ends_of given) own_names q
+    pub sources : (x : Place × Place × T) → Contains made x → IsAnswer rs ss x.0 ⊎ ((n : Place × Place × T) × Contains given n × (x.0 ≡ n.0))
+    pub targets : (x : Place × Place × T) → Contains made x → IsAnswer rs ss x.1 ⊎ ((n : Place × Place × T) × Contains given n × (x.1 ≡ n.1) × (x.2 ≡ n.2))
     pub plain : scratch ≡ false → made ≡ given
     pub free : (r : Place) (t : F) → registers f' (Some r) t → (r ≢ NoPlace) × IsUnnamed r made × (stack r true → ⊥)
     pub unused : (r : Place) (t : G) → slots g' (Some r) t → (r ≢ NoPlace) × IsUnnamed r made
@@ -86,7 +86,7 @@ module _ {F G T : Type 0} (registers : F → Option Place → F → Type 0) (slo
     rs_calls = sym ef;
     ss_calls = sym eg;
     between = subst (λ x. AreBetweenPlaces x) (sym e) real;
-    same = λ q some n. ap (λ x. in_turn (ends_of x) names q) e;
+    same = λ q some n. ap (λ x. in_turn (ends_of x) own_names q) e;
     sources = λ x h. inr (x, subst (λ xs. Contains xs x) e h, refl);
     targets = λ x h. inr (x, subst (λ xs. Contains xs x) e h, refl, refl);
     plain = λ h. e;
@@ -101,37 +101,37 @@ module _ {F G T : Type 0} (registers : F → Option Place → F → Type 0) (slo
   }
 
   -- the ends of what was filled with an answered place
-  sources_filled : (rs ss : List (Option Place)) (s : Place) (given made : List (Place × Place × T)) → IsAnswered rs ss s → made ≡ map (filled s) given →
-      (x : Place × Place × T) → Contains made x → IsAnswered rs ss x.0 ⊎ ((n : Place × Place × T) × Contains given n × (x.0 ≡ n.0))
+  sources_filled : (rs ss : List (Option Place)) (s : Place) (given made : List (Place × Place × T)) → IsAnswer rs ss s → made ≡ map (filled s) given →
+      (x : Place × Place × T) → Contains made x → IsAnswer rs ss x.0 ⊎ ((n : Place × Place × T) × Contains given n × (x.0 ≡ n.0))
   sources_filled rs ss s given made answered e x h =
       let n = from_filled s given x (subst (λ xs. Contains xs x) e h) in
       ⊎_elim
-      (λ here. inl (subst (λ p. IsAnswered rs ss p) (sym here) answered))
+      (λ here. inl (subst (λ p. IsAnswer rs ss p) (sym here) answered))
       (λ there. inr (n.0, n.1, there))
       (ends_filled s (n.0).0 x.0 (ap (λ (y : Place × Place × T). y.0) (sym n.2)))
 
-  targets_filled : (rs ss : List (Option Place)) (s : Place) (given made : List (Place × Place × T)) → IsAnswered rs ss s → made ≡ map (filled s) given →
-      (x : Place × Place × T) → Contains made x → IsAnswered rs ss x.1 ⊎ ((n : Place × Place × T) × Contains given n × (x.1 ≡ n.1) × (x.2 ≡ n.2))
+  targets_filled : (rs ss : List (Option Place)) (s : Place) (given made : List (Place × Place × T)) → IsAnswer rs ss s → made ≡ map (filled s) given →
+      (x : Place × Place × T) → Contains made x → IsAnswer rs ss x.1 ⊎ ((n : Place × Place × T) × Contains given n × (x.1 ≡ n.1) × (x.2 ≡ n.2))
   targets_filled rs ss s given made answered e x h =
       let n = from_filled s given x (subst (λ xs. Contains xs x) e h) in
       ⊎_elim
-      (λ here. inl (subst (λ p. IsAnswered rs ss p) (sym here) answered))
+      (λ here. inl (subst (λ p. IsAnswer rs ss p) (sym here) answered))
       (λ there. inr (n.0, n.1, there, ap (λ (y : Place × Place × T). y.2) (sym n.2)))
       (ends_filled s (n.0).1 x.1 (ap (λ (y : Place × Place × T). y.1) (sym n.2)))
 
   same_filled : (rs ss : List (Option Place)) (s : Place) (given made : List (Place × Place × T)) → s ≢ NoPlace → IsUnnamed s given →
-      WritesNoneFirst (ends_of given) → IsAnswered rs ss s → made ≡ map (filled s) given → (q : Place) → q ≢ NoPlace → (IsAnswered rs ss q → ⊥) →
-      in_turn (ends_of made) names q ≡ in_turn (ends_of given) names q
+      WritesNoneFirst (ends_of given) → IsAnswer rs ss s → made ≡ map (filled s) given → (q : Place) → q ≢ NoPlace → (IsAnswer rs ss q → ⊥) →
+      in_turn (ends_of made) own_names q ≡ in_turn (ends_of given) own_names q
   same_filled rs ss s given made fresh free first answered e q some n =
-      ap (λ x. in_turn (ends_of x) names q) e ∙
-      fills_same s fresh given names names free first (λ p a b. refl) q (λ h. n (subst (λ p. IsAnswered rs ss p) (sym h) answered)) some
+      ap (λ x. in_turn (ends_of x) own_names q) e ∙
+      fills_same s fresh given own_names own_names free first (λ p a b. refl) q (λ h. n (subst (λ p. IsAnswer rs ss p) (sym h) answered)) some
 
   -- a register was chosen
   chosen_register : (given made : List (Place × Place × T)) (f f' : F) (g g' : G) (s : Place) → Owes registers slots stack borrowed given f g →
       WritesNoneFirst (ends_of given) → registers f (Some s) f' → g' ≡ g → made ≡ map (filled s) given → Chosen given true f f' g g' made
   chosen_register given made f f' g g' s owes first step eg e =
       let was : (s ≢ NoPlace) × IsUnnamed s given = owes.free s (inl (f', step)) in
-      let answered : IsAnswered (Some s ∷ []) [] s = inl (0, omega arith, refl) in
+      let answered : IsAnswer (Some s ∷ []) [] s = inl (0, omega arith, refl) in
       record {
         rs = Some s ∷ [];
         ss = [];
@@ -162,7 +162,7 @@ module _ {F G T : Type 0} (registers : F → Option Place → F → Type 0) (slo
       WritesNoneFirst (ends_of given) → registers f None f' → slots g (Some s) g' → made ≡ map (filled s) given → Chosen given true f f' g g' made
   chosen_slot given made f f' g g' s owes first asked step e =
       let was : (s ≢ NoPlace) × IsUnnamed s given = owes.unused s (inl (g', step)) in
-      let answered : IsAnswered (None ∷ []) (Some s ∷ []) s = inr (0, omega arith, refl) in
+      let answered : IsAnswer (None ∷ []) (Some s ∷ []) s = inr (0, omega arith, refl) in
       record {
         rs = None ∷ [];
         ss = Some s ∷ [];
@@ -187,8 +187,8 @@ module _ {F G T : Type 0} (registers : F → Option Place → F → Type 0) (slo
 
   -- so it is with each choice of the scratch place for moves that can be run
   pub chosen : {A : Type 0} (moves : MoveVecWithScratch T A) (made : List (Place × Place × T)) (f f' : F) (g g' : G) →
-      Owes registers slots stack borrowed (listed moves) f g → IsRunnable moves → IsChoice registers slots f f' g g' moves made →
-      Chosen (listed moves) (has_scratch moves) f f' g g' made
+      Owes registers slots stack borrowed (moves_listed moves) f g → IsRunnable moves → IsChoice registers slots f f' g g' moves made →
+      Chosen (moves_listed moves) (has_scratch moves) f f' g g' made
   chosen (NoScratch ms) made f f' g g' owes run (inl c) = chosen_none ms.items made f f' g g' owes run c.1 c.2 c.3
   chosen (NoScratch ms) made f f' g g' owes run (inr c) = let no : false ≡ true = c.1 in absurd cc
   chosen (Scratch ms) made f f' g g' owes run (inl c) = let no : true ≡ false = c.0 in absurd cc
@@ -197,7 +197,7 @@ module _ {F G T : Type 0} (registers : F → Option Place → F → Type 0) (slo
 
   -- no move goes from memory to memory, and so the moves stay
   computed_at_once : (given made : List (Place × Place × T)) (scratch : Bool) (f f' : F) (g g' : G) (c : Chosen given scratch f f' g g' made) →
-      AreSeenApart stack made → IsComputed stack borrowed (IsAnswered c.rs c.ss) scratch given made
+      AreSeenApart stack made → IsComputed stack borrowed (IsAnswer c.rs c.ss) scratch given made
   computed_at_once given made scratch f f' g g' c apart = record {
     same = c.same;
     each = λ k d low.
@@ -214,18 +214,18 @@ module _ {F G T : Type 0} (registers : F → Option Place → F → Type 0) (slo
 
   -- moves were made by way of a register
   computed_by_way : (given made out : List (Place × Place × T)) (scratch : Bool) (f f' : F) (g g' : G) (c : Chosen given scratch f f' g g' made)
-      (qs ts : List (Option Place)) (register save : Place) → (IsAnswered (c.rs ++ qs) (c.ss ++ ts) register ⊎ (register ≡ borrowed)) →
-      IsAnswered (c.rs ++ qs) (c.ss ++ ts) save → (AreApartInMemory stack made → ⊥) →
-      ((q : Place) → q ≢ save → in_turn (ends_of out) names q ≡ in_turn (ends_of made) names q) → All (IsMade stack register save made) out →
-      IsComputed stack borrowed (IsAnswered (c.rs ++ qs) (c.ss ++ ts)) scratch given out
+      (qs ts : List (Option Place)) (register save : Place) → (IsAnswer (c.rs ++ qs) (c.ss ++ ts) register ⊎ (register ≡ borrowed)) →
+      IsAnswer (c.rs ++ qs) (c.ss ++ ts) save → (AreApartInMemory stack made → ⊥) →
+      ((q : Place) → q ≢ save → in_turn (ends_of out) own_names q ≡ in_turn (ends_of made) own_names q) → All (IsMade stack register save made) out →
+      IsComputed stack borrowed (IsAnswer (c.rs ++ qs) (c.ss ++ ts)) scratch given out
   computed_by_way given made out scratch f f' g g' c qs ts register save lent_register lent_save some same each =
-      let Lent : Place → Type 0 = λ p. IsAnswered (c.rs ++ qs) (c.ss ++ ts) p ⊎ (p ≡ borrowed) in
-      let lent : (p : Place) → IsOneOf register save p → Lent p = λ p h. ⊎_elim
+      let Lent : Place → Type 0 = λ p. IsAnswer (c.rs ++ qs) (c.ss ++ ts) p ⊎ (p ≡ borrowed) in
+      let lent : (p : Place) → IsEither register save p → Lent p = λ p h. ⊎_elim
       (λ r. subst Lent (sym r) lent_register)
-      (λ s. inl (subst (λ x. IsAnswered (c.rs ++ qs) (c.ss ++ ts) x) (sym s) lent_save)) h in
+      (λ s. inl (subst (λ x. IsAnswer (c.rs ++ qs) (c.ss ++ ts) x) (sym s) lent_save)) h in
       record {
         same = λ q real n.
-            same q (λ e. n (subst (λ x. IsAnswered (c.rs ++ qs) (c.ss ++ ts) x) (sym e) lent_save)) ∙
+            same q (λ e. n (subst (λ x. IsAnswer (c.rs ++ qs) (c.ss ++ ts) x) (sym e) lent_save)) ∙
             c.same q real (λ h. n (answered_more c.rs c.ss qs ts q h));
         each = λ k d low.
             let x : Place × Place × T = get_or out k d in
@@ -235,13 +235,13 @@ module _ {F G T : Type 0} (registers : F → Option Place → F → Type 0) (slo
               between = m.between;
               source = ⊎_elim (λ o. inl (lent x.0 o))
                   (λ n. ⊎_elim
-                  (λ a. inl (inl (answered_more c.rs c.ss qs ts x.0 (subst (λ p. IsAnswered c.rs c.ss p) (sym n.2) a))))
+                  (λ a. inl (inl (answered_more c.rs c.ss qs ts x.0 (subst (λ p. IsAnswer c.rs c.ss p) (sym n.2) a))))
                   (λ k. inr (k.0, k.1, n.2 ∙ k.2))
                   (c.sources n.0 n.1))
                   m.source;
               target = ⊎_elim (λ o. inl (lent x.1 o))
                   (λ n. ⊎_elim
-                  (λ a. inl (inl (answered_more c.rs c.ss qs ts x.1 (subst (λ p. IsAnswered c.rs c.ss p) (sym n.2) a))))
+                  (λ a. inl (inl (answered_more c.rs c.ss qs ts x.1 (subst (λ p. IsAnswer c.rs c.ss p) (sym n.2) a))))
                   (λ k. inr (k.0, k.1, n.2 ∙ k.2, n.3 ∙ k.3))
                   (c.targets n.0 n.1))
                   m.target;
@@ -285,7 +285,7 @@ module _ {F G T : Type 0} (registers : F → Option Place → F → Type 0) (slo
   -- all that was asked for and made: nothing more than a scratch place
   pub computes_at_once : (given made : List (Place × Place × T)) (scratch : Bool) (f f' : F) (g g' : G) → Chosen given scratch f f' g g' made →
       AreSeenApart stack made → (a : Asked registers f f') × (b : Asked slots g g')
-      × IsComputed stack borrowed (IsAnswered a.answers b.answers) scratch given made
+      × IsComputed stack borrowed (IsAnswer a.answers b.answers) scratch given made
   computes_at_once given made scratch f f' g g' c apart =
       (asked_registers given made scratch f f' g g' c, asked_slots given made scratch f f' g g' c, computed_at_once given made scratch f f' g g' c apart)
 
@@ -303,7 +303,7 @@ module _ {F G T : Type 0} (registers : F → Option Place → F → Type 0) (slo
       let was = c.free p f'' h.0 in
       record {
         no_memory = λ x. was.2 (subst (λ q. stack q true) is.0 x);
-        first = subst (λ x. IsFirst x) (sym is.2) tt;
+        first = subst (λ x. IsUnused x) (sym is.2) tt;
         fits = λ e. is.0 ∙ sym is.1;
         unnamed = subst (λ q. IsUnnamed q made) (sym is.1) was.1;
         real = ((λ e. was.0 (sym is.0 ∙ e)), (λ e. was.0 (sym is.1 ∙ e)));
@@ -313,7 +313,7 @@ module _ {F G T : Type 0} (registers : F → Option Place → F → Type 0) (slo
       let was = c.unused p g'' h.1 in
       record {
         no_memory = λ x. away (subst (λ q. stack q true) is.0 x);
-        first = subst (λ x. IsFirst x) (sym is.2) tt;
+        first = subst (λ x. IsUnused x) (sym is.2) tt;
         fits = λ e. let no : InRegister ≡ Free = sym is.2 ∙ e in absurd cc;
         unnamed = subst (λ q. IsUnnamed q made) (sym is.1) was.1;
         real = ((λ e. real (sym is.0 ∙ e)), (λ e. was.0 (sym is.1 ∙ e)));
@@ -326,9 +326,9 @@ module _ {F G T : Type 0} (registers : F → Option Place → F → Type 0) (slo
       (AreApartInMemory stack made → ⊥) → (h : Handed) → IsHanding registers slots f' f'' g' g'' h → (via : ScratchReg) (first : Held) →
       IsVia h borrowed via first
       → (a : Asked registers f f'') × (b : Asked slots g g'') × ((out : List (Place × Place × T)) → IsExpanded stack via.register via.save made out →
-      IsComputed stack borrowed (IsAnswered a.answers b.answers) scratch given out)
+      IsComputed stack borrowed (IsAnswer a.answers b.answers) scratch given out)
   computes_by_way {given = given} {made = made} {scratch = scratch} {f = f} {f' = f'} {g = g} {g' = g'} f'' g'' c some (Register p) h via first is =
-      let answered : (q : Place) → q ≡ p → IsAnswered (c.rs ++ Some p ∷ []) (c.ss ++ []) q = λ q e. inl
+      let answered : (q : Place) → q ≡ p → IsAnswer (c.rs ++ Some p ∷ []) (c.ss ++ []) q = λ q e. inl
       (subst (λ x. Contains (c.rs ++ Some p ∷ []) (Some x)) (sym e) (Contains-push c.rs (Some p))) in (
         more_registers given made scratch f f' f'' g g' c (Some p) h.0,
         no_more_slots given made scratch f f' g g' g'' c h.1,

@@ -7,7 +7,7 @@ use Rattle.std.proofs.lemmas.List.Elements.{Contains-get_or}
 use Rattle.regalloc2_names.specs.PlaceBits.{bits_of_place}
 use Rattle.regalloc2_parts.specs.AtOnce.{Ends, no_move}
 use Rattle.regalloc2_parts.specs.Cycles.{move_at, cycle_at, IsCycle, HasCycle, AreChanges, IsCounted}
-use Rattle.regalloc2_parts.specs.Giving.{from_at, to_at, number_at, ring_at, AreApart, AreNexts, IsRingOf, StandsIn, IsTidied, IsOrder, AreFair}
+use Rattle.regalloc2_parts.specs.Giving.{from_at, to_at, number_at, ring_at, AreMovesApart, AreNexts, IsRingOfMoves, StandsIn, IsTidied, IsOrder, AreFair}
 use Rattle.regalloc2_parts.proofs.Tidying.{same_ends}
 
 -- after each move of a cycle comes another
@@ -45,7 +45,7 @@ indexes new (m ∷ ring) has =
     at k m ring ks low is later zero r = (low, is)
     at k m ring ks low is later (suc i) r = later i (omega arith)
 
-module _ (old new : List Ends) (nexts : List ℕ) (fair : AreFair old) (tidied : IsTidied old new) (apart : AreApart new) (ns : AreNexts new nexts) where
+module _ (old new : List Ends) (nexts : List ℕ) (fair : AreFair old) (tidied : IsTidied old new) (apart : AreMovesApart new) (ns : AreNexts new nexts) where
   -- the move that writes what another reads is its next
   next_is : (k j : ℕ) → k < length new → j < length new → from_at new k ≡ to_at new j → number_at nexts k ≡ j
   next_is k j rk rj e = ⊎_elim
@@ -63,7 +63,7 @@ module _ (old new : List Ends) (nexts : List ℕ) (fair : AreFair old) (tidied :
   ends_ring-length ring = length-map ring (λ k. move_at new k)
 
   -- a ring is a cycle
-  ring_cycle : (ring : List ℕ) → IsRingOf nexts ring → IsCycle old (ends_ring ring)
+  ring_cycle : (ring : List ℕ) → IsRingOfMoves nexts ring → IsCycle old (ends_ring ring)
   ring_cycle ring is =
       let size : length (ends_ring ring) ≡ length ring = ends_ring-length ring in
       let many : 2 ≤ length ring = is.many in
@@ -87,7 +87,7 @@ module _ (old new : List Ends) (nexts : List ℕ) (fair : AreFair old) (tidied :
       }
 
   -- a cycle is a ring
-  cycle_ring : (ring : List Ends) → IsCycle old ring → (ks : List ℕ) × IsRingOf nexts ks × (length ks ≡ length ring)
+  cycle_ring : (ring : List Ends) → IsCycle old ring → (ks : List ℕ) × IsRingOfMoves nexts ks × (length ks ≡ length ring)
       × ((i : ℕ) → i < length ring → move_at new (number_at ks i) ≡ move_at ring i)
   cycle_ring ring is =
       let long : length nexts ≡ length new = ns.as_many in

@@ -2,7 +2,7 @@
 use Rattle.std.proofs.Common.{◌≡◌, ◌≢◌, suc, ◌<◌, List, [], ◌∷◌, length, map, get_or, refl, sym, ap, ◌∙◌, subst, ⊎_elim, arith}
 use Rattle.std.proofs.lemmas.List.{get_or-map, length-map}
 use Rattle.regalloc2_names.specs.Place.{Place, NoPlace, InRegister, InSlot}
-use Rattle.regalloc2_parts.specs.AtOnce.{ends_of, Cells, moved, in_turn, WritesNoneFirst}
+use Rattle.regalloc2_parts.specs.AtOnce.{ends_of, CellsOf, moved, in_turn, WritesNoneFirst}
 use Rattle.regalloc2_parts.specs.Resolved.{place_or, filled, IsUnnamed, AreBetweenPlaces}
 use Rattle.regalloc2_parts.proofs.Places.{cases_place, moved_here, moved_other}
 
@@ -22,10 +22,10 @@ or_real s (InRegister r) n e = absurd cc
 or_real s (InSlot k) n e = absurd cc
 
 -- only the scratch place and what stands aside differ
-abbrev Agree : {X : Type 0} → Place → Cells X → Cells X → Type 0
+abbrev Agree : {X : Type 0} → Place → CellsOf X → CellsOf X → Type 0
 Agree s c d = (p : Place) → p ≢ s → p ≢ NoPlace → d p ≡ c p
 
-agree_moved : {X : Type 0} (s to : Place) (c d : Cells X) (x y : X) → to ≢ s → Agree s c d → y ≡ x → Agree s (moved c to x) (moved d (place_or s to) y)
+agree_moved : {X : Type 0} (s to : Place) (c d : CellsOf X) (x y : X) → to ≢ s → Agree s c d → y ≡ x → Agree s (moved c to x) (moved d (place_or s to) y)
 agree_moved s to c d x y other had e p not_s real = ⊎_elim
     (λ none. moved_other d (place_or s to) p y (λ f. not_s (sym f ∙ or_none s to none)) ∙ had p not_s real
     ∙ sym (moved_other c to p x (λ f. real (sym f ∙ none))))
@@ -37,7 +37,7 @@ agree_moved s to c d x y other had e p not_s real = ⊎_elim
 
 module _ {T X : Type 0} (s : Place) (fresh : s ≢ NoPlace) where
   -- once what stands aside was written
-  fills_after : (ms : List (Place × Place × T)) (c d : Cells X) → IsUnnamed s ms → Agree s c d → d s ≡ c NoPlace → (q : Place) → q ≢ s → q ≢ NoPlace →
+  fills_after : (ms : List (Place × Place × T)) (c d : CellsOf X) → IsUnnamed s ms → Agree s c d → d s ≡ c NoPlace → (q : Place) → q ≢ s → q ≢ NoPlace →
       in_turn (ends_of (map (filled s) ms)) d q ≡ in_turn (ends_of ms) c q
   unfolding in_turn
   fills_after [] c d free had aside q n real = had q n real
@@ -56,7 +56,7 @@ module _ {T X : Type 0} (s : Place) (fresh : s ≢ NoPlace) where
       (agree_moved s m.1 c d (c m.0) (d (place_or s m.0)) here.1 had read) kept q n real
 
   -- before that it is not read
-  pub fills_same : (ms : List (Place × Place × T)) (c d : Cells X) → IsUnnamed s ms → WritesNoneFirst (ends_of ms) → Agree s c d → (q : Place) → q ≢ s →
+  pub fills_same : (ms : List (Place × Place × T)) (c d : CellsOf X) → IsUnnamed s ms → WritesNoneFirst (ends_of ms) → Agree s c d → (q : Place) → q ≢ s →
       q ≢ NoPlace → in_turn (ends_of (map (filled s) ms)) d q ≡ in_turn (ends_of ms) c q
   unfolding in_turn WritesNoneFirst
   fills_same [] c d free first had q n real = had q n real

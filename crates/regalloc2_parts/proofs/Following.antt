@@ -5,7 +5,7 @@ use Rattle.std.proofs.lemmas.List.Sums.{sum_by-set}
 use Rattle.std.specs.List.{count_by}
 use Rattle.regalloc2_parts.specs.declared.moves.order.State.{State}
 use Rattle.regalloc2_parts.specs.declared.moves.order.State.TheVariants.{Todo, Pending}
-use Rattle.regalloc2_parts.specs.Giving.{state_at, number_at, IsChain, LeadsTo, HasGoneOn, AreSameDone}
+use Rattle.regalloc2_parts.specs.Giving.{state_at, number_at, IsMoveChain, LeadsTo, HasGoneOn, AreSameDone}
 use Rattle.regalloc2_parts.proofs.Chains.{is_todo, set_here, set_there, at_last, length_push, chain_push, goes_on, todo_pending, todo_done, pending_done}
 
 -- how many moves are still to be done
@@ -23,7 +23,7 @@ todo_falls st k r e =
 
 -- the chain so far, from `start` to before `at`
 pub record IsFollowing (nexts : List ℕ) (old st : List State) (chain : List ℕ) (start at : ℕ) : Type 0 where
-  pub is_chain : IsChain nexts st chain
+  pub is_chain : IsMoveChain nexts st chain
   pub link : LeadsTo nexts chain at
   pub same : AreSameDone old st
   pub on : HasGoneOn old st

@@ -4,7 +4,7 @@ use Rattle.std.specs.Prelude.{Contains, reverse, slice_index, slice_set}
 use Rattle.std.specs.List.{AllByRecursion, IsDistinct}
 use Rattle.std.proofs.lemmas.List.{get_or-set_same, length-set, length-reverse, reverse-append}
 use Rattle.std.proofs.lemmas.Map.Keys.{IsDistinct-head, IsDistinct-tail, IsDistinct-cons}
-use Rattle.regalloc2_parts.specs.Links.{IsRing, IsWalk, Lacks, Leads, Passes, walked, walked_at_most}
+use Rattle.regalloc2_parts.specs.Links.{IsRing, IsWalk, LacksNumber, Leads, LeadsOneWay, walked_links, walked_at_most}
 use Rattle.regalloc2_parts.proofs.Numbers.{distinct_before, distinct_ended, distinct_without, each_ended, each_without, few, flip, not_the_end, without}
 use Rattle.regalloc2_parts.proofs.Linked.{appended, begun_at_last, inserted, next_of_member, passes, prev_of_member, removed, reversed}
 
@@ -36,7 +36,7 @@ IsRing-removed ns ps h xs p l r ring mem el er =
     }
 
 -- with one more at the end
-pub IsRing-appended : (ns ps : List ℕ) (h : ℕ) (xs : List ℕ) (p l : ℕ) → IsRing ns ps h xs → Lacks p (h ∷ xs) → p < length ns → slice_index ps h ≡ l →
+pub IsRing-appended : (ns ps : List ℕ) (h : ℕ) (xs : List ℕ) (p l : ℕ) → IsRing ns ps h xs → LacksNumber p (h ∷ xs) → p < length ns → slice_index ps h ≡ l →
     l < length ns → IsRing (slice_set (slice_set ns l p) p h) (slice_set (slice_set ps p l) h p) h (xs ++ p ∷ [])
 IsRing-appended ns ps h xs p l ring lp fp el fl =
     let long = ring.long in
@@ -50,7 +50,7 @@ IsRing-appended ns ps h xs p l ring lp fp el fl =
     }
 
 -- with one more behind the head
-pub IsRing-inserted : (ns ps : List ℕ) (h : ℕ) (xs : List ℕ) (v r : ℕ) → IsRing ns ps h xs → Lacks v (h ∷ xs) → v < length ns → slice_index ns h ≡ r →
+pub IsRing-inserted : (ns ps : List ℕ) (h : ℕ) (xs : List ℕ) (v r : ℕ) → IsRing ns ps h xs → LacksNumber v (h ∷ xs) → v < length ns → slice_index ns h ≡ r →
     r < length ns → IsRing (slice_set (slice_set ns v r) h v) (slice_set (slice_set ps r v) v h) h (v ∷ xs)
 IsRing-inserted ns ps h xs v r ring lv fv er fr =
     let long = ring.long in
@@ -89,18 +89,18 @@ head_links ns ps h (x ∷ xs) ring =
     end a (y ∷ ys) l e r = end y ys l.2 r.0 r.1
 
 -- a walk is what the links say
-pub walked-is : (links : List ℕ) (stop at : ℕ) (xs : List ℕ) → IsWalk links stop at xs → walked links stop at ≡ xs
-unfolding Passes walked_at_most
+pub walked-is : (links : List ℕ) (stop at : ℕ) (xs : List ℕ) → IsWalk links stop at xs → walked_links links stop at ≡ xs
+unfolding LeadsOneWay walked_at_most
 walked-is links stop at xs w = in_steps (length links) at xs w.passes w.apart w.short
   where
-    in_steps : (most at : ℕ) (xs : List ℕ) → Passes links at xs stop → Lacks stop xs → length xs ≤ most → walked_at_most most links stop at ≡ xs
+    in_steps : (most at : ℕ) (xs : List ℕ) → LeadsOneWay links at xs stop → LacksNumber stop xs → length xs ≤ most → walked_at_most most links stop at ≡ xs
     in_steps zero at [] p l s = refl
     in_steps zero at (x ∷ xs) p l s = absurd (omega arith)
     in_steps (suc most) at [] p l s = let e : nat_eq stop at ≡ true = eq-eqb stop at (sym p) in rw e refl
     in_steps (suc most) at (x ∷ xs) p l s = rw (p.0, l.0) (ap (λ r. x ∷ r) (in_steps most (slice_index links x) xs p.1 l.1 (omega arith)))
 
 -- at the place where it stops nothing is left
-pub walked-end : (links : List ℕ) (stop at : ℕ) → at ≡ stop → walked links stop at ≡ []
+pub walked-end : (links : List ℕ) (stop at : ℕ) → at ≡ stop → walked_links links stop at ≡ []
 unfolding walked_at_most
 walked-end links stop at e = in_steps (length links)
   where
@@ -110,21 +110,21 @@ walked-end links stop at e = in_steps (length links)
 
 -- elsewhere there is a step
 pub record IsStep (links : List ℕ) (stop at : ℕ) : Type 0 where
-  pub first : walked links stop at ≡ at ∷ walked links stop (slice_index links at)
-  pub rest : IsWalk links stop (slice_index links at) (walked links stop (slice_index links at))
+  pub first : walked_links links stop at ≡ at ∷ walked_links links stop (slice_index links at)
+  pub rest : IsWalk links stop (slice_index links at) (walked_links links stop (slice_index links at))
   pub below : at < length links
 
 -- a walk that isn't at its stop makes one step
-pub step : (links : List ℕ) (stop at : ℕ) → IsWalk links stop at (walked links stop at) → at ≢ stop → IsStep links stop at
-unfolding Passes
-step links stop at w other = by_list (walked links stop at) refl w
+pub step : (links : List ℕ) (stop at : ℕ) → IsWalk links stop at (walked_links links stop at) → at ≢ stop → IsStep links stop at
+unfolding LeadsOneWay
+step links stop at w other = by_list (walked_links links stop at) refl w
   where
-    by_list : (xs : List ℕ) → walked links stop at ≡ xs → IsWalk links stop at xs → IsStep links stop at
+    by_list : (xs : List ℕ) → walked_links links stop at ≡ xs → IsWalk links stop at xs → IsStep links stop at
     by_list [] e v = absurd (other v.passes)
     by_list (x ∷ xs) e v =
         let on : IsWalk links stop (slice_index links at) xs =
         record { passes = rw v.passes.0 v.passes.1; apart = v.apart.1; below = v.below.1; short = let s = v.short in omega arith } in
-        let same : walked links stop (slice_index links at) ≡ xs = walked-is links stop (slice_index links at) xs on in
+        let same : walked_links links stop (slice_index links at) ≡ xs = walked-is links stop (slice_index links at) xs on in
         record {
           first = e ∙ rw (same, v.passes.0) refl;
           rest = subst (λ l. IsWalk links stop (slice_index links at) l) (sym same) on;
@@ -156,5 +156,5 @@ IsRing-back ns ps h xs ring =
     each_reversed P (y ∷ ys) h = rw (reverse-append (y ∷ []) ys) (each_ended P (reverse ys) y (each_reversed P ys h.1) h.0)
 
 -- what a walk around a ring passes is the ring's numbers, in order
-pub ring_walked : (ns ps : List ℕ) (h : ℕ) (xs : List ℕ) → IsRing ns ps h xs → walked ns h (slice_index ns h) ≡ xs
+pub ring_walked : (ns ps : List ℕ) (h : ℕ) (xs : List ℕ) → IsRing ns ps h xs → walked_links ns h (slice_index ns h) ≡ xs
 ring_walked ns ps h xs ring = walked-is ns h (slice_index ns h) xs (around ns ps h xs ring)

@@ -4,7 +4,7 @@ use Rattle.std.specs.Prelude.{Contains, reverse, slice_index, slice_set}
 use Rattle.std.specs.List.{AllByRecursion, IsDistinct}
 use Rattle.std.proofs.lemmas.List.{get_or-set_same, get_or-set_other, length-set, reverse-append}
 use Rattle.std.proofs.lemmas.Map.Keys.{IsDistinct-head, IsDistinct-tail}
-use Rattle.regalloc2_parts.specs.Links.{Lacks, Leads, Passes}
+use Rattle.regalloc2_parts.specs.Links.{LacksNumber, Leads, LeadsOneWay}
 use Rattle.regalloc2_parts.proofs.Numbers.{all_kept, flip, of_member, without}
 
 -- the link that was written, and another
@@ -46,12 +46,12 @@ next_of_member P ns ps a (x ∷ xs) b p h l e (zero, less, at) =
 next_of_member P ns ps a (x ∷ xs) b p h l e (suc k, less, at) = next_of_member P ns ps x xs b p h.2 l.1 e (k, omega arith, at)
 
 -- links of numbers that the list passes over change nothing
-next_kept : (ns ps : List ℕ) (a : ℕ) (xs : List ℕ) (b i v : ℕ) → Leads ns ps a xs b → nat_eq i a ≡ false → Lacks i xs → Leads (slice_set ns i v) ps a xs b
+next_kept : (ns ps : List ℕ) (a : ℕ) (xs : List ℕ) (b i v : ℕ) → Leads ns ps a xs b → nat_eq i a ≡ false → LacksNumber i xs → Leads (slice_set ns i v) ps a xs b
 unfolding Leads
 next_kept ns ps a [] b i v h e l = (apart ns i a v e ∙ h.0, h.1)
 next_kept ns ps a (x ∷ xs) b i v h e l = (apart ns i a v e ∙ h.0, h.1, next_kept ns ps x xs b i v h.2 l.0 l.1)
 
-prev_kept : (ns ps : List ℕ) (a : ℕ) (xs : List ℕ) (b i v : ℕ) → Leads ns ps a xs b → Lacks i xs → nat_eq i b ≡ false → Leads ns (slice_set ps i v) a xs b
+prev_kept : (ns ps : List ℕ) (a : ℕ) (xs : List ℕ) (b i v : ℕ) → Leads ns ps a xs b → LacksNumber i xs → nat_eq i b ≡ false → Leads ns (slice_set ps i v) a xs b
 unfolding Leads
 prev_kept ns ps a [] b i v h l e = (h.0, apart ps i b v e ∙ h.1)
 prev_kept ns ps a (x ∷ xs) b i v h l e = (h.0, apart ps i x v l.0 ∙ h.1, prev_kept ns ps x xs b i v h.2 l.1 e)
@@ -80,13 +80,14 @@ reversed ns ps a [] b h = (h.1, h.0)
 reversed ns ps a (x ∷ xs) b h = rw (reverse-append (x ∷ []) xs) (ended ps ns b (reverse xs) x a (reversed ns ps x xs b h.2) h.1 h.0)
 
 -- the links of one direction alone
-pub passes : (ns ps : List ℕ) (a : ℕ) (xs : List ℕ) (b : ℕ) → Leads ns ps a xs b → Passes ns (slice_index ns a) xs b
-unfolding Leads Passes
+pub passes : (ns ps : List ℕ) (a : ℕ) (xs : List ℕ) (b : ℕ) → Leads ns ps a xs b → LeadsOneWay ns (slice_index ns a) xs b
+unfolding Leads LeadsOneWay
 passes ns ps a [] b h = h.0
 passes ns ps a (x ∷ xs) b h = (h.0, passes ns ps x xs b h.2)
 
 -- a member goes: its neighbours become neighbours
-removed_first : (ns ps : List ℕ) (a p : ℕ) (xs : List ℕ) (b r : ℕ) → Leads ns ps a (p ∷ xs) b → Lacks a (p ∷ xs) → IsDistinct nat_eq xs → Lacks b xs →
+removed_first : (ns ps : List ℕ) (a p : ℕ) (xs : List ℕ) (b r : ℕ) → Leads ns ps a (p ∷ xs) b → LacksNumber a (p ∷ xs) → IsDistinct nat_eq xs →
+    LacksNumber b xs →
     slice_index ns p ≡ r → a < length ns → r < length ps → Leads (slice_set ns a r) (slice_set ps r a) a xs b
 unfolding Leads
 removed_first ns ps a p [] b r h la d lb er fa fr =
@@ -102,7 +103,7 @@ removed_first ns ps a p (y ∷ ys) b r h la d lb er fa fr =
     )
 
 -- links that lead over a list lead over it without one of its numbers, once this one's two neighbours are linked
-pub removed : (ns ps : List ℕ) (a : ℕ) (xs : List ℕ) (b p l r : ℕ) → Leads ns ps a xs b → IsDistinct nat_eq (a ∷ xs) → Lacks b xs → Contains xs p →
+pub removed : (ns ps : List ℕ) (a : ℕ) (xs : List ℕ) (b p l r : ℕ) → Leads ns ps a xs b → IsDistinct nat_eq (a ∷ xs) → LacksNumber b xs → Contains xs p →
     slice_index ps p ≡ l → slice_index ns p ≡ r → l < length ns → r < length ps → Leads (slice_set ns l r) (slice_set ps r l) a (without p xs) b
 unfolding Leads
 removed ns ps a [] b p l r h d lb (k, less, at) el er fl fr = absurd (omega arith)
@@ -110,7 +111,7 @@ removed ns ps a (x ∷ xs) b p l r h d lb (zero, less, at) el er fl fr =
     let e : a ≡ l = sym h.1 ∙ ap (λ i. slice_index ps i) at ∙ el in
     let same : nat_eq p x ≡ true = eq-eqb p x (sym at) in
     let rest : IsDistinct nat_eq (x ∷ xs) = IsDistinct-tail nat_eq a (x ∷ xs) d in
-    let kept = all_kept p xs (subst (λ i. Lacks i xs) at (IsDistinct-head nat_eq x xs rest)) in
+    let kept = all_kept p xs (subst (λ i. LacksNumber i xs) at (IsDistinct-head nat_eq x xs rest)) in
     let fa : a < length ns = omega arith in
     rw (same, kept, ← e)
     (removed_first ns ps a x xs b r h (IsDistinct-head nat_eq a (x ∷ xs) d) (IsDistinct-tail nat_eq x xs rest) lb.1 (ap (λ i. slice_index ns i) at ∙ er) fa fr)
@@ -126,7 +127,7 @@ removed ns ps a (x ∷ xs) b p l r h d lb (suc k, less, at) el er fl fr =
     rw other (beside ns l a r before ∙ h.0, beside ps r x l after ∙ h.1, removed ns ps x xs b p l r h.2 rest lb.1 mem el er fl fr)
 
 -- another end
-retargeted : (ns ps : List ℕ) (a : ℕ) (xs : List ℕ) (b p l : ℕ) → Leads ns ps a xs b → IsDistinct nat_eq (a ∷ xs) → Lacks p xs → slice_index ps b ≡ l →
+retargeted : (ns ps : List ℕ) (a : ℕ) (xs : List ℕ) (b p l : ℕ) → Leads ns ps a xs b → IsDistinct nat_eq (a ∷ xs) → LacksNumber p xs → slice_index ps b ≡ l →
     l < length ns → p < length ps → Leads (slice_set ns l p) (slice_set ps p l) a xs p
 unfolding Leads
 retargeted ns ps a [] b p l h d lp el fl fp = let e : a ≡ l = sym h.1 ∙ el in (rw e (here ns l p fl), here ps p l fp ∙ sym e)
@@ -139,7 +140,7 @@ retargeted ns ps a (x ∷ xs) b p l h d lp el fl fp =
     )
 
 -- one more, between the last of a ring and its head
-pub appended : (ns ps : List ℕ) (h : ℕ) (xs : List ℕ) (p l : ℕ) → Leads ns ps h xs h → IsDistinct nat_eq (h ∷ xs) → Lacks p (h ∷ xs) →
+pub appended : (ns ps : List ℕ) (h : ℕ) (xs : List ℕ) (p l : ℕ) → Leads ns ps h xs h → IsDistinct nat_eq (h ∷ xs) → LacksNumber p (h ∷ xs) →
     slice_index ps h ≡ l → l < length ns → p < length ns → p < length ps → h < length ps →
     Leads (slice_set (slice_set ns l p) p h) (slice_set (slice_set ps p l) h p) h (xs ++ p ∷ []) h
 appended ns ps h xs p l leads d lp el fl fp gp gh =
@@ -156,7 +157,7 @@ appended ns ps h xs p l leads d lp el fl fp gp gh =
 pub record IsApart (a : ℕ) (xs : List ℕ) (b v : ℕ) : Type 0 where
   pub first : nat_eq v a ≡ false
   pub last : nat_eq v b ≡ false
-  pub within : Lacks v xs
+  pub within : LacksNumber v xs
 
 -- the numbers that are linked anew, v between a and r, have links
 pub record HaveLinks (ns ps : List ℕ) (a v r : ℕ) : Type 0 where
@@ -166,7 +167,7 @@ pub record HaveLinks (ns ps : List ℕ) (a v r : ℕ) : Type 0 where
   pub to_prev : r < length ps
 
 -- one more, between the beginning and the first
-pub inserted : (ns ps : List ℕ) (a : ℕ) (xs : List ℕ) (b v r : ℕ) → Leads ns ps a xs b → Lacks a xs → Lacks b xs → IsDistinct nat_eq xs →
+pub inserted : (ns ps : List ℕ) (a : ℕ) (xs : List ℕ) (b v r : ℕ) → Leads ns ps a xs b → LacksNumber a xs → LacksNumber b xs → IsDistinct nat_eq xs →
     IsApart a xs b v → slice_index ns a ≡ r → HaveLinks ns ps a v r →
     Leads (slice_set (slice_set ns v r) a v) (slice_set (slice_set ps r v) v a) a (v ∷ xs) b
 unfolding Leads

@@ -7,7 +7,7 @@ use Rattle.std.proofs.lemmas.List.Elements.{All-filter, All-from_recursion, All-
 use Rattle.std.proofs.lemmas.Map.Keys.{IsDistinct-head, IsDistinct-tail, IsDistinct-cons}
 use Rattle.std.proofs.lemmas.Map.Steps.{length-le_from_distinct_below}
 use Rattle.std.proofs.lemmas.Bool.{not-true}
-use Rattle.regalloc2_parts.specs.Links.{Lacks}
+use Rattle.regalloc2_parts.specs.Links.{LacksNumber}
 
 -- one number differs from another as the other does from it
 pub flip : (i j : ℕ) → nat_eq i j ≡ false → nat_eq j i ≡ false
@@ -26,11 +26,11 @@ differs m n d = by_answer (nat_eq m n) refl
     by_answer false e = refl
 
 -- a list of other numbers lacks a number, by the test
-pub lacks : (p : ℕ) (xs : List ℕ) → All (λ n. n ≢ p) xs → Lacks p xs
+pub lacks : (p : ℕ) (xs : List ℕ) → All (λ n. n ≢ p) xs → LacksNumber p xs
 lacks p xs h = recursion_from_All (λ (n : ℕ). nat_eq p n ≡ false) xs (All-weaker (λ (n : ℕ). n ≢ p) (λ (n : ℕ). nat_eq p n ≡ false) (λ n d. differs p n d) xs h)
 
 -- and the numbers of a list that lacks one differ from it
-pub all_differ : (p : ℕ) (xs : List ℕ) → Lacks p xs → All (λ n. n ≢ p) xs
+pub all_differ : (p : ℕ) (xs : List ℕ) → LacksNumber p xs → All (λ n. n ≢ p) xs
 all_differ p xs l = All-weaker (λ (n : ℕ). nat_eq p n ≡ false) (λ (n : ℕ). n ≢ p) other xs (All-from_recursion (λ (n : ℕ). nat_eq p n ≡ false) xs l)
   where
     other : (n : ℕ) → nat_eq p n ≡ false → n ≢ p
@@ -41,7 +41,7 @@ abbrev pub without : ℕ → List ℕ → List ℕ
 without p xs = filter (λ n. not (nat_eq p n)) xs
 
 -- a list without a number that it lacks is the list
-pub all_kept : (p : ℕ) (xs : List ℕ) → Lacks p xs → without p xs ≡ xs
+pub all_kept : (p : ℕ) (xs : List ℕ) → LacksNumber p xs → without p xs ≡ xs
 all_kept p [] h = refl
 all_kept p (x ∷ xs) h = rw h.0 (ap (λ l. x ∷ l) (all_kept p xs h.1))
 
@@ -56,7 +56,7 @@ pub each_without : (P : ℕ → Type 0) (p : ℕ) (xs : List ℕ) → AllByRecur
 each_without P p xs h = recursion_from_All P (without p xs) (All-filter (λ n. not (nat_eq p n)) P xs (All-from_recursion P xs h))
 
 -- a list without a number lacks it
-pub gone : (p : ℕ) (xs : List ℕ) → Lacks p (without p xs)
+pub gone : (p : ℕ) (xs : List ℕ) → LacksNumber p (without p xs)
 gone p xs = recursion_from_All (λ (n : ℕ). nat_eq p n ≡ false) (without p xs)
     (All-weaker (λ (n : ℕ). not (nat_eq p n) ≡ true) (λ (n : ℕ). nat_eq p n ≡ false) (λ n. not-true (nat_eq p n)) (without p xs)
     (filter_passes (λ (n : ℕ). not (nat_eq p n)) xs))
@@ -81,7 +81,7 @@ not_the_end P [] p h = (tt, h.0)
 not_the_end P (x ∷ xs) p h = let r = not_the_end P xs p h.1 in ((h.0, r.0), r.1)
 
 -- a list without repeats has none with a number at its end that it lacks
-pub distinct_ended : (xs : List ℕ) (p : ℕ) → IsDistinct nat_eq xs → Lacks p xs → IsDistinct nat_eq (xs ++ p ∷ [])
+pub distinct_ended : (xs : List ℕ) (p : ℕ) → IsDistinct nat_eq xs → LacksNumber p xs → IsDistinct nat_eq (xs ++ p ∷ [])
 unfolding IsDistinct
 distinct_ended [] p d l = (tt, tt)
 distinct_ended (x ∷ xs) p d l =
@@ -89,7 +89,7 @@ distinct_ended (x ∷ xs) p d l =
     (distinct_ended xs p (IsDistinct-tail nat_eq x xs d) l.1)
 
 -- without the end: the others are distinct, and none of them is it
-pub distinct_before : (xs : List ℕ) (p : ℕ) → IsDistinct nat_eq (xs ++ p ∷ []) → IsDistinct nat_eq xs × Lacks p xs
+pub distinct_before : (xs : List ℕ) (p : ℕ) → IsDistinct nat_eq (xs ++ p ∷ []) → IsDistinct nat_eq xs × LacksNumber p xs
 unfolding IsDistinct
 distinct_before [] p d = (tt, tt)
 distinct_before (x ∷ xs) p d =
@@ -103,7 +103,7 @@ at_middle P [] p ys h = h.0
 at_middle P (x ∷ xs) p ys h = at_middle P xs p ys h.1
 
 -- in a list without repeats, the numbers before one of it differ from it
-pub lacks_before : (xs : List ℕ) (p : ℕ) (ys : List ℕ) → IsDistinct nat_eq (xs ++ p ∷ ys) → Lacks p xs
+pub lacks_before : (xs : List ℕ) (p : ℕ) (ys : List ℕ) → IsDistinct nat_eq (xs ++ p ∷ ys) → LacksNumber p xs
 lacks_before [] p ys d = tt
 lacks_before (x ∷ xs) p ys d = (
   flip x p (at_middle (λ (n : ℕ). nat_eq x n ≡ false) xs p ys (IsDistinct-head nat_eq x (xs ++ p ∷ ys) d)),

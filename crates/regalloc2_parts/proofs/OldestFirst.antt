@@ -11,9 +11,9 @@ use Rattle.std.proofs.lemmas.List.Sorted.{All-permutation, Contains-permutation,
 use Rattle.regalloc2_names.specs.declared.RegClass.{RegClass}
 use Rattle.regalloc2_names.specs.Register.{Register}
 use Rattle.regalloc2_parts.specs.declared.lru.nodes.LruNode.{LruNode}
-use Rattle.regalloc2_parts.specs.Links.{IsWalk, walked}
+use Rattle.regalloc2_parts.specs.Links.{IsWalk, walked_links}
 use Rattle.regalloc2_parts.specs.Ring.{IsOldestAccepted}
-use Rattle.regalloc2_parts.specs.RingNodes.{IsLeft, IsNodeRing, left_of, named, nexts, others, prevs, ring_numbers}
+use Rattle.regalloc2_parts.specs.RingNodes.{IsLeft, IsNodeRing, left_of, named, lru_nexts, others, lru_prevs, ring_numbers}
 use Rattle.regalloc2_parts.proofs.LinkRings.{IsRing-back, step, walked-end, walked-is}
 use Rattle.regalloc2_parts.proofs.RingLinks.{prev_at}
 use Rattle.regalloc2_parts.proofs.RingRegisters.{last_of_reverse}
@@ -30,18 +30,18 @@ pub record Begins (nodes : List LruNode) (h at : ℕ) (class : RegClass) : Type 
   pub proper : IsLeft nodes h (Some at)
 
 -- from the one before the head on, a walk backward passes all registers of the ring, the oldest first
-pub begins : (nodes : List LruNode) (h at : ℕ) (class : RegClass) → length nodes ≤ 64 → IsNodeRing nodes h → slice_index (prevs nodes) h ≡ at →
+pub begins : (nodes : List LruNode) (h at : ℕ) (class : RegClass) → length nodes ≤ 64 → IsNodeRing nodes h → slice_index (lru_prevs nodes) h ≡ at →
     Begins nodes h at class
 begins nodes h at class few ring e =
-    let back = IsRing-back (nexts nodes) (prevs nodes) h (others nodes h) ring in
-    let there : IsWalk (prevs nodes) h at (reverse (others nodes h)) = subst (λ i. IsWalk (prevs nodes) h i (reverse (others nodes h))) e back in
-    let same : walked (prevs nodes) h at ≡ reverse (others nodes h) = walked-is (prevs nodes) h at (reverse (others nodes h)) there in
+    let back = IsRing-back (lru_nexts nodes) (lru_prevs nodes) h (others nodes h) ring in
+    let there : IsWalk (lru_prevs nodes) h at (reverse (others nodes h)) = subst (λ i. IsWalk (lru_prevs nodes) h i (reverse (others nodes h))) e back in
+    let same : walked_links (lru_prevs nodes) h at ≡ reverse (others nodes h) = walked-is (lru_prevs nodes) h at (reverse (others nodes h)) there in
     let fits : h < length nodes = rw (length-map nodes (λ (n : LruNode). n.next)) at ring.below.0 in
     record {
       left = ap (λ l. map (named class) (l ++ h ∷ [])) same ∙ map-append (named class) (reverse (others nodes h)) (h ∷ [])
           ∙ ap (λ l. l ++ named class h ∷ []) (reverse_map class (others nodes h))
           ∙ sym (reverse-append (named class h ∷ []) (map (named class) (others nodes h)));
-      proper = record { few = few; walk = (fits, subst (λ l. IsWalk (prevs nodes) h at l) (sym same) there) };
+      proper = record { few = few; walk = (fits, subst (λ l. IsWalk (lru_prevs nodes) h at l) (sym same) there) };
     }
 
 -- one step
@@ -53,18 +53,18 @@ pub record Steps (nodes : List LruNode) (h at : ℕ) (next : Option ℕ) (class 
 pub steps : (nodes : List LruNode) (h at : ℕ) (d : LruNode) (class : RegClass) → IsLeft nodes h (Some at) → at ≢ h →
     Steps nodes h at (Some (slice_index_or nodes at d).prev) class
 steps nodes h at d class left other =
-    let s = step (prevs nodes) h at left.walk.1 other in
+    let s = step (lru_prevs nodes) h at left.walk.1 other in
     let fits : at < length nodes = rw (length-map nodes (λ (n : LruNode). n.prev)) at s.below in
-    let e : slice_index (prevs nodes) at ≡ (slice_index_or nodes at d).prev = prev_at nodes at d fits in
+    let e : slice_index (lru_prevs nodes) at ≡ (slice_index_or nodes at d).prev = prev_at nodes at d fits in
     record {
       left = rw (s.first, e) refl;
-      proper = record { few = left.few; walk = (left.walk.0, subst (λ i. IsWalk (prevs nodes) h i (walked (prevs nodes) h i)) e s.rest) };
+      proper = record { few = left.few; walk = (left.walk.0, subst (λ i. IsWalk (lru_prevs nodes) h i (walked_links (lru_prevs nodes) h i)) e s.rest) };
     }
 
 -- at the head it passes the head's register, and nothing is left
 pub last_step : (nodes : List LruNode) (h at : ℕ) (class : RegClass) → IsLeft nodes h (Some at) → at ≡ h → Steps nodes h at None class
 last_step nodes h at class left e = record {
-  left = rw (walked-end (prevs nodes) h at e) (ap (λ i. named class i ∷ []) (sym e));
+  left = rw (walked-end (lru_prevs nodes) h at e) (ap (λ i. named class i ∷ []) (sym e));
   proper = record { few = left.few; walk = tt };
 }
 
@@ -74,7 +74,7 @@ at_node nodes h at left = by_place (cases_eq at h)
   where
     by_place : (at ≡ h) ⊎ (at ≢ h) → at < length nodes
     by_place (inl e) = rw e left.walk.0
-    by_place (inr other) = rw (length-map nodes (λ (n : LruNode). n.prev)) at (step (prevs nodes) h at left.walk.1 other).below
+    by_place (inr other) = rw (length-map nodes (λ (n : LruNode). n.prev)) at (step (lru_prevs nodes) h at left.walk.1 other).below
 
 -- what is found along it
 found : (test : Register → Bool) (ys : List Register) (res : Option Register) → res ≡ find test ys →

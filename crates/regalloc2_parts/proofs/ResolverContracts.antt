@@ -9,11 +9,11 @@ use Rattle.regalloc2_index.proofs.Bools.{not_both}
 use Rattle.regalloc2_names.specs.declared.sets.PRegSet.{PRegSet}
 use Rattle.regalloc2_names.specs.Place.{Place, NoPlace, InRegister, InSlot, is_memory}
 use Rattle.regalloc2_names.specs.Register.{Register}
-use Rattle.regalloc2_parts.specs.Computed.{Asked, Owes, MayAnswer, AnswersDiffer, IsAnswered, IsAway, IsComputed}
+use Rattle.regalloc2_parts.specs.Computed.{Asked, Owes, MayAnswer, AnswersDiffer, IsAnswer, IsAway, IsComputed}
 use Rattle.regalloc2_parts.specs.declared.scratch_pool.ScratchPair.{ScratchPair}
 use Rattle.regalloc2_parts.specs.declared.scratch_pool.ScratchPool.{ScratchPool}
-use Rattle.regalloc2_parts.specs.ScratchPool.{Moves, IsOfScratchPair, IsTaken, DoDiffer, YieldsInOrder, DecidesStack, MayDecideStack, IsUsableFor}
-use Rattle.regalloc2_parts.specs.ScratchPool.{IsOrderedWith, HasTooFewSlots, AreApart}
+use Rattle.regalloc2_parts.specs.ScratchPool.{Moves, IsOfScratchPair, IsScratchTaken, DoDiffer, YieldsInOrder, DecidesStack, MayDecideStack, IsUsableFor}
+use Rattle.regalloc2_parts.specs.ScratchPool.{IsOrderedWith, HasTooFewSlots, AreNotBothInMemory}
 
 -- a value of a list is its first one, or one of the rest
 split_head : {X : Type 0} (a : X) (xs : List X) (x : X) → Contains (a ∷ xs) x → (x ≡ a) ⊎ Contains xs x
@@ -76,7 +76,7 @@ module _ {F : Type 0} (g : Mut F (Unit {0}) (Option Place)) (f : F) (pair : Scra
         (cases_eq taken 0)
 
     was_taken : (answers : List (Option Place)) (f' f'' : F) → length answers ≤ 2 → FoldsTo (λ s a t. Called g s tt a t) f answers f' →
-        Called g f' tt next f'' → (p : Place) → Contains answers (Some p) → IsTaken pair taken p
+        Called g f' tt next f'' → (p : Place) → Contains answers (Some p) → IsScratchTaken pair taken p
     was_taken [] f' f'' few calls after p c = absurd (nothing_in (Some p) c)
     was_taken (a ∷ []) f' f'' few (j, k, e) after p c = ⊎_elim
         (λ is.
@@ -103,7 +103,7 @@ memory_slot fixed_stack q k e = ap (is_memory fixed_stack) e
 
 -- ends that aren't both in memory aren't both said to be
 pub stay_apart : {H : Type 0} (m : Shared H (Place × Unit {0}) Bool) (h : H) (fixed_stack : PRegSet) → DecidesStack m h fixed_stack →
-    (mv : Place × Place × Unit {0}) → AreApart fixed_stack mv.0 mv.1 → m.post h (mv.0, tt) true → m.post h (mv.1, tt) true → ⊥
+    (mv : Place × Place × Unit {0}) → AreNotBothInMemory fixed_stack mv.0 mv.1 → m.post h (mv.0, tt) true → m.post h (mv.1, tt) true → ⊥
 stay_apart m h fixed_stack tells mv apart a b = apart (tells mv.0 true a) (tells mv.1 true b)
 
 -- closures yield a pool's registers and slots in order and tell what is in memory, and the pool serves the moves
@@ -159,20 +159,20 @@ module _ {F G H : Type 0} {r : Mut F (Unit {0}) (Option Place)} {s : Mut G (Unit
     registers_handed p c = ⊎_elim (λ e. inl (sym e)) (λ e. inr (sym e))
         (which r f l.registers lend.registers asked.answers registers_left asked.few asked.calls (Some p) c)
 
-    slots_handed : (p : Place) → Contains slots_asked.answers (Some p) → IsTaken l.slots taken p
+    slots_handed : (p : Place) → Contains slots_asked.answers (Some p) → IsScratchTaken l.slots taken p
     slots_handed p c = was_taken s g l.slots lend.slots next taken serves.slots_differ serves.slots_in_order counts slots_asked.answers slots_left last
         slots_asked.few slots_asked.calls after p c
 
     -- an end that is a scratch place
-    lent_end : (borrowed : Register) → borrowed ≡ l.borrowed → (p : Place) → (IsAnswered asked.answers slots_asked.answers p) ⊎ (p ≡ InRegister borrowed) →
-        IsOfScratchPair l.registers p ⊎ (IsTaken l.slots taken p ⊎ (p ≡ InRegister l.borrowed))
+    lent_end : (borrowed : Register) → borrowed ≡ l.borrowed → (p : Place) → (IsAnswer asked.answers slots_asked.answers p) ⊎ (p ≡ InRegister borrowed) →
+        IsOfScratchPair l.registers p ⊎ (IsScratchTaken l.slots taken p ⊎ (p ≡ InRegister l.borrowed))
     lent_end borrowed is p (inl (inl c)) = inl (registers_handed p c)
     lent_end borrowed is p (inl (inr c)) = inr (inl (slots_handed p c))
     lent_end borrowed is p (inr e) = inr (inr (e ∙ ap InRegister is))
 
     -- what the resolver computed with such closures is ordered with the registers and the slots that were taken
     pub made_with : (borrowed : Register) → borrowed ≡ l.borrowed → (scratch : Bool) (made : Moves) →
-        IsComputed (λ p b. m.post h (p, tt) b) (InRegister borrowed) (IsAnswered asked.answers slots_asked.answers) scratch given made
+        IsComputed (λ p b. m.post h (p, tt) b) (InRegister borrowed) (IsAnswer asked.answers slots_asked.answers) scratch given made
         → IsOrderedWith l taken given made
     made_with borrowed is scratch made computed = record {
       same = λ q real not_register not_slot. computed.same q real (λ c. ⊎_elim (λ a. not_register (registers_handed q a)) (λ a. not_slot (slots_handed q a)) c);

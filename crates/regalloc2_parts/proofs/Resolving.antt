@@ -6,11 +6,11 @@ use Rattle.std.specs.Prelude.{Contains}
 use Rattle.std.proofs.lemmas.List.{get_or-map, get_or-reverse, length-reverse, map-append, reverse-append}
 use Rattle.std.proofs.lemmas.List.Elements.{All-contains, Contains-get_or}
 use Rattle.regalloc2_names.specs.Place.{Place, NoPlace}
-use Rattle.regalloc2_parts.specs.AtOnce.{Ends, ends, ends_of, names, in_turn, AreAtOnce, AreReal, IsRealMove, IsPlace, HasOneSourceEach, IsOfMoves}
+use Rattle.regalloc2_parts.specs.AtOnce.{Ends, ends, ends_of, own_names, in_turn, AreAtOnce, AreReal, IsRealMove, IsPlace, HasOneSourceEach, IsOfMoves}
 use Rattle.regalloc2_parts.specs.AtOnce.{WritesNoneFirst}
 use Rattle.regalloc2_parts.specs.Cycles.{IsCounted}
 use Rattle.regalloc2_parts.specs.Resolved.{IsResolution, AreBetweenPlaces}
-use Rattle.regalloc2_parts.specs.Giving.{number_at, AreApart, AreFair, AreProper, AreNexts, AreBetween, IsTidied, IsOrder}
+use Rattle.regalloc2_parts.specs.Giving.{number_at, AreMovesApart, AreFair, AreProper, AreNexts, AreBetween, IsTidied, IsOrder}
 use Rattle.regalloc2_parts.proofs.Lists.{length_ends, of_itself}
 use Rattle.regalloc2_parts.proofs.Tidying.{tidied_apart}
 use Rattle.regalloc2_parts.proofs.Runs.{apart_at_once, tidied_at_once, short_alone, free_alone, ordered_at_once, written_first}
@@ -89,7 +89,7 @@ module _ {T : Type 0} where
       let many : length (ends_of ms) ≡ length ms = length_ends ms in
       let fair : AreFair (ends_of ms) = real_fair ms one real in
       record {
-        at_once = apart_at_once (ends_of ms) names (short_alone (ends_of ms) (omega arith));
+        at_once = apart_at_once (ends_of ms) own_names (short_alone (ends_of ms) (omega arith));
         cyclic = (λ e. absurd cc, λ has. absurd (short_no_cycle (ends_of ms) (omega arith) has));
         counted = λ long. absurd (omega arith);
         short = λ s. refl;
@@ -104,11 +104,11 @@ module _ {T : Type 0} where
       ((k : ℕ) → k < length nexts → length nexts ≤ number_at nexts k) → IsResolution old false new
   resolves_free old new nexts one real long tidied given ns free =
       let fair : AreFair (ends_of old) = real_fair old one real in
-      let apart : AreApart (ends_of new) = tidied_apart (ends_of old) (ends_of new) fair tidied in
+      let apart : AreMovesApart (ends_of new) = tidied_apart (ends_of old) (ends_of new) fair tidied in
       let many : length (ends_of new) ≡ length new = length_ends new in
       record {
-        at_once = tidied_at_once (ends_of old) (ends_of new) names (in_turn (ends_of new) names) fair tidied
-            (apart_at_once (ends_of new) names (free_alone (ends_of new) nexts apart ns free));
+        at_once = tidied_at_once (ends_of old) (ends_of new) own_names (in_turn (ends_of new) own_names) fair tidied
+            (apart_at_once (ends_of new) own_names (free_alone (ends_of new) nexts apart ns free));
         cyclic = (λ e. absurd cc, λ has. absurd (free_no_cycle (ends_of old) (ends_of new) nexts fair tidied apart ns free has));
         counted = λ l. subst (λ n. IsCounted (ends_of old) n) many (free_counted (ends_of old) (ends_of new) nexts fair tidied apart ns free);
         short = λ s. absurd (omega arith);
@@ -129,15 +129,15 @@ module _ {T : Type 0} where
       IsResolution old scratch made
   resolves_order old new given made nexts scratch one real long tidied of_old ns order of_moves turned t =
       let fair : AreFair (ends_of old) = real_fair old one real in
-      let apart : AreApart (ends_of new) = tidied_apart (ends_of old) (ends_of new) fair tidied in
+      let apart : AreMovesApart (ends_of new) = tidied_apart (ends_of old) (ends_of new) fair tidied in
       let many : length (ends_of new) ≡ length new = length_ends new in
       let size : length (ends_of given) ≡ length given = length_ends given in
       let same : length made ≡ length given = ap length turned ∙ length-reverse given in
       let made_ends : ends_of made ≡ reverse (ends_of given) = ap ends_of turned ∙ ends_reverse given in
       let counted : length (ends_of given) ≡ length (ends_of new) + length order.rings = order.counted in
       record {
-        at_once = subst (λ xs. AreAtOnce (ends_of old) names (in_turn xs names)) (sym made_ends)
-            (ordered_at_once (ends_of old) (ends_of new) (ends_of given) names fair tidied order.takes);
+        at_once = subst (λ xs. AreAtOnce (ends_of old) own_names (in_turn xs own_names)) (sym made_ends)
+            (ordered_at_once (ends_of old) (ends_of new) (ends_of given) own_names fair tidied order.takes);
         cyclic = (
           λ e. more_cycle (ends_of old) (ends_of new) nexts fair tidied apart ns (ends_of given) order
               (let l : length new < length made = t.more e in omega arith),

@@ -9,24 +9,24 @@ use Rattle.std.proofs.lemmas.List.{get_or-map, length-map, map-set}
 use Rattle.std.proofs.lemmas.Map.Keys.{IsDistinct-head}
 use Rattle.regalloc2_parts.specs.declared.lru.nodes.LruNode.{LruNode}
 use Rattle.regalloc2_parts.specs.Links.{IsRing, changed}
-use Rattle.regalloc2_parts.specs.RingNodes.{IsNodeRing, IsRingOf, changed_links, nexts, others, prevs, ring_numbers}
+use Rattle.regalloc2_parts.specs.RingNodes.{IsNodeRing, IsRingOfNumbers, lru_changed_links, lru_nexts, others, lru_prevs, ring_numbers}
 use Rattle.regalloc2_parts.proofs.Numbers.{all_differ, all_kept, differs, gone, lacks, lacks_before, of_member, without}
 use Rattle.regalloc2_parts.proofs.Linked.{last_out, next_of_member, prev_of_member}
 use Rattle.regalloc2_parts.proofs.LinkRings.{IsRing-appended, IsRing-one, IsRing-removed, IsRing-turned, head_links, ring_walked}
 use Rattle.regalloc2_parts.proofs.LinksChanged.{changed-set, changed-same, changed-trans}
 
 -- nodes whose links form a ring of some numbers stand for these
-stands_for : (nodes : List LruNode) (h : ℕ) (xs : List ℕ) → IsRing (nexts nodes) (prevs nodes) h xs → IsRingOf nodes h (h ∷ xs)
+stands_for : (nodes : List LruNode) (h : ℕ) (xs : List ℕ) → IsRing (lru_nexts nodes) (lru_prevs nodes) h xs → IsRingOfNumbers nodes h (h ∷ xs)
 stands_for nodes h xs ring =
-    let same : others nodes h ≡ xs = ring_walked (nexts nodes) (prevs nodes) h xs ring in
-    record { ring = subst (λ l. IsRing (nexts nodes) (prevs nodes) h l) (sym same) ring; are = ap (λ l. h ∷ l) same }
+    let same : others nodes h ≡ xs = ring_walked (lru_nexts nodes) (lru_prevs nodes) h xs ring in
+    record { ring = subst (λ l. IsRing (lru_nexts nodes) (lru_prevs nodes) h l) (sym same) ring; are = ap (λ l. h ∷ l) same }
 
 -- the links of a node, in the lists of links
-pub next_at : (nodes : List LruNode) (k : ℕ) (d : LruNode) → k < length nodes → slice_index (nexts nodes) k ≡ (slice_index_or nodes k d).next
+pub next_at : (nodes : List LruNode) (k : ℕ) (d : LruNode) → k < length nodes → slice_index (lru_nexts nodes) k ≡ (slice_index_or nodes k d).next
 next_at nodes k d less = get_or-map (λ (n : LruNode). n.next) nodes k d 0 less
 
 -- and its link to the one before
-pub prev_at : (nodes : List LruNode) (k : ℕ) (d : LruNode) → k < length nodes → slice_index (prevs nodes) k ≡ (slice_index_or nodes k d).prev
+pub prev_at : (nodes : List LruNode) (k : ℕ) (d : LruNode) → k < length nodes → slice_index (lru_prevs nodes) k ≡ (slice_index_or nodes k d).prev
 prev_at nodes k d less = get_or-map (λ (n : LruNode). n.prev) nodes k d 0 less
 
 -- the head of a ring is the number of a node
@@ -40,42 +40,43 @@ linked nodes a b d =
     slice_set first b (record { prev = a; next = (slice_index_or first b d).next })
 
 -- linking a before b sets a's link to the next one
-pub nexts-linked : (nodes : List LruNode) (a b : ℕ) (d : LruNode) → nexts (linked nodes a b d) ≡ slice_set (nexts nodes) a b
+pub nexts-linked : (nodes : List LruNode) (a b : ℕ) (d : LruNode) → lru_nexts (linked nodes a b d) ≡ slice_set (lru_nexts nodes) a b
 nexts-linked nodes a b d =
     let first : List LruNode = slice_set nodes a (record { prev = (slice_index_or nodes a d).prev; next = b }) in
     map-set_same (λ (n : LruNode). n.next) first b (record { prev = a; next = (slice_index_or first b d).next }) d refl
     ∙ map-set (λ (n : LruNode). n.next) nodes a (record { prev = (slice_index_or nodes a d).prev; next = b })
 
 -- and b's link to the one before
-pub prevs-linked : (nodes : List LruNode) (a b : ℕ) (d : LruNode) → prevs (linked nodes a b d) ≡ slice_set (prevs nodes) b a
+pub prevs-linked : (nodes : List LruNode) (a b : ℕ) (d : LruNode) → lru_prevs (linked nodes a b d) ≡ slice_set (lru_prevs nodes) b a
 prevs-linked nodes a b d =
     let first : List LruNode = slice_set nodes a (record { prev = (slice_index_or nodes a d).prev; next = b }) in
     map-set (λ (n : LruNode). n.prev) first b (record { prev = a; next = (slice_index_or first b d).next })
     ∙ ap (λ l. slice_set l b a) (map-set_same (λ (n : LruNode). n.prev) nodes a (record { prev = (slice_index_or nodes a d).prev; next = b }) d refl)
 
 -- a number alone
-pub node_alone : (old new : List LruNode) (h : ℕ) → h < length old → nexts new ≡ slice_set (nexts old) h h → prevs new ≡ slice_set (prevs old) h h →
-    IsRingOf new h (h ∷ [])
+pub node_alone : (old new : List LruNode) (h : ℕ) → h < length old → lru_nexts new ≡ slice_set (lru_nexts old) h h →
+    lru_prevs new ≡ slice_set (lru_prevs old) h h →
+    IsRingOfNumbers new h (h ∷ [])
 node_alone old new h fits e f =
-    let ring = IsRing-one (nexts old) (prevs old) h (rw (length-map old (λ (n : LruNode). n.next)) fits)
+    let ring = IsRing-one (lru_nexts old) (lru_prevs old) h (rw (length-map old (λ (n : LruNode). n.next)) fits)
     (length-map old (λ (n : LruNode). n.prev) ∙ sym (length-map old (λ (n : LruNode). n.next))) in
     stands_for new h [] (rw (e, f) ring)
 
 -- the head's links lead to nodes
 pub oldest_fits : (nodes : List LruNode) (h : ℕ) (d : LruNode) → IsNodeRing nodes h → (slice_index_or nodes h d).prev < length nodes
 oldest_fits nodes h d ring =
-    let less = (head_links (nexts nodes) (prevs nodes) h (others nodes h) ring).1 in
+    let less = (head_links (lru_nexts nodes) (lru_prevs nodes) h (others nodes h) ring).1 in
     rw (prev_at nodes h d (head_fits nodes h ring), length-map nodes (λ (n : LruNode). n.next)) at less
 
 -- one number more
 pub node_appended : (old mid new : List LruNode) (h p : ℕ) (d : LruNode) → IsNodeRing old h → All (λ n. n ≢ p) (ring_numbers old h) → p < length old →
-    nexts mid ≡ slice_set (nexts old) (slice_index_or old h d).prev p → prevs mid ≡ slice_set (prevs old) p (slice_index_or old h d).prev →
-    nexts new ≡ slice_set (nexts mid) p h → prevs new ≡ slice_set (prevs mid) h p → IsRingOf new h (ring_numbers old h ++ p ∷ [])
+    lru_nexts mid ≡ slice_set (lru_nexts old) (slice_index_or old h d).prev p → lru_prevs mid ≡ slice_set (lru_prevs old) p (slice_index_or old h d).prev →
+    lru_nexts new ≡ slice_set (lru_nexts mid) p h → lru_prevs new ≡ slice_set (lru_prevs mid) h p → IsRingOfNumbers new h (ring_numbers old h ++ p ∷ [])
 node_appended old mid new h p d ring absent fits e f g k =
     let l = (slice_index_or old h d).prev in
-    let long : length (nexts old) ≡ length old = length-map old (λ (n : LruNode). n.next) in
-    let fl : l < length (nexts old) = rw long (oldest_fits old h d ring) in
-    let more = IsRing-appended (nexts old) (prevs old) h (others old h) p l ring (lacks p (ring_numbers old h) absent) (rw long fits)
+    let long : length (lru_nexts old) ≡ length old = length-map old (λ (n : LruNode). n.next) in
+    let fl : l < length (lru_nexts old) = rw long (oldest_fits old h d ring) in
+    let more = IsRing-appended (lru_nexts old) (lru_prevs old) h (others old h) p l ring (lacks p (ring_numbers old h) absent) (rw long fits)
     (prev_at old h d (head_fits old h ring)) fl in
     stands_for new h (others old h ++ p ∷ []) (rw (g, k, e, f) more)
 
@@ -87,19 +88,19 @@ other_than_first h xs p (suc k, less, at) d = (k, omega arith, at)
 -- each number of a ring is a node's
 pub member_fits : (nodes : List LruNode) (h p : ℕ) → IsNodeRing nodes h → Contains (ring_numbers nodes h) p → p < length nodes
 member_fits nodes h p ring mem =
-    rw (length-map nodes (λ (n : LruNode). n.next)) at (of_member (λ (n : ℕ). n < length (nexts nodes)) (ring_numbers nodes h) p ring.below mem)
+    rw (length-map nodes (λ (n : LruNode). n.next)) at (of_member (λ (n : ℕ). n < length (lru_nexts nodes)) (ring_numbers nodes h) p ring.below mem)
 
 -- the links of a ring's number, other than the head, lead to nodes
 pub neighbours_fit : (nodes : List LruNode) (h p : ℕ) (d : LruNode) → IsNodeRing nodes h → Contains (ring_numbers nodes h) p → p ≢ h →
     ((slice_index_or nodes p d).prev < length nodes) × ((slice_index_or nodes p d).next < length nodes)
 neighbours_fit nodes h p d ring mem other =
-    let P : ℕ → Type 0 = λ n. n < length (nexts nodes) in
+    let P : ℕ → Type 0 = λ n. n < length (lru_nexts nodes) in
     let xs = others nodes h in
     let inner = other_than_first h xs p mem other in
     let fits = member_fits nodes h p ring mem in
-    let long : length (nexts nodes) ≡ length nodes = length-map nodes (λ (n : LruNode). n.next) in
-    let before = prev_of_member P (nexts nodes) (prevs nodes) h xs h p ring.leads ring.below.0 ring.below.1 inner in
-    let after = next_of_member P (nexts nodes) (prevs nodes) h xs h p ring.leads ring.below.1 ring.below.0 inner in
+    let long : length (lru_nexts nodes) ≡ length nodes = length-map nodes (λ (n : LruNode). n.next) in
+    let before = prev_of_member P (lru_nexts nodes) (lru_prevs nodes) h xs h p ring.leads ring.below.0 ring.below.1 inner in
+    let after = next_of_member P (lru_nexts nodes) (lru_prevs nodes) h xs h p ring.leads ring.below.1 ring.below.0 inner in
     (rw (prev_at nodes p d fits, long) at before, rw (next_at nodes p d fits, long) at after)
 
 -- without another number than the head the head stays
@@ -108,11 +109,12 @@ head_kept h xs p d = let e : nat_eq p h ≡ false = differs p h (λ s. d (sym s)
 
 -- one less
 pub node_removed : (old new : List LruNode) (h p : ℕ) (d : LruNode) → IsNodeRing old h → Contains (ring_numbers old h) p → p ≢ h →
-    nexts new ≡ slice_set (nexts old) (slice_index_or old p d).prev (slice_index_or old p d).next →
-    prevs new ≡ slice_set (prevs old) (slice_index_or old p d).next (slice_index_or old p d).prev → IsRingOf new h (without p (ring_numbers old h))
+    lru_nexts new ≡ slice_set (lru_nexts old) (slice_index_or old p d).prev (slice_index_or old p d).next →
+    lru_prevs new ≡ slice_set (lru_prevs old) (slice_index_or old p d).next (slice_index_or old p d).prev →
+        IsRingOfNumbers new h (without p (ring_numbers old h))
 node_removed old new h p d ring mem other e f =
     let fits = member_fits old h p ring mem in
-    let less = IsRing-removed (nexts old) (prevs old) h (others old h) p (slice_index_or old p d).prev (slice_index_or old p d).next ring
+    let less = IsRing-removed (lru_nexts old) (lru_prevs old) h (others old h) p (slice_index_or old p d).prev (slice_index_or old p d).next ring
     (other_than_first h (others old h) p mem other) (prev_at old p d fits) (next_at old p d fits) in
     rw (head_kept h (others old h) p other) (stands_for new h (without p (others old h)) (rw (e, f) less))
 
@@ -125,57 +127,59 @@ pub absent_before : (xs : List ℕ) (p : ℕ) (ys all : List ℕ) → xs ++ p �
 absent_before xs p ys all e d = all_differ p xs (lacks_before xs p ys (rw e d))
 
 -- the others stay, without the head and with it
-pub head_out : (nodes : List LruNode) (h p : ℕ) → IsNodeRing nodes h → p ≡ h → IsRingOf nodes h (p ∷ without p (ring_numbers nodes h))
+pub head_out : (nodes : List LruNode) (h p : ℕ) → IsNodeRing nodes h → p ≡ h → IsRingOfNumbers nodes h (p ∷ without p (ring_numbers nodes h))
 head_out nodes h p ring same =
     let e : nat_eq h h ≡ true = eq-eqb h h refl in
-    subst (λ (i : ℕ). IsRingOf nodes h (i ∷ without i (ring_numbers nodes h))) (sym same)
+    subst (λ (i : ℕ). IsRingOfNumbers nodes h (i ∷ without i (ring_numbers nodes h))) (sym same)
     (record { ring = ring; are = rw (e, all_kept h (others nodes h) (IsDistinct-head nat_eq h (others nodes h) ring.distinct)) refl })
 
 -- the oldest stands last already
 pub oldest_last : (nodes : List LruNode) (h p : ℕ) (d : LruNode) → IsNodeRing nodes h → p ≢ h → (slice_index_or nodes h d).prev ≡ p →
-    IsRingOf nodes h (without p (ring_numbers nodes h) ++ p ∷ [])
+    IsRingOfNumbers nodes h (without p (ring_numbers nodes h) ++ p ∷ [])
 oldest_last nodes h p d ring other e =
-    let last : slice_index (prevs nodes) h ≡ p = prev_at nodes h d (head_fits nodes h ring) ∙ e in
-    let parts = last_out (nexts nodes) (prevs nodes) h (others nodes h) h p ring.leads ring.distinct last (differs p h (λ s. other (sym s))) in
+    let last : slice_index (lru_prevs nodes) h ≡ p = prev_at nodes h d (head_fits nodes h ring) ∙ e in
+    let parts = last_out (lru_nexts nodes) (lru_prevs nodes) h (others nodes h) h p ring.leads ring.distinct last (differs p h (λ s. other (sym s))) in
     record { ring = ring; are = rw (head_kept h (others nodes h) p other) (ap (λ l. h ∷ l) parts) }
 
 -- with the oldest as head
-pub node_turned : (nodes : List LruNode) (h : ℕ) (xs : List ℕ) (p : ℕ) → IsRingOf nodes h (without p (h ∷ xs) ++ p ∷ []) → p ≢ h →
-    IsRingOf nodes p (p ∷ without p (h ∷ xs))
+pub node_turned : (nodes : List LruNode) (h : ℕ) (xs : List ℕ) (p : ℕ) → IsRingOfNumbers nodes h (without p (h ∷ xs) ++ p ∷ []) → p ≢ h →
+    IsRingOfNumbers nodes p (p ∷ without p (h ∷ xs))
 node_turned nodes h xs p of other =
     let kept : without p (h ∷ xs) ≡ h ∷ without p xs = head_kept h xs p other in
     let whole : h ∷ others nodes h ≡ h ∷ (without p xs ++ p ∷ []) = of.are ∙ ap (λ l. l ++ p ∷ []) kept in
     let same : others nodes h ≡ without p xs ++ p ∷ [] = cc in
     rw kept (stands_for nodes p (h ∷ without p xs)
-    (IsRing-turned (nexts nodes) (prevs nodes) h (without p xs) p (subst (λ l. IsRing (nexts nodes) (prevs nodes) h l) same of.ring)))
+    (IsRing-turned (lru_nexts nodes) (lru_prevs nodes) h (without p xs) p (subst (λ l. IsRing (lru_nexts nodes) (lru_prevs nodes) h l) same of.ring)))
 
 -- the oldest as head: it goes from the end to the front
 pub oldest_as_head : (nodes : List LruNode) (h p : ℕ) (d : LruNode) → IsNodeRing nodes h → (slice_index_or nodes h d).prev ≡ p →
-    IsRingOf nodes p (p ∷ without p (ring_numbers nodes h))
+    IsRingOfNumbers nodes p (p ∷ without p (ring_numbers nodes h))
 oldest_as_head nodes h p d ring e = by_place (cases_eq p h)
   where
-    by_place : (p ≡ h) ⊎ (p ≢ h) → IsRingOf nodes p (p ∷ without p (ring_numbers nodes h))
-    by_place (inl same) = subst (λ (i : ℕ). IsRingOf nodes i (p ∷ without p (ring_numbers nodes h))) (sym same) (head_out nodes h p ring same)
+    by_place : (p ≡ h) ⊎ (p ≢ h) → IsRingOfNumbers nodes p (p ∷ without p (ring_numbers nodes h))
+    by_place (inl same) = subst (λ (i : ℕ). IsRingOfNumbers nodes i (p ∷ without p (ring_numbers nodes h))) (sym same) (head_out nodes h p ring same)
     by_place (inr other) = node_turned nodes h (others nodes h) p (oldest_last nodes h p d ring other e) other
 
 -- how many links one change makes differ, and two
-pub link_changes : (old new : List LruNode) (a b : ℕ) → nexts new ≡ slice_set (nexts old) a b → prevs new ≡ slice_set (prevs old) b a →
-    changed_links old new ≤ 2
+pub link_changes : (old new : List LruNode) (a b : ℕ) → lru_nexts new ≡ slice_set (lru_nexts old) a b → lru_prevs new ≡ slice_set (lru_prevs old) b a →
+    lru_changed_links old new ≤ 2
 link_changes old new a b e f =
-    let n : changed (nexts old) (nexts new) ≤ 1 = rw e (changed-set (nexts old) a b) in
-    let p : changed (prevs old) (prevs new) ≤ 1 = rw f (changed-set (prevs old) b a) in
+    let n : changed (lru_nexts old) (lru_nexts new) ≤ 1 = rw e (changed-set (lru_nexts old) a b) in
+    let p : changed (lru_prevs old) (lru_prevs new) ≤ 1 = rw f (changed-set (lru_prevs old) b a) in
     omega arith
 
 -- nodes that stay change no link
-pub none_changed : (nodes : List LruNode) → changed_links nodes nodes ≡ 0
-none_changed nodes = rw (changed-same (nexts nodes), changed-same (prevs nodes)) refl
+pub none_changed : (nodes : List LruNode) → lru_changed_links nodes nodes ≡ 0
+none_changed nodes = rw (changed-same (lru_nexts nodes), changed-same (lru_prevs nodes)) refl
 
 -- two steps change at most as many links as each of them does, added up
-pub changes_added : (old mid new : List LruNode) (m n : ℕ) → length mid ≡ length old → length new ≡ length mid → changed_links old mid ≤ m →
-    changed_links mid new ≤ n → changed_links old new ≤ m + n
+pub changes_added : (old mid new : List LruNode) (m n : ℕ) → length mid ≡ length old → length new ≡ length mid → lru_changed_links old mid ≤ m →
+    lru_changed_links mid new ≤ n → lru_changed_links old new ≤ m + n
 changes_added old mid new m n e f g h =
-    let nx = changed-trans (nexts old) (nexts mid) (nexts new) (rw (length-map old (λ (n : LruNode). n.next), length-map mid (λ (n : LruNode). n.next)) (sym e))
+    let nx = changed-trans (lru_nexts old) (lru_nexts mid) (lru_nexts new)
+        (rw (length-map old (λ (n : LruNode). n.next), length-map mid (λ (n : LruNode). n.next)) (sym e))
     (rw (length-map mid (λ (n : LruNode). n.next), length-map new (λ (n : LruNode). n.next)) (sym f)) in
-    let pv = changed-trans (prevs old) (prevs mid) (prevs new) (rw (length-map old (λ (n : LruNode). n.prev), length-map mid (λ (n : LruNode). n.prev)) (sym e))
+    let pv = changed-trans (lru_prevs old) (lru_prevs mid) (lru_prevs new)
+        (rw (length-map old (λ (n : LruNode). n.prev), length-map mid (λ (n : LruNode). n.prev)) (sym e))
     (rw (length-map mid (λ (n : LruNode). n.prev), length-map new (λ (n : LruNode). n.prev)) (sym f)) in
     omega arith

@@ -8,7 +8,7 @@ use Rattle.std.proofs.lemmas.List.Folds.{sum_by-replicate}
 use Rattle.std.specs.List.{count_by}
 use Rattle.regalloc2_parts.specs.declared.moves.order.State.{State}
 use Rattle.regalloc2_parts.specs.declared.moves.order.State.TheVariants.{Todo, Pending, Done}
-use Rattle.regalloc2_parts.specs.Giving.{state_at, number_at, is_done, ring_at, IsRingOf, StandsIn, HasRings, AreRingsDone, IsChain, IsNextDone}
+use Rattle.regalloc2_parts.specs.Giving.{state_at, number_at, is_done, ring_at, IsRingOfMoves, StandsIn, HasRings, AreRingsDone, IsMoveChain, IsNextDone}
 use Rattle.regalloc2_parts.specs.Giving.{AreSameDone, HasGoneOn, IsSettled}
 use Rattle.regalloc2_parts.proofs.Chains.{set_here, set_there, length_push, at_end, at_left, at_last, todo_done, pending_done, todo_pending, is_done_else}
 use Rattle.regalloc2_parts.proofs.Orders.{done_before, done_after}
@@ -82,7 +82,7 @@ finds (x ∷ ks) k = ⊎_elim
     later x ks k n m (suc i) r e = m i (omega arith) e
 
 -- each move of a ring comes after another of the same ring
-pub before_in_ring : (nexts ring : List ℕ) (i : ℕ) → IsRingOf nexts ring → i < length ring → (j : ℕ) × (j < length ring)
+pub before_in_ring : (nexts ring : List ℕ) (i : ℕ) → IsRingOfMoves nexts ring → i < length ring → (j : ℕ) × (j < length ring)
     × (number_at nexts (number_at ring j) ≡ number_at ring i) × (number_at ring j ≡ number_at ring i → ⊥)
 before_in_ring nexts ring zero is r =
     let many : 2 ≤ length ring = is.many in
@@ -97,8 +97,8 @@ before_in_ring nexts ring (suc i) is r = (
 -- where all that was done before went on to what is done, a ring is not ended by one move more
 ring_ended : (nexts : List ℕ) (st : List State) (rings : List (List ℕ)) (k : ℕ) → length st ≡ length nexts → k < length nexts → (state_at st k ≡ Done → ⊥) →
     ((j : ℕ) → j < length nexts → state_at st j ≡ Done → number_at nexts j < length nexts → (state_at st (number_at nexts j) ≡ Done) ⊎ StandsIn rings j) →
-    ((ring : List ℕ) → IsRingOf nexts ring → ((i : ℕ) → i < length ring → state_at st (number_at ring i) ≡ Done) → (i : ℕ) × (i < length ring)
-    × StandsIn rings (number_at ring i)) → (ring : List ℕ) → IsRingOf nexts ring →
+    ((ring : List ℕ) → IsRingOfMoves nexts ring → ((i : ℕ) → i < length ring → state_at st (number_at ring i) ≡ Done) → (i : ℕ) × (i < length ring)
+    × StandsIn rings (number_at ring i)) → (ring : List ℕ) → IsRingOfMoves nexts ring →
     ((i : ℕ) → i < length ring → state_at (set st k Done) (number_at ring i) ≡ Done) → (i : ℕ) × (i < length ring) × StandsIn rings (number_at ring i)
 ring_ended nexts st rings k many within open_ onward whole ring is done = ⊎_elim
     (λ f. let at : (i : ℕ) × (i < length ring) × (number_at ring i ≡ k) = f in
@@ -175,8 +175,8 @@ stands_cases rings ring k s =
     (cases_lt s.0 (length rings))
 
 -- the moves of a chain from the one that its last leads back to are a ring
-pub chain_ring : (nexts : List ℕ) (st : List State) (chain : List ℕ) (k next i : ℕ) → IsChain nexts st (chain ++ k ∷ []) → number_at nexts k ≡ next →
-    i < length chain → number_at chain i ≡ next → IsRingOf nexts (drop i (chain ++ k ∷ []))
+pub chain_ring : (nexts : List ℕ) (st : List State) (chain : List ℕ) (k next i : ℕ) → IsMoveChain nexts st (chain ++ k ∷ []) → number_at nexts k ≡ next →
+    i < length chain → number_at chain i ≡ next → IsRingOfMoves nexts (drop i (chain ++ k ∷ []))
 chain_ring nexts st chain k next i is next_is low at_i =
     let all : List ℕ = chain ++ k ∷ [] in
     let more : length all ≡ length chain + 1 = length_push chain k in
@@ -193,7 +193,7 @@ chain_ring nexts st chain k next i is next_is low at_i =
 
 -- a ring is opened at the last move of the chain
 pub rings_open : (nexts : List ℕ) (st : List State) (count : ℕ) (chain : List ℕ) (k next i : ℕ) → (had : HasRings nexts st count) → AreRingsDone st had.rings →
-    length st ≡ length nexts → IsChain nexts st (chain ++ k ∷ []) → number_at nexts k ≡ next → i < length chain → number_at chain i ≡ next →
+    length st ≡ length nexts → IsMoveChain nexts st (chain ++ k ∷ []) → number_at nexts k ≡ next → i < length chain → number_at chain i ≡ next →
     HasRings nexts (set st k Done) (count + 2)
 rings_open nexts st count chain k next i had are_done many is next_is low at_i =
     let all : List ℕ = chain ++ k ∷ [] in
@@ -205,7 +205,7 @@ rings_open nexts st count chain k next i had are_done many is next_is low at_i =
     let short : k < length st = omega arith in
     let pends : state_at st k ≡ Pending = ap (λ x. state_at st x) (sym (at_end chain k)) ∙ is.pending (length chain) (omega arith) in
     let open_ : state_at st k ≡ Done → ⊥ = pending_done (state_at st k) pends in
-    let is_ring : IsRingOf nexts ring = chain_ring nexts st chain k next i is next_is low at_i in
+    let is_ring : IsRingOfMoves nexts ring = chain_ring nexts st chain k next i is next_is low at_i in
     let pending_in : (j : ℕ) → j < length ring → state_at st (number_at ring j) ≡ Pending = λ j r.
     ap (λ x. state_at st x) (get_or-drop i all j 0) ∙ is.pending (i + j) (omega arith) in
     let rings : List (List ℕ) = had.rings ++ ring ∷ [] in
@@ -217,8 +217,8 @@ rings_open nexts st count chain k next i had are_done many is next_is low at_i =
     record {
       rings = rings;
       each = λ r in_range. ⊎_elim
-          (λ l. subst (λ x. IsRingOf nexts x) (sym (ring_old had.rings ring r l)) (had.each r l))
-          (λ h. subst (λ x. IsRingOf nexts x) (sym (ring_new had.rings ring r (omega arith))) is_ring)
+          (λ l. subst (λ x. IsRingOfMoves nexts x) (sym (ring_old had.rings ring r l)) (had.each r l))
+          (λ h. subst (λ x. IsRingOfMoves nexts x) (sym (ring_new had.rings ring r (omega arith))) is_ring)
           (cases_lt r (length had.rings));
       apart = λ r s a b o in_range ra rb e.
           let l : r < length had.rings = omega arith in

@@ -5,7 +5,8 @@ use Rattle.regalloc2_names.specs.Place.{Place, NoPlace}
 use Rattle.regalloc2_parts.specs.AtOnce.{Ends, WritesNoneFirst}
 use Rattle.regalloc2_parts.specs.declared.moves.order.State.{State}
 use Rattle.regalloc2_parts.specs.declared.moves.order.State.TheVariants.{Pending, Done}
-use Rattle.regalloc2_parts.specs.Giving.{from_at, to_at, state_at, number_at, source, AreApart, AreNexts, HasGiven, IsNextDone, IsChain, IsRing}
+use Rattle.regalloc2_parts.specs.Giving.{from_at, to_at, state_at, number_at, source_but, AreMovesApart, AreNexts, HasGiven, IsNextDone, IsMoveChain}
+use Rattle.regalloc2_parts.specs.Giving.{IsMoveRing}
 use Rattle.regalloc2_parts.specs.Giving.{IsGiving, HasGivenWhole, HasRings, AreRingsDone, HasWrittenFirst, IsPlain, is_done}
 use Rattle.regalloc2_parts.proofs.Orders.{done_after, gives_one, opens_ring, closes_ring, source_other, source_cut}
 use Rattle.regalloc2_parts.proofs.Chains.{length_push, at_end, at_left, at_last, left_or_last, set_here, chain_pop, ready_pop, writers_done, pending_done}
@@ -41,14 +42,14 @@ pub record IsFromTo (m : Ends) (from to : Place) : Type 0 where
 
 -- the chain with k at its end closes a ring at the move `next`, which is one of the chain
 pub record ClosesRing (nexts : List ℕ) (st : List State) (chain : List ℕ) (k next many : ℕ) : Type 0 where
-  pub is : IsChain nexts st (chain ++ k ∷ [])
+  pub is : IsMoveChain nexts st (chain ++ k ∷ [])
   pub next_is : number_at nexts k ≡ next
   pub next_in : next < many
   pub next_pending : state_at st next ≡ Pending
 
-module _ (ms : List Ends) (nexts : List ℕ) (apart : AreApart ms) (ns : AreNexts ms nexts) where
+module _ (ms : List Ends) (nexts : List ℕ) (apart : AreMovesApart ms) (ns : AreNexts ms nexts) where
   -- the chain is given out as it stands
-  pub gives_start : (st : List State) (chain : List ℕ) (given : List Ends) → HasGivenWhole ms nexts st given → IsChain nexts st chain →
+  pub gives_start : (st : List State) (chain : List ℕ) (given : List Ends) → HasGivenWhole ms nexts st given → IsMoveChain nexts st chain →
       ((i : ℕ) → i + 1 ≡ length chain → IsNextDone nexts st (number_at chain i)) → IsGiving ms nexts st chain given (length ms) (length ms)
   gives_start st chain given had is ready = record {
     had = had.had;
@@ -62,7 +63,7 @@ module _ (ms : List Ends) (nexts : List ℕ) (apart : AreApart ms) (ns : AreNext
       (rings : HasRings nexts st (length given)) → AreRingsDone st rings.rings → ClosesRing nexts st chain k next (length ms) → length st ≡ length ms →
       IsFromTo m NoPlace (to_at ms k) → IsGiving ms nexts (set st k Done) chain (given ++ m ∷ []) k next
   gives_ring st chain given k next {m = m} had rings rings_done ring same goes =
-      let is : IsChain nexts st (chain ++ k ∷ []) = ring.is in
+      let is : IsMoveChain nexts st (chain ++ k ∷ []) = ring.is in
       let next_is : number_at nexts k ≡ next = ring.next_is in
       let next_in : next < length ms = ring.next_in in
       let next_pending : state_at st next ≡ Pending = ring.next_pending in
@@ -115,7 +116,7 @@ module _ (ms : List Ends) (nexts : List ℕ) (apart : AreApart ms) (ns : AreNext
       (λ w. let a : cut ≡ length ms = w.cut_past in absurd (omega arith))
       (λ r. pending_done (state_at st k) pends (ap (λ x. state_at st x) e ∙ r.cut_done))
       is.ring in
-      let from_same : source cut ms k ≡ from_at ms k = source_other cut ms k other in
+      let from_same : source_but cut ms k ≡ from_at ms k = source_other cut ms k other in
       gives_one cut k ms st given m is.had apart within same (pending_done (state_at st k) pends)
       (λ j r e. writers_done ms nexts st k apart ns within ready j r (e ∙ from_same))
       goes.to_is (goes.from_is ∙ sym from_same)
@@ -176,7 +177,7 @@ module _ (ms : List Ends) (nexts : List ℕ) (apart : AreApart ms) (ns : AreNext
       let within : k < length ms = omega arith in
       let pends : state_at st k ≡ Pending = ap (λ x. state_at st x) (sym (at_end chain k)) ∙ is.is_chain.pending (length chain) (omega arith) in
       let ready : IsNextDone nexts st k = subst (λ x. IsNextDone nexts st x) (at_end chain k) (is.ready (length chain) (omega arith)) in
-      let r : IsRing ms nexts st (chain ++ k ∷ []) given cut first = ⊎_elim (λ w. let a : first ≡ length ms = w.first_past in absurd (omega arith)) (λ r. r)
+      let r : IsMoveRing ms nexts st (chain ++ k ∷ []) given cut first = ⊎_elim (λ w. let a : first ≡ length ms = w.first_past in absurd (omega arith)) (λ r. r)
       is.ring in
       let longer : length given + 1 + 1 ≡ length ((given ++ m ∷ []) ++ last ∷ []) =
       let e : length (given ++ m ∷ []) ≡ length given + 1 = one_more given m in

@@ -4,8 +4,8 @@ use Rattle.std.proofs.lemmas.List.Elements.{All-contains, Contains-get_or}
 use Rattle.std.proofs.lemmas.List.{get_or_default}
 use Rattle.std.specs.List.{AllPairs, Contains}
 use Rattle.regalloc2_names.specs.Place.{Place, NoPlace}
-use Rattle.regalloc2_parts.specs.AtOnce.{Ends, no_move, Cells, moved, in_turn, AreAtOnce, WritesNoneFirst}
-use Rattle.regalloc2_parts.specs.Giving.{to_at, origin, TakesFrom, AreApart, AreNexts, IsTidied, AreFair}
+use Rattle.regalloc2_parts.specs.AtOnce.{Ends, no_move, CellsOf, moved, in_turn, AreAtOnce, WritesNoneFirst}
+use Rattle.regalloc2_parts.specs.Giving.{to_at, origin, TakesFrom, AreMovesApart, AreNexts, IsTidied, AreFair}
 use Rattle.regalloc2_parts.proofs.Places.{cases_place, moved_here, moved_other}
 use Rattle.regalloc2_parts.proofs.Orders.{in_turn-reverse}
 use Rattle.regalloc2_parts.proofs.Tidying.{tidied_apart, contains_cases, contains_here, contains_there}
@@ -15,14 +15,14 @@ abbrev pub LeavesAlone : Ends → Ends → Type 0
 LeavesAlone m n = (n.from ≡ m.to → ⊥) × (n.to ≡ m.to → ⊥)
 
 -- moves run one after another leave a place that none of them writes
-pub runs_keep : {X : Type 0} (ms : List Ends) (c : Cells X) (q : Place) → ((m : Ends) → Contains ms m → m.to ≡ q → ⊥) → in_turn ms c q ≡ c q
+pub runs_keep : {X : Type 0} (ms : List Ends) (c : CellsOf X) (q : Place) → ((m : Ends) → Contains ms m → m.to ≡ q → ⊥) → in_turn ms c q ≡ c q
 unfolding in_turn
 runs_keep [] c q n = refl
 runs_keep (x ∷ ms) c q n =
     runs_keep ms (moved c x.to (c x.from)) q (λ m h. n m (contains_there x m ms h)) ∙ moved_other c x.to q (c x.from) (n x (contains_here x ms))
 
 -- moves of which none touches what an earlier one wrote: each destination gets what its source had at first
-pub runs_assign : {X : Type 0} (ms : List Ends) (c : Cells X) (m : Ends) → AllPairs LeavesAlone ms → Contains ms m → in_turn ms c m.to ≡ c m.from
+pub runs_assign : {X : Type 0} (ms : List Ends) (c : CellsOf X) (m : Ends) → AllPairs LeavesAlone ms → Contains ms m → in_turn ms c m.to ≡ c m.from
 unfolding in_turn
 runs_assign [] c m apart (k, r, e) = absurd (omega arith)
 runs_assign (x ∷ ms) c m apart h = ⊎_elim
@@ -38,14 +38,15 @@ runs_assign (x ∷ ms) c m apart h = ⊎_elim
     (contains_cases x m ms h)
 
 -- moves of which no source is a destination, in any order
-pub apart_at_once : {X : Type 0} (ms : List Ends) (c : Cells X) → AllPairs LeavesAlone ms → AreAtOnce ms c (in_turn ms c)
+pub apart_at_once : {X : Type 0} (ms : List Ends) (c : CellsOf X) → AllPairs LeavesAlone ms → AreAtOnce ms c (in_turn ms c)
 apart_at_once ms c apart = record {
   assigned = λ m h. runs_assign ms c m apart h;
   kept = λ q real n. runs_keep ms c q n;
 }
 
 -- what was given out from the last to the first, run from its end on
-pub given_at_once : {X : Type 0} (ms given : List Ends) (c : Cells X) → AreApart ms → ((q : Place) → (q ≡ NoPlace → ⊥) → TakesFrom ms q (origin given q)) →
+pub given_at_once : {X : Type 0} (ms given : List Ends) (c : CellsOf X) → AreMovesApart ms →
+    ((q : Place) → (q ≡ NoPlace → ⊥) → TakesFrom ms q (origin given q)) →
     AreAtOnce ms c (in_turn (reverse given) c)
 given_at_once ms given c apart takes = record {
   assigned = λ m h.
@@ -58,7 +59,7 @@ given_at_once ms given c apart takes = record {
 }
 
 -- what the tidied list does is what the whole list does
-pub tidied_at_once : {X : Type 0} (old new : List Ends) (c d : Cells X) → AreFair old → IsTidied old new → AreAtOnce new c d → AreAtOnce old c d
+pub tidied_at_once : {X : Type 0} (old new : List Ends) (c d : CellsOf X) → AreFair old → IsTidied old new → AreAtOnce new c d → AreAtOnce old c d
 tidied_at_once old new c d fair is had = record {
   assigned = λ m h. ⊎_elim
       (λ e. had.kept m.to (fair.real m h).1 (λ n inside f.
@@ -73,7 +74,7 @@ pub short_alone : (ms : List Ends) → length ms ≤ 1 → AllPairs LeavesAlone 
 short_alone ms short i j d o r = absurd (omega arith)
 
 -- no source is a destination
-pub free_alone : (ms : List Ends) (nexts : List ℕ) → AreApart ms → AreNexts ms nexts → ((k : ℕ) → k < length nexts → length nexts ≤ get_or nexts k 0) →
+pub free_alone : (ms : List Ends) (nexts : List ℕ) → AreMovesApart ms → AreNexts ms nexts → ((k : ℕ) → k < length nexts → length nexts ≤ get_or nexts k 0) →
     AllPairs LeavesAlone ms
 free_alone ms nexts apart ns past i j d o r =
     let many : length nexts ≡ length ms = ns.as_many in
@@ -86,7 +87,7 @@ free_alone ms nexts apart ns past i j d o r =
     )
 
 -- what was given out of the tidied list does what the whole list does
-pub ordered_at_once : {X : Type 0} (old new given : List Ends) (c : Cells X) → AreFair old → IsTidied old new →
+pub ordered_at_once : {X : Type 0} (old new given : List Ends) (c : CellsOf X) → AreFair old → IsTidied old new →
     ((q : Place) → (q ≡ NoPlace → ⊥) → TakesFrom new q (origin given q)) → AreAtOnce old c (in_turn (reverse given) c)
 ordered_at_once old new given c fair is takes =
     tidied_at_once old new c (in_turn (reverse given) c) fair is (given_at_once new given c (tidied_apart old new fair is) takes)

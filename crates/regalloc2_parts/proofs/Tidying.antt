@@ -16,7 +16,7 @@ use Rattle.std.proofs.lemmas.List.Sorted.{IsPermutation-map}
 use Rattle.regalloc2_names.specs.Place.{Place}
 use Rattle.regalloc2_names.specs.PlaceBits.{bits_of_place}
 use Rattle.regalloc2_parts.specs.AtOnce.{Ends, ends, ends_of, no_move}
-use Rattle.regalloc2_parts.specs.Giving.{to_at, AreApart, AreProper, Below, IsTidied, AreFair}
+use Rattle.regalloc2_parts.specs.Giving.{to_at, AreMovesApart, AreProper, Below, IsTidied, AreFair}
 use Rattle.regalloc2_parts.proofs.Places.{same_word}
 
 -- the places written never fall, from k on
@@ -153,7 +153,7 @@ tidies old sorted new proper fair perm up e =
     })
 
 -- after such a clean-up each place has one writer, and no move goes from a place to itself or names none
-pub tidied_apart : (old new : List Ends) → AreFair old → IsTidied old new → AreApart new
+pub tidied_apart : (old new : List Ends) → AreFair old → IsTidied old new → AreMovesApart new
 tidied_apart old new fair is = record {
   one_writer = λ j k rj rk e. ⊎_elim
       (λ same. same)

@@ -7,26 +7,26 @@ use Rattle.std.proofs.lemmas.List.{take_more, take_all}
 use Rattle.regalloc2_names.specs.Place.{Place, NoPlace}
 use Rattle.regalloc2_parts.specs.declared.moves.passing.Held.{Held}
 use Rattle.regalloc2_parts.specs.declared.moves.passing.Held.TheVariants.{Free, InRegister, InBoth, InSave}
-use Rattle.regalloc2_parts.specs.AtOnce.{Ends, ends, ends_of, no_move, Cells, moved, in_turn}
+use Rattle.regalloc2_parts.specs.AtOnce.{Ends, ends, ends_of, no_move, CellsOf, moved, in_turn}
 use Rattle.regalloc2_parts.specs.Giving.{from_at, to_at}
-use Rattle.regalloc2_parts.specs.Tracking.{Tracks, Fits, CanPass, IsFirst, IsAside, IsThrough, IsStep, IsMade, stands}
+use Rattle.regalloc2_parts.specs.Tracking.{Tracks, FreeNeedsNoSave, CanPass, IsUnused, SavesOrRestores, GoesThrough, IsMadeFor, IsMade, stands_where}
 use Rattle.regalloc2_parts.proofs.Places.{cases_place, moved_here, moved_other}
 use Rattle.regalloc2_parts.proofs.Lists.{ends_push}
 
 -- one more move at the end
-in_turn-end : (ms : List Ends) (m : Ends) (c : Cells Place) → in_turn (ms ++ m ∷ []) c ≡ moved (in_turn ms c) m.to (in_turn ms c m.from)
+in_turn-end : (ms : List Ends) (m : Ends) (c : CellsOf Place) → in_turn (ms ++ m ∷ []) c ≡ moved (in_turn ms c) m.to (in_turn ms c m.from)
 unfolding in_turn
 in_turn-end [] m c = refl
 in_turn-end (x ∷ ms) m c = in_turn-end ms m (moved c x.to (c x.from))
 
 -- the cells after one more move
-pub pushed : {T : Type 0} (old new : List (Place × Place × T)) (m : Place × Place × T) → new ≡ old ++ m ∷ [] → (d : Cells Place) →
+pub pushed : {T : Type 0} (old new : List (Place × Place × T)) (m : Place × Place × T) → new ≡ old ++ m ∷ [] → (d : CellsOf Place) →
     in_turn (ends_of new) d ≡ moved (in_turn (ends_of old) d) m.1 (in_turn (ends_of old) d m.0)
 pushed old new m e d = ap (λ x. in_turn (ends_of x) d) e ∙ ap (λ x. in_turn x d) (ends_push old m) ∙ in_turn-end (ends_of old) (ends m) d
 
 module _ (r s : Place) where
   -- the register is saved
-  saves : (c d : Cells Place) → Tracks r s InRegister c d → Tracks r s InSave c (moved d s (d r))
+  saves : (c d : CellsOf Place) → Tracks r s InRegister c d → Tracks r s InSave c (moved d s (d r))
   saves c d had = record {
     fits = λ e. absurd cc;
     others = λ q n m. moved_other d s q (d r) (λ e. m (sym e)) ∙ had.others q n m;
@@ -34,7 +34,7 @@ module _ (r s : Place) where
   }
 
   -- so it is once a move from the register to the save slot is pushed
-  pub saves_pushed : {T : Type 0} (c d : Cells Place) (old new : List (Place × Place × T)) (m : Place × Place × T) → m.0 ≡ r → m.1 ≡ s → new ≡ old ++ m ∷ [] →
+  pub saves_pushed : {T : Type 0} (c d : CellsOf Place) (old new : List (Place × Place × T)) (m : Place × Place × T) → m.0 ≡ r → m.1 ≡ s → new ≡ old ++ m ∷ [] →
       Tracks r s InRegister c (in_turn (ends_of old) d) → Tracks r s InSave c (in_turn (ends_of new) d)
   saves_pushed c d old new m from to e had =
       subst (λ x. Tracks r s InSave c x) (sym (pushed old new m e d ∙ ap (λ p. moved (in_turn (ends_of old) d) m.1 (in_turn (ends_of old) d p)) from
@@ -42,7 +42,7 @@ module _ (r s : Place) where
       (saves c (in_turn (ends_of old) d) had)
 
   -- the register is restored
-  restores : (c d : Cells Place) → Tracks r s InSave c d → Tracks r s InBoth c (moved d r (d s))
+  restores : (c d : CellsOf Place) → Tracks r s InSave c d → Tracks r s InBoth c (moved d r (d s))
   restores c d had = record {
     fits = λ e. absurd cc;
     others = λ q n m. moved_other d r q (d s) (λ e. n (sym e)) ∙ had.others q n m;
@@ -50,7 +50,7 @@ module _ (r s : Place) where
   }
 
   -- so it is once a move from the save slot to the register is pushed
-  pub restores_pushed : {T : Type 0} (c d : Cells Place) (old new : List (Place × Place × T)) (m : Place × Place × T) → m.0 ≡ s → m.1 ≡ r → new ≡ old
+  pub restores_pushed : {T : Type 0} (c d : CellsOf Place) (old new : List (Place × Place × T)) (m : Place × Place × T) → m.0 ≡ s → m.1 ≡ r → new ≡ old
       ++ m ∷ [] → Tracks r s InSave c (in_turn (ends_of old) d) → Tracks r s InBoth c (in_turn (ends_of new) d)
   restores_pushed c d old new m from to e had =
       subst (λ x. Tracks r s InBoth c x) (sym (pushed old new m e d ∙ ap (λ p. moved (in_turn (ends_of old) d) m.1 (in_turn (ends_of old) d p)) from
@@ -58,7 +58,7 @@ module _ (r s : Place) where
       (restores c (in_turn (ends_of old) d) had)
 
   -- the register is filled with what passes through it
-  fills : (h : Held) (c d : Cells Place) (v : Place) → CanPass h → Tracks r s h c d → Tracks r s h c (moved d r v)
+  fills : (h : Held) (c d : CellsOf Place) (v : Place) → CanPass h → Tracks r s h c d → Tracks r s h c (moved d r v)
   fills Free c d v can had = record {
     fits = had.fits;
     others = λ q n m. moved_other d r q v (λ e. n (sym e)) ∙ had.others q n m;
@@ -72,14 +72,14 @@ module _ (r s : Place) where
   fills InRegister c d v can had = absurd can
   fills InBoth c d v can had = absurd can
 
-  stands_along : (h : Held) (A B C D : Type 0) → (A → C) → (B → D) → stands h A B → stands h C D
+  stands_along : (h : Held) (A B C D : Type 0) → (A → C) → (B → D) → stands_where h A B → stands_where h C D
   stands_along Free A B C D f g x = tt
   stands_along InRegister A B C D f g x = f x
   stands_along InBoth A B C D f g x = (f x.0, g x.1)
   stands_along InSave A B C D f g x = g x
 
   -- a move to a place that is neither
-  copies_other : (h : Held) (c d : Cells Place) (a v w : Place) → a ≢ r → a ≢ s → v ≡ w → Tracks r s h c d → Tracks r s h (moved c a w) (moved d a v)
+  copies_other : (h : Held) (c d : CellsOf Place) (a v w : Place) → a ≢ r → a ≢ s → v ≡ w → Tracks r s h c d → Tracks r s h (moved c a w) (moved d a v)
   copies_other h c d a v w nr ns e had =
       let here : moved d a v r ≡ d r = moved_other d a r v nr in
       let there : moved d a v s ≡ d s = moved_other d a s v ns in
@@ -95,7 +95,7 @@ module _ (r s : Place) where
       }
 
   -- a move into the register
-  copies_into : (h : Held) (c d : Cells Place) (v w : Place) → v ≡ w → Tracks r s h c d → Tracks r s InRegister (moved c r w) (moved d r v)
+  copies_into : (h : Held) (c d : CellsOf Place) (v w : Place) → v ≡ w → Tracks r s h c d → Tracks r s InRegister (moved c r w) (moved d r v)
   copies_into h c d v w e had = record {
     fits = λ f. absurd cc;
     others = λ q n m. moved_other d r q v (λ f. n (sym f)) ∙ had.others q n m ∙ sym (moved_other c r q w (λ f. n (sym f)));
@@ -103,7 +103,7 @@ module _ (r s : Place) where
   }
 
   -- a move by way of the register
-  pub passes : {T : Type 0} (h : Held) (c d : Cells Place) (m : Place × Place × T) (one two three : List (Place × Place × T)) → CanPass h → (m.0 ≢ r)
+  pub passes : {T : Type 0} (h : Held) (c d : CellsOf Place) (m : Place × Place × T) (one two three : List (Place × Place × T)) → CanPass h → (m.0 ≢ r)
       × (m.0 ≢ s) → (m.1 ≢ r) × (m.1 ≢ s) → two ≡ one ++ (m.0, r, m.2) ∷ [] → three ≡ two ++ (r, m.1, m.2) ∷ [] → Tracks r s h c (in_turn (ends_of one) d) →
       Tracks r s h (moved c m.1 (c m.0)) (in_turn (ends_of three) d)
   passes {T} h c d m one two three can from to e f had =
@@ -118,14 +118,14 @@ module _ (r s : Place) where
       (copies_other h c (in_turn (ends_of two) d) m.1 (in_turn (ends_of two) d r) (c m.0) to.0 to.1 holds filled)
 
   -- what a place that is no save slot holds, where the register holds its own
-  reads : (h : Held) (c d : Cells Place) (a : Place) → a ≢ s → (a ≡ r → h ≢ InSave) → Tracks r s h c d → d a ≡ c a
+  reads : (h : Held) (c d : CellsOf Place) (a : Place) → a ≢ s → (a ≡ r → h ≢ InSave) → Tracks r s h c d → d a ≡ c a
   reads Free c d a n ready had = had.others a (λ e. n (e ∙ had.fits refl)) n
   reads InRegister c d a n ready had = ⊎_elim (λ e. ap d e ∙ had.borrowed (λ f. n (e ∙ f)) ∙ ap c (sym e)) (λ m. had.others a m n) (cases_place a r)
   reads InBoth c d a n ready had = ⊎_elim (λ e. ap d e ∙ (had.borrowed (λ f. n (e ∙ f))).0 ∙ ap c (sym e)) (λ m. had.others a m n) (cases_place a r)
   reads InSave c d a n ready had = had.others a (λ e. ready e refl) n
 
   -- a move that names no save slot and isn't into the register is tracked once it is pushed
-  pub copies_pushed : {T : Type 0} (h : Held) (c d : Cells Place) (m : Place × Place × T) (old new : List (Place × Place × T)) → (m.0 ≢ s) × (m.1 ≢ s) →
+  pub copies_pushed : {T : Type 0} (h : Held) (c d : CellsOf Place) (m : Place × Place × T) (old new : List (Place × Place × T)) → (m.0 ≢ s) × (m.1 ≢ s) →
       (m.0 ≡ r → h ≢ InSave) → m.1 ≢ r → new ≡ old ++ m ∷ [] → Tracks r s h c (in_turn (ends_of old) d) →
       Tracks r s h (moved c m.1 (c m.0)) (in_turn (ends_of new) d)
   copies_pushed h c d m old new unnamed ready other e had =
@@ -134,7 +134,7 @@ module _ (r s : Place) where
       (copies_other h c x m.1 (x m.0) (c m.0) other unnamed.1 (reads h c x m.0 unnamed.0 ready had) had)
 
   -- a move into the register is tracked too, and the register holds its own from then on
-  pub copies_pushed_into : {T : Type 0} (h : Held) (c d : Cells Place) (m : Place × Place × T) (old new : List (Place × Place × T)) → (m.0 ≢ s) × (m.1 ≢ s) →
+  pub copies_pushed_into : {T : Type 0} (h : Held) (c d : CellsOf Place) (m : Place × Place × T) (old new : List (Place × Place × T)) → (m.0 ≢ s) × (m.1 ≢ s) →
       (m.0 ≡ r → h ≢ InSave) → m.1 ≡ r → new ≡ old ++ m ∷ [] → Tracks r s h c (in_turn (ends_of old) d) →
       Tracks r s InRegister (moved c m.1 (c m.0)) (in_turn (ends_of new) d)
   copies_pushed_into h c d m old new unnamed ready into e had =
@@ -145,10 +145,10 @@ module _ (r s : Place) where
 
   -- the first moves are made
   abbrev pub Follows : {T : Type 0} → Held → List (Place × Place × T) → List (Place × Place × T) → ℕ → Type 0
-  Follows h ms out i = (d : Cells Place) → Tracks r s h (in_turn (take i (ends_of ms)) d) (in_turn (ends_of out) d)
+  Follows h ms out i = (d : CellsOf Place) → Tracks r s h (in_turn (take i (ends_of ms)) d) (in_turn (ends_of out) d)
 
   -- none is made yet
-  pub follows_none : {T : Type 0} (h : Held) (ms out : List (Place × Place × T)) → IsFirst h → Fits h r s → out ≡ [] → Follows h ms out 0
+  pub follows_none : {T : Type 0} (h : Held) (ms out : List (Place × Place × T)) → IsUnused h → FreeNeedsNoSave h r s → out ≡ [] → Follows h ms out 0
   follows_none Free ms out first fits e d = record { fits = fits; others = λ q n m. ap (λ xs. in_turn (ends_of xs) d q) e; borrowed = λ differ. tt }
   follows_none InRegister ms out first fits e d = record {
     fits = fits;
@@ -161,7 +161,7 @@ module _ (r s : Place) where
   -- if what is pushed for one more move tracks it, the moves up to it are made
   pub follows_more : {T : Type 0} (h after : Held) (ms old new : List (Place × Place × T)) (i : ℕ) (m : Place × Place × T) → i < length (ends_of ms) →
       m.0 ≡ from_at (ends_of ms) i → m.1 ≡ to_at (ends_of ms) i → Follows h ms old i →
-      ((c d : Cells Place) → Tracks r s h c (in_turn (ends_of old) d) → Tracks r s after (moved c m.1 (c m.0)) (in_turn (ends_of new) d)) →
+      ((c d : CellsOf Place) → Tracks r s h c (in_turn (ends_of old) d) → Tracks r s after (moved c m.1 (c m.0)) (in_turn (ends_of new) d)) →
       Follows after ms new (i + 1)
   follows_more h after ms old new i m low from to had step d =
       let c = in_turn (take i (ends_of ms)) d in
@@ -172,8 +172,8 @@ module _ (r s : Place) where
 
   -- once all moves are made and the register is restored, each place but the save slot holds what the given moves say
   pub follows_all : {T : Type 0} (h after : Held) (ms old new : List (Place × Place × T)) (i : ℕ) → length (ends_of ms) ≤ i → Follows h ms old i →
-      ((c d : Cells Place) → Tracks r s h c (in_turn (ends_of old) d) → Tracks r s after c (in_turn (ends_of new) d)) → after ≢ InSave →
-      (d : Cells Place) (q : Place) → q ≢ s → in_turn (ends_of new) d q ≡ in_turn (ends_of ms) d q
+      ((c d : CellsOf Place) → Tracks r s h c (in_turn (ends_of old) d) → Tracks r s after c (in_turn (ends_of new) d)) → after ≢ InSave →
+      (d : CellsOf Place) (q : Place) → q ≢ s → in_turn (ends_of new) d q ≡ in_turn (ends_of ms) d q
   follows_all h after ms old new i end had step restored d q n =
       reads after (in_turn (take i (ends_of ms)) d) (in_turn (ends_of new) d) q n (λ e f. restored f) (step (in_turn (take i (ends_of ms)) d) d (had d)) ∙
       ap (λ x. in_turn x d q) (take_all i (ends_of ms) end)
@@ -184,14 +184,15 @@ pub added_one : {T : Type 0} (x : Place × Place × T) (old new : List (Place ×
 added_one x old new m e h = ⊎_elim (λ l. inl l) (λ r. inr (sym r)) (Contains-push_cases old m x (subst (λ xs. Contains xs x) e h))
 
 -- a move that saves the register or restores it is one of those
-pub added_aside : {T : Type 0} (r s : Place) (x : Place × Place × T) (old new : List (Place × Place × T)) (m : Place × Place × T) → IsAside r s m → new ≡ old
-    ++ m ∷ [] → Contains new x → Contains old x ⊎ IsAside r s x
-added_aside r s x old new m aside e h = ⊎_elim (λ l. inl l) (λ is. inr (subst (λ y. IsAside r s y) (sym is) aside)) (added_one x old new m e h)
+pub added_aside : {T : Type 0} (r s : Place) (x : Place × Place × T) (old new : List (Place × Place × T)) (m : Place × Place × T) → SavesOrRestores r s m →
+    new ≡ old
+    ++ m ∷ [] → Contains new x → Contains old x ⊎ SavesOrRestores r s x
+added_aside r s x old new m aside e h = ⊎_elim (λ l. inl l) (λ is. inr (subst (λ y. SavesOrRestores r s y) (sym is) aside)) (added_one x old new m e h)
 
 -- so are the two that make a move by way of the register
 pub added_through : {T : Type 0} (r s : Place) (x m : Place × Place × T) (old one two three : List (Place × Place × T)) →
-    (Contains one x → Contains old x ⊎ IsAside r s x) → two ≡ one ++ (m.0, r, m.2) ∷ [] → three ≡ two ++ (r, m.1, m.2) ∷ [] → Contains three x →
-    (Contains old x ⊎ IsAside r s x) ⊎ IsThrough r m x
+    (Contains one x → Contains old x ⊎ SavesOrRestores r s x) → two ≡ one ++ (m.0, r, m.2) ∷ [] → three ≡ two ++ (r, m.1, m.2) ∷ [] → Contains three x →
+    (Contains old x ⊎ SavesOrRestores r s x) ⊎ GoesThrough r m x
 added_through {T} r s x m old one two three was e f h =
     let y : Place × Place × T = (m.0, r, m.2) in
     let z : Place × Place × T = (r, m.1, m.2) in
@@ -204,7 +205,7 @@ added_through {T} r s x m old one two three was e f h =
 -- what is made of the moves, one step after another
 module _ {T : Type 0} (stack : Place → Bool → Type 0) (r s : Place) (no_stack : stack r true → ⊥) (real : (r ≢ NoPlace) × (s ≢ NoPlace))
     (ms : List (Place × Place × T)) where
-  made_aside : (x : Place × Place × T) → IsAside r s x → IsMade stack r s ms x
+  made_aside : (x : Place × Place × T) → SavesOrRestores r s x → IsMade stack r s ms x
   made_aside x (inl h) = record {
     apart = inl (inr (λ a. no_stack (subst (λ p. stack p true) h.0 a)));
     between = ((λ e. real.0 (sym h.0 ∙ e)), (λ e. real.1 (sym h.1 ∙ e)));
@@ -218,7 +219,7 @@ module _ {T : Type 0} (stack : Place → Bool → Type 0) (r s : Place) (no_stac
     target = inl (inl h.1);
   }
 
-  made_through : (m x : Place × Place × T) → Contains ms m → (m.0 ≢ NoPlace) × (m.1 ≢ NoPlace) → IsThrough r m x → IsMade stack r s ms x
+  made_through : (m x : Place × Place × T) → Contains ms m → (m.0 ≢ NoPlace) × (m.1 ≢ NoPlace) → GoesThrough r m x → IsMade stack r s ms x
   made_through m x inside ends (inl h) = record {
     apart = inr (inr (λ a. no_stack (subst (λ p. stack p true) h.1 a)));
     between = ((λ e. ends.0 (sym h.0 ∙ e)), (λ e. real.0 (sym h.1 ∙ e)));
@@ -242,13 +243,13 @@ module _ {T : Type 0} (stack : Place → Bool → Type 0) (r s : Place) (no_stac
   })
 
   made_step : (passing : Bool) (m x : Place × Place × T) → Contains ms m → (m.0 ≢ NoPlace) × (m.1 ≢ NoPlace) →
-      (passing ≡ false → stack m.0 false ⊎ stack m.1 false) → IsStep r passing m x → IsMade stack r s ms x
+      (passing ≡ false → stack m.0 false ⊎ stack m.1 false) → IsMadeFor r passing m x → IsMade stack r s ms x
   made_step true m x inside ends apart h = made_through m x inside ends h
   made_step false m x inside ends apart h = made_itself m x inside ends (apart refl) h
 
   -- moves that save or restore the register may be added to those that are made for the moves
   pub made_last : (old new : List (Place × Place × T)) → All (IsMade stack r s ms) old →
-      ((x : Place × Place × T) → Contains new x → Contains old x ⊎ IsAside r s x) → All (IsMade stack r s ms) new
+      ((x : Place × Place × T) → Contains new x → Contains old x ⊎ SavesOrRestores r s x) → All (IsMade stack r s ms) new
   made_last old new had added k d low = ⊎_elim
       (λ l. All-contains (IsMade stack r s ms) old (get_or new k d) had l)
       (λ a. made_aside (get_or new k d) a)
@@ -257,7 +258,7 @@ module _ {T : Type 0} (stack : Place → Bool → Type 0) (r s : Place) (no_stac
   -- and so may be what is made of one more of the moves
   pub made_more : (passing : Bool) (m : Place × Place × T) (old new : List (Place × Place × T)) → Contains ms m → (m.0 ≢ NoPlace) × (m.1 ≢ NoPlace) →
       (passing ≡ false → stack m.0 false ⊎ stack m.1 false) → All (IsMade stack r s ms) old →
-      ((x : Place × Place × T) → Contains new x → (Contains old x ⊎ IsAside r s x) ⊎ IsStep r passing m x) → All (IsMade stack r s ms) new
+      ((x : Place × Place × T) → Contains new x → (Contains old x ⊎ SavesOrRestores r s x) ⊎ IsMadeFor r passing m x) → All (IsMade stack r s ms) new
   made_more passing m old new inside ends apart had added k d low = ⊎_elim
       (λ l. ⊎_elim
       (λ o. All-contains (IsMade stack r s ms) old (get_or new k d) had o)

@@ -11,8 +11,8 @@ use Rattle.std.proofs.lemmas.Map.Keys.{IsDistinct-head, IsDistinct-tail}
 use Rattle.regalloc2_names.specs.Register.{VirtualRegister, invalid_vreg}
 use Rattle.regalloc2_parts.specs.declared.vregset.VRegNode.{VRegNode}
 use Rattle.regalloc2_parts.specs.LiveList.{NamesEachOnce}
-use Rattle.regalloc2_parts.specs.Links.{IsRing, IsWalk, Lacks, Leads, changed, walked}
-use Rattle.regalloc2_parts.specs.VRegNodes.{IsVRegList, Lists, changed_links, members_of, nexts, numbers, prevs, rest_from, vregs, vregs_at}
+use Rattle.regalloc2_parts.specs.Links.{IsRing, IsWalk, LacksNumber, Leads, changed, walked_links}
+use Rattle.regalloc2_parts.specs.VRegNodes.{IsVRegList, Lists, vreg_changed_links, members_of, nexts, vreg_ring_numbers, prevs, rest_from, vregs, vregs_at}
 use Rattle.regalloc2_parts.proofs.Numbers.{differs, each_without, flip, lacks, of_member, without}
 use Rattle.regalloc2_parts.proofs.Linked.{next_of_member, prev_of_member}
 use Rattle.regalloc2_parts.proofs.LinkRings.{IsRing-inserted, IsRing-removed, around, head_links, ring_walked, step, walked-end}
@@ -30,7 +30,7 @@ lists : (nodes : List VRegNode) (h : ℕ) (xs : List ℕ) (members : List Virtua
     IsRing (nexts nodes) (prevs nodes) h xs →
     AreNamed nodes xs → vregs_at nodes xs ≡ members → Lists nodes h members
 lists nodes h xs members small long ring named e =
-    let same : numbers nodes h ≡ xs = ring_walked (nexts nodes) (prevs nodes) h xs ring in
+    let same : vreg_ring_numbers nodes h ≡ xs = ring_walked (nexts nodes) (prevs nodes) h xs ring in
     record {
       list = record {
         small = small;
@@ -42,7 +42,7 @@ lists nodes h xs members small long ring named e =
     }
 
 -- a written node tells nothing of the others
-vregs_kept : (old new : List VRegNode) (v : ℕ) (vreg : VirtualRegister) (xs : List ℕ) → vregs new ≡ slice_set (vregs old) v vreg → Lacks v xs →
+vregs_kept : (old new : List VRegNode) (v : ℕ) (vreg : VirtualRegister) (xs : List ℕ) → vregs new ≡ slice_set (vregs old) v vreg → LacksNumber v xs →
     vregs_at new xs ≡ vregs_at old xs
 vregs_kept old new v vreg [] e l = refl
 vregs_kept old new v vreg (x ∷ xs) e l =
@@ -50,7 +50,7 @@ vregs_kept old new v vreg (x ∷ xs) e l =
     rw e (get_or-set_other (vregs old) v x vreg invalid_vreg (λ s. let t : nat_eq v x ≡ true = eq-eqb v x (sym s) in cc)) in
     rw (here, vregs_kept old new v vreg xs e l.1) refl
 
-named_kept : (old new : List VRegNode) (v : ℕ) (vreg : VirtualRegister) (xs : List ℕ) → vregs new ≡ slice_set (vregs old) v vreg → Lacks v xs →
+named_kept : (old new : List VRegNode) (v : ℕ) (vreg : VirtualRegister) (xs : List ℕ) → vregs new ≡ slice_set (vregs old) v vreg → LacksNumber v xs →
     AreNamed old xs → AreNamed new xs
 named_kept old new v vreg [] e l n = tt
 named_kept old new v vreg (x ∷ xs) e l n =
@@ -125,30 +125,32 @@ next_of_head nodes h d list = let last = list.last in get_or-map (λ (n : VRegNo
 -- the head's link leads to a node
 pub first_fits : (nodes : List VRegNode) (h : ℕ) (d : VRegNode) → IsVRegList nodes h → (slice_index_or nodes h d).next < length nodes
 first_fits nodes h d list =
-    rw (next_of_head nodes h d list, length-map nodes (λ (n : VRegNode). n.next)) at (head_links (nexts nodes) (prevs nodes) h (numbers nodes h) list.ring).0
+    rw (next_of_head nodes h d list, length-map nodes (λ (n : VRegNode). n.next)) at (head_links (nexts nodes) (prevs nodes) h (vreg_ring_numbers nodes h)
+        list.ring).0
 
 -- each number of the list is a node's
-pub member_fits : (nodes : List VRegNode) (h p : ℕ) → IsVRegList nodes h → Contains (numbers nodes h) p → p < length nodes
+pub member_fits : (nodes : List VRegNode) (h p : ℕ) → IsVRegList nodes h → Contains (vreg_ring_numbers nodes h) p → p < length nodes
 member_fits nodes h p list mem =
     rw (length-map nodes (λ (n : VRegNode). n.next)) at
-    (of_member (λ (n : ℕ). n < length (nexts nodes)) (numbers nodes h) p list.ring.below.1 mem)
+    (of_member (λ (n : ℕ). n < length (nexts nodes)) (vreg_ring_numbers nodes h) p list.ring.below.1 mem)
 
 -- each number of the list is below the head's
-pub member_below : (nodes : List VRegNode) (h p : ℕ) → IsVRegList nodes h → Contains (numbers nodes h) p → p < h
+pub member_below : (nodes : List VRegNode) (h p : ℕ) → IsVRegList nodes h → Contains (vreg_ring_numbers nodes h) p → p < h
 member_below nodes h p list mem =
     let last = list.last in
     let fits = member_fits nodes h p list mem in
-    let f : nat_eq h p ≡ false = of_member (λ (n : ℕ). nat_eq h n ≡ false) (numbers nodes h) p
-    (IsDistinct-head nat_eq h (numbers nodes h) list.ring.distinct) mem in
+    let f : nat_eq h p ≡ false = of_member (λ (n : ℕ). nat_eq h n ≡ false) (vreg_ring_numbers nodes h) p
+    (IsDistinct-head nat_eq h (vreg_ring_numbers nodes h) list.ring.distinct) mem in
     let other : h ≢ p = λ s. (let t : nat_eq h p ≡ true = eq-eqb h p s in cc) in
     omega arith
 
 -- the links of a member lead to nodes
-pub neighbours_fit : (nodes : List VRegNode) (h p : ℕ) (x : VRegNode) → IsVRegList nodes h → Contains (numbers nodes h) p → x ≡ slice_index_or nodes p x →
+pub neighbours_fit : (nodes : List VRegNode) (h p : ℕ) (x : VRegNode) → IsVRegList nodes h → Contains (vreg_ring_numbers nodes h) p →
+    x ≡ slice_index_or nodes p x →
     (x.prev < length nodes) × (x.next < length nodes)
 neighbours_fit nodes h p x list mem is =
     let P : ℕ → Type 0 = λ n. n < length (nexts nodes) in
-    let xs = numbers nodes h in
+    let xs = vreg_ring_numbers nodes h in
     let ring = list.ring in
     let fits = member_fits nodes h p list mem in
     let long : length (nexts nodes) ≡ length nodes = length-map nodes (λ (n : VRegNode). n.next) in
@@ -164,15 +166,16 @@ pub record AreLinkedTo (old new : List VRegNode) (from to : ℕ) : Type 0 where
 
 -- one more, behind the head
 pub node_inserted : (old written mid new : List VRegNode) (h k : ℕ) (vreg : VirtualRegister) (d : VRegNode) → IsVRegList old h → k ≡ vreg.number → k < h →
-    All (λ n. n ≢ k) (numbers old h) → IsWritten old written k vreg → AreLinkedTo written mid k (slice_index_or old h d).next → AreLinkedTo mid new h k →
+    All (λ n. n ≢ k) (vreg_ring_numbers old h) → IsWritten old written k vreg → AreLinkedTo written mid k (slice_index_or old h d).next →
+        AreLinkedTo mid new h k →
     Lists new h (vreg ∷ members_of old h)
 node_inserted old written mid new h k vreg d list is low absent w to_first to_it =
     let r = (slice_index_or old h d).next in
-    let xs = numbers old h in
+    let xs = vreg_ring_numbers old h in
     let wide : length (nexts old) ≡ length old = length-map old (λ (n : VRegNode). n.next) in
     let room : length (vregs old) ≡ length old = length-map old (λ (n : VRegNode). n.vreg) in
     let last = list.last in
-    let lk : Lacks k xs = lacks k xs absent in
+    let lk : LacksNumber k xs = lacks k xs absent in
     let fr : r < length (nexts old) = rw wide (first_fits old h d list) in
     let ring = IsRing-inserted (nexts old) (prevs old) h xs k r list.ring (differs k h (λ s. let b : h ≡ k = s in omega arith), lk) (omega arith)
     (next_of_head old h d list) fr in
@@ -190,8 +193,8 @@ node_inserted old written mid new h k vreg d list is low absent w to_first to_it
 
 -- writing a virtual register changes no link
 pub changes_written : (old written new : List VRegNode) (k : ℕ) (vreg : VirtualRegister) (m : ℕ) → IsWritten old written k vreg →
-    changed_links written new ≤ m →
-    changed_links old new ≤ m
+    vreg_changed_links written new ≤ m →
+    vreg_changed_links old new ≤ m
 changes_written old written new k vreg m w h =
     subst (λ l. changed l (nexts new) + changed (prevs old) (prevs new) ≤ m) w.nexts_same
     (subst (λ l. changed (nexts written) (nexts new) + changed l (prevs new) ≤ m) w.prevs_same h)
@@ -217,11 +220,11 @@ vregs_without nodes p (x ∷ xs) n =
     by_test false e = e
 
 -- once a member's two neighbours are linked, the list has all members but this one
-pub node_removed : (old new : List VRegNode) (h p : ℕ) (x : VRegNode) → IsVRegList old h → Contains (numbers old h) p → x ≡ slice_index_or old p x →
+pub node_removed : (old new : List VRegNode) (h p : ℕ) (x : VRegNode) → IsVRegList old h → Contains (vreg_ring_numbers old h) p → x ≡ slice_index_or old p x →
     nexts new ≡ slice_set (nexts old) x.prev x.next → prevs new ≡ slice_set (prevs old) x.next x.prev → vregs new ≡ vregs old →
     Lists new h (filter (λ v. not (nat_eq v.number p)) (members_of old h))
 node_removed old new h p x list mem is e f g =
-    let xs = numbers old h in
+    let xs = vreg_ring_numbers old h in
     let fits = member_fits old h p list mem in
     let ring = IsRing-removed (nexts old) (prevs old) h xs p x.prev x.next list.ring mem (prev_at old p x fits is) (next_at old p x fits is) in
     let long : length new ≡ h + 1 =
@@ -232,15 +235,15 @@ node_removed old new h p x list mem is e f g =
 
 -- changes
 pub link_changes : (old new : List VRegNode) (a b : ℕ) → nexts new ≡ slice_set (nexts old) a b → prevs new ≡ slice_set (prevs old) b a →
-    changed_links old new ≤ 2
+    vreg_changed_links old new ≤ 2
 link_changes old new a b e f =
     let n : changed (nexts old) (nexts new) ≤ 1 = rw e (changed-set (nexts old) a b) in
     let p : changed (prevs old) (prevs new) ≤ 1 = rw f (changed-set (prevs old) b a) in
     omega arith
 
 -- two steps change at most as many links as each of them does, added up
-pub changes_added : (old mid new : List VRegNode) (m n : ℕ) → length mid ≡ length old → length new ≡ length mid → changed_links old mid ≤ m →
-    changed_links mid new ≤ n → changed_links old new ≤ m + n
+pub changes_added : (old mid new : List VRegNode) (m n : ℕ) → length mid ≡ length old → length new ≡ length mid → vreg_changed_links old mid ≤ m →
+    vreg_changed_links mid new ≤ n → vreg_changed_links old new ≤ m + n
 changes_added old mid new m n e f g h =
     let nx = changed-trans (nexts old) (nexts mid) (nexts new)
     (rw (length-map old (λ (n : VRegNode). n.next), length-map mid (λ (n : VRegNode). n.next)) (sym e))
@@ -258,14 +261,14 @@ numbers_of nodes (x ∷ xs) n = rw (n.0, numbers_of nodes xs n.1) refl
 -- no two members have one number, and each number is below the head's
 pub proper : (nodes : List VRegNode) (h : ℕ) → IsVRegList nodes h → NamesEachOnce (members_of nodes h) h
 proper nodes h list =
-    let xs = numbers nodes h in
+    let xs = vreg_ring_numbers nodes h in
     record {
       distinct = rw (numbers_of nodes xs list.named) (IsDistinct-tail nat_eq h xs list.ring.distinct);
       below = All-from_recursion (λ (v : VirtualRegister). v.number < h) (vregs_at nodes xs)
           (each_below xs list.named list.ring.below.1 (IsDistinct-head nat_eq h xs list.ring.distinct));
     }
   where
-    each_below : (ys : List ℕ) → AreNamed nodes ys → AllByRecursion (λ n. n < length (nexts nodes)) ys → Lacks h ys →
+    each_below : (ys : List ℕ) → AreNamed nodes ys → AllByRecursion (λ n. n < length (nexts nodes)) ys → LacksNumber h ys →
         AllByRecursion (λ v. v.number < h) (vregs_at nodes ys)
     each_below [] n b l = tt
     each_below (y ∷ ys) n b l =
@@ -277,8 +280,9 @@ proper nodes h list =
         (rw n.0 here, each_below ys n.1 b.1 l.1)
 
 -- where no member has a number, the list of numbers lacks it
-pub absent_numbers : (nodes : List VRegNode) (h k : ℕ) → IsVRegList nodes h → All (λ v. v.number ≢ k) (members_of nodes h) → All (λ n. n ≢ k) (numbers nodes h)
-absent_numbers nodes h k list absent = All-from_recursion (λ (n : ℕ). n ≢ k) (numbers nodes h) (each (numbers nodes h) list.named absent)
+pub absent_numbers : (nodes : List VRegNode) (h k : ℕ) → IsVRegList nodes h → All (λ v. v.number ≢ k) (members_of nodes h) →
+    All (λ n. n ≢ k) (vreg_ring_numbers nodes h)
+absent_numbers nodes h k list absent = All-from_recursion (λ (n : ℕ). n ≢ k) (vreg_ring_numbers nodes h) (each (vreg_ring_numbers nodes h) list.named absent)
   where
     each : (ys : List ℕ) → AreNamed nodes ys → All (λ v. v.number ≢ k) (vregs_at nodes ys) → AllByRecursion (λ n. n ≢ k) ys
     each [] n a = tt
@@ -288,8 +292,9 @@ absent_numbers nodes h k list absent = All-from_recursion (λ (n : ℕ). n ≢ k
     )
 
 -- the number of a member is in the list of numbers
-pub member_number : (nodes : List VRegNode) (h k : ℕ) → IsVRegList nodes h → Any (λ v. v.number ≡ k) (members_of nodes h) → Contains (numbers nodes h) k
-member_number nodes h k list (i, v, less, at, e) = there (numbers nodes h) list.named i v less at e
+pub member_number : (nodes : List VRegNode) (h k : ℕ) → IsVRegList nodes h → Any (λ v. v.number ≡ k) (members_of nodes h) →
+    Contains (vreg_ring_numbers nodes h) k
+member_number nodes h k list (i, v, less, at, e) = there (vreg_ring_numbers nodes h) list.named i v less at e
   where
     there : (ys : List ℕ) → AreNamed nodes ys → (i : ℕ) (v : VirtualRegister) → i < length (vregs_at nodes ys) → slice_index_or (vregs_at nodes ys) i v ≡ v →
         v.number ≡ k → Contains ys k
@@ -316,11 +321,11 @@ new_list nodes h node small e prev next =
 
 -- walks
 pub iter_begins : (nodes : List VRegNode) (h : ℕ) (x : VRegNode) → IsVRegList nodes h → x ≡ slice_index_or nodes h x →
-    IsWalk (nexts nodes) h x.next (walked (nexts nodes) h x.next)
+    IsWalk (nexts nodes) h x.next (walked_links (nexts nodes) h x.next)
 iter_begins nodes h x list is =
     let last = list.last in
     let e = next_at nodes h x (omega arith) is in
-    subst (λ (i : ℕ). IsWalk (nexts nodes) h i (walked (nexts nodes) h i)) e (around (nexts nodes) (prevs nodes) h (numbers nodes h) list.ring)
+    subst (λ (i : ℕ). IsWalk (nexts nodes) h i (walked_links (nexts nodes) h i)) e (around (nexts nodes) (prevs nodes) h (vreg_ring_numbers nodes h) list.ring)
 
 -- a walk from the head on has all members before it
 pub iter_members : (nodes : List VRegNode) (h : ℕ) (x : VRegNode) → IsVRegList nodes h → x ≡ slice_index_or nodes h x →
@@ -335,13 +340,13 @@ iter_end nodes h at e = ap (λ l. vregs_at nodes l) (walked-end (nexts nodes) h 
 
 pub record IterSteps (nodes : List VRegNode) (h at : ℕ) (x : VRegNode) : Type 0 where
   pub left : rest_from nodes h at ≡ x.vreg ∷ rest_from nodes h x.next
-  pub proper : IsWalk (nexts nodes) h x.next (walked (nexts nodes) h x.next)
+  pub proper : IsWalk (nexts nodes) h x.next (walked_links (nexts nodes) h x.next)
 
 -- a walk that isn't at the head is at a node
-pub at_node : (nodes : List VRegNode) (h at : ℕ) → IsWalk (nexts nodes) h at (walked (nexts nodes) h at) → at ≢ h → at < length nodes
+pub at_node : (nodes : List VRegNode) (h at : ℕ) → IsWalk (nexts nodes) h at (walked_links (nexts nodes) h at) → at ≢ h → at < length nodes
 at_node nodes h at w other = rw (length-map nodes (λ (n : VRegNode). n.next)) at (step (nexts nodes) h at w other).below
 
-iter_step : (nodes : List VRegNode) (h at : ℕ) (x : VRegNode) → IsWalk (nexts nodes) h at (walked (nexts nodes) h at) → at ≢ h →
+iter_step : (nodes : List VRegNode) (h at : ℕ) (x : VRegNode) → IsWalk (nexts nodes) h at (walked_links (nexts nodes) h at) → at ≢ h →
     x ≡ slice_index_or nodes at x → IterSteps nodes h at x
 iter_step nodes h at x w other is =
     let s = step (nexts nodes) h at w other in
@@ -351,11 +356,11 @@ iter_step nodes h at x w other is =
     get_or-map (λ (n : VRegNode). n.vreg) nodes at x invalid_vreg fits ∙ ap (λ (n : VRegNode). n.vreg) (sym is) in
     record {
       left = ap (λ l. vregs_at nodes l) s.first ∙ rw (here, e) refl;
-      proper = subst (λ (i : ℕ). IsWalk (nexts nodes) h i (walked (nexts nodes) h i)) e s.rest;
+      proper = subst (λ (i : ℕ). IsWalk (nexts nodes) h i (walked_links (nexts nodes) h i)) e s.rest;
     }
 
 -- a walk that isn't at the head passes a member and goes on to the next
-pub iter_steps : (nodes : List VRegNode) (h at : ℕ) (d : VRegNode) → IsWalk (nexts nodes) h at (walked (nexts nodes) h at) → at ≢ h →
+pub iter_steps : (nodes : List VRegNode) (h at : ℕ) (d : VRegNode) → IsWalk (nexts nodes) h at (walked_links (nexts nodes) h at) → at ≢ h →
     IterSteps nodes h at (slice_index_or nodes at d)
 iter_steps nodes h at d w other =
     iter_step nodes h at (slice_index_or nodes at d) w other (get_or_default nodes at d (slice_index_or nodes at d) (at_node nodes h at w other))
@@ -371,6 +376,6 @@ none_left nodes h x list is = rw (← iter_members nodes h x list is) (by_answer
         let other : x.next ≢ h = λ s. (let t : nat_eq x.next h ≡ true = eq-eqb x.next h s in cc) in
         let s = step (nexts nodes) h x.next (iter_begins nodes h x list is) other in
         let some : length (rest_from nodes h x.next) ≢ 0 = λ z. (let e : length (rest_from nodes h x.next)
-        ≡ suc (length (vregs_at nodes (walked (nexts nodes) h (slice_index (nexts nodes) x.next)))) = ap (λ l. length (vregs_at nodes l)) s.first in
+        ≡ suc (length (vregs_at nodes (walked_links (nexts nodes) h (slice_index (nexts nodes) x.next)))) = ap (λ l. length (vregs_at nodes l)) s.first in
         absurd (omega arith)) in
         sym (differs (length (rest_from nodes h x.next)) 0 (λ z. some (sym z)))

@@ -21,27 +21,27 @@ abbrev pub ends_of : {T : Type 0} → List (Place × Place × T) → List Ends
 ends_of ms = map ends ms
 
 -- What stands at each place: X may be an option, where a place may hold nothing. No place is one more cell here, for what stands aside.
-abbrev pub Cells : Type 0 → Type 0
-Cells X = Place → X
+abbrev pub CellsOf : Type 0 → Type 0
+CellsOf X = Place → X
 
 -- the cells with one changed
-abbrev pub moved : {X : Type 0} → Cells X → Place → X → Cells X
+abbrev pub moved : {X : Type 0} → CellsOf X → Place → X → CellsOf X
 moved c p x q = if is_place p q then x else c q
 
 -- the cells after the moves, one after another
-unfoldable pub in_turn : {X : Type 0} → List Ends → Cells X → Cells X
+unfoldable pub in_turn : {X : Type 0} → List Ends → CellsOf X → CellsOf X
 in_turn [] c = c
 in_turn (m ∷ ms) c = in_turn ms (moved c m.to (c m.from))
 
 -- the cells after all moves at once: each destination has what its source had at first, all others stay, and what stands aside is left open
-pub record AreAtOnce {X : Type 0} (ms : List Ends) (old new : Cells X) : Type 0 where
+pub record AreAtOnce {X : Type 0} (ms : List Ends) (old new : CellsOf X) : Type 0 where
   pub assigned : (m : Ends) → Contains ms m → new m.to ≡ old m.from
   pub kept : (q : Place) → q ≢ NoPlace → ((m : Ends) → Contains ms m → m.to ≢ q) → new q ≡ old q
 
 -- Each place holds its own name. What moves make of these cells says of each place where what stands there came from, and so what they make
 -- of any cells (`in_turn-any`).
-abbrev pub names : Cells Place
-names q = q
+abbrev pub own_names : CellsOf Place
+own_names q = q
 
 -- two moves into one place have one source
 abbrev pub HasOneSourceEach : List Ends → Type 0
@@ -70,14 +70,14 @@ abbrev pub AreReal : {T : Type 0} → List (Place × Place × T) → Type 0
 AreReal ms = All IsRealMove ms
 
 -- moves only copy
-moved-any : {X : Type 0} (b : Bool) (c : Cells X) (p q : Place) → (if b then c p else c q) ≡ c (if b then p else q)
+moved-any : {X : Type 0} (b : Bool) (c : CellsOf X) (p q : Place) → (if b then c p else c q) ≡ c (if b then p else q)
 moved-any true c p q = refl
 moved-any false c p q = refl
 
-pub in_turn-any : {X : Type 0} (ms : List Ends) (c : Cells X) (q : Place) → in_turn ms c q ≡ c (in_turn ms names q)
+pub in_turn-any : {X : Type 0} (ms : List Ends) (c : CellsOf X) (q : Place) → in_turn ms c q ≡ c (in_turn ms own_names q)
 unfolding in_turn
 in_turn-any [] c q = refl
 in_turn-any (m ∷ ms) c q =
     in_turn-any ms (moved c m.to (c m.from)) q
-    ∙ moved-any (is_place m.to (in_turn ms names q)) c m.from (in_turn ms names q)
-    ∙ sym (ap c (in_turn-any ms (moved names m.to m.from) q))
+    ∙ moved-any (is_place m.to (in_turn ms own_names q)) c m.from (in_turn ms own_names q)
+    ∙ sym (ap c (in_turn-any ms (moved own_names m.to m.from) q))

@@ -12,8 +12,8 @@ use Rattle.regalloc2_parts.specs.declared.moves.passing.Held.TheVariants.{Free, 
 use Rattle.regalloc2_parts.specs.declared.moves.passing.ScratchReg.{ScratchReg}
 use Rattle.regalloc2_parts.specs.declared.moves.scratch.MoveAndScratchResolver.{MoveAndScratchResolver}
 use Rattle.regalloc2_parts.specs.declared.moves.resolved.MoveVecWithScratch.{MoveVecWithScratch}
-use Rattle.regalloc2_parts.specs.AtOnce.{ends_of, names, in_turn}
-use Rattle.regalloc2_parts.specs.Resolved.{listed, has_scratch, with_place, IsUnnamed}
+use Rattle.regalloc2_parts.specs.AtOnce.{ends_of, own_names, in_turn}
+use Rattle.regalloc2_parts.specs.Resolved.{moves_listed, has_scratch, with_place, IsUnnamed}
 
 module _ {G : Type 0} (step : G → Option Place → G → Type 0) where
   -- what a closure answered as it went from the state old to the state new, in at most two calls
@@ -77,12 +77,12 @@ handed_place (Slot p) = p
 abbrev pub IsChoice : {F G T A : Type 0} → (F → Option Place → F → Type 0) → (G → Option Place → G → Type 0) → F → F → G → G → MoveVecWithScratch T A →
     List (Place × Place × T) → Type 0
 IsChoice registers slots f f' g g' moves made =
-    ((has_scratch moves ≡ false) × (f' ≡ f) × (g' ≡ g) × (made ≡ listed moves))
+    ((has_scratch moves ≡ false) × (f' ≡ f) × (g' ≡ g) × (made ≡ moves_listed moves))
     ⊎ ((h : Handed) × (has_scratch moves ≡ true) × IsHanding registers slots f f' g g' h × (made ≡ with_place (handed_place h) moves))
 
 -- a place is one of the answers
-abbrev pub IsAnswered : List (Option Place) → List (Option Place) → Place → Type 0
-IsAnswered registers slots p = Contains registers (Some p) ⊎ Contains slots (Some p)
+abbrev pub IsAnswer : List (Option Place) → List (Option Place) → Place → Type 0
+IsAnswer registers slots p = Contains registers (Some p) ⊎ Contains slots (Some p)
 
 -- the place isn't in memory: a call of the closure said so, or none can say that it is
 abbrev pub IsAway : (Place → Bool → Type 0) → Place → Type 0
@@ -114,7 +114,7 @@ AreSeenApart stack ms = All (λ m. stack m.0 false ⊎ stack m.1 false) ms
 pub record IsComputed {T : Type 0} (stack : Place → Bool → Type 0) (borrowed : Place) (handed : Place → Type 0) (scratch : Bool)
     (given made : List (Place × Place × T)) : Type 0 where
   -- each place but those that were handed out ends as the given moves leave it, the borrowed register too
-  pub same : (q : Place) → q ≢ NoPlace → (handed q → ⊥) → in_turn (ends_of made) names q ≡ in_turn (ends_of given) names q
+  pub same : (q : Place) → q ≢ NoPlace → (handed q → ⊥) → in_turn (ends_of made) own_names q ≡ in_turn (ends_of given) own_names q
   pub each : All (IsComputedMove (IsEitherAway stack) (λ p. handed p ⊎ (p ≡ borrowed)) given) made
   -- where there is nothing to do they come back as they are
   pub plain : scratch ≡ false → AreApartInMemory stack given → made ≡ given
@@ -128,8 +128,8 @@ pub record Computes {F G H T A : Type 0} (registers : F → Option Place → F �
   pub borrowed_kept : new.borrowed_scratch_reg ≡ old.borrowed_scratch_reg
   -- the moves that are made, or why there are none
   pub outcome : MatchResult result
-      (λ made. IsComputed stack (InRegister old.borrowed_scratch_reg) (IsAnswered asked.answers slots_asked.answers) (has_scratch moves) (listed moves)
+      (λ made. IsComputed stack (InRegister old.borrowed_scratch_reg) (IsAnswer asked.answers slots_asked.answers) (has_scratch moves) (moves_listed moves)
       made.items)
       (λ fault. fault ≡ NoSlot → Contains slots_asked.answers None)
   -- where nothing is needed nothing fails
-  pub plain : has_scratch moves ≡ false → AreApartInMemory stack (listed moves) → IsOk result
+  pub plain : has_scratch moves ≡ false → AreApartInMemory stack (moves_listed moves) → IsOk result

@@ -21,20 +21,20 @@ abbrev pub number_at : List ℕ → ℕ → ℕ
 number_at ks i = slice_index_or ks i 0
 
 -- the place from which a move takes what comes to stand at p
-abbrev pub before : Ends → Place → Place
-before m p = if is_place m.to p then m.from else p
+abbrev pub place_before : Ends → Place → Place
+place_before m p = if is_place m.to p then m.from else p
 
 -- the place from which what comes to stand at q is taken, the moves run from the last to the first
 unfoldable pub origin : List Ends → Place → Place
 origin [] q = q
-origin (m ∷ ms) q = origin ms (before m q)
+origin (m ∷ ms) q = origin ms (place_before m q)
 
 -- where the move k takes its value from, while the move `cut` takes it from `none`
-abbrev pub source : ℕ → List Ends → ℕ → Place
-source cut ms k = if k == cut then NoPlace else from_at ms k
+abbrev pub source_but : ℕ → List Ends → ℕ → Place
+source_but cut ms k = if k == cut then NoPlace else from_at ms k
 
 -- each place has one writer, and no move names `none`
-pub record AreApart (ms : List Ends) : Type 0 where
+pub record AreMovesApart (ms : List Ends) : Type 0 where
   pub one_writer : (j k : ℕ) → j < length ms → k < length ms → to_at ms j ≡ to_at ms k → j ≡ k
   pub from_some : (k : ℕ) → k < length ms → from_at ms k ≡ NoPlace → ⊥
   pub to_some : (k : ℕ) → k < length ms → to_at ms k ≡ NoPlace → ⊥
@@ -54,16 +54,16 @@ pub record AreNexts (ms : List Ends) (nexts : List ℕ) : Type 0 where
 
 -- what was given out makes the moves that are done at once, and each place that they read is written by moves that are done, if at all
 pub record HasGiven (cut : ℕ) (ms : List Ends) (st : List State) (given : List Ends) : Type 0 where
-  pub gave : (k : ℕ) → k < length ms → state_at st k ≡ Done → origin given (to_at ms k) ≡ source cut ms k
+  pub gave : (k : ℕ) → k < length ms → state_at st k ≡ Done → origin given (to_at ms k) ≡ source_but cut ms k
   pub kept : (q : Place) → (q ≡ NoPlace → ⊥) → ((k : ℕ) → k < length ms → state_at st k ≡ Done → to_at ms k ≡ q → ⊥) → origin given q ≡ q
-  pub closed : (k j : ℕ) → k < length ms → j < length ms → state_at st k ≡ Done → to_at ms j ≡ source cut ms k → state_at st j ≡ Done
+  pub closed : (k j : ℕ) → k < length ms → j < length ms → state_at st k ≡ Done → to_at ms j ≡ source_but cut ms k → state_at st j ≡ Done
 
 -- the move that writes what the move k reads is done, if there is one
 abbrev pub IsNextDone : List ℕ → List State → ℕ → Type 0
 IsNextDone nexts st k = number_at nexts k < length nexts → state_at st (number_at nexts k) ≡ Done
 
 -- each of the moves is followed by the one that writes what it reads, and they are those that are pending
-pub record IsChain (nexts : List ℕ) (st : List State) (chain : List ℕ) : Type 0 where
+pub record IsMoveChain (nexts : List ℕ) (st : List State) (chain : List ℕ) : Type 0 where
   pub inside : (i : ℕ) → i < length chain → number_at chain i < length nexts
   pub pending : (i : ℕ) → i < length chain → state_at st (number_at chain i) ≡ Pending
   pub differ : (i j : ℕ) → i < j → j < length chain → number_at chain i ≡ number_at chain j → ⊥
@@ -81,7 +81,7 @@ is_done Pending = false
 is_done Done = true
 
 -- a ring of moves, by their indexes: each is followed by the one that writes what it reads, and the last by the first
-pub record IsRingOf (nexts ring : List ℕ) : Type 0 where
+pub record IsRingOfMoves (nexts ring : List ℕ) : Type 0 where
   pub many : 2 ≤ length ring
   pub inside : (i : ℕ) → i < length ring → number_at ring i < length nexts
   pub differ : (i j : ℕ) → i < j → j < length ring → number_at ring i ≡ number_at ring j → ⊥
@@ -98,13 +98,13 @@ StandsIn rings k = (r : ℕ) × (i : ℕ) × (r < length rings) × (i < length (
 -- the rings that were met as moves were given out, and how many moves that took: one for each that is done, and one for each ring
 pub record HasRings (nexts : List ℕ) (st : List State) (count : ℕ) : Type 0 where
   pub rings : List (List ℕ)
-  pub each : (r : ℕ) → r < length rings → IsRingOf nexts (ring_at rings r)
+  pub each : (r : ℕ) → r < length rings → IsRingOfMoves nexts (ring_at rings r)
   pub apart : (r s i j : ℕ) → r < s → s < length rings → i < length (ring_at rings r) → j < length (ring_at rings s) →
       number_at (ring_at rings r) i ≡ number_at (ring_at rings s) j → ⊥
   pub reached : (k : ℕ) → StandsIn rings k → state_at st k ≡ Todo → ⊥
   pub onward : (k : ℕ) → k < length nexts → state_at st k ≡ Done → number_at nexts k < length nexts → (state_at st (number_at nexts k) ≡ Done)
       ⊎ StandsIn rings k
-  pub whole : (ring : List ℕ) → IsRingOf nexts ring → ((i : ℕ) → i < length ring → state_at st (number_at ring i) ≡ Done) → (i : ℕ) × (i < length ring)
+  pub whole : (ring : List ℕ) → IsRingOfMoves nexts ring → ((i : ℕ) → i < length ring → state_at st (number_at ring i) ≡ Done) → (i : ℕ) × (i < length ring)
       × StandsIn rings (number_at ring i)
   pub counted : count ≡ count_by is_done st + length rings
 
@@ -133,7 +133,7 @@ pub record HasNoRing (ms : List Ends) (nexts : List ℕ) (st : List State) (give
   pub plain : IsPlain st given
 
 -- the ring whose last move takes its value from `none`, down to its first, which is still to be given out
-pub record IsRing (ms : List Ends) (nexts : List ℕ) (st : List State) (chain : List ℕ) (given : List Ends) (cut first : ℕ) : Type 0 where
+pub record IsMoveRing (ms : List Ends) (nexts : List ℕ) (st : List State) (chain : List ℕ) (given : List Ends) (cut first : ℕ) : Type 0 where
   pub cut_within : cut < length ms
   pub cut_done : state_at st cut ≡ Done
   pub first_within : first < length ms
@@ -145,9 +145,9 @@ pub record IsRing (ms : List Ends) (nexts : List ℕ) (st : List State) (chain :
 -- the chain is being given out, from its end on
 pub record IsGiving (ms : List Ends) (nexts : List ℕ) (st : List State) (chain : List ℕ) (given : List Ends) (cut first : ℕ) : Type 0 where
   pub had : HasGiven cut ms st given
-  pub is_chain : IsChain nexts st chain
+  pub is_chain : IsMoveChain nexts st chain
   pub ready : (i : ℕ) → i + 1 ≡ length chain → IsNextDone nexts st (number_at chain i)
-  pub ring : HasNoRing ms nexts st given cut first ⊎ IsRing ms nexts st chain given cut first
+  pub ring : HasNoRing ms nexts st given cut first ⊎ IsMoveRing ms nexts st chain given cut first
 
 -- the moves given out so far, with no ring open
 pub record HasGivenWhole (ms : List Ends) (nexts : List ℕ) (st : List State) (given : List Ends) : Type 0 where
@@ -189,13 +189,13 @@ pub record CanFollow (nexts : List ℕ) (st : List State) (chain : List ℕ) (at
 -- the ring can be opened that a chain closes which stops at `stop`
 pub record CanOpen {T : Type 0} (moves : List (Place × Place × T)) (ks : List ℕ) (st : List State) (line : List ℕ) (given : List (Place × Place × T))
     (stop : ℕ) : Type 0 where
-  pub apart : AreApart (ends_of moves)
+  pub apart : AreMovesApart (ends_of moves)
   pub nexts : AreNexts (ends_of moves) ks
   pub as_many : length st ≡ length moves
   pub indexed : length ks ≡ length moves
   pub had : HasGivenWhole (ends_of moves) ks st (ends_of given)
   pub rings : (met : HasRings ks st (length given)) × AreRingsDone st met.rings
-  pub chain : IsChain ks st line
+  pub chain : IsMoveChain ks st line
   pub link : LeadsTo ks line stop
   pub stops : stop < length ks → state_at st stop ≢ Todo
   pub of_moves : All (IsOfMoves moves) given
@@ -203,7 +203,7 @@ pub record CanOpen {T : Type 0} (moves : List (Place × Place × T)) (ks : List 
 -- the moves of a chain can be given out
 pub record CanGive {T : Type 0} (moves : List (Place × Place × T)) (ks : List ℕ) (st : List State) (chain : List ℕ) (given : List (Place × Place × T))
     (cut first : ℕ) : Type 0 where
-  pub apart : AreApart (ends_of moves)
+  pub apart : AreMovesApart (ends_of moves)
   pub nexts : AreNexts (ends_of moves) ks
   pub as_many : length st ≡ length moves
   pub indexed : length ks ≡ length moves
@@ -213,7 +213,7 @@ pub record CanGive {T : Type 0} (moves : List (Place × Place × T)) (ks : List 
 -- the chain can be given out that begins at the move `at`
 pub record CanBegin {T : Type 0} (moves : List (Place × Place × T)) (ks : List ℕ) (st : List State) (chain : List ℕ) (given : List (Place × Place × T))
     (at : ℕ) : Type 0 where
-  pub apart : AreApart (ends_of moves)
+  pub apart : AreMovesApart (ends_of moves)
   pub nexts : AreNexts (ends_of moves) ks
   pub as_many : length st ≡ length moves
   pub indexed : length ks ≡ length moves
@@ -233,10 +233,10 @@ pub record TakesFrom (ms : List Ends) (q p : Place) : Type 0 where
 pub record IsOrder (ms : List Ends) (nexts : List ℕ) (given : List Ends) : Type 0 where
   pub takes : (q : Place) → (q ≡ NoPlace → ⊥) → TakesFrom ms q (origin given q)
   pub rings : List (List ℕ)
-  pub each : (r : ℕ) → r < length rings → IsRingOf nexts (ring_at rings r)
+  pub each : (r : ℕ) → r < length rings → IsRingOfMoves nexts (ring_at rings r)
   pub apart : (r s i j : ℕ) → r < s → s < length rings → i < length (ring_at rings r) → j < length (ring_at rings s) →
       number_at (ring_at rings r) i ≡ number_at (ring_at rings s) j → ⊥
-  pub whole : (ring : List ℕ) → IsRingOf nexts ring → (i : ℕ) × (i < length ring) × StandsIn rings (number_at ring i)
+  pub whole : (ring : List ℕ) → IsRingOfMoves nexts ring → (i : ℕ) × (i < length ring) × StandsIn rings (number_at ring i)
   pub counted : length given ≡ length ms + length rings
   pub written : HasWrittenFirst given
   pub plain : length given ≡ length ms → AreBetween given

@@ -8,8 +8,8 @@ Leads nexts prevs from [] to = (slice_index nexts from ≡ to) × (slice_index p
 Leads nexts prevs from (x ∷ xs) to = (slice_index nexts from ≡ x) × (slice_index prevs x ≡ from) × Leads nexts prevs x xs to
 
 -- none of a list's numbers is this one
-abbrev pub Lacks : ℕ → List ℕ → Type 0
-Lacks n xs = AllByRecursion (λ x. nat_eq n x ≡ false) xs
+abbrev pub LacksNumber : ℕ → List ℕ → Type 0
+LacksNumber n xs = AllByRecursion (λ x. nat_eq n x ≡ false) xs
 
 -- the links stand for a ring: the head, then the others, none of them twice, and the head again
 pub record IsRing (nexts prevs : List ℕ) (head : ℕ) (others : List ℕ) : Type 0 where
@@ -23,18 +23,18 @@ unfoldable pub walked_at_most : ℕ → List ℕ → ℕ → ℕ → List ℕ
 walked_at_most zero links stop at = []
 walked_at_most (suc most) links stop at = cond (nat_eq stop at) [] (at ∷ walked_at_most most links stop (slice_index links at))
 
-abbrev pub walked : List ℕ → ℕ → ℕ → List ℕ
-walked links stop at = walked_at_most (length links) links stop at
+abbrev pub walked_links : List ℕ → ℕ → ℕ → List ℕ
+walked_links links stop at = walked_at_most (length links) links stop at
 
 -- the links of one direction lead from a number over those of a list to another
-unfoldable pub Passes : List ℕ → ℕ → List ℕ → ℕ → Type 0
-Passes links at [] stop = at ≡ stop
-Passes links at (x ∷ xs) stop = (at ≡ x) × Passes links (slice_index links x) xs stop
+unfoldable pub LeadsOneWay : List ℕ → ℕ → List ℕ → ℕ → Type 0
+LeadsOneWay links at [] stop = at ≡ stop
+LeadsOneWay links at (x ∷ xs) stop = (at ≡ x) × LeadsOneWay links (slice_index links x) xs stop
 
 -- a walk from a number along links of one direction has these numbers left before it stops at another
 pub record IsWalk (links : List ℕ) (stop at : ℕ) (xs : List ℕ) : Type 0 where
-  pub passes : Passes links at xs stop
-  pub apart : Lacks stop xs
+  pub passes : LeadsOneWay links at xs stop
+  pub apart : LacksNumber stop xs
   pub below : AllByRecursion (λ n. n < length links) xs
   pub short : length xs ≤ length links
 

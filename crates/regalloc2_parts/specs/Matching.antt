@@ -5,8 +5,8 @@ use Rattle.regalloc2_names.specs.Operand.{OperandValue}
 use Rattle.regalloc2_parts.specs.declared.iter.Matches.{Matches}
 
 -- the operands that the walk goes over
-abbrev pub operands_of : {F : Type 0} → Matches F → List OperandValue
-operands_of it = it.operands.now
+abbrev pub walked_operands : {F : Type 0} → Matches F → List OperandValue
+walked_operands it = it.operands.now
 
 -- the index of the first operand that the closure has not been asked about
 abbrev pub next_index : {F : Type 0} → Matches F → ℕ
@@ -20,9 +20,9 @@ predicate_of it = it.predicate
 -- answers f o b: the closure f can give b at o
 abbrev pub GivesNextMatch : {F : Type 0} → (F → OperandValue → Bool → Type 0) → Matches F → Option (ℕ × OperandValue) → Matches F → Type 0
 GivesNextMatch answers it result after =
-    (operands_of after ≡ operands_of it) × (predicate_of after ≡ predicate_of it)
+    (walked_operands after ≡ walked_operands it) × (predicate_of after ≡ predicate_of it)
     × MatchOption result
-    (AllWithin (λ o. answers (predicate_of it) o false) (operands_of it) (next_index it) (length (operands_of it))
-    × (length (operands_of it) ≤ next_index after))
-    (λ x. (next_index it ≤ x.0) × (x.0 < length (operands_of it)) × (slice_index_or (operands_of it) x.0 x.1 ≡ x.1) × answers (predicate_of it) x.1 true
-    × AllWithin (λ o. answers (predicate_of it) o false) (operands_of it) (next_index it) x.0 × (next_index after ≡ x.0 + 1))
+    (AllWithin (λ o. answers (predicate_of it) o false) (walked_operands it) (next_index it) (length (walked_operands it))
+    × (length (walked_operands it) ≤ next_index after))
+    (λ x. (next_index it ≤ x.0) × (x.0 < length (walked_operands it)) × (slice_index_or (walked_operands it) x.0 x.1 ≡ x.1) × answers (predicate_of it) x.1 true
+    × AllWithin (λ o. answers (predicate_of it) o false) (walked_operands it) (next_index it) x.0 × (next_index after ≡ x.0 + 1))

@@ -11,37 +11,37 @@ use Rattle.regalloc2_names.specs.Operand.{OperandValue}
 use Rattle.regalloc2_parts.specs.declared.iter.Pick.{Pick}
 use Rattle.regalloc2_parts.specs.declared.iter.Pick.TheVariants as picks
 
-abbrev pub defines : OperandKind → Bool
-defines kinds.Def = true
-defines kinds.Use = false
+abbrev pub is_def_kind : OperandKind → Bool
+is_def_kind kinds.Def = true
+is_def_kind kinds.Use = false
 
 -- it writes its virtual register
-abbrev pub is_def : OperandValue → Bool
-is_def o = defines o.kind
+abbrev pub is_def_operand : OperandValue → Bool
+is_def_operand o = is_def_kind o.kind
 
-abbrev pub uses : OperandKind → Bool
-uses kinds.Def = false
-uses kinds.Use = true
+abbrev pub is_use_kind : OperandKind → Bool
+is_use_kind kinds.Def = false
+is_use_kind kinds.Use = true
 
 -- it reads its virtual register
-abbrev pub is_use : OperandValue → Bool
-is_use o = uses o.kind
+abbrev pub is_use_operand : OperandValue → Bool
+is_use_operand o = is_use_kind o.kind
 
 abbrev pub stands_late : OperandPos → Bool
 stands_late positions.Early = false
 stands_late positions.Late = true
 
 -- it holds its place after the instruction's early part
-abbrev pub is_late : OperandValue → Bool
-is_late o = stands_late o.position
+abbrev pub is_late_operand : OperandValue → Bool
+is_late_operand o = stands_late o.position
 
 abbrev pub stands_early : OperandPos → Bool
 stands_early positions.Early = true
 stands_early positions.Late = false
 
 -- it holds its place in the instruction's early part
-abbrev pub is_early : OperandValue → Bool
-is_early o = stands_early o.position
+abbrev pub is_early_operand : OperandValue → Bool
+is_early_operand o = stands_early o.position
 
 abbrev pub asks_reuse : OperandConstraint → Bool
 asks_reuse Any = false
@@ -52,8 +52,8 @@ asks_reuse (Reuse i) = true
 asks_reuse (Limit n) = false
 
 -- it takes the place of another operand
-abbrev pub is_reuse : OperandValue → Bool
-is_reuse o = asks_reuse o.constraint
+abbrev pub is_reuse_operand : OperandValue → Bool
+is_reuse_operand o = asks_reuse o.constraint
 
 abbrev pub asks_by_name : OperandConstraint → Bool
 asks_by_name Any = false
@@ -64,8 +64,8 @@ asks_by_name (Reuse i) = false
 asks_by_name (Limit n) = false
 
 -- it takes one register that it names
-abbrev pub is_fixed : OperandValue → Bool
-is_fixed o = asks_by_name o.constraint
+abbrev pub is_fixed_operand : OperandValue → Bool
+is_fixed_operand o = asks_by_name o.constraint
 
 abbrev pub asks_any_reg : OperandConstraint → Bool
 asks_any_reg Any = false
@@ -76,18 +76,18 @@ asks_any_reg (Reuse i) = false
 asks_any_reg (Limit n) = false
 
 -- it takes a register, whichever
-abbrev pub is_any_reg : OperandValue → Bool
-is_any_reg o = asks_any_reg o.constraint
+abbrev pub is_any_reg_operand : OperandValue → Bool
+is_any_reg_operand o = asks_any_reg o.constraint
 
 -- whether an operand is picked
 abbrev pub accepts : Pick → OperandValue → Bool
-accepts picks.Def o = is_def o
-accepts picks.Use o = is_use o
-accepts picks.Reuse o = is_reuse o
-accepts picks.Fixed o = is_fixed o
-accepts picks.AnyReg o = is_any_reg o
-accepts picks.Late o = is_late o
-accepts picks.Early o = is_early o
+accepts picks.Def o = is_def_operand o
+accepts picks.Use o = is_use_operand o
+accepts picks.Reuse o = is_reuse_operand o
+accepts picks.Fixed o = is_fixed_operand o
+accepts picks.AnyReg o = is_any_reg_operand o
+accepts picks.Late o = is_late_operand o
+accepts picks.Early o = is_early_operand o
 
 -- the operands that pass a test, each with its index, in order: those from an index on, and all
 abbrev pub left_from : (OperandValue → Bool) → ℕ → List OperandValue → List (ℕ × OperandValue)

@@ -5,7 +5,7 @@ use Rattle.smallvec.specs.SmallVec.{SmallVec}
 use Rattle.regalloc2_names.specs.Place.{Place, NoPlace, is_no_place}
 use Rattle.regalloc2_parts.specs.declared.moves.resolved.MoveVecWithScratch.{MoveVecWithScratch}
 use Rattle.regalloc2_parts.specs.declared.moves.resolved.MoveVecWithScratch.TheVariants.{NoScratch, Scratch}
-use Rattle.regalloc2_parts.specs.AtOnce.{ends_of, names, in_turn, AreAtOnce, IsOfMoves, WritesNoneFirst}
+use Rattle.regalloc2_parts.specs.AtOnce.{ends_of, own_names, in_turn, AreAtOnce, IsOfMoves, WritesNoneFirst}
 use Rattle.regalloc2_parts.specs.Cycles.{HasCycle, IsCounted}
 
 -- each move is from a place to a place
@@ -15,7 +15,7 @@ AreBetweenPlaces ms = All (λ m. (m.0 ≢ NoPlace) × (m.1 ≢ NoPlace)) ms
 -- The moves `made`, one after another, are the moves ms at once.
 pub record IsResolution {T : Type 0} (ms : List (Place × Place × T)) (scratch : Bool) (made : List (Place × Place × T)) : Type 0 where
   -- what each place holds then
-  pub at_once : AreAtOnce (ends_of ms) names (in_turn (ends_of made) names)
+  pub at_once : AreAtOnce (ends_of ms) own_names (in_turn (ends_of made) own_names)
   -- a scratch place is needed just where there is a cycle
   pub cyclic : IsTrue scratch ↔ HasCycle (ends_of ms)
   -- how many they are
@@ -30,9 +30,9 @@ pub record IsResolution {T : Type 0} (ms : List (Place × Place × T)) (scratch 
 
 module _ {T A : Type 0} where
   -- the moves in the order in which they are made
-  abbrev pub listed : MoveVecWithScratch T A → List (Place × Place × T)
-  listed (NoScratch ms) = ms.items
-  listed (Scratch ms) = ms.items
+  abbrev pub moves_listed : MoveVecWithScratch T A → List (Place × Place × T)
+  moves_listed (NoScratch ms) = ms.items
+  moves_listed (Scratch ms) = ms.items
 
   -- whether a scratch place is still to be chosen
   abbrev pub has_scratch : MoveVecWithScratch T A → Bool

@@ -3,17 +3,17 @@ use Rattle.std.specs.Prelude.{ℕ, ◌≡◌, ◌+◌, ◌<◌, ◌≤◌, ◌�
 use Rattle.regalloc2_names.specs.declared.RegClass.{RegClass}
 use Rattle.regalloc2_names.specs.Register.{Register}
 use Rattle.regalloc2_parts.specs.declared.lru.nodes.LruNode.{LruNode}
-use Rattle.regalloc2_parts.specs.Links.{IsRing, IsWalk, changed, walked}
+use Rattle.regalloc2_parts.specs.Links.{IsRing, IsWalk, changed, walked_links}
 
-abbrev pub nexts : List LruNode → List ℕ
-nexts nodes = map (λ n. n.next) nodes
+abbrev pub lru_nexts : List LruNode → List ℕ
+lru_nexts nodes = map (λ n. n.next) nodes
 
-abbrev pub prevs : List LruNode → List ℕ
-prevs nodes = map (λ n. n.prev) nodes
+abbrev pub lru_prevs : List LruNode → List ℕ
+lru_prevs nodes = map (λ n. n.prev) nodes
 
 -- the numbers after the head, up to it
 abbrev pub others : List LruNode → ℕ → List ℕ
-others nodes head = walked (nexts nodes) head (slice_index (nexts nodes) head)
+others nodes head = walked_links (lru_nexts nodes) head (slice_index (lru_nexts nodes) head)
 
 -- the numbers of a ring, the head first
 abbrev pub ring_numbers : List LruNode → ℕ → List ℕ
@@ -21,16 +21,16 @@ ring_numbers nodes head = head ∷ others nodes head
 
 -- the links from the head on form a ring
 abbrev pub IsNodeRing : List LruNode → ℕ → Type 0
-IsNodeRing nodes head = IsRing (nexts nodes) (prevs nodes) head (others nodes head)
+IsNodeRing nodes head = IsRing (lru_nexts nodes) (lru_prevs nodes) head (others nodes head)
 
 -- the links from the head on form a ring of these numbers
-pub record IsRingOf (nodes : List LruNode) (head : ℕ) (numbers : List ℕ) : Type 0 where
+pub record IsRingOfNumbers (nodes : List LruNode) (head : ℕ) (numbers : List ℕ) : Type 0 where
   pub ring : IsNodeRing nodes head
   pub are : ring_numbers nodes head ≡ numbers
 
 -- how many links differ
-abbrev pub changed_links : List LruNode → List LruNode → ℕ
-changed_links old new = changed (nexts old) (nexts new) + changed (prevs old) (prevs new)
+abbrev pub lru_changed_links : List LruNode → List LruNode → ℕ
+lru_changed_links old new = changed (lru_nexts old) (lru_nexts new) + changed (lru_prevs old) (lru_prevs new)
 
 -- the register of a class that has a number
 abbrev pub named : RegClass → ℕ → Register
@@ -49,9 +49,9 @@ pub record IsLruNodes (nodes : List LruNode) (head : ℕ) : Type 0 where
 -- the registers from one on to the newest, which is the last of them
 abbrev pub left_of : List LruNode → ℕ → RegClass → Option ℕ → List Register
 left_of nodes head class None = []
-left_of nodes head class (Some at) = map (named class) (walked (prevs nodes) head at ++ head ∷ [])
+left_of nodes head class (Some at) = map (named class) (walked_links (lru_prevs nodes) head at ++ head ∷ [])
 
 -- a walk from a register to the newest one stays among the nodes
 pub record IsLeft (nodes : List LruNode) (head : ℕ) (at : Option ℕ) : Type 0 where
   pub few : length nodes ≤ 64
-  pub walk : MatchOption at (Unit {0}) (λ k. (head < length nodes) × IsWalk (prevs nodes) head k (walked (prevs nodes) head k))
+  pub walk : MatchOption at (Unit {0}) (λ k. (head < length nodes) × IsWalk (lru_prevs nodes) head k (walked_links (lru_prevs nodes) head k))

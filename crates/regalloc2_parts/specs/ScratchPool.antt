@@ -7,7 +7,7 @@ use Rattle.regalloc2_names.specs.declared.RegAllocError.TheVariants.{TooManySpil
 use Rattle.regalloc2_names.specs.declared.sets.PRegSet.{PRegSet}
 use Rattle.regalloc2_names.specs.RegisterSet.{has_register}
 use Rattle.regalloc2_names.specs.Place.{Place, NoPlace, InRegister, InSlot, is_memory}
-use Rattle.regalloc2_parts.specs.AtOnce.{ends_of, names, in_turn}
+use Rattle.regalloc2_parts.specs.AtOnce.{ends_of, own_names, in_turn}
 use Rattle.regalloc2_parts.specs.Resolved.{IsUnnamed}
 use Rattle.regalloc2_parts.specs.Computed.{IsComputedMove}
 use Rattle.regalloc2_parts.specs.declared.moves.MoveFault.{MoveFault}
@@ -24,8 +24,8 @@ abbrev pub IsOfScratchPair : ScratchPair → Place → Type 0
 IsOfScratchPair pair p = (pair.first ≡ Some p) ⊎ (pair.second ≡ Some p)
 
 -- and one of the first so many
-abbrev pub IsTaken : ScratchPair → ℕ → Place → Type 0
-IsTaken pair taken p = ((pair.first ≡ Some p) × (1 ≤ taken)) ⊎ ((pair.second ≡ Some p) × (2 ≤ taken))
+abbrev pub IsScratchTaken : ScratchPair → ℕ → Place → Type 0
+IsScratchTaken pair taken p = ((pair.first ≡ Some p) × (1 ≤ taken)) ⊎ ((pair.second ≡ Some p) × (2 ≤ taken))
 
 -- the two differ
 abbrev pub DoDiffer : ScratchPair → Type 0
@@ -46,8 +46,8 @@ abbrev pub MayDecideStack : {H : Type 0} → Shared H (Place × Unit {0}) Bool �
 MayDecideStack g f fixed_stack = (p : Place) → g.post f (p, tt) (is_memory fixed_stack p)
 
 -- not both places are in memory
-abbrev pub AreApart : PRegSet → Place → Place → Type 0
-AreApart fixed_stack p q = true ≡ is_memory fixed_stack p → true ≡ is_memory fixed_stack q → ⊥
+abbrev pub AreNotBothInMemory : PRegSet → Place → Place → Type 0
+AreNotBothInMemory fixed_stack p q = true ≡ is_memory fixed_stack p → true ≡ is_memory fixed_stack q → ⊥
 
 -- registers and slots that serve the moves: no move names them, they differ, and of registers none is in memory
 pub record IsUsableFor (l : ScratchPool) (ms : Moves) : Type 0 where
@@ -60,9 +60,10 @@ pub record IsUsableFor (l : ScratchPool) (ms : Moves) : Type 0 where
 
 -- The moves `made`, one after another, do what the given ones do, but for scratch places: all registers, and the first so many slots.
 pub record IsOrderedWith (l : ScratchPool) (taken : ℕ) (given made : Moves) : Type 0 where
-  pub same : (q : Place) → q ≢ NoPlace → (IsOfScratchPair l.registers q → ⊥) → (IsTaken l.slots taken q → ⊥) →
-      in_turn (ends_of made) names q ≡ in_turn (ends_of given) names q
-  pub each : All (IsComputedMove (AreApart l.fixed_stack) (λ p. IsOfScratchPair l.registers p ⊎ (IsTaken l.slots taken p ⊎ (p ≡ InRegister l.borrowed))) given)
+  pub same : (q : Place) → q ≢ NoPlace → (IsOfScratchPair l.registers q → ⊥) → (IsScratchTaken l.slots taken q → ⊥) →
+      in_turn (ends_of made) own_names q ≡ in_turn (ends_of given) own_names q
+  pub each : All (IsComputedMove (AreNotBothInMemory l.fixed_stack) (λ p. IsOfScratchPair l.registers p
+      ⊎ (IsScratchTaken l.slots taken p ⊎ (p ≡ InRegister l.borrowed))) given)
       made
 
 -- one of the two isn't there

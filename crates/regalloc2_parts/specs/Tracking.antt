@@ -5,27 +5,27 @@ use Rattle.regalloc2_names.specs.Place.{Place, NoPlace}
 use Rattle.regalloc2_parts.specs.declared.moves.passing.Held.{Held}
 use Rattle.regalloc2_parts.specs.declared.moves.passing.Held.TheVariants.{Free, InRegister, InBoth, InSave}
 use Rattle.regalloc2_parts.specs.declared.moves.passing.ScratchReg.{ScratchReg}
-use Rattle.regalloc2_parts.specs.AtOnce.{Cells, ends_of, names, in_turn}
+use Rattle.regalloc2_parts.specs.AtOnce.{CellsOf, ends_of, own_names, in_turn}
 use Rattle.regalloc2_parts.specs.Resolved.{IsUnnamed, AreBetweenPlaces}
 use Rattle.regalloc2_parts.specs.Computed.{IsEitherAway}
 
 -- a free register needs no slot to be saved in, and stands for its own
-abbrev pub Fits : Held → Place → Place → Type 0
-Fits held register save = held ≡ Free → register ≡ save
+abbrev pub FreeNeedsNoSave : Held → Place → Place → Type 0
+FreeNeedsNoSave held register save = held ≡ Free → register ≡ save
 
 -- where it stands what the moves say is in the register
-abbrev pub stands : Held → Type 0 → Type 0 → Type 0
-stands Free here there = Unit {0}
-stands InRegister here there = here
-stands InBoth here there = here × there
-stands InSave here there = there
+abbrev pub stands_where : Held → Type 0 → Type 0 → Type 0
+stands_where Free here there = Unit {0}
+stands_where InRegister here there = here
+stands_where InBoth here there = here × there
+stands_where InSave here there = there
 
 -- d is c, what the moves make, but for the save slot and for what passes through the register; a register that is its own save slot
 -- counts as that
-pub record Tracks (register save : Place) (held : Held) (c d : Cells Place) : Type 0 where
-  pub fits : Fits held register save
+pub record Tracks (register save : Place) (held : Held) (c d : CellsOf Place) : Type 0 where
+  pub fits : FreeNeedsNoSave held register save
   pub others : (q : Place) → q ≢ register → q ≢ save → d q ≡ c q
-  pub borrowed : register ≢ save → stands held (d register ≡ c register) (d save ≡ c register)
+  pub borrowed : register ≢ save → stands_where held (d register ≡ c register) (d save ≡ c register)
 
 -- the register may be filled with something else
 abbrev pub CanPass : Held → Type 0
@@ -35,41 +35,41 @@ CanPass InBoth = ⊥
 CanPass InSave = Unit {0}
 
 -- nothing has gone through the register yet
-abbrev pub IsFirst : Held → Type 0
-IsFirst Free = Unit {0}
-IsFirst InRegister = Unit {0}
-IsFirst InBoth = ⊥
-IsFirst InSave = ⊥
+abbrev pub IsUnused : Held → Type 0
+IsUnused Free = Unit {0}
+IsUnused InRegister = Unit {0}
+IsUnused InBoth = ⊥
+IsUnused InSave = ⊥
 
 -- one of the two places
-abbrev pub IsOneOf : Place → Place → Place → Type 0
-IsOneOf register save p = (p ≡ register) ⊎ (p ≡ save)
+abbrev pub IsEither : Place → Place → Place → Type 0
+IsEither register save p = (p ≡ register) ⊎ (p ≡ save)
 
 -- a move that saves the register or restores it
-abbrev pub IsAside : {T : Type 0} → Place → Place → Place × Place × T → Type 0
-IsAside register save x = ((x.0 ≡ register) × (x.1 ≡ save)) ⊎ ((x.0 ≡ save) × (x.1 ≡ register))
+abbrev pub SavesOrRestores : {T : Type 0} → Place → Place → Place × Place × T → Type 0
+SavesOrRestores register save x = ((x.0 ≡ register) × (x.1 ≡ save)) ⊎ ((x.0 ≡ save) × (x.1 ≡ register))
 
 -- one of the two moves that make the move m by way of the register
-abbrev pub IsThrough : {T : Type 0} → Place → Place × Place × T → Place × Place × T → Type 0
-IsThrough register m x = ((x.0 ≡ m.0) × (x.1 ≡ register)) ⊎ ((x.0 ≡ register) × (x.1 ≡ m.1) × (x.2 ≡ m.2))
+abbrev pub GoesThrough : {T : Type 0} → Place → Place × Place × T → Place × Place × T → Type 0
+GoesThrough register m x = ((x.0 ≡ m.0) × (x.1 ≡ register)) ⊎ ((x.0 ≡ register) × (x.1 ≡ m.1) × (x.2 ≡ m.2))
 
 -- a move that is made for the move m: by way of the register if it is one from stack to stack, else as it is
-abbrev pub IsStep : {T : Type 0} → Place → Bool → Place × Place × T → Place × Place × T → Type 0
-IsStep register true m x = IsThrough register m x
-IsStep register false m x = x ≡ m
+abbrev pub IsMadeFor : {T : Type 0} → Place → Bool → Place × Place × T → Place × Place × T → Type 0
+IsMadeFor register true m x = GoesThrough register m x
+IsMadeFor register false m x = x ≡ m
 
 -- A move that is made for the moves ms, none of them from stack to stack.
 pub record IsMade {T : Type 0} (stack : Place → Bool → Type 0) (register save : Place) (ms : List (Place × Place × T)) (m : Place × Place × T) : Type 0 where
   pub apart : IsEitherAway stack m.0 m.1
   pub between : (m.0 ≢ NoPlace) × (m.1 ≢ NoPlace)
-  pub source : IsOneOf register save m.0 ⊎ ((n : Place × Place × T) × Contains ms n × (m.0 ≡ n.0))
-  pub target : IsOneOf register save m.1 ⊎ ((n : Place × Place × T) × Contains ms n × (m.1 ≡ n.1) × (m.2 ≡ n.2))
+  pub source : IsEither register save m.0 ⊎ ((n : Place × Place × T) × Contains ms n × (m.0 ≡ n.0))
+  pub target : IsEither register save m.1 ⊎ ((n : Place × Place × T) × Contains ms n × (m.1 ≡ n.1) × (m.2 ≡ n.2))
 
 -- the moves can be made by way of the register, which the closure never takes for a place in memory, and the slot, which no move names
 pub record CanExpand {T : Type 0} (stack : Place → Bool → Type 0) (register save : Place) (held : Held) (ms : List (Place × Place × T)) : Type 0 where
   pub no_memory : stack register true → ⊥
-  pub first : IsFirst held
-  pub fits : Fits held register save
+  pub first : IsUnused held
+  pub fits : FreeNeedsNoSave held register save
   pub unnamed : IsUnnamed save ms
   pub real : (register ≢ NoPlace) × (save ≢ NoPlace)
   pub between : AreBetweenPlaces ms
@@ -82,5 +82,5 @@ pub record CanExpandBy {H T : Type 0} (is_callable : H → Type 0) (answers : H 
 
 -- The moves `made` do what the moves ms do, but for the slot, and none of them goes from memory to memory.
 pub record IsExpanded {T : Type 0} (stack : Place → Bool → Type 0) (register save : Place) (ms made : List (Place × Place × T)) : Type 0 where
-  pub same : (q : Place) → q ≢ save → in_turn (ends_of made) names q ≡ in_turn (ends_of ms) names q
+  pub same : (q : Place) → q ≢ save → in_turn (ends_of made) own_names q ≡ in_turn (ends_of ms) own_names q
   pub each : All (IsMade stack register save ms) made

@@ -3,7 +3,7 @@ use Rattle.std.specs.Prelude.{ℕ, ◌≡◌, ◌+◌, ◌≤◌, List, length, 
 use Rattle.std.specs.List.{AllByRecursion}
 use Rattle.regalloc2_names.specs.Register.{VirtualRegister, invalid_vreg}
 use Rattle.regalloc2_parts.specs.declared.vregset.VRegNode.{VRegNode}
-use Rattle.regalloc2_parts.specs.Links.{IsRing, changed, walked}
+use Rattle.regalloc2_parts.specs.Links.{IsRing, changed, walked_links}
 
 abbrev pub nexts : List VRegNode → List ℕ
 nexts nodes = map (λ n. n.next) nodes
@@ -15,8 +15,8 @@ abbrev pub vregs : List VRegNode → List VirtualRegister
 vregs nodes = map (λ n. n.vreg) nodes
 
 -- the numbers after the head, up to it
-abbrev pub numbers : List VRegNode → ℕ → List ℕ
-numbers nodes head = walked (nexts nodes) head (slice_index (nexts nodes) head)
+abbrev pub vreg_ring_numbers : List VRegNode → ℕ → List ℕ
+vreg_ring_numbers nodes head = walked_links (nexts nodes) head (slice_index (nexts nodes) head)
 
 -- the virtual registers of some nodes
 abbrev pub vregs_at : List VRegNode → List ℕ → List VirtualRegister
@@ -24,18 +24,18 @@ vregs_at nodes ns = map (λ n. slice_index_or (vregs nodes) n invalid_vreg) ns
 
 -- the members, the newest first
 abbrev pub members_of : List VRegNode → ℕ → List VirtualRegister
-members_of nodes head = vregs_at nodes (numbers nodes head)
+members_of nodes head = vregs_at nodes (vreg_ring_numbers nodes head)
 
 -- the virtual registers from one number on, up to the head
 abbrev pub rest_from : List VRegNode → ℕ → ℕ → List VirtualRegister
-rest_from nodes head at = vregs_at nodes (walked (nexts nodes) head at)
+rest_from nodes head at = vregs_at nodes (walked_links (nexts nodes) head at)
 
 -- the head is the last of 2^30 nodes and one at most, the links from it on form a ring, and each of the others there has its own number
 pub record IsVRegList (nodes : List VRegNode) (head : ℕ) : Type 0 where
   pub small : head ≤ 1073741824
   pub last : length nodes ≡ head + 1
-  pub ring : IsRing (nexts nodes) (prevs nodes) head (numbers nodes head)
-  pub named : AllByRecursion (λ n. (slice_index_or (vregs nodes) n invalid_vreg).number ≡ n) (numbers nodes head)
+  pub ring : IsRing (nexts nodes) (prevs nodes) head (vreg_ring_numbers nodes head)
+  pub named : AllByRecursion (λ n. (slice_index_or (vregs nodes) n invalid_vreg).number ≡ n) (vreg_ring_numbers nodes head)
 
 -- such a list of these members
 pub record Lists (nodes : List VRegNode) (head : ℕ) (members : List VirtualRegister) : Type 0 where
@@ -43,5 +43,5 @@ pub record Lists (nodes : List VRegNode) (head : ℕ) (members : List VirtualReg
   pub are : members_of nodes head ≡ members
 
 -- how many links differ
-abbrev pub changed_links : List VRegNode → List VRegNode → ℕ
-changed_links old new = changed (nexts old) (nexts new) + changed (prevs old) (prevs new)
+abbrev pub vreg_changed_links : List VRegNode → List VRegNode → ℕ
+vreg_changed_links old new = changed (nexts old) (nexts new) + changed (prevs old) (prevs new)

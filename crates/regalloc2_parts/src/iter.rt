@@ -3,8 +3,8 @@
 ghost use Rattle.std.specs.Prelude.{◌≡◌, ◌+◌, ◌-◌, ◌<◌, ◌∷◌, [], IfSome, IfNone, drop, length, slice_index_or};
 ghost use Rattle.std.specs.Iterator.{IsFinite, YieldsFirst, item_count, at_most};
 ghost use Rattle.regalloc2_names.specs.Operand.{OperandValue};
-ghost use Rattle.regalloc2_parts.specs.Picked.{accepts, left_from, picked, is_def, is_use, is_reuse, is_fixed, is_any_reg, is_late, is_early};
-ghost use Rattle.regalloc2_parts.specs.Matching.{GivesNextMatch, operands_of, next_index, predicate_of};
+ghost use Rattle.regalloc2_parts.specs.Picked.{accepts, left_from, picked, is_def_operand, is_use_operand, is_reuse_operand, is_fixed_operand, is_any_reg_operand, is_late_operand, is_early_operand};
+ghost use Rattle.regalloc2_parts.specs.Matching.{GivesNextMatch, walked_operands, next_index, predicate_of};
 
 use regalloc2_names::{Operand, OperandConstraint, OperandKind, OperandPos};
 use std::marker::Model;
@@ -24,7 +24,7 @@ impl<'a> Operands<'a> {
 
     /// The operands that `predicate` accepts, with their indexes.
     pub fn matches<F: Fn(Operand) -> bool>(&self, predicate: F) -> Matches<'a, F>
-        ensures operands { operands_of result ≡ self.now.0.now }
+        ensures operands { walked_operands result ≡ self.now.0.now }
         ensures from_the_first { next_index result ≡ 0 }
         ensures predicate { predicate_of result ≡ predicate }
     {
@@ -50,7 +50,7 @@ impl<'a> Operands<'a> {
     /// The definitions, with their indexes.
     #[inline(always)]
     pub fn def_ops(&self) -> PickedOperands<'a>
-        ensures { result ≡ picked is_def self.now.0.now }
+        ensures { result ≡ picked is_def_operand self.now.0.now }
     {
         self.picked(Pick::Def)
     }
@@ -58,28 +58,28 @@ impl<'a> Operands<'a> {
     /// The uses, with their indexes.
     #[inline(always)]
     pub fn use_ops(&self) -> PickedOperands<'a>
-        ensures { result ≡ picked is_use self.now.0.now }
+        ensures { result ≡ picked is_use_operand self.now.0.now }
     {
         self.picked(Pick::Use)
     }
 
     /// The operands that reuse another one's place, with their indexes.
     pub fn reuse(&self) -> PickedOperands<'a>
-        ensures { result ≡ picked is_reuse self.now.0.now }
+        ensures { result ≡ picked is_reuse_operand self.now.0.now }
     {
         self.picked(Pick::Reuse)
     }
 
     /// The operands that ask for a register by name, with their indexes.
     pub fn fixed(&self) -> PickedOperands<'a>
-        ensures { result ≡ picked is_fixed self.now.0.now }
+        ensures { result ≡ picked is_fixed_operand self.now.0.now }
     {
         self.picked(Pick::Fixed)
     }
 
     /// The operands that ask for any register, with their indexes.
     pub fn any_reg(&self) -> PickedOperands<'a>
-        ensures { result ≡ picked is_any_reg self.now.0.now }
+        ensures { result ≡ picked is_any_reg_operand self.now.0.now }
     {
         self.picked(Pick::AnyReg)
     }
@@ -87,7 +87,7 @@ impl<'a> Operands<'a> {
     /// The late operands, with their indexes.
     #[inline(always)]
     pub fn late(&self) -> PickedOperands<'a>
-        ensures { result ≡ picked is_late self.now.0.now }
+        ensures { result ≡ picked is_late_operand self.now.0.now }
     {
         self.picked(Pick::Late)
     }
@@ -95,7 +95,7 @@ impl<'a> Operands<'a> {
     /// The early operands, with their indexes.
     #[inline(always)]
     pub fn early(&self) -> PickedOperands<'a>
-        ensures { result ≡ picked is_early self.now.0.now }
+        ensures { result ≡ picked is_early_operand self.now.0.now }
     {
         self.picked(Pick::Early)
     }
@@ -206,7 +206,7 @@ impl<'a, F: Fn(Operand) -> bool + Drop> Iterator for Matches<'a, F> {
 
     ghost next_gives = { GivesNextMatch (λ f operand answer. F.post f operand answer) };
 
-    ghost remaining = { λ it. at_most (length (operands_of it) - next_index it) };
+    ghost remaining = { λ it. at_most (length (walked_operands it) - next_index it) };
 
     fn next(&mut self) -> Option<(usize, Operand)> {
         while self.from < self.operands.len() {

@@ -109,7 +109,7 @@ fn has_word(place: Allocation)
 }
 
 impl<T: Copy + Default, A: Allocator + Copy> ParallelMoves<T, A> {
-    ghost use Rattle.regalloc2_parts.specs.Resolved.{listed, has_scratch, IsResolution, IsRunnable};
+    ghost use Rattle.regalloc2_parts.specs.Resolved.{moves_listed, has_scratch, IsResolution, IsRunnable};
 
     /// No moves.
     pub fn new(alloc: A) -> Self
@@ -161,7 +161,7 @@ impl<T: Copy + Default, A: Allocator + Copy> ParallelMoves<T, A> {
     /// The contract leaves open which order that is, and what a move into the scratch place carries.
     pub fn resolve(self) -> Result<MoveVecWithScratch<T, A>, MoveFault>
         requires { HasOneSourceEach (ends_of self) }
-        ensures resolved { IfOk result (λ r. IsResolution self (has_scratch r) (listed r)) }
+        ensures resolved { IfOk result (λ r. IsResolution self (has_scratch r) (moves_listed r)) }
         ensures runnable { IfOk result (λ r. IsRunnable r) }
         ensures short { length self ≤ 1 → IsOk result }
         ensures memory { IfErr result (λ e. e ≡ MoveFault.Memory) }

@@ -3,8 +3,8 @@
 ghost use Rattle.std.specs.Prelude.{◌≡◌, ◌⊎◌, false, None, Some, IfOk, IfErr, IsOk};
 ghost use Rattle.std.specs.List.{All};
 ghost use Rattle.regalloc2_names.specs.Place.{is_memory};
-ghost use Rattle.regalloc2_parts.specs.Resolved.{has_scratch, listed, IsRunnable};
-ghost use Rattle.regalloc2_parts.specs.ScratchPool.{AreApart, AreThere, DecidesStack, HasTooFewSlots, IsOrderedWith, IsUsableFor, MayDecideStack};
+ghost use Rattle.regalloc2_parts.specs.Resolved.{has_scratch, moves_listed, IsRunnable};
+ghost use Rattle.regalloc2_parts.specs.ScratchPool.{AreNotBothInMemory, AreThere, DecidesStack, HasTooFewSlots, IsOrderedWith, IsUsableFor, MayDecideStack};
 ghost use Rattle.regalloc2_parts.specs.ScratchPool.{YieldsInOrder};
 
 use crate::moves::{MoveAndScratchResolver, MoveFault, MoveVec, MoveVecWithScratch};
@@ -120,12 +120,12 @@ where
     requires second { YieldsInOrder S.FnMut resolver.get_stackslot pool.now.slots }
     requires tells { DecidesStack M.Fn resolver.is_stack_alloc pool.now.fixed_stack }
     requires may_tell { MayDecideStack M.Fn resolver.is_stack_alloc pool.now.fixed_stack }
-    requires serves { IsUsableFor pool.now (listed moves) }
+    requires serves { IsUsableFor pool.now (moves_listed moves) }
     requires runnable { IsRunnable moves }
-    ensures made { IfOk result (λ m. IsOrderedWith pool.now m.slots (listed moves) m.moves.items) }
+    ensures made { IfOk result (λ m. IsOrderedWith pool.now m.slots (moves_listed moves) m.moves.items) }
     ensures there { IfOk result (λ m. AreThere pool.now.slots m.slots) }
     ensures err { IfErr result (λ e. e ≡ MoveFault.NoSlot → HasTooFewSlots pool.now.slots) }
-    ensures plain { has_scratch moves ≡ false → All (λ m. AreApart pool.now.fixed_stack m.0 m.1) (listed moves) → IsOk result }
+    ensures plain { has_scratch moves ≡ false → All (λ m. AreNotBothInMemory pool.now.fixed_stack m.0 m.1) (moves_listed moves) → IsOk result }
 {
     match resolver.compute_by_ref(moves) {
         Ok(moves) => {
@@ -145,12 +145,12 @@ impl ScratchPool {
         &self,
         moves: MoveVecWithScratch<(), A>,
     ) -> Result<OrderedMoves<A>, MoveFault>
-        requires serves { IsUsableFor self.now (listed moves) }
+        requires serves { IsUsableFor self.now (moves_listed moves) }
         requires runnable { IsRunnable moves }
-        ensures made { IfOk result (λ m. IsOrderedWith self.now m.slots (listed moves) m.moves.items) }
+        ensures made { IfOk result (λ m. IsOrderedWith self.now m.slots (moves_listed moves) m.moves.items) }
         ensures there { IfOk result (λ m. AreThere self.now.slots m.slots) }
         ensures err { IfErr result (λ e. e ≡ MoveFault.NoSlot → HasTooFewSlots self.now.slots) }
-        ensures plain { has_scratch moves ≡ false → All (λ m. AreApart self.now.fixed_stack m.0 m.1) (listed moves) → IsOk result }
+        ensures plain { has_scratch moves ≡ false → All (λ m. AreNotBothInMemory self.now.fixed_stack m.0 m.1) (moves_listed moves) → IsOk result }
     {
         let fixed_stack = self.fixed_stack;
         let mut registers = self.registers;

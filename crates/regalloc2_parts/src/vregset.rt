@@ -3,7 +3,7 @@
 ghost use Rattle.std.specs.Prelude.{ℕ, ◌≡◌, ◌≢◌, ◌∷◌, [], ◌<◌, ◌≤◌, ◌==◌, IfOk, IfErr, All, Any, Contains, length, not, filter, nat_eq, slice_set};
 ghost use Rattle.std.specs.Iterator.{YieldsFirst, item_count};
 ghost use Rattle.regalloc2_parts.specs.LiveList.{NamesEachOnce};
-ghost use Rattle.regalloc2_parts.specs.VRegNodes.{IsVRegList, Lists, changed_links, nexts, members_of, numbers, prevs, vregs};
+ghost use Rattle.regalloc2_parts.specs.VRegNodes.{IsVRegList, Lists, vreg_changed_links, nexts, members_of, vreg_ring_numbers, prevs, vregs};
 
 use regalloc2_names::{RegAllocError, VReg};
 use std::alloc::{Allocator, Global};
@@ -24,7 +24,7 @@ fn link(nodes: &mut [VRegNode], prev: u32, next: u32)
     ensures nexts { nexts nodes.new ≡ slice_set (nexts nodes.old) prev next }
     ensures prevs { prevs nodes.new ≡ slice_set (prevs nodes.old) next prev }
     ensures vregs { vregs nodes.new ≡ vregs nodes.old }
-    ensures few { changed_links nodes.old nodes.new ≤ 2 }
+    ensures few { vreg_changed_links nodes.old nodes.new ≤ 2 }
     ensures long { length nodes.new ≡ length nodes.old }
 {
     nodes[prev as usize].next = next;
@@ -35,9 +35,9 @@ fn link(nodes: &mut [VRegNode], prev: u32, next: u32)
 fn insert_node(nodes: &mut [VRegNode], head: u32, vreg: VReg)
     requires list { IsVRegList nodes.old head }
     requires below { vreg.number < head }
-    requires absent { All (λ n. n ≢ vreg.number) (numbers nodes.old head) }
+    requires absent { All (λ n. n ≢ vreg.number) (vreg_ring_numbers nodes.old head) }
     ensures list { Lists nodes.new head (vreg ∷ members_of nodes.old head) }
-    ensures few { changed_links nodes.old nodes.new ≤ 4 }
+    ensures few { vreg_changed_links nodes.old nodes.new ≤ 4 }
     ensures vregs { vregs nodes.new ≡ slice_set (vregs nodes.old) vreg.number vreg }
     ensures long { length nodes.new ≡ length nodes.old }
 {
@@ -51,9 +51,9 @@ fn insert_node(nodes: &mut [VRegNode], head: u32, vreg: VReg)
 /// Takes a number out of the list: two links change.
 fn remove_node(nodes: &mut [VRegNode], head: u32, number: u32)
     requires list { IsVRegList nodes.old head }
-    requires member { Contains (numbers nodes.old head) number }
+    requires member { Contains (vreg_ring_numbers nodes.old head) number }
     ensures list { Lists nodes.new head (filter (λ v. not (v.number == number)) (members_of nodes.old head)) }
-    ensures few { changed_links nodes.old nodes.new ≤ 2 }
+    ensures few { vreg_changed_links nodes.old nodes.new ≤ 2 }
     ensures vregs { vregs nodes.new ≡ vregs nodes.old }
     ensures long { length nodes.new ≡ length nodes.old }
 {
@@ -154,14 +154,14 @@ pub struct VRegSetIter<'a> {
 impl<'a> Model for VRegSetIter<'a> {
     ghost use Rattle.std.specs.Prelude.{List};
     ghost use Rattle.regalloc2_names.specs.Register.{VirtualRegister};
-    ghost use Rattle.regalloc2_parts.specs.Links.{IsWalk, walked};
+    ghost use Rattle.regalloc2_parts.specs.Links.{IsWalk, walked_links};
     ghost use Rattle.regalloc2_parts.specs.VRegNodes.{nexts, rest_from};
 
     ghost Value = { List VirtualRegister };
 
     ghost view = { λ it. rest_from it.nodes.now it.head it.at };
 
-    ghost invariant = { λ it. IsWalk (nexts it.nodes.now) it.head it.at (walked (nexts it.nodes.now) it.head it.at) };
+    ghost invariant = { λ it. IsWalk (nexts it.nodes.now) it.head it.at (walked_links (nexts it.nodes.now) it.head it.at) };
 }
 
 impl<'a> Iterator for VRegSetIter<'a> {

@@ -6,11 +6,11 @@ use Rattle.regalloc2_names.specs.declared.OperandConstraint.TheVariants.{FixedRe
 use Rattle.regalloc2_names.specs.Register.{Register, VirtualRegister}
 use Rattle.regalloc2_names.specs.RegisterSet.{has_register}
 use Rattle.regalloc2_names.specs.Operand.{OperandValue, is_def, is_late, is_fixed_nonallocatable}
-use Rattle.regalloc2_function.specs.FunctionValue.{FunctionValue, InstValue}
+use Rattle.regalloc2_function.specs.FunctionValue.{FunctionValue, InstValue, no_operand}
 use Rattle.regalloc2_function.specs.Machine.{MachineValue, is_allocatable, IsFixedStackSlot}
 use Rattle.regalloc2_function.specs.Fitting.{Fits, HoldsEarly, HoldsLate, is_reuse}
 use Rattle.regalloc2_semantics.proofs.Operands.{reads_use}
-use Rattle.regalloc2_validate.specs.Constraints.{op_at, no_operand}
+use Rattle.regalloc2_function.specs.FunctionValue.{op_at}
 use Rattle.regalloc2_fastalloc_state.specs.declared.inst_regs.Positions.{Positions}
 use Rattle.regalloc2_fastalloc_state.specs.InstRegs.{positions_of}
 use Rattle.regalloc2_fastalloc_proofs.specs.InstSteps.{StateValue, NeedsFixedReg, own, named}
@@ -134,10 +134,10 @@ module _ (f : FunctionValue) (env : MachineValue) (inst : InstValue) (fits : Fit
   ]
 
   -- an instruction that fits the machine reserves its registers: each is the machine's, and none is shared at a position
-  pub never_reserve : (old : StateValue) → HasAll env old → RegsAreNotReserved ops old → ⊥
-  never_reserve old all (unknown k r p lt claims none) = either_false (has_register old.allocatable r) (has_register old.fixed_stack r)
+  pub never_reserve_regs : (old : StateValue) → HasAll env old → RegsAreNotReserved ops old → ⊥
+  never_reserve_regs old all (unknown k r p lt claims none) = either_false (has_register old.allocatable r) (has_register old.fixed_stack r)
       (elim (known k r p lt claims) [
         | inl a ↦ inl (all.allocatable r a)
         | inr s ↦ inr (all.machine.memory r s)
       ]) none
-  never_reserve old all (shared j k r p q less lt a b both) = never_shared j k r p q less lt a b (overlap_cases p q both)
+  never_reserve_regs old all (shared j k r p q less lt a b both) = never_shared j k r p q less lt a b (overlap_cases p q both)

@@ -5,8 +5,8 @@
 -- as are needed, and one is kept for moves. What fits leaves a register for each operand that waits
 -- (`WaitingOperands`), once fixed registers and clobbers are reserved (`EnoughAtStart`).
 -- Then upwards: `OneRegTaken`, `StepsLeaveEnough` and `EvictionsLeaveEnough` (one step), `ClaimLeavesEnough`,
--- `FreeRegsCoverWaiting` and `OperandFindsReg` (one operand), `OperandsLeaveEnough` (`one_pays`), `PassesLeaveEnough`
--- (`never_late`, `never_early`), `InstFindsRegs` (`never_inst`), with `FittingInstReserves`, `BranchFindsRegs` and
+-- `FreeRegsCoverWaiting` and `OperandFindsReg` (one operand), `OperandsLeaveEnough` (`processes_operand_pays`), `PassesLeaveEnough`
+-- (`never_late`, `never_early`), `InstFindsRegs` (`never_alloc_inst`), with `FittingInstReserves`, `BranchFindsRegs` and
 -- `BlockStartFindsRegs` for the rest of a block. `never_` says that a step doesn't stop, `ample_` that it leaves
 -- enough. `StepsKeepMachine` and `WalkKeepsSafe` give what all of them assume.
 pub mod BlockStartFindsRegs

@@ -9,14 +9,14 @@ use Rattle.regalloc2_names.specs.declared.RegClass.{RegClass}
 use Rattle.regalloc2_names.specs.Register.{Register, class_code}
 use Rattle.regalloc2_names.specs.RegisterSet.{has_register}
 use Rattle.regalloc2_names.specs.Operand.{OperandValue}
-use Rattle.regalloc2_names.specs.Place.{Place, NoPlace, InRegister}
-use Rattle.regalloc2_function.specs.FunctionValue.{InstValue}
+use Rattle.regalloc2_names.specs.Place.{Place, NoPlace, InRegister, is_in_register}
+use Rattle.regalloc2_function.specs.FunctionValue.{InstValue, no_operand}
 use Rattle.regalloc2_function.specs.Machine.{MachineValue, is_allocatable}
 use Rattle.regalloc2_function.specs.Fitting.{count_below, is_under_reg, is_fixed_to, register_number, need_of, allocatable_count}
-use Rattle.regalloc2_validate.specs.Constraints.{op_at, no_operand}
-use Rattle.regalloc2_fastalloc_proofs.specs.InstSteps.{asks, asking}
+use Rattle.regalloc2_function.specs.FunctionValue.{op_at}
+use Rattle.regalloc2_fastalloc_proofs.specs.InstSteps.{asks_reg_of_class, asking}
 use Rattle.regalloc2_fastalloc_state.proofs.CountingLaws.{count_union, count_more, count_same, some_count}
-use Rattle.regalloc2_pressure_proofs.specs.EnoughRegs.{is_in_register, waits, waiting}
+use Rattle.regalloc2_pressure_proofs.specs.EnoughRegs.{waits, waiting}
 
 -- an operand that waits gets a register
 pub waits_no_more : (ops : List OperandValue) (here : List Place) (c : RegClass) (k : ℕ) (r : Register) → k < length ops → length here ≡ length ops →
@@ -25,7 +25,7 @@ pub waits_no_more : (ops : List OperandValue) (here : List Place) (c : RegClass)
 waits_no_more ops here c k r lt long h = count_more (waits ops (slice_set here k (InRegister r)) c) (waits ops here c) k (length ops) lt
     (let e : slice_index_or (slice_set here k (InRegister r)) k NoPlace ≡ InRegister r = get_or-set_same here k (InRegister r) NoPlace
     (omega (arith, lt, long)) in
-    rw e (and_right (asks c (op_at ops k)) false refl))
+    rw e (and_right (asks_reg_of_class c (op_at ops k)) false refl))
     h
     (λ j less ne. let e : slice_index_or (slice_set here k (InRegister r)) j NoPlace ≡ slice_index_or here j NoPlace = get_or-set_other here k j (InRegister r)
     NoPlace ne in rw e refl)
@@ -56,7 +56,7 @@ waits_elsewhere ops here c k ne =
 -- one that has its place already doesn't either
 pub waits_placed : (ops : List OperandValue) (here : List Place) (c : RegClass) (k : ℕ) (r : Register) → slice_index_or here k NoPlace ≡ InRegister r →
     waits ops here c k ≡ false
-waits_placed ops here c k r e = rw e (and_right (asks c (op_at ops k)) false refl)
+waits_placed ops here c k r e = rw e (and_right (asks_reg_of_class c (op_at ops k)) false refl)
 
 -- one without a place waits for a register of its class
 pub waits_here : (ops : List OperandValue) (here : List Place) (k : ℕ) → is_under_reg (op_at ops k).constraint ≡ true →
@@ -110,8 +110,8 @@ counted_by P ops (suc n) le =
 pub all_wait : (ops : List OperandValue) (blank : List Place) (c : RegClass) → ((k : ℕ) → slice_index_or blank k NoPlace ≡ NoPlace) →
     waiting ops blank c ≡ asking ops c
 all_wait ops blank c none =
-    count_same (waits ops blank c) (λ k. asks c (op_at ops k)) (length ops) (λ k lt. rw (none k) (and_true (asks c (op_at ops k))))
-    ∙ counted_by (asks c) ops (length ops) (omega arith) ∙ ap (count_by (asks c)) (take_all (length ops) ops (omega arith))
+    count_same (waits ops blank c) (λ k. asks_reg_of_class c (op_at ops k)) (length ops) (λ k lt. rw (none k) (and_true (asks_reg_of_class c (op_at ops k))))
+    ∙ counted_by (asks_reg_of_class c) ops (length ops) (omega arith) ∙ ap (count_by (asks_reg_of_class c)) (take_all (length ops) ops (omega arith))
   where
     and_true : (b : Bool) → (b && not false) ≡ b
     and_true true = refl

@@ -1,16 +1,16 @@
 -- Registers that are free at both positions of an instruction, and how many of them are needed.
-use Rattle.std.specs.Prelude.{ℕ, ◌≡◌, ◌+◌, ◌≤◌, Bool, true, false, ◌&&◌, not, List, length, slice_index_or}
+use Rattle.std.specs.Prelude.{ℕ, ◌≡◌, ◌+◌, ◌≤◌, Bool, false, ◌&&◌, not, List, length, slice_index_or}
 use Rattle.regalloc2_names.specs.declared.RegClass.{RegClass}
 use Rattle.regalloc2_names.specs.Register.{Register, VirtualRegister, is_register}
 use Rattle.regalloc2_names.specs.RegisterSet.{has_register}
 use Rattle.regalloc2_names.specs.Operand.{OperandValue}
-use Rattle.regalloc2_names.specs.Place.{Place, NoPlace, InRegister, InSlot}
+use Rattle.regalloc2_names.specs.Place.{Place, NoPlace, is_in_register}
 use Rattle.regalloc2_function.specs.Fitting.{count_below}
 use Rattle.regalloc2_function.specs.Machine.{MachineValue}
-use Rattle.regalloc2_validate.specs.Constraints.{op_at}
+use Rattle.regalloc2_function.specs.FunctionValue.{op_at}
 use Rattle.regalloc2_fastalloc_state.specs.declared.inst_regs.InstRegs.{InstRegs}
 use Rattle.regalloc2_fastalloc_state.specs.InstRegs.{free_count}
-use Rattle.regalloc2_fastalloc_proofs.specs.InstSteps.{StateValue, Outcome, next, no_register, scratch_reserve_left, asks}
+use Rattle.regalloc2_fastalloc_proofs.specs.InstSteps.{StateValue, Outcome, next, no_register, scratch_reserve_left, asks_reg_of_class}
 use Rattle.regalloc2_fastalloc_proofs.specs.Safety.{IsSafe}
 
 -- of each class that is named, enough registers are free for all that is needed and for the scratch reserve
@@ -27,15 +27,9 @@ pub record TakesAtMost (by : Register) (t u : InstRegs) : Type 0 where
   pub early : (q : Register) → is_register by q ≡ false → has_register u.early q ≡ has_register t.early q
   pub late : (q : Register) → is_register by q ≡ false → has_register u.late q ≡ has_register t.late q
 
--- whether a place is a register
-abbrev pub is_in_register : Place → Bool
-is_in_register NoPlace = false
-is_in_register (InRegister r) = true
-is_in_register (InSlot n) = false
-
 -- whether the operand of an index asks for any register of a class, and has none yet
 abbrev pub waits : List OperandValue → List Place → RegClass → ℕ → Bool
-waits ops here c k = asks c (op_at ops k) && not (is_in_register (slice_index_or here k NoPlace))
+waits ops here c k = asks_reg_of_class c (op_at ops k) && not (is_in_register (slice_index_or here k NoPlace))
 
 -- how many do
 abbrev pub waiting : List OperandValue → List Place → RegClass → ℕ

@@ -12,8 +12,8 @@ use Rattle.regalloc2_function.specs.OutputValue.{place_at}
 use Rattle.regalloc2_function.specs.SourceRun.{Stamp, Source, assigned, after_defs}
 use Rattle.regalloc2_function.specs.AllocatedRun.{Cells, stored, after_early_defs, after_writes, after_clobbers}
 use Rattle.regalloc2_semantics.proofs.Cells.{stored-same, stored-other, assigned-same, assigned-other}
-use Rattle.regalloc2_semantics.specs.Listing.{op_at}
-use Rattle.regalloc2_semantics.specs.Carry.{early_cells, late_cells, is_clobbered, Spares, Undefined, Makes}
+use Rattle.regalloc2_function.specs.FunctionValue.{op_at}
+use Rattle.regalloc2_semantics.specs.Carry.{early_cells, late_cells, is_clobbered, Spares, Undefined, DefinesVRegAt}
 
 -- one operand
 defined_not : (b : Bool) (m : Source) (w v : VirtualRegister) (x : Option Stamp) → (b ≡ true → w ≡ v → ⊥) → (cond b (assigned m w x) m) v ≡ m v
@@ -123,7 +123,7 @@ late-spared t ops places clobbers c p h =
 
 -- after an instruction the place of v's last def holds v's new value, unless a later def or a clobber takes it
 pub late-made : (t : ℕ) (ops : List OperandValue) (places : List Place) (clobbers : PRegSet) (s : Source) (c : Cells) (p : Place) (v : VirtualRegister) →
-    Makes ops places clobbers p v →
+    DefinesVRegAt ops places clobbers p v →
     late_cells t ops places clobbers c p ≡ after_defs t 0 ops s v
 late-made t ops places clobbers s c p v h =
     after_clobbers-other clobbers _ p h.no_clobber

@@ -9,10 +9,11 @@ use Rattle.regalloc2_names.specs.Place.{Place, NoPlace}
 use Rattle.regalloc2_function.specs.OutputValue.{MoveValue, place_at}
 use Rattle.regalloc2_function.specs.SourceRun.{Source, after_defs}
 use Rattle.regalloc2_function.specs.AllocatedRun.{Cells, stored, after_moves}
+use Rattle.regalloc2_function.specs.FunctionValue.{op_at}
 use Rattle.regalloc2_semantics.proofs.Cells.{cases_place, stored-same, stored-other, is_vreg-same}
-use Rattle.regalloc2_semantics.specs.Listing.{Item, op_at, with_moves, defines, writes}
+use Rattle.regalloc2_semantics.specs.Listing.{Item, with_moves, defines, writes}
 use Rattle.regalloc2_semantics.specs.Listing.Item.{Move, Exec}
-use Rattle.regalloc2_semantics.specs.Carry.{CarriesFrom, Carries, late_cells, Spares, Undefined, Makes, Untouched}
+use Rattle.regalloc2_semantics.specs.Carry.{CarriesFrom, Carries, late_cells, Spares, Undefined, DefinesVRegAt, Untouched}
 use Rattle.regalloc2_semantics.proofs.BothRuns.{after_defs-other, early-other, late-spared, late-made}
 
 -- nothing runs
@@ -86,12 +87,12 @@ pub carries_exec : (v : VirtualRegister) (ops : List OperandValue) (places : Lis
     R (place_at places j) × ((i : ℕ) → i < length ops → is_def (op_at ops i).kind ≡ true → is_late (op_at ops i).position ≡ false →
     place_at places i ≡ place_at places j → ⊥)) →
     ((j : ℕ) → j < length ops → is_reading (op_at ops j) ≡ true → is_late (op_at ops j).position ≡ true → (op_at ops j).vreg ≡ v →
-    Makes ops places clobbers (place_at places j) v ⊎ (R (place_at places j) × Spares ops places clobbers (place_at places j) × Undefined ops v)) →
-    ((p : Place) → P p → Makes ops places clobbers p v ⊎ (R p × Spares ops places clobbers p × Undefined ops v)) →
+    DefinesVRegAt ops places clobbers (place_at places j) v ⊎ (R (place_at places j) × Spares ops places clobbers (place_at places j) × Undefined ops v)) →
+    ((p : Place) → P p → DefinesVRegAt ops places clobbers p v ⊎ (R p × Spares ops places clobbers p × Undefined ops v)) →
     Carries v L P E → Carries v (Exec ops places clobbers ∷ L) R E
 unfolding Carries CarriesFrom
 carries_exec v ops places clobbers L P R E early late after g = λ s c n holds.
-    let left : (p : Place) → (Makes ops places clobbers p v ⊎ (R p × Spares ops places clobbers p × Undefined ops v)) →
+    let left : (p : Place) → (DefinesVRegAt ops places clobbers p v ⊎ (R p × Spares ops places clobbers p × Undefined ops v)) →
     late_cells n ops places clobbers c p ≡ after_defs n 0 ops s v =
     λ p x. elim x [
       | inl m ↦ late-made n ops places clobbers s c p v m

@@ -5,7 +5,8 @@ use Rattle.regalloc2_names.specs.Register.{VirtualRegister}
 use Rattle.regalloc2_names.specs.Operand.{OperandValue, is_def}
 use Rattle.regalloc2_names.specs.Place.{Place}
 use Rattle.regalloc2_function.specs.OutputValue.{place_at}
-use Rattle.regalloc2_semantics.specs.Listing.{Item, op_at}
+use Rattle.regalloc2_function.specs.FunctionValue.{op_at}
+use Rattle.regalloc2_semantics.specs.Listing.{Item}
 use Rattle.regalloc2_semantics.specs.Listing.Item.{Exec}
 use Rattle.regalloc2_semantics.specs.Instruction.{Claims, Knows}
 use Rattle.regalloc2_semantics.specs.OperandsPlaced.{what_of, Need, located, in_slot, made, Pending, still}

@@ -4,7 +4,7 @@ use Rattle.regalloc2_names.specs.Place.{Place}
 use Rattle.regalloc2_names.specs.Point.{before, after}
 use Rattle.regalloc2_function.specs.FunctionValue.{InstValue}
 use Rattle.regalloc2_function.specs.OutputValue.{MoveValue}
-use Rattle.regalloc2_semantics.specs.Listing.{Item, executed, with_moves}
+use Rattle.regalloc2_semantics.specs.Listing.{Item, exec_item, with_moves}
 use Rattle.regalloc2_semantics.specs.Listing.Item.{Move}
 use Rattle.regalloc2_semantics.specs.BlockByPoints.{walked}
 
@@ -16,7 +16,7 @@ with_moves-join (m ∷ ms) K L = ap (λ l. Move m ∷ l) (with_moves-join ms K L
 
 -- the first instruction with its moves
 pub walked-one : (insts : ℕ → InstValue) (at : ℕ → List MoveValue) (places : ℕ → List Place) (i : ℕ) →
-    walked insts at places i 1 ≡ with_moves (at (before i)) (executed (insts i) (places i) ∷ with_moves (at (after i)) [])
+    walked insts at places i 1 ≡ with_moves (at (before i)) (exec_item (insts i) (places i) ∷ with_moves (at (after i)) [])
 unfolding walked
 walked-one insts at places i = refl
 
@@ -26,6 +26,6 @@ pub walked_split : (insts : ℕ → InstValue) (at : ℕ → List MoveValue) (pl
 unfolding walked
 walked_split insts at places i n =
     let L : List Item = walked insts at places (i + 1) n in
-    let e : Item = executed (insts i) (places i) in
+    let e : Item = exec_item (insts i) (places i) in
     ap (λ l. with_moves (at (before i)) (e ∷ l)) (with_moves-join (at (after i)) [] L)
     ∙ with_moves-join (at (before i)) (e ∷ with_moves (at (after i)) []) L

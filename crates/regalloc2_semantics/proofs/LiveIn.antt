@@ -9,7 +9,7 @@ use Rattle.regalloc2_function.specs.Path.{Way, Onward, ToSuccessor, Location, fi
 use Rattle.regalloc2_function.specs.SourceRun.{IsWrittenFirst}
 use Rattle.regalloc2_function.specs.WellFormed.{IsWellFormed, last_of}
 use Rattle.regalloc2_semantics.specs.Carry.{Undefined}
-use Rattle.regalloc2_semantics.specs.Blocks.{IsUnwritten, IsSound, target_at}
+use Rattle.regalloc2_semantics.specs.Blocks.{IsUnwritten, HasSoundBlocks, target_at}
 use Rattle.regalloc2_semantics.specs.Live.{IsLive, read_there, passed_there, later}
 use Rattle.regalloc2_semantics.specs.Live.{HasEntered, LiveStandWhereBlocksCarryOn}
 use Rattle.regalloc2_semantics.proofs.SingleDef.{DefinesAt, reads_defined}
@@ -91,13 +91,13 @@ module _ (env : MachineValue) (f : FunctionValue) (ok : IsWellFormed env f) (v :
 pub live_is_used : (env : MachineValue) (f : FunctionValue) → IsWellFormed env f → IsWrittenFirst f → (ws : List Way) → IsPath f ws → HasEntered f ws →
     (v : VirtualRegister) → IsLive f v (end_of f ws) → UsedSomewhere f v
 live_is_used env f ok written ws path entered v live =
-    let sound : IsSound f = well_formed_are_sound env f ok in
+    let sound : HasSoundBlocks f = well_formed_are_sound env f ok in
     let lb : (end_of f ws).block < length f.blocks = block_within f sound written ws path in
     live_somewhere f sound v (end_of f ws).block lb (live_entered env f ok v ws entered lb live)
 
 -- if writes come first and reached blocks carry what they owe, the places of vregs live at a block's entry hold their values
 pub live_stand_in_places : LiveStandWhereBlocksCarryOn
 live_stand_in_places env f out stand ok written rising quiet carries ws path entered v p live is =
-    let sound : IsSound f = well_formed_are_sound env f ok in
+    let sound : HasSoundBlocks f = well_formed_are_sound env f ok in
     holds_live f sound written out stand (items_carry_on f out stand sound rising quiet carries) ws path entered v p
     (live_entered env f ok v ws entered (block_within f sound written ws path) live) is

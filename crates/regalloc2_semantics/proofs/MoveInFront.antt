@@ -4,7 +4,7 @@ use Rattle.regalloc2_names.specs.Place.{Place}
 use Rattle.regalloc2_names.specs.Point.{before, after}
 use Rattle.regalloc2_function.specs.FunctionValue.{InstValue}
 use Rattle.regalloc2_function.specs.OutputValue.{MoveValue}
-use Rattle.regalloc2_semantics.specs.Listing.{Item, executed, with_moves}
+use Rattle.regalloc2_semantics.specs.Listing.{Item, exec_item, with_moves}
 use Rattle.regalloc2_semantics.specs.Listing.Item.{Move}
 use Rattle.regalloc2_semantics.specs.BlockByPoints.{at_point, walked, AllFrom, after_part, before_part}
 use Rattle.regalloc2_semantics.proofs.Points.{at_point-here, at_point-other, at_point-none, walked-same}
@@ -16,7 +16,7 @@ walked-none insts at places i = refl
 
 -- a listing by points of one more instruction is the moves before that one, the instruction, and what runs after it
 pub walked-more : (insts : ℕ → InstValue) (edits : List (ℕ × MoveValue)) (places : ℕ → List Place) (i n : ℕ) →
-    walked insts (at_point edits) places i (suc n) ≡ before_part insts edits places i n (executed (insts i) (places i))
+    walked insts (at_point edits) places i (suc n) ≡ before_part insts edits places i n (exec_item (insts i) (places i))
 unfolding walked
 walked-more insts edits places i n = refl
 

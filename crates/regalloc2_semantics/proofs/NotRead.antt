@@ -4,11 +4,11 @@ use Rattle.regalloc2_names.specs.Register.{VirtualRegister}
 use Rattle.regalloc2_names.specs.Operand.{OperandValue, is_reading}
 use Rattle.regalloc2_names.specs.Place.{Place}
 use Rattle.regalloc2_names.specs.Point.{before, after}
-use Rattle.regalloc2_function.specs.FunctionValue.{InstValue}
+use Rattle.regalloc2_function.specs.FunctionValue.{InstValue, op_at}
 use Rattle.regalloc2_function.specs.OutputValue.{MoveValue}
 use Rattle.regalloc2_function.specs.SourceRun.{Source}
 use Rattle.regalloc2_function.specs.AllocatedRun.{Cells}
-use Rattle.regalloc2_semantics.specs.Listing.{Item, op_at, executed, with_moves}
+use Rattle.regalloc2_semantics.specs.Listing.{Item, exec_item, with_moves}
 use Rattle.regalloc2_semantics.specs.Listing.Item.{Move, Exec}
 use Rattle.regalloc2_semantics.specs.BlockByPoints.{walked}
 use Rattle.regalloc2_semantics.specs.Carry.{CarriesFrom, Carries}
@@ -38,7 +38,7 @@ unfolding Silent walked
 silent_walked v insts at places i zero h = tt
 silent_walked v insts at places i (suc n) h =
     let rest : Silent v (walked insts at places (i + 1) n) = silent_walked v insts at places (i + 1) n (λ j le lt. h j (omega arith) (omega arith)) in
-    silent_moves v (at (before i)) (executed (insts i) (places i) ∷ with_moves (at (after i)) (walked insts at places (i + 1) n))
+    silent_moves v (at (before i)) (exec_item (insts i) (places i) ∷ with_moves (at (after i)) (walked insts at places (i + 1) n))
     (h i (omega arith) (omega arith), silent_moves v (at (after i)) (walked insts at places (i + 1) n) rest)
 
 from_silent : (v : VirtualRegister) (L : List Item) (s : Source) (c : Cells) (n : ℕ) → Silent v L → CarriesFrom v (λ p. ⊥) L s c n

@@ -7,7 +7,7 @@ use Rattle.regalloc2_names.specs.Operand.{is_reading}
 use Rattle.regalloc2_names.specs.Point.{after}
 use Rattle.regalloc2_function.specs.FunctionValue.{FunctionValue, block_at, inst_at}
 use Rattle.regalloc2_function.specs.WellFormed.{BlocksFollow, DefinedOnce, IsDefinedBy, UsesAreDefined, last_of}
-use Rattle.regalloc2_semantics.specs.Listing.{op_at}
+use Rattle.regalloc2_function.specs.FunctionValue.{op_at}
 use Rattle.regalloc2_semantics.specs.Carry.{Undefined}
 use Rattle.regalloc2_semantics.proofs.SingleDef.{DefinesAt, Made, MadeBefore, by_earlier, is_made}
 use Rattle.regalloc2_semantics.proofs.SingleDef.{made_before, made_behind, one_made, one_operand, not_both, ReadsDefined}

@@ -7,13 +7,13 @@ use Rattle.regalloc2_names.specs.declared.OperandPos.TheVariants.{Early, Late}
 use Rattle.regalloc2_names.specs.Register.{VirtualRegister}
 use Rattle.regalloc2_names.specs.Operand.{OperandValue, is_late, is_reading}
 use Rattle.regalloc2_names.specs.Place.{Place}
-use Rattle.regalloc2_function.specs.FunctionValue.{FunctionValue, block_at, inst_at}
+use Rattle.regalloc2_function.specs.FunctionValue.{FunctionValue, block_at, inst_at, no_operand, op_at}
 use Rattle.regalloc2_function.specs.OutputValue.{OutputValue, allocs_of}
 use Rattle.regalloc2_function.specs.Path.{Way, Location, end_of, last_inst}
 use Rattle.regalloc2_function.specs.SourceRun.{Stamp, Source, after_defs, read_of, source_before, source_after, source_read, UsesWritten}
 use Rattle.regalloc2_function.specs.AllocatedRun.{Cells, cells_early, cells_late, cells_before, allocated_read, moves_at}
 use Rattle.regalloc2_function.specs.Faithful.{ReadsAgree}
-use Rattle.regalloc2_semantics.specs.Listing.{Item, op_at, no_operand, items_by, items_from}
+use Rattle.regalloc2_semantics.specs.Listing.{Item, items_by, items_from}
 use Rattle.regalloc2_semantics.specs.Carry.{CarriesFrom, Finds}
 use Rattle.regalloc2_semantics.proofs.CarryRules.{after_their_moves}
 

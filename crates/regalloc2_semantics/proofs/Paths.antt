@@ -8,7 +8,7 @@ use Rattle.regalloc2_names.specs.declared.OperandPos.TheVariants.{Early, Late}
 use Rattle.regalloc2_names.specs.Register.{VirtualRegister}
 use Rattle.regalloc2_names.specs.Operand.{OperandValue, is_reading}
 use Rattle.regalloc2_names.specs.Place.{Place}
-use Rattle.regalloc2_function.specs.FunctionValue.{FunctionValue, block_at, inst_at}
+use Rattle.regalloc2_function.specs.FunctionValue.{FunctionValue, block_at, inst_at, no_operand, op_at}
 use Rattle.regalloc2_function.specs.OutputValue.{OutputValue}
 use Rattle.regalloc2_function.specs.Path.{Way, Onward, ToSuccessor, Location, first_of, end_of, last_inst, IsPath, HasWay}
 use Rattle.regalloc2_function.specs.SourceRun.{Stamp, after_defs, read_of, over_edge}
@@ -16,11 +16,11 @@ use Rattle.regalloc2_function.specs.SourceRun.{arguments_at, source_before, sour
 use Rattle.regalloc2_function.specs.AllocatedRun.{cells_before}
 use Rattle.regalloc2_function.specs.Faithful.{ReadsAgree}
 use Rattle.regalloc2_function.specs.Held.{IsReached}
-use Rattle.regalloc2_semantics.specs.Listing.{op_at, no_operand, items_by, items_from, block_items, IsReadIn}
+use Rattle.regalloc2_semantics.specs.Listing.{items_by, items_from, block_items, IsReadIn}
 use Rattle.regalloc2_semantics.specs.Carry.{CarriesFrom, Carries, Undefined}
 use Rattle.regalloc2_semantics.specs.BlockByPoints.{block_walked, Rising, EndsQuiet}
-use Rattle.regalloc2_semantics.specs.Live.{HasEntered, HoldsValue}
-use Rattle.regalloc2_semantics.specs.Blocks.{names, HasEdge, target_at, IsSound, IsUnwritten, IsUsed, IsUsedIn, IsWantedBehind, IsExcused}
+use Rattle.regalloc2_semantics.specs.Live.{HasEntered, HoldsValueAt}
+use Rattle.regalloc2_semantics.specs.Blocks.{names, HasEdge, target_at, HasSoundBlocks, IsUnwritten, IsUsed, IsUsedIn, IsWantedBehind, IsExcused}
 use Rattle.regalloc2_semantics.specs.Blocks.{ExcusedAreSilent}
 use Rattle.regalloc2_semantics.specs.Blocks.{ComesIn, GoesOut, BlockCarriesOn, BlocksAgreeInPlaces, BlocksAgreeInPlacesByPoints}
 use Rattle.regalloc2_semantics.proofs.BothRuns.{after_defs-other}
@@ -49,13 +49,13 @@ pub record UsedSomewhere (f : FunctionValue) (v : VirtualRegister) : Type 0 wher
   pub used : IsUsedIn f block v
 
 -- a vreg live at a block's start, block by block, is used in some block of the function that doesn't write it
-pub live_somewhere : (f : FunctionValue) → IsSound f → (v : VirtualRegister) (b : ℕ) → b < length f.blocks → Live f v b → UsedSomewhere f v
+pub live_somewhere : (f : FunctionValue) → HasSoundBlocks f → (v : VirtualRegister) (b : ℕ) → b < length f.blocks → Live f v b → UsedSomewhere f v
 live_somewhere f ok v b lt (read u r) = record { block = b; within = lt; unwritten = u; used = inl r }
 live_somewhere f ok v b lt (passed_on u k edge c) = record { block = b; within = lt; unwritten = u; used = inr (k, edge, c) }
 live_somewhere f ok v b lt (onward u k edge aside l) = live_somewhere f ok v (target_at f b k) (ok.targets b k edge) l
 
 -- what is live at a successor is wanted behind the block
-live_wanted : (f : FunctionValue) → IsSound f → (v : VirtualRegister) (b k : ℕ) → HasEdge f b k → Live f v (target_at f b k) → IsWantedBehind f b v
+live_wanted : (f : FunctionValue) → HasSoundBlocks f → (v : VirtualRegister) (b k : ℕ) → HasEdge f b k → Live f v (target_at f b k) → IsWantedBehind f b v
 live_wanted f ok v b k edge l =
     let u = live_somewhere f ok v (target_at f b k) (ok.targets b k edge) l in (
       (k, edge),
@@ -111,7 +111,7 @@ read_none Late x y e d = d
 abbrev last_of : FunctionValue → ℕ → ℕ
 last_of f b = (block_at f b).range.end - 1
 
-module _ (f : FunctionValue) (ok : IsSound f) (written : IsWrittenFirst f) where
+module _ (f : FunctionValue) (ok : HasSoundBlocks f) (written : IsWrittenFirst f) where
   -- what a step that does not write v leaves of it
   still : (vs : List Way) (v : VirtualRegister) (b i : ℕ) → (end_of f vs).inst ≡ i → (block_at f b).range.first ≤ i → i < (block_at f b).range.end →
       IsUnwritten f b v → source_after f vs v ≡ source_before f vs v
@@ -396,7 +396,7 @@ module _ (f : FunctionValue) (ok : IsSound f) (written : IsWrittenFirst f) where
 
     -- where a path comes to a block, the places of each virtual register that is live there hold what it has
     pub holds_live : (ws : List Way) → IsPath f ws → HasEntered f ws → (v : VirtualRegister) (p : Place) → Live f v (end_of f ws).block →
-        stand (end_of f ws).block v ≡ Some p → HoldsValue f out ws p v
+        stand (end_of f ws).block v ≡ Some p → HoldsValueAt f out ws p v
     unfolding source_before cells_before
     holds_live ws path first v p l s = (
       some_where (source_before f ws v) (live_written v (end_of f ws).block ws (block_within ws path)
@@ -415,7 +415,7 @@ pub blocks_agree_in_places : BlocksAgreeInPlaces
 blocks_agree_in_places f out stand ok written carries = agree_at f ok written out stand carries
 
 -- a block that a path reaches is one
-reached_within : (f : FunctionValue) → IsSound f → (b : ℕ) → IsReached f (first_of f b) → b < length f.blocks
+reached_within : (f : FunctionValue) → HasSoundBlocks f → (b : ℕ) → IsReached f (first_of f b) → b < length f.blocks
 reached_within f ok b (ws, p, e) = subst (λ c. c < length f.blocks) (ap (λ (l : Location). l.block) e) (within ws p)
   where
     within : (vs : List Way) → IsPath f vs → (end_of f vs).block < length f.blocks
@@ -424,7 +424,7 @@ reached_within f ok b (ws, p, e) = subst (λ c. c < length f.blocks) (ap (λ (l 
     within (ToSuccessor k ∷ vs) q = ok.targets (end_of f vs).block k q.1.1
 
 -- what a block's listing carries that is put together by points
-pub items_carry_on : (f : FunctionValue) (out : OutputValue) (stand : ℕ → VirtualRegister → Option Place) → IsSound f → Rising out.edits →
+pub items_carry_on : (f : FunctionValue) (out : OutputValue) (stand : ℕ → VirtualRegister → Option Place) → HasSoundBlocks f → Rising out.edits →
     ((b : ℕ) → b < length f.blocks → EndsQuiet f out b) →
     ((b : ℕ) → IsReached f (first_of f b) → BlockCarriesOn f stand b (block_walked f out b)) → (b : ℕ) → IsReached f (first_of f b) →
     BlockCarriesOn f stand b (block_items f out b)

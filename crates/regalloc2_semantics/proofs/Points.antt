@@ -9,7 +9,7 @@ use Rattle.regalloc2_names.specs.Place.{Place}
 use Rattle.regalloc2_names.specs.Point.{before, after}
 use Rattle.regalloc2_function.specs.FunctionValue.{FunctionValue, InstValue, block_at, inst_at}
 use Rattle.regalloc2_function.specs.OutputValue.{OutputValue, MoveValue, allocs_of, moves_before, is_listed_at}
-use Rattle.regalloc2_semantics.specs.Listing.{Item, executed, with_moves, items_by, items_from, block_items}
+use Rattle.regalloc2_semantics.specs.Listing.{Item, exec_item, with_moves, items_by, items_from, block_items}
 use Rattle.regalloc2_semantics.specs.Listing.Item.{Move}
 use Rattle.regalloc2_semantics.specs.BlockByPoints.{at_point, walked, block_walked, AllFrom, Rising, EndsQuiet}
 
@@ -129,18 +129,18 @@ later f o first r i (suc count) le quiet =
     let e : i + suc count ≡ i + 1 + count = omega arith in
     let rest : items_from f o first (i + 1 + 1) count ≡ with_moves (at_point o.edits (after (i + 1)))
     (walked (inst_at f) (at_point o.edits) (allocs_of o) (i + 1 + 1) count) = later f o first r (i + 1) count (omega arith) (rw e at quiet) in
-    ap (λ ms. with_moves ms (executed (inst_at f (i + 1)) (allocs_of o (i + 1)) ∷ items_from f o first (i + 1 + 1) count)) (moves_before-later o first i le r)
+    ap (λ ms. with_moves ms (exec_item (inst_at f (i + 1)) (allocs_of o (i + 1)) ∷ items_from f o first (i + 1 + 1) count)) (moves_before-later o first i le r)
     ∙ with_moves-append (at_point o.edits (after i)) (at_point o.edits (before (i + 1))) _
     ∙ ap (λ l. with_moves (at_point o.edits (after i)) (with_moves (at_point o.edits (before (i + 1)))
-    (executed (inst_at f (i + 1)) (allocs_of o (i + 1)) ∷ l))) rest
+    (exec_item (inst_at f (i + 1)) (allocs_of o (i + 1)) ∷ l))) rest
 
 -- a block's listing is what the points say
 counted : (f : FunctionValue) (o : OutputValue) (first n : ℕ) → Rising o.edits → at_point o.edits (after (first + n)) ≡ [] →
     items_from f o first first (suc n) ≡ walked (inst_at f) (at_point o.edits) (allocs_of o) first (suc n)
 unfolding items_by walked
 counted f o first n r quiet =
-    ap (λ ms. with_moves ms (executed (inst_at f first) (allocs_of o first) ∷ items_from f o first (first + 1) n)) (moves_before-first o first)
-    ∙ ap (λ l. with_moves (at_point o.edits (before first)) (executed (inst_at f first) (allocs_of o first) ∷ l))
+    ap (λ ms. with_moves ms (exec_item (inst_at f first) (allocs_of o first) ∷ items_from f o first (first + 1) n)) (moves_before-first o first)
+    ∙ ap (λ l. with_moves (at_point o.edits (before first)) (exec_item (inst_at f first) (allocs_of o first) ∷ l))
     (later f o first r first n (omega arith) quiet)
 
 -- with edits in order and none after its last instruction, a nonempty block's listing is the one put together by points

@@ -2,7 +2,7 @@
 use Rattle.std.proofs.Common.{◌≡◌, ◌≢◌, ℕ, Bool, true, false, Option, Some, None, ◌⊎◌, ⊎_elim, inl, inr, refl, sym, ap, subst, ◌∙◌}
 use Rattle.std.proofs.lemmas.Bool.{cases_eq, cases_Bool}
 use Rattle.regalloc2_names.specs.Place.{Place, NoPlace}
-use Rattle.regalloc2_semantics.specs.OperandsPlaced.{What, Share, Progress, Placed, Sets, GoesToSlot, Puts, IsVacant, Places, Makes, Clear}
+use Rattle.regalloc2_semantics.specs.OperandsPlaced.{What, Share, Progress, Placed, Sets, GoesToSlot, Puts, IsVacant, Places, PlacesDefinition, Clear}
 use Rattle.regalloc2_semantics.proofs.SharedPlace.{share_uses, share_turn}
 
 -- a slot is made, at a place that no vreg claims
@@ -123,7 +123,7 @@ step_claim what p there claimed2 T S k r u clear v calm real s =
 pub step_def : (what : ℕ → What) (p : Progress) (done2 out2 : ℕ → Bool) (Y : Place → ℕ → Bool) (T U S : ℕ → Option Place) (k : ℕ)
     → p.claimed k ≡ true → (what k).is_def ≡ true
     → ((j : ℕ) → p.done j ≡ true → (what j).is_def ≡ false → (what k).number ≡ (what j).number → ⊥)
-    → Places p.done done2 k → Makes what p.here p.out out2 p.made_at Y k → Sets T U (what k).number None
+    → Places p.done done2 k → PlacesDefinition what p.here p.out out2 p.made_at Y k → Sets T U (what k).number None
     → Placed what p T S → Placed what (record p { done = done2; out = out2; made_at = Y }) U S
 step_def what p done2 out2 Y T U S k claim def unread u m z s =
     let v : ℕ = (what k).number in

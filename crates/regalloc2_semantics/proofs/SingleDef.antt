@@ -9,9 +9,9 @@ use Rattle.regalloc2_names.specs.declared.RegClass.TheVariants.{Int}
 use Rattle.regalloc2_names.specs.Register.{VirtualRegister}
 use Rattle.regalloc2_names.specs.Operand.{OperandValue, is_def, is_reading}
 use Rattle.regalloc2_names.specs.Point.{before, after}
-use Rattle.regalloc2_function.specs.FunctionValue.{FunctionValue, BlockValue, InstValue, block_at, inst_at, no_block, no_inst}
-use Rattle.regalloc2_function.specs.WellFormed.{defines, BlocksFollow, DefinedOnce, IsDefinedBy, UsesAreDefined}
-use Rattle.regalloc2_semantics.specs.Listing.{op_at, no_operand}
+use Rattle.regalloc2_function.specs.FunctionValue.{FunctionValue, BlockValue, InstValue, block_at, inst_at, no_block, no_inst, no_operand}
+use Rattle.regalloc2_function.specs.WellFormed.{defines_number, BlocksFollow, DefinedOnce, IsDefinedBy, UsesAreDefined}
+use Rattle.regalloc2_function.specs.FunctionValue.{op_at}
 use Rattle.regalloc2_semantics.specs.Instruction.{Knows}
 use Rattle.regalloc2_semantics.specs.OperandsPlaced.{Once, Counts, what_of}
 use Rattle.regalloc2_semantics.proofs.Soundness.{total, total-two, count_at, in_blocks, in_insts, at_most_one}
@@ -76,7 +76,7 @@ pub record TakesAt (f : FunctionValue) (n b k : ℕ) : Type 0 where
   pub param : k < length (block_at f b).params
   pub number : (slice_index_or (block_at f b).params k no_vreg).number ≡ n
 
-defines_it : (o : OperandValue) (n : ℕ) → is_def o.kind ≡ true → o.vreg.number ≡ n → defines n o ≡ true
+defines_it : (o : OperandValue) (n : ℕ) → is_def o.kind ≡ true → o.vreg.number ≡ n → defines_number n o ≡ true
 defines_it o n d e = rw (d, eq-eqb o.vreg.number n e) refl
 
 module _ (f : FunctionValue) (once : DefinedOnce f) where
@@ -85,7 +85,7 @@ module _ (f : FunctionValue) (once : DefinedOnce f) where
   unfolding in_blocks in_insts
   one_operand n i j k l a b =
       let z = at_most_one f once n in
-      one_passes (defines n) (λ (x : InstValue). x.operands) f.insts no_inst no_operand i j k l (omega (arith, z)) a.inst b.inst a.operand b.operand
+      one_passes (defines_number n) (λ (x : InstValue). x.operands) f.insts no_inst no_operand i j k l (omega (arith, z)) a.inst b.inst a.operand b.operand
       (defines_it (op_at (inst_at f i).operands k) n a.definition a.number) (defines_it (op_at (inst_at f j).operands l) n b.definition b.number)
 
   -- one parameter alone has a number
@@ -101,10 +101,10 @@ module _ (f : FunctionValue) (once : DefinedOnce f) where
   unfolding in_blocks in_insts
   not_both n i k b l x y =
       let z = at_most_one f once n in
-      let o = count_at (defines n) (inst_at f i).operands k no_operand x.operand (defines_it (op_at (inst_at f i).operands k) n x.definition x.number) in
+      let o = count_at (defines_number n) (inst_at f i).operands k no_operand x.operand (defines_it (op_at (inst_at f i).operands k) n x.definition x.number) in
       let p = count_at (λ v. nat_eq v.number n) (block_at f b).params l no_vreg y.param
       (eq-eqb (slice_index_or (block_at f b).params l no_vreg).number n y.number) in
-      let os = total-one (λ (x : InstValue). count_by (defines n) x.operands) f.insts i no_inst x.inst in
+      let os = total-one (λ (x : InstValue). count_by (defines_number n) x.operands) f.insts i no_inst x.inst in
       let ps = total-one (λ (x : BlockValue). count_by (λ v. nat_eq v.number n) x.params) f.blocks b no_block y.block in
       omega (arith, z, o, p, os, ps)
 
@@ -112,8 +112,8 @@ module _ (f : FunctionValue) (once : DefinedOnce f) where
   pub defined_small : (n i k : ℕ) → DefinesAt f n i k → n < f.num_vregs
   unfolding in_blocks in_insts
   defined_small n i k x =
-      let o = count_at (defines n) (inst_at f i).operands k no_operand x.operand (defines_it (op_at (inst_at f i).operands k) n x.definition x.number) in
-      let os = total-one (λ (x : InstValue). count_by (defines n) x.operands) f.insts i no_inst x.inst in
+      let o = count_at (defines_number n) (inst_at f i).operands k no_operand x.operand (defines_it (op_at (inst_at f i).operands k) n x.definition x.number) in
+      let os = total-one (λ (x : InstValue). count_by (defines_number n) x.operands) f.insts i no_inst x.inst in
       (once n).1 (omega (arith, o, os))
 
   -- a number that a parameter has is one of the function's

@@ -7,9 +7,9 @@ use Rattle.std.proofs.lemmas.List.{get_or_past}
 use Rattle.std.proofs.lemmas.List.Sums.{get_or-le-sum_by, sum_by-cons, count_by-le-length}
 use Rattle.regalloc2_names.specs.Register.{VirtualRegister, is_vreg}
 use Rattle.regalloc2_names.specs.Operand.{OperandValue, is_def}
-use Rattle.regalloc2_function.specs.FunctionValue.{FunctionValue, BlockValue, InstValue, block_at, inst_at, no_block, no_inst}
-use Rattle.regalloc2_function.specs.WellFormed.{defines, times_in, ways_into, DefinedOnce, PredecessorsAgree, NoCriticalEdge}
-use Rattle.regalloc2_semantics.specs.Listing.{op_at, no_operand}
+use Rattle.regalloc2_function.specs.FunctionValue.{FunctionValue, BlockValue, InstValue, block_at, inst_at, no_block, no_inst, no_operand}
+use Rattle.regalloc2_function.specs.WellFormed.{defines_number, times_in, ways_into, DefinedOnce, PredecessorsAgree, NoCriticalEdge}
+use Rattle.regalloc2_function.specs.FunctionValue.{op_at}
 use Rattle.regalloc2_semantics.specs.Carry.{Undefined}
 use Rattle.regalloc2_semantics.specs.Blocks.{names, HasEdge, target_at, IsParameter, IsEnteredOnce}
 use Rattle.regalloc2_semantics.specs.Sound.{WellFormedAreSound}
@@ -101,7 +101,7 @@ names_count v (p ∷ ps) h =
     (same_number p v) (λ n. names_count v ps (right_of (is_vreg p v) (names v ps) h n)) (sum_by-cons (λ w. cond (nat_eq w.number v.number) 1 0) p ps)
 
 -- an operand that defines v counts as a definition of its number
-defines_it : (o : OperandValue) (v : VirtualRegister) → is_def o.kind ≡ true → o.vreg ≡ v → defines v.number o ≡ true
+defines_it : (o : OperandValue) (v : VirtualRegister) → is_def o.kind ≡ true → o.vreg ≡ v → defines_number v.number o ≡ true
 defines_it o v d e = rw (d, eq-eqb o.vreg.number v.number (ap (λ (x : VirtualRegister). x.number) e)) refl
 
 module _ (f : FunctionValue) (once : DefinedOnce f) where
@@ -109,7 +109,7 @@ module _ (f : FunctionValue) (once : DefinedOnce f) where
   in_blocks n = total (map (λ (b : BlockValue). count_by (λ v. nat_eq v.number n) b.params) f.blocks)
 
   unfoldable pub in_insts : ℕ → ℕ
-  in_insts n = total (map (λ (i : InstValue). count_by (defines n) i.operands) f.insts)
+  in_insts n = total (map (λ (i : InstValue). count_by (defines_number n) i.operands) f.insts)
 
   -- all definitions and parameters of one number are one at most
   pub at_most_one : (n : ℕ) → in_blocks n + in_insts n ≤ 1
@@ -139,12 +139,14 @@ module _ (f : FunctionValue) (once : DefinedOnce f) where
         | inr le ↦ (let n : length (inst_at f i).operands ≡ 0 = ap (λ (x : InstValue). length x.operands) (get_or_past f.insts i no_inst le) in
             absurd (omega arith))
       ] in
-      let test : defines v.number (op_at (inst_at f i).operands j) ≡ true = rw (
+      let test : defines_number v.number (op_at (inst_at f i).operands j) ≡ true = rw (
         d,
         eq-eqb (op_at (inst_at f i).operands j).vreg.number v.number (ap (λ (x : VirtualRegister). x.number) e),
       ) refl in
-      let here : 1 ≤ count_by (defines v.number) (inst_at f i).operands = count_at (defines v.number) (inst_at f i).operands j no_operand lt test in
-      let insts : count_by (defines v.number) (inst_at f i).operands ≤ in_insts v.number = total-at (λ (x : InstValue). count_by (defines v.number) x.operands)
+      let here : 1 ≤ count_by (defines_number v.number) (inst_at f i).operands = count_at (defines_number v.number) (inst_at f i).operands j no_operand lt
+          test in
+      let insts : count_by (defines_number v.number) (inst_at f i).operands ≤ in_insts v.number = total-at
+          (λ (x : InstValue). count_by (defines_number v.number) x.operands)
       f.insts i no_inst within in
       let params : count_by (λ w. nat_eq w.number v.number) (block_at f b).params ≤ in_blocks v.number = total-at
       (λ (x : BlockValue). count_by (λ w. nat_eq w.number v.number) x.params) f.blocks b no_block (param_within f b v h) in
@@ -157,11 +159,11 @@ module _ (f : FunctionValue) (once : DefinedOnce f) where
       is_def (slice_index_or (inst_at f j).operands k d).kind ≡ true → (slice_index_or (inst_at f j).operands k d).vreg ≡ v → Undefined (inst_at f i).operands v
   unfolding in_blocks in_insts
   no_second i j v ne within also k d lt def is m less def' is' =
-      let g : InstValue → ℕ = λ x. count_by (defines v.number) x.operands in
+      let g : InstValue → ℕ = λ x. count_by (defines_number v.number) x.operands in
       let two : g (inst_at f j) + g (inst_at f i) ≤ in_insts v.number = total-two g f.insts j i no_inst ne also within in
-      let there : 1 ≤ g (inst_at f j) = count_at (defines v.number) (inst_at f j).operands k d lt
+      let there : 1 ≤ g (inst_at f j) = count_at (defines_number v.number) (inst_at f j).operands k d lt
       (defines_it (slice_index_or (inst_at f j).operands k d) v def is) in
-      let here : 1 ≤ g (inst_at f i) = count_at (defines v.number) (inst_at f i).operands m no_operand less
+      let here : 1 ≤ g (inst_at f i) = count_at (defines_number v.number) (inst_at f i).operands m no_operand less
       (defines_it (op_at (inst_at f i).operands m) v def' is') in
       let z = at_most_one v.number in absurd (omega arith)
 

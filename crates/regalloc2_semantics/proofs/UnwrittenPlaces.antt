@@ -7,11 +7,11 @@ use Rattle.regalloc2_names.specs.Register.{VirtualRegister, is_vreg}
 use Rattle.regalloc2_names.specs.Operand.{OperandValue, is_def, is_late, is_reading}
 use Rattle.regalloc2_names.specs.Place.{Place}
 use Rattle.regalloc2_names.specs.Point.{before, after}
-use Rattle.regalloc2_function.specs.FunctionValue.{InstValue}
+use Rattle.regalloc2_function.specs.FunctionValue.{InstValue, op_at}
 use Rattle.regalloc2_function.specs.OutputValue.{MoveValue, place_at}
 use Rattle.regalloc2_function.specs.SourceRun.{Source, after_defs}
 use Rattle.regalloc2_function.specs.AllocatedRun.{Cells, stored, after_moves}
-use Rattle.regalloc2_semantics.specs.Listing.{Item, op_at, executed, with_moves, defines, writes}
+use Rattle.regalloc2_semantics.specs.Listing.{Item, exec_item, with_moves, defines, writes}
 use Rattle.regalloc2_semantics.specs.Listing.Item.{Exec}
 use Rattle.regalloc2_semantics.specs.BlockByPoints.{walked}
 use Rattle.regalloc2_semantics.specs.Carry.{CarriesFrom, Carries, Finds, early_cells, late_cells, Spares, Undefined, Untouched}
@@ -47,7 +47,7 @@ untouched_walked p insts at places i (suc n) h g =
     (λ j le lt. g j (omega arith) (omega arith)) in
     let after_it : Untouched p (with_moves (at (after i)) (walked insts at places (i + 1) n)) = untouched_moves p (at (after i))
     (walked insts at places (i + 1) n) (h (after i) (omega arith) (omega arith)) rest in
-    untouched_moves p (at (before i)) (executed (insts i) (places i) ∷ with_moves (at (after i)) (walked insts at places (i + 1) n))
+    untouched_moves p (at (before i)) (exec_item (insts i) (places i) ∷ with_moves (at (after i)) (walked insts at places (i + 1) n))
     (h (before i) (omega arith) (omega arith)) (g i (omega arith) (omega arith), after_it)
 
 -- no operand defines v, as a test
@@ -79,7 +79,7 @@ unwritten_walked v insts at places i zero h = refl
 unwritten_walked v insts at places i (suc n) h =
     let rest : writes v (walked insts at places (i + 1) n) ≡ false = unwritten_walked v insts at places (i + 1) n
     (λ j le lt. h j (omega arith) (omega arith)) in
-    writes_moves v (at (before i)) (executed (insts i) (places i) ∷ with_moves (at (after i)) (walked insts at places (i + 1) n))
+    writes_moves v (at (before i)) (exec_item (insts i) (places i) ∷ with_moves (at (after i)) (walked insts at places (i + 1) n))
     ∙ rw (defines_none (insts i).operands v (h i (omega arith) (omega arith)), writes_moves v (at (after i)) (walked insts at places (i + 1) n), rest) refl
 
 -- an operand reads v at the place

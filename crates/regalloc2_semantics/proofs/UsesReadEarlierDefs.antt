@@ -14,7 +14,7 @@ use Rattle.regalloc2_function.specs.SourceRun.{Stamp, read_of, source_before, so
 use Rattle.regalloc2_function.specs.WellFormed.{DefinedOnce, IsDefinedBy}
 use Rattle.regalloc2_function.specs.Laws.{SourceIsEarlier, NumbersGiveReads}
 use Rattle.regalloc2_semantics.specs.Carry.{Undefined}
-use Rattle.regalloc2_semantics.specs.Blocks.{names, IsSound}
+use Rattle.regalloc2_semantics.specs.Blocks.{names, HasSoundBlocks}
 use Rattle.regalloc2_semantics.specs.Laws.{AgreeingReadsFindEarlier, ReadsAgreeWhereNumbersDo, WellFormedReadEarlier}
 use Rattle.regalloc2_semantics.proofs.Cells.{is_vreg-same}
 use Rattle.regalloc2_semantics.proofs.BothRuns.{after_defs-other}
@@ -26,7 +26,7 @@ record Inside (f : FunctionValue) (l : Location) : Type 0 where
   first : (block_at f l.block).range.first ≤ l.inst
   end : l.inst < (block_at f l.block).range.end
 
-inside : (f : FunctionValue) → IsSound f → (ws : List Way) → IsPath f ws → Inside f (end_of f ws)
+inside : (f : FunctionValue) → HasSoundBlocks f → (ws : List Way) → IsPath f ws → Inside f (end_of f ws)
 inside f ok [] p = record { block = ok.entry; first = omega arith; end = ok.nonempty f.entry ok.entry }
 inside f ok (Onward ∷ ws) p = let h = inside f ok ws p.0 in let low = h.first in record { block = h.block; first = omega arith; end = p.1 }
 inside f ok (ToSuccessor k ∷ ws) p = let t = ok.targets (end_of f ws).block k p.1.1 in record { block = t; first = omega arith; end = ok.nonempty _ t }

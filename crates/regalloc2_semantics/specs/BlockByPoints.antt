@@ -4,7 +4,7 @@ use Rattle.regalloc2_names.specs.Place.{Place}
 use Rattle.regalloc2_names.specs.Point.{before, after}
 use Rattle.regalloc2_function.specs.FunctionValue.{FunctionValue, InstValue, block_at, inst_at}
 use Rattle.regalloc2_function.specs.OutputValue.{OutputValue, MoveValue, allocs_of}
-use Rattle.regalloc2_semantics.specs.Listing.{Item, executed, with_moves}
+use Rattle.regalloc2_semantics.specs.Listing.{Item, exec_item, with_moves}
 
 -- the moves at a point, in their order
 abbrev pub at_point : List (ℕ × MoveValue) → ℕ → List MoveValue
@@ -13,7 +13,7 @@ at_point edits q = map (λ e. e.1) (filter (λ e. nat_eq e.0 q) edits)
 -- count instructions from an index on, each with the moves before and after it
 unfoldable pub walked : (ℕ → InstValue) → (ℕ → List MoveValue) → (ℕ → List Place) → ℕ → ℕ → List Item
 walked insts at places i zero = []
-walked insts at places i (suc count) = with_moves (at (before i)) (executed (insts i) (places i) ∷ with_moves (at (after i))
+walked insts at places i (suc count) = with_moves (at (before i)) (exec_item (insts i) (places i) ∷ with_moves (at (after i))
     (walked insts at places (i + 1) count))
 
 -- those of a block

@@ -33,7 +33,7 @@ pub record IsEnteredOnce (f : FunctionValue) (s : ℕ) : Type 0 where
   pub from_one : (b c i j : ℕ) → HasEdge f b i → HasEdge f c j → target_at f b i ≡ s → target_at f c j ≡ s → b ≡ c
 
 -- of a well-formed function, what the theorem needs
-pub record IsSound (f : FunctionValue) : Type 0 where
+pub record HasSoundBlocks (f : FunctionValue) : Type 0 where
   pub nonempty : (b : ℕ) → b < length f.blocks → (block_at f b).range.first < (block_at f b).range.end
   pub entry : f.entry < length f.blocks
   pub targets : (b k : ℕ) → HasEdge f b k → target_at f b k < length f.blocks
@@ -109,11 +109,11 @@ module _ (f : FunctionValue) (stand : ℕ → VirtualRegister → Option Place) 
 
 -- where no path reads before writing, and every block that a path reaches does what it owes, reads agree on every path
 abbrev pub BlocksAgreeInPlaces : Type 0
-BlocksAgreeInPlaces = (f : FunctionValue) (out : OutputValue) (stand : ℕ → VirtualRegister → Option Place) → IsSound f → IsWrittenFirst f →
+BlocksAgreeInPlaces = (f : FunctionValue) (out : OutputValue) (stand : ℕ → VirtualRegister → Option Place) → HasSoundBlocks f → IsWrittenFirst f →
     ((b : ℕ) → IsReached f (first_of f b) → BlockCarriesOn f stand b (block_items f out b)) → ReadsAgreeOnPaths f out
 
 -- the same, with the listings put together by the points of their moves
 abbrev pub BlocksAgreeInPlacesByPoints : Type 0
-BlocksAgreeInPlacesByPoints = (f : FunctionValue) (out : OutputValue) (stand : ℕ → VirtualRegister → Option Place) → IsSound f → IsWrittenFirst f →
+BlocksAgreeInPlacesByPoints = (f : FunctionValue) (out : OutputValue) (stand : ℕ → VirtualRegister → Option Place) → HasSoundBlocks f → IsWrittenFirst f →
     Rising out.edits → ((b : ℕ) → b < length f.blocks → EndsQuiet f out b) →
     ((b : ℕ) → IsReached f (first_of f b) → BlockCarriesOn f stand b (block_walked f out b)) → ReadsAgreeOnPaths f out

@@ -8,7 +8,8 @@ use Rattle.regalloc2_names.specs.Place.{Place, NoPlace, InRegister, InSlot}
 use Rattle.regalloc2_function.specs.OutputValue.{place_at}
 use Rattle.regalloc2_function.specs.SourceRun.{Stamp, Source, after_defs}
 use Rattle.regalloc2_function.specs.AllocatedRun.{Cells, stored, after_early_defs, after_writes, after_clobbers}
-use Rattle.regalloc2_semantics.specs.Listing.{Item, op_at}
+use Rattle.regalloc2_function.specs.FunctionValue.{op_at}
+use Rattle.regalloc2_semantics.specs.Listing.{Item}
 use Rattle.regalloc2_semantics.specs.Listing.Item.{Move, Exec}
 
 -- the cells that the early uses of an instruction read
@@ -54,7 +55,7 @@ abbrev pub Undefined : List OperandValue → VirtualRegister → Type 0
 Undefined operands v = (j : ℕ) → j < length operands → is_def (op_at operands j).kind ≡ true → (op_at operands j).vreg ≡ v → ⊥
 
 -- an instruction defines v, and leaves what it wrote in the place
-pub record Makes (operands : List OperandValue) (places : List Place) (clobbers : PRegSet) (p : Place) (v : VirtualRegister) : Type 0 where
+pub record DefinesVRegAt (operands : List OperandValue) (places : List Place) (clobbers : PRegSet) (p : Place) (v : VirtualRegister) : Type 0 where
   pub by : ℕ
   pub within : by < length operands
   pub defines : is_def (op_at operands by).kind ≡ true

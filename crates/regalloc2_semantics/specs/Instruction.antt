@@ -3,8 +3,9 @@ use Rattle.std.specs.Prelude.{ℕ, ◌≡◌, ◌<◌, true, List, length}
 use Rattle.regalloc2_names.specs.Register.{Register, VirtualRegister}
 use Rattle.regalloc2_names.specs.Operand.{OperandValue, is_def, is_reading}
 use Rattle.regalloc2_names.specs.Place.{Place, InRegister, InSlot}
-use Rattle.regalloc2_semantics.specs.Listing.{Item, op_at}
+use Rattle.regalloc2_semantics.specs.Listing.{Item}
 use Rattle.regalloc2_semantics.specs.Carry.{Carries}
+use Rattle.regalloc2_function.specs.FunctionValue.{op_at}
 
 -- T: where the virtual register of a number is; S: its slot
 pub record IsTidy (T S : ℕ → Place) : Type 0 where

@@ -1,14 +1,10 @@
 -- What runs in a block from some point on: moves and instructions, in order.
-use Rattle.std.specs.Prelude.{ℕ, zero, suc, ◌≡◌, ◌+◌, ◌-◌, ◌<◌, ◌≤◌, length, Bool, true, false, ◌&&◌, ◌||◌, List, [], ◌∷◌, slice_index_or}
-use Rattle.regalloc2_names.specs.declared.OperandConstraint.TheVariants.{Any}
-use Rattle.regalloc2_names.specs.declared.OperandKind.TheVariants.{Use}
-use Rattle.regalloc2_names.specs.declared.OperandPos.TheVariants.{Early}
-use Rattle.regalloc2_names.specs.declared.RegClass.TheVariants.{Int}
+use Rattle.std.specs.Prelude.{ℕ, zero, suc, ◌≡◌, ◌+◌, ◌-◌, ◌<◌, ◌≤◌, length, Bool, true, false, ◌&&◌, ◌||◌, List, [], ◌∷◌}
 use Rattle.regalloc2_names.specs.declared.sets.PRegSet.{PRegSet}
 use Rattle.regalloc2_names.specs.Register.{VirtualRegister, is_vreg}
 use Rattle.regalloc2_names.specs.Operand.{OperandValue, is_def, is_reading}
 use Rattle.regalloc2_names.specs.Place.{Place}
-use Rattle.regalloc2_function.specs.FunctionValue.{FunctionValue, InstValue, block_at, inst_at}
+use Rattle.regalloc2_function.specs.FunctionValue.{FunctionValue, InstValue, block_at, inst_at, op_at}
 use Rattle.regalloc2_function.specs.OutputValue.{OutputValue, MoveValue, allocs_of, moves_before}
 
 -- a move, or an instruction with its operands' places and its clobbers
@@ -16,17 +12,9 @@ pub data Item : Type 0 where
   Move : MoveValue → Item
   Exec : (operands : List OperandValue) (places : List Place) (clobbers : PRegSet) → Item
 
--- an operand that no instruction has
-abbrev pub no_operand : OperandValue
-no_operand = record { vreg = record { number = 0; class = Int }; constraint = Any; kind = Use; position = Early }
-
--- the operand of an index
-abbrev pub op_at : List OperandValue → ℕ → OperandValue
-op_at operands j = slice_index_or operands j no_operand
-
 -- the instruction as an item
-abbrev pub executed : InstValue → List Place → Item
-executed i places = Exec i.operands places i.clobbers
+abbrev pub exec_item : InstValue → List Place → Item
+exec_item i places = Exec i.operands places i.clobbers
 
 -- moves, and then what follows them
 unfoldable pub with_moves : List MoveValue → List Item → List Item
@@ -36,7 +24,7 @@ with_moves (m ∷ ms) items = Move m ∷ with_moves ms items
 -- count instructions from an index on, each after its moves
 unfoldable pub items_by : (ℕ → InstValue) → (ℕ → List MoveValue) → (ℕ → List Place) → ℕ → ℕ → List Item
 items_by insts moves places i zero = []
-items_by insts moves places i (suc count) = with_moves (moves i) (executed (insts i) (places i) ∷ items_by insts moves places (i + 1) count)
+items_by insts moves places i (suc count) = with_moves (moves i) (exec_item (insts i) (places i) ∷ items_by insts moves places (i + 1) count)
 
 -- what an output lists for a block that begins at first: count instructions from an index on
 abbrev pub items_from : FunctionValue → OutputValue → ℕ → ℕ → ℕ → List Item

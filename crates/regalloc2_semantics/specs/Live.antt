@@ -11,7 +11,7 @@ use Rattle.regalloc2_names.specs.Operand.{is_reading}
 use Rattle.regalloc2_function.specs.AllocatedRun.{cells_before}
 use Rattle.regalloc2_function.specs.Held.{IsReached}
 use Rattle.regalloc2_function.specs.WellFormed.{IsWellFormed}
-use Rattle.regalloc2_semantics.specs.Listing.{op_at}
+use Rattle.regalloc2_function.specs.FunctionValue.{op_at}
 use Rattle.regalloc2_semantics.specs.Carry.{Undefined}
 use Rattle.regalloc2_semantics.specs.BlockByPoints.{block_walked, Rising, EndsQuiet}
 use Rattle.regalloc2_semantics.specs.Blocks.{names, target_at, BlockCarriesOn}
@@ -35,13 +35,13 @@ abbrev pub HasEntered : FunctionValue → List Way → Type 0
 HasEntered f ws = (end_of f ws).inst ≡ (block_at f (end_of f ws).block).range.first
 
 -- before a path's last step, v has a value, parameters what the edge gave them, and the place holds it
-abbrev pub HoldsValue : FunctionValue → OutputValue → List Way → Place → VirtualRegister → Type 0
-HoldsValue f out ws p v = IsSome (source_before f ws v) × (cells_before f out ws p ≡ source_before f ws v)
+abbrev pub HoldsValueAt : FunctionValue → OutputValue → List Way → Place → VirtualRegister → Type 0
+HoldsValueAt f out ws p v = IsSome (source_before f ws v) × (cells_before f out ws p ≡ source_before f ws v)
 
 -- on every path, where it comes to a block, the place where a virtual register is that is live there holds its value
 abbrev pub LiveStandInPlaces : FunctionValue → OutputValue → (ℕ → VirtualRegister → Option Place) → Type 0
 LiveStandInPlaces f out stand = (ws : List Way) → IsPath f ws → HasEntered f ws → (v : VirtualRegister) (p : Place) → IsLive f v (end_of f ws) →
-    stand (end_of f ws).block v ≡ Some p → HoldsValue f out ws p v
+    stand (end_of f ws).block v ≡ Some p → HoldsValueAt f out ws p v
 
 -- so it is where no path reads before writing, and every block that a path reaches carries values from where they are at its beginning
 -- to where they are at the next one's, with the listings put together by the points of their moves

@@ -6,7 +6,7 @@ use Rattle.regalloc2_names.specs.Place.{Place, NoPlace}
 use Rattle.regalloc2_names.specs.declared.sets.PRegSet.{PRegSet}
 use Rattle.regalloc2_function.specs.OutputValue.{place_at}
 use Rattle.regalloc2_semantics.specs.Carry.{is_clobbered}
-use Rattle.regalloc2_semantics.specs.Listing.{op_at}
+use Rattle.regalloc2_function.specs.FunctionValue.{op_at}
 
 -- an operand without its place
 pub record What : Type 0 where
@@ -133,7 +133,7 @@ pub record Places (done done2 : ℕ → Bool) (k : ℕ) : Type 0 where
   pub places : done2 k ≡ true
 
 -- what changes where the definition k is placed
-pub record Makes (what : ℕ → What) (here : ℕ → Place) (out out2 : ℕ → Bool) (X Y : Place → ℕ → Bool) (k : ℕ) : Type 0 where
+pub record PlacesDefinition (what : ℕ → What) (here : ℕ → Place) (out out2 : ℕ → Bool) (X Y : Place → ℕ → Bool) (k : ℕ) : Type 0 where
   pub out_grows : (w : ℕ) → out2 w ≡ true → (w ≡ (what k).number) ⊎ (out w ≡ true)
   pub out_keeps : (w : ℕ) → out w ≡ true → out2 w ≡ true
   pub is_out : out2 (what k).number ≡ true

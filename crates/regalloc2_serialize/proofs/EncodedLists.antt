@@ -9,7 +9,7 @@ use Rattle.serde_json.specs.Data.{Data}
 use Rattle.regalloc2_function.specs.declared.serialize.StoredFault.{StoredFault}
 use Rattle.regalloc2_function.specs.declared.serialize.StoredFault.TheVariants.{Memory, Shape}
 use Rattle.regalloc2_serialize.specs.FromJson.{byte, or_null, list, member}
-use Rattle.regalloc2_serialize.specs.JsonShape.{machine, HasShape, IsFunctionAt}
+use Rattle.regalloc2_serialize.specs.JsonShape.{machine, HasJsonShape, IsFunctionAt}
 use Rattle.regalloc2_serialize.specs.declared.data.StoredFunction.{StoredFunction}
 
 -- mapping a list by two functions that agree everywhere gives equal lists
@@ -69,9 +69,9 @@ none-some (Some x) e h = absurd cc
 
 -- a member that isn't there, or that memory failed, refuses the whole function
 pub not-function : {A X : Type 0} (d : Data) (r : Result (StoredFunction A) StoredFault) (e : StoredFault) (o : Option X) →
-    IsErrAnd r (λ y. y ≡ e) → (HasShape d → IsSome o) → (e ≡ Shape → o ≡ None) → (e ≡ Shape) ⊎ (e ≡ Memory) → record {
+    IsErrAnd r (λ y. y ≡ e) → (HasJsonShape d → IsSome o) → (e ≡ Shape → o ≡ None) → (e ≡ Shape) ⊎ (e ≡ Memory) → record {
       fields : IfOk r (λ s. IsFunctionAt d s);
-      shape : IfErr r (λ y. y ≡ Shape → HasShape d → ⊥);
+      shape : IfErr r (λ y. y ≡ Shape → HasJsonShape d → ⊥);
       faults : IfErr r (λ y. (y ≡ Shape) ⊎ (y ≡ Memory));
     }
 not-function d r e o refused some none which =

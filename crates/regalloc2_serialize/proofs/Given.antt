@@ -7,7 +7,7 @@ use Rattle.std.specs.List.{range_with_len}
 use Rattle.std.specs.Vec.{vec_len}
 use Rattle.std.specs.declared.vec.Vec.{Vec}
 use Rattle.regalloc2_index.specs.Range.{Span}
-use Rattle.regalloc2_serialize.specs.Validity.{HasAllOfEachBlock, IsSound}
+use Rattle.regalloc2_serialize.specs.Validity.{HasAllOfEachBlock, IsSoundStored}
 use Rattle.regalloc2_function.specs.FunctionValue.{BlockValue}
 use Rattle.regalloc2_serialize.specs.Decoded.{stored_block, stored_range}
 use Rattle.regalloc2_serialize.proofs.Lists.{all-under}
@@ -21,7 +21,7 @@ pub record HasBlock {A : Type 0} (s : StoredFunction A) (b : ℕ) : Type 0 where
   pub arguments : b < length s.block_params_out.items
 
 -- in a valid stored function each block has its item in the lists of successors, predecessors, parameters and arguments
-pub has-block : {A : Type 0} (s : StoredFunction A) (b : ℕ) → IsSound s → b < length s.blocks.items → HasBlock s b
+pub has-block : {A : Type 0} (s : StoredFunction A) (b : ℕ) → IsSoundStored s → b < length s.blocks.items → HasBlock s b
 has-block s b sound less = record {
   succs = rw long.succs less;
   preds = rw long.preds less;
@@ -37,7 +37,7 @@ has-block s b sound less = record {
     long = sound.lengths.blocks
 
 -- a valid stored function's ranges end among the instructions
-pub ends-within : {A X : Type 0} (s : StoredFunction A) (view : X → BlockValue) (xs : List X) → IsSound s →
+pub ends-within : {A X : Type 0} (s : StoredFunction A) (view : X → BlockValue) (xs : List X) → IsSoundStored s →
     map view xs ≡ map (stored_block s) (range_with_len 0 (length s.blocks.items)) → All (λ x. (view x).range.end ≤ length s.insts.items) xs
 ends-within s view xs sound same = all-under (λ b. b.range.end ≤ length s.insts.items) view (stored_block s) xs (range_with_len 0 count) same at
   where

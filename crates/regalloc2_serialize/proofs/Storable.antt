@@ -8,8 +8,9 @@ use Rattle.regalloc2_index.specs.Range.{Span}
 use Rattle.regalloc2_names.specs.RegisterBits.{vreg_of_bits}
 use Rattle.regalloc2_function.specs.FunctionValue.{IsSlotSize, label_of}
 use Rattle.regalloc2_serialize.specs.Decoded.{stored_range, stored_label}
-use Rattle.regalloc2_serialize.specs.Tables.{block_of, function_of}
-use Rattle.regalloc2_serialize.specs.Validity.{HasThreeClasses, HasAllOfEachBlock, HasLengths, IsWithin, NamesAll, KeepsLimits, NamesItsBlocks, IsSound}
+use Rattle.regalloc2_serialize.specs.Tables.{block_of_serializable, function_of_serializable}
+use Rattle.regalloc2_serialize.specs.Validity.{HasThreeClasses, HasAllOfEachBlock, HasLengths, AreNumbersWithin, NamesAll, KeepsLimits, NamesItsBlocks}
+use Rattle.regalloc2_serialize.specs.Validity.{IsSoundStored}
 use Rattle.regalloc2_serialize.specs.declared.data.StoredFunction.{StoredFunction}
 use Rattle.regalloc2_serialize.specs.declared.tables.BlockTable.{BlockTable}
 use Rattle.regalloc2_serialize.specs.declared.tables.SerializableFunction.{SerializableFunction}
@@ -18,11 +19,11 @@ use Rattle.regalloc2_serialize.proofs.Lists.{all-under}
 
 -- the five lists by block are those of blocks
 pub record AreListsOf {A B : Type 0} (s : StoredFunction A) (bs : List (BlockTable B)) : Type 0 where
-  pub ranges : map stored_range s.blocks.items ≡ map (λ b. (block_of b).range) bs
-  pub succs : map (λ l. l.items) s.block_succs.items ≡ map (λ b. (block_of b).succs) bs
-  pub preds : map (λ l. l.items) s.block_preds.items ≡ map (λ b. (block_of b).preds) bs
-  pub params : map (λ l. map vreg_of_bits l.items) s.block_params_in.items ≡ map (λ b. (block_of b).params) bs
-  pub arguments : map (λ l. map (λ k. map vreg_of_bits k.items) l.items) s.block_params_out.items ≡ map (λ b. (block_of b).arguments) bs
+  pub ranges : map stored_range s.blocks.items ≡ map (λ b. (block_of_serializable b).range) bs
+  pub succs : map (λ l. l.items) s.block_succs.items ≡ map (λ b. (block_of_serializable b).succs) bs
+  pub preds : map (λ l. l.items) s.block_preds.items ≡ map (λ b. (block_of_serializable b).preds) bs
+  pub params : map (λ l. map vreg_of_bits l.items) s.block_params_in.items ≡ map (λ b. (block_of_serializable b).params) bs
+  pub arguments : map (λ l. map (λ k. map vreg_of_bits k.items) l.items) s.block_params_out.items ≡ map (λ b. (block_of_serializable b).arguments) bs
 
 -- what the tests of stored functions read are the parts of a function
 pub record ArePartsOf {A B : Type 0} (s : StoredFunction A) (f : SerializableFunction B) : Type 0 where
@@ -48,30 +49,30 @@ map-alike f h [] all = refl
 map-alike f h (x ∷ xs) all =
     rw (All-head (λ x. f x ≡ h x) x xs all, map-alike f h xs (All-tail (λ x. f x ≡ h x) x xs all)) refl
 
-arguments-counted : {B : Type 0} (bs : List (BlockTable B)) → All (λ b. length (block_of b).arguments ≡ length (block_of b).succs) bs
+arguments-counted : {B : Type 0} (bs : List (BlockTable B)) → All (λ b. length (block_of_serializable b).arguments ≡ length (block_of_serializable b).succs) bs
 arguments-counted bs k d less = counted (get_or bs k d)
   where
-    counted : {B : Type 0} (b : BlockTable B) → length (block_of b).arguments ≡ length (block_of b).succs
+    counted : {B : Type 0} (b : BlockTable B) → length (block_of_serializable b).arguments ≡ length (block_of_serializable b).succs
     counted b = omega (arith, length-map b.arguments.items (λ v. v.items), b.arguments_counted, b.arguments.ok.0, b.succs.ok.0)
 
 all-of-each : {A B : Type 0} (s : StoredFunction A) (bs : List (BlockTable B)) → AreListsOf s bs → HasAllOfEachBlock s
 all-of-each s bs h =
-    let count : length s.blocks.items ≡ length bs = as-long stored_range (λ b. (block_of b).range) s.blocks.items bs h.ranges in
+    let count : length s.blocks.items ≡ length bs = as-long stored_range (λ b. (block_of_serializable b).range) s.blocks.items bs h.ranges in
     record {
-      preds = as-long (λ l. l.items) (λ b. (block_of b).preds) s.block_preds.items bs h.preds ∙ sym count;
-      succs = as-long (λ l. l.items) (λ b. (block_of b).succs) s.block_succs.items bs h.succs ∙ sym count;
-      params = as-long (λ l. map vreg_of_bits l.items) (λ b. (block_of b).params) s.block_params_in.items bs h.params ∙ sym count;
-      arguments = counted-alike (λ l. map (λ k. map vreg_of_bits k.items) l.items) (λ l. length l.items) (λ b. (block_of b).arguments)
+      preds = as-long (λ l. l.items) (λ b. (block_of_serializable b).preds) s.block_preds.items bs h.preds ∙ sym count;
+      succs = as-long (λ l. l.items) (λ b. (block_of_serializable b).succs) s.block_succs.items bs h.succs ∙ sym count;
+      params = as-long (λ l. map vreg_of_bits l.items) (λ b. (block_of_serializable b).params) s.block_params_in.items bs h.params ∙ sym count;
+      arguments = counted-alike (λ l. map (λ k. map vreg_of_bits k.items) l.items) (λ l. length l.items) (λ b. (block_of_serializable b).arguments)
           s.block_params_out.items bs (λ l. sym (length-map l.items (λ k. map vreg_of_bits k.items))) h.arguments
-          ∙ map-alike (λ b. length (block_of b).arguments) (λ b. length (block_of b).succs) bs (arguments-counted bs)
-          ∙ sym (counted-alike (λ l. l.items) (λ l. length l.items) (λ b. (block_of b).succs) s.block_succs.items bs (λ l. refl) h.succs);
+          ∙ map-alike (λ b. length (block_of_serializable b).arguments) (λ b. length (block_of_serializable b).succs) bs (arguments-counted bs)
+          ∙ sym (counted-alike (λ l. l.items) (λ l. length l.items) (λ b. (block_of_serializable b).succs) s.block_succs.items bs (λ l. refl) h.succs);
     }
 
 passes-lengths : {A B : Type 0} (s : StoredFunction A) (f : SerializableFunction B) → ArePartsOf s f → HasLengths s
 passes-lengths s f h = record { blocks = all-of-each s f.blocks.items h.lists; machine = h.classes; slot_sizes = h.sizes }
 
 block-count : {A B : Type 0} (s : StoredFunction A) (f : SerializableFunction B) → ArePartsOf s f → length s.blocks.items ≡ length f.blocks.items
-block-count s f h = as-long stored_range (λ b. (block_of b).range) s.blocks.items f.blocks.items h.lists.ranges
+block-count s f h = as-long stored_range (λ b. (block_of_serializable b).range) s.blocks.items f.blocks.items h.lists.ranges
 
 keeps-limits : {A B : Type 0} (s : StoredFunction A) (f : SerializableFunction B) → ArePartsOf s f → KeepsLimits s
 keeps-limits s f h = record {
@@ -98,41 +99,44 @@ all-back : {X Y Z V : Type 0} (P : Y → Type 0) (f : X → Y) (view : Z → V) 
 all-back P f view part xs zs same all =
     all-under P f (λ z. part (view z)) xs zs same (all-from-map (λ v. P (part v)) view zs all)
 
-is-within : {A B : Type 0} (s : StoredFunction A) (f : SerializableFunction B) → ArePartsOf s f → NamesItsBlocks (function_of f) → IsWithin s
+is-within : {A B : Type 0} (s : StoredFunction A) (f : SerializableFunction B) → ArePartsOf s f → NamesItsBlocks (function_of_serializable f) →
+    AreNumbersWithin s
 is-within s f h own =
     let bs = f.blocks.items in
-    let n : ℕ = length (function_of f).blocks in
-    let count : n ≡ length s.blocks.items = length-map bs block_of ∙ sym (block-count s f h) in
+    let n : ℕ = length (function_of_serializable f).blocks in
+    let count : n ≡ length s.blocks.items = length-map bs block_of_serializable ∙ sym (block-count s f h) in
     let insts : length f.insts.items ≡ length s.insts.items = sym h.insts in
     let risen : All (λ b. (b.first ≤ b.end) × (b.end ≤ length s.insts.items)) bs = λ k d less.
     ((get_or bs k d).rises, omega (arith, f.ends_within k d less, f.insts.ok.0, insts)) in
     record {
       entry = omega (arith, h.entry, own.entry, count);
       preds = subst (λ m. All (λ l. All (λ x. x < m) l.items) s.block_preds.items) count
-          (all-back (λ xs. All (λ x. x < n) xs) (λ l. l.items) block_of (λ b. b.preds) s.block_preds.items bs h.lists.preds own.preds);
+          (all-back (λ xs. All (λ x. x < n) xs) (λ l. l.items) block_of_serializable (λ b. b.preds) s.block_preds.items bs h.lists.preds own.preds);
       succs = subst (λ m. All (λ l. All (λ x. x < m) l.items) s.block_succs.items) count
-          (all-back (λ xs. All (λ x. x < n) xs) (λ l. l.items) block_of (λ b. b.succs) s.block_succs.items bs h.lists.succs own.succs);
-      ranges = all-under (λ (r : Span). (r.first ≤ r.end) × (r.end ≤ length s.insts.items)) stored_range (λ b. (block_of b).range) s.blocks.items bs
+          (all-back (λ xs. All (λ x. x < n) xs) (λ l. l.items) block_of_serializable (λ b. b.succs) s.block_succs.items bs h.lists.succs own.succs);
+      ranges = all-under (λ (r : Span). (r.first ≤ r.end) × (r.end ≤ length s.insts.items)) stored_range (λ b. (block_of_serializable b).range)
+          s.blocks.items bs
           h.lists.ranges risen;
       labels = subst (λ m. All (λ l. l.0 / 4 < m) s.debug_value_labels.items) (sym h.num_vregs)
           (all-under (λ l. l.vreg.number < f.num_vregs) stored_label label_of s.debug_value_labels.items f.labels.items h.labels f.labels_below);
     }
 
-names-its-blocks : {A B : Type 0} (s : StoredFunction A) (f : SerializableFunction B) → ArePartsOf s f → IsWithin s → NamesItsBlocks (function_of f)
+names-its-blocks : {A B : Type 0} (s : StoredFunction A) (f : SerializableFunction B) → ArePartsOf s f → AreNumbersWithin s →
+    NamesItsBlocks (function_of_serializable f)
 names-its-blocks s f h within =
     let bs = f.blocks.items in
     let n : ℕ = length s.blocks.items in
-    let count : n ≡ length (function_of f).blocks = block-count s f h ∙ sym (length-map bs block_of) in
+    let count : n ≡ length (function_of_serializable f).blocks = block-count s f h ∙ sym (length-map bs block_of_serializable) in
     record {
       entry = omega (arith, h.entry, within.entry, count);
-      preds = subst (λ m. All (λ b. All (λ x. x < m) b.preds) (map block_of bs)) count
-          (all-forth (λ xs. All (λ x. x < n) xs) (λ l. l.items) block_of (λ b. b.preds) s.block_preds.items bs h.lists.preds within.preds);
-      succs = subst (λ m. All (λ b. All (λ x. x < m) b.succs) (map block_of bs)) count
-          (all-forth (λ xs. All (λ x. x < n) xs) (λ l. l.items) block_of (λ b. b.succs) s.block_succs.items bs h.lists.succs within.succs);
+      preds = subst (λ m. All (λ b. All (λ x. x < m) b.preds) (map block_of_serializable bs)) count
+          (all-forth (λ xs. All (λ x. x < n) xs) (λ l. l.items) block_of_serializable (λ b. b.preds) s.block_preds.items bs h.lists.preds within.preds);
+      succs = subst (λ m. All (λ b. All (λ x. x < m) b.succs) (map block_of_serializable bs)) count
+          (all-forth (λ xs. All (λ x. x < n) xs) (λ l. l.items) block_of_serializable (λ b. b.succs) s.block_succs.items bs h.lists.succs within.succs);
     }
 
 -- a function's numbers pass all tests exactly if its blocks name blocks
-pub sound : {A B : Type 0} (s : StoredFunction A) (f : SerializableFunction B) → ArePartsOf s f → IsSound s ↔ NamesItsBlocks (function_of f)
+pub sound : {A B : Type 0} (s : StoredFunction A) (f : SerializableFunction B) → ArePartsOf s f → IsSoundStored s ↔ NamesItsBlocks (function_of_serializable f)
 sound s f h = (
   λ is. names-its-blocks s f h is.within,
   λ own. record { lengths = passes-lengths s f h; within = is-within s f h own; names = h.names; limits = keeps-limits s f h },

@@ -59,7 +59,7 @@ machine d =
     (member (codes "non_preferred_regs_by_class") (list (list byte)) d)) (member (codes "preferred_regs_by_class") (list (list byte)) d)
 
 -- a value has each member of a function, of that member's shape
-pub record HasShape (d : Data) : Type 0 where
+pub record HasJsonShape (d : Data) : Type 0 where
   pub machine_env : IsSome (member (codes "machine_env") machine d)
   pub entry_block : IsSome (member (codes "entry_block") word d)
   pub insts : IsSome (member (codes "insts") (list inst) d)

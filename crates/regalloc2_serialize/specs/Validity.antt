@@ -32,7 +32,7 @@ abbrev pub IsRangeWithin : ℕ → (ℕ × ℕ) → Type 0
 IsRangeWithin count r = (r.0 ≤ r.1) × (r.1 ≤ count)
 
 -- blocks, instructions and labelled virtual registers are in range
-pub record IsWithin {A : Type 0} (s : StoredFunction A) : Type 0 where
+pub record AreNumbersWithin {A : Type 0} (s : StoredFunction A) : Type 0 where
   pub entry : s.entry_block < length s.blocks.items
   pub preds : All (λ l. All (λ b. b < length s.blocks.items) l.items) s.block_preds.items
   pub succs : All (λ l. All (λ b. b < length s.blocks.items) l.items) s.block_succs.items
@@ -71,9 +71,9 @@ pub record KeepsLimits {A : Type 0} (s : StoredFunction A) : Type 0 where
   pub slot_sizes : All IsSlotSize s.spillslot_size.items
 
 -- what stands for a function
-pub record IsSound {A : Type 0} (s : StoredFunction A) : Type 0 where
+pub record IsSoundStored {A : Type 0} (s : StoredFunction A) : Type 0 where
   pub lengths : HasLengths s
-  pub within : IsWithin s
+  pub within : AreNumbersWithin s
   pub names : NamesAll s
   pub limits : KeepsLimits s
 
@@ -86,8 +86,8 @@ pub record NamesItsBlocks (f : FunctionValue) : Type 0 where
 -- the fault that a stored function is refused by: the first of four, or out of memory where it has none
 abbrev pub IsFaultOf : {A : Type 0} → StoredFunction A → StoredFault → Type 0
 IsFaultOf s Lengths = HasLengths s → ⊥
-IsFaultOf s Index = HasLengths s × (IsWithin s → ⊥)
-IsFaultOf s Bits = HasLengths s × IsWithin s × (NamesAll s → ⊥)
-IsFaultOf s Limit = HasLengths s × IsWithin s × NamesAll s × (KeepsLimits s → ⊥)
-IsFaultOf s Memory = IsSound s
+IsFaultOf s Index = HasLengths s × (AreNumbersWithin s → ⊥)
+IsFaultOf s Bits = HasLengths s × AreNumbersWithin s × (NamesAll s → ⊥)
+IsFaultOf s Limit = HasLengths s × AreNumbersWithin s × NamesAll s × (KeepsLimits s → ⊥)
+IsFaultOf s Memory = IsSoundStored s
 IsFaultOf s Shape = ⊥

@@ -6,9 +6,9 @@ ghost use Rattle.std.specs.Option.{option_map};
 ghost use Rattle.regalloc2_names.specs.Packing.{IsRegisterIndex, IsVRegBits, IsOperandBits, register_of_bits, vreg_of_bits, operand_of_bits};
 ghost use Rattle.regalloc2_function.specs.FunctionValue.{IsSlotSize, label_of};
 ghost use Rattle.regalloc2_function.specs.Views.{machine_of};
-ghost use Rattle.regalloc2_serialize.specs.Validity.{NamesOperands, NamesRegisters, HasThreeClasses, IsSound, IsRangeWithin, IsFaultOf};
+ghost use Rattle.regalloc2_serialize.specs.Validity.{NamesOperands, NamesRegisters, HasThreeClasses, IsSoundStored, IsRangeWithin, IsFaultOf};
 ghost use Rattle.regalloc2_serialize.specs.Decoded.{HasIndexes, NamesInst, NamesMachine, NamesFunction, stored_block, stored_label, stored_sizes};
-ghost use Rattle.regalloc2_serialize.specs.Tables.{inst_of, block_of, sizes_of, function_of};
+ghost use Rattle.regalloc2_serialize.specs.Tables.{inst_of_serializable, block_of_serializable, sizes_of_serializable, function_of_serializable};
 
 use super::data::{StoredFunction, StoredInst, StoredMachine};
 use super::tables::{BlockTable, InstTable, SerializableFunction, SlotTable, SlotUnits};
@@ -125,7 +125,7 @@ fn inst_from<A: Allocator, B: Allocator>(
     stored: &StoredInst<B>,
 ) -> Result<InstTable<A>, AllocError>
     requires { NamesOperands stored.now }
-    ensures { IfOk result (λ inst. NamesInst stored.now (inst_of inst)) }
+    ensures { IfOk result (λ inst. NamesInst stored.now (inst_of_serializable inst)) }
 {
     Ok(InstTable {
         operands: operands_from(alloc, stored.operands.as_slice())?,
@@ -140,7 +140,7 @@ fn insts_from<A: Allocator + Copy, B: Allocator>(
     stored: &[StoredInst<B>],
 ) -> Result<Vec<InstTable<A>, A>, AllocError>
     requires { All (λ i. NamesOperands i) stored.now }
-    ensures insts { IfOk result (λ insts. AllZip (λ s i. NamesInst s i) stored.now (map inst_of insts.items)) }
+    ensures insts { IfOk result (λ insts. AllZip (λ s i. NamesInst s i) stored.now (map inst_of_serializable insts.items)) }
     ensures count { IfOk result (λ insts. length insts.items ≡ length stored.now) }
 {
     let mut insts = Vec::with_capacity(alloc, stored.len())?;
@@ -211,7 +211,7 @@ fn units_from(size: u64) -> SlotUnits
 fn sizes_from(sizes: &[u64]) -> SlotTable
     requires three { length sizes.now ≡ 3 }
     requires sizes { All IsSlotSize sizes.now }
-    ensures { sizes_of result ≡ stored_sizes sizes.now }
+    ensures { sizes_of_serializable result ≡ stored_sizes sizes.now }
 {
     SlotTable {
         int: units_from(sizes[0]),
@@ -226,9 +226,9 @@ fn block_from<A: Allocator + Copy, B: Allocator>(
     stored: &StoredFunction<B>,
     block: usize,
 ) -> Result<BlockTable<A>, AllocError>
-    requires sound { IsSound stored.now }
+    requires sound { IsSoundStored stored.now }
     requires block { block < length stored.now.blocks.items }
-    ensures { IfOk result (λ table. block_of table ≡ stored_block stored.now block) }
+    ensures { IfOk result (λ table. block_of_serializable table ≡ stored_block stored.now block) }
 {
     let (first, end) = stored.blocks[block];
     let succs = blocks_from(alloc, stored.block_succs[block].as_slice())?;
@@ -250,9 +250,9 @@ fn tables_from<A: Allocator + Copy, B: Allocator>(
     alloc: A,
     stored: &StoredFunction<B>,
 ) -> Result<Vec<BlockTable<A>, A>, AllocError>
-    requires { IsSound stored.now }
+    requires { IsSoundStored stored.now }
     ensures count { IfOk result (λ tables. length tables.items ≡ length stored.now.blocks.items) }
-    ensures blocks { IfOk result (λ tables. map block_of tables.items ≡ map (stored_block stored.now) (range_with_len 0 (length stored.now.blocks.items))) }
+    ensures blocks { IfOk result (λ tables. map block_of_serializable tables.items ≡ map (stored_block stored.now) (range_with_len 0 (length stored.now.blocks.items))) }
 {
     let mut tables = Vec::with_capacity(alloc, stored.blocks.len())?;
     for block in 0..stored.blocks.len() {
@@ -264,7 +264,7 @@ fn tables_from<A: Allocator + Copy, B: Allocator>(
 impl<A: Allocator> StoredFunction<A> {
     /// Tests what [`SerializableFunction::from_stored`] wants, in its order.
     fn test(&self) -> Result<(), StoredFault>
-        ensures ok { IfOk result (λ _. IsSound self.now) }
+        ensures ok { IfOk result (λ _. IsSoundStored self.now) }
         ensures refused { IfErr result (λ e. IsFaultOf self.now e) }
     {
         if !self.has_equal_lengths() {
@@ -288,8 +288,8 @@ fn function_from<A: Allocator + Copy, B: Allocator>(
     alloc: A,
     stored: &StoredFunction<B>,
 ) -> Result<SerializableFunction<A>, AllocError>
-    requires { IsSound stored.now }
-    ensures function { IfOk result (λ f. NamesFunction stored.now (function_of f)) }
+    requires { IsSoundStored stored.now }
+    ensures function { IfOk result (λ f. NamesFunction stored.now (function_of_serializable f)) }
     ensures machine { IfOk result (λ f. NamesMachine stored.now.machine_env (machine_of f.machine)) }
 {
     let machine = machine_from(alloc, &stored.machine_env)?;
@@ -318,9 +318,9 @@ impl<A: Allocator + Copy> SerializableFunction<A> {
         alloc: A,
         stored: &StoredFunction<B>,
     ) -> Result<SerializableFunction<A>, StoredFault>
-        ensures function { IfOk result (λ f. NamesFunction stored.now (function_of f)) }
+        ensures function { IfOk result (λ f. NamesFunction stored.now (function_of_serializable f)) }
         ensures machine { IfOk result (λ f. NamesMachine stored.now.machine_env (machine_of f.machine)) }
-        ensures sound { IfOk result (λ f. IsSound stored.now) }
+        ensures sound { IfOk result (λ f. IsSoundStored stored.now) }
         ensures refused { IfErr result (λ e. IsFaultOf stored.now e) }
     {
         stored.test()?;

@@ -8,8 +8,8 @@ ghost use Rattle.regalloc2_function.specs.FunctionValue.{FunctionValue, IsSlotSi
 ghost use Rattle.regalloc2_function.specs.Machine.{MachineValue};
 ghost use Rattle.regalloc2_function.specs.Views.{machine_of};
 ghost use Rattle.regalloc2_serialize.specs.Decoded.{HasIndexes, NamesInst, NamesMachine, NamesFunction, stored_range, stored_label, stored_sizes};
-ghost use Rattle.regalloc2_serialize.specs.Tables.{inst_of, block_of, sizes_of, function_of};
-ghost use Rattle.regalloc2_serialize.specs.Validity.{NamesOperands, NamesRegisters, HasThreeClasses, HasLengths, NamesAll, KeepsLimits, NamesItsBlocks, IsSound};
+ghost use Rattle.regalloc2_serialize.specs.Tables.{inst_of_serializable, block_of_serializable, sizes_of_serializable, function_of_serializable};
+ghost use Rattle.regalloc2_serialize.specs.Validity.{NamesOperands, NamesRegisters, HasThreeClasses, HasLengths, NamesAll, KeepsLimits, NamesItsBlocks, IsSoundStored};
 
 use super::data::{StoredFunction, StoredInst, StoredMachine};
 use super::tables::{BlockTable, InstTable, SerializableFunction, SlotTable};
@@ -159,7 +159,7 @@ fn numbers_of_labels<A: Allocator>(
 
 /// The sizes of slots.
 fn numbers_of_sizes<A: Allocator>(alloc: A, sizes: &SlotTable) -> Result<Vec<u64, A>, AllocError>
-    ensures sizes { IfOk result (λ numbers. stored_sizes numbers.items ≡ sizes_of sizes.now) }
+    ensures sizes { IfOk result (λ numbers. stored_sizes numbers.items ≡ sizes_of_serializable sizes.now) }
     ensures three { IfOk result (λ numbers. length numbers.items ≡ 3) }
     ensures limits { IfOk result (λ numbers. All IsSlotSize numbers.items) }
 {
@@ -196,7 +196,7 @@ fn numbers_of_inst<A: Allocator, B: Allocator + Copy>(
     alloc: B,
     inst: &InstTable<A>,
 ) -> Result<StoredInst<B>, AllocError>
-    ensures inst { IfOk result (λ numbers. NamesInst numbers (inst_of inst.now)) }
+    ensures inst { IfOk result (λ numbers. NamesInst numbers (inst_of_serializable inst.now)) }
     ensures names { IfOk result (λ numbers. NamesOperands numbers) }
 {
     Ok(StoredInst {
@@ -211,7 +211,7 @@ fn numbers_of_insts<A: Allocator, B: Allocator + Copy>(
     alloc: B,
     insts: &[InstTable<A>],
 ) -> Result<Vec<StoredInst<B>, B>, AllocError>
-    ensures insts { IfOk result (λ numbers. AllZip (λ x i. NamesInst x i) numbers.items (map inst_of insts.now)) }
+    ensures insts { IfOk result (λ numbers. AllZip (λ x i. NamesInst x i) numbers.items (map inst_of_serializable insts.now)) }
     ensures names { IfOk result (λ numbers. All (λ x. NamesOperands x) numbers.items) }
 {
     let mut numbers = Vec::with_capacity(alloc, insts.len())?;
@@ -226,7 +226,7 @@ fn ranges_of<A: Allocator, B: Allocator>(
     alloc: B,
     blocks: &[BlockTable<A>],
 ) -> Result<Vec<(u32, u32), B>, AllocError>
-    ensures { IfOk result (λ ranges. map stored_range ranges.items ≡ map (λ b. (block_of b).range) blocks.now) }
+    ensures { IfOk result (λ ranges. map stored_range ranges.items ≡ map (λ b. (block_of_serializable b).range) blocks.now) }
 {
     let mut ranges = Vec::with_capacity(alloc, blocks.len())?;
     for block in blocks {
@@ -240,7 +240,7 @@ fn succs_of<A: Allocator, B: Allocator + Copy>(
     alloc: B,
     blocks: &[BlockTable<A>],
 ) -> Result<Vec<Vec<u32, B>, B>, AllocError>
-    ensures { IfOk result (λ succs. map (λ l. l.items) succs.items ≡ map (λ b. (block_of b).succs) blocks.now) }
+    ensures { IfOk result (λ succs. map (λ l. l.items) succs.items ≡ map (λ b. (block_of_serializable b).succs) blocks.now) }
 {
     let mut succs = Vec::with_capacity(alloc, blocks.len())?;
     for block in blocks {
@@ -254,7 +254,7 @@ fn preds_of<A: Allocator, B: Allocator + Copy>(
     alloc: B,
     blocks: &[BlockTable<A>],
 ) -> Result<Vec<Vec<u32, B>, B>, AllocError>
-    ensures { IfOk result (λ preds. map (λ l. l.items) preds.items ≡ map (λ b. (block_of b).preds) blocks.now) }
+    ensures { IfOk result (λ preds. map (λ l. l.items) preds.items ≡ map (λ b. (block_of_serializable b).preds) blocks.now) }
 {
     let mut preds = Vec::with_capacity(alloc, blocks.len())?;
     for block in blocks {
@@ -268,7 +268,7 @@ fn params_of<A: Allocator, B: Allocator + Copy>(
     alloc: B,
     blocks: &[BlockTable<A>],
 ) -> Result<Vec<Vec<u32, B>, B>, AllocError>
-    ensures params { IfOk result (λ params. map (λ l. map vreg_of_bits l.items) params.items ≡ map (λ b. (block_of b).params) blocks.now) }
+    ensures params { IfOk result (λ params. map (λ l. map vreg_of_bits l.items) params.items ≡ map (λ b. (block_of_serializable b).params) blocks.now) }
     ensures names { IfOk result (λ params. All (λ l. All IsVRegBits l.items) params.items) }
 {
     let mut params = Vec::with_capacity(alloc, blocks.len())?;
@@ -283,7 +283,7 @@ fn arguments_of<A: Allocator, B: Allocator + Copy>(
     alloc: B,
     blocks: &[BlockTable<A>],
 ) -> Result<Vec<Vec<Vec<u32, B>, B>, B>, AllocError>
-    ensures arguments { IfOk result (λ arguments. map (λ l. map (λ k. map vreg_of_bits k.items) l.items) arguments.items ≡ map (λ b. (block_of b).arguments) blocks.now) }
+    ensures arguments { IfOk result (λ arguments. map (λ l. map (λ k. map vreg_of_bits k.items) l.items) arguments.items ≡ map (λ b. (block_of_serializable b).arguments) blocks.now) }
     ensures names { IfOk result (λ arguments. All (λ l. All (λ k. All IsVRegBits k.items) l.items) arguments.items) }
 {
     let mut arguments = Vec::with_capacity(alloc, blocks.len())?;
@@ -304,11 +304,11 @@ impl<A: Allocator + Copy> SerializableFunction<A> {
     ///
     /// `Memory` if memory runs out, and nothing else.
     pub fn stored(&self) -> Result<StoredFunction<A>, RegAllocError>
-        ensures function { IfOk result (λ s. NamesFunction s (function_of self.now)) }
+        ensures function { IfOk result (λ s. NamesFunction s (function_of_serializable self.now)) }
         ensures machine { IfOk result (λ s. NamesMachine s.machine_env (machine_of self.now.machine)) }
-        ensures only_function { IfOk result (λ s. (f : FunctionValue) → NamesFunction s f → f ≡ function_of self.now) }
+        ensures only_function { IfOk result (λ s. (f : FunctionValue) → NamesFunction s f → f ≡ function_of_serializable self.now) }
         ensures only_machine { IfOk result (λ s. (env : MachineValue) → NamesMachine s.machine_env env → env ≡ machine_of self.now.machine) }
-        ensures sound { IfOk result (λ s. IsSound s ↔ NamesItsBlocks (function_of self.now)) }
+        ensures sound { IfOk result (λ s. IsSoundStored s ↔ NamesItsBlocks (function_of_serializable self.now)) }
         ensures passes { IfOk result (λ s. HasLengths s × NamesAll s × KeepsLimits s) }
         ensures memory { IfErr result (λ e. e ≡ RegAllocError.Memory) }
     {

@@ -5,7 +5,7 @@ ghost use Rattle.std.specs.Int.{is_power_of_two};
 ghost use Rattle.regalloc2_function.specs.FunctionValue.{block_at, inst_at, slot_size};
 ghost use Rattle.regalloc2_function.specs.Views.{machine_of};
 ghost use Rattle.regalloc2_serialize.specs.CopyOfFunction.{shown_block, shown_inst, shown_function, HasNonemptyBlocks, IsKeptWhole};
-ghost use Rattle.regalloc2_serialize.specs.Tables.{inst_of, block_of, function_of};
+ghost use Rattle.regalloc2_serialize.specs.Tables.{inst_of_serializable, block_of_serializable, function_of_serializable};
 
 use super::data::InstOpcode;
 use super::tables::{BlockTable, InstTable, SerializableFunction, SlotTable, SlotUnits};
@@ -42,7 +42,7 @@ fn copied_block<F: Function, A: Allocator + Copy>(
     requires block { block < length (F.function f.now).blocks }
     requires nonempty { (block_at (F.function f.now) block).range.first < (block_at (F.function f.now) block).range.end }
     requires within { (block_at (F.function f.now) block).range.end ≤ length (F.function f.now).insts }
-    ensures { IfOk result (λ table. block_of table ≡ shown_block (block_at (F.function f.now) block)) }
+    ensures { IfOk result (λ table. block_of_serializable table ≡ shown_block (block_at (F.function f.now) block)) }
 {
     let range = f.block_insns(block);
     let end = Inst::new(range.last().index() + 1);
@@ -62,7 +62,7 @@ fn copied_blocks<F: Function, A: Allocator + Copy>(
     f: &F,
 ) -> Result<Vec<BlockTable<A>, A>, AllocError>
     requires { HasNonemptyBlocks (F.function f.now) }
-    ensures blocks { IfOk result (λ tables. map block_of tables.items ≡ map shown_block (F.function f.now).blocks) }
+    ensures blocks { IfOk result (λ tables. map block_of_serializable tables.items ≡ map shown_block (F.function f.now).blocks) }
     ensures count { IfOk result (λ tables. length tables.items ≡ length (F.function f.now).blocks) }
 {
     let mut tables = Vec::with_capacity(alloc, f.num_blocks())?;
@@ -79,7 +79,7 @@ fn copied_inst<F: Function, A: Allocator + Copy>(
     inst: Inst,
 ) -> Result<InstTable<A>, AllocError>
     requires { inst < length (F.function f.now).insts }
-    ensures { IfOk result (λ table. inst_of table ≡ shown_inst (inst_at (F.function f.now) inst)) }
+    ensures { IfOk result (λ table. inst_of_serializable table ≡ shown_inst (inst_at (F.function f.now) inst)) }
 {
     let op = if f.is_ret(inst) {
         InstOpcode::Ret
@@ -100,7 +100,7 @@ fn copied_insts<F: Function, A: Allocator + Copy>(
     alloc: A,
     f: &F,
 ) -> Result<Vec<InstTable<A>, A>, AllocError>
-    ensures insts { IfOk result (λ tables. map inst_of tables.items ≡ map shown_inst (F.function f.now).insts) }
+    ensures insts { IfOk result (λ tables. map inst_of_serializable tables.items ≡ map shown_inst (F.function f.now).insts) }
     ensures count { IfOk result (λ tables. length tables.items ≡ length (F.function f.now).insts) }
 {
     let mut tables = Vec::with_capacity(alloc, f.num_insts())?;
@@ -131,8 +131,8 @@ impl<A: Allocator + Copy> SerializableFunction<A> {
         env: MachineEnv<A>,
     ) -> Result<SerializableFunction<A>, RegAllocError>
         requires { HasNonemptyBlocks (F.function f.now) }
-        ensures function { IfOk result (λ s. function_of s ≡ shown_function (F.function f.now)) }
-        ensures whole { IsKeptWhole (F.function f.now) → IfOk result (λ s. function_of s ≡ F.function f.now) }
+        ensures function { IfOk result (λ s. function_of_serializable s ≡ shown_function (F.function f.now)) }
+        ensures whole { IsKeptWhole (F.function f.now) → IfOk result (λ s. function_of_serializable s ≡ F.function f.now) }
         ensures machine { IfOk result (λ s. machine_of s.machine ≡ machine_of env) }
         ensures memory { IfErr result (λ e. e ≡ RegAllocError.Memory) }
     {

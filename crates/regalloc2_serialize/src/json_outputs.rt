@@ -2,7 +2,7 @@
 
 ghost use Rattle.std.specs.Prelude.{◌≡◌, ◌⊎◌, IfOk, IfErr};
 ghost use Rattle.serde_json.specs.View.{view};
-ghost use Rattle.regalloc2_serialize.specs.JsonShape.{HasShape, IsFunctionAt};
+ghost use Rattle.regalloc2_serialize.specs.JsonShape.{HasJsonShape, IsFunctionAt};
 
 use super::data::{InstOpcode, StoredFunction, StoredInst, StoredMachine};
 use super::from_json::{FromValue, member_from};
@@ -112,7 +112,7 @@ impl<A: Allocator + Copy> StoredFunction<A> {
     /// [`SerializableFunction::from_stored`]: super::SerializableFunction::from_stored
     pub fn from_value(alloc: A, value: &Value) -> Result<StoredFunction<A>, StoredFault>
         ensures fields { IfOk result (λ s. IsFunctionAt (view value.now) s) }
-        ensures shape { IfErr result (λ e. e ≡ StoredFault.Shape → HasShape (view value.now) → ⊥) }
+        ensures shape { IfErr result (λ e. e ≡ StoredFault.Shape → HasJsonShape (view value.now) → ⊥) }
         ensures faults { IfErr result (λ e. (e ≡ StoredFault.Shape) ⊎ (e ≡ StoredFault.Memory)) }
     {
         // Numbers come first and the machine last: each refusal drops what was read before it.

@@ -82,10 +82,10 @@ pub struct SerializableFunction<A: Allocator = Global> {
 }
 
 impl<A: Allocator> Function for SerializableFunction<A> {
-    ghost use Rattle.regalloc2_serialize.specs.Tables.{function_of};
+    ghost use Rattle.regalloc2_serialize.specs.Tables.{function_of_serializable};
     ghost use Rattle.regalloc2_serialize.specs.TableLimits.{limited_tables};
 
-    ghost function = { function_of };
+    ghost function = { function_of_serializable };
 
     fn num_insts(&self) -> usize {
         self.insts.len()

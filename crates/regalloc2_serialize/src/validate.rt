@@ -3,7 +3,7 @@
 ghost use Rattle.std.specs.Prelude.{◌≡◌, ℕ, ◌↔◌, ◌<◌, ◌≤◌, ◌/◌, IsTrue, All, IfSome, length, map};
 ghost use Rattle.regalloc2_names.specs.Packing.{IsRegisterIndex, IsVRegBits, IsOperandBits};
 ghost use Rattle.regalloc2_function.specs.FunctionValue.{IsSlotSize};
-ghost use Rattle.regalloc2_serialize.specs.Validity.{HasThreeClasses, HasAllOfEachBlock, HasLengths, IsRangeWithin, IsWithin, NamesOperands};
+ghost use Rattle.regalloc2_serialize.specs.Validity.{HasThreeClasses, HasAllOfEachBlock, HasLengths, IsRangeWithin, AreNumbersWithin, NamesOperands};
 ghost use Rattle.regalloc2_serialize.specs.Validity.{NamesRegisters, NamesVRegs, NamesAll, KeepsLimits};
 
 use super::data::{StoredFunction, StoredInst, StoredMachine};
@@ -57,7 +57,7 @@ impl<A: Allocator> StoredFunction<A> {
 
     /// Whether blocks, instructions and labelled virtual registers are in range.
     pub(crate) fn is_within(&self) -> bool
-        ensures { IsTrue result ↔ IsWithin self.now }
+        ensures { IsTrue result ↔ AreNumbersWithin self.now }
     {
         let count = self.blocks.len();
         (self.entry_block as usize) < count

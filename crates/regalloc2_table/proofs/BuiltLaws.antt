@@ -9,18 +9,18 @@ use Rattle.regalloc2_table.specs.declared.table.TableBlock.{TableBlock}
 use Rattle.regalloc2_table.specs.declared.builder.BlockDraft.{BlockDraft}
 use Rattle.regalloc2_table.specs.declared.builder.BuildError.{BuildError}
 use Rattle.regalloc2_table.specs.declared.builder.BuildError.TheVariants.{Memory, NoBlock, TooManyBlocks, TooManyInsts, TooManyVRegs}
-use Rattle.regalloc2_table.specs.Table.{inst_of, block_of}
+use Rattle.regalloc2_table.specs.Table.{inst_of_table, block_of_table}
 use Rattle.regalloc2_table.specs.Draft.{DraftValue, declared_with, draft_of, draft_at}
-use Rattle.regalloc2_table.specs.Built.{placed, blocks_from, insts_of, without_preds, preds_from, IsAstray, IsUnbuilt}
+use Rattle.regalloc2_table.specs.Built.{placed_block, blocks_from, insts_of, without_preds, preds_from, IsAstray, IsUnbuilt}
 use Rattle.regalloc2_table.specs.Steps.{preds_at, succs_at, IsUnplaced, AreUnlinked}
 
 -- laying out one more block puts it last, at the instruction at which the others end
 pub blocks_from-push : (s : ℕ) (ds : List DraftValue) (d : DraftValue) → blocks_from s (ds ++ d ∷ []) ≡ blocks_from s ds
-    ++ placed (s + length (insts_of ds)) d ∷ []
+    ++ placed_block (s + length (insts_of ds)) d ∷ []
 blocks_from-push s [] d = let e : s + 0 ≡ s = omega arith in rw e refl
 blocks_from-push s (x ∷ ds) d =
     let e : s + length (insts_of (x ∷ ds)) ≡ s + length x.insts + length (insts_of ds) = rw length-append (omega arith) in
-    rw e (ap (λ (bs : List BlockValue). placed s x ∷ bs) (blocks_from-push (s + length x.insts) ds d))
+    rw e (ap (λ (bs : List BlockValue). placed_block s x ∷ bs) (blocks_from-push (s + length x.insts) ds d))
 
 -- the instructions of the drafts with one more are theirs, followed by those of that one
 pub insts_of-push : (ds : List DraftValue) (d : DraftValue) → insts_of (ds ++ d ∷ []) ≡ insts_of ds ++ d.insts
@@ -34,7 +34,7 @@ length-blocks_from s (d ∷ ds) = ap suc (length-blocks_from (s + length d.insts
 -- blocks that are laid out have no predecessors, so taking these away changes nothing
 pub bare-blocks_from : (s : ℕ) (ds : List DraftValue) → map without_preds (blocks_from s ds) ≡ blocks_from s ds
 bare-blocks_from s [] = refl
-bare-blocks_from s (d ∷ ds) = ap (λ (bs : List BlockValue). placed s d ∷ bs) (bare-blocks_from (s + length d.insts) ds)
+bare-blocks_from s (d ∷ ds) = ap (λ (bs : List BlockValue). placed_block s d ∷ bs) (bare-blocks_from (s + length d.insts) ds)
 
 -- blocks that are laid out have the successors of their drafts, list for list
 pub succs-blocks_from : (s : ℕ) (ds : List DraftValue) → map (λ b. b.succs) (blocks_from s ds) ≡ map (λ d. d.succs) ds
@@ -72,21 +72,21 @@ insts_within {A = A} ys zs all d e =
 
 -- laying out the next block behind those of the first drafts gives the blocks of the drafts with that one
 pub blocks_more : {A B : Type 0} (bs cs : List BlockValue) (is : List (TableInst A)) (ys : List (BlockDraft B)) (d : BlockDraft B) →
-    map inst_of is ≡ insts_of (map draft_of ys) → bs ≡ blocks_from 0 (map draft_of ys) →
-    cs ≡ bs ++ placed (length is) (draft_of d) ∷ [] → cs ≡ blocks_from 0 (map draft_of (ys ++ d ∷ []))
+    map inst_of_table is ≡ insts_of (map draft_of ys) → bs ≡ blocks_from 0 (map draft_of ys) →
+    cs ≡ bs ++ placed_block (length is) (draft_of d) ∷ [] → cs ≡ blocks_from 0 (map draft_of (ys ++ d ∷ []))
 blocks_more bs cs is ys d i b c =
-    let n : length is ≡ 0 + length (insts_of (map draft_of ys)) = omega (arith, sym (length-map is inst_of) ∙ ap length i) in
+    let n : length is ≡ 0 + length (insts_of (map draft_of ys)) = omega (arith, sym (length-map is inst_of_table) ∙ ap length i) in
     rw (c, b, n, map-append) (sym (blocks_from-push 0 (map draft_of ys) (draft_of d)))
 
 -- the instructions of the first drafts followed by those of the next are those of the drafts with that one
-pub insts_more : {A B : Type 0} (js is : List (TableInst A)) (ys : List (BlockDraft B)) (d : BlockDraft B) → map inst_of is ≡ insts_of (map draft_of ys) →
-    map inst_of js ≡ map inst_of is ++ (draft_of d).insts → map inst_of js ≡ insts_of (map draft_of (ys ++ d ∷ []))
+pub insts_more : {A B : Type 0} (js is : List (TableInst A)) (ys : List (BlockDraft B)) (d : BlockDraft B) → map inst_of_table is ≡ insts_of (map draft_of ys) →
+    map inst_of_table js ≡ map inst_of_table is ++ (draft_of d).insts → map inst_of_table js ≡ insts_of (map draft_of (ys ++ d ∷ []))
 insts_more js is ys d i j = rw (j, i, map-append) (sym (insts_of-push (map draft_of ys) (draft_of d)))
 
 -- a table whose blocks are those of the drafts has as many blocks as there are drafts
-pub count_from : {A B : Type 0} (bs : List (TableBlock A)) (ds : List (BlockDraft B)) → map block_of bs ≡ blocks_from 0 (map draft_of ds) →
+pub count_from : {A B : Type 0} (bs : List (TableBlock A)) (ds : List (BlockDraft B)) → map block_of_table bs ≡ blocks_from 0 (map draft_of ds) →
     length bs ≡ length ds
-count_from bs ds e = sym (length-map bs block_of) ∙ ap length e ∙ length-blocks_from 0 (map draft_of ds) ∙ length-map ds draft_of
+count_from bs ds e = sym (length-map bs block_of_table) ∙ ap length e ∙ length-blocks_from 0 (map draft_of ds) ∙ length-map ds draft_of
 
 -- a reason for which predecessors can't be added to the blocks of drafts is one for which the drafts make no function
 pub unbuilt_from_unlinked : (bs : List BlockValue) (ds : List DraftValue) (n : ℕ) (e : BuildError) → bs ≡ blocks_from 0 ds → AreUnlinked bs e → IsUnbuilt ds n e

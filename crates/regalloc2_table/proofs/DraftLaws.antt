@@ -7,7 +7,7 @@ use Rattle.regalloc2_names.specs.Register.{VirtualRegister}
 use Rattle.regalloc2_function.specs.FunctionValue.{InstValue}
 use Rattle.regalloc2_table.specs.declared.table.TableInst.{TableInst}
 use Rattle.regalloc2_table.specs.declared.builder.BlockDraft.{BlockDraft}
-use Rattle.regalloc2_table.specs.Table.{inst_of}
+use Rattle.regalloc2_table.specs.Table.{inst_of_table}
 use Rattle.regalloc2_table.specs.Draft.{DraftValue, draft_of, declared_with, with_inst, with_succ, IsChanged}
 
 -- replacing one draft by what a change makes of it changes the drafts there, and nowhere else
@@ -26,8 +26,8 @@ pub same_at : {A : Type 0} (xs : List (BlockDraft A)) (i : ℕ) (x y : BlockDraf
 same_at xs i x y is e = map-set_same draft_of xs i y x (e ∙ ap draft_of is)
 
 -- an instruction pushed on a draft's list is the draft with one more instruction
-pub more_insts : {A : Type 0} (d : DraftValue) (xs ys : List (TableInst A)) (x : TableInst A) → d.insts ≡ map inst_of xs → ys ≡ xs ++ x ∷ [] →
-    ◌≡◌ {A = DraftValue} (record d { insts = map inst_of ys }) (with_inst (inst_of x) d)
+pub more_insts : {A : Type 0} (d : DraftValue) (xs ys : List (TableInst A)) (x : TableInst A) → d.insts ≡ map inst_of_table xs → ys ≡ xs ++ x ∷ [] →
+    ◌≡◌ {A = DraftValue} (record d { insts = map inst_of_table ys }) (with_inst (inst_of_table x) d)
 more_insts d xs ys x i e = ap (λ (is : List InstValue). record d { insts = is }) (rw (e, map-append, ← i) refl)
 
 -- a successor and its arguments, pushed on a draft's two lists, are the draft with one more successor

@@ -11,7 +11,7 @@ use Rattle.regalloc2_function.specs.FunctionValue.{BlockValue, no_block}
 use Rattle.regalloc2_table.specs.declared.table.TableBlock.{TableBlock}
 use Rattle.regalloc2_table.specs.declared.builder.BuildError.{BuildError}
 use Rattle.regalloc2_table.specs.declared.builder.BuildError.TheVariants.{Memory, NoBlock, TooManyBlocks, TooManyInsts, TooManyVRegs}
-use Rattle.regalloc2_table.specs.Table.{block_of}
+use Rattle.regalloc2_table.specs.Table.{block_of_table}
 use Rattle.regalloc2_table.specs.Draft.{IsUnadded}
 use Rattle.regalloc2_table.specs.Built.{without_preds, edges_to, preds_from}
 use Rattle.regalloc2_table.specs.Steps.{HasPreds, one_edge, preds_at, succs_at, IsUnlinked, AreUnlinked}
@@ -29,12 +29,13 @@ pred_more xs i pred l = record {
 
 -- the same in a table: replacing block i by itself with one more predecessor adds that edge alone
 pub pred_added : {A : Type 0} (xs : List (TableBlock A)) (i pred : ℕ) (x y : TableBlock A) → i < length xs → x ≡ get_or xs i x →
-    block_of y ≡ with_pred pred (block_of x) → HasPreds (map block_of xs) (one_edge i pred) (map block_of (set xs i y))
+    block_of_table y ≡ with_pred pred (block_of_table x) → HasPreds (map block_of_table xs) (one_edge i pred) (map block_of_table (set xs i y))
 pred_added xs i pred x y l is e =
-    let there : get_or (map block_of xs) i no_block ≡ block_of x = get_or-map block_of xs i x no_block l ∙ ap block_of (sym is) in
-    let q : map block_of (set xs i y) ≡ set (map block_of xs) i (with_pred pred (get_or (map block_of xs) i no_block)) = map-set block_of xs i y
-    ∙ ap (λ (b : BlockValue). set (map block_of xs) i b) (e ∙ ap (with_pred pred) (sym there)) in
-    rw q (pred_more (map block_of xs) i pred (rw length-map l))
+    let there : get_or (map block_of_table xs) i no_block ≡ block_of_table x = get_or-map block_of_table xs i x no_block l ∙ ap block_of_table (sym is) in
+    let q : map block_of_table (set xs i y) ≡ set (map block_of_table xs) i (with_pred pred (get_or (map block_of_table xs) i no_block)) = map-set
+        block_of_table xs i y
+    ∙ ap (λ (b : BlockValue). set (map block_of_table xs) i b) (e ∙ ap (with_pred pred) (sym there)) in
+    rw q (pred_more (map block_of_table xs) i pred (rw length-map l))
 
 bare_at : (bs : List BlockValue) (b : ℕ) → get_or (map without_preds bs) b no_block ≡ without_preds (get_or bs b no_block)
 bare_at bs b = get_or_map without_preds bs b no_block
@@ -97,16 +98,19 @@ unlinked_blocks bs count b succs TooManyInsts c is h = h
 unlinked_blocks bs count b succs TooManyVRegs c is h = h
 
 -- tables whose blocks differ in predecessors at most have equally many blocks
-pub same_count : {A : Type 0} (xs ys : List (TableBlock A)) → map without_preds (map block_of ys) ≡ map without_preds (map block_of xs) → length ys ≡ length xs
-same_count xs ys e = sym (length-map ys block_of) ∙ same_length (map block_of xs) (map block_of ys) e ∙ length-map xs block_of
+pub same_count : {A : Type 0} (xs ys : List (TableBlock A)) → map without_preds (map block_of_table ys) ≡ map without_preds (map block_of_table xs) →
+    length ys ≡ length xs
+same_count xs ys e = sym (length-map ys block_of_table) ∙ same_length (map block_of_table xs) (map block_of_table ys) e ∙ length-map xs block_of_table
 
 -- while predecessors are added, a block's successors are still those it had at first
 pub succs_then : {A : Type 0} (xs ys : List (TableBlock A)) (i : ℕ) (y : TableBlock A) →
-    map without_preds (map block_of ys) ≡ map without_preds (map block_of xs) → i < length xs → y ≡ get_or ys i y → y.succs.items ≡ succs_at (map block_of xs) i
+    map without_preds (map block_of_table ys) ≡ map without_preds (map block_of_table xs) → i < length xs → y ≡ get_or ys i y →
+        y.succs.items ≡ succs_at (map block_of_table xs) i
 succs_then xs ys i y e l is =
     let long = same_count xs ys e in
-    let there : get_or (map block_of ys) i no_block ≡ block_of y = get_or-map block_of ys i y no_block (omega (arith, long, l)) ∙ ap block_of (sym is) in
-    sym (ap (λ (b : BlockValue). b.succs) there) ∙ same_succs (map block_of xs) (map block_of ys) i e
+    let there : get_or (map block_of_table ys) i no_block ≡ block_of_table y = get_or-map block_of_table ys i y no_block (omega (arith, long, l))
+        ∙ ap block_of_table (sym is) in
+    sym (ap (λ (b : BlockValue). b.succs) there) ∙ same_succs (map block_of_table xs) (map block_of_table ys) i e
 
 -- where the first k successors are in range, and so is the next, the first k + 1 are
 pub within_more : (succs : List ℕ) (count k to : ℕ) → k < length succs → to ≡ get_or succs k to → to < count → All (λ s. s < count) (take k succs) →

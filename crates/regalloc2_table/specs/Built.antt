@@ -7,8 +7,8 @@ use Rattle.regalloc2_table.specs.declared.builder.BuildError.{BuildError}
 use Rattle.regalloc2_table.specs.declared.builder.BuildError.TheVariants.{Memory, NoBlock, TooManyBlocks, TooManyInsts, TooManyVRegs}
 
 -- a block whose predecessors aren't known yet, of the instructions from `first` on
-abbrev pub placed : ℕ → DraftValue → BlockValue
-placed first d = record {
+abbrev pub placed_block : ℕ → DraftValue → BlockValue
+placed_block first d = record {
   range = record { first = first; end = first + length d.insts };
   succs = d.succs;
   preds = [];
@@ -19,7 +19,7 @@ placed first d = record {
 -- blocks that follow one another from an instruction on
 abbrev pub blocks_from : ℕ → List DraftValue → List BlockValue
 blocks_from first [] = []
-blocks_from first (d ∷ ds) = placed first d ∷ blocks_from (first + length d.insts) ds
+blocks_from first (d ∷ ds) = placed_block first d ∷ blocks_from (first + length d.insts) ds
 
 -- all instructions, block by block
 abbrev pub insts_of : List DraftValue → List InstValue

@@ -4,7 +4,7 @@ use Rattle.regalloc2_names.specs.Register.{Register, VirtualRegister}
 use Rattle.regalloc2_names.specs.RegisterSet.{has_register}
 use Rattle.regalloc2_names.specs.Operand.{OperandValue}
 use Rattle.regalloc2_function.specs.FunctionValue.{InstValue}
-use Rattle.regalloc2_table.specs.Table.{inst_of}
+use Rattle.regalloc2_table.specs.Table.{inst_of_table}
 use Rattle.regalloc2_table.specs.declared.builder.BlockDraft.{BlockDraft}
 use Rattle.regalloc2_table.specs.declared.builder.TableBuilder.{TableBuilder}
 use Rattle.regalloc2_table.specs.declared.builder.BuildError.{BuildError}
@@ -18,7 +18,8 @@ pub record DraftValue : Type 0 where
   pub arguments : List (List VirtualRegister)
 
 abbrev pub draft_of : {A : Type 0} → BlockDraft A → DraftValue
-draft_of d = record { params = d.params.items; insts = map inst_of d.insts.items; succs = d.succs.items; arguments = map (λ v. v.items) d.arguments.items }
+draft_of d = record { params = d.params.items; insts = map inst_of_table d.insts.items; succs = d.succs.items;
+    arguments = map (λ v. v.items) d.arguments.items }
 
 -- the blocks that a builder was given, by number
 abbrev pub drafts_of : {A : Type 0} → TableBuilder A → List DraftValue

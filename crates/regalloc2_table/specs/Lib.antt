@@ -1,5 +1,5 @@
 -- Functions kept in tables, and the builder that makes them.
--- Read first: `function_of` in `Table`; then `Draft`, the calls made to a builder, and `IsBuilt` in `Built`.
+-- Read first: `function_of_table` in `Table`; then `Draft`, the calls made to a builder, and `IsBuilt` in `Built`.
 -- Depends on regalloc2_function. `Steps` is what the loops of `finish` do.
 pub mod Table
 pub mod TableLimits

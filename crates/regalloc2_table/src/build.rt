@@ -4,7 +4,7 @@ ghost use Rattle.std.specs.Prelude.{◌≡◌, ◌<◌, ◌≤◌, ◌^◌, ◌-
 ghost use Rattle.std.specs.Int.{is_power_of_two};
 ghost use Rattle.regalloc2_names.specs.Register.{Register};
 ghost use Rattle.regalloc2_names.specs.RegisterSet.{has_register};
-ghost use Rattle.regalloc2_table.specs.Table.{function_of, inst_of, block_of, sizes_of};
+ghost use Rattle.regalloc2_table.specs.Table.{function_of_table, inst_of_table, block_of_table, sizes_of_table};
 
 use super::table::{SlotUnits, TableBlock, TableFunction, TableInst};
 use regalloc2_index::{Block, Inst, InstRange};
@@ -67,7 +67,7 @@ pub fn ret<A: Allocator + Copy>(alloc: A, operands: &[Operand]) -> Result<TableI
 impl<A: Allocator + Copy> TableBlock<A> {
     /// A block of these instructions that no block follows or precedes, without parameters.
     pub fn alone(alloc: A, range: InstRange) -> TableBlock<A>
-        ensures { block_of result ≡ record { range = range; succs = []; preds = []; params = []; arguments = [] } }
+        ensures { block_of_table result ≡ record { range = range; succs = []; preds = []; params = []; arguments = [] } }
     {
         TableBlock {
             range,
@@ -117,12 +117,12 @@ impl<A: Allocator> TableFunction<A> {
         requires blocks { vec_len blocks < 2 ^ 32 - 1 }
         requires insts { vec_len insts < 2 ^ 30 }
         requires vregs { num_vregs < 2 ^ 30 }
-        ensures blocks { (function_of result).blocks ≡ map block_of blocks.items }
-        ensures insts { (function_of result).insts ≡ map inst_of insts.items }
-        ensures entry { (function_of result).entry ≡ 0 }
-        ensures vregs { (function_of result).num_vregs ≡ num_vregs }
-        ensures slots { (function_of result).slot_sizes ≡ sizes_of slots.0 slots.1 slots.2 }
-        ensures named { (function_of result).named_by_last_slot ≡ false }
+        ensures blocks { (function_of_table result).blocks ≡ map block_of_table blocks.items }
+        ensures insts { (function_of_table result).insts ≡ map inst_of_table insts.items }
+        ensures entry { (function_of_table result).entry ≡ 0 }
+        ensures vregs { (function_of_table result).num_vregs ≡ num_vregs }
+        ensures slots { (function_of_table result).slot_sizes ≡ sizes_of_table slots.0 slots.1 slots.2 }
+        ensures named { (function_of_table result).named_by_last_slot ≡ false }
     {
         let (int_slot, float_slot, vector_slot) = slots;
         TableFunction {

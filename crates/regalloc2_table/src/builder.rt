@@ -1,9 +1,9 @@
 //! Builds a function: blocks are declared, then filled in any order.
 
 ghost use Rattle.std.specs.Prelude.{◌≡◌, ℕ, ◌<◌, ◌≤◌, ◌^◌, ◌-◌, ◌+◌, ◌++◌, ◌∷◌, [], false, true, All, OnOk, OnErr, IfOk, IfErr, map, length, vec_len};
-ghost use Rattle.regalloc2_table.specs.Table.{function_of, inst_of, block_of};
+ghost use Rattle.regalloc2_table.specs.Table.{function_of_table, inst_of_table, block_of_table};
 ghost use Rattle.regalloc2_table.specs.Draft.{draft_of, drafts_of, declared_with, with_inst, with_succ, IsChanged, HasMore, IsUndeclared, IsUnadded};
-ghost use Rattle.regalloc2_table.specs.Built.{placed, blocks_from, insts_of, edges_to, preds_from, IsBuilt, IsUnbuilt};
+ghost use Rattle.regalloc2_table.specs.Built.{placed_block, blocks_from, insts_of, edges_to, preds_from, IsBuilt, IsUnbuilt};
 ghost use Rattle.regalloc2_table.specs.Steps.{HasPreds, one_edge, succs_at, IsUnplaced, IsUnlinked, AreUnlinked};
 
 use super::build::{branch, op, ret};
@@ -128,7 +128,7 @@ impl<A: Allocator + Copy> TableBuilder<A> {
 
     /// Adds an instruction to a block.
     pub fn inst(&mut self, block: Block, inst: TableInst<A>) -> Result<(), BuildError>
-        ensures ok { OnOk result (IsChanged (drafts_of self.old) block (with_inst (inst_of inst)) (drafts_of self.new)) }
+        ensures ok { OnOk result (IsChanged (drafts_of self.old) block (with_inst (inst_of_table inst)) (drafts_of self.new)) }
         ensures err { IfErr result (λ e. IsUnadded (length (drafts_of self.old)) block e) }
         ensures unchanged { OnErr result (drafts_of self.new ≡ drafts_of self.old) }
     {
@@ -208,7 +208,7 @@ impl<A: Allocator + Copy> TableBuilder<A> {
     /// The function, with slots of one unit and virtual registers below `num_vregs`: the blocks' ranges follow one another, and each
     /// block has as predecessors those that go on to it, each once for each time, by their numbers.
     pub fn finish(self, num_vregs: usize) -> Result<TableFunction<A>, BuildError>
-        ensures ok { IfOk result (λ f. IsBuilt (drafts_of self) num_vregs (function_of f)) }
+        ensures ok { IfOk result (λ f. IsBuilt (drafts_of self) num_vregs (function_of_table f)) }
         ensures err { IfErr result (λ e. IsUnbuilt (drafts_of self) num_vregs e) }
     {
         let TableBuilder { alloc, blocks } = self;
@@ -233,8 +233,8 @@ fn place<A: Allocator + Copy>(
     draft: BlockDraft<A>,
 ) -> Result<(), BuildError>
     requires { vec_len insts.old < 2 ^ 30 }
-    ensures blocks { OnOk result (map block_of blocks.new.items ≡ map block_of blocks.old.items ++ placed (length insts.old.items) (draft_of draft) ∷ []) }
-    ensures insts { OnOk result (map inst_of insts.new.items ≡ map inst_of insts.old.items ++ (draft_of draft).insts) }
+    ensures blocks { OnOk result (map block_of_table blocks.new.items ≡ map block_of_table blocks.old.items ++ placed_block (length insts.old.items) (draft_of draft) ∷ []) }
+    ensures insts { OnOk result (map inst_of_table insts.new.items ≡ map inst_of_table insts.old.items ++ (draft_of draft).insts) }
     ensures few { OnOk result (vec_len insts.new < 2 ^ 30) }
     ensures err { IfErr result (λ e. IsUnplaced (length insts.old.items + length (draft_of draft).insts) e) }
 {
@@ -264,8 +264,8 @@ fn lay_out<A: Allocator + Copy>(
     alloc: A,
     drafts: Vec<BlockDraft<A>, A>,
 ) -> Result<(Vec<TableBlock<A>, A>, Vec<TableInst<A>, A>), BuildError>
-    ensures blocks { IfOk result (λ r. map block_of r.0.items ≡ blocks_from 0 (map draft_of drafts.items)) }
-    ensures insts { IfOk result (λ r. map inst_of r.1.items ≡ insts_of (map draft_of drafts.items)) }
+    ensures blocks { IfOk result (λ r. map block_of_table r.0.items ≡ blocks_from 0 (map draft_of drafts.items)) }
+    ensures insts { IfOk result (λ r. map inst_of_table r.1.items ≡ insts_of (map draft_of drafts.items)) }
     ensures few { IfOk result (λ r. vec_len r.1 < 2 ^ 30) }
     ensures err { IfErr result (λ e. IsUnplaced (length (insts_of (map draft_of drafts.items))) e) }
 {
@@ -282,7 +282,7 @@ fn add_pred<A: Allocator + Copy>(
     to: Block,
     pred: Block,
 ) -> Result<(), BuildError>
-    ensures ok { OnOk result (HasPreds (map block_of blocks.old.items) (one_edge to pred) (map block_of blocks.new.items)) }
+    ensures ok { OnOk result (HasPreds (map block_of_table blocks.old.items) (one_edge to pred) (map block_of_table blocks.new.items)) }
     ensures within { OnOk result (to < length blocks.old.items) }
     ensures err { IfErr result (λ e. IsUnadded (length blocks.old.items) to e) }
 {
@@ -299,10 +299,10 @@ fn link_one<A: Allocator + Copy>(
     pred: Block,
 ) -> Result<(), BuildError>
     requires { pred < vec_len blocks.old }
-    ensures ok { let succs = succs_at (map block_of blocks.old.items) pred in
-        OnOk result (HasPreds (map block_of blocks.old.items) (λ b. edges_to b pred succs) (map block_of blocks.new.items)) }
-    ensures within { OnOk result (All (λ s. s < length blocks.old.items) (succs_at (map block_of blocks.old.items) pred)) }
-    ensures err { IfErr result (λ e. IsUnlinked (succs_at (map block_of blocks.old.items) pred) (length blocks.old.items) e) }
+    ensures ok { let succs = succs_at (map block_of_table blocks.old.items) pred in
+        OnOk result (HasPreds (map block_of_table blocks.old.items) (λ b. edges_to b pred succs) (map block_of_table blocks.new.items)) }
+    ensures within { OnOk result (All (λ s. s < length blocks.old.items) (succs_at (map block_of_table blocks.old.items) pred)) }
+    ensures err { IfErr result (λ e. IsUnlinked (succs_at (map block_of_table blocks.old.items) pred) (length blocks.old.items) e) }
 {
     for k in 0..blocks[pred.index()].succs.len() {
         let to = blocks[pred.index()].succs[k];
@@ -314,10 +314,10 @@ fn link_one<A: Allocator + Copy>(
 /// Gives each block its predecessors.
 fn link<A: Allocator + Copy>(blocks: &mut Vec<TableBlock<A>, A>) -> Result<(), BuildError>
     requires { vec_len blocks.old < 2 ^ 32 - 1 }
-    ensures ok { let succs = map (λ b. b.succs) (map block_of blocks.old.items) in
-        OnOk result (HasPreds (map block_of blocks.old.items) (λ b. preds_from b 0 succs) (map block_of blocks.new.items)) }
-    ensures within { OnOk result ((b : ℕ) → b < length blocks.old.items → All (λ s. s < length blocks.old.items) (succs_at (map block_of blocks.old.items) b)) }
-    ensures err { IfErr result (λ e. AreUnlinked (map block_of blocks.old.items) e) }
+    ensures ok { let succs = map (λ b. b.succs) (map block_of_table blocks.old.items) in
+        OnOk result (HasPreds (map block_of_table blocks.old.items) (λ b. preds_from b 0 succs) (map block_of_table blocks.new.items)) }
+    ensures within { OnOk result ((b : ℕ) → b < length blocks.old.items → All (λ s. s < length blocks.old.items) (succs_at (map block_of_table blocks.old.items) b)) }
+    ensures err { IfErr result (λ e. AreUnlinked (map block_of_table blocks.old.items) e) }
 {
     for number in 0..blocks.len() {
         link_one(blocks, Block::new(number))?;

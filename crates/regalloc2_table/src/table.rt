@@ -71,10 +71,10 @@ pub struct TableFunction<A: Allocator = Global> {
 }
 
 impl<A: Allocator> Function for TableFunction<A> {
-    ghost use Rattle.regalloc2_table.specs.Table.{function_of};
+    ghost use Rattle.regalloc2_table.specs.Table.{function_of_table};
     ghost use Rattle.regalloc2_table.specs.TableLimits.{limited_table};
 
-    ghost function = { function_of };
+    ghost function = { function_of_table };
 
     fn num_insts(&self) -> usize {
         self.insts.len()

@@ -12,5 +12,5 @@ abbrev pub point_text : ℕ → List ℕ
 point_text p = codes "inst" ++ decimal (inst_of_point p) ++ position_ending (position_of_point p)
 
 -- a fault with its number, as 3: a word names nothing
-abbrev pub fault_text : StoredFault → List ℕ
-fault_text e = decimal (fault_number e) ++ codes ": " ++ fault_reason e
+abbrev pub stored_fault_text : StoredFault → List ℕ
+stored_fault_text e = decimal (fault_number e) ++ codes ": " ++ fault_reason e

@@ -2,7 +2,7 @@
 
 ghost use Rattle.std.specs.Prelude.{◌≡◌, Some};
 ghost use Rattle.regalloc2_tool.specs.Fault.{fault_number};
-ghost use Rattle.regalloc2_tool.specs.Text.{fault_text};
+ghost use Rattle.regalloc2_tool.specs.Text.{stored_fault_text};
 
 use regalloc2_function::StoredFault;
 use std::fmt;
@@ -26,7 +26,7 @@ pub fn number_of(fault: StoredFault) -> u8
 pub struct FaultText(pub StoredFault);
 
 impl fmt::Display for FaultText {
-    ghost output = { λ t. Some (fault_text t.0) };
+    ghost output = { λ t. Some (stored_fault_text t.0) };
 
     fn fmt<W: fmt::Write>(&self, f: &mut fmt::Formatter<W>) -> fmt::Result {
         let number = number_of(self.0);

@@ -28,16 +28,16 @@ use Rattle.regalloc2_fastalloc_state.specs.declared.inst_regs.InstRegs.{InstRegs
 use Rattle.regalloc2_fastalloc_state.specs.ScratchPool.{Moves}
 use Rattle.regalloc2_fastalloc_state.specs.StateParts.{IsLruOf, SpillSlotsValue, slot_name, alloc_of}
 use Rattle.regalloc2_fastalloc_state.specs.InstRegs.{is_free_throughout}
-use Rattle.regalloc2_validate.specs.Constraints.{op_at}
+use Rattle.regalloc2_function.specs.FunctionValue.{op_at}
 use Rattle.regalloc2_fastalloc_proofs.specs.InstSteps.{StateValue, AllocsInst, EvictsEach, EvictsFixed, RemovesClobbers, MovesUses, ReservesRegs, order_of}
 use Rattle.regalloc2_fastalloc_proofs.specs.InstSteps.{none_cleared, not_fixed, of_fixed, of_reuse, none_left, one_more, none_moved, not_moved, one_moved}
-use Rattle.regalloc2_fastalloc_proofs.specs.BranchSteps.{AreApart, ClassMove, GathersMoves, GathersEdgeMoves, no_edge, none_gathered, of_class, one_edge}
+use Rattle.regalloc2_fastalloc_proofs.specs.BranchSteps.{RegsAvoidStack, ClassMove, GathersMoves, GathersEdgeMoves, no_edge, none_gathered, of_class, one_edge}
 use Rattle.regalloc2_fastalloc_proofs.specs.BranchSteps.{one_gathered, own_argument}
 use Rattle.regalloc2_fastalloc_proofs.specs.BlockStart.{ReloadsParams, none_begun, one_begun}
 use Rattle.regalloc2_fastalloc_proofs.specs.InstSteps.{IsFresh, PreparesRegs}
 use Rattle.regalloc2_fastalloc_proofs.specs.StoreSteps.{IsStoredFor, branch_operands, given as given_param, its_own}
 use Rattle.regalloc2_unspilled_proofs.proofs.OperandsSpillFree.{operands_placed, unsent_same}
-use Rattle.regalloc2_unspilled_proofs.specs.SpillFree.{ArePlaced, ArePlain, FitInRegs, HasRegOperandsOnly, IsDefinedIn, IsSpillFree, IsSpillFreeFrom}
+use Rattle.regalloc2_unspilled_proofs.specs.SpillFree.{ArePlaced, ArePlain, FitInRegs, HasRegOperandsOnly, IsDefinedByOperand, IsSpillFree, IsSpillFreeFrom}
 use Rattle.regalloc2_fastalloc_proofs.proofs.Safety.StepsKeepState.{IsWhole}
 use Rattle.regalloc2_fastalloc_proofs.proofs.Slots.StepsKeepSlots.{cases_none}
 use Rattle.regalloc2_unspilled_proofs.specs.SpillFree.{IsSpillFreeIn, LeavesSpillFree, is_same_number}
@@ -264,7 +264,7 @@ plain_at f env names i t well asks lt h late = record {
     at_number n m j k e x = subst (λ (y : ℕ). DefinesAt f y j k) e x
 
     not_behind : (k : ℕ) → k < length (inst_at f i).operands → (j : ℕ) → i + 1 ≤ j → j < length f.insts →
-        IsDefinedIn (inst_at f j).operands (op_at (inst_at f i).operands k).vreg.number → ⊥
+        IsDefinedByOperand (inst_at f j).operands (op_at (inst_at f i).operands k).vreg.number → ⊥
     not_behind k less j past inside x =
         let there : DefinesAt f (op_at (inst_at f i).operands k).vreg.number j x.0 = at_number (op_at (inst_at f j).operands x.0).vreg.number
         (op_at (inst_at f i).operands k).vreg.number j x.0 x.3 (defined_at j x.0 inside x.1 x.2) in
@@ -296,7 +296,7 @@ from_next f names i t u lt h l = record {
     | inr x ↦ (i, omega arith, lt, x)
   ];
   goes = λ j n past inside x. elim (cases_eq j i) [
-    | inl e ↦ l.goes n (subst (λ (y : ℕ). IsDefinedIn (inst_at f y).operands n) e x)
+    | inl e ↦ l.goes n (subst (λ (y : ℕ). IsDefinedByOperand (inst_at f y).operands n) e x)
     | inr ne ↦ l.stays n (h.goes j n (omega (arith, past, ne)) inside x)
   ];
   inst_regs = l.inst_regs;
@@ -326,21 +326,24 @@ nobody_left f env names t well asks h n = elim (cases_none (alloc_of t.places n)
         ]
 
 -- edges to blocks without parameters pass nothing
-edge_none : {Own : VirtualRegister → Type 0} (point : ℕ) (params arguments : List VirtualRegister) (t : InstRegs) (old : StateValue)
+gathers_edge_moves_none : {Own : VirtualRegister → Type 0} (point : ℕ) (params arguments : List VirtualRegister) (t : InstRegs) (old : StateValue)
     (given : List ClassMove) (n : ℕ) (u : InstRegs) (new : StateValue) (more : List ClassMove) → n ≡ 0 →
     GathersEdgeMoves Own point params arguments t old given n u new more → (new ≡ old) × (more ≡ given)
-edge_none point params arguments t old given n u new more e none_gathered = (refl, refl)
-edge_none point params arguments t old given n u new more e (one_gathered j mid to from w x m k o lt before gives places edits machine order settles foreign) =
+gathers_edge_moves_none point params arguments t old given n u new more e none_gathered = (refl, refl)
+gathers_edge_moves_none point params arguments t old given n u new more e (one_gathered j mid to from w x m k o lt before gives places edits machine order
+    settles foreign) =
     absurd (omega (arith, e))
-edge_none point params arguments t old given n u new more e (own_argument j mid w m lt before own) = absurd (omega (arith, e))
+gathers_edge_moves_none point params arguments t old given n u new more e (own_argument j mid w m lt before own) = absurd (omega (arith, e))
 
 -- edges to blocks without parameters gather no move, and leave the state as it is
-pub gathers_none : (f : FunctionValue) (b point : ℕ) (t : InstRegs) (old : StateValue) (n : ℕ) (u : InstRegs) (new : StateValue) (given : List ClassMove) →
+pub gathers_moves_none : (f : FunctionValue) (b point : ℕ) (t : InstRegs) (old : StateValue) (n : ℕ) (u : InstRegs) (new : StateValue)
+    (given : List ClassMove) →
     ((k : ℕ) → HasEdge f b k → (block_at f (target_at f b k)).params ≡ []) → GathersMoves f b point t old n u new given → (new ≡ old) × (given ≡ [])
-gathers_none f b point t old n u new given empty no_edge = (refl, refl)
-gathers_none f b point t old n u new given empty (one_edge k mid more w x m o lt before edge) =
-    let rest = gathers_none f b point t old k w m mid empty before in
-    let this = edge_none point (block_at f (target_at f b k)).params (arguments_at f b k) w m mid (length (block_at f (target_at f b k)).params) u new given
+gathers_moves_none f b point t old n u new given empty no_edge = (refl, refl)
+gathers_moves_none f b point t old n u new given empty (one_edge k mid more w x m o lt before edge) =
+    let rest = gathers_moves_none f b point t old k w m mid empty before in
+    let this = gathers_edge_moves_none point (block_at f (target_at f b k)).params (arguments_at f b k) w m mid
+        (length (block_at f (target_at f b k)).params) u new given
     (ap length (empty k lt)) edge in
     (this.0 ∙ rest.0, this.1 ∙ rest.1)
 
@@ -380,7 +383,7 @@ none_alike = tt
 
 -- before the walk
 pub begins_uncrowded : (f : FunctionValue) (names : List VirtualRegister) (t : StateValue) → ((n : ℕ) → alloc_of t.places n ≡ NoPlace) → t.edits ≡ [] →
-    ((n : ℕ) → slot_name t.slots n ≡ NoPlace) → t.slots.count ≡ 0 → IsWhole t → AreApart t
+    ((n : ℕ) → slot_name t.slots n ≡ NoPlace) → t.slots.count ≡ 0 → IsWhole t → RegsAvoidStack t
     → ((class : RegClass) → IsLruOf t.allocatable class (order_of t class)) → IsSpillFreeFrom names f (length f.insts) t
 begins_uncrowded f names t nobody edits slots count whole apart lrus = record {
   gone = λ n. false;

@@ -26,7 +26,7 @@ use Rattle.regalloc2_fastalloc_state.specs.Choice.{chosen}
 use Rattle.regalloc2_fastalloc_state.specs.InstRegs.{RemovesAvailable, is_available_at, is_free_throughout}
 use Rattle.regalloc2_fastalloc_proofs.specs.InstSteps.{StateValue, SameButOrder, AllocsOperand, ClaimsPlace, SelectsPlace, MeetsRequirement, in_slot}
 use Rattle.regalloc2_fastalloc_proofs.specs.InstSteps.{in_register, UsesReg, UsesPlace, used, not_used, TakesPlace, order_of}
-use Rattle.regalloc2_fastalloc_proofs.specs.InstSteps.{own, others, empty, cleared, stays, fixed, slot, free, is_stack_in, EvictsOthers}
+use Rattle.regalloc2_fastalloc_proofs.specs.InstSteps.{own, others, empty, cleared, stays, fixed, slot, free, is_stack_in, EvictsOtherVRegs}
 use Rattle.regalloc2_unspilled_proofs.proofs.FreeAtAny.{free_at_any}
 use Rattle.regalloc2_unspilled_proofs.proofs.LruUnusedLast.{but, but_from, but_less, but_most, but_not, counted, found_last, newest_first, same_members}
 use Rattle.regalloc2_fastalloc_proofs.proofs.Safety.StepsKeepState.{whole_tidy}
@@ -172,7 +172,7 @@ occupied point o r t u old new only (in_register q m is clears holds) =
     (c.0, subst (λ (x : InstRegs). RemovesAvailable x u r o.positions) c.1 (subst (λ (x : Register). RemovesAvailable m u x o.positions) (sym e) holds))
   where
     by_clears : (q : Register) → ((w : VirtualRegister) → vreg_of_preg old.places q ≡ Some w → w.number ≡ o.vreg.number) →
-        EvictsOthers point q o.vreg t m old new → (new ≡ old) × (m ≡ t)
+        EvictsOtherVRegs point q o.vreg t m old new → (new ≡ old) × (m ≡ t)
     by_clears q h (own w at number inst_regs same) = (same, inst_regs)
     by_clears q h (others ne (empty none inst_regs same)) = (same, inst_regs)
     by_clears q h (others ne (cleared w s x small at gives settles edits machine order crosses)) = absurd (ne w at (h w at))
@@ -311,14 +311,14 @@ comes_there names gone o r p t u old new h is nowhere are_few named there unused
         (by_class (subst (λ (c : RegClass). order_of new c ≡ r ∷ but r (order_of old c)) in_ring.0 first))
 
 -- a place that meets `AnyReg` is a register that isn't in memory
-suits_register : (t : StateValue) (p : Place) → MeetsRequirement t AnyReg p → (r : Register) × (p ≡ InRegister r) × (is_stack_in t p ≡ false)
+meets_requirement_register : (t : StateValue) (p : Place) → MeetsRequirement t AnyReg p → (r : Register) × (p ≡ InRegister r) × (is_stack_in t p ≡ false)
 unfolding MeetsRequirement
-suits_register t p s = s
+meets_requirement_register t p s = s
 
 -- a register that isn't a fixed stack slot meets the requirement of any register
-pub suits_so : (t : StateValue) (p : Place) (r : Register) → p ≡ InRegister r → has_register t.fixed_stack r ≡ false → MeetsRequirement t AnyReg p
+pub meets_requirement_so : (t : StateValue) (p : Place) (r : Register) → p ≡ InRegister r → has_register t.fixed_stack r ≡ false → MeetsRequirement t AnyReg p
 unfolding MeetsRequirement
-suits_so t p r e apart = (r, e, ap (is_stack_in t) e ∙ apart)
+meets_requirement_so t p r e apart = (r, e, ap (is_stack_in t) e ∙ apart)
 
 -- a register that may be allocated and that an operand asked for as any is used
 used_it : (r : Register) (w : Requirement) (p : Place) (old new : StateValue) → w ≡ AnyReg → p ≡ InRegister r → has_register old.allocatable r ≡ true →
@@ -350,7 +350,7 @@ operand_got {names} {gone} {point} {o} {p} {t} {u} {old} {new} any h few named t
 
     by : SelectsPlace t o p old old → Got names gone o p u old new
     by (stays at suits same) =
-        let reg = suits_register old p (subst (λ (w : Requirement). MeetsRequirement old w p) any suits) in
+        let reg = meets_requirement_register old p (subst (λ (w : Requirement). MeetsRequirement old w p) any suits) in
         let r : Register = reg.0 in
         let is : p ≡ InRegister r = reg.1 in
         let current = h.stand o.vreg.number (λ e. (let wrong : InRegister r ≡ NoPlace = sym is ∙ sym at ∙ e in cc)) in
@@ -376,5 +376,5 @@ operand_got {names} {gone} {point} {o} {p} {t} {u} {old} {new} any h few named t
         nobody unsuited = elim (cases_none (alloc_of old.places o.vreg.number)) [
           | inl e ↦ e
           | inr e ↦ (let current = h.stand o.vreg.number e in
-              absurd (unsuited (suits_so old (alloc_of old.places o.vreg.number) current.0 current.1 (h.apart.allocatable current.0 current.2))))
+              absurd (unsuited (meets_requirement_so old (alloc_of old.places o.vreg.number) current.0 current.1 (h.apart.allocatable current.0 current.2))))
         ]

@@ -19,8 +19,8 @@ use Rattle.regalloc2_fastalloc_state.specs.declared.request.OperandRequest.{Oper
 use Rattle.regalloc2_fastalloc_state.specs.declared.request.Requirement.TheVariants.{AnyReg}
 use Rattle.regalloc2_fastalloc_state.specs.declared.inst_regs.InstRegs.{InstRegs}
 use Rattle.regalloc2_fastalloc_state.specs.StateParts.{slot_name, alloc_of}
-use Rattle.regalloc2_validate.specs.Constraints.{op_at}
-use Rattle.regalloc2_fastalloc_proofs.specs.InstSteps.{StateValue, FreesDef, AllocsDefOp, ProcessesOperand, AllocsUse, AddsMoveIf, SameMachine}
+use Rattle.regalloc2_function.specs.FunctionValue.{op_at}
+use Rattle.regalloc2_fastalloc_proofs.specs.InstSteps.{StateValue, FreesAlloc, AllocsDefOp, ProcessesOperand, AllocsUse, AddsMoveIf, SameMachine}
 use Rattle.regalloc2_fastalloc_proofs.specs.InstSteps.{LocatesUse, a_register, a_use, a_def, a_reuse, requirement_of, def_request, is_another, sent}
 use Rattle.regalloc2_fastalloc_proofs.specs.InstSteps.{unsent, stays, located, use_request}
 use Rattle.regalloc2_unspilled_proofs.proofs.OperandTakesFreeReg.{Got, Taken, operand_got}
@@ -256,7 +256,7 @@ def_placed names gone point o is_ret p t u old new any h few named there places 
     taken : StateValue
     taken = places.middle
 
-    d : FreesDef point o.vreg is_ret p places.inst_regs u taken new
+    d : FreesAlloc point o.vreg is_ret p places.inst_regs u taken new
     d = places.defines
 
     got : Got names gone o p places.inst_regs old taken
@@ -346,13 +346,15 @@ more_placed names gone operands k late d here there next p old m n u w plain lt 
     ]
 
 -- whose place is that of a register that was taken
-pub one_placed_more : {names : List VirtualRegister} {gone : ℕ → Bool} {i : ℕ} {is_ret : Bool} {operands : List OperandValue} {k : ℕ} {late : Bool}
+pub processes_operand_placed_more : {names : List VirtualRegister} {gone : ℕ → Bool} {i : ℕ} {is_ret : Bool} {operands : List OperandValue} {k : ℕ}
+    {late : Bool}
     {here there next : List Place} {old m n : StateValue} {u w : InstRegs} → FitInRegs names old.allocatable → ArePlain names gone operands late →
     k < length operands → length here ≡ length operands →
     ((j : ℕ) → is_late (op_at operands j).position ≡ late → slice_index_or here j NoPlace ≡ NoPlace) → is_late (op_at operands k).position ≡ late →
     ArePlaced names gone operands late k here there old m u → ProcessesOperand i is_ret operands k there next u w m n →
     ArePlaced names gone operands late (k + 1) here next old n w
-one_placed_more {names} {gone} {i} {is_ret} {operands} {k} {late} {here} {there} {next} {old} {m} {n} {u} {w} few plain lt here_long blank at h one = by one
+processes_operand_placed_more {names} {gone} {i} {is_ret} {operands} {k} {late} {here} {there} {next} {old} {m} {n} {u} {w} few plain lt here_long blank at h
+    one = by one
   where
     reg : (op_at operands k).constraint ≡ Reg
     reg = plain.under_reg k lt
@@ -440,4 +442,4 @@ operands_placed {names} {gone} {late} {operands} {here} {t} {old} few plain long
 operands_placed {names} {gone} {late} {operands} {here} {old} few plain long blank h le (of_other k there u m before other) =
     other_left names gone operands k late here there old m u other (operands_placed few plain long blank h (omega (arith, le)) before)
 operands_placed few plain long blank h le (one_placed k there next u w m n before at one) =
-    one_placed_more few plain (omega (arith, le)) long blank at (operands_placed few plain long blank h (omega (arith, le)) before) one
+    processes_operand_placed_more few plain (omega (arith, le)) long blank at (operands_placed few plain long blank h (omega (arith, le)) before) one

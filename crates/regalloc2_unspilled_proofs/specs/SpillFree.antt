@@ -13,8 +13,8 @@ use Rattle.regalloc2_function.specs.FunctionValue.{FunctionValue, inst_at}
 use Rattle.regalloc2_fastalloc_state.specs.declared.inst_regs.InstRegs.{InstRegs}
 use Rattle.regalloc2_fastalloc_state.specs.StateParts.{IsLruOf, slot_name, alloc_of}
 use Rattle.regalloc2_fastalloc_state.specs.InstRegs.{is_free_throughout}
-use Rattle.regalloc2_validate.specs.Constraints.{op_at}
-use Rattle.regalloc2_fastalloc_proofs.specs.BranchSteps.{AreApart}
+use Rattle.regalloc2_function.specs.FunctionValue.{op_at}
+use Rattle.regalloc2_fastalloc_proofs.specs.BranchSteps.{RegsAvoidStack}
 use Rattle.regalloc2_fastalloc_proofs.specs.InstSteps.{StateValue, order_of}
 use Rattle.regalloc2_fastalloc_proofs.proofs.Safety.StepsKeepState.{IsWhole}
 
@@ -48,7 +48,7 @@ pub record IsSpillFree (names : List VirtualRegister) (gone : ℕ → Bool) (t :
   pub no_slots : (n : ℕ) → slot_name t.slots n ≡ NoPlace
   pub no_units : t.slots.count ≡ 0
   pub whole : IsWhole t
-  pub apart : AreApart t
+  pub apart : RegsAvoidStack t
   pub lrus : (class : RegClass) → IsLruOf t.allocatable class (order_of t class)
   pub stand : (n : ℕ) → alloc_of t.places n ≢ NoPlace → (r : Register) × (alloc_of t.places n ≡ InRegister r) × (has_register t.allocatable r ≡ true)
   pub named : (n : ℕ) → alloc_of t.places n ≢ NoPlace → (v : VirtualRegister) × Contains names v × (v.number ≡ n)
@@ -84,15 +84,15 @@ pub record ArePlaced (names : List VirtualRegister) (gone : ℕ → Bool) (opera
       × (alloc_of t.places (op_at operands j).vreg.number ≡ slice_index_or there j NoPlace)
 
 -- a vreg's number is defined by an operand
-abbrev pub IsDefinedIn : List OperandValue → ℕ → Type 0
-IsDefinedIn operands n = (k : ℕ) × (k < length operands) × (is_def (op_at operands k).kind ≡ true) × ((op_at operands k).vreg.number ≡ n)
+abbrev pub IsDefinedByOperand : List OperandValue → ℕ → Type 0
+IsDefinedByOperand operands n = (k : ℕ) × (k < length operands) × (is_def (op_at operands k).kind ≡ true) × ((op_at operands k).vreg.number ≡ n)
 
 -- an instruction was allocated so, and those before it may be
 pub record LeavesSpillFree (names : List VirtualRegister) (gone : ℕ → Bool) (operands : List OperandValue) (t : StateValue) : Type 0 where
   pub gone_now : ℕ → Bool
-  pub only : (n : ℕ) → gone_now n ≡ true → (gone n ≡ true) ⊎ IsDefinedIn operands n
+  pub only : (n : ℕ) → gone_now n ≡ true → (gone n ≡ true) ⊎ IsDefinedByOperand operands n
   pub stays : (n : ℕ) → gone n ≡ true → gone_now n ≡ true
-  pub goes : (n : ℕ) → IsDefinedIn operands n → gone_now n ≡ true
+  pub goes : (n : ℕ) → IsDefinedByOperand operands n → gone_now n ≡ true
   pub inst_regs : InstRegs
   pub spill_free : IsSpillFree names gone_now t inst_regs
 
@@ -108,7 +108,7 @@ pub record HasRegOperandsOnly (names : List VirtualRegister) (f : FunctionValue)
 -- its instructions from one on were walked
 pub record IsSpillFreeFrom (names : List VirtualRegister) (f : FunctionValue) (i : ℕ) (t : StateValue) : Type 0 where
   pub gone : ℕ → Bool
-  pub only : (n : ℕ) → gone n ≡ true → (j : ℕ) × (i ≤ j) × (j < length f.insts) × IsDefinedIn (inst_at f j).operands n
-  pub goes : (j n : ℕ) → i ≤ j → j < length f.insts → IsDefinedIn (inst_at f j).operands n → gone n ≡ true
+  pub only : (n : ℕ) → gone n ≡ true → (j : ℕ) × (i ≤ j) × (j < length f.insts) × IsDefinedByOperand (inst_at f j).operands n
+  pub goes : (j n : ℕ) → i ≤ j → j < length f.insts → IsDefinedByOperand (inst_at f j).operands n → gone n ≡ true
   pub inst_regs : InstRegs
   pub spill_free : IsSpillFree names gone t inst_regs

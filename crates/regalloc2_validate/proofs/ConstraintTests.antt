@@ -7,11 +7,11 @@ use Rattle.regalloc2_names.specs.declared.OperandConstraint.{OperandConstraint}
 use Rattle.regalloc2_names.specs.declared.OperandConstraint.TheVariants.{Reuse}
 use Rattle.regalloc2_names.specs.declared.sets.PRegSet.{PRegSet}
 use Rattle.regalloc2_names.specs.Operand.{OperandValue}
-use Rattle.regalloc2_function.specs.FunctionValue.{InstValue}
+use Rattle.regalloc2_function.specs.FunctionValue.{InstValue, no_operand}
 use Rattle.regalloc2_function.specs.Machine.{MachineValue}
 use Rattle.regalloc2_function.specs.WellFormed.{MayBeReused, ReusesAreSound}
-use Rattle.regalloc2_validate.specs.Constraints.{op_at, no_operand}
-use Rattle.regalloc2_validate.specs.Constraints.{IsNoReuse, IsReused, IsTarget, IsSoundReuse, AreApart, AvoidsClobbers, IsClear}
+use Rattle.regalloc2_function.specs.FunctionValue.{op_at}
+use Rattle.regalloc2_validate.specs.Constraints.{IsNoReuse, IsReusedOperand, IsReuseTarget, IsSoundReuse, AreReusesApart, AvoidsClobbers, OperandAvoidsClobbers}
 use Rattle.std.proofs.lemmas.List.{get_or_default}
 
 same_index : (m n : ℕ) (c : OperandConstraint) → c ≡ Reuse m → c ≡ Reuse n → m ≡ n
@@ -59,7 +59,7 @@ named_more ops k m named lt is h n = (
 
 -- once all operands are seen, the marked ones are exactly those that are reused
 pub all_named : (ops : List OperandValue) (k : ℕ) (named : List Bool) → k ≡ length ops → AreNamed ops k named → (n : ℕ) →
-    IsTrue (slice_index_or named n false) ↔ IsReused ops n
+    IsTrue (slice_index_or named n false) ↔ IsReusedOperand ops n
 unfolding AreNamed
 all_named ops k named e h n = (λ t. let x = (h n).0 t in (x.0, omega (arith, x.1, e), x.2), λ x. (h n).1 (x.0, omega (arith, x.1, e), x.2))
 
@@ -76,11 +76,11 @@ unfolding AreNamed
 not_named ops k n named h e j lt is = let f : false ≡ true = sym e ∙ (h n).1 (j, lt, is) in cc
 
 -- no two of the first k reuse one operand
-pub apart_none : (ops : List OperandValue) → AreApart ops 0
+pub apart_none : (ops : List OperandValue) → AreReusesApart ops 0
 apart_none ops i j n li lj a b = absurd (omega arith)
 
 -- if the first k operands reuse different ones, so do the first k + 1 where the next is no reuse
-pub apart_same : (ops : List OperandValue) (k : ℕ) → ((n : ℕ) → (op_at ops k).constraint ≡ Reuse n → ⊥) → AreApart ops k → AreApart ops (k + 1)
+pub apart_same : (ops : List OperandValue) (k : ℕ) → ((n : ℕ) → (op_at ops k).constraint ≡ Reuse n → ⊥) → AreReusesApart ops k → AreReusesApart ops (k + 1)
 apart_same ops k none h i j n li lj a b = elim (cases_eq i k) [
   | inl e ↦ absurd (none n (subst (λ x. (op_at ops x).constraint ≡ Reuse n) e a))
   | inr ne ↦ elim (cases_eq j k) [
@@ -91,7 +91,7 @@ apart_same ops k none h i j n li lj a b = elim (cases_eq i k) [
 
 -- if the first k operands reuse different ones, so do the first k + 1 where the next reuses one that none of them does
 pub apart_more : (ops : List OperandValue) (k m : ℕ) → (op_at ops k).constraint ≡ Reuse m → ((j : ℕ) → j < k → (op_at ops j).constraint ≡ Reuse m → ⊥) →
-    AreApart ops k → AreApart ops (k + 1)
+    AreReusesApart ops k → AreReusesApart ops (k + 1)
 apart_more ops k m is none h i j n li lj a b = elim (cases_eq i k) [
   | inl e ↦ elim (cases_eq j k) [
     | inl f ↦ e ∙ sym f
@@ -105,7 +105,7 @@ apart_more ops k m is none h i j n li lj a b = elim (cases_eq i k) [
 
 -- an instruction's reuses
 pub reuses_valid : (env : MachineValue) (i : InstValue) → ((k : ℕ) → k < length i.operands → IsSoundReuse env i.operands (op_at i.operands k)) →
-    AreApart i.operands (length i.operands) → ReusesAreSound env i
+    AreReusesApart i.operands (length i.operands) → ReusesAreSound env i
 reuses_valid env i each apart = record {
   definitions = λ k d lt n e. let s = each k lt n (ap (λ (o : OperandValue). o.constraint) (get_or_default i.operands k no_operand d lt) ∙ e) in (
     ap (λ (o : OperandValue). o.kind) (get_or_default i.operands k d no_operand lt) ∙ s.0,
@@ -114,7 +114,7 @@ reuses_valid env i each apart = record {
   targets = λ k d lt n e is.
       let same = get_or_default i.operands k no_operand d lt in
       let s = each k lt n (ap (λ (o : OperandValue). o.constraint) same ∙ is) in
-      let t : IsTarget env (op_at i.operands k).vreg.class (slice_index_or i.operands n e) = subst (IsTarget env (op_at i.operands k).vreg.class)
+      let t : IsReuseTarget env (op_at i.operands k).vreg.class (slice_index_or i.operands n e) = subst (IsReuseTarget env (op_at i.operands k).vreg.class)
       (get_or_default i.operands n no_operand e s.2) s.3 in
       let class = ap (λ (o : OperandValue). o.vreg.class) same in (
         s.2,
@@ -158,12 +158,12 @@ valid_reuses env i s k lt n is =
     )
 
 -- if an instruction's reuses are valid as a whole, no two of them name one operand
-pub apart_reuses : (env : MachineValue) (i : InstValue) → ReusesAreSound env i → AreApart i.operands (length i.operands)
+pub apart_reuses : (env : MachineValue) (i : InstValue) → ReusesAreSound env i → AreReusesApart i.operands (length i.operands)
 apart_reuses env i s j k n lj lk a b = s.apart j k n no_operand no_operand lj lk a b
 
 -- by the test whether the operand is reused
-pub clear_by : (clobbers : PRegSet) (ops : List OperandValue) (k : ℕ) (b : Bool) → (IsTrue b → IsReused ops k) → (IsReused ops k → IsTrue b) →
-    AvoidsClobbers clobbers (op_at ops k) b ↔ IsClear clobbers ops k
+pub clear_by : (clobbers : PRegSet) (ops : List OperandValue) (k : ℕ) (b : Bool) → (IsTrue b → IsReusedOperand ops k) → (IsReusedOperand ops k → IsTrue b) →
+    AvoidsClobbers clobbers (op_at ops k) b ↔ OperandAvoidsClobbers clobbers ops k
 clear_by clobbers ops k b to from = (
   λ h r is why. h r is (elim why [ inl a ↦ inl a | inr (inl a) ↦ inr (inl a) | inr (inr a) ↦ inr (inr (from a)) ]),
   λ h r is why. h r is (elim why [ inl a ↦ inl a | inr (inl a) ↦ inr (inl a) | inr (inr a) ↦ inr (inr (to a)) ]),
@@ -172,19 +172,19 @@ clear_by clobbers ops k b to from = (
 -- testing an operand against clobbers by its mark, right for whether it is reused, is testing it by the other operands
 pub clear_read : (clobbers : PRegSet) (ops : List OperandValue) (k : ℕ) (o : OperandValue) (named : List Bool) (b : Bool) → o ≡ op_at ops k →
     b ≡ slice_index_or named k false
-    → (IsTrue (slice_index_or named k false) ↔ IsReused ops k) → AvoidsClobbers clobbers o b ↔ IsClear clobbers ops k
+    → (IsTrue (slice_index_or named k false) ↔ IsReusedOperand ops k) → AvoidsClobbers clobbers o b ↔ OperandAvoidsClobbers clobbers ops k
 clear_read clobbers ops k o named b is same n =
-    subst (λ (x : OperandValue). AvoidsClobbers clobbers x b ↔ IsClear clobbers ops k) (sym is)
+    subst (λ (x : OperandValue). AvoidsClobbers clobbers x b ↔ OperandAvoidsClobbers clobbers ops k) (sym is)
     (clear_by clobbers ops k b (λ t. n.0 (sym same ∙ t)) (λ r. same ∙ n.1 r))
 
 -- an instruction's reuses are valid where each is and they are apart
 pub valid_then : (env : MachineValue) (i : InstValue) (ops : List OperandValue) (b : Bool) → ops ≡ i.operands →
     ((k : ℕ) → k < length ops → IsSoundReuse env ops (op_at ops k))
-    → (IsTrue b ↔ AreApart ops (length ops)) → IsTrue b ↔ ReusesAreSound env i
+    → (IsTrue b ↔ AreReusesApart ops (length ops)) → IsTrue b ↔ ReusesAreSound env i
 valid_then env i ops b e each apart = (
   λ t. reuses_valid env i (subst (λ os. (k : ℕ) → k < length os → IsSoundReuse env os (op_at os k)) e each)
-      (subst (λ os. AreApart os (length os)) e (apart.0 t)),
-  λ s. apart.1 (subst (λ os. AreApart os (length os)) (sym e) (apart_reuses env i s)),
+      (subst (λ os. AreReusesApart os (length os)) e (apart.0 t)),
+  λ s. apart.1 (subst (λ os. AreReusesApart os (length os)) (sym e) (apart_reuses env i s)),
 )
 
 -- where the test of single reuses fails, its answer decides the instruction's reuses as a whole: they are not valid

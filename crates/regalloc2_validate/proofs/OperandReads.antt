@@ -3,7 +3,8 @@ use Rattle.std.proofs.Common.{ℕ, ◌≡◌, ◌<◌, List, length, ap, ◌∙�
 use Rattle.std.proofs.lemmas.List.{get_or_read}
 use Rattle.regalloc2_names.specs.Register.{VirtualRegister}
 use Rattle.regalloc2_names.specs.Operand.{OperandValue}
-use Rattle.regalloc2_validate.specs.Constraints.{op_at, no_operand}
+use Rattle.regalloc2_function.specs.FunctionValue.{op_at}
+use Rattle.regalloc2_function.specs.FunctionValue.{no_operand}
 
 -- what is read at an index is the operand of that index
 pub read_operand : (ops : List OperandValue) (k : ℕ) (o : OperandValue) → k < length ops → o ≡ slice_index_or ops k o → o ≡ op_at ops k

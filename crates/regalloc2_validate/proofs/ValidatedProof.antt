@@ -8,8 +8,8 @@ use Rattle.regalloc2_function.specs.FunctionValue.{FunctionValue, inst_at, no_in
 use Rattle.regalloc2_function.specs.Machine.{MachineValue}
 use Rattle.regalloc2_function.specs.Reasons.{HasShape, IsShapeFault, IsSound, IsSoundnessFault}
 use Rattle.regalloc2_function.specs.WellFormed.{ReusesAreSound, FixedAvoidClobbers, IsWellFormed}
-use Rattle.regalloc2_validate.specs.Validated.{IsFault}
-use Rattle.regalloc2_validate.specs.Validated.IsFault.{memory, misshapen, unsound}
+use Rattle.regalloc2_validate.specs.Validated.{IsFunctionFault}
+use Rattle.regalloc2_validate.specs.Validated.IsFunctionFault.{memory, misshapen, unsound}
 
 -- what the tests test is what a well-formed function has
 pub tested_well_formed : (f : FunctionValue) (env : MachineValue) → HasShape f → IsSound f → ((i : ℕ) → i < length f.insts → ReusesAreSound env (inst_at f i)) →
@@ -38,11 +38,11 @@ tested_on_ok f env (Ok x) shape sound reuses fixed = tested_well_formed f env sh
 tested_on_ok f env (Err e) shape sound reuses fixed = tt
 
 -- out of memory or an error of the first tests is an error of the whole validation
-pub shape_fault : (f : FunctionValue) (env : MachineValue) (e : RegAllocError) → (e ≡ Memory) ⊎ IsShapeFault f e → IsFault f env e
+pub shape_fault : (f : FunctionValue) (env : MachineValue) (e : RegAllocError) → (e ≡ Memory) ⊎ IsShapeFault f e → IsFunctionFault f env e
 shape_fault f env e (inl m) = rw m memory
 shape_fault f env e (inr h) = misshapen h
 
 -- where the shape is right, out of memory or an error of the second tests is an error of the whole validation
-pub soundness_fault : (f : FunctionValue) (env : MachineValue) (e : RegAllocError) → HasShape f → (e ≡ Memory) ⊎ IsSoundnessFault f e → IsFault f env e
+pub soundness_fault : (f : FunctionValue) (env : MachineValue) (e : RegAllocError) → HasShape f → (e ≡ Memory) ⊎ IsSoundnessFault f e → IsFunctionFault f env e
 soundness_fault f env e shape (inl m) = rw m memory
 soundness_fault f env e shape (inr h) = unsound shape h

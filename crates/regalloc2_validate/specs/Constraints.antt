@@ -1,38 +1,30 @@
 -- What the tests of operands' constraints say, one instruction at a time.
-use Rattle.std.specs.Prelude.{ℕ, ◌≡◌, ◌<◌, ◌⊎◌, Bool, true, false, List, length, slice_index_or}
+use Rattle.std.specs.Prelude.{ℕ, ◌≡◌, ◌<◌, ◌⊎◌, Bool, true, false, List, length}
 use Rattle.regalloc2_names.specs.declared.OperandConstraint.{OperandConstraint}
 use Rattle.regalloc2_names.specs.declared.OperandConstraint.TheVariants.{Any, Reg, Stack, FixedReg, Reuse, Limit}
 use Rattle.regalloc2_names.specs.declared.OperandKind.TheVariants.{Def, Use}
 use Rattle.regalloc2_names.specs.declared.OperandPos.TheVariants.{Early, Late}
 use Rattle.regalloc2_names.specs.declared.RegClass.{RegClass}
-use Rattle.regalloc2_names.specs.declared.RegClass.TheVariants.{Int}
 use Rattle.regalloc2_names.specs.declared.sets.PRegSet.{PRegSet}
 use Rattle.regalloc2_names.specs.declared.RegAllocError.{RegAllocError}
 use Rattle.regalloc2_names.specs.declared.RegAllocError.TheVariants.{Unsupported}
 use Rattle.regalloc2_names.specs.Register.{Register}
 use Rattle.regalloc2_names.specs.RegisterSet.{has_register}
 use Rattle.regalloc2_names.specs.Operand.{OperandValue, is_def, is_reading}
-use Rattle.regalloc2_function.specs.FunctionValue.{FunctionValue, InstValue, inst_at}
+use Rattle.regalloc2_function.specs.FunctionValue.{FunctionValue, InstValue, inst_at, op_at}
 use Rattle.regalloc2_function.specs.Machine.{MachineValue}
 use Rattle.regalloc2_function.specs.WellFormed.{MayBeReused, ReusesAreSound, FixedAvoidClobbers}
-
--- an operand that no instruction has
-abbrev pub no_operand : OperandValue
-no_operand = record { vreg = record { number = 0; class = Int }; constraint = Any; kind = Use; position = Early }
-
-abbrev pub op_at : List OperandValue → ℕ → OperandValue
-op_at operands k = slice_index_or operands k no_operand
 
 -- an operand that isn't a reuse
 abbrev pub IsNoReuse : OperandValue → Type 0
 IsNoReuse o = (n : ℕ) → o.constraint ≡ Reuse n → ⊥
 
 -- a reuse names the operand k
-abbrev pub IsReused : List OperandValue → ℕ → Type 0
-IsReused operands k = (j : ℕ) × (j < length operands) × ((op_at operands j).constraint ≡ Reuse k)
+abbrev pub IsReusedOperand : List OperandValue → ℕ → Type 0
+IsReusedOperand operands k = (j : ℕ) × (j < length operands) × ((op_at operands j).constraint ≡ Reuse k)
 
 -- an operand that may be reused by a definition of a class
-pub record IsTarget (env : MachineValue) (class : RegClass) (o : OperandValue) : Type 0 where
+pub record IsReuseTarget (env : MachineValue) (class : RegClass) (o : OperandValue) : Type 0 where
   pub is_use : o.kind ≡ Use
   pub is_early : o.position ≡ Early
   pub reads : is_reading o ≡ true
@@ -42,11 +34,11 @@ pub record IsTarget (env : MachineValue) (class : RegClass) (o : OperandValue) :
 -- an operand that isn't a reuse, or is a late definition that names such an operand
 abbrev pub IsSoundReuse : MachineValue → List OperandValue → OperandValue → Type 0
 IsSoundReuse env operands o = (n : ℕ) → o.constraint ≡ Reuse n → (o.kind ≡ Def) × (o.position ≡ Late) × (n < length operands)
-    × IsTarget env o.vreg.class (op_at operands n)
+    × IsReuseTarget env o.vreg.class (op_at operands n)
 
 -- no two of the first k operands are reuses of one operand
-abbrev pub AreApart : List OperandValue → ℕ → Type 0
-AreApart operands k = (i j n : ℕ) → i < k → j < k → (op_at operands i).constraint ≡ Reuse n → (op_at operands j).constraint ≡ Reuse n → i ≡ j
+abbrev pub AreReusesApart : List OperandValue → ℕ → Type 0
+AreReusesApart operands k = (i j n : ℕ) → i < k → j < k → (op_at operands i).constraint ≡ Reuse n → (op_at operands j).constraint ≡ Reuse n → i ≡ j
 
 -- a definition, a late use or a reused operand, if it is fixed, is fixed to no clobber
 abbrev pub AvoidsClobbers : PRegSet → OperandValue → Bool → Type 0
@@ -54,9 +46,9 @@ AvoidsClobbers clobbers o is_reused = (r : Register) → o.constraint ≡ FixedR
     has_register clobbers r ≡ false
 
 -- and so with the operand k, as the others name it
-abbrev pub IsClear : PRegSet → List OperandValue → ℕ → Type 0
-IsClear clobbers operands k = (r : Register) → (op_at operands k).constraint ≡ FixedReg r → ((op_at operands k).kind ≡ Def)
-    ⊎ ((op_at operands k).position ≡ Late) ⊎ IsReused operands k → has_register clobbers r ≡ false
+abbrev pub OperandAvoidsClobbers : PRegSet → List OperandValue → ℕ → Type 0
+OperandAvoidsClobbers clobbers operands k = (r : Register) → (op_at operands k).constraint ≡ FixedReg r → ((op_at operands k).kind ≡ Def)
+    ⊎ ((op_at operands k).position ≡ Late) ⊎ IsReusedOperand operands k → has_register clobbers r ≡ false
 
 -- no operand has `Limit`
 abbrev pub IsUnlimited : OperandValue → Type 0
@@ -82,17 +74,17 @@ abbrev pub BranchDefinesInPlace : InstValue → Type 0
 BranchDefinesInPlace i = i.is_branch ≡ true → (k : ℕ) → k < length i.operands → DefinesInPlace (op_at i.operands k)
 
 -- the first instruction that fails a test
-pub record IsFirst (f : FunctionValue) (P : InstValue → Type 0) (i : ℕ) : Type 0 where
+pub record IsFirstFailing (f : FunctionValue) (P : InstValue → Type 0) (i : ℕ) : Type 0 where
   pub there : i < length f.insts
   pub fails : P (inst_at f i) → ⊥
   pub passed : (j : ℕ) → j < i → P (inst_at f j)
 
 -- where the tests of reuses, and then of fixed registers, fail first
 abbrev pub IsFixedFault : FunctionValue → MachineValue → RegAllocError → Type 0
-IsFixedFault f env e = (i : ℕ) × (e ≡ Unsupported i) × (IsFirst f (ReusesAreSound env) i
-    ⊎ (((j : ℕ) → j < length f.insts → ReusesAreSound env (inst_at f j)) × IsFirst f FixedAvoidClobbers i))
+IsFixedFault f env e = (i : ℕ) × (e ≡ Unsupported i) × (IsFirstFailing f (ReusesAreSound env) i
+    ⊎ (((j : ℕ) → j < length f.insts → ReusesAreSound env (inst_at f j)) × IsFirstFailing f FixedAvoidClobbers i))
 
 -- an instruction that the allocator doesn't take: the first that has a `Limit`, or where none has one, the first branch that
 -- defines in any register or by a reuse
 abbrev pub IsUnsupported : FunctionValue → ℕ → Type 0
-IsUnsupported f i = IsFirst f AreUnlimited i ⊎ (((j : ℕ) → j < length f.insts → AreUnlimited (inst_at f j)) × IsFirst f BranchDefinesInPlace i)
+IsUnsupported f i = IsFirstFailing f AreUnlimited i ⊎ (((j : ℕ) → j < length f.insts → AreUnlimited (inst_at f j)) × IsFirstFailing f BranchDefinesInPlace i)

@@ -1,5 +1,5 @@
 -- What the allocator tests first: the constraints of operands, and the first error of a function.
--- Read first: `IsFault` in `Validated`, then `Constraints`, one instruction at a time; `NoLimits`: no limits.
+-- Read first: `IsFunctionFault` in `Validated`, then `Constraints`, one instruction at a time; `NoLimits`: no limits.
 -- Depends on `WellFormed` and `Reasons` of regalloc2_function.
 pub mod Constraints
 pub mod NoLimits

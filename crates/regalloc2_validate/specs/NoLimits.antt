@@ -6,10 +6,10 @@ use Rattle.regalloc2_names.specs.Packing.{IsConstraintOf}
 use Rattle.regalloc2_function.specs.FunctionValue.{FunctionValue, inst_at}
 
 -- an operand that the walk takes: any but one with a limit; a register that it names is of its class
-pub record IsTaken (o : OperandValue) : Type 0 where
+pub record IsTakenOperand (o : OperandValue) : Type 0 where
   pub of_class : IsConstraintOf o.vreg.class o.constraint
   pub unlimited : (n : ℕ) → o.constraint ≡ Limit n → ⊥
 
 -- each operand of each instruction
 abbrev pub AreTaken : FunctionValue → Type 0
-AreTaken f = (i : ℕ) → i < length f.insts → All IsTaken (inst_at f i).operands
+AreTaken f = (i : ℕ) → i < length f.insts → All IsTakenOperand (inst_at f i).operands

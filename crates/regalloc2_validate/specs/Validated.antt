@@ -8,8 +8,8 @@ use Rattle.regalloc2_validate.specs.Constraints.{IsFixedFault}
 
 -- memory ran out, or a test failed: of blocks and edges; else of the entry, terminators, arguments, definitions and uses; else of
 -- reuses and fixed registers
-pub data IsFault (f : FunctionValue) (env : MachineValue) : RegAllocError → Type 0 where
-  memory : IsFault f env Memory
-  misshapen : {e : RegAllocError} → IsShapeFault f e → IsFault f env e
-  unsound : {e : RegAllocError} → HasShape f → IsSoundnessFault f e → IsFault f env e
-  clashing : {e : RegAllocError} → HasShape f → IsSound f → IsFixedFault f env e → IsFault f env e
+pub data IsFunctionFault (f : FunctionValue) (env : MachineValue) : RegAllocError → Type 0 where
+  memory : IsFunctionFault f env Memory
+  misshapen : {e : RegAllocError} → IsShapeFault f e → IsFunctionFault f env e
+  unsound : {e : RegAllocError} → HasShape f → IsSoundnessFault f e → IsFunctionFault f env e
+  clashing : {e : RegAllocError} → HasShape f → IsSound f → IsFixedFault f env e → IsFunctionFault f env e

@@ -1,15 +1,15 @@
 //! The tests of operands' constraints: reuses, fixed registers beside clobbers, limits, and definitions on branches.
 
 ghost use Rattle.std.specs.Prelude.{ℕ, ◌≡◌, ◌<◌, ◌⊎◌, ◌↔◌, All, length, true, false, IsTrue, IsFalse, IsOk, OnOk, IfSome, IfNone, IfErr, slice_index_or};
-ghost use Rattle.regalloc2_function.specs.FunctionValue.{inst_at};
+ghost use Rattle.regalloc2_function.specs.FunctionValue.{inst_at, op_at};
 ghost use Rattle.regalloc2_function.specs.Views.{machine_of};
 ghost use Rattle.regalloc2_function.specs.WellFormed.{MayBeReused, ReusesAreSound, FixedAvoidClobbers};
 ghost use Rattle.regalloc2_names.specs.Packing.{IsConstraintOf};
 ghost use Rattle.regalloc2_names.specs.Register.{Register};
 ghost use Rattle.regalloc2_names.specs.RegisterSet.{has_register};
-ghost use Rattle.regalloc2_validate.specs.NoLimits.{IsTaken, AreTaken};
-ghost use Rattle.regalloc2_validate.specs.Constraints.{op_at, IsNoReuse, IsReused, IsTarget, IsSoundReuse, AreApart, AvoidsClobbers, IsClear, IsUnlimited};
-ghost use Rattle.regalloc2_validate.specs.Constraints.{AreUnlimited, BranchDefinesInPlace, DefinesInPlace, IsFirst, IsFixedFault, IsUnsupported};
+ghost use Rattle.regalloc2_validate.specs.NoLimits.{IsTakenOperand, AreTaken};
+ghost use Rattle.regalloc2_validate.specs.Constraints.{IsNoReuse, IsReusedOperand, IsReuseTarget, IsSoundReuse, AreReusesApart, AvoidsClobbers, OperandAvoidsClobbers, IsUnlimited};
+ghost use Rattle.regalloc2_validate.specs.Constraints.{AreUnlimited, BranchDefinesInPlace, DefinesInPlace, IsFirstFailing, IsFixedFault, IsUnsupported};
 
 use regalloc2_fastalloc_state::allocatable::allocatable_of;
 use regalloc2_function::{Function, MachineEnv};
@@ -50,7 +50,7 @@ fn may_be_reused<B: Allocator>(
 /// Whether an operand may be reused by a definition of the class: an early use that reads a vreg of the class, under such a
 /// constraint.
 fn is_target<B: Allocator>(env: &MachineEnv<B>, class: RegClass, operand: Operand) -> bool
-    ensures { IsTrue result ↔ IsTarget (machine_of env.now) class operand }
+    ensures { IsTrue result ↔ IsReuseTarget (machine_of env.now) class operand }
 {
     if operand.kind() != OperandKind::Use || operand.pos() != OperandPos::Early {
         return false;
@@ -69,7 +69,7 @@ fn names_target<B: Allocator>(
     index: usize,
 ) -> bool
     ensures { IsTrue result ↔ ((operand.kind ≡ OperandKind.Def) × (operand.position ≡ OperandPos.Late) × (index < length operands.now)
-        × IsTarget (machine_of env.now) operand.vreg.class (op_at operands.now index)) }
+        × IsReuseTarget (machine_of env.now) operand.vreg.class (op_at operands.now index)) }
 {
     let is_late_def = operand.kind() == OperandKind::Def && operand.pos() == OperandPos::Late;
     is_late_def && index < operands.len() && is_target(env, operand.class(), operands[index])
@@ -118,7 +118,7 @@ fn are_no_reuses(operands: &[Operand]) -> bool
 
 /// Which operands reuses name, by index.
 fn named_by_reuses(operands: &[Operand]) -> [bool; 32]
-    ensures { (k : ℕ) → IsTrue (slice_index_or result k false) ↔ IsReused operands.now k }
+    ensures { (k : ℕ) → IsTrue (slice_index_or result k false) ↔ IsReusedOperand operands.now k }
 {
     let mut named = [false; 32];
     for k in 0..operands.len() {
@@ -138,7 +138,7 @@ fn is_named(named: &[bool], k: usize) -> bool
 
 /// Whether no two reuses name one operand.
 fn are_apart(operands: &[Operand]) -> bool
-    ensures { IsTrue result ↔ AreApart operands.now (length operands.now) }
+    ensures { IsTrue result ↔ AreReusesApart operands.now (length operands.now) }
 {
     let mut named = [false; 32];
     for k in 0..operands.len() {
@@ -185,7 +185,7 @@ fn avoids_clobbers(clobbers: PRegSet, operand: Operand, is_reused: bool) -> bool
 
 /// Whether no definition, late use or reused operand is fixed to a clobber.
 fn avoid_clobbers(operands: &[Operand], clobbers: PRegSet) -> bool
-    ensures { IsTrue result ↔ ((k : ℕ) → k < length operands.now → IsClear clobbers operands.now k) }
+    ensures { IsTrue result ↔ ((k : ℕ) → k < length operands.now → OperandAvoidsClobbers clobbers operands.now k) }
 {
     let named = named_by_reuses(operands);
     for k in 0..operands.len() {
@@ -231,7 +231,7 @@ fn is_unlimited(operand: Operand) -> bool
 /// Whether no operand has `Limit`.
 fn are_unlimited(operands: &[Operand]) -> bool
     ensures unlimited { IsTrue result ↔ ((k : ℕ) → k < length operands.now → IsUnlimited (op_at operands.now k)) }
-    ensures taken { IsTrue result → (k : ℕ) → k < length operands.now → IsTaken (op_at operands.now k) }
+    ensures taken { IsTrue result → (k : ℕ) → k < length operands.now → IsTakenOperand (op_at operands.now k) }
 {
     for k in 0..operands.len() {
         if !is_unlimited(operands[k]) {
@@ -245,7 +245,7 @@ fn are_unlimited(operands: &[Operand]) -> bool
 fn has_no_limit<F: Function>(f: &F, inst: Inst) -> bool
     requires { inst < length (F.function f.now).insts }
     ensures unlimited { IsTrue result ↔ AreUnlimited (inst_at (F.function f.now) inst) }
-    ensures taken { IsTrue result → All IsTaken (inst_at (F.function f.now) inst).operands }
+    ensures taken { IsTrue result → All IsTakenOperand (inst_at (F.function f.now) inst).operands }
 {
     are_unlimited(f.inst_operands(inst))
 }
@@ -256,7 +256,7 @@ fn validate_reuses<F: Function, B: Allocator>(
     env: &MachineEnv<B>,
 ) -> Result<(), RegAllocError>
     ensures ok { IsOk result ↔ ((i : ℕ) → i < length (F.function f.now).insts → ReusesAreSound (machine_of env.now) (inst_at (F.function f.now) i)) }
-    ensures first { IfErr result (λ e. (i : ℕ) × (e ≡ RegAllocError.Unsupported i) × IsFirst (F.function f.now) (ReusesAreSound (machine_of env.now)) i) }
+    ensures first { IfErr result (λ e. (i : ℕ) × (e ≡ RegAllocError.Unsupported i) × IsFirstFailing (F.function f.now) (ReusesAreSound (machine_of env.now)) i) }
 {
     for i in 0..f.num_insts() {
         let inst = Inst::new(i);
@@ -270,7 +270,7 @@ fn validate_reuses<F: Function, B: Allocator>(
 /// Tests fixed registers beside clobbers. Else the error is `Unsupported` with the first instruction at fault.
 fn validate_clobbers<F: Function>(f: &F) -> Result<(), RegAllocError>
     ensures ok { IsOk result ↔ ((i : ℕ) → i < length (F.function f.now).insts → FixedAvoidClobbers (inst_at (F.function f.now) i)) }
-    ensures first { IfErr result (λ e. (i : ℕ) × (e ≡ RegAllocError.Unsupported i) × IsFirst (F.function f.now) (FixedAvoidClobbers) i) }
+    ensures first { IfErr result (λ e. (i : ℕ) × (e ≡ RegAllocError.Unsupported i) × IsFirstFailing (F.function f.now) (FixedAvoidClobbers) i) }
 {
     for i in 0..f.num_insts() {
         let inst = Inst::new(i);
@@ -306,7 +306,7 @@ pub fn validate_fixed<F: Function, B: Allocator>(
 pub fn validate_limits<F: Function>(f: &F) -> Result<(), RegAllocError>
     ensures ok { IsOk result ↔ ((i : ℕ) → i < length (F.function f.now).insts → AreUnlimited (inst_at (F.function f.now) i)) }
     ensures taken { OnOk result (AreTaken (F.function f.now)) }
-    ensures first { IfErr result (λ e. (i : ℕ) × (e ≡ RegAllocError.Unsupported i) × IsFirst (F.function f.now) (AreUnlimited) i) }
+    ensures first { IfErr result (λ e. (i : ℕ) × (e ≡ RegAllocError.Unsupported i) × IsFirstFailing (F.function f.now) (AreUnlimited) i) }
 {
     for i in 0..f.num_insts() {
         let inst = Inst::new(i);
@@ -358,7 +358,7 @@ fn is_sound_branch<F: Function>(f: &F, inst: Inst) -> bool
 /// program there.
 pub fn validate_branches<F: Function>(f: &F) -> Result<(), RegAllocError>
     ensures ok { IsOk result ↔ ((i : ℕ) → i < length (F.function f.now).insts → BranchDefinesInPlace (inst_at (F.function f.now) i)) }
-    ensures first { IfErr result (λ e. (i : ℕ) × (e ≡ RegAllocError.Unsupported i) × IsFirst (F.function f.now) (BranchDefinesInPlace) i) }
+    ensures first { IfErr result (λ e. (i : ℕ) × (e ≡ RegAllocError.Unsupported i) × IsFirstFailing (F.function f.now) (BranchDefinesInPlace) i) }
 {
     for i in 0..f.num_insts() {
         let inst = Inst::new(i);
@@ -374,7 +374,7 @@ fn passes_operand_tests<F: Function>(f: &F, inst: Inst) -> bool
     requires { inst < length (F.function f.now).insts }
     ensures passed { IsTrue result → AreUnlimited (inst_at (F.function f.now) inst) × BranchDefinesInPlace (inst_at (F.function f.now) inst) }
     ensures failed { IsFalse result → AreUnlimited (inst_at (F.function f.now) inst) → BranchDefinesInPlace (inst_at (F.function f.now) inst) → ⊥ }
-    ensures taken { IsTrue result → All IsTaken (inst_at (F.function f.now) inst).operands }
+    ensures taken { IsTrue result → All IsTakenOperand (inst_at (F.function f.now) inst).operands }
 {
     has_no_limit(f, inst) && is_sound_branch(f, inst)
 }

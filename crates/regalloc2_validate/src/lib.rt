@@ -4,7 +4,7 @@
 ghost use Rattle.std.specs.Prelude.{IfErr, OnOk};
 ghost use Rattle.regalloc2_function.specs.Views.{machine_of};
 ghost use Rattle.regalloc2_function.specs.WellFormed.{IsWellFormed};
-ghost use Rattle.regalloc2_validate.specs.Validated.{IsFault};
+ghost use Rattle.regalloc2_validate.specs.Validated.{IsFunctionFault};
 
 use regalloc2_cfg::ssa::test_soundness;
 use regalloc2_cfg::test_shape;
@@ -26,7 +26,7 @@ pub fn validate_function<A: Allocator + Copy, F: Function, B: Allocator>(
     env: &MachineEnv<B>,
 ) -> Result<(), RegAllocError>
     ensures ok { OnOk result (IsWellFormed (machine_of env.now) (F.function f.now)) }
-    ensures refused { IfErr result (IsFault (F.function f.now) (machine_of env.now)) }
+    ensures refused { IfErr result (IsFunctionFault (F.function f.now) (machine_of env.now)) }
 {
     test_shape(alloc, f)?;
     test_soundness(alloc, f)?;

@@ -14,9 +14,9 @@ use Rattle.regalloc2_function.specs.Path.{Way, Onward, ToSuccessor, Location, en
 use Rattle.regalloc2_function.specs.SourceRun.{Stamp, read_of, source_before, source_after, source_read}
 use Rattle.regalloc2_function.specs.AllocatedRun.{Cells, after_moves, after_writes, moves_at, cells_early, cells_late, cells_before}
 use Rattle.regalloc2_function.specs.Faithful.{ReadsAgree}
-use Rattle.regalloc2_values.specs.Interpreters.{History, Meaning, State, read_by, is_late_use, edge_to, way_on, source_reads, source_told, source_written}
+use Rattle.regalloc2_values.specs.Interpreters.{History, InstMeaning, State, read_by, is_late_use, edge_to, way_on, vreg_reads, source_told, vreg_written}
 use Rattle.regalloc2_values.specs.Interpreters.{source_step, source_run, place_found, place_reads, place_told, place_step, place_run}
-use Rattle.regalloc2_values.specs.Interpreters.{passed_over, moved, written_to, clobbered}
+use Rattle.regalloc2_values.specs.Interpreters.{passed_over, numbers_moved, written_to, numbers_clobbered}
 use Rattle.regalloc2_values.specs.Alike.{AreAlike, HaveRunAlike, ReadsEarlier, FaithfulRunAlike, WellFormedRunAlike}
 use Rattle.regalloc2_semantics.specs.Laws.{AgreeingReadsFindEarlier}
 use Rattle.regalloc2_values.proofs.Standing.{Stands, Holds, moves_stand, early_stand, writes_stand, clobbers_stand, defs_hold, edge_holds, Made}
@@ -100,7 +100,7 @@ way_is_there f l taken w e = pick (nat_lt (l.inst + 1) (block_at f l.block).rang
     pick false true less same g = edge_is_there f l taken w (eqb-true _ _ same) g
     pick false false less same g = absurd cc
 
-module _ (f : FunctionValue) (out : OutputValue) (meaning : Meaning) (noise : History → Place → ℕ) where
+module _ (f : FunctionValue) (out : OutputValue) (meaning : InstMeaning) (noise : History → Place → ℕ) where
   -- both states at the end of a path
   abbrev source_at : List Way → History → (VirtualRegister → ℕ) → State VirtualRegister
   source_at ws h e = record { at = end_of f ws; history = h; numbers = e }
@@ -129,10 +129,10 @@ module _ (f : FunctionValue) (out : OutputValue) (meaning : Meaning) (noise : Hi
     found_stand : Stands (Made (length ws) t.number) (cells_early f out (end_of f ws) (cells_before f out ws))
         (place_found f out meaning noise (place_at_end ws h m))
     found_stand = early_stand (Made (length ws) t.number) (noise h) places 0 ops (after_moves (moves_at f out (end_of f ws)) (cells_before f out ws))
-        (moved (moves_at f out (end_of f ws)) m)
+        (numbers_moved (moves_at f out (end_of f ws)) m)
         (moves_stand (Made (length ws) t.number) (moves_at f out (end_of f ws)) (cells_before f out ws) m t.stands)
 
-    reads_alike : place_reads f out meaning noise (place_at_end ws h m) ≡ source_reads f meaning (source_at ws h e)
+    reads_alike : place_reads f out meaning noise (place_at_end ws h m) ≡ vreg_reads f meaning (source_at ws h e)
     reads_alike = same_reads is_reading _ _ 0 ops (λ k d less yes.
         let u = fs k d less yes in
         let z : k + 0 ≡ k = omega arith in
@@ -150,7 +150,7 @@ module _ (f : FunctionValue) (out : OutputValue) (meaning : Meaning) (noise : Hi
 
     -- the places' numbers after the instruction, where that was read
     abbrev written_at : History → Place → ℕ
-    written_at x = clobbered (inst_at f (end_of f ws).inst).clobbers (noise x)
+    written_at x = numbers_clobbered (inst_at f (end_of f ws).inst).clobbers (noise x)
         (written_to (meaning.writes x) places 0 ops (place_found f out meaning noise (place_at_end ws h m)))
 
     later_stand : Stands (Made (length ws + 1) numbered) (cells_late f out (end_of f ws) (length ws) (cells_early f out (end_of f ws) (cells_before f out ws)))
@@ -164,20 +164,20 @@ module _ (f : FunctionValue) (out : OutputValue) (meaning : Meaning) (noise : Hi
         (newest (length ws) (meaning.writes told) t.number)
         (λ q s x. still (length ws) (meaning.writes told) t.number s (place q) (found_stand q s x)))
 
-    later_hold : Holds (Made (length ws + 1) numbered) (source_after f ws) (source_written f meaning (source_at ws h e))
+    later_hold : Holds (Made (length ws + 1) numbered) (source_after f ws) (vreg_written f meaning (source_at ws h e))
     later_hold = defs_hold (Made (length ws + 1) numbered) (meaning.writes told) (length ws) 0 ops (source_before f ws) e
         (newest (length ws) (meaning.writes told) t.number)
         (λ v s x. still (length ws) (meaning.writes told) t.number s (e v) (t.holds v s x))
 
     late_at : read_by is_late_use (λ k o. written_at told (place_at places k)) 0 ops
-        ≡ read_by is_late_use (λ k o. source_written f meaning (source_at ws h e) o.vreg) 0 ops
+        ≡ read_by is_late_use (λ k o. vreg_written f meaning (source_at ws h e) o.vreg) 0 ops
     late_at = same_reads is_late_use _ _ 0 ops (λ k d less yes.
         let both = and_parts _ _ yes in
         let u = fs k d less both.0 in
         let z : k + 0 ≡ k = omega arith in
         rw z (one_number (length ws + 1) numbered u.stamp _ _ (later_stand _ _ (u.cell_late both.1)) (later_hold _ _ (u.source_late both.1))))
 
-    still_at : read_by is_late_use (λ k o. source_written f meaning (source_at ws h e) o.vreg) 0 ops ≡ read_by is_late_use (λ k o. e o.vreg) 0 ops
+    still_at : read_by is_late_use (λ k o. vreg_written f meaning (source_at ws h e) o.vreg) 0 ops ≡ read_by is_late_use (λ k o. e o.vreg) 0 ops
     still_at = same_reads is_late_use _ _ 0 ops (λ k d less yes.
         let both = and_parts _ _ yes in
         let u = fs k d less both.0 in
@@ -190,19 +190,19 @@ module _ (f : FunctionValue) (out : OutputValue) (meaning : Meaning) (noise : Hi
       history = refl;
       reads = reads_alike;
       late = subst (λ (x : History). read_by is_late_use (λ k o. written_at x (place_at places k)) 0 ops
-          ≡ read_by is_late_use (λ k o. source_written f meaning (source_at ws h e) o.vreg) 0 ops) (sym told_alike) late_at;
+          ≡ read_by is_late_use (λ k o. vreg_written f meaning (source_at ws h e) o.vreg) 0 ops) (sym told_alike) late_at;
       still = still_at;
     }
 
     -- one way further
-    told_on : (w : Way) → Told f out (w ∷ ws) (passed_over f (end_of f ws) w (source_written f meaning (source_at ws h e))) (written_at told)
+    told_on : (w : Way) → Told f out (w ∷ ws) (passed_over f (end_of f ws) w (vreg_written f meaning (source_at ws h e))) (written_at told)
     unfolding source_before cells_before
     told_on w =
         let len : suc (length ws) ≡ length ws + 1 = omega arith in
         record {
           number = numbered;
           holds = rw len (edge_holds (Made (length ws + 1) numbered) f (end_of f ws) w (source_after f ws)
-              (source_written f meaning (source_at ws h e)) later_hold);
+              (vreg_written f meaning (source_at ws h e)) later_hold);
           stands = rw len later_stand;
         }
 
@@ -227,7 +227,7 @@ module _ (f : FunctionValue) (out : OutputValue) (meaning : Meaning) (noise : Hi
             Along (option_map (λ w. record {
               at = next_of f (end_of f ws) w;
               history = source_told f meaning (source_at ws h e);
-              numbers = passed_over f (end_of f ws) w (source_written f meaning (source_at ws h e));
+              numbers = passed_over f (end_of f ws) w (vreg_written f meaning (source_at ws h e));
             }) o)
             (option_map (λ w. record {
               at = next_of f (end_of f ws) w;

@@ -11,7 +11,8 @@ use Rattle.regalloc2_function.specs.OutputValue.{MoveValue, place_at}
 use Rattle.regalloc2_function.specs.Path.{Way, Onward, ToSuccessor, Location}
 use Rattle.regalloc2_function.specs.SourceRun.{Stamp, Source, assigned, after_defs, passed, over_edge}
 use Rattle.regalloc2_function.specs.AllocatedRun.{Cells, stored, after_moves, after_early_defs, after_writes, after_clobbers}
-use Rattle.regalloc2_values.specs.Interpreters.{number_set, defined, passed_on, passed_over, place_set, moved, disturbed, written_to, clobbered}
+use Rattle.regalloc2_values.specs.Interpreters.{number_set, numbers_defined, passed_on, passed_over, place_set, numbers_moved, disturbed, written_to}
+use Rattle.regalloc2_values.specs.Interpreters.{numbers_clobbered}
 
 -- which number a write made
 abbrev pub Value : Type 1
@@ -43,8 +44,8 @@ set_stands R c m NoPlace x n h g = h
 set_stands R c m (InRegister r) x n h g = λ q s e. chosen R (is_place (InRegister r) q) x (c q) n (m q) s g (h q) e
 set_stands R c m (InSlot k) x n h g = λ q s e. chosen R (is_place (InSlot k) q) x (c q) n (m q) s g (h q) e
 
-pub moves_stand : (R : Value) (es : List MoveValue) (c : Cells) (m : Place → ℕ) → Stands R c m → Stands R (after_moves es c) (moved es m)
-unfolding after_moves moved
+pub moves_stand : (R : Value) (es : List MoveValue) (c : Cells) (m : Place → ℕ) → Stands R c m → Stands R (after_moves es c) (numbers_moved es m)
+unfolding after_moves numbers_moved
 moves_stand R [] c m h = h
 moves_stand R (e ∷ es) c m h = moves_stand R es _ _ (set_stands R c m e.to (c e.from) (m e.from) h (h e.from))
 
@@ -76,8 +77,8 @@ writes_stand R written places step k (o ∷ os) c m g h = writes_stand R written
     pick false = h
 
 pub clobbers_stand : (R : Value) (set : PRegSet) (noise : Place → ℕ) (c : Cells) (m : Place → ℕ) → Stands R c m →
-    Stands R (after_clobbers set c) (clobbered set noise m)
-unfolding after_clobbers clobbered
+    Stands R (after_clobbers set c) (numbers_clobbered set noise m)
+unfolding after_clobbers numbers_clobbered
 clobbers_stand R set noise c m h NoPlace s e = h NoPlace s e
 clobbers_stand R set noise c m h (InRegister r) s e = chosen R (has_register set r) None (c (InRegister r)) (noise (InRegister r)) (m (InRegister r)) s
     (nothing R _) (h (InRegister r)) e
@@ -89,8 +90,8 @@ assigned_hold : (R : Value) (c : Source) (m : VirtualRegister → ℕ) (v : Virt
 assigned_hold R c m v x n h g q s e = chosen R (is_vreg v q) x (c q) n (m q) s g (h q) e
 
 pub defs_hold : (R : Value) (written : ℕ → ℕ) (step k : ℕ) (os : List OperandValue) (c : Source) (m : VirtualRegister → ℕ) →
-    ((j : ℕ) → R (record { step = step; operand = j }) (written j)) → Holds R c m → Holds R (after_defs step k os c) (defined written k os m)
-unfolding after_defs defined
+    ((j : ℕ) → R (record { step = step; operand = j }) (written j)) → Holds R c m → Holds R (after_defs step k os c) (numbers_defined written k os m)
+unfolding after_defs numbers_defined
 defs_hold R written step k [] c m g h = h
 defs_hold R written step k (o ∷ os) c m g h = defs_hold R written step (k + 1) os _ _ g (pick (is_def o.kind))
   where

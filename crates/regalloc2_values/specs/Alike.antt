@@ -9,19 +9,19 @@ use Rattle.regalloc2_function.specs.Path.{Way, IsPath}
 use Rattle.regalloc2_function.specs.SourceRun.{UsesFindEarlier}
 use Rattle.regalloc2_function.specs.Faithful.{IsFaithful}
 use Rattle.regalloc2_function.specs.WellFormed.{IsWellFormed}
-use Rattle.regalloc2_values.specs.Interpreters.{History, Meaning, State, read_by, is_late_use, source_reads, source_written, source_run}
+use Rattle.regalloc2_values.specs.Interpreters.{History, InstMeaning, State, read_by, is_late_use, vreg_reads, vreg_written, source_run}
 use Rattle.regalloc2_values.specs.Interpreters.{place_reads, place_written, place_run}
 
-module _ (f : FunctionValue) (out : OutputValue) (meaning : Meaning) (noise : History → Place → ℕ) where
+module _ (f : FunctionValue) (out : OutputValue) (meaning : InstMeaning) (noise : History → Place → ℕ) where
   -- Both are at one instruction, and have read the same numbers up to it; they read the same ones there. What a late use reads
   -- still has that number, and so has its place, once the instruction has defined.
   pub record AreAlike (c : State VirtualRegister) (d : State Place) : Type 0 where
     pub at : d.at ≡ c.at
     pub history : d.history ≡ c.history
-    pub reads : place_reads f out meaning noise d ≡ source_reads f meaning c
+    pub reads : place_reads f out meaning noise d ≡ vreg_reads f meaning c
     pub late : read_by is_late_use (λ k o. place_written f out meaning noise d (place_at (allocs_of out d.at.inst) k)) 0 (inst_at f d.at.inst).operands
-        ≡ read_by is_late_use (λ k o. source_written f meaning c o.vreg) 0 (inst_at f c.at.inst).operands
-    pub still : read_by is_late_use (λ k o. source_written f meaning c o.vreg) 0 (inst_at f c.at.inst).operands
+        ≡ read_by is_late_use (λ k o. vreg_written f meaning c o.vreg) 0 (inst_at f c.at.inst).operands
+    pub still : read_by is_late_use (λ k o. vreg_written f meaning c o.vreg) 0 (inst_at f c.at.inst).operands
         ≡ read_by is_late_use (λ k o. c.numbers o.vreg) 0 (inst_at f c.at.inst).operands
 
   -- and both end together
@@ -33,7 +33,7 @@ module _ (f : FunctionValue) (out : OutputValue) (meaning : Meaning) (noise : Hi
 
 -- whatever the instructions mean, whatever noise there is, and whatever numbers are there at first, both run alike, however many steps they make
 abbrev pub RunAlike : FunctionValue → OutputValue → Type 0
-RunAlike f out = (meaning : Meaning) (noise : History → Place → ℕ) (virtual : VirtualRegister → ℕ) (places : Place → ℕ) (n : ℕ) →
+RunAlike f out = (meaning : InstMeaning) (noise : History → Place → ℕ) (virtual : VirtualRegister → ℕ) (places : Place → ℕ) (n : ℕ) →
     HaveRunAlike f out meaning noise (source_run f meaning virtual n) (place_run f out meaning noise places n)
 
 -- no use reads what its own instruction writes

@@ -19,7 +19,7 @@ History = List (ℕ × List ℕ)
 
 -- What instructions do, by what was read up to their step and at it: the number that they write to the operand of an index, and the position
 -- of the successor that a branch takes, or none where the run ends. Memory and whatever else changes is a function of what was read.
-pub record Meaning : Type 0 where
+pub record InstMeaning : Type 0 where
   pub writes : History → ℕ → ℕ
   pub takes : History → Option ℕ
 
@@ -53,9 +53,9 @@ abbrev pub number_set : (VirtualRegister → ℕ) → VirtualRegister → ℕ �
 number_set m v n q = if is_vreg v q then n else m q
 
 -- the numbers after a step's definitions, in operand order from index k on
-unfoldable pub defined : (ℕ → ℕ) → ℕ → List OperandValue → (VirtualRegister → ℕ) → VirtualRegister → ℕ
-defined written k [] m = m
-defined written k (o ∷ os) m = defined written (k + 1) os (if is_def o.kind then number_set m o.vreg (written k) else m)
+unfoldable pub numbers_defined : (ℕ → ℕ) → ℕ → List OperandValue → (VirtualRegister → ℕ) → VirtualRegister → ℕ
+numbers_defined written k [] m = m
+numbers_defined written k (o ∷ os) m = numbers_defined written (k + 1) os (if is_def o.kind then number_set m o.vreg (written k) else m)
 
 -- the parameters take what the arguments had before, all at once
 unfoldable pub passed_on : List VirtualRegister → List VirtualRegister → (VirtualRegister → ℕ) → (VirtualRegister → ℕ) → VirtualRegister → ℕ
@@ -75,9 +75,9 @@ place_set m (InRegister r) n = λ q. if is_place (InRegister r) q then n else m 
 place_set m (InSlot s) n = λ q. if is_place (InSlot s) q then n else m q
 
 -- moves, one after another
-unfoldable pub moved : List MoveValue → (Place → ℕ) → Place → ℕ
-moved [] m = m
-moved (e ∷ es) m = moved es (place_set m e.to (m e.from))
+unfoldable pub numbers_moved : List MoveValue → (Place → ℕ) → Place → ℕ
+numbers_moved [] m = m
+numbers_moved (e ∷ es) m = numbers_moved es (place_set m e.to (m e.from))
 
 -- an instruction may write its early definitions while it reads, so their places hold any numbers then
 unfoldable pub disturbed : (Place → ℕ) → List Place → ℕ → List OperandValue → (Place → ℕ) → Place → ℕ
@@ -91,27 +91,27 @@ written_to written places k [] m = m
 written_to written places k (o ∷ os) m = written_to written places (k + 1) os (if is_def o.kind then place_set m (place_at places k) (written k) else m)
 
 -- clobbered registers hold any numbers
-unfoldable pub clobbered : PRegSet → (Place → ℕ) → (Place → ℕ) → Place → ℕ
-clobbered set noise m NoPlace = m NoPlace
-clobbered set noise m (InRegister r) = if has_register set r then noise (InRegister r) else m (InRegister r)
-clobbered set noise m (InSlot n) = m (InSlot n)
+unfoldable pub numbers_clobbered : PRegSet → (Place → ℕ) → (Place → ℕ) → Place → ℕ
+numbers_clobbered set noise m NoPlace = m NoPlace
+numbers_clobbered set noise m (InRegister r) = if has_register set r then noise (InRegister r) else m (InRegister r)
+numbers_clobbered set noise m (InSlot n) = m (InSlot n)
 
 -- The interpreter over virtual registers.
-module _ (f : FunctionValue) (meaning : Meaning) where
+module _ (f : FunctionValue) (meaning : InstMeaning) where
   -- what an instruction reads, and what has been read then
-  abbrev pub source_reads : State VirtualRegister → List ℕ
-  source_reads c = read_by is_reading (λ k o. c.numbers o.vreg) 0 (inst_at f c.at.inst).operands
+  abbrev pub vreg_reads : State VirtualRegister → List ℕ
+  vreg_reads c = read_by is_reading (λ k o. c.numbers o.vreg) 0 (inst_at f c.at.inst).operands
 
   abbrev pub source_told : State VirtualRegister → History
-  source_told c = (c.at.inst, source_reads c) ∷ c.history
+  source_told c = (c.at.inst, vreg_reads c) ∷ c.history
 
   -- the numbers once the instruction has defined
-  abbrev pub source_written : State VirtualRegister → VirtualRegister → ℕ
-  source_written c = defined (meaning.writes (source_told c)) 0 (inst_at f c.at.inst).operands c.numbers
+  abbrev pub vreg_written : State VirtualRegister → VirtualRegister → ℕ
+  vreg_written c = numbers_defined (meaning.writes (source_told c)) 0 (inst_at f c.at.inst).operands c.numbers
 
   -- one step further; an edge passes what the arguments have after the definitions
   abbrev pub source_step : State VirtualRegister → Option (State VirtualRegister)
-  source_step c = option_map (λ w. record { at = next_of f c.at w; history = source_told c; numbers = passed_over f c.at w (source_written c) })
+  source_step c = option_map (λ w. record { at = next_of f c.at w; history = source_told c; numbers = passed_over f c.at w (vreg_written c) })
       (way_on f c.at (meaning.takes (source_told c)))
 
   -- so many steps from the entry, with any numbers in the virtual registers; nothing once it has ended
@@ -120,10 +120,10 @@ module _ (f : FunctionValue) (meaning : Meaning) where
   source_run start (suc n) = option_and_then source_step (source_run start n)
 
 -- The interpreter over places. Noise is what an instruction may leave in the places of early definitions while it reads, and in clobbered registers.
-module _ (f : FunctionValue) (out : OutputValue) (meaning : Meaning) (noise : History → Place → ℕ) where
+module _ (f : FunctionValue) (out : OutputValue) (meaning : InstMeaning) (noise : History → Place → ℕ) where
   -- the numbers that an instruction finds: its moves are made, and early definitions may have been written
   abbrev pub place_found : State Place → Place → ℕ
-  place_found c = disturbed (noise c.history) (allocs_of out c.at.inst) 0 (inst_at f c.at.inst).operands (moved (moves_at f out c.at) c.numbers)
+  place_found c = disturbed (noise c.history) (allocs_of out c.at.inst) 0 (inst_at f c.at.inst).operands (numbers_moved (moves_at f out c.at) c.numbers)
 
   -- what it reads, in the places of its uses, and what has been read then
   abbrev pub place_reads : State Place → List ℕ
@@ -134,7 +134,7 @@ module _ (f : FunctionValue) (out : OutputValue) (meaning : Meaning) (noise : Hi
 
   -- the numbers once it has defined
   abbrev pub place_written : State Place → Place → ℕ
-  place_written c = clobbered (inst_at f c.at.inst).clobbers (noise (place_told c))
+  place_written c = numbers_clobbered (inst_at f c.at.inst).clobbers (noise (place_told c))
       (written_to (meaning.writes (place_told c)) (allocs_of out c.at.inst) 0 (inst_at f c.at.inst).operands (place_found c))
 
   -- one step further; on an edge nothing moves

@@ -3,9 +3,9 @@ use Rattle.std.specs.Prelude.{List}
 use Rattle.std.proofs.lemmas.Result.{err_from_is_err_and}
 use Rattle.regalloc2_names.specs.Place.{Place}
 use Rattle.regalloc2_parts.specs.AtOnce.{ends_of, HasOneSourceEach}
-use Rattle.regalloc2_parts.specs.Resolved.{listed, has_scratch, IsResolution}
+use Rattle.regalloc2_parts.specs.Resolved.{moves_listed, has_scratch, IsResolution}
 use Rattle.regalloc2_parts.specs.declared.moves.MoveFault.{MoveFault}
-use Rattle.regalloc2_callmoves.specs.CallMoves.{fault_of, IsFault, IsScheduled}
+use Rattle.regalloc2_callmoves.specs.CallMoves.{fault_of, IsCallFault, IsScheduled}
 use Rattle.regalloc2_callmoves.proofs.CallSchedule.{one_source, usable, scheduled, fails}
 use Rattle.regalloc2_callmoves.proofs.schedule_proper.Goals as goal
 
@@ -24,8 +24,8 @@ compute-requires g c = (
   search rules,
   (
     usable c.args.moves.now c.args.frame.now c.scratch_pool.result c.requires.proper c.scratch_pool.ensures (has_scratch c.in_ok-resolved.resolved)
-        (listed c.in_ok-resolved.resolved)
-        (subst (λ (xs : List (Place × Place × Unit {0})). IsResolution xs (has_scratch c.in_ok-resolved.resolved) (listed c.in_ok-resolved.resolved))
+        (moves_listed c.in_ok-resolved.resolved)
+        (subst (λ (xs : List (Place × Place × Unit {0})). IsResolution xs (has_scratch c.in_ok-resolved.resolved) (moves_listed c.in_ok-resolved.resolved))
         c.in_ok-parallel.ensures.all c.in_ok-resolved.ensures.resolved),
     c.in_ok-resolved.ensures.runnable,
   ),
@@ -35,13 +35,13 @@ pub returns-in_err-parallel : goal.returns-in_err-parallel
 returns-in_err-parallel g c =
     let p = err_from_is_err_and c.from_residual.result c.from_residual.ensures.1 in
     rw (p.1, p.2)
-    (subst (λ (e : MoveFault). IsFault c.args.moves.now c.args.frame.now (fault_of e)) (sym c.in_err-parallel.ensures.memory) c.requires.proper)
+    (subst (λ (e : MoveFault). IsCallFault c.args.moves.now c.args.frame.now (fault_of e)) (sym c.in_err-parallel.ensures.memory) c.requires.proper)
 
 pub returns-in_err-resolved : goal.returns-in_err-resolved
 returns-in_err-resolved g c =
     let p = err_from_is_err_and c.from_residual-in_err-resolved.result c.from_residual-in_err-resolved.ensures.1 in
     rw (p.1, p.2)
-    (subst (λ (e : MoveFault). IsFault c.args.moves.now c.args.frame.now (fault_of e)) (sym c.in_err-resolved.ensures.memory) c.requires.proper)
+    (subst (λ (e : MoveFault). IsCallFault c.args.moves.now c.args.frame.now (fault_of e)) (sym c.in_err-resolved.ensures.memory) c.requires.proper)
 
 pub returns-in_err-made : goal.returns-in_err-made
 returns-in_err-made g c =
@@ -53,7 +53,7 @@ pub returns : goal.returns
 returns g c =
     let made : IsScheduled c.args.moves.now c.args.frame.now c.in_ok-made.made.moves.items =
     scheduled c.args.moves.now c.args.frame.now c.scratch_pool.result c.requires.proper c.scratch_pool.ensures (has_scratch c.in_ok-resolved.resolved)
-    (listed c.in_ok-resolved.resolved)
-    (subst (λ (xs : List (Place × Place × Unit {0})). IsResolution xs (has_scratch c.in_ok-resolved.resolved) (listed c.in_ok-resolved.resolved))
+    (moves_listed c.in_ok-resolved.resolved)
+    (subst (λ (xs : List (Place × Place × Unit {0})). IsResolution xs (has_scratch c.in_ok-resolved.resolved) (moves_listed c.in_ok-resolved.resolved))
     c.in_ok-parallel.ensures.all c.in_ok-resolved.ensures.resolved) c.in_ok-made.made.slots c.in_ok-made.made.moves.items c.in_ok-made.ensures.made in
     search (rules, made)

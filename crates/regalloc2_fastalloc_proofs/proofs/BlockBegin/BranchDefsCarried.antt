@@ -7,10 +7,10 @@ use Rattle.regalloc2_names.specs.Register.{Register, VirtualRegister}
 use Rattle.regalloc2_names.specs.Operand.{OperandValue, is_def, fixed_register}
 use Rattle.regalloc2_names.specs.Place.{Place, NoPlace, InSlot, is_memory}
 use Rattle.regalloc2_names.specs.Point.{before}
-use Rattle.regalloc2_function.specs.FunctionValue.{FunctionValue, block_at, inst_at}
+use Rattle.regalloc2_function.specs.FunctionValue.{FunctionValue, block_at, inst_at, op_at}
 use Rattle.regalloc2_function.specs.SourceRun.{arguments_at}
 use Rattle.regalloc2_function.specs.WellFormed.{DefinedOnce, last_of}
-use Rattle.regalloc2_semantics.specs.Listing.{Item, op_at}
+use Rattle.regalloc2_semantics.specs.Listing.{Item}
 use Rattle.regalloc2_semantics.specs.Carry.{Carries}
 use Rattle.regalloc2_semantics.specs.BlockByPoints.{at_point, walked, listed}
 use Rattle.regalloc2_semantics.specs.Blocks.{target_at, StandsBefore, ComesIn}
@@ -24,9 +24,9 @@ use Rattle.regalloc2_branch_defs.specs.BranchDefs.{DefinesNumber, IsEdgeInto, Is
 use Rattle.regalloc2_branch_defs.proofs.EdgeNotes.{fixed_defines}
 use Rattle.regalloc2_fastalloc_state.specs.StateParts.{slot_name}
 use Rattle.regalloc2_fastalloc_proofs.specs.InstSteps.{StateValue}
-use Rattle.regalloc2_fastalloc_proofs.specs.BlockStart.{no_vreg}
-use Rattle.regalloc2_fastalloc_proofs.specs.BranchSteps.{IsOwn}
-use Rattle.regalloc2_fastalloc_proofs.specs.StoreSteps.{branch_operands, place_by, defined_place, IsStoredFor, its_own, given, StoresFor, StoresOn}
+use Rattle.regalloc2_names.specs.Register.{no_vreg}
+use Rattle.regalloc2_fastalloc_proofs.specs.BranchSteps.{IsOwnDef}
+use Rattle.regalloc2_fastalloc_proofs.specs.StoreSteps.{branch_operands, fixed_or_slot, defined_place, IsStoredFor, its_own, given, StoresFor, StoresOn}
 use Rattle.regalloc2_fastalloc_proofs.specs.StoreSteps.{StoresBranchDefs, none_stored, all_stored, IsConcerned}
 use Rattle.regalloc2_fastalloc_proofs.proofs.Safety.StepsKeepState.{slot_in}
 use Rattle.regalloc2_fastalloc_proofs.proofs.Operands.RecordOverState.{opt_some, slots_at}
@@ -151,7 +151,7 @@ module _ (stored : StoredAtBegin) where
                 fixed = subst IsSome (sym some) refl;
                 used = subst (IsUsedElsewhere f) (sym is) used;
               }) is) (λ q at there. stands ∙ ap Some ((placed e k edge).fixed j r.0 d.operand d.definition r.1
-              ∙ sym (at ∙ ap (λ (x : Option Register). place_by x (slot_name new.slots o.vreg.number)) some)))))
+              ∙ sym (at ∙ ap (λ (x : Option Register). fixed_or_slot x (slot_name new.slots o.vreg.number)) some)))))
           | inr slot ↦ (
               let at = (placed e k edge).slotted j d.operand d.definition slot in
               let mine_too : F v.number ≡ Some (InSlot at.0) = subst (λ (w : VirtualRegister). F w.number ≡ Some (InSlot at.0)) is at.2 in
@@ -191,11 +191,11 @@ module _ (stored : StoredAtBegin) where
         inl (brings p mine j (given n (to_b (λ ps. n < length ps) lt) (to_b (λ ps. slice_index_or ps n no_vreg ≡ v) is) d (has_slot n lt is))
         (λ q at there. elim ((placed e k edge).kinds j d.operand d.definition) [
           | inl r ↦ (stands ∙ ap Some ((placed e k edge).fixed j r.0 d.operand d.definition r.1
-              ∙ sym (at ∙ ap (λ (x : Option Register). place_by x (slot_name new.slots o.vreg.number)) (fixed_some o r.0 d.definition r.1))))
+              ∙ sym (at ∙ ap (λ (x : Option Register). fixed_or_slot x (slot_name new.slots o.vreg.number)) (fixed_some o r.0 d.definition r.1))))
           | inr slot ↦ (
               let s2 = (placed e k edge).slotted j d.operand d.definition slot in
               let named_slot : q ≡ slot_in new o.vreg.number = at
-              ∙ ap (λ (x : Option Register). place_by x (slot_name new.slots o.vreg.number)) (fixed_none o d.definition slot) in
+              ∙ ap (λ (x : Option Register). fixed_or_slot x (slot_name new.slots o.vreg.number)) (fixed_none o d.definition slot) in
               let known : F o.vreg.number ≡ Some q = stays o.vreg.number q
               (subst (λ x. slots_at new o.vreg.number ≡ Some x) (sym named_slot) (opt_some (slot_in new o.vreg.number) (λ none. there (named_slot ∙ none)))) in
               let same : Some (InSlot s2.0) ≡ Some q = sym s2.2 ∙ known in
@@ -203,14 +203,14 @@ module _ (stored : StoredAtBegin) where
         ]))
 
     -- where it is neither
-    brought_other : (p : Place) → F v.number ≡ Some p → (IsOwn f e v → ⊥) → ((n : ℕ) → n < length (block_at f b).params →
-        slice_index_or (block_at f b).params n no_vreg ≡ v → IsOwn f e (slice_index_or (arguments_at f e k) n no_vreg) → ⊥) →
+    brought_other : (p : Place) → F v.number ≡ Some p → (IsOwnDef f e v → ⊥) → ((n : ℕ) → n < length (block_at f b).params →
+        slice_index_or (block_at f b).params n no_vreg ≡ v → IsOwnDef f e (slice_index_or (arguments_at f e k) n no_vreg) → ⊥) →
         ((d l : ℕ) → IsEdgeInto f b d l → (d ≡ e) × (l ≡ k)) → Brought p
     brought_other p mine foreign not_given one =
         let stands : stand b v ≡ F v.number = arrive.other b v needed
-        (λ d l into own_it. foreign (subst (λ c. IsOwn f c v) (one d l into).0 own_it))
-        (λ d l n into lt is own_it. not_given n lt is (subst (λ c. IsOwn f c (slice_index_or (arguments_at f c k) n no_vreg)) (one d l into).0
-        (subst (λ c. IsOwn f d (slice_index_or (arguments_at f d c) n no_vreg)) (one d l into).1 own_it))) in
+        (λ d l into own_it. foreign (subst (λ c. IsOwnDef f c v) (one d l into).0 own_it))
+        (λ d l n into lt is own_it. not_given n lt is (subst (λ c. IsOwnDef f c (slice_index_or (arguments_at f c k) n no_vreg)) (one d l into).0
+        (subst (λ c. IsOwnDef f d (slice_index_or (arguments_at f d c) n no_vreg)) (one d l into).1 own_it))) in
         inr (stands ∙ mine, avoids p mine (not_stored))
       where
         not_stored : (l : ℕ) → IsStoredFor f e k middle.slots l v → ⊥
@@ -243,22 +243,22 @@ module _ (stored : StoredAtBegin) where
       ]
     ]
       where
-        undefined : (w : VirtualRegister) → defined_by (branch_operands f e) w.number ≡ false → IsOwn f e w → ⊥
+        undefined : (w : VirtualRegister) → defined_by (branch_operands f e) w.number ≡ false → IsOwnDef f e w → ⊥
         undefined w none own_it = (
             let x : defined_by (branch_operands f e) w.number ≡ true = defined_by-number (branch_operands f e) w.number own_it.0 own_it.1 in cc)
 
   -- the listing with the stores in front
-  pub stores_carried : ((e k d l : ℕ) → IsEdgeInto f b e k → IsEdgeInto f b d l → (d ≡ e) × (l ≡ k)) → StoresBranchDefs f b middle new →
+  pub stores_branch_defs_carried : ((e k d l : ℕ) → IsEdgeInto f b e k → IsEdgeInto f b d l → (d ≡ e) × (l ≡ k)) → StoresBranchDefs f b middle new →
       (n : ℕ) (E : Place → Type 0) →
       Carries v (walked (inst_at f) (at_point (listed middle.edits)) placesf (block_at f b).range.first (suc n)) (StandsBefore f (λ w. F w.number) b v) E →
       Carries v (walked (inst_at f) (at_point (listed new.edits)) placesf (block_at f b).range.first (suc n)) (ComesIn f stand b v) E
-  stores_carried one (none_stored none same) n E c =
+  stores_branch_defs_carried one (none_stored none same) n E c =
       let first : ℕ = (block_at f b).range.first in
       let stands : stand b v ≡ F v.number = arrive.other b v needed (λ e k into own_it. none e k into) (λ e k m into lt is own_it. none e k into) in
       subst (λ (t : StateValue). Carries v (walked (inst_at f) (at_point (listed t.edits)) placesf first (suc n)) (ComesIn f stand b v) E) (sym same)
       (carries_weaken v (walked (inst_at f) (at_point (listed middle.edits)) placesf first (suc n)) (StandsBefore f (λ w. F w.number) b v) (ComesIn f stand b v)
       E E (λ p h. (h.0, stands ∙ h.1)) (λ p h. h) c)
-  stores_carried one (all_stored e k edge s) n E c =
+  stores_branch_defs_carried one (all_stored e k edge s) n E c =
       let first : ℕ = (block_at f b).range.first in
       let L : List Item = walked (inst_at f) (at_point (listed middle.edits)) placesf first (suc n) in
       subst (λ l. Carries v l (ComesIn f stand b v) E)

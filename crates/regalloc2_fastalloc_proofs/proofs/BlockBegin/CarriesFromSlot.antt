@@ -7,7 +7,7 @@ use Rattle.regalloc2_names.specs.Place.{Place, NoPlace, InRegister, InSlot, is_p
 use Rattle.regalloc2_names.specs.Point.{before}
 use Rattle.regalloc2_function.specs.FunctionValue.{InstValue}
 use Rattle.regalloc2_function.specs.OutputValue.{MoveValue}
-use Rattle.regalloc2_semantics.specs.Listing.{Item, executed}
+use Rattle.regalloc2_semantics.specs.Listing.{Item, exec_item}
 use Rattle.regalloc2_semantics.specs.Listing.Item.{Move}
 use Rattle.regalloc2_semantics.specs.Carry.{Carries}
 use Rattle.regalloc2_semantics.specs.BlockByPoints.{at_point, walked, before_part, listed}
@@ -24,7 +24,7 @@ use Rattle.regalloc2_fastalloc_proofs.proofs.Operands.RecordOverState.{opt, stan
 use Rattle.regalloc2_fastalloc_proofs.proofs.Inst.AcrossInst.{lives_in}
 use Rattle.regalloc2_fastalloc_proofs.proofs.Inst.OneInstCarries.{Between}
 use Rattle.regalloc2_fastalloc_proofs.proofs.Moves.StepsAppendEdits.{Pushes, none_pushed, one_pushed}
-use Rattle.regalloc2_fastalloc_proofs.proofs.BlockBegin.ReloadAtBegin.{IsReload, Begun, begun, begins_carried}
+use Rattle.regalloc2_fastalloc_proofs.proofs.BlockBegin.ReloadAtBegin.{IsReload, Begun, begun, reloads_at_begin_carried}
 
 -- whether that option is this place
 abbrev pub is_there : Option Place → Place → Bool
@@ -57,7 +57,7 @@ module _ (insts : ℕ → InstValue) (placesf : ℕ → List Place) (i n : ℕ) 
       Carries v (walked insts (at_point (listed new)) placesf i (suc n)) (λ p. ⊥) E
   reloaded old new none_pushed c = c
   reloaded old new (one_pushed es e more is) c =
-      let item : Item = executed (insts i) (placesf i) in
+      let item : Item = exec_item (insts i) (placesf i) in
       let rest : Carries v (before_part insts (listed es) placesf i n item) (λ p. ⊥) E =
       subst (λ l. Carries v l (λ p. ⊥) E) (walked-more insts (listed es) placesf i n) (reloaded old es more c) in
       let moved : Carries v (Move e.1 ∷ before_part insts (listed es) placesf i n item) (λ p. ⊥) E =
@@ -84,7 +84,7 @@ module _ (insts : ℕ → InstValue) (placesf : ℕ → List Place) (i n : ℕ) 
           | made x ↦ is_there-true F p ((and_parts (nat_eq v.number v.number) (is_there F p) x).1)
         ])
         (λ p h. h)
-        (begins_carried (λ w. w ≡ v) insts placesf i n (λ w. E) (λ x. false) X params old new
+        (reloads_at_begin_carried (λ w. w ≡ v) insts placesf i n (λ w. E) (λ x. false) X params old new
         (λ r x. and_right (nat_eq x v.number) (is_there F (InRegister r)) (is_there-none F (InRegister r) (slot r))) (λ x e. absurd cc) begins between
         (λ w same. subst (λ (u : VirtualRegister). Carries u (from_first old) (Need (lives_in old) (λ x. false) X (stands_at old) (slots_at old) u.number) E)
         (sym same)

@@ -4,10 +4,10 @@ use Rattle.std.specs.Prelude.{Option, None, Some, slice_index_or}
 use Rattle.regalloc2_names.specs.Register.{VirtualRegister}
 use Rattle.regalloc2_names.specs.Place.{Place, NoPlace, InRegister, InSlot}
 use Rattle.regalloc2_names.specs.Point.{before, after}
-use Rattle.regalloc2_function.specs.FunctionValue.{inst_at}
+use Rattle.regalloc2_function.specs.FunctionValue.{inst_at, op_at}
 use Rattle.regalloc2_function.specs.OutputValue.{place_at}
 use Rattle.regalloc2_names.specs.Operand.{is_def, is_reading}
-use Rattle.regalloc2_semantics.specs.Listing.{Item, op_at}
+use Rattle.regalloc2_semantics.specs.Listing.{Item}
 use Rattle.regalloc2_semantics.specs.Carry.{Carries}
 use Rattle.regalloc2_semantics.specs.BlockByPoints.{at_point, walked, listed}
 use Rattle.regalloc2_semantics.proofs.UnwrittenPlaces.{NoMoveTo, IsReadAt, Keeps, carries_kept_walked}
@@ -26,7 +26,7 @@ use Rattle.regalloc2_fastalloc_proofs.proofs.Walk.InstForOneVReg.{needed_parts, 
 use Rattle.regalloc2_fastalloc_proofs.proofs.Moves.StepsAppendEdits.{pushed_at}
 use Rattle.regalloc2_fastalloc_proofs.proofs.BlockEnd.BranchAlone.{IsUseMove, Branched, moved_or, none_below}
 use Rattle.regalloc2_fastalloc_proofs.proofs.Inst.ProperInsts.{ProperCode}
-use Rattle.regalloc2_fastalloc_proofs.proofs.Changes.InstChanges.{allocates_changes, any_operand}
+use Rattle.regalloc2_fastalloc_proofs.proofs.Changes.InstChanges.{allocs_inst_changes, any_operand}
 
 -- what is known of the slots at the end of the whole walk: each has one owner, and those that come after t lie at or above its count
 pub record ToCome (F : ℕ → Option Place) (t : StateValue) : Type 0 where
@@ -166,7 +166,7 @@ module _ (at_end : EndsBlock) where
     by_table : (s : Place) → F v.number ≡ Some s → block ≡ true → (x : Option Place) → slots_at middle v.number ≡ x → Carries v L On E
     by_table s is yes_block None none = nothing (λ p o.
         let now : slots_at middle v.number ≡ Some p = grown_slots (IsAt last) old middle
-        (changes_grow (IsAt last) (allocates_changes (λ p q. inr refl) (λ p q. inl refl) (λ k lt. any_operand (λ e. IsAt last e.0) _) a))
+        (changes_grow (IsAt last) (allocs_inst_changes (λ p q. inr refl) (λ p q. inl refl) (λ k lt. any_operand (λ e. IsAt last e.0) _) a))
         v.number p (there yes_block p o) in
         let x : None ≡ Some p = sym none ∙ now in cc)
     by_table s is yes_block (Some q) at =

@@ -17,7 +17,7 @@ use Rattle.regalloc2_fastalloc_state.specs.declared.inst_regs.InstRegs.{InstRegs
 use Rattle.regalloc2_fastalloc_state.specs.declared.request.Requirement.{Requirement}
 use Rattle.regalloc2_fastalloc_state.specs.declared.request.Requirement.TheVariants.{AnyPlace, AnyReg, InMemory, InPReg}
 use Rattle.regalloc2_fastalloc_state.specs.StateParts.{alloc_of}
-use Rattle.regalloc2_validate.specs.Constraints.{op_at}
+use Rattle.regalloc2_function.specs.FunctionValue.{op_at}
 use Rattle.regalloc2_fastalloc_proofs.specs.InstSteps.{StateValue, SelectsPlace, AllocsDefOp, ProcessesOperand, a_register, a_use, a_def, a_reuse}
 use Rattle.regalloc2_fastalloc_proofs.specs.InstSteps.{ProcessesOperandsAt, none_placed, of_other, one_placed, AllocsInst, ends_block, requirement_of}
 use Rattle.regalloc2_fastalloc_proofs.specs.InstSteps.{def_request}
@@ -67,25 +67,28 @@ module _ (Known : VirtualRegister → Type 0) (ops : List OperandValue) (tame : 
       by_place wish (slot wants gives places es machine order) = slot_no_register d.gets.middle.slots.count p r gives.below at
       by_place wish (free q wants away may is_free first same en) = no_wish (requirement_of (op_at ops j).constraint) wish wants
 
-  one_none : (D E : ℕ → Type 0) (j : ℕ) (here there : List Place) (t u : InstRegs) (old new : StateValue) →
+  processes_operand_none : (D E : ℕ → Type 0) (j : ℕ) (here there : List Place) (t u : InstRegs) (old new : StateValue) →
       ProcessesOperand i is_ret ops j here there t u old new →
       j < length ops → ((k : ℕ) → E k → k ≢ j → D k) → length here ≡ length ops →
       ((r : Register) → is_def (op_at ops j).kind ≡ true → alloc_of old.places (op_at ops j).vreg.number ≡ InRegister r → ⊥) → InNone D here → InNone E there
-  one_none D E j here there t u old new (a_register q silent is written eu en) less back long away h k lk done def kind r at = elim (cases_eq k j) [
+  processes_operand_none D E j here there t u old new (a_register q silent is written eu en) less back long away h k lk done def kind r at = elim
+      (cases_eq k j) [
     | inl e ↦ no_fixed (op_at ops k).constraint q kind (ap (λ (x : ℕ). (op_at ops x).constraint) e ∙ is)
     | inr ne ↦ h k lk (back k done ne) def kind r (sym (get_or-set_other here j k (InRegister q) NoPlace ne) ∙ ap (λ l. at_place l k) (sym written) ∙ at)
   ]
-  one_none D E j here there t u old new (a_use p reads places written) less back long away h k lk done def kind r at = elim (cases_eq k j) [
+  processes_operand_none D E j here there t u old new (a_use p reads places written) less back long away h k lk done def kind r at = elim (cases_eq k j) [
     | inl e ↦ both_ways (is_def (op_at ops k).kind) (ap (λ (x : ℕ). is_def (op_at ops x).kind) e ∙ reads_use (op_at ops j) reads) def
     | inr ne ↦ h k lk (back k done ne) def kind r (sym (get_or-set_other here j k p NoPlace ne) ∙ ap (λ l. at_place l k) (sym written) ∙ at)
   ]
-  one_none D E j here there t u old new (a_def p defines plain places written) less back long away h k lk done def kind r at = elim (cases_eq k j) [
+  processes_operand_none D E j here there t u old new (a_def p defines plain places written) less back long away h k lk done def kind r at = elim
+      (cases_eq k j) [
     | inl e ↦ placed_none j p t u old new less defines (λ q. away q defines) places (op_at ops j).constraint refl
         (subst (λ (x : ℕ). IsAnyOrStack (op_at ops x).constraint) e kind) r
         (sym (get_or-set_same here j p NoPlace (omega (arith, long, less))) ∙ ap (at_place (set here j p)) (sym e) ∙ ap (λ l. at_place l k) (sym written) ∙ at)
     | inr ne ↦ h k lk (back k done ne) def kind r (sym (get_or-set_other here j k p NoPlace ne) ∙ ap (λ l. at_place l k) (sym written) ∙ at)
   ]
-  one_none D E j here there t u old new (a_reuse n p defines reuses places written) less back long away h k lk done def kind r at = elim (cases_eq k j) [
+  processes_operand_none D E j here there t u old new (a_reuse n p defines reuses places written) less back long away h k lk done def kind r at = elim
+      (cases_eq k j) [
     | inl e ↦ no_reuse (op_at ops k).constraint n kind (ap (λ (x : ℕ). (op_at ops x).constraint) e ∙ reuses)
     | inr ne ↦ elim (cases_eq k n) [
       | inl e ↦ both_ways (is_def (op_at ops k).kind) (ap (λ (x : ℕ). is_def (op_at ops x).kind) e
@@ -106,7 +109,7 @@ module _ (Known : VirtualRegister → Type 0) (ops : List OperandValue) (tame : 
       ])
   late_none blank t old c k there u m (one_placed j l next w x s n prev late one) le =
       let calm = late_calm Known ops tame i is_ret ret edits c prev (omega (arith, le)) in
-      one_none (LateDone ops j) (LateDone ops (j + 1)) j l there w u s m one (omega (arith, le))
+      processes_operand_none (LateDone ops j) (LateDone ops (j + 1)) j l there w u s m one (omega (arith, le))
       (λ y done ne. ((let a = done.0 in omega (arith, a, ne)), done.1))
       calm.2 (λ q def. calm.0.away j q (omega (arith, le)) def) (late_none blank t old c j l w s prev (omega (arith, le)))
 
@@ -128,7 +131,7 @@ module _ (Known : VirtualRegister → Type 0) (ops : List OperandValue) (tame : 
       ])
   early_none half t old c h k there u m (one_placed j l next w x s n prev early one) le =
       let calm = early_calm Known ops tame i is_ret ret edits c prev (omega (arith, le)) in
-      one_none (EarlyDone ops j) (EarlyDone ops (j + 1)) j l there w u s m one (omega (arith, le))
+      processes_operand_none (EarlyDone ops j) (EarlyDone ops (j + 1)) j l there w u s m one (omega (arith, le))
       (λ y done ne. elim done [ inl late ↦ inl late | inr below ↦ inr (omega (arith, below, ne)) ])
       calm.2 (λ q def. calm.0.away j q (omega (arith, le)) def) (early_none half t old c h j l w s prev (omega (arith, le)))
 

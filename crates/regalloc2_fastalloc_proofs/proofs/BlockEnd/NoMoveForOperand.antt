@@ -16,15 +16,15 @@ use Rattle.regalloc2_fastalloc_state.specs.declared.request.Requirement.TheVaria
 use Rattle.regalloc2_fastalloc_state.specs.declared.request.OperandRequest.{OperandRequest}
 use Rattle.regalloc2_fastalloc_state.specs.StateParts.{VRegAllocsValue, IsSlotOrNone, alloc_of, vreg_of_preg}
 use Rattle.regalloc2_fastalloc_state.specs.InstRegs.{positions_of, IsAvailableAt}
-use Rattle.regalloc2_validate.specs.Constraints.{op_at}
-use Rattle.regalloc2_fastalloc_proofs.specs.InstSteps.{StateValue, empty, cleared, EvictsOthers, own, others, SelectsPlace, ClaimsPlace, in_slot}
-use Rattle.regalloc2_fastalloc_proofs.specs.InstSteps.{in_register, AllocsOperand, AddsMoveIf, sent, unsent, FreesDef, NeedsFixedReg}
+use Rattle.regalloc2_function.specs.FunctionValue.{op_at}
+use Rattle.regalloc2_fastalloc_proofs.specs.InstSteps.{StateValue, empty, cleared, EvictsOtherVRegs, own, others, SelectsPlace, ClaimsPlace, in_slot}
+use Rattle.regalloc2_fastalloc_proofs.specs.InstSteps.{in_register, AllocsOperand, AddsMoveIf, sent, unsent, FreesAlloc, NeedsFixedReg}
 use Rattle.regalloc2_fastalloc_proofs.specs.InstSteps.SelectsPlace.{stays, fixed, slot, free}
 use Rattle.regalloc2_semantics.proofs.Plain.{no_some}
 use Rattle.regalloc2_semantics.proofs.Forms.{same_register}
 use Rattle.regalloc2_fastalloc_proofs.proofs.Operands.AllocsSoFar.{at_place}
 use Rattle.regalloc2_fastalloc_proofs.proofs.Changes.OneChange.{uses_rest}
-use Rattle.regalloc2_fastalloc_proofs.proofs.Operands.SelectedPlace.{suits_there}
+use Rattle.regalloc2_fastalloc_proofs.proofs.Operands.SelectedPlace.{meets_requirement_there}
 use Rattle.regalloc2_fastalloc_proofs.proofs.Moves.ScratchRegTaken.{Less}
 
 -- no vreg has a location
@@ -106,17 +106,17 @@ held_now a r q b e same = (let yes : is_register r q ≡ true = ap (is_register 
 
 module _ (point : ℕ) (ops : List OperandValue) (pass : Bool) (edits : List (ℕ × MoveValue)) where
   origin_of : (t : InstRegs) (o : OperandRequest) (p : Place) (old new : StateValue) → SelectsPlace t o p old new → Origin o p t old
-  origin_of t o p old new (stays there suits en) = stood_there there (suits_there old o.requirement p suits)
+  origin_of t o p old new (stays there suits en) = stood_there there (meets_requirement_there old o.requirement p suits)
   origin_of t o p old new (fixed r wants is en) = asked r is wants
   origin_of t o p old new (slot wants gives places e machine order) = (let k = slot_number new.slots.count p gives.there gives.below in in_a_slot k.0 k.1)
   origin_of t o p old new (free r wants away may is_free first is en) = was_free r is may.small is_free
 
-  picks_nobody : (t : InstRegs) (o : OperandRequest) (p : Place) (old new : StateValue) → SelectsPlace t o p old new → (new.places ≡ old.places)
+  selects_place_nobody : (t : InstRegs) (o : OperandRequest) (p : Place) (old new : StateValue) → SelectsPlace t o p old new → (new.places ≡ old.places)
       × (new.edits ≡ old.edits)
-  picks_nobody t o p old new (stays there suits en) = (ap (λ (x : StateValue). x.places) en, ap (λ (x : StateValue). x.edits) en)
-  picks_nobody t o p old new (fixed r wants is en) = (ap (λ (x : StateValue). x.places) en, ap (λ (x : StateValue). x.edits) en)
-  picks_nobody t o p old new (slot wants gives places e machine order) = (places, e)
-  picks_nobody t o p old new (free r wants away may is_free first is en) = (ap (λ (x : StateValue). x.places) en, ap (λ (x : StateValue). x.edits) en)
+  selects_place_nobody t o p old new (stays there suits en) = (ap (λ (x : StateValue). x.places) en, ap (λ (x : StateValue). x.edits) en)
+  selects_place_nobody t o p old new (fixed r wants is en) = (ap (λ (x : StateValue). x.places) en, ap (λ (x : StateValue). x.edits) en)
+  selects_place_nobody t o p old new (slot wants gives places e machine order) = (places, e)
+  selects_place_nobody t o p old new (free r wants away may is_free first is en) = (ap (λ (x : StateValue). x.places) en, ap (λ (x : StateValue). x.edits) en)
 
   -- no other vreg is in the register that an operand got
   alone : (t : InstRegs) (o : OperandRequest) (p : Place) (old : StateValue) (r : Register) (w : VirtualRegister) → Origin o p t old
@@ -136,24 +136,24 @@ module _ (point : ℕ) (ops : List OperandValue) (pass : Bool) (edits : List (�
   alone t o p old r w (in_a_slot k at) still none taken is small held = absurd (no_register_slot k r (sym at ∙ is))
 
   -- no vreg is moved
-  clears_nobody : (o : OperandRequest) (r : Register) (t u : InstRegs) (old new : StateValue) → EvictsOthers point r o.vreg t u old new
+  evicts_other_vregs_nobody : (o : OperandRequest) (r : Register) (t u : InstRegs) (old new : StateValue) → EvictsOtherVRegs point r o.vreg t u old new
       → ((w : VirtualRegister) → r.number < 64 → vreg_of_preg old.places r ≡ Some w → w.number ≡ o.vreg.number) → (u ≡ t) × (new ≡ old)
-  clears_nobody o r t u old new (own w held same eu en) only = (eu, en)
-  clears_nobody o r t u old new (others not_own (empty none eu en)) only = (eu, en)
-  clears_nobody o r t u old new (others not_own (cleared v s m small held gives settles e machine order crosses)) only =
+  evicts_other_vregs_nobody o r t u old new (own w held same eu en) only = (eu, en)
+  evicts_other_vregs_nobody o r t u old new (others not_own (empty none eu en)) only = (eu, en)
+  evicts_other_vregs_nobody o r t u old new (others not_own (cleared v s m small held gives settles e machine order crosses)) only =
       absurd (not_own v held (only v small held))
 
-  occupies_nobody : (o : OperandRequest) (p : Place) (t u : InstRegs) (old new : StateValue) → ClaimsPlace point o p t u old new
+  claims_place_nobody : (o : OperandRequest) (p : Place) (t u : InstRegs) (old new : StateValue) → ClaimsPlace point o p t u old new
       → ((r : Register) (w : VirtualRegister) → p ≡ InRegister r → r.number < 64 → vreg_of_preg old.places r ≡ Some w → w.number ≡ o.vreg.number)
       → (new ≡ old) × Less t u × (((q : Register) → p ≡ InRegister q → o.positions.early ≡ true → has_register u.early q ≡ false)
       × ((q : Register) → p ≡ InRegister q → o.positions.late ≡ true → has_register u.late q ≡ false))
-  occupies_nobody o p t u old new (in_slot k is sets en) only = (
+  claims_place_nobody o p t u old new (in_slot k is sets en) only = (
     en,
     record { early = λ r h. ap (λ (x : PRegSet). has_register x r) sets.early ∙ h; late = λ r h. ap (λ (x : PRegSet). has_register x r) sets.late ∙ h },
     (λ q at e. absurd (no_register_slot k q (sym is ∙ at)), λ q at e. absurd (no_register_slot k q (sym is ∙ at))),
   )
-  occupies_nobody o p t u old new (in_register r m is clears holds) only =
-      let c = clears_nobody o r t m old new clears (λ w small held. only r w is small held) in (
+  claims_place_nobody o p t u old new (in_register r m is clears holds) only =
+      let c = evicts_other_vregs_nobody o r t m old new clears (λ w small held. only r w is small held) in (
         c.1,
         record {
           early = λ q h. holds.early q ∙ and_right (not (o.positions.early && is_register r q)) (has_register m.early q)
@@ -168,14 +168,15 @@ module _ (point : ℕ) (ops : List OperandValue) (pass : Bool) (edits : List (�
       )
 
   -- an operand gets its place
-  pub gets_calm : (o : OperandRequest) (p : Place) (t u : InstRegs) (old new : StateValue) → AllocsOperand point o p t u old new → Still ops pass edits t old
+  pub allocs_operand_calm : (o : OperandRequest) (p : Place) (t u : InstRegs) (old new : StateValue) → AllocsOperand point o p t u old new →
+      Still ops pass edits t old
       → ((q : Register) → o.requirement ≡ InPReg q → vreg_of_preg old.places q ≡ None)
       → ((q : Register) (v : VirtualRegister) → q.number < 64 → vreg_of_preg old.places q ≡ Some v → IsAvailableAt t o.positions q → ⊥)
       → Got o p t u old new
-  gets_calm o p t u old new g still none taken =
-      let a = picks_nobody t o p old g.middle g.picks in
+  allocs_operand_calm o p t u old new g still none taken =
+      let a = selects_place_nobody t o p old g.middle g.picks in
       let from : Origin o p t old = origin_of t o p old g.middle g.picks in
-      let b = occupies_nobody o p t u g.middle g.takes.claimed g.takes.occupies (λ r w is small held. alone t o p old r w from still none taken is small
+      let b = claims_place_nobody o p t u g.middle g.takes.claimed g.takes.occupies (λ r w is small held. alone t o p old r w from still none taken is small
       (ap (λ (x : VRegAllocsValue). vreg_of_preg x r) (sym a.0) ∙ held)) in
       record {
         places = ap (λ (x : StateValue). x.places) (uses_rest g.takes.uses) ∙ ap (λ (x : StateValue). x.places) b.0 ∙ a.0;
@@ -209,9 +210,9 @@ unsent_nothing point v ret b from to t u old new yes_ret (sent made crosses) =
 unsent_nothing point v ret b from to t u old new yes_ret (unsent made eu en) = (eu, en)
 
 -- a definition of a return, whose vreg is located in no register, changes no register
-pub defines_calm : (point : ℕ) (v : VirtualRegister) (ret : Bool) (p : Place) (t u : InstRegs) (old new : StateValue) → ret ≡ true →
-    FreesDef point v ret p t u old new → ((r : Register) → alloc_of old.places v.number ≡ InRegister r → ⊥) → (u ≡ t) × SamePlaces old new
-defines_calm point v ret p t u old new yes_ret d nowhere =
+pub frees_alloc_calm : (point : ℕ) (v : VirtualRegister) (ret : Bool) (p : Place) (t u : InstRegs) (old new : StateValue) → ret ≡ true →
+    FreesAlloc point v ret p t u old new → ((r : Register) → alloc_of old.places v.number ≡ InRegister r → ⊥) → (u ≡ t) × SamePlaces old new
+frees_alloc_calm point v ret p t u old new yes_ret d nowhere =
     let a = unsent_nothing point v ret _ p (alloc_of old.places v.number) t d.inst_regs d.left d.middle yes_ret d.awaited in
     let b = unsent_nothing point v ret _ p _ d.inst_regs u d.middle new yes_ret d.stored in
     let same : new ≡ d.left = b.1 ∙ a.1 in (

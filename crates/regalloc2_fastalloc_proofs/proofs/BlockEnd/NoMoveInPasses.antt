@@ -20,14 +20,14 @@ use Rattle.regalloc2_fastalloc_state.specs.declared.inst_regs.Positions.{Positio
 use Rattle.regalloc2_fastalloc_state.specs.declared.request.Requirement.TheVariants.{InPReg}
 use Rattle.regalloc2_fastalloc_state.specs.StateParts.{VRegAllocsValue, SetsAlloc, alloc_of, vreg_of_preg}
 use Rattle.regalloc2_fastalloc_state.specs.InstRegs.{positions_of, IsAvailableAt}
-use Rattle.regalloc2_validate.specs.Constraints.{op_at}
+use Rattle.regalloc2_function.specs.FunctionValue.{op_at}
 use Rattle.regalloc2_fastalloc_proofs.specs.InstSteps.{StateValue, use_request, def_request, reuse_request, LocatesUse, stays, located, AllocsUse}
 use Rattle.regalloc2_fastalloc_proofs.specs.InstSteps.{AllocsDefOp, ProcessesOperand, a_register, a_use, a_def, a_reuse, own, named}
 use Rattle.regalloc2_fastalloc_proofs.proofs.Safety.StepsKeepSafe.{settled_holder}
 use Rattle.regalloc2_fastalloc_proofs.proofs.Operands.AllocsSoFar.{at_place, IsTame, reads_allocated, asked_fixed, asked_as_fixed}
 use Rattle.regalloc2_fastalloc_proofs.proofs.BlockEnd.NoMoveForOperand.{Overlap, Asks, claims, chosen, Still, Awaiting, Origin}
 use Rattle.regalloc2_fastalloc_proofs.proofs.BlockEnd.NoMoveForOperand.{stood_there, asked, was_free, in_a_slot, Got, no_register_slot}
-use Rattle.regalloc2_fastalloc_proofs.proofs.BlockEnd.NoMoveForOperand.{none_some, gets_calm, SamePlaces, same_places, defines_calm}
+use Rattle.regalloc2_fastalloc_proofs.proofs.BlockEnd.NoMoveForOperand.{none_some, allocs_operand_calm, SamePlaces, same_places, frees_alloc_calm}
 use Rattle.regalloc2_fastalloc_proofs.proofs.Operands.OperandRules.{use_vreg}
 use Rattle.regalloc2_fastalloc_proofs.proofs.Evictions.PushedAndRemoved.{no_some}
 use Rattle.regalloc2_fastalloc_proofs.proofs.Moves.ScratchRegTaken.{Less, less_same}
@@ -262,10 +262,10 @@ module _ (Known : VirtualRegister → Type 0) (ops : List OperandValue) (tame : 
       → AllocsDefOp (after i) (def_request (op_at ops k)) is_ret p t u old new → Calm D here t old → Calm E (set here k p) u new
   def_calm D E k p here t u old new less next reach def d c =
       let o : OperandValue = op_at ops k in
-      let g = gets_calm (after i) ops pass edits (def_request o) p t d.inst_regs old d.middle d.gets c.0
+      let g = allocs_operand_calm (after i) ops pass edits (def_request o) p t d.inst_regs old d.middle d.gets c.0
       (λ q wants. c.1.nobody k q (positions_of o) less next.before_it (claims (own (tame.allocated k less def) (asked_fixed o.constraint q wants) refl)))
       (not_free t old (positions_of o) reach c.0) in
-      let z = defines_calm (after i) o.vreg is_ret p d.inst_regs u d.middle new (ret k less def) d.defines
+      let z = frees_alloc_calm (after i) o.vreg is_ret p d.inst_regs u d.middle new (ret k less def) d.defines
       (λ q at. c.0.away k q less def (ap (λ (x : VRegAllocsValue). alloc_of x o.vreg.number) (sym g.places) ∙ at)) in
       let later : Less t u = subst (Less t) (sym z.0) g.later in
       let both : SamePlaces old new = record {
@@ -291,8 +291,8 @@ module _ (Known : VirtualRegister → Type 0) (ops : List OperandValue) (tame : 
       vreg_of_preg old.places q ≡ None = λ q wants. c.1.nobody k q (record { early = false; late = true }) less next.before_it (mine q wants) in
       let taken : (q : Register) (v : VirtualRegister) → q.number < 64 → vreg_of_preg old.places q ≡ Some v → IsAvailableAt t (reuse_request o m).positions q →
       ⊥ = λ q v small held f. both_ways (has_register t.early q) (c.0.early q v small held) (f.early refl) in
-      let g = gets_calm (after i) ops pass edits (reuse_request o m) p t d.inst_regs old d.middle d.gets c.0 none taken in
-      let z = defines_calm (after i) o.vreg is_ret p d.inst_regs u d.middle new (ret k less def) d.defines
+      let g = allocs_operand_calm (after i) ops pass edits (reuse_request o m) p t d.inst_regs old d.middle d.gets c.0 none taken in
+      let z = frees_alloc_calm (after i) o.vreg is_ret p d.inst_regs u d.middle new (ret k less def) d.defines
       (λ q at. c.0.away k q less def (ap (λ (x : VRegAllocsValue). alloc_of x o.vreg.number) (sym g.places) ∙ at)) in
       let later : Less t u = subst (Less t) (sym z.0) g.later in
       let both : SamePlaces old new = record {
@@ -373,7 +373,7 @@ module _ (Known : VirtualRegister → Type 0) (ops : List OperandValue) (tame : 
           (free_at t (use_request (op_at ops k) (at_place here k)).positions (positions_of (op_at ops k)) q (use_positions (op_at ops k) (at_place here k)) f)
 
       g : Got (use_request (op_at ops k) (at_place here k)) p t u old d.middle
-      g = gets_calm (after i) ops pass edits (use_request (op_at ops k) (at_place here k)) p t u old d.middle d.gets c.0 none taken
+      g = allocs_operand_calm (after i) ops pass edits (use_request (op_at ops k) (at_place here k)) p t u old d.middle d.gets c.0 none taken
 
       early : (positions_of (op_at ops k)).early ≡ true
       early = (let e : is_def (op_at ops k).kind ≡ false = reads_use (op_at ops k) reads in rw e refl)
@@ -440,19 +440,19 @@ module _ (Known : VirtualRegister → Type 0) (ops : List OperandValue) (tame : 
           )
 
   -- an operand is allocated
-  pub one_calm : {D E : ℕ → Type 0} {k : ℕ} {here there : List Place} {t u : InstRegs} {old new : StateValue} →
+  pub processes_operand_calm : {D E : ℕ → Type 0} {k : ℕ} {here there : List Place} {t u : InstRegs} {old new : StateValue} →
       ProcessesOperand i is_ret ops k here there t u old new → k < length ops → NextDone D E k → Reaches (positions_of (op_at ops k))
       → ((n : ℕ) → (op_at ops k).constraint ≡ Reuse n → D n → ⊥)
       → (is_reading (op_at ops k) ≡ true → pass ≡ true → (positions_of (op_at ops k)).late ≡ true)
       → (is_reading (op_at ops k) ≡ true → (j : ℕ) (r : Register) (w : Positions) → j < length ops → (D j → ⊥) → Asks ops here j r w →
       Overlap (positions_of (op_at ops k)) w)
       → Calm D here t old → Calm E there u new
-  one_calm {D} {E} {k} {here} {t} {u} {old} {new} (a_register r silent is written_it eu en) less next reach not_n lates covers c =
+  processes_operand_calm {D} {E} {k} {here} {t} {u} {old} {new} (a_register r silent is written_it eu en) less next reach not_n lates covers c =
       subst (λ l. Calm E l u new) (sym written_it) (same_calm D E k (InRegister r) here t u old new next (less_same t u eu)
       (same_places old new (ap (λ (x : StateValue). x.places) en) (ap (λ (x : StateValue). x.edits) en)) c)
-  one_calm {D} {E} {k} {here} {t} {u} {old} {new} (a_use p reads places written_it) less next reach not_n lates covers c =
+  processes_operand_calm {D} {E} {k} {here} {t} {u} {old} {new} (a_use p reads places written_it) less next reach not_n lates covers c =
       subst (λ l. Calm E l u new) (sym written_it) (use_calm D E k p here t u old new less next reach reads (lates reads) (covers reads) places c)
-  one_calm {D} {E} {k} {here} {t} {u} {old} {new} (a_def p def no_reuse places written_it) less next reach not_n lates covers c =
+  processes_operand_calm {D} {E} {k} {here} {t} {u} {old} {new} (a_def p def no_reuse places written_it) less next reach not_n lates covers c =
       subst (λ l. Calm E l u new) (sym written_it) (def_calm D E k p here t u old new less next reach def places c)
-  one_calm {D} {E} {k} {here} {t} {u} {old} {new} (a_reuse n p def reuses places written_it) less next reach not_n lates covers c =
+  processes_operand_calm {D} {E} {k} {here} {t} {u} {old} {new} (a_reuse n p def reuses places written_it) less next reach not_n lates covers c =
       subst (λ l. Calm E l u new) (sym written_it) (reuse_calm D E k n p here t u old new less next (not_n n reuses) def reuses places c)

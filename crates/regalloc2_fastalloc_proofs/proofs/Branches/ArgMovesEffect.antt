@@ -14,7 +14,7 @@ use Rattle.regalloc2_semantics.specs.Blocks.{names, HasEdge}
 use Rattle.regalloc2_semantics.proofs.Cells.{is_vreg-same}
 use Rattle.regalloc2_semantics.proofs.Slots.{PassedTo}
 use Rattle.regalloc2_semantics.proofs.BlockBackward.{Relied}
-use Rattle.regalloc2_fastalloc_proofs.specs.BranchSteps.{IsScratchRegFor, ClassMove, of_class, IsOwn}
+use Rattle.regalloc2_fastalloc_proofs.specs.BranchSteps.{IsScratchRegFor, ClassMove, of_class, IsOwnDef}
 use Rattle.regalloc2_fastalloc_proofs.proofs.Safety.StepsKeepState.{place_in, IsWhole}
 use Rattle.regalloc2_fastalloc_proofs.proofs.Operands.RecordOverState.{opt, opt_from, stands_at, slots_at}
 use Rattle.regalloc2_fastalloc_proofs.proofs.Branches.ArgMovesByClass.{IsNoTarget, all_moves, all_kept, all_above, all_moved}
@@ -53,7 +53,7 @@ pub record ArgMoves : Type 1 where
   pub apart : (c : RegClass) (r : Register) → slice_index_or g.dedicated_scratch (class_code c) None ≡ Some r → (x : ℕ) → place_in g x ≡ InRegister r → ⊥
   pub held : IsHeldHere inst_regs g
   pub origin : (m : ClassMove) → Contains given m → (e j : ℕ) × HasEdge f b e × IsArgued (params_on f b e) (arguments_at f b e) j g m
-  pub all : (e j : ℕ) → HasEdge f b e → j < length (params_on f b e) → (IsOwn f b (argument_at (arguments_at f b e) j) → ⊥) → (m : ClassMove)
+  pub all : (e j : ℕ) → HasEdge f b e → j < length (params_on f b e) → (IsOwnDef f b (argument_at (arguments_at f b e) j) → ⊥) → (m : ClassMove)
       × Contains given m × IsArgued (params_on f b e) (arguments_at f b e) j g m
 
 module _ (args : ArgMoves) where
@@ -166,11 +166,11 @@ module _ (args : ArgMoves) where
         by_place p (InSlot n) is at = slot_kept free p (ap opt (whole.own_slot v.number n is) ∙ ap opt (sym is) ∙ at) c
 
     -- a parameter's slot has what was in that of its argument, which the branch doesn't define itself
-    pub passed_moved : (IsOwn f b v → ⊥) → (q : Place) → PassedTo f (λ w. F w.number) b v q → (r : Place) × (slots_at g v.number ≡ Some r)
+    pub passed_moved : (IsOwnDef f b v → ⊥) → (q : Place) → PassedTo f (λ w. F w.number) b v q → (r : Place) × (slots_at g v.number ≡ Some r)
         × ((c : Cells) → after_moves ms c q ≡ c r)
     passed_moved foreign q (k, w, edge, passes, slot) =
         let j = passes_at (params_on f b k) (arguments_at f b k) w v passes in
-        let m = all k j.0 edge j.1 (λ own. foreign (subst (IsOwn f b) j.3 own)) in
+        let m = all k j.0 edge j.1 (λ own. foreign (subst (IsOwnDef f b) j.3 own)) in
         let arg : IsArgued (params_on f b k) (arguments_at f b k) j.0 g m.0 = m.2 in
         let from_at : slots_at g v.number ≡ Some m.0.from = subst (λ (x : VirtualRegister). slots_at g x.number ≡ Some m.0.from) j.3 arg.2 in
         let to_at : slots_at g w.number ≡ Some m.0.to = subst (λ (x : VirtualRegister). slots_at g x.number ≡ Some m.0.to) j.2 arg.3 in

@@ -7,13 +7,13 @@ use Rattle.regalloc2_names.specs.Point.{before, after}
 use Rattle.regalloc2_function.specs.FunctionValue.{InstValue}
 use Rattle.regalloc2_function.specs.OutputValue.{MoveValue}
 use Rattle.regalloc2_function.specs.AllocatedRun.{Cells, stored, after_moves}
-use Rattle.regalloc2_semantics.specs.Listing.{Item, executed, with_moves}
+use Rattle.regalloc2_semantics.specs.Listing.{Item, exec_item, with_moves}
 use Rattle.regalloc2_semantics.specs.BlockByPoints.{at_point, walked, listed}
 use Rattle.regalloc2_semantics.proofs.Cells.{is_place-other}
 use Rattle.regalloc2_semantics.proofs.Points.{at_point-here, at_point-other, with_moves-append}
 use Rattle.regalloc2_semantics.proofs.PushedMoves.{listed-push}
 use Rattle.regalloc2_semantics.proofs.ListingParts.{walked-one}
-use Rattle.regalloc2_parts.specs.AtOnce.{ends_of, names, in_turn, moved, in_turn-any}
+use Rattle.regalloc2_parts.specs.AtOnce.{ends_of, own_names, in_turn, moved, in_turn-any}
 use Rattle.regalloc2_fastalloc_state.specs.ScratchPool.{Moves, pushed}
 
 -- the moves as they are listed
@@ -52,7 +52,7 @@ after_append (m ∷ ms) ns c q = after_append ms ns (stored c m.to (c m.from)) q
 
 -- from where a place has what it holds after the moves
 abbrev pub came_from : Moves → Place → Place
-came_from made q = in_turn (ends_of made) names q
+came_from made q = in_turn (ends_of made) own_names q
 
 -- both ends of a move are there
 abbrev pub AreThereEnds : Moves → Type 0
@@ -70,7 +70,7 @@ stored_name c (InSlot n) from x ne = pick (is_place (InSlot n) x) c from x
 
 came_more : (m : Place × Place × Unit {0}) (ms : Moves) (q : Place) → came_from (m ∷ ms) q ≡ cond (is_place m.1 (came_from ms q)) m.0 (came_from ms q)
 unfolding in_turn
-came_more m ms q = in_turn-any (ends_of ms) (moved names m.1 m.0) q
+came_more m ms q = in_turn-any (ends_of ms) (moved own_names m.1 m.0) q
 
 -- after a list of moves a place has what was in the place that it came from
 pub after_made : (made : Moves) → AreThereEnds made → (c : Cells) (q : Place) → after_moves (moves_of made) c q ≡ c (came_from made q)
@@ -95,7 +95,7 @@ pub walked_made : (insts : ℕ → InstValue) (places : ℕ → List Place) (i :
     at_point (listed fs) (before i) ≡ ms ++ at_point (listed es) (before i) → at_point (listed fs) (after i) ≡ at_point (listed es) (after i) →
     walked insts (at_point (listed fs)) places i 1 ≡ with_moves ms (walked insts (at_point (listed es)) places i 1)
 walked_made insts places i ms es fs first then =
-    let item : Item = executed (insts i) (places i) in
+    let item : Item = exec_item (insts i) (places i) in
     walked-one insts (at_point (listed fs)) places i
     ∙ ap (λ l. with_moves l (item ∷ with_moves (at_point (listed fs) (after i)) [])) first
     ∙ ap (λ l. with_moves (ms ++ at_point (listed es) (before i)) (item ∷ with_moves l [])) then

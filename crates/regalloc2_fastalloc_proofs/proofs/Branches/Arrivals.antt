@@ -9,11 +9,11 @@ use Rattle.regalloc2_function.specs.FunctionValue.{FunctionValue, block_at}
 use Rattle.regalloc2_function.specs.OutputValue.{place_at}
 use Rattle.regalloc2_function.specs.SourceRun.{arguments_at}
 use Rattle.regalloc2_function.specs.WellFormed.{DefinedOnce, last_of}
-use Rattle.regalloc2_semantics.specs.Listing.{op_at}
+use Rattle.regalloc2_function.specs.FunctionValue.{op_at}
 use Rattle.regalloc2_semantics.proofs.SingleDef.{DefinesAt, one_operand}
 use Rattle.regalloc2_branch_defs.specs.BranchDefs.{DefinesNumber, IsUsedElsewhere, IsEdgeInto}
-use Rattle.regalloc2_fastalloc_proofs.specs.BlockStart.{no_vreg}
-use Rattle.regalloc2_fastalloc_proofs.specs.BranchSteps.{IsOwn}
+use Rattle.regalloc2_names.specs.Register.{no_vreg}
+use Rattle.regalloc2_fastalloc_proofs.specs.BranchSteps.{IsOwnDef}
 use Rattle.regalloc2_fastalloc_proofs.specs.StoreSteps.{branch_operands}
 use Rattle.regalloc2_fastalloc_proofs.proofs.BlockEnd.DefsInSlots.{IsAnyOrStack}
 
@@ -23,7 +23,7 @@ left_at f placesf e j = place_at (placesf (last_of (block_at f e))) j
 
 -- a vreg that a branch defines is used by some other instruction
 abbrev pub IsNeeded : FunctionValue → VirtualRegister → Type 0
-IsNeeded f v = (b e k : ℕ) → IsEdgeInto f b e k → IsOwn f e v → IsUsedElsewhere f v
+IsNeeded f v = (b e k : ℕ) → IsEdgeInto f b e k → IsOwnDef f e v → IsUsedElsewhere f v
 
 -- Where the values of vregs are at a block's beginning: those that the branch into it defines in the places of its operands, those of the parameters that
 -- are given them too, and all others in their slots. What only its own branch passes is nowhere.
@@ -33,10 +33,10 @@ pub record Arrive (f : FunctionValue) (placesf : ℕ → List Place) (F : ℕ �
   pub given : (b e k n j : ℕ) → IsEdgeInto f b e k → n < length (block_at f b).params →
       DefinesNumber (branch_operands f e) (slice_index_or (arguments_at f e k) n no_vreg).number j →
       stand b (slice_index_or (block_at f b).params n no_vreg) ≡ Some (left_at f placesf e j)
-  pub other : (b : ℕ) (v : VirtualRegister) → IsNeeded f v → ((e k : ℕ) → IsEdgeInto f b e k → IsOwn f e v → ⊥) →
+  pub other : (b : ℕ) (v : VirtualRegister) → IsNeeded f v → ((e k : ℕ) → IsEdgeInto f b e k → IsOwnDef f e v → ⊥) →
       ((e k n : ℕ) → IsEdgeInto f b e k → n < length (block_at f b).params → slice_index_or (block_at f b).params n no_vreg ≡ v →
-      IsOwn f e (slice_index_or (arguments_at f e k) n no_vreg) → ⊥) → stand b v ≡ F v.number
-  pub unused : (b d e k : ℕ) (v : VirtualRegister) → IsEdgeInto f d e k → IsOwn f e v → (IsUsedElsewhere f v → ⊥) → stand b v ≡ None
+      IsOwnDef f e (slice_index_or (arguments_at f e k) n no_vreg) → ⊥) → stand b v ≡ F v.number
+  pub unused : (b d e k : ℕ) (v : VirtualRegister) → IsEdgeInto f d e k → IsOwnDef f e v → (IsUsedElsewhere f v → ⊥) → stand b v ≡ None
 
 -- where the branch at the end of the block e leaves what it defines: in the register that is named, each in its own, or in the vreg's slot
 pub record DefsPlaced (f : FunctionValue) (placesf : ℕ → List Place) (F : ℕ → Option Place) (e : ℕ) : Type 0 where

@@ -9,12 +9,12 @@ use Rattle.regalloc2_names.specs.Register.{Register, VirtualRegister, class_code
 use Rattle.regalloc2_names.specs.RegisterSet.{has_register}
 use Rattle.regalloc2_names.specs.Place.{Place, NoPlace, InRegister, InSlot}
 use Rattle.regalloc2_names.specs.Point.{before, after}
-use Rattle.regalloc2_function.specs.FunctionValue.{FunctionValue, block_at, inst_at}
+use Rattle.regalloc2_function.specs.FunctionValue.{FunctionValue, block_at, inst_at, op_at}
 use Rattle.regalloc2_function.specs.OutputValue.{MoveValue, place_at}
 use Rattle.regalloc2_function.specs.SourceRun.{arguments_at}
 use Rattle.regalloc2_names.specs.Operand.{is_def}
 use Rattle.regalloc2_function.specs.AllocatedRun.{Cells, after_moves}
-use Rattle.regalloc2_semantics.specs.Listing.{Item, op_at, with_moves, writes}
+use Rattle.regalloc2_semantics.specs.Listing.{Item, with_moves, writes}
 use Rattle.regalloc2_semantics.specs.Carry.{Carries, Spares, Undefined, Untouched}
 use Rattle.regalloc2_semantics.specs.BlockByPoints.{at_point, walked, listed}
 use Rattle.regalloc2_semantics.specs.Blocks.{names, HasEdge, IsUnwritten, IsUsedIn, StandsAfter}
@@ -26,7 +26,7 @@ use Rattle.regalloc2_semantics.proofs.BlockBackward.{Relied}
 use Rattle.regalloc2_fastalloc_state.specs.declared.inst_regs.InstRegs.{InstRegs}
 use Rattle.regalloc2_fastalloc_state.specs.StateParts.{VRegAllocsValue, IsSlotOrNone, alloc_of, vreg_of_preg}
 use Rattle.regalloc2_fastalloc_proofs.specs.InstSteps.{StateValue, AllocsInst, ends_block}
-use Rattle.regalloc2_fastalloc_proofs.specs.BranchSteps.{of_class, ProcessesBranch, IsOwn}
+use Rattle.regalloc2_fastalloc_proofs.specs.BranchSteps.{of_class, ProcessesBranch, IsOwnDef}
 use Rattle.regalloc2_fastalloc_proofs.proofs.Safety.StepsKeepState.{place_in, slot_in, IsWhole}
 use Rattle.regalloc2_fastalloc_proofs.proofs.Operands.RecordOverState.{opt, stands_at, slots_at, grown_slots}
 use Rattle.regalloc2_fastalloc_proofs.proofs.Moves.ScratchRegTaken.{of_machine, Fit}
@@ -35,7 +35,7 @@ use Rattle.regalloc2_fastalloc_proofs.proofs.Slots.StepsKeepSlots.{IsAt, changes
 use Rattle.regalloc2_fastalloc_proofs.proofs.Operands.DefinedNumbers.{defined_by, defined_by-at}
 use Rattle.regalloc2_fastalloc_proofs.proofs.BlockEnd.NoMoveForOperand.{IsOutside}
 use Rattle.regalloc2_fastalloc_proofs.proofs.Moves.StepsAppendEdits.{Pushes, pushes_then, pushes_weaken, changes_push}
-use Rattle.regalloc2_fastalloc_proofs.proofs.Changes.WalkChanges.{any_passed, gathers_changes}
+use Rattle.regalloc2_fastalloc_proofs.proofs.Changes.WalkChanges.{any_passed, gathers_moves_changes}
 use Rattle.regalloc2_fastalloc_proofs.proofs.Inst.OneInstCarries.{Between, Alone, alone}
 use Rattle.regalloc2_fastalloc_proofs.proofs.Walk.InstForOneVReg.{undefined_by}
 use Rattle.regalloc2_fastalloc_proofs.proofs.Walk.InstsBeforeLastCarry.{defined_from}
@@ -51,7 +51,7 @@ use Rattle.regalloc2_fastalloc_proofs.proofs.Branches.ArgMovesEffect.{ArgMoves, 
 use Rattle.regalloc2_fastalloc_proofs.proofs.Branches.BranchInParts.{settled_carries, Parted, parted}
 use Rattle.regalloc2_fastalloc_proofs.proofs.Inst.ProperInsts.{ProperCode}
 use Rattle.regalloc2_fastalloc_proofs.proofs.Branches.ArgMovesByClass.{ClassSteps, steps_of}
-use Rattle.regalloc2_fastalloc_proofs.proofs.Changes.InstChanges.{allocates_changes, any_operand}
+use Rattle.regalloc2_fastalloc_proofs.proofs.Changes.InstChanges.{allocs_inst_changes, any_operand}
 
 -- tables that differ in moves and in temporary slots
 pub whole_like : (old new : StateValue) → new.places ≡ old.places → new.slots.vreg_spillslots ≡ old.slots.vreg_spillslots → new.slots.sizes ≡ old.slots.sizes →
@@ -214,11 +214,11 @@ module _ (branch : BlockBranch) where
 
   come_middle : ToCome F middle
   come_middle = to_come-back (λ q. q ≡ before last) F middle p.gathered by_itself.between.whole.units
-      (changes_grow (λ q. q ≡ before last) (gathers_changes (λ q r. refl) (any_passed (λ e. e.0 ≡ before last) f b) p.gathers)) come_gathered
+      (changes_grow (λ q. q ≡ before last) (gathers_moves_changes (λ q r. refl) (any_passed (λ e. e.0 ≡ before last) f b) p.gathers)) come_gathered
 
   stays_old : (x : ℕ) (q : Place) → slots_at old x ≡ Some q → F x ≡ Some q
   stays_old x q at = come_middle.stays x q (grown_slots (IsAt last) old middle
-      (changes_grow (IsAt last) (allocates_changes (λ p r. inr refl) (λ p r. inl refl) (λ k lt. any_operand (λ e. IsAt last e.0) _) a)) x q at)
+      (changes_grow (IsAt last) (allocs_inst_changes (λ p r. inr refl) (λ p r. inl refl) (λ k lt. any_operand (λ e. IsAt last e.0) _) a)) x q at)
 
   held : IsHeldHere inst_regs p.gathered
   held x r at = part.comes.less.early r (br.held x r (part.comes.registers x r at))
@@ -267,7 +267,7 @@ module _ (branch : BlockBranch) where
       pushes_then P old.edits middle.edits p.gathered.edits (pushes_weaken (IsUseMove last (inst_at f last).operands here) P old.edits middle.edits
       (λ d x. inl x) br.pushes)
       (pushes_weaken (IsReload (before last)) P middle.edits p.gathered.edits (λ d x. inr x)
-      (changes_push (IsReload (before last)) (gathers_changes (λ q r. (refl, (r, refl))) (any_passed (IsReload (before last)) f b) p.gathers))) in
+      (changes_push (IsReload (before last)) (gathers_moves_changes (λ q r. (refl, (r, refl))) (any_passed (IsReload (before last)) f b) p.gathers))) in
       untouched_walked (InSlot n) (inst_at f) (at_point (listed p.gathered.edits)) placesf last 1
       (λ q ge lt. unmoved P (InSlot n) q old.edits p.gathered.edits
       (λ d is to. elim is [
@@ -300,7 +300,7 @@ module _ (branch : BlockBranch) where
   unwritten v free = unwritten_walked v (inst_at f) (at_point (listed p.gathered.edits)) placesf last 1
       (λ j le lt. let same : last ≡ j = omega (arith, le, lt) in subst (λ k. Undefined (inst_at f k).operands v) same (undefined_by f placesf F v last free))
 
-  module _ (v : VirtualRegister) (known : Known v) (free : defined_by (inst_at f last).operands v.number ≡ false) (foreign : IsOwn f b v → ⊥) (block : Bool)
+  module _ (v : VirtualRegister) (known : Known v) (free : defined_by (inst_at f last).operands v.number ≡ false) (foreign : IsOwnDef f b v → ⊥) (block : Bool)
       (settled : (place_in old v.number ≡ NoPlace) ⊎ ((k : ℕ) × (place_in old v.number ≡ InSlot k) × (slot_in old v.number ≡ InSlot k)))
       (writes_it : block ≡ true → IsUnwritten f b v → ⊥) (lives : block ≡ true → (c : ℕ) → c < length f.blocks → c ≢ b → IsUsedIn f c v →
       place_in old v.number ≢ NoPlace) where

@@ -6,7 +6,7 @@ use Rattle.regalloc2_names.specs.Register.{Register, VirtualRegister}
 use Rattle.regalloc2_names.specs.Place.{Place, InRegister}
 use Rattle.regalloc2_names.specs.Point.{before}
 use Rattle.regalloc2_function.specs.FunctionValue.{FunctionValue, InstValue, inst_at}
-use Rattle.regalloc2_semantics.specs.Listing.{Item, executed}
+use Rattle.regalloc2_semantics.specs.Listing.{Item, exec_item}
 use Rattle.regalloc2_semantics.specs.Carry.{Carries}
 use Rattle.regalloc2_semantics.specs.BlockByPoints.{at_point, walked, before_part, listed}
 use Rattle.regalloc2_semantics.specs.OperandsPlaced.{Need, located, in_slot, made}
@@ -37,7 +37,7 @@ module _ (insts : ℕ → InstValue) (placesf : ℕ → List Place) (last : ℕ)
     (only : (r : Register) → F ≡ Some (InRegister r) → ⊥) (E : Place → Type 0) where
   -- the branch itself in the listing, without its moves
   abbrev pub branch_item : Item
-  branch_item = executed (insts last) (placesf last)
+  branch_item = exec_item (insts last) (placesf last)
 
   -- what is listed from the last instruction on
   abbrev pub from_last : StateValue → List Item
@@ -96,7 +96,7 @@ module _ (insts : ℕ → InstValue) (placesf : ℕ → List Place) (last : ℕ)
 
 -- what settling does to the tables
 abbrev pub Parted : FunctionValue → ℕ → ℕ → ℕ → InstRegs → InstRegs → StateValue → StateValue → List ClassMove → Type 0
-Parted f b last k t u old new given = MovesByClass (tail_of (λ v. ⊥) (inst_at f) (λ j. []) last 0 (λ v p. ⊥)) (executed (inst_at f last) []) (λ p x. false)
+Parted f b last k t u old new given = MovesByClass (tail_of (λ v. ⊥) (inst_at f) (λ j. []) last 0 (λ v p. ⊥)) (exec_item (inst_at f last) []) (λ p x. false)
     (λ r x. refl)
     f b k t u old new given
 
@@ -104,7 +104,7 @@ Parted f b last k t u old new given = MovesByClass (tail_of (λ v. ⊥) (inst_at
 pub parted : (f : FunctionValue) (b last : ℕ) (t u : InstRegs) (old new : StateValue) (k : ℕ) (given : List ClassMove) →
     GathersMoves f b (before last) t old k u new given → Between last old → SpareHere t old → Parted f b last k t u old new given
 parted f b last t u old new k given gathers between scratch_reserve =
-    gathered (tail_of (λ v. ⊥) (inst_at f) (λ j. []) last 0 (λ v p. ⊥)) (executed (inst_at f last) []) (λ p x. false) (λ r x. refl) f b t old
+    gathered (tail_of (λ v. ⊥) (inst_at f) (λ j. []) last 0 (λ v p. ⊥)) (exec_item (inst_at f last) []) (λ p x. false) (λ r x. refl) f b t old
     (record {
       whole = between.whole;
       later = between.later;

@@ -9,7 +9,7 @@ use Rattle.regalloc2_names.specs.Register.{VirtualRegister, is_vreg}
 use Rattle.regalloc2_names.specs.RegisterSet.{has_register}
 use Rattle.regalloc2_names.specs.Place.{Place, NoPlace, InRegister, InSlot}
 use Rattle.regalloc2_names.specs.Point.{before, after}
-use Rattle.regalloc2_function.specs.FunctionValue.{FunctionValue, IsLimited, block_at, inst_at, no_inst}
+use Rattle.regalloc2_function.specs.FunctionValue.{FunctionValue, IsLimited, block_at, inst_at, no_inst, no_operand}
 use Rattle.regalloc2_function.specs.Machine.{MachineValue}
 use Rattle.regalloc2_function.specs.OutputValue.{place_at}
 use Rattle.regalloc2_function.specs.SourceRun.{arguments_at}
@@ -28,9 +28,9 @@ use Rattle.regalloc2_semantics.proofs.SingleDef.Made.{by_operand}
 use Rattle.regalloc2_semantics.proofs.Order.{ends_within, reads_later}
 use Rattle.regalloc2_branch_defs.specs.BranchDefs.{DefinesNumber, IsEdgeInto}
 use Rattle.regalloc2_validate.specs.NoLimits.{AreTaken}
-use Rattle.regalloc2_validate.specs.Constraints.{no_operand, op_at}
+use Rattle.regalloc2_function.specs.FunctionValue.{op_at}
 use Rattle.regalloc2_fastalloc_proofs.specs.InstSteps.{StateValue, ends_block}
-use Rattle.regalloc2_fastalloc_proofs.specs.BranchSteps.{IsOwn}
+use Rattle.regalloc2_fastalloc_proofs.specs.BranchSteps.{IsOwnDef}
 use Rattle.regalloc2_fastalloc_proofs.specs.StoreSteps.{branch_operands}
 use Rattle.regalloc2_fastalloc_proofs.proofs.Safety.StepsKeepState.{slot_in}
 use Rattle.regalloc2_fastalloc_proofs.proofs.Operands.RecordOverState.{stands_at, slots_at, opt_real}
@@ -53,7 +53,7 @@ use Rattle.regalloc2_fastalloc_proofs.proofs.Walk.BlockCarries.{BlockEnd, EndCar
 use Rattle.regalloc2_fastalloc_proofs.proofs.Inst.ProperInsts.{all_proper}
 use Rattle.regalloc2_fastalloc_proofs.proofs.Inst.ProperInsts.{proper_of}
 use Rattle.regalloc2_fastalloc_proofs.proofs.Slots.StepsKeepSlots.{changes_grow, Grown}
-use Rattle.regalloc2_fastalloc_proofs.proofs.Changes.WalkChanges.{passes_changes, any_passed}
+use Rattle.regalloc2_fastalloc_proofs.proofs.Changes.WalkChanges.{processes_branch_changes, any_passed}
 
 kind_is : (k : OperandKind) → is_def k ≡ true → k ≡ Def
 kind_is Def h = refl
@@ -84,7 +84,7 @@ module _ (env : MachineValue) (f : FunctionValue) (limited : IsLimited f) (ok : 
 
     -- no branch defines a parameter
     param_foreign : (e n : ℕ) (w : VirtualRegister) → HasEdge f b e → n < length (params_on f b e) → argument_at (params_on f b e) n ≡ w →
-        (c : ℕ) → c < length f.blocks → IsOwn f c w → ⊥
+        (c : ℕ) → c < length f.blocks → IsOwnDef f c w → ⊥
     param_foreign e n w edge lt is c lc own =
         let h = ends_within f ok.follow c lc in
         let some = (ok.follow c lc).0 in
@@ -115,11 +115,11 @@ module _ (env : MachineValue) (f : FunctionValue) (limited : IsLimited f) (ok : 
           let same : Some p ≡ Some (left_at f placesf b j) = sym h.4 ∙ subst (λ w. stand (target_at f b h.0) w ≡ Some (left_at f placesf b j)) n.2 at in cc
 
       -- and all else in slots
-      foreign_out : IsNeeded f v ⊎ IsUnused f v → (IsOwn f b v → ⊥) → (p : Place) → GoesOut f stand b v p → StandsAfter f (λ w. F w.number) b v p
+      foreign_out : IsNeeded f v ⊎ IsUnused f v → (IsOwnDef f b v → ⊥) → (p : Place) → GoesOut f stand b v p → StandsAfter f (λ w. F w.number) b v p
       foreign_out known foreign p (inl h) = elim known [
         | inl needed ↦ (
             let at = arrive.other (target_at f b h.0) v needed
-            (λ e l x own. foreign (subst (λ c. IsOwn f c v) (sym (entered_by_one env f ok b h.0 lb h.1 e l x).0) own))
+            (λ e l x own. foreign (subst (λ c. IsOwnDef f c v) (sym (entered_by_one env f ok b h.0 lb h.1 e l x).0) own))
             (λ e l n x lt is own. let yes_named : names v (params_on f b h.0) ≡ true = names_at (params_on f b h.0) n v lt is in
             let no_name : names v (params_on f b h.0) ≡ false = h.2 h.0 h.1 in cc) in
             inl (h.2, h.3, sym at ∙ h.4))
@@ -135,9 +135,9 @@ module _ (env : MachineValue) (f : FunctionValue) (limited : IsLimited f) (ok : 
           let same : n ≡ m.0 = (one_param f ok.defined_once h.1.number (target_at f b h.0) (target_at f b h.0) n m.0
           (record { block = target_small h.0 h.2; param = lt; number = ap (λ (w : VirtualRegister). w.number) is })
           (record { block = target_small h.0 h.2; param = m.1; number = ap (λ (w : VirtualRegister). w.number) m.2 })).1 in
-          foreign (subst (IsOwn f b) m.3 (subst (λ c. IsOwn f b (argument_at (arguments_at f b h.0) c)) same
-          (subst (λ c. IsOwn f c (argument_at (arguments_at f c h.0) n)) (sym s.0)
-          (subst (λ c. IsOwn f e (argument_at (arguments_at f e c) n)) (sym s.1) own)))))
+          foreign (subst (IsOwnDef f b) m.3 (subst (λ c. IsOwnDef f b (argument_at (arguments_at f b h.0) c)) same
+          (subst (λ c. IsOwnDef f c (argument_at (arguments_at f c h.0) n)) (sym s.0)
+          (subst (λ c. IsOwnDef f e (argument_at (arguments_at f e c) n)) (sym s.1) own)))))
           in
           inr (h.0, h.1, h.2, h.3, sym at ∙ h.4)
 
@@ -173,7 +173,7 @@ module _ (env : MachineValue) (f : FunctionValue) (limited : IsLimited f) (ok : 
           place_at (placesf last) k ≡ InSlot n → slots_at final (op_at (inst_at f last).operands k).vreg.number ≡ Some (InSlot n)
       own_slots = own_slot_of f ok.defined_once placesf (slots_at final) e.own b within (placed b lb branch)
 
-      defined_not : (w : VirtualRegister) → (IsOwn f b w → ⊥) → defined_by (inst_at f last).operands w.number ≡ false
+      defined_not : (w : VirtualRegister) → (IsOwnDef f b w → ⊥) → defined_by (inst_at f last).operands w.number ≡ false
       defined_not w none = elim (cases_Bool (defined_by (inst_at f last).operands w.number)) [
         | inl is ↦ absurd (none (number_defined (inst_at f last).operands w.number is))
         | inr free ↦ free
@@ -187,7 +187,7 @@ module _ (env : MachineValue) (f : FunctionValue) (limited : IsLimited f) (ok : 
           e.allocates.allocates.allocates in
           let p = e.allocates.branch branch in
           let g : Grown (λ n. n ≡ before last) e.allocates.middle new =
-          changes_grow (λ n. n ≡ before last) (passes_changes (λ q r. refl) (any_passed (λ d. d.0 ≡ before last) f b) p) in
+          changes_grow (λ n. n ≡ before last) (processes_branch_changes (λ q r. refl) (any_passed (λ d. d.0 ≡ before last) f b) p) in
           pushed_at (λ d. d.0 ≡ before last) (after last) e.allocates.middle.edits new.edits (λ d is at. omega (arith, is, at))
           (grown_pushes (λ n. n ≡ before last) e.allocates.middle new g)
           ∙ pushed_at (IsUseMove last (inst_at f last).operands e.allocates.allocates.here) (after last) old.edits e.allocates.middle.edits
@@ -249,7 +249,7 @@ module _ (env : MachineValue) (f : FunctionValue) (limited : IsLimited f) (ok : 
             ]
 
         -- and what it doesn't
-        foreign_carries : (IsOwn f b v → ⊥) → Carries v L On (GoesOut f stand b v)
+        foreign_carries : (IsOwnDef f b v → ⊥) → Carries v L On (GoesOut f stand b v)
         foreign_carries foreign =
             carries_weaken v L On On (StandsAfter f (λ u. slots_at final u.number) b v) (GoesOut f stand b v) (λ p h. h)
             (foreign_out b lb placesf (slots_at final) stand arrive branch v (decide v used) foreign)

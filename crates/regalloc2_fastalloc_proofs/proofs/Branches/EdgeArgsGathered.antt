@@ -14,14 +14,14 @@ use Rattle.regalloc2_semantics.specs.Listing.{Item}
 use Rattle.regalloc2_semantics.specs.Blocks.{target_at, Passes}
 use Rattle.regalloc2_fastalloc_state.specs.declared.inst_regs.InstRegs.{InstRegs}
 use Rattle.regalloc2_fastalloc_proofs.specs.InstSteps.{StateValue}
-use Rattle.regalloc2_fastalloc_proofs.specs.BlockStart.{no_vreg}
+use Rattle.regalloc2_names.specs.Register.{no_vreg}
 use Rattle.regalloc2_fastalloc_proofs.specs.BranchSteps.{ClassMove, is_class, of_class, GathersEdgeMoves, none_gathered, one_gathered, own_argument}
 use Rattle.regalloc2_fastalloc_proofs.specs.BranchSteps.{GathersMoves}
-use Rattle.regalloc2_fastalloc_proofs.specs.BranchSteps.{no_edge, one_edge, IsOwn}
+use Rattle.regalloc2_fastalloc_proofs.specs.BranchSteps.{no_edge, one_edge, IsOwnDef}
 use Rattle.regalloc2_fastalloc_proofs.proofs.Operands.RecordOverState.{opt, opt_some, slots_at, changes_slots}
 use Rattle.regalloc2_fastalloc_proofs.proofs.Changes.OneChange.{slot_given, changed, in_order}
-use Rattle.regalloc2_fastalloc_proofs.proofs.Changes.WalkChanges.{settles_changes, edge_changes}
-use Rattle.regalloc2_fastalloc_proofs.proofs.Branches.ArgsSpilled.{Comes, comes_all, comes_then, Stage, gives_stage, argued}
+use Rattle.regalloc2_fastalloc_proofs.proofs.Changes.WalkChanges.{spills_argument_changes, gathers_edge_moves_changes}
+use Rattle.regalloc2_fastalloc_proofs.proofs.Branches.ArgsSpilled.{Comes, comes_all, comes_then, Stage, gets_spillslot_stage, argued}
 use Rattle.regalloc2_fastalloc_proofs.proofs.Operands.BlockTail.{BlockTail}
 
 contains_cases : {X : Type 0} → (x y : X) (xs : List X) → Contains (x ∷ xs) y → (x ≡ y) ⊎ Contains xs y
@@ -129,29 +129,31 @@ module _ (tail : BlockTail) (item : Item) (X : Place → ℕ → Bool) (clear : 
     pub all : (j : ℕ) → j < k → (Own (argument_at arguments j) → ⊥) → (g : ClassMove) × Contains given g × IsArgued params arguments j new g
 
   -- gathering the first k arguments of an edge keeps the state at the branch, and its moves go from the arguments' slots to the parameters'
-  pub edge_done : {Own : VirtualRegister → Type 0} (params arguments : List VirtualRegister) (t : InstRegs) (old : StateValue) (before_it : List ClassMove) →
+  pub gathers_edge_moves_done : {Own : VirtualRegister → Type 0} (params arguments : List VirtualRegister) (t : InstRegs) (old : StateValue)
+      (before_it : List ClassMove) →
       Stage tail item X clear t old
       → (k : ℕ) (u : InstRegs) (new : StateValue) (given : List ClassMove) → GathersEdgeMoves Own (before i) params arguments t old before_it k u new given →
       EdgeDone Own params arguments before_it k t u old new given
-  edge_done params arguments t old before_it h k u new given none_gathered = record {
+  gathers_edge_moves_done params arguments t old before_it h k u new given none_gathered = record {
     stage = h;
     comes = comes_all t old;
     kept = λ g has. has;
     origin = λ g has. inl has;
     all = λ j lt not_own. absurd (omega arith);
   }
-  edge_done params arguments t old before_it h k w o given (one_gathered j had to from u x m p q lt prev gives places edits machine order settles foreign) =
-      let a = edge_done params arguments t old before_it h j u m had prev in
-      let g = gives_stage tail item X clear (argument_at params j) to u m p gives places edits machine a.stage in
+  gathers_edge_moves_done params arguments t old before_it h k w o given (one_gathered j had to from u x m p q lt prev gives places edits machine order
+      settles foreign) =
+      let a = gathers_edge_moves_done params arguments t old before_it h j u m had prev in
+      let g = gets_spillslot_stage tail item X clear (argument_at params j) to u m p gives places edits machine a.stage in
       let s = argued tail item X clear (argument_at arguments j) from u w p o settles g.0 in
       let slots : (x : ℕ) (r : Place) → slots_at m x ≡ Some r → slots_at o x ≡ Some r = changes_slots (in_order p
-      (changed (slot_given (argument_at params j) to tt gives places edits machine)) (settles_changes (λ q b. tt) tt tt settles)) in
+      (changed (slot_given (argument_at params j) to tt gives places edits machine)) (spills_argument_changes (λ q b. tt) tt tt settles)) in
       let one : ClassMove = record { class = (argument_at arguments j).class; from = from; to = to } in
       let is : IsArgued params arguments j o one = (
         lt,
         refl,
         s.slot,
-        changes_slots (settles_changes (λ q b. tt) tt tt settles) (argument_at params j).number to
+        changes_slots (spills_argument_changes (λ q b. tt) tt tt settles) (argument_at params j).number to
             (ap opt gives.gives ∙ opt_some to gives.there),
       ) in
       record {
@@ -177,8 +179,8 @@ module _ (tail : BlockTail) (item : Item) (X : Place → ℕ → Bool) (clear : 
           ))
         ];
       }
-  edge_done {Own} params arguments t old before_it h k w o given (own_argument j had u m lt prev own) =
-      let a : EdgeDone Own params arguments before_it j t w old o given = edge_done params arguments t old before_it h j w o given prev in
+  gathers_edge_moves_done {Own} params arguments t old before_it h k w o given (own_argument j had u m lt prev own) =
+      let a : EdgeDone Own params arguments before_it j t w old o given = gathers_edge_moves_done params arguments t old before_it h j w o given prev in
       record {
         stage = a.stage;
         comes = a.comes;
@@ -195,7 +197,7 @@ module _ (tail : BlockTail) (item : Item) (X : Place → ℕ → Bool) (clear : 
     pub stage : Stage tail item X clear u new
     pub comes : Comes t u old new
     pub origin : (g : ClassMove) → Contains given g → (e j : ℕ) × (e < k) × IsArgued (params_on f b e) (arguments_at f b e) j new g
-    pub all : (e j : ℕ) → e < k → j < length (params_on f b e) → (IsOwn f b (argument_at (arguments_at f b e) j) → ⊥) → (g : ClassMove) × Contains given g
+    pub all : (e j : ℕ) → e < k → j < length (params_on f b e) → (IsOwnDef f b (argument_at (arguments_at f b e) j) → ⊥) → (g : ClassMove) × Contains given g
         × IsArgued (params_on f b e) (arguments_at f b e) j new g
 
   -- gathering the arguments of the first k edges keeps the state at the branch, and gives the moves of all their arguments
@@ -210,9 +212,9 @@ module _ (tail : BlockTail) (item : Item) (X : Place → ℕ → Bool) (clear : 
   }
   gathered f b t old h k u new given (one_edge d had more x w m o lt prev edge) =
       let a = gathered f b t old h d x m had prev in
-      let g = edge_done (params_on f b d) (arguments_at f b d) x m had a.stage (length (params_on f b d)) u new given edge in
+      let g = gathers_edge_moves_done (params_on f b d) (arguments_at f b d) x m had a.stage (length (params_on f b d)) u new given edge in
       let slots : (y : ℕ) (p : Place) → slots_at m y ≡ Some p → slots_at new y ≡ Some p =
-      changes_slots (edge_changes (λ q r. tt) (λ j less. record { target = tt; source = tt; spills = tt }) edge) in
+      changes_slots (gathers_edge_moves_changes (λ q r. tt) (λ j less. record { target = tt; source = tt; spills = tt }) edge) in
       record {
         stage = g.stage;
         comes = comes_then t x u old m new a.comes g.comes;
@@ -227,7 +229,7 @@ module _ (tail : BlockTail) (item : Item) (X : Place → ℕ → Bool) (clear : 
         ];
         all = λ e j less short not_own. elim (cases_eq e d) [
           | inl same ↦ (let s : j < length (params_on f b d) = subst (λ z. j < length (params_on f b z)) same short in
-              let y = g.all j s (subst (λ z. IsOwn f b (argument_at (arguments_at f b z) j) → ⊥) same not_own) in
+              let y = g.all j s (subst (λ z. IsOwnDef f b (argument_at (arguments_at f b z) j) → ⊥) same not_own) in
               (y.0, y.1, subst (λ z. IsArgued (params_on f b z) (arguments_at f b z) j new y.0) (sym same) y.2))
           | inr ne ↦ (let y = a.all e j (omega (arith, less, ne)) short not_own in
               (y.0, g.kept y.0 y.1, argued_on (params_on f b e) (arguments_at f b e) j m new y.0 slots y.2))

@@ -14,13 +14,13 @@ use Rattle.regalloc2_function.specs.Path.{Location, next_of}
 use Rattle.regalloc2_function.specs.SourceRun.{arguments_at}
 use Rattle.regalloc2_function.specs.WellFormed.{IsWellFormed, last_of}
 use Rattle.regalloc2_semantics.specs.Blocks.{IsUsed, target_at}
-use Rattle.regalloc2_semantics.specs.Listing.{op_at}
+use Rattle.regalloc2_function.specs.FunctionValue.{op_at}
 use Rattle.regalloc2_semantics.specs.Live.{IsLive, read_there, passed_there, later}
 use Rattle.regalloc2_semantics.proofs.SingleDef.{DefinesAt, not_both, one_operand, one_param}
 use Rattle.regalloc2_branch_defs.specs.BranchDefs.{DefinesNumber, EndsInDefinitions, IsEdgeInto, IsUsedElsewhere}
 use Rattle.regalloc2_branch_defs.proofs.UsedOrNot.{Decided, below, both, is_so, same_vreg, by_pass, by_read, used_or_not}
-use Rattle.regalloc2_fastalloc_proofs.specs.BlockStart.{no_vreg}
-use Rattle.regalloc2_fastalloc_proofs.specs.BranchSteps.{IsOwn}
+use Rattle.regalloc2_names.specs.Register.{no_vreg}
+use Rattle.regalloc2_fastalloc_proofs.specs.BranchSteps.{IsOwnDef}
 use Rattle.regalloc2_fastalloc_proofs.specs.StoreSteps.{branch_operands}
 use Rattle.regalloc2_fastalloc_proofs.proofs.Operands.DefinedNumbers.{defined_by, defined_by-number, number_defined}
 use Rattle.regalloc2_fastalloc_proofs.proofs.Branches.Arrivals.{Arrive, IsNeeded, left_at}
@@ -244,15 +244,15 @@ module _ (env : MachineValue) (f : FunctionValue) (ok : IsWellFormed env f) wher
         by_kind (nowhere u) = absurd (given_not_defined b u.1 u.4.0 v me u.3.block u.4.1)
         by_kind (in_slot u own given) = absurd (given me)
 
-    on_other : (b : ℕ) (v : VirtualRegister) → IsNeeded f v → ((e k : ℕ) → IsEdgeInto f b e k → IsOwn f e v → ⊥) →
+    on_other : (b : ℕ) (v : VirtualRegister) → IsNeeded f v → ((e k : ℕ) → IsEdgeInto f b e k → IsOwnDef f e v → ⊥) →
         ((e k n : ℕ) → IsEdgeInto f b e k → n < length (block_at f b).params → slice_index_or (block_at f b).params n no_vreg ≡ v →
-        IsOwn f e (slice_index_or (arguments_at f e k) n no_vreg) → ⊥) → (a : Arrival f b v) → place_on f placesf F b v a ≡ F v.number
+        IsOwnDef f e (slice_index_or (arguments_at f e k) n no_vreg) → ⊥) → (a : Arrival f b v) → place_on f placesf F b v a ≡ F v.number
     on_other b v needed no_own no_given (by_own c) = absurd (no_own c.from c.position c.edge (c.index, c.defines))
     on_other b v needed no_own no_given (by_param c) = absurd (no_given c.from c.position c.param c.edge c.within c.is (c.index, c.defines))
     on_other b v needed no_own no_given (nowhere u) = absurd (u.5 (needed u.0 u.1 u.2 u.3 u.4))
     on_other b v needed no_own no_given (in_slot u own given) = refl
 
-    on_unused : (b d e k : ℕ) (v : VirtualRegister) → IsEdgeInto f d e k → IsOwn f e v → (IsUsedElsewhere f v → ⊥) → (a : Arrival f b v) →
+    on_unused : (b d e k : ℕ) (v : VirtualRegister) → IsEdgeInto f d e k → IsOwnDef f e v → (IsUsedElsewhere f v → ⊥) → (a : Arrival f b v) →
         place_on f placesf F b v a ≡ None
     on_unused b d e k v edge own un (by_own c) = absurd (un c.used)
     on_unused b d e k v edge own un (by_param c) = absurd (given_not_defined b e own.0 v c edge.block own.1)

@@ -11,7 +11,7 @@ use Rattle.regalloc2_function.specs.SourceRun.{arguments_at}
 use Rattle.regalloc2_semantics.specs.Blocks.{names, HasEdge, target_at, ExcusedAreSilent}
 use Rattle.regalloc2_semantics.proofs.NotRead.{Unread}
 use Rattle.regalloc2_semantics.proofs.Soundness.{entered_once}
-use Rattle.regalloc2_fastalloc_proofs.specs.BlockStart.{no_vreg}
+use Rattle.regalloc2_names.specs.Register.{no_vreg}
 use Rattle.regalloc2_fastalloc_proofs.proofs.Branches.EdgeArgsGathered.{argument_at, params_on}
 
 pub few_or_more : (n : ℕ) → (n ≤ 1) ⊎ (1 < n)

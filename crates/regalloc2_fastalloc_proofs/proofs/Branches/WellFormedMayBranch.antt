@@ -11,10 +11,10 @@ use Rattle.regalloc2_function.specs.FunctionValue.{FunctionValue, block_at}
 use Rattle.regalloc2_function.specs.Machine.{MachineValue}
 use Rattle.regalloc2_function.specs.SourceRun.{arguments_at}
 use Rattle.regalloc2_function.specs.WellFormed.{IsWellFormed, times_in, ways_into, last_of}
-use Rattle.regalloc2_semantics.specs.Blocks.{HasEdge, target_at, IsSound}
+use Rattle.regalloc2_semantics.specs.Blocks.{HasEdge, target_at, HasSoundBlocks}
 use Rattle.regalloc2_semantics.proofs.SingleDef.{TakesAt, one_param}
 use Rattle.regalloc2_semantics.proofs.Soundness.{count_at, well_formed_are_sound, find}
-use Rattle.regalloc2_fastalloc_proofs.specs.BlockStart.{no_vreg}
+use Rattle.regalloc2_names.specs.Register.{no_vreg}
 use Rattle.regalloc2_fastalloc_proofs.specs.BranchSteps.{MayBranch, ParametersDiffer}
 use Rattle.regalloc2_fastalloc_proofs.specs.InstSteps.{StateValue}
 use Rattle.regalloc2_fastalloc_proofs.specs.BlockSteps.{DefinesBelow}
@@ -42,7 +42,7 @@ counted_twice n (x ∷ xs) (suc j) (suc k) ne lj lk a b =
     omega (arith, c, h)
 
 module _ (env : MachineValue) (f : FunctionValue) (ok : IsWellFormed env f) (b : ℕ) (within : b < length f.blocks) where
-  sound : IsSound f
+  sound : HasSoundBlocks f
   sound = well_formed_are_sound env f ok
 
   -- two edges out of a block lead to two blocks

@@ -16,9 +16,9 @@ use Rattle.regalloc2_semantics.specs.OperandsPlaced.{at_begin}
 use Rattle.regalloc2_fastalloc_state.specs.declared.inst_regs.InstRegs.{InstRegs}
 use Rattle.regalloc2_fastalloc_state.specs.declared.inst_regs.Positions.{Positions}
 use Rattle.regalloc2_fastalloc_state.specs.InstRegs.{positions_of}
-use Rattle.regalloc2_validate.specs.Constraints.{op_at}
+use Rattle.regalloc2_function.specs.FunctionValue.{op_at}
 use Rattle.regalloc2_fastalloc_proofs.specs.InstSteps.{StateValue, SameMachine, AllocsScratchReg, dedicated_scratch, had, found, AddsMove, direct}
-use Rattle.regalloc2_fastalloc_proofs.specs.InstSteps.{through, EvictsPReg, empty, cleared, EvictsOthers, own, others, NeedsFixedReg}
+use Rattle.regalloc2_fastalloc_proofs.specs.InstSteps.{through, EvictsPReg, empty, cleared, EvictsOtherVRegs, own, others, NeedsFixedReg}
 use Rattle.regalloc2_fastalloc_proofs.specs.InstSteps.{own as of_its_own, named as of_named, EvictsFixed, none_cleared, not_fixed, of_fixed, of_reuse}
 use Rattle.regalloc2_fastalloc_proofs.proofs.Safety.StepsKeepState.{place_in}
 use Rattle.regalloc2_fastalloc_proofs.proofs.Operands.RecordOverState.{stands_at, Located}
@@ -27,7 +27,7 @@ use Rattle.regalloc2_fastalloc_proofs.proofs.Moves.ScratchRegTaken.{IsScratch, o
 use Rattle.regalloc2_fastalloc_proofs.proofs.Evictions.EvictPReg.{kept_then}
 use Rattle.regalloc2_fastalloc_proofs.proofs.Operands.ClaimAndUse.{covers_at, claim_register}
 use Rattle.regalloc2_fastalloc_proofs.proofs.Operands.RecordOfInst.{Orderly, Ready}
-use Rattle.regalloc2_fastalloc_proofs.proofs.Evictions.EvictKeepsRecord.{ready_clears, ready_clears_but}
+use Rattle.regalloc2_fastalloc_proofs.proofs.Evictions.EvictKeepsRecord.{ready_evicts_preg, ready_evicts_other_vregs}
 use Rattle.regalloc2_fastalloc_proofs.proofs.Operands.ClaimKeepsRecord.{Grips, ready_claim}
 use Rattle.regalloc2_fastalloc_proofs.proofs.Operands.BlockTail.{BlockTail}
 use Rattle.regalloc2_fastalloc_proofs.proofs.Evictions.EvictVReg.{kept_used}
@@ -80,11 +80,11 @@ was_free false b f h = let x = f refl in absurd cc
 free_same : (b t u : InstRegs) → u ≡ t → WereFree b t → WereFree b u
 free_same b t u e f c q h = f c q (ap (λ (y : InstRegs). slice_index_or y.scratch (class_code c) None) (sym e) ∙ h)
 
-scratches_free : (b : InstRegs) (point : ℕ) (class : RegClass) (t u : InstRegs) (by : Register) (old new : StateValue) →
+allocs_scratch_reg_free : (b : InstRegs) (point : ℕ) (class : RegClass) (t u : InstRegs) (by : Register) (old new : StateValue) →
     AllocsScratchReg point class t u by old new → Less b t → WereFree b t → WereFree b u
-scratches_free b point class t u by old new (dedicated_scratch o eu en) less f = free_same b t u eu f
-scratches_free b point class t u by old new (had none o eu en) less f = free_same b t u eu f
-scratches_free b point class t u by old new (found none unset may early late less_e less_l set evicts) less f = λ c q h.
+allocs_scratch_reg_free b point class t u by old new (dedicated_scratch o eu en) less f = free_same b t u eu f
+allocs_scratch_reg_free b point class t u by old new (had none o eu en) less f = free_same b t u eu f
+allocs_scratch_reg_free b point class t u by old new (found none unset may early late less_e less_l set evicts) less f = λ c q h.
     elim (set_found t.scratch (class_code class) (class_code c) by q (ap (λ l. slice_index_or l (class_code c) None) (sym set) ∙ h)) [
       | inl e ↦ (
         was_free (has_register b.early q) (has_register t.early q) (less.early q) (ap (has_register t.early) e ∙ early),
@@ -93,23 +93,24 @@ scratches_free b point class t u by old new (found none unset may early late les
       | inr e ↦ f c q e
     ]
 
-crosses_free : (b : InstRegs) (point : ℕ) (class : RegClass) (from to : Place) (t u : InstRegs) (old new : StateValue) →
+adds_move_free : (b : InstRegs) (point : ℕ) (class : RegClass) (from to : Place) (t u : InstRegs) (old new : StateValue) →
     AddsMove point class from to t u old new → Less b t → WereFree b t → WereFree b u
-crosses_free b point class from to t u old new (direct flat eu en) less f = free_same b t u eu f
-crosses_free b point class from to t u old new (through by m stack s en) less f = scratches_free b point class t u by old m s less f
+adds_move_free b point class from to t u old new (direct flat eu en) less f = free_same b t u eu f
+adds_move_free b point class from to t u old new (through by m stack s en) less f = allocs_scratch_reg_free b point class t u by old m s less f
 
 -- if each scratch register taken so far was available in b, so was one that this eviction takes
-pub clears_free : (b : InstRegs) (point : ℕ) (r : Register) (t u : InstRegs) (old new : StateValue) → EvictsPReg point r t u old new → Less b t → WereFree b t
+pub evicts_preg_free : (b : InstRegs) (point : ℕ) (r : Register) (t u : InstRegs) (old new : StateValue) → EvictsPReg point r t u old new → Less b t →
+    WereFree b t
     → WereFree b u
-clears_free b point r t u old new (empty none eu en) less f = free_same b t u eu f
-clears_free b point r t u old new (cleared v s m lt held gives settles edits machine order c) less f =
-    crosses_free b point v.class s (InRegister r) t u m new c less f
+evicts_preg_free b point r t u old new (empty none eu en) less f = free_same b t u eu f
+evicts_preg_free b point r t u old new (cleared v s m lt held gives settles edits machine order c) less f =
+    adds_move_free b point v.class s (InRegister r) t u m new c less f
 
 -- the same for an eviction that spares one vreg: its scratch register was available in b
-pub clears_but_free : (b : InstRegs) (point : ℕ) (r : Register) (v : VirtualRegister) (t u : InstRegs) (old new : StateValue) →
-    EvictsOthers point r v t u old new → Less b t → WereFree b t → WereFree b u
-clears_but_free b point r v t u old new (own w there same eu en) less f = free_same b t u eu f
-clears_but_free b point r v t u old new (others other c) less f = clears_free b point r t u old new c less f
+pub evicts_other_vregs_free : (b : InstRegs) (point : ℕ) (r : Register) (v : VirtualRegister) (t u : InstRegs) (old new : StateValue) →
+    EvictsOtherVRegs point r v t u old new → Less b t → WereFree b t → WereFree b u
+evicts_other_vregs_free b point r v t u old new (own w there same eu en) less f = free_same b t u eu f
+evicts_other_vregs_free b point r v t u old new (others other c) less f = evicts_preg_free b point r t u old new c less f
 
 -- The registers that operands claim before they are placed, in the registers b from which all are removed.
 pub record Reserved (ops : List OperandValue) (b : InstRegs) (t : StateValue) : Type 0 where
@@ -308,10 +309,10 @@ module _ (tail : BlockTail) where
       }
 
   -- once the fixed registers of the first k operands are evicted, these operands claim them, and the record of the operands is kept
-  pub fixed_done : (ops : List OperandValue) (lived : ℕ → Bool) (ret : Bool) (b : InstRegs) (old : StateValue) → Orderly ops → Reserved ops b old →
+  pub evicts_fixed_done : (ops : List OperandValue) (lived : ℕ → Bool) (ret : Bool) (b : InstRegs) (old : StateValue) → Orderly ops → Reserved ops b old →
       FixedUpTo ops lived ret b old 0 b old →
       (k : ℕ) (u : InstRegs) (t : StateValue) → EvictsFixed (after i) ops b old k u t → k ≤ length ops → FixedUpTo ops lived ret b old k u t
-  fixed_done ops lived ret b old o s begin k u t (none_cleared order used) = λ le. record {
+  evicts_fixed_done ops lived ret b old o s begin k u t (none_cleared order used) = λ le. record {
     here = begin.here;
     claimed = begin.claimed;
     ready = ready_used tail ops (begun begin.here begin.claimed lived) ret b old order begin.ready;
@@ -322,18 +323,18 @@ module _ (tail : BlockTail) where
     fixed = begin.fixed;
     fixed_reuse = begin.fixed_reuse;
   }
-  fixed_done ops lived ret b old o s begin k u t (not_fixed j w m prev unfixed unnamed) = λ le.
-      let x : FixedUpTo ops lived ret b old j u t = fixed_done ops lived ret b old o s begin j u t prev (omega arith) in
+  evicts_fixed_done ops lived ret b old o s begin k u t (not_fixed j w m prev unfixed unnamed) = λ le.
+      let x : FixedUpTo ops lived ret b old j u t = evicts_fixed_done ops lived ret b old o s begin j u t prev (omega arith) in
       pass_one ops lived ret b old j u u t t x x.ready (kept_all t) (less_same u u refl) x.free (λ r c e. unfixed r e)
       (λ q r c e f. unnamed q r e (o.named j q (omega arith) e).0 f)
-  fixed_done ops lived ret b old o s begin k u t (of_fixed j r w y m p prev is clears) = λ le.
-      let x : FixedUpTo ops lived ret b old j w m = fixed_done ops lived ret b old o s begin j w m prev (omega arith) in
+  evicts_fixed_done ops lived ret b old o s begin k u t (of_fixed j r w y m p prev is clears) = λ le.
+      let x : FixedUpTo ops lived ret b old j w m = evicts_fixed_done ops lived ret b old o s begin j w m prev (omega arith) in
       let lt : j < length ops = omega arith in
-      let c = ready_clears_but tail ops (begun x.here x.claimed lived) ret r
+      let c = ready_evicts_other_vregs tail ops (begun x.here x.claimed lived) ret r
       (op_at ops j).vreg w u m t clears
       (λ v at ne. (all_lived (what_of ops) x.here x.claimed lived m x.ready.located v (InRegister r) at, λ z. refl))
       x.ready in
-      let free : WereFree b u = clears_but_free b (after i) r (op_at ops j).vreg w u m t clears x.less x.free in
+      let free : WereFree b u = evicts_other_vregs_free b (after i) r (op_at ops j).vreg w u m t clears x.less x.free in
       ⊎_elim
       (λ (able : is_fixed_nonallocatable (op_at ops j) ≡ true).
       pass_one ops lived ret b old j w u m t x c.0.ready c.0.kept c.0.less free
@@ -345,13 +346,13 @@ module _ (tail : BlockTail) where
       (λ q e. let y : FixedReg r ≡ FixedReg q = sym is ∙ e in cc)
       (λ q z e f. let y : FixedReg r ≡ Reuse q = sym is ∙ e in absurd cc))
       (cases_Bool (is_fixed_nonallocatable (op_at ops j)))
-  fixed_done ops lived ret b old o s begin k u t (of_reuse j d r w y m p prev is within is_fixed clears) = λ le.
-      let x : FixedUpTo ops lived ret b old j w m = fixed_done ops lived ret b old o s begin j w m prev (omega arith) in
+  evicts_fixed_done ops lived ret b old o s begin k u t (of_reuse j d r w y m p prev is within is_fixed clears) = λ le.
+      let x : FixedUpTo ops lived ret b old j w m = evicts_fixed_done ops lived ret b old o s begin j w m prev (omega arith) in
       let lt : j < length ops = omega arith in
-      let c = ready_clears tail ops (begun x.here x.claimed lived) ret r w u m t clears
+      let c = ready_evicts_preg tail ops (begun x.here x.claimed lived) ret r w u m t clears
       (λ v at. (all_lived (what_of ops) x.here x.claimed lived m x.ready.located v (InRegister r) at, λ z. refl))
       x.ready in
-      let free : WereFree b u = clears_free b (after i) r w u m t clears x.less x.free in
+      let free : WereFree b u = evicts_preg_free b (after i) r w u m t clears x.less x.free in
       let def = o.late_reuse j d lt is in
       claim_one ops lived ret b old j r w u m t o s
       (record { within = lt; at = record { early = false; late = true }; claims = of_named d is within is_fixed refl }) (lt, inl def.0) x c.0.ready c.0.kept

@@ -16,12 +16,13 @@ use Rattle.regalloc2_semantics.specs.Instruction.{Claims}
 use Rattle.regalloc2_semantics.specs.OperandsPlaced.{What, Progress, Need, located, in_slot, made, Held}
 use Rattle.regalloc2_semantics.proofs.NeedsAcrossMoves.{need_slot, claims_through}
 use Rattle.regalloc2_fastalloc_state.specs.declared.inst_regs.InstRegs.{InstRegs}
-use Rattle.regalloc2_fastalloc_proofs.specs.InstSteps.{StateValue, is_stack_in, moved, direct, through, EvictsPReg, empty, cleared, EvictsOthers, own, others}
+use Rattle.regalloc2_fastalloc_proofs.specs.InstSteps.{StateValue, is_stack_in, moved, direct, through, EvictsPReg, empty, cleared, EvictsOtherVRegs, own}
+use Rattle.regalloc2_fastalloc_proofs.specs.InstSteps.{others}
 use Rattle.regalloc2_fastalloc_proofs.specs.InstSteps.{a_move}
 use Rattle.regalloc2_fastalloc_proofs.proofs.Safety.StepsKeepState.{place_in, slot_in, IsWhole, slot_no_register}
 use Rattle.regalloc2_fastalloc_proofs.proofs.Operands.RecordOverState.{stands_at, slots_at, opt, opt_from, Located, Owes, Shifts, shifts}
 use Rattle.regalloc2_fastalloc_proofs.proofs.Operands.RecordOverState.{shift_whole, shift_stands}
-use Rattle.regalloc2_fastalloc_proofs.proofs.Evictions.EvictVReg.{held_early, held_late, Kept, kept_all, shift_kept, Emptied, evict_step}
+use Rattle.regalloc2_fastalloc_proofs.proofs.Evictions.EvictVReg.{held_early, held_late, Kept, kept_all, shift_kept, Emptied, evicts_vreg_step}
 use Rattle.regalloc2_fastalloc_proofs.proofs.Moves.ScratchRegTaken.{IsIdle, IsScratch, of_machine, taken, Fit, Spare, spare_same, spare_kept, spare_more}
 use Rattle.regalloc2_fastalloc_proofs.proofs.Moves.ScratchRegTaken.{scratch_off, fit_same}
 use Rattle.regalloc2_fastalloc_proofs.proofs.Moves.ScratchRegMidMove.{put, put_same, put_other, owes_same, ScratchedBut, scratch_but, through_items}
@@ -117,14 +118,14 @@ module _ (tail : BlockTail) where
       }
 
   -- scratch registers are no fixed stack slots
-  pub clears_step : (what : ℕ → What) (far : Progress) (r : Register)
+  pub evicts_preg_step : (what : ℕ → What) (far : Progress) (r : Register)
       (t u : InstRegs) (old new : StateValue) → EvictsPReg (after i) r t u old new →
       ((x : ℕ) → stands_at old x ≡ Some (InRegister r) → (far.lived x ≡ true) × ((w : ℕ) → far.made_at (InRegister r) w ≡ false)) →
       Spare far.here far.claimed far.made_at t old → Fit old →
       Held what far.here far.claimed (held_early t) (held_late t) →
       Located what far old → Owes tail far.lived far.out far.made_at (stands_at old) (slots_at old) old.edits →
       Cleared what far r u old new
-  clears_step what far r t u old new (empty none eu en) may sp f h st o =
+  evicts_preg_step what far r t u old new (empty none eu en) may sp f h st o =
       subst (Cleared what far r u old) (sym en) (record {
         located = st;
         owes = o;
@@ -133,10 +134,10 @@ module _ (tail : BlockTail) where
         kept = kept_all old;
         scratch_reserve = spare_same far.here far.claimed far.made_at t u old old eu refl sp;
       })
-  clears_step what far r t u old new (cleared v s m lt held gives settles edits machine order (direct flat eu en)) may sp f h st o =
+  evicts_preg_step what far r t u old new (cleared v s m lt held gives settles edits machine order (direct flat eu en)) may sp f h st o =
       let p : StateValue = record m { edits = m.edits ++ a_move (after i) s (InRegister r) ∷ [] } in
       let e : Emptied tail what far r old p =
-      evict_step tail what far r old p
+      evicts_vreg_step tail what far r old p
       (moved v s lt held gives settles (ap (λ es. es ++ a_move (after i) s (InRegister r) ∷ []) edits)
       (record {
         allocatable = machine.allocatable;
@@ -154,7 +155,7 @@ module _ (tail : BlockTail) where
         kept = e.kept;
         scratch_reserve = spare_same far.here far.claimed far.made_at t u p p eu refl (spare_kept far.here far.claimed far.made_at t old p e.kept sp);
       })
-  clears_step what far r t u old new (cleared v s m lt held gives settles edits machine order (through by m2 stack scratches en)) may
+  evicts_preg_step what far r t u old new (cleared v s m lt held gives settles edits machine order (through by m2 stack scratches en)) may
       sp f h st o =
       let w : IsWhole m = shift_whole old m v r s lt held gives settles st.whole in
       let g : Shifts old m v r s = shifts old m v r s lt held gives settles st.whole in
@@ -243,14 +244,14 @@ module _ (tail : BlockTail) where
     pub scratch_reserve : Spare far.here far.claimed far.made_at u new
 
   -- after an eviction that spares one vreg the register has that vreg alone, or none, and the records are kept
-  pub clears_but_step : (what : ℕ → What) (far : Progress) (r : Register)
-      (v : VirtualRegister) (t u : InstRegs) (old new : StateValue) → EvictsOthers (after i) r v t u old new →
+  pub evicts_other_vregs_step : (what : ℕ → What) (far : Progress) (r : Register)
+      (v : VirtualRegister) (t u : InstRegs) (old new : StateValue) → EvictsOtherVRegs (after i) r v t u old new →
       ((x : ℕ) → stands_at old x ≡ Some (InRegister r) → (x ≡ v.number → ⊥) → (far.lived x ≡ true) × ((w : ℕ) → far.made_at (InRegister r) w ≡ false)) →
       Spare far.here far.claimed far.made_at t old → Fit old →
       Held what far.here far.claimed (held_early t) (held_late t) →
       Located what far old → Owes tail far.lived far.out far.made_at (stands_at old) (slots_at old) old.edits →
       Owned what far r v u old new
-  clears_but_step what far r v t u old new (own w there same eu en) may sp f h st o =
+  evicts_other_vregs_step what far r v t u old new (own w there same eu en) may sp f h st o =
       subst (Owned what far r v u old) (sym en) (record {
         located = st;
         owes = o;
@@ -260,8 +261,8 @@ module _ (tail : BlockTail) where
         kept = kept_all old;
         scratch_reserve = spare_same far.here far.claimed far.made_at t u old old eu refl sp;
       })
-  clears_but_step what far r v t u old new (others not_own clears) may sp f h st o =
-      let c : Cleared what far r u old new = clears_step what far r t u old new clears
+  evicts_other_vregs_step what far r v t u old new (others not_own clears) may sp f h st o =
+      let c : Cleared what far r u old new = evicts_preg_step what far r t u old new clears
       (λ x at. may x at (λ e. let y = st.whole.stands_in x r (opt_from (place_in old x) (InRegister r) at) in not_own y.1.0 y.1.2 (y.1.1 ∙ e))) sp f h st o in
       record {
         located = c.located;

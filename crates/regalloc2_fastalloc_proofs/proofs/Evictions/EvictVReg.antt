@@ -122,12 +122,12 @@ module _ (tail : BlockTail) where
     pub kept : Kept old new
 
   -- evicting an allocatable register empties it, moves no other vreg, and keeps the record of the operands with the reload listed
-  pub evict_step : (what : ℕ → What) (far : Progress) (r : Register)
+  pub evicts_vreg_step : (what : ℕ → What) (far : Progress) (r : Register)
       (old new : StateValue) → EvictsVReg (after i) r old new →
       ((x : ℕ) → stands_at old x ≡ Some (InRegister r) → (far.lived x ≡ true) × ((u : ℕ) → far.made_at (InRegister r) u ≡ false)) →
       Located what far old → Owes tail far.lived far.out far.made_at (stands_at old) (slots_at old) old.edits →
       Emptied what far r old new
-  evict_step what far r old new (nobody none same) may st o =
+  evicts_vreg_step what far r old new (nobody none same) may st o =
       subst (Emptied what far r old) (sym same) (record {
         located = st;
         owes = o;
@@ -135,7 +135,7 @@ module _ (tail : BlockTail) where
         others = λ x h. refl;
         kept = kept_all old;
       })
-  evict_step what far r old new (moved v s lt held gives settles edits machine order) may st o =
+  evicts_vreg_step what far r old new (moved v s lt held gives settles edits machine order) may st o =
       let w : IsWhole new = shift_whole old new v r s lt held gives settles st.whole in
       let h : Shifts old new v r s = shifts old new v r s lt held gives settles st.whole in
       let m = may v.number h.was in

@@ -12,13 +12,13 @@ same_used a b order e = subst (SameMachine a) (sym e)
     (record { allocatable = refl; fixed_stack = refl; dedicated_scratch = refl; sizes = refl; vregs = refl; num_temp_slots = refl })
 
 -- registers are used, and then fixed ones are emptied
-pub fixed_from : {point : ℕ} {operands : List OperandValue} {t : InstRegs} {old : StateValue} {order : List (List Register)} {k : ℕ} {u : InstRegs}
+pub evicts_fixed_from : {point : ℕ} {operands : List OperandValue} {t : InstRegs} {old : StateValue} {order : List (List Register)} {k : ℕ} {u : InstRegs}
     {new : StateValue} → NoneUsed operands old.lrus order → EvictsFixed point operands t (record old { lrus = order }) k u new →
     EvictsFixed point operands t old k u new
-fixed_from first (none_cleared more used) = none_cleared more (λ none. used none ∙ first none)
-fixed_from first (not_fixed j w m prev a b) = not_fixed j w m (fixed_from first prev) a b
-fixed_from first (of_fixed j r w x m n prev is clears) = of_fixed j r w x m n (fixed_from first prev) is clears
-fixed_from first (of_reuse j l r w x m n prev a b c clears) = of_reuse j l r w x m n (fixed_from first prev) a b c clears
+evicts_fixed_from first (none_cleared more used) = none_cleared more (λ none. used none ∙ first none)
+evicts_fixed_from first (not_fixed j w m prev a b) = not_fixed j w m (evicts_fixed_from first prev) a b
+evicts_fixed_from first (of_fixed j r w x m n prev is clears) = of_fixed j r w x m n (evicts_fixed_from first prev) is clears
+evicts_fixed_from first (of_reuse j l r w x m n prev a b c clears) = of_reuse j l r w x m n (evicts_fixed_from first prev) a b c clears
 
 -- or one of them can't be
 pub fails_from : {point : ℕ} {operands : List OperandValue} {t : InstRegs} {old : StateValue} {order : List (List Register)} →
@@ -28,6 +28,6 @@ fails_from first s = record {
   given = s.given;
   middle = s.middle;
   inside = s.inside;
-  done = fixed_from first s.done;
+  done = evicts_fixed_from first s.done;
   stops = s.stops;
 }

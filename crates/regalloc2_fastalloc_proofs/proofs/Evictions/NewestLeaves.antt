@@ -28,23 +28,24 @@ no_longer : (old new : VRegAllocsValue) (v : VirtualRegister) (s : Place) (count
 no_longer old new v s count slot z = rw (left_alone old new v s count slot z) (length_kept (λ w. not (nat_eq w.number v.number)) old.in_registers)
 
 -- an eviction makes it no longer
-evicts_no_longer : (point : ℕ) (by : Register) (old new : StateValue) → EvictsVReg point by old new →
+evicts_vreg_no_longer : (point : ℕ) (by : Register) (old new : StateValue) → EvictsVReg point by old new →
     length new.places.in_registers ≤ length old.places.in_registers
-evicts_no_longer point by old new (nobody h e) = rw e (omega arith)
-evicts_no_longer point by old new (moved v s small h gives settles edits machine order) =
+evicts_vreg_no_longer point by old new (nobody h e) = rw e (omega arith)
+evicts_vreg_no_longer point by old new (moved v s small h gives settles edits machine order) =
     no_longer old.places new.places v s new.slots.count gives.below settles
 
-scratches_no_longer : (point : ℕ) (class : RegClass) (t u : InstRegs) (by : Register) (old new : StateValue) → AllocsScratchReg point class t u by old new →
+allocs_scratch_reg_no_longer : (point : ℕ) (class : RegClass) (t u : InstRegs) (by : Register) (old new : StateValue) →
+    AllocsScratchReg point class t u by old new →
     length new.places.in_registers ≤ length old.places.in_registers
-scratches_no_longer point class t u by old new (dedicated_scratch d e f) = rw f (omega arith)
-scratches_no_longer point class t u by old new (had d h e f) = rw f (omega arith)
-scratches_no_longer point class t u by old new (found d n may e l he hl s evicts) = evicts_no_longer point by old new evicts
+allocs_scratch_reg_no_longer point class t u by old new (dedicated_scratch d e f) = rw f (omega arith)
+allocs_scratch_reg_no_longer point class t u by old new (had d h e f) = rw f (omega arith)
+allocs_scratch_reg_no_longer point class t u by old new (found d n may e l he hl s evicts) = evicts_vreg_no_longer point by old new evicts
 
 -- nor does a move
-crosses_no_longer : (point : ℕ) (class : RegClass) (from to : Place) (t u : InstRegs) (old new : StateValue) → AddsMove point class from to t u old new →
+adds_move_no_longer : (point : ℕ) (class : RegClass) (from to : Place) (t u : InstRegs) (old new : StateValue) → AddsMove point class from to t u old new →
     length new.places.in_registers ≤ length old.places.in_registers
-crosses_no_longer point class from to t u old new (direct b e f) = rw f (omega arith)
-crosses_no_longer point class from to t u old new (through by m b s e) = rw e (scratches_no_longer point class t u by old m s)
+adds_move_no_longer point class from to t u old new (direct b e f) = rw f (omega arith)
+adds_move_no_longer point class from to t u old new (through by m b s e) = rw e (allocs_scratch_reg_no_longer point class t u by old m s)
 
 -- and the newest leaves it
 pub newest_leaves : (point : ℕ) (by : Register) (t u : InstRegs) (old new : StateValue) → EvictsPReg point by t u old new → IsNewest old.places by →
@@ -57,4 +58,4 @@ newest_leaves point by t u old new (cleared v s m small h gives settles edits ma
     let less : length (without v.number old.places.in_registers) < length old.places.in_registers =
     shorter (λ w. not (nat_eq w.number v.number)) old.places.in_registers v there (ap not self) in
     let one : length m.places.in_registers < length old.places.in_registers = rw (left_alone old.places m.places v s m.slots.count gives.below settles) less in
-    let two = crosses_no_longer point v.class s (InRegister by) t u m new crosses in omega (arith, one, two)
+    let two = adds_move_no_longer point v.class s (InRegister by) t u m new crosses in omega (arith, one, two)

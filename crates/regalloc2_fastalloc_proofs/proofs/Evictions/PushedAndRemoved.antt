@@ -15,9 +15,10 @@ use Rattle.regalloc2_fastalloc_proofs.specs.InstSteps.{StateValue, SameMachine, 
 use Rattle.regalloc2_fastalloc_proofs.specs.InstSteps.{dedicated_scratch, had, found, AddsMove, direct, through, EvictsPReg, empty, cleared}
 
 -- a vreg whose new location is no register leaves empty registers empty
-settles_empty : (old new : VRegAllocsValue) (v : VirtualRegister) (s : Place) (r : Register) → r.number < 64 → (s ≡ InRegister r → ⊥) → SetsAlloc old new v s →
+sets_alloc_stays_empty : (old new : VRegAllocsValue) (v : VirtualRegister) (s : Place) (r : Register) → r.number < 64 → (s ≡ InRegister r → ⊥) →
+    SetsAlloc old new v s →
     vreg_of_preg old r ≡ None → vreg_of_preg new r ≡ None
-settles_empty old new v s r lt slot settles none =
+sets_alloc_stays_empty old new v s r lt slot settles none =
     settles.holders r lt ∙ rw (is_place-other s (InRegister r) slot) (either (is_place (alloc_of old v.number) (InRegister r)) (vreg_of_preg old r) none)
   where
     either : (b : Bool) (o : Option VirtualRegister) → o ≡ None → (if b then None else o) ≡ None
@@ -25,9 +26,9 @@ settles_empty old new v s r lt slot settles none =
     either false o e = e
 
 -- and its own register is empty then
-pub settled_empty : (old new : VRegAllocsValue) (v : VirtualRegister) (s : Place) (r : Register) → r.number < 64 → (s ≡ InRegister r → ⊥) →
+pub sets_alloc_empties : (old new : VRegAllocsValue) (v : VirtualRegister) (s : Place) (r : Register) → r.number < 64 → (s ≡ InRegister r → ⊥) →
     alloc_of old v.number ≡ InRegister r → SetsAlloc old new v s → vreg_of_preg new r ≡ None
-settled_empty old new v s r lt slot there settles =
+sets_alloc_empties old new v s r lt slot there settles =
     settles.holders r lt ∙ rw (is_place-other s (InRegister r) slot, ap (λ (p : Place). is_place p (InRegister r)) there ∙ is_place-same (InRegister r)) refl
 
 -- a register leaves a set at both positions
@@ -42,32 +43,32 @@ pub same_held : (v w : VirtualRegister) (o : Option VirtualRegister) → o ≡ S
 same_held v w o e f = let s : Some v ≡ Some w = sym e ∙ f in let same : v ≡ w = cc in ap (λ (x : VirtualRegister). x.number) same
 
 -- an eviction leaves empty registers empty
-pub evicts_empty : (point : ℕ) (by : Register) (old new : StateValue) → EvictsVReg point by old new → (r : Register) → r.number < 64 →
+pub evicts_vreg_empty : (point : ℕ) (by : Register) (old new : StateValue) → EvictsVReg point by old new → (r : Register) → r.number < 64 →
     vreg_of_preg old.places r ≡ None → vreg_of_preg new.places r ≡ None
-evicts_empty point by old new (nobody h e) r lt none = ap (λ (t : StateValue). vreg_of_preg t.places r) e ∙ none
-evicts_empty point by old new (moved v s small h gives settles edits machine order) r lt none =
-    settles_empty old.places new.places v s r lt (λ e. subst (IsSlotOrNone new.slots.count) e gives.below) settles none
+evicts_vreg_empty point by old new (nobody h e) r lt none = ap (λ (t : StateValue). vreg_of_preg t.places r) e ∙ none
+evicts_vreg_empty point by old new (moved v s small h gives settles edits machine order) r lt none =
+    sets_alloc_stays_empty old.places new.places v s r lt (λ e. subst (IsSlotOrNone new.slots.count) e gives.below) settles none
 
-scratches_empty : (point : ℕ) (class : RegClass) (t u : InstRegs) (by : Register) (old new : StateValue) → AllocsScratchReg point class t u by old new
+allocs_scratch_reg_empty : (point : ℕ) (class : RegClass) (t u : InstRegs) (by : Register) (old new : StateValue) → AllocsScratchReg point class t u by old new
     → (r : Register) → r.number < 64 → vreg_of_preg old.places r ≡ None → vreg_of_preg new.places r ≡ None
-scratches_empty point class t u by old new (dedicated_scratch d e f) r lt none = ap (λ (m : StateValue). vreg_of_preg m.places r) f ∙ none
-scratches_empty point class t u by old new (had d h e f) r lt none = ap (λ (m : StateValue). vreg_of_preg m.places r) f ∙ none
-scratches_empty point class t u by old new (found d n may e l he hl s evicts) r lt none = evicts_empty point by old new evicts r lt none
+allocs_scratch_reg_empty point class t u by old new (dedicated_scratch d e f) r lt none = ap (λ (m : StateValue). vreg_of_preg m.places r) f ∙ none
+allocs_scratch_reg_empty point class t u by old new (had d h e f) r lt none = ap (λ (m : StateValue). vreg_of_preg m.places r) f ∙ none
+allocs_scratch_reg_empty point class t u by old new (found d n may e l he hl s evicts) r lt none = evicts_vreg_empty point by old new evicts r lt none
 
 -- adding a move brings no vreg to a register: one without a vreg stays without
-pub crosses_empty : (point : ℕ) (class : RegClass) (from to : Place) (t u : InstRegs) (old new : StateValue) → AddsMove point class from to t u old new
+pub adds_move_empty : (point : ℕ) (class : RegClass) (from to : Place) (t u : InstRegs) (old new : StateValue) → AddsMove point class from to t u old new
     → (r : Register) → r.number < 64 → vreg_of_preg old.places r ≡ None → vreg_of_preg new.places r ≡ None
-crosses_empty point class from to t u old new (direct b e f) r lt none = ap (λ (m : StateValue). vreg_of_preg m.places r) f ∙ none
-crosses_empty point class from to t u old new (through by m b s e) r lt none = ap (λ (m : StateValue). vreg_of_preg m.places r) e
-    ∙ scratches_empty point class t u by old m s r lt none
+adds_move_empty point class from to t u old new (direct b e f) r lt none = ap (λ (m : StateValue). vreg_of_preg m.places r) f ∙ none
+adds_move_empty point class from to t u old new (through by m b s e) r lt none = ap (λ (m : StateValue). vreg_of_preg m.places r) e
+    ∙ allocs_scratch_reg_empty point class t u by old m s r lt none
 
 -- emptying a register leaves empty registers empty
-pub clears_empty : (point : ℕ) (by : Register) (t u : InstRegs) (old new : StateValue) → EvictsPReg point by t u old new → (r : Register) → r.number < 64 →
+pub evicts_preg_empty : (point : ℕ) (by : Register) (t u : InstRegs) (old new : StateValue) → EvictsPReg point by t u old new → (r : Register) → r.number < 64 →
     vreg_of_preg old.places r ≡ None → vreg_of_preg new.places r ≡ None
-clears_empty point by t u old new (empty h f e) r lt none = ap (λ (m : StateValue). vreg_of_preg m.places r) e ∙ none
-clears_empty point by t u old new (cleared v s m small h gives settles edits machine order crosses) r lt none =
-    crosses_empty point v.class s (InRegister by) t u m new crosses r lt
-    (settles_empty old.places m.places v s r lt (λ e. subst (IsSlotOrNone m.slots.count) e gives.below) settles none)
+evicts_preg_empty point by t u old new (empty h f e) r lt none = ap (λ (m : StateValue). vreg_of_preg m.places r) e ∙ none
+evicts_preg_empty point by t u old new (cleared v s m small h gives settles edits machine order crosses) r lt none =
+    adds_move_empty point v.class s (InRegister by) t u m new crosses r lt
+    (sets_alloc_stays_empty old.places m.places v s r lt (λ e. subst (IsSlotOrNone m.slots.count) e gives.below) settles none)
 
 -- an option that has no item is none
 pub no_some : {X : Type 0} (o : Option X) → ((x : X) → o ≡ Some x → ⊥) → o ≡ None

@@ -20,7 +20,7 @@ use Rattle.regalloc2_semantics.proofs.MoveInFront.{after_part-clean}
 use Rattle.regalloc2_fastalloc_state.specs.declared.inst_regs.InstRegs.{InstRegs}
 use Rattle.regalloc2_fastalloc_state.specs.declared.inst_regs.Positions.{Positions}
 use Rattle.regalloc2_fastalloc_state.specs.InstRegs.{positions_of}
-use Rattle.regalloc2_validate.specs.Constraints.{op_at}
+use Rattle.regalloc2_function.specs.FunctionValue.{op_at}
 use Rattle.regalloc2_fastalloc_proofs.specs.InstSteps.{StateValue, NeedsFixedReg, own, named, ReservesRegs, RemovesClobbers, EvictsEach, none_left, one_more}
 use Rattle.regalloc2_fastalloc_proofs.specs.InstSteps.{AllocsInst, ends_block}
 use Rattle.regalloc2_fastalloc_proofs.proofs.Safety.StepsKeepState.{place_in, IsWhole}
@@ -30,8 +30,8 @@ use Rattle.regalloc2_fastalloc_proofs.proofs.Moves.ScratchRegTaken.{of_machine, 
 use Rattle.regalloc2_fastalloc_proofs.proofs.Evictions.EvictPReg.{kept_then}
 use Rattle.regalloc2_fastalloc_proofs.proofs.Inst.AcrossInst.{lives_in, begin_stands, begin_owes}
 use Rattle.regalloc2_fastalloc_proofs.proofs.Operands.RecordOfInst.{Orderly, Waits, of_fixed, of_reuse, Laid}
-use Rattle.regalloc2_fastalloc_proofs.proofs.Evictions.EvictKeepsRecord.{ready_clears}
-use Rattle.regalloc2_fastalloc_proofs.proofs.Evictions.EvictFixed.{begun, Reserved, claims_at, Start, FixedUpTo, fixed_done, all_lived}
+use Rattle.regalloc2_fastalloc_proofs.proofs.Evictions.EvictKeepsRecord.{ready_evicts_preg}
+use Rattle.regalloc2_fastalloc_proofs.proofs.Evictions.EvictFixed.{begun, Reserved, claims_at, Start, FixedUpTo, evicts_fixed_done, all_lived}
 use Rattle.regalloc2_fastalloc_proofs.proofs.Operands.BlockTail.{BlockTail}
 
 -- as a well-formed function has them: the fixed register of a definition, a late use or a reuse is no clobber
@@ -165,7 +165,7 @@ module _ (tail : BlockTail) where
   all_cleared ops here claimed lived ret rs t u old new (none_left w m) =
       λ s. record { ready = s; kept = kept_all old; less = less_same t t refl; emptied = λ r c x e. let lt : c.0 < 0 = c.1 in absurd (omega arith) }
   all_cleared ops here claimed lived ret rs t u old new (one_more q qs t1 w u1 old1 m new1 clears rest) = λ s.
-      let c = ready_clears tail ops (begun here claimed lived) ret q t w old m clears
+      let c = ready_evicts_preg tail ops (begun here claimed lived) ret q t w old m clears
       (λ v at. (all_lived (what_of ops) here claimed lived old s.located v (InRegister q) at, λ z. refl)) s in
       let y : Quieted ops here claimed lived ret qs w u m new = all_cleared ops here claimed lived ret qs w u m new rest c.0.ready in
       record {
@@ -189,7 +189,7 @@ module _ (tail : BlockTail) where
       let ops : List OperandValue = inst.operands in
       let none : a.prepares.held.scratch ≡ None ∷ None ∷ None ∷ [] = a.prepares.holds.scratch ∙ a.prepares.reserves.scratch ∙ a.fresh.scratch in
       let x : FixedUpTo tail ops (lives_in old) (ends_block inst) a.prepares.held old (length ops) a.prepares.cleared a.prepares.middle =
-      fixed_done tail ops (lives_in old) (ends_block inst) a.prepares.held old o
+      evicts_fixed_done tail ops (lives_in old) (ends_block inst) a.prepares.held old o
       (reserved_all ops inst.clobbers a.began a.prepares.reserved a.prepares.held old c.fit a.prepares.reserves a.prepares.holds)
       (start ops (ends_block inst) a.prepares.held old c ends none)
       (length ops)

@@ -23,10 +23,11 @@ use Rattle.regalloc2_fastalloc_proofs.proofs.Safety.StepsKeepState.{place_in, sl
 use Rattle.regalloc2_fastalloc_proofs.proofs.Operands.RecordOverState.{opt_from, stands_at, slots_at, Located, Owes, later_push}
 use Rattle.regalloc2_fastalloc_proofs.proofs.Operands.RecordOverState.{stands_edits}
 use Rattle.regalloc2_fastalloc_proofs.proofs.Evictions.EvictVReg.{held_early, held_late, Kept, kept_all, kept_edits}
-use Rattle.regalloc2_fastalloc_proofs.proofs.Moves.ScratchRegTaken.{of_machine, taken, Fit, Spare, Less, scratches_less, spare_more, scratch_off, fit_same}
+use Rattle.regalloc2_fastalloc_proofs.proofs.Moves.ScratchRegTaken.{of_machine, taken, Fit, Spare, Less, allocs_scratch_reg_less, spare_more, scratch_off}
+use Rattle.regalloc2_fastalloc_proofs.proofs.Moves.ScratchRegTaken.{fit_same}
 use Rattle.regalloc2_fastalloc_proofs.proofs.Moves.ScratchRegMidMove.{put, put_same, put_other, ScratchedBut, scratch_but, through_items, through_later}
 use Rattle.regalloc2_fastalloc_proofs.proofs.Operands.RecordOfInst.{Ready}
-use Rattle.regalloc2_fastalloc_proofs.proofs.Evictions.EvictKeepsRecord.{Nothing, none_crosses}
+use Rattle.regalloc2_fastalloc_proofs.proofs.Evictions.EvictKeepsRecord.{Nothing, none_adds_move}
 use Rattle.regalloc2_fastalloc_proofs.proofs.Operands.BlockTail.{BlockTail}
 
 -- scratch registers stay idle where edits alone change
@@ -109,13 +110,13 @@ module _ (tail : BlockTail) where
   }
 
   -- a move added after the instruction for a vreg on its way keeps the record: its value is needed at the source from then on
-  pub cross_step : {ops : List OperandValue} {far : Progress} {need need2 : ℕ → Bool}
+  pub adds_move_step : {ops : List OperandValue} {far : Progress} {need need2 : ℕ → Bool}
       {ret : Bool} (v : ℕ) (c : Option Place) {class : RegClass} {from to : Place} {t u : InstRegs} {old new : StateValue} →
       AddsMove (after i) class from to t u old new → to ≢ NoPlace → place_in old v ≡ NoPlace → (c ≡ Some to) ⊎ (c ≡ None) →
       ((m : StateValue) → Located (what_of ops) far m → Kept old m → Moves far.lived need need2 far.made_at v c from to m) →
       Steady ops far ret t old → Owes tail far.lived need far.made_at (put (stands_at old) v c) (slots_at old) old.edits →
       Sent ops far need2 ret u old new
-  cross_step {ops} {far} {need} {need2} {ret} v c {class} {from} {to} {t} {old} {new} (direct flat eu en) there nowhere away moves s o =
+  adds_move_step {ops} {far} {need} {need2} {ret} v c {class} {from} {to} {t} {old} {new} (direct flat eu en) there nowhere away moves s o =
       let es : List (ℕ × MoveValue) = old.edits ++ a_move (after i) from to ∷ [] in
       let mv : Moves far.lived need need2 far.made_at v c from to old = moves old s.located (kept_all old) in
       let L : List Item = after_part insts (listed old.edits) placesf i n in
@@ -124,7 +125,7 @@ module _ (tail : BlockTail) where
       claims_move Known E L (Need far.lived need far.made_at (put (stands_at old) v c) (slots_at old)) M from to there mv.moved mv.others o.claims in
       let sent : Sent ops far need2 ret t old (record old { edits = es }) = record {
         steady = steady_push ops far ret t old es s.located s.held s.scratch_reserve s.fit s.clobbers s.within s.small
-            (λ e. none_crosses tail class from to t t old (record old { edits = es }) there (direct flat refl refl) (s.nothing e));
+            (λ e. none_adds_move tail class from to t t old (record old { edits = es }) there (direct flat refl refl) (s.nothing e));
         owes = record {
           later = later_push tail (after i) (record { from = from; to = to }) old.edits o.later;
           claims = subst (λ l. Claims Known l M E) (sym (after_part-more insts (record { from = from; to = to }) old.edits placesf i n)) claims;
@@ -133,7 +134,7 @@ module _ (tail : BlockTail) where
       } in
       subst (λ (y : InstRegs). Sent ops far need2 ret y old new) (sym eu)
       (subst (Sent ops far need2 ret t old) (sym en) sent)
-  cross_step {ops} {far} {need} {need2} {ret} v c {class} {from} {to} {t} {u} {old} (through by m stack scratches en) there nowhere away moves s
+  adds_move_step {ops} {far} {need} {need2} {ret} v c {class} {from} {to} {t} {u} {old} (through by m stack scratches en) there nowhere away moves s
       o =
       let es : List (ℕ × MoveValue) = m.edits ++ a_move (after i) (InRegister by) to ∷ a_move (after i) from (InRegister by) ∷ [] in
       let off : has_register old.fixed_stack by ≡ false = scratch_off far.here far.claimed far.made_at (after i) class t u by old m scratches s.fit
@@ -167,12 +168,12 @@ module _ (tail : BlockTail) where
       ] in
       let claims : Claims Known (Move (record { from = from; to = InRegister by }) ∷ (Move (record { from = InRegister by; to = to }) ∷ L)) M E =
       claims_through Known E L N M from (InRegister by) to (λ z. cc) there nobody mv.moved mv.others sb.owes.claims in
-      let less : Less t u = scratches_less (after i) class t u by old m scratches in
+      let less : Less t u = allocs_scratch_reg_less (after i) class t u by old m scratches in
       let sent : Sent ops far need2 ret u old (record m { edits = es }) = record {
         steady = steady_push ops far ret u m es sb.located sb.held
             (spare_more far.here far.claimed far.made_at (after i) class t u by old m scratches sb.idle sb.kept s.scratch_reserve)
             (fit_same old m sb.kept.machine s.fit) (λ r e. less.late r (s.clobbers r e)) s.within s.small
-            (λ e. none_crosses tail class from to t u old (record m { edits = es }) there (through by m stack scratches refl)
+            (λ e. none_adds_move tail class from to t u old (record m { edits = es }) there (through by m stack scratches refl)
             (s.nothing e));
         owes = record {
           later = through_later tail from (InRegister by) to m.edits sb.owes.later;

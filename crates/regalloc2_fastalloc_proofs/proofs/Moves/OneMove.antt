@@ -7,12 +7,12 @@ use Rattle.regalloc2_names.specs.RegisterSet.{has_register}
 use Rattle.regalloc2_names.specs.Register.{Register}
 use Rattle.regalloc2_names.specs.Place.{Place, NoPlace, InRegister, InSlot}
 use Rattle.regalloc2_function.specs.OutputValue.{MoveValue}
-use Rattle.regalloc2_parts.specs.AtOnce.{ends_of, names, in_turn}
+use Rattle.regalloc2_parts.specs.AtOnce.{ends_of, own_names, in_turn}
 use Rattle.regalloc2_semantics.proofs.Cells.{is_place-same, is_place-other}
 use Rattle.regalloc2_fastalloc_state.specs.declared.inst_regs.InstRegs.{InstRegs}
 use Rattle.regalloc2_fastalloc_state.specs.ScratchPool.{Moves}
 use Rattle.regalloc2_fastalloc_proofs.specs.InstSteps.{StateValue, a_move}
-use Rattle.regalloc2_fastalloc_proofs.specs.BranchSteps.{MayBeScratch, AreApart, AreBetweenSlots, IsSlotBelow, IsOrdered, OrdersMoves, Pushes}
+use Rattle.regalloc2_fastalloc_proofs.specs.BranchSteps.{MayBeScratch, RegsAvoidStack, AreBetweenSlots, IsSlotBelow, IsOrdered, OrdersMoves, Pushes}
 use Rattle.regalloc2_fastalloc_proofs.proofs.Moves.ParallelMovesOrdered.{none_taken}
 
 -- a move from one place to another
@@ -24,12 +24,12 @@ abbrev passed : Place → Place → Place → Moves
 passed p q by = from_to p by ∷ from_to by q ∷ []
 
 -- it brings to q what was at p
-passed_there : (p q by : Place) → in_turn (ends_of (passed p q by)) names q ≡ p
+passed_there : (p q by : Place) → in_turn (ends_of (passed p q by)) own_names q ≡ p
 unfolding in_turn
 passed_there p q by = rw (is_place-same q, is_place-same by) refl
 
 -- and leaves each place alone but q and the third one
-passed_other : (p q by x : Place) → q ≢ x → by ≢ x → in_turn (ends_of (passed p q by)) names x ≡ x
+passed_other : (p q by x : Place) → q ≢ x → by ≢ x → in_turn (ends_of (passed p q by)) own_names x ≡ x
 unfolding in_turn
 passed_other p q by x other aside = rw (is_place-other q x other, is_place-other by x aside) refl
 
@@ -39,7 +39,7 @@ only_one x y (zero, lt, e) = e
 only_one x y (suc k, lt, e) = absurd (omega (arith, lt))
 
 module _ (inst_regs : InstRegs) (class : RegClass) (t : StateValue) (from to : Place) (by : Register) (above : IsSlotBelow t.slots.count from)
-    (below : IsSlotBelow t.slots.count to) (apart : AreApart t) (scratch : MayBeScratch inst_regs t class by) where
+    (below : IsSlotBelow t.slots.count to) (apart : RegsAvoidStack t) (scratch : MayBeScratch inst_regs t class by) where
   -- the scratch register isn't in memory
   plain : has_register t.fixed_stack by ≡ false
   plain = ⊎_elim (λ own. apart.dedicated_scratch class by own) (λ free. apart.allocatable by free.0.allocatable) scratch
@@ -57,7 +57,7 @@ module _ (inst_regs : InstRegs) (class : RegClass) (t : StateValue) (from to : P
     grows = omega arith;
     assigned = λ m c.
         let e = only_one (from_to from to) m c in
-        ap (λ (n : Place × Place × Unit {0}). in_turn (ends_of (passed from to (InRegister by))) names n.1) (sym e)
+        ap (λ (n : Place × Place × Unit {0}). in_turn (ends_of (passed from to (InRegister by))) own_names n.1) (sym e)
         ∙ passed_there from to (InRegister by) ∙ ap (λ (n : Place × Place × Unit {0}). n.0) e;
     kept = λ q real other free. passed_other from to (InRegister by) q (free (from_to from to) (0, omega arith, refl)) (λ e. other (inl (by, sym e, scratch)));
     each = All-cons (IsOrdered inst_regs class (from_to from to ∷ []) t t) (from_to from (InRegister by)) (from_to (InRegister by) to ∷ [])
@@ -80,7 +80,7 @@ module _ (inst_regs : InstRegs) (class : RegClass) (t : StateValue) (from to : P
 
 -- so the two moves that are pushed for the only one that is given, the one that is made last before the other, are what it is to do
 pub pushes_one : (inst_regs : InstRegs) (class : RegClass) (t new : StateValue) (given : Moves) (from to : Place) (by : Register) (point : ℕ) →
-    given ≡ (from, to, tt) ∷ [] → AreBetweenSlots t.slots.count given → AreApart t → MayBeScratch inst_regs t class by
+    given ≡ (from, to, tt) ∷ [] → AreBetweenSlots t.slots.count given → RegsAvoidStack t → MayBeScratch inst_regs t class by
     → new ≡ record t { edits = new.edits } → new.edits ≡ t.edits ++ a_move point (InRegister by) to ∷ a_move point from (InRegister by) ∷ []
     → Pushes point inst_regs class given t new
 pushes_one inst_regs class t new given from to by point one between apart scratch rest edits =

@@ -16,7 +16,7 @@ use Rattle.regalloc2_names.specs.RegisterSet.{has_register}
 use Rattle.regalloc2_names.specs.Register.{Register, class_code, is_register}
 use Rattle.regalloc2_names.specs.Place.{Place, NoPlace, InRegister, InSlot, is_no_place, is_memory}
 use Rattle.regalloc2_names.proofs.Bits.{class_code-lt}
-use Rattle.regalloc2_parts.specs.AtOnce.{Ends, ends, ends_of, names, in_turn, IsOfMoves}
+use Rattle.regalloc2_parts.specs.AtOnce.{Ends, ends, ends_of, own_names, in_turn, IsOfMoves}
 use Rattle.regalloc2_parts.specs.Resolved.{IsResolution, IsUnnamed}
 use Rattle.regalloc2_fastalloc_state.specs.declared.inst_regs.InstRegs.{InstRegs}
 use Rattle.regalloc2_parts.specs.declared.scratch_pool.ScratchPair.{ScratchPair}
@@ -24,10 +24,10 @@ use Rattle.regalloc2_parts.specs.declared.scratch_pool.ScratchPool.{ScratchPool}
 use Rattle.regalloc2_fastalloc_state.specs.StateParts.{SpillSlotsValue, AllocatableRegsValue, IsLeastRecentIn, SlotsHaveOneOwner, AddsTempSlots, later_end}
 use Rattle.regalloc2_fastalloc_state.specs.StateParts.{later_slot, units_of, most_units, owners}
 use Rattle.regalloc2_fastalloc_state.specs.OutOfResources.{SlotsExhaustedWith}
-use Rattle.regalloc2_fastalloc_state.specs.InstRegs.{IsAvailableAt, both}
+use Rattle.regalloc2_fastalloc_state.specs.InstRegs.{IsAvailableAt, both_positions}
 use Rattle.regalloc2_fastalloc_proofs.specs.InstSteps.{StateValue, MayHold}
-use Rattle.regalloc2_fastalloc_state.specs.ScratchPool.{Moves, IsOfScratchPair, IsTaken, DoDiffer, IsUsableFor, IsOrderedWith, HasTooFewSlots, AreThere}
-use Rattle.regalloc2_fastalloc_proofs.specs.BranchSteps.{AreNextTempSlots, MayBeScratch, IsScratchRegFor, AreApart, IsSlotBelow, AreBetweenSlots}
+use Rattle.regalloc2_fastalloc_state.specs.ScratchPool.{Moves, IsOfScratchPair, IsScratchTaken, DoDiffer, IsUsableFor, IsOrderedWith, HasTooFewSlots, AreThere}
+use Rattle.regalloc2_fastalloc_proofs.specs.BranchSteps.{AreNextTempSlots, MayBeScratch, IsScratchRegFor, RegsAvoidStack, IsSlotBelow, AreBetweenSlots}
 use Rattle.regalloc2_fastalloc_proofs.specs.BranchSteps.{IsScratchPlace, IsScratchUsed, IsOrdered, OrdersMoves}
 use Rattle.regalloc2_semantics.proofs.Cells.{is_register-same}
 use Rattle.regalloc2_semantics.proofs.Plain.{end_near}
@@ -107,7 +107,8 @@ module _ (s : SpillSlotsValue) (class : RegClass) (pair : ScratchPair) (next : A
     ]
 
     -- and one that is taken lies below the new count
-    pub taken_below : (p : Place) → IsTaken pair taken p → (k : ℕ) × (p ≡ InSlot k) × (s.count ≤ k) × (k < new.count) × (j : ℕ) × (k ≡ later_slot s class j)
+    pub taken_below : (p : Place) → IsScratchTaken pair taken p → (k : ℕ) × (p ≡ InSlot k) × (s.count ≤ k) × (k < new.count) × (j : ℕ)
+        × (k ≡ later_slot s class j)
         × (later_end s class j ≤ new.count)
     taken_below p (inl (a, some)) =
         let low = (later_from s class next.owned 0).1 in
@@ -161,7 +162,7 @@ pub record PairFound : Type 0 where
   pub oldest : Option Register
   pub allocatable : t.allocatable ≡ regs.allocatable
   pub dedicated_scratch : t.dedicated_scratch ≡ regs.dedicated_scratch
-  pub is_free : (r : Register) → has_register free r ≡ true → IsAvailableAt inst_regs both r
+  pub is_free : (r : Register) → has_register free r ≡ true → IsAvailableAt inst_regs both_positions r
   pub chosen : (slice_index_or regs.dedicated_scratch (class_code class) None ≡ Some first) ⊎ IsLeastRecentIn regs class free first
   pub left : (r : Register) → has_register rest r ≡ (not (is_register first r) && has_register free r)
   pub at_first : place ≡ InRegister first
@@ -291,8 +292,8 @@ orders_none inst_regs class old given listed made scratch is none same = record 
   lrus = refl;
   lends = (0, omega arith, none_taken old.slots class);
   grows = omega arith;
-  assigned = λ m c. ap (λ (ms : Moves). in_turn (ends_of ms) names m.1) same ∙ is.at_once.assigned (ends m) (ends_contain given m c);
-  kept = λ q real other free. ap (λ (ms : Moves). in_turn (ends_of ms) names q) same
+  assigned = λ m c. ap (λ (ms : Moves). in_turn (ends_of ms) own_names m.1) same ∙ is.at_once.assigned (ends m) (ends_contain given m c);
+  kept = λ q real other free. ap (λ (ms : Moves). in_turn (ends_of ms) own_names q) same
       ∙ is.at_once.kept q real (λ m c e. let x = ends_from given m c in free x.0 x.1 (ap (λ (y : Ends). y.to) x.2 ∙ e));
   each = subst (λ (ms : Moves). All (IsOrdered inst_regs class given old old) ms) (sym (same ∙ none)) (λ k d lt. absurd (omega arith));
   idle = λ e. (same ∙ none, refl);
@@ -306,7 +307,7 @@ pub record GivenMoves : Type 0 where
   pub old : StateValue
   pub l : ScratchPool
   pub given : Moves
-  pub apart : AreApart old
+  pub apart : RegsAvoidStack old
   pub between : AreBetweenSlots old.slots.count given
   pub scratch_reserve : (p : Place) → IsOfScratchPair l.registers p → IsScratchRegFor inst_regs old class p
   pub differ : DoDiffer l.registers
@@ -360,12 +361,13 @@ module _ (moves : GivenMoves) where
   module _ (result : MadeMoves moves) where
     open result use {new, taken, lends, few, scratch, listed, made, is, made_so}
 
-    in_hand : (p : Place) → IsOfScratchPair l.registers p ⊎ (IsTaken l.slots taken p ⊎ (p ≡ InRegister l.borrowed)) → IsScratchUsed inst_regs old new class p
+    in_hand : (p : Place) → IsOfScratchPair l.registers p ⊎ (IsScratchTaken l.slots taken p ⊎ (p ≡ InRegister l.borrowed)) →
+        IsScratchUsed inst_regs old new class p
     in_hand p (inl a) = let x = scratch_reserve p a in inl (x.0, x.1, inl x.2)
     in_hand p (inr (inl a)) = inr (taken_below old.slots class l.slots next new.slots taken lends few p a)
     in_hand p (inr (inr e)) = inl (l.borrowed, e, inr borrowed)
 
-    not_lent : (q : Place) → (IsScratchPlace inst_regs old class q → ⊥) → (IsOfScratchPair l.registers q → ⊥) × (IsTaken l.slots taken q → ⊥)
+    not_lent : (q : Place) → (IsScratchPlace inst_regs old class q → ⊥) → (IsOfScratchPair l.registers q → ⊥) × (IsScratchTaken l.slots taken q → ⊥)
     not_lent q other = (
       (λ a. other (inl (scratch_reserve q a))),
       (λ a. let x = taken_below old.slots class l.slots next new.slots taken lends few q a in other (inr (x.0, x.1, x.2))),
@@ -377,18 +379,18 @@ module _ (moves : GivenMoves) where
     old_slot q b (inr s) = let same : InSlot s.0 ≡ InSlot b.0 = sym s.1 ∙ b.1 in let e : s.0 ≡ b.0 = cc in let low = b.2 in let high = s.2 in
         omega (arith, e, low, high)
 
-    at_q : (q : Place) → q ≢ NoPlace → (IsScratchPlace inst_regs old class q → ⊥) → in_turn (ends_of made) names q ≡ in_turn (ends_of listed) names q
+    at_q : (q : Place) → q ≢ NoPlace → (IsScratchPlace inst_regs old class q → ⊥) → in_turn (ends_of made) own_names q ≡ in_turn (ends_of listed) own_names q
     at_q q real other = let n = not_lent q other in made_so.same q real n.0 n.1
 
     -- the ordered moves bring to each target what was at the source of its given move
-    pub assigned_all : (m : Place × Place × Unit {0}) → Contains given m → in_turn (ends_of made) names m.1 ≡ m.0
+    pub assigned_all : (m : Place × Place × Unit {0}) → Contains given m → in_turn (ends_of made) own_names m.1 ≡ m.0
     assigned_all m c =
         let b = (All-contains (λ x. IsSlotBelow old.slots.count x.0 × IsSlotBelow old.slots.count x.1) given m between c).1 in
         at_q m.1 (λ e. let no : InSlot b.0 ≡ NoPlace = sym b.1 ∙ e in cc) (old_slot m.1 b) ∙ is.at_once.assigned (ends m) (ends_contain given m c)
 
     -- the ordered moves leave each place alone that is no target and no scratch place
     pub kept_all : (q : Place) → q ≢ NoPlace → (IsScratchPlace inst_regs old class q → ⊥) → ((m : Place × Place × Unit {0}) → Contains given m → m.1 ≢ q) →
-        in_turn (ends_of made) names q ≡ q
+        in_turn (ends_of made) own_names q ≡ q
     kept_all q real other none =
         at_q q real other ∙ is.at_once.kept q real (λ m c e. let x = ends_from given m c in none x.0 x.1 (ap (λ (y : Ends). y.to) x.2 ∙ e))
 

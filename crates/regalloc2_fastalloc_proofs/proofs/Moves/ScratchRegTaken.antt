@@ -83,11 +83,12 @@ and_none true b c e h = e
 and_none false b c e h = absurd cc
 
 -- taking a scratch register makes no register available
-pub scratches_less : (point : ℕ) (class : RegClass) (t u : InstRegs) (by : Register) (old new : StateValue) → AllocsScratchReg point class t u by old new
+pub allocs_scratch_reg_less : (point : ℕ) (class : RegClass) (t u : InstRegs) (by : Register) (old new : StateValue) →
+    AllocsScratchReg point class t u by old new
     → Less t u
-scratches_less point class t u by old new (dedicated_scratch o eu en) = less_same t u eu
-scratches_less point class t u by old new (had none o eu en) = less_same t u eu
-scratches_less point class t u by old new (found none unset may early late less_e less_l set evicts) = record {
+allocs_scratch_reg_less point class t u by old new (dedicated_scratch o eu en) = less_same t u eu
+allocs_scratch_reg_less point class t u by old new (had none o eu en) = less_same t u eu
+allocs_scratch_reg_less point class t u by old new (found none unset may early late less_e less_l set evicts) = record {
   early = λ q h. and_false (not (is_register by q)) (has_register t.early q) (has_register u.early q) (less_e q) h;
   late = λ q h. and_false (not (is_register by q)) (has_register t.late q) (has_register u.late q) (less_l q) h;
 }

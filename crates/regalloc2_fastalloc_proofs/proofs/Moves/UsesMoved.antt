@@ -23,7 +23,7 @@ use Rattle.regalloc2_semantics.proofs.Operands.{reads_use}
 use Rattle.regalloc2_semantics.proofs.NeedsAcrossMoves.{pend_move, pend_through, pend_stay, pend_pass, pend_evict, pend_slot}
 use Rattle.regalloc2_semantics.proofs.BoundaryToBoundary.{FreeAt, scratch_idle}
 use Rattle.regalloc2_fastalloc_state.specs.declared.inst_regs.InstRegs.{InstRegs}
-use Rattle.regalloc2_validate.specs.Constraints.{op_at}
+use Rattle.regalloc2_function.specs.FunctionValue.{op_at}
 use Rattle.regalloc2_fastalloc_proofs.specs.InstSteps.{StateValue, is_stack_in, EvictsVReg, nobody, moved, AllocsScratchReg, dedicated_scratch, had}
 use Rattle.regalloc2_fastalloc_proofs.specs.InstSteps.{found, direct, through, AddsMoveIf, sent, unsent, MovesUses, none_moved, not_moved, one_moved}
 use Rattle.regalloc2_fastalloc_proofs.specs.InstSteps.{a_move}
@@ -277,18 +277,18 @@ module _ (tail : BlockTail) (item : Item) where
       })
 
   -- all uses among the first k
-  pub moves_done : (ops : List OperandValue) (places : List Place) (far : Progress) (u : InstRegs) (base : StateValue) →
+  pub moves_uses_done : (ops : List OperandValue) (places : List Place) (far : Progress) (u : InstRegs) (base : StateValue) →
       AreAllPlaced ops places far → Moves (what_of ops) far 0 u base base →
       (k : ℕ) (w : InstRegs) (t : StateValue) → MovesUses (before i) ops places u base k w t → k ≤ length ops →
       Moves (what_of ops) far k w base t
-  moves_done ops places far u base all begin k w t none_moved = λ le. begin
-  moves_done ops places far u base all begin k w t (not_moved x s m prev reads) = λ le.
+  moves_uses_done ops places far u base all begin k w t none_moved = λ le. begin
+  moves_uses_done ops places far u base all begin k w t (not_moved x s m prev reads) = λ le.
       move_passed (what_of ops) far x w base t
       (λ d. ⊎_elim (λ (y : is_def (op_at ops x).kind ≡ true). y) (λ (y : is_reading (op_at ops x) ≡ true). absurd cc) (all.counted x d).1)
-      (moves_done ops places far u base all begin x w t prev (omega arith))
-  moves_done ops places far u base all begin k w t (one_moved x s r m q prev reads sends) = λ le.
+      (moves_uses_done ops places far u base all begin x w t prev (omega arith))
+  moves_uses_done ops places far u base all begin k w t (one_moved x s r m q prev reads sends) = λ le.
       let c : Counts ops x = (omega arith, inr reads) in
       move_one (what_of ops) far x (op_at ops x).vreg.class s w base m t (all.all x c) (reads_use (op_at ops x) reads)
       (subst (λ (p : Place). AddsMoveIf (before i) (op_at ops x).vreg.class (not (is_place (place_in m (op_at ops x).vreg.number) p))
       (place_in m (op_at ops x).vreg.number) p s w m t) (all.at_places x c) sends)
-      (moves_done ops places far u base all begin x s m prev (omega arith))
+      (moves_uses_done ops places far u base all begin x s m prev (omega arith))

@@ -21,16 +21,16 @@ use Rattle.regalloc2_fastalloc_state.specs.declared.request.Requirement.TheVaria
 use Rattle.regalloc2_fastalloc_state.specs.declared.request.OperandRequest.{OperandRequest}
 use Rattle.regalloc2_fastalloc_state.specs.StateParts.{VRegAllocsValue, alloc_of, GetsSpillSlot}
 use Rattle.regalloc2_fastalloc_state.specs.InstRegs.{IsAvailableAt}
-use Rattle.regalloc2_validate.specs.Constraints.{op_at}
+use Rattle.regalloc2_function.specs.FunctionValue.{op_at}
 use Rattle.regalloc2_fastalloc_proofs.specs.InstSteps.{StateValue, SameMachine, MayHold, MeetsRequirement, SelectsPlace, stays, fixed, slot, free}
-use Rattle.regalloc2_fastalloc_proofs.specs.InstSteps.{ClaimsPlace, in_slot, in_register, AllocsOperand, EvictsOthers, own, others}
+use Rattle.regalloc2_fastalloc_proofs.specs.InstSteps.{ClaimsPlace, in_slot, in_register, AllocsOperand, EvictsOtherVRegs, own, others}
 use Rattle.regalloc2_fastalloc_proofs.proofs.Safety.StepsKeepState.{place_in, slot_in, IsWhole, whole_tidy, given}
 use Rattle.regalloc2_fastalloc_proofs.proofs.Operands.RecordOverState.{opt, stands_at, slots_at, slots_grow, give_stands, Located}
 use Rattle.regalloc2_fastalloc_proofs.proofs.Evictions.EvictVReg.{held_early, held_late}
 use Rattle.regalloc2_fastalloc_proofs.proofs.Moves.ScratchRegTaken.{IsScratch, of_machine, taken, held_keeps, scratch_back, fit_same}
 use Rattle.regalloc2_fastalloc_proofs.proofs.Operands.ClaimAndUse.{claim_register, claim_slot}
 use Rattle.regalloc2_fastalloc_proofs.proofs.Operands.RecordOfInst.{Ready}
-use Rattle.regalloc2_fastalloc_proofs.proofs.Evictions.EvictKeepsRecord.{Nothing, ready_clears_but, clears_but_flat}
+use Rattle.regalloc2_fastalloc_proofs.proofs.Evictions.EvictKeepsRecord.{Nothing, ready_evicts_other_vregs, evicts_other_vregs_flat}
 use Rattle.regalloc2_fastalloc_proofs.proofs.Operands.ClaimKeepsRecord.{Grips, grips_register, grips_slot, ready_claim}
 use Rattle.regalloc2_fastalloc_proofs.proofs.Operands.BlockTail.{BlockTail}
 use Rattle.regalloc2_fastalloc_proofs.proofs.Operands.RecordOfInst.{ready_used}
@@ -85,9 +85,9 @@ pub data Due (here : ℕ → Place) (claimed : ℕ → Bool) (k : ℕ) (requirem
   fresh : claimed k ≡ false → ((r : Register) → requirement ≡ InPReg r → ⊥) → Due here claimed k requirement
 
 -- the place that the vreg keeps meets what is asked
-pub suits_at : (t : StateValue) (w : Requirement) (p : Place) (r : Register) → w ≡ InPReg r → MeetsRequirement t w p → p ≡ InRegister r
+pub meets_requirement_at : (t : StateValue) (w : Requirement) (p : Place) (r : Register) → w ≡ InPReg r → MeetsRequirement t w p → p ≡ InRegister r
 unfolding MeetsRequirement
-suits_at t w p r e s = subst (λ x. MeetsRequirement t x p) e s
+meets_requirement_at t w p r e s = subst (λ x. MeetsRequirement t x p) e s
 
 not_both : (w a : Requirement) (r : Register) → w ≡ InPReg r → (w ≡ AnyPlace) ⊎ (w ≡ a) → a ≢ InPReg r → ⊥
 not_both w a r e h ne = elim h [
@@ -96,10 +96,11 @@ not_both w a r e h ne = elim h [
 ]
 
 -- any vreg that is in a register alone keeps it
-pub clears_own : (point : ℕ) (r : Register) (v : VirtualRegister) (t u : InstRegs) (old new : StateValue) → EvictsOthers point r v t u old new → IsWhole old →
+pub evicts_other_vregs_own : (point : ℕ) (r : Register) (v : VirtualRegister) (t u : InstRegs) (old new : StateValue) →
+    EvictsOtherVRegs point r v t u old new → IsWhole old →
     place_in old v.number ≡ InRegister r → (u ≡ t) × (new ≡ old)
-clears_own point r v t u old new (own w there same eu en) whole at = (eu, en)
-clears_own point r v t u old new (others other c) whole at = let x = whole.stands_in v.number r at in absurd (other x.1.0 x.1.2 x.1.1)
+evicts_other_vregs_own point r v t u old new (own w there same eu en) whole at = (eu, en)
+evicts_other_vregs_own point r v t u old new (others other c) whole at = let x = whole.stands_in v.number r at in absurd (other x.1.0 x.1.2 x.1.1)
 
 -- It is the turn of the operand k, which isn't placed yet: the request made for it, at positions that cover its own; the registers and the tables before it
 -- (t, old); and the registers (u) and the place (p) that it ends with. Once late uses are placed, no early use is.
@@ -182,7 +183,7 @@ module _ (tail : BlockTail) (ops : List OperandValue) (far : Progress) (ret : Bo
     get_owed new r ck at pr (in_slot q e same en) = let x : InRegister r ≡ InSlot q = sym pr ∙ e in absurd cc
     get_owed new r ck at pr (in_register g m e clears holds) =
         let clear : Clear (what_of ops) far.here far.claimed k (InRegister g) = λ j cj ej. s.located.placed.apart j k cj ck (ej ∙ sym e ∙ pr ∙ sym at) in
-        let c = ready_clears_but tail ops far ret g o.vreg t m old new clears (may_evict g clear) s in
+        let c = ready_evicts_other_vregs tail ops far ret g o.vreg t m old new clears (may_evict g clear) s in
         record {
           there = far.here;
           claimed2 = far.claimed;
@@ -277,7 +278,7 @@ module _ (tail : BlockTail) (ops : List OperandValue) (far : Progress) (ret : Bo
     get_kept new f at (in_register r m e clears holds) =
         let here_is : place_in old o.vreg.number ≡ InRegister r = at ∙ e in
         let num_is : place_in old num ≡ InRegister r = ap (place_in old) (sym nv) ∙ here_is in
-        let x = clears_own (after i) r o.vreg t m old new clears s.located.whole here_is in
+        let x = evicts_other_vregs_own (after i) r o.vreg t m old new clears s.located.whole here_is in
         let grips : Grips t u (InRegister r) o.positions = subst (λ y. Grips y u (InRegister r) o.positions) x.0 (grips_register m u r o.positions holds) in
         subst (Got k p u) (sym x.1) (got_register r old f e (s.located.whole.stands_in num r num_is).0 (clear_kept (InRegister r) (ap opt num_is))
         (calm_kept (InRegister r) (ap opt num_is))
@@ -292,7 +293,7 @@ module _ (tail : BlockTail) (ops : List OperandValue) (far : Progress) (ret : Bo
         let same_p : InRegister g ≡ InRegister r = sym e ∙ pr in
         let same : g ≡ r = cc in
         let flat : has_register old.fixed_stack g ≡ false = ap (has_register old.fixed_stack) same ∙ s.fit.stack_apart r may.allocatable in
-        let eu : m ≡ t = clears_but_flat (after i) g o.vreg t m old new flat clears in
+        let eu : m ≡ t = evicts_other_vregs_flat (after i) g o.vreg t m old new flat clears in
         let free_at : FreeAt (held_early t) (held_late t) o.positions.early o.positions.late
         (InRegister r) = record { free_early = λ a. ap not (fr.early a); free_late = λ a. ap not (fr.late a) } in
         let clear : Clear (what_of ops) far.here far.claimed k (InRegister r) =
@@ -300,7 +301,7 @@ module _ (tail : BlockTail) (ops : List OperandValue) (far : Progress) (ret : Bo
         (free_of (what_of ops k) (held_early t) (held_late t) o.positions.early o.positions.late (InRegister r) covers free_at) in
         let clear_g : Clear (what_of ops) far.here far.claimed k (InRegister g) = subst (λ y. Clear (what_of ops) far.here far.claimed k (InRegister y))
         (sym same) clear in
-        let c = ready_clears_but tail ops far ret g o.vreg t m old new clears (may_evict g clear_g) s in
+        let c = ready_evicts_other_vregs tail ops far ret g o.vreg t m old new clears (may_evict g clear_g) s in
         let rd : Ready tail ops far ret t
         new = subst (λ y. Ready tail ops far ret y new) eu c.0.ready in
         let grips : Grips t u (InRegister r) o.positions = subst (λ y. Grips t u (InRegister y) o.positions) same
@@ -369,19 +370,20 @@ module _ (tail : BlockTail) (ops : List OperandValue) (far : Progress) (ret : Bo
         let y : InSlot x.0 ≡ InRegister r = sym x.1 ∙ at in absurd cc
 
     -- the four ways
-    gets_by : (middle new : StateValue) → Due far.here far.claimed k o.requirement → SelectsPlace t o p old middle → ClaimsPlace (after i) o p t u middle new
+    allocs_operand_by : (middle new : StateValue) → Due far.here far.claimed k o.requirement → SelectsPlace t o p old middle →
+        ClaimsPlace (after i) o p t u middle new
         → Got k p u new
-    gets_by middle new (owed r ck at w) (stays x su en) occ = get_owed new r ck at (suits_at old o.requirement p r w su)
+    allocs_operand_by middle new (owed r ck at w) (stays x su en) occ = get_owed new r ck at (meets_requirement_at old o.requirement p r w su)
         (subst (λ m. ClaimsPlace (after i) o p t u m new) en occ)
-    gets_by middle new (owed r ck at w) (fixed g wg pg en) occ =
+    allocs_operand_by middle new (owed r ck at w) (fixed g wg pg en) occ =
         let same : InPReg r ≡ InPReg g = sym w ∙ wg in let one : r ≡ g = cc in
         get_owed new r ck at (pg ∙ ap InRegister (sym one)) (subst (λ m. ClaimsPlace (after i) o p t u m new) en occ)
-    gets_by middle new (owed r ck at w) (slot h g e ed machine order) occ = absurd (not_both o.requirement InMemory r w h (λ a. cc))
-    gets_by middle new (owed r ck at w) (free g h away may fr first pg en) occ = absurd (not_both o.requirement AnyReg r w h (λ a. cc))
-    gets_by middle new (fresh f other) (stays x su en) occ = get_kept new f x (subst (λ m. ClaimsPlace (after i) o p t u m new) en occ)
-    gets_by middle new (fresh f other) (fixed g wg pg en) occ = absurd (other g wg)
-    gets_by middle new (fresh f other) (slot h g e ed machine order) occ = get_slot middle new f g e ed machine occ
-    gets_by middle new (fresh f other) (free g h away may fr first pg en) occ =
+    allocs_operand_by middle new (owed r ck at w) (slot h g e ed machine order) occ = absurd (not_both o.requirement InMemory r w h (λ a. cc))
+    allocs_operand_by middle new (owed r ck at w) (free g h away may fr first pg en) occ = absurd (not_both o.requirement AnyReg r w h (λ a. cc))
+    allocs_operand_by middle new (fresh f other) (stays x su en) occ = get_kept new f x (subst (λ m. ClaimsPlace (after i) o p t u m new) en occ)
+    allocs_operand_by middle new (fresh f other) (fixed g wg pg en) occ = absurd (other g wg)
+    allocs_operand_by middle new (fresh f other) (slot h g e ed machine order) occ = get_slot middle new f g e ed machine occ
+    allocs_operand_by middle new (fresh f other) (free g h away may fr first pg en) occ =
         get_free new g f may fr pg (subst (λ m. ClaimsPlace (after i) o p t u m new) en occ)
 
     -- whatever registers were used
@@ -401,6 +403,6 @@ module _ (tail : BlockTail) (ops : List OperandValue) (far : Progress) (ret : Bo
     }
 
     -- an operand that gets a place claims it, and the record of the operands is kept
-    pub gets_step : {new : StateValue} → Due far.here far.claimed k o.requirement → AllocsOperand (after i) o p t u old new → Got k p u new
-    gets_step {new} due g = subst (Got k p u) (sym (uses_rest g.takes.uses))
-        (got_used g.takes.claimed new.lrus (gets_by g.middle g.takes.claimed due g.picks g.takes.occupies))
+    pub allocs_operand_step : {new : StateValue} → Due far.here far.claimed k o.requirement → AllocsOperand (after i) o p t u old new → Got k p u new
+    allocs_operand_step {new} due g = subst (Got k p u) (sym (uses_rest g.takes.uses))
+        (got_used g.takes.claimed new.lrus (allocs_operand_by g.middle g.takes.claimed due g.picks g.takes.occupies))

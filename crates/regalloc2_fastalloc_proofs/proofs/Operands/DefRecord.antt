@@ -14,8 +14,8 @@ use Rattle.regalloc2_semantics.proofs.Cells.{cases_place, is_place-same, is_plac
 use Rattle.regalloc2_semantics.proofs.NeedsAcrossMoves.{claims_weaken}
 use Rattle.regalloc2_fastalloc_state.specs.declared.inst_regs.InstRegs.{InstRegs}
 use Rattle.regalloc2_fastalloc_state.specs.StateParts.{SpillSlotsValue, slot_name, IsSlotOrNone, SetsAlloc}
-use Rattle.regalloc2_validate.specs.Constraints.{op_at}
-use Rattle.regalloc2_fastalloc_proofs.specs.InstSteps.{StateValue, SameMachine, AddsMoveIf, sent, unsent, FreesDef, is_another}
+use Rattle.regalloc2_function.specs.FunctionValue.{op_at}
+use Rattle.regalloc2_fastalloc_proofs.specs.InstSteps.{StateValue, SameMachine, AddsMoveIf, sent, unsent, FreesAlloc, is_another}
 use Rattle.regalloc2_fastalloc_proofs.proofs.Safety.StepsKeepState.{place_in, slot_in, IsWhole, whole_tidy, slot_no_register}
 use Rattle.regalloc2_fastalloc_proofs.proofs.Operands.RecordOverState.{opt, opt_some, opt_from, opt_real, stands_at, slots_at, Located, Owes}
 use Rattle.regalloc2_fastalloc_proofs.proofs.Evictions.EvictVReg.{Kept, kept_all}
@@ -25,7 +25,7 @@ use Rattle.regalloc2_fastalloc_proofs.proofs.Evictions.EvictPReg.{kept_then}
 use Rattle.regalloc2_fastalloc_proofs.proofs.Operands.FreeDef.{PlacesDef, leave_stands, defs_elsewhere}
 use Rattle.regalloc2_fastalloc_proofs.proofs.Operands.RecordOfInst.{Ready}
 use Rattle.regalloc2_fastalloc_proofs.proofs.Evictions.EvictKeepsRecord.{Nothing}
-use Rattle.regalloc2_fastalloc_proofs.proofs.Moves.MoveAfterInst.{Steady, Sent, Moves, ready_of, cross_step}
+use Rattle.regalloc2_fastalloc_proofs.proofs.Moves.MoveAfterInst.{Steady, Sent, Moves, ready_of, adds_move_step}
 use Rattle.regalloc2_fastalloc_proofs.proofs.Operands.BlockTail.{BlockTail}
 
 -- a place that is there and isn't the other, and one that isn't
@@ -253,7 +253,7 @@ module _ (tail : BlockTail) (ops : List OperandValue) (far : Progress) (done2 ou
         Sent tail ops next need ret inst_regs left middle
     awaited_step need which inst_regs middle (sent yes_made crosses) =
         let x = another_is c (far.here k) (made_parts ret (is_another c (far.here k)) yes_made).1 in
-        cross_step tail v.number (Some c)
+        adds_move_step tail v.number (Some c)
         crosses x.0 z.here (inl refl)
         (λ m st k2. first_moves need which x.0 x.1 m st k2) left_steady (on_its_way x.0)
     awaited_step need which inst_regs middle (unsent not_made eu en) =
@@ -334,7 +334,7 @@ module _ (tail : BlockTail) (ops : List OperandValue) (far : Progress) (done2 ou
           let a = both_parts (is_another s (far.here k)) (is_place s c) (made_parts ret (is_another s (far.here k) && not (is_place s c)) yes_made).1 in
           let x = another_is s (far.here k) a.0 in
           let g : Sent tail ops next out2 ret u middle new =
-          cross_step tail v.number None
+          adds_move_step tail v.number None
           crosses x.0 (f.kept.nowhere v.number z.here) (inr refl)
           (λ m st k3. second_moves x.0 x.1 middle f.kept m st k3) f.steady (moved_none far.out f) in
           ready_of tail ops next ret u new g.steady g.owes
@@ -369,10 +369,10 @@ module _ (tail : BlockTail) (ops : List OperandValue) (far : Progress) (done2 ou
           ready_then (record { steady = f.steady; owes = rest; kept = f.kept }) eu en
 
   -- the definition k is placed, where it claimed its place
-  pub defines_step : (t u : InstRegs) (old new : StateValue) → FreesDef (after i) v ret (far.here k) t u old new →
+  pub frees_alloc_step : (t u : InstRegs) (old new : StateValue) → FreesAlloc (after i) v ret (far.here k) t u old new →
       Ready tail ops far ret t old →
       Ready tail ops next ret u new
-  defines_step t u old new d r = elim (cases_place (slot_in old v.number) (place_in old v.number)) [
+  frees_alloc_step t u old new d r = elim (cases_place (slot_in old v.number) (place_in old v.number)) [
     | inl a ↦ stored_there t old d.left d.settles d.slots d.edits d.machine r d.inst_regs u d.middle new a d.stored
         (awaited_step t old d.left d.settles d.slots d.edits d.machine r out2 (inr (refl, a)) d.inst_regs d.middle d.awaited)
     | inr a ↦ stored_step t old d.left d.settles d.slots d.edits d.machine r d.inst_regs u d.middle new a d.stored

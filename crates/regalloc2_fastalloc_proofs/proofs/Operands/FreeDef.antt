@@ -4,7 +4,7 @@ use Rattle.std.specs.Prelude.{Option, None, Some}
 use Rattle.std.proofs.lemmas.Bool.{cases_Bool, cases_eq}
 use Rattle.regalloc2_names.specs.Register.{VirtualRegister}
 use Rattle.regalloc2_names.specs.Place.{Place, NoPlace, InSlot}
-use Rattle.regalloc2_semantics.specs.OperandsPlaced.{What, Progress, Placed, Once, Places, Makes}
+use Rattle.regalloc2_semantics.specs.OperandsPlaced.{What, Progress, Placed, Once, Places, PlacesDefinition}
 use Rattle.regalloc2_semantics.proofs.RecordSteps.{step_def}
 use Rattle.regalloc2_fastalloc_state.specs.StateParts.{SpillSlotsValue, slot_name, units_of, IsSlotOrNone, SetsAlloc}
 use Rattle.regalloc2_fastalloc_proofs.specs.InstSteps.{StateValue}
@@ -27,7 +27,7 @@ leave_whole old new v z slots w = record {
 
 -- the definition k, which has claimed its place, is placed
 pub record PlacesDef (counts : ℕ → Type 0) (what : ℕ → What) (far : Progress) (done2 out2 : ℕ → Bool) (Y : Place → ℕ → Bool) (k : ℕ) : Type 0 where
-  pub makes : Makes what far.here far.out out2 far.made_at Y k
+  pub makes : PlacesDefinition what far.here far.out out2 far.made_at Y k
   pub places : Places far.done done2 k
   pub once : Once counts what
   pub claims : far.claimed k ≡ true

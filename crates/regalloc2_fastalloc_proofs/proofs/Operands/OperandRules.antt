@@ -10,7 +10,7 @@ use Rattle.regalloc2_names.specs.Operand.{OperandValue, fixed_register, nonalloc
 use Rattle.regalloc2_names.specs.Point.{after}
 use Rattle.regalloc2_fastalloc_state.specs.declared.inst_regs.InstRegs.{InstRegs}
 use Rattle.regalloc2_fastalloc_state.specs.declared.request.OperandRequest.{OperandRequest}
-use Rattle.regalloc2_validate.specs.Constraints.{op_at}
+use Rattle.regalloc2_function.specs.FunctionValue.{op_at}
 use Rattle.regalloc2_fastalloc_proofs.specs.InstSteps.{StateValue, InTables, use_request, def_request, reuse_request, AllocsUse, AllocsDefOp}
 use Rattle.regalloc2_fastalloc_proofs.specs.InstSteps.{ProcessesOperand, a_register, a_use, a_def, a_reuse}
 
@@ -51,10 +51,11 @@ use_in_tables operands k o h request t lt e p not_it within =
     (op_in_tables operands k o t lt e not_it within)
 
 -- the four ways
-pub one_register : (i : ℕ) (is_ret : Bool) (operands : List OperandValue) (k : ℕ) (here : List Place) (t : InstRegs) (m : StateValue) (o : OperandValue)
+pub processes_operand_register : (i : ℕ) (is_ret : Bool) (operands : List OperandValue) (k : ℕ) (here : List Place) (t : InstRegs) (m : StateValue)
+    (o : OperandValue)
     (r : Register) (q : Place)
     → o ≡ op_at operands k → nonallocatable_register o ≡ Some r → q ≡ InRegister r → ProcessesOperand i is_ret operands k here (slice_set here k q) t t m m
-one_register i is_ret operands k here t m o r q e h p =
+processes_operand_register i is_ret operands k here t m o r q e h p =
     let f = marked (nat_eq o.vreg.number 1073741823) o.constraint r h in
     a_register r (ap (λ (x : OperandValue). is_fixed_nonallocatable x) (sym e) ∙ f.0) (ap (λ (x : OperandValue). x.constraint) (sym e) ∙ f.1)
     (ap (λ (x : Place). slice_set here k x) p) refl refl
@@ -65,34 +66,36 @@ reading false true e f = absurd cc
 reading false false e f = refl
 
 -- a use that got its place and isn't fixed to a nonallocatable register is an operand that was processed: its place alone is set
-pub one_use : {i : ℕ} {is_ret : Bool} {operands : List OperandValue} {k : ℕ} {here : List Place} {t u : InstRegs} {old new : StateValue} (o : OperandValue)
+pub processes_operand_use : {i : ℕ} {is_ret : Bool} {operands : List OperandValue} {k : ℕ} {here : List Place} {t u : InstRegs} {old new : StateValue}
+    (o : OperandValue)
     (h : Place) {request : OperandRequest} {point : ℕ} {p : Place}
     → o ≡ op_at operands k → h ≡ slice_index_or here k NoPlace → request ≡ use_request o h → point ≡ after i → is_fixed_nonallocatable o ≡ false →
     is_def o.kind ≡ false
     → AllocsUse point request p t u old new → ProcessesOperand i is_ret operands k here (slice_set here k p) t u old new
-one_use {i} {k} {here} {t} {u} {old} {new} o h {request} {p} e f g at not_it kind placed =
+processes_operand_use {i} {k} {here} {t} {u} {old} {new} o h {request} {p} e f g at not_it kind placed =
     let P : ℕ → OperandRequest → Type 0 = λ n x. AllocsUse n x p t u old new in
     a_use p (ap (λ (x : OperandValue). is_reading x) (sym e) ∙ reading (is_def o.kind) (is_fixed_nonallocatable o) kind not_it)
     (subst (P (after i)) (g ∙ ap (use_request o) f ∙ ap (λ (x : OperandValue). use_request x (slice_index_or here k NoPlace)) e)
     (subst (λ (n : ℕ). P n request) at placed)) refl
 
 -- a definition that is no reuse and got its place is an operand that was processed: its place alone is set
-pub one_def : {i : ℕ} {is_ret : Bool} {operands : List OperandValue} {k : ℕ} {here : List Place} {t u : InstRegs} {old new : StateValue} (o : OperandValue)
+pub processes_operand_def : {i : ℕ} {is_ret : Bool} {operands : List OperandValue} {k : ℕ} {here : List Place} {t u : InstRegs} {old new : StateValue}
+    (o : OperandValue)
     {request : OperandRequest} {point : ℕ} {p : Place}
     → o ≡ op_at operands k → request ≡ def_request o → point ≡ after i → is_def o.kind ≡ true → ((n : ℕ) → o.constraint ≡ Reuse n → ⊥)
     → AllocsDefOp point request is_ret p t u old new → ProcessesOperand i is_ret operands k here (slice_set here k p) t u old new
-one_def {i} {is_ret} {t} {u} {old} {new} o {request} {p} e g at def not_it placed =
+processes_operand_def {i} {is_ret} {t} {u} {old} {new} o {request} {p} e g at def not_it placed =
     let P : ℕ → OperandRequest → Type 0 = λ n x. AllocsDefOp n x is_ret p t u old new in
     a_def p (ap (λ (x : OperandValue). is_def x.kind) (sym e) ∙ def) (λ n h. not_it n (ap (λ (x : OperandValue). x.constraint) e ∙ h))
     (subst (P (after i)) (g ∙ ap (λ (x : OperandValue). def_request x) e) (subst (λ (n : ℕ). P n request) at placed)) refl
 
 -- a reuse that got its place is an operand that was processed: its place is set, and that of the use that it names
-pub one_reuse : {i : ℕ} {is_ret : Bool} {operands : List OperandValue} {k : ℕ} {here there : List Place} {t u : InstRegs} {old new : StateValue}
+pub processes_operand_reuse : {i : ℕ} {is_ret : Bool} {operands : List OperandValue} {k : ℕ} {here there : List Place} {t u : InstRegs} {old new : StateValue}
     (o : OperandValue) (n : ℕ) {request : OperandRequest} {point : ℕ} {p : Place}
     → o ≡ op_at operands k → request ≡ reuse_request o (op_at operands n) → point ≡ after i → is_def o.kind ≡ true → o.constraint ≡ Reuse n →
     there ≡ slice_set (slice_set here k p) n p
     → AllocsDefOp point request is_ret p t u old new → ProcessesOperand i is_ret operands k here there t u old new
-one_reuse {i} {is_ret} {operands} {t} {u} {old} {new} o n {request} {p} e g at def names set placed =
+processes_operand_reuse {i} {is_ret} {operands} {t} {u} {old} {new} o n {request} {p} e g at def names set placed =
     let P : ℕ → OperandRequest → Type 0 = λ j x. AllocsDefOp j x is_ret p t u old new in
     a_reuse n p (ap (λ (x : OperandValue). is_def x.kind) (sym e) ∙ def) (ap (λ (x : OperandValue). x.constraint) (sym e) ∙ names)
     (subst (P (after i)) (g ∙ ap (λ (x : OperandValue). reuse_request x (op_at operands n)) e) (subst (λ (j : ℕ). P j request) at placed)) set

@@ -9,13 +9,13 @@ use Rattle.regalloc2_names.specs.Place.{Place, NoPlace, InRegister, InSlot, is_p
 use Rattle.regalloc2_names.specs.Point.{after}
 use Rattle.regalloc2_semantics.specs.Instruction.{Claims}
 use Rattle.regalloc2_semantics.specs.BlockByPoints.{AllFrom, after_part, listed}
-use Rattle.regalloc2_semantics.specs.OperandsPlaced.{what_of, Counts, Progress, Once, Need, Places, Makes}
+use Rattle.regalloc2_semantics.specs.OperandsPlaced.{what_of, Counts, Progress, Once, Need, Places, PlacesDefinition}
 use Rattle.regalloc2_semantics.proofs.Cells.{is_place-same, is_place-true}
 use Rattle.regalloc2_semantics.proofs.NeedsAcrossMoves.{need_new}
 use Rattle.regalloc2_fastalloc_state.specs.declared.inst_regs.InstRegs.{InstRegs}
 use Rattle.regalloc2_fastalloc_state.specs.StateParts.{SpillSlotsValue, slot_name, SetsAlloc}
-use Rattle.regalloc2_validate.specs.Constraints.{op_at}
-use Rattle.regalloc2_fastalloc_proofs.specs.InstSteps.{StateValue, SameMachine, LocatesUse, stays, located, FreesDef}
+use Rattle.regalloc2_function.specs.FunctionValue.{op_at}
+use Rattle.regalloc2_fastalloc_proofs.specs.InstSteps.{StateValue, SameMachine, LocatesUse, stays, located, FreesAlloc}
 use Rattle.regalloc2_fastalloc_proofs.proofs.Safety.StepsKeepState.{place_in, slot_in, IsWhole}
 use Rattle.regalloc2_fastalloc_proofs.proofs.Operands.RecordOverState.{opt, stands_at, slots_at}
 use Rattle.regalloc2_fastalloc_proofs.proofs.Moves.ScratchRegTaken.{scratch_back, fit_same}
@@ -23,7 +23,7 @@ use Rattle.regalloc2_fastalloc_proofs.proofs.Operands.ClaimAndUse.{PlacesUse, us
 use Rattle.regalloc2_fastalloc_proofs.proofs.Inst.AcrossInst.{arrive_register, arrive_slot, use_arrives}
 use Rattle.regalloc2_fastalloc_proofs.proofs.Operands.RecordOfInst.{Ready}
 use Rattle.regalloc2_fastalloc_proofs.proofs.Evictions.EvictKeepsRecord.{Nothing}
-use Rattle.regalloc2_fastalloc_proofs.proofs.Operands.DefRecord.{defines_step}
+use Rattle.regalloc2_fastalloc_proofs.proofs.Operands.DefRecord.{frees_alloc_step}
 use Rattle.regalloc2_fastalloc_proofs.proofs.Operands.AllocOperand.{Got, and_one, and_one_same, and_one_grows, and_one_keeps}
 use Rattle.regalloc2_fastalloc_proofs.proofs.Operands.BlockTail.{BlockTail}
 
@@ -46,7 +46,7 @@ keeps_true false c e = e
 
 -- with operand k's definition its number is among those defined, and its value among those made, in its place; nothing else is added
 pub makes_one : (ops : List OperandValue) (here : ℕ → Place) (out : ℕ → Bool) (X : Place → ℕ → Bool) (k : ℕ) →
-    Makes (what_of ops) here out (and_one out (op_at ops k).vreg.number) X (made_one X (here k) (op_at ops k).vreg.number) k
+    PlacesDefinition (what_of ops) here out (and_one out (op_at ops k).vreg.number) X (made_one X (here k) (op_at ops k).vreg.number) k
 makes_one ops here out X k = record {
   out_grows = and_one_grows out (op_at ops k).vreg.number;
   out_keeps = and_one_keeps out (op_at ops k).vreg.number;
@@ -157,7 +157,7 @@ module _ (tail : BlockTail) (ops : List OperandValue) (far : Progress) (ret : Bo
       use_step new (located nowhere z slots edits machine order) = use_new new nowhere z slots edits machine
 
     -- a definition
-    pub def_step : (w : InstRegs) (new : StateValue) → is_def (op_at ops k).kind ≡ true → FreesDef (after i) (op_at ops k).vreg ret p u w old new →
+    pub def_step : (w : InstRegs) (new : StateValue) → is_def (op_at ops k).kind ≡ true → FreesAlloc (after i) (op_at ops k).vreg ret p u w old new →
         Ready tail ops (record far {
           here = g.there;
           claimed = g.claimed2;
@@ -166,7 +166,7 @@ module _ (tail : BlockTail) (ops : List OperandValue) (far : Progress) (ret : Bo
           made_at = made_one far.made_at (g.there k) (op_at ops k).vreg.number;
         }) ret w new
     def_step w new def d =
-        defines_step tail ops (record far { here = g.there; claimed = g.claimed2 }) (and_one far.done k)
+        frees_alloc_step tail ops (record far { here = g.there; claimed = g.claimed2 }) (and_one far.done k)
         (and_one far.out (op_at ops k).vreg.number) (made_one far.made_at (g.there k) (op_at ops k).vreg.number) ret k
         (record {
           makes = makes_one ops g.there far.out far.made_at k;
@@ -175,4 +175,4 @@ module _ (tail : BlockTail) (ops : List OperandValue) (far : Progress) (ret : Bo
           claims = g.claims;
           is_def = def;
         }) u w old new
-        (subst (λ q. FreesDef (after i) (op_at ops k).vreg ret q u w old new) (sym g.at_k) d) g.ready
+        (subst (λ q. FreesAlloc (after i) (op_at ops k).vreg ret q u w old new) (sym g.at_k) d) g.ready

@@ -10,7 +10,7 @@ use Rattle.regalloc2_semantics.specs.Instruction.{Claims}
 use Rattle.regalloc2_semantics.specs.BlockByPoints.{after_part, listed}
 use Rattle.regalloc2_semantics.specs.OperandsPlaced.{what_of, Progress, Held, Once, Counts}
 use Rattle.regalloc2_fastalloc_state.specs.declared.inst_regs.InstRegs.{InstRegs}
-use Rattle.regalloc2_validate.specs.Constraints.{op_at}
+use Rattle.regalloc2_function.specs.FunctionValue.{op_at}
 use Rattle.regalloc2_fastalloc_proofs.specs.InstSteps.{StateValue}
 use Rattle.regalloc2_fastalloc_proofs.proofs.Operands.RecordOverState.{stands_at, slots_at, Located, Owes}
 use Rattle.regalloc2_fastalloc_proofs.proofs.Evictions.EvictVReg.{held_early, held_late}

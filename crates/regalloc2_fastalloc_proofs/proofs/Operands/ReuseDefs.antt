@@ -20,9 +20,9 @@ use Rattle.regalloc2_fastalloc_state.specs.declared.inst_regs.Positions.{Positio
 use Rattle.regalloc2_fastalloc_state.specs.declared.request.Requirement.{Requirement}
 use Rattle.regalloc2_fastalloc_state.specs.declared.request.Requirement.TheVariants.{AnyPlace, AnyReg, InMemory, InPReg}
 use Rattle.regalloc2_fastalloc_state.specs.declared.request.OperandRequest.{OperandRequest}
-use Rattle.regalloc2_validate.specs.Constraints.{op_at}
+use Rattle.regalloc2_function.specs.FunctionValue.{op_at}
 use Rattle.regalloc2_fastalloc_proofs.specs.InstSteps.{StateValue, MeetsRequirement, SelectsPlace, stays, fixed, slot, free, ClaimsPlace, in_slot}
-use Rattle.regalloc2_fastalloc_proofs.specs.InstSteps.{in_register, AddsMoveIf, sent, unsent, FreesDef, reuse_requirement_of, reuse_request}
+use Rattle.regalloc2_fastalloc_proofs.specs.InstSteps.{in_register, AddsMoveIf, sent, unsent, FreesAlloc, reuse_requirement_of, reuse_request}
 use Rattle.regalloc2_fastalloc_proofs.specs.InstSteps.{AllocsDefOp}
 use Rattle.regalloc2_fastalloc_proofs.proofs.Safety.StepsKeepState.{place_in}
 use Rattle.regalloc2_fastalloc_proofs.proofs.Operands.RecordOverState.{opt, stands_at, slots_at}
@@ -30,9 +30,10 @@ use Rattle.regalloc2_fastalloc_proofs.proofs.Evictions.EvictVReg.{held_early, he
 use Rattle.regalloc2_fastalloc_proofs.proofs.Moves.ScratchRegTaken.{Less, less_same, less_then}
 use Rattle.regalloc2_fastalloc_proofs.proofs.Operands.ClaimAndUse.{claim_register, covers_both}
 use Rattle.regalloc2_fastalloc_proofs.proofs.Operands.RecordOfInst.{progress, Waits, of_fixed, of_reuse, of_named, Ready, Laid}
-use Rattle.regalloc2_fastalloc_proofs.proofs.Evictions.EvictKeepsRecord.{crosses_less}
+use Rattle.regalloc2_fastalloc_proofs.proofs.Evictions.EvictKeepsRecord.{adds_move_less}
 use Rattle.regalloc2_fastalloc_proofs.proofs.Operands.ClaimKeepsRecord.{Grips, ready_claim}
-use Rattle.regalloc2_fastalloc_proofs.proofs.Operands.AllocOperand.{Due, owed, fresh, suits_at, Got, gets_step, set_at, set_at_same, set_at_other}
+use Rattle.regalloc2_fastalloc_proofs.proofs.Operands.AllocOperand.{Due, owed, fresh, meets_requirement_at, Got, allocs_operand_step, set_at, set_at_same}
+use Rattle.regalloc2_fastalloc_proofs.proofs.Operands.AllocOperand.{set_at_other}
 use Rattle.regalloc2_fastalloc_proofs.proofs.Operands.AllocOperand.{puts_one, and_one, and_one_same, and_one_other, and_one_grows, and_one_keeps}
 use Rattle.regalloc2_fastalloc_proofs.proofs.Operands.RecordAfterOperand.{def_step, made_one, makes_one}
 use Rattle.regalloc2_fastalloc_proofs.proofs.Operands.UsesAndPlainDefs.{waits_set, fresh_turn, phase_turn, laid_next}
@@ -40,48 +41,48 @@ use Rattle.regalloc2_fastalloc_proofs.proofs.Operands.RecordOfInst.{LayingContex
 use Rattle.regalloc2_fastalloc_proofs.proofs.Operands.AllocsSoFar.{asked_as_fixed}
 
 -- what is held stays held while a definition is sent
-pub sends_less : (point : ℕ) (class : RegClass) (is_made : Bool) (from to : Place) (t u : InstRegs) (old new : StateValue) →
+pub adds_move_if_less : (point : ℕ) (class : RegClass) (is_made : Bool) (from to : Place) (t u : InstRegs) (old new : StateValue) →
     AddsMoveIf point class is_made from to t u old new → Less t u
-sends_less point class is_made from to t u old new (sent e c) = crosses_less point class from to t u old new c
-sends_less point class is_made from to t u old new (unsent e eu en) = less_same t u eu
+adds_move_if_less point class is_made from to t u old new (sent e c) = adds_move_less point class from to t u old new c
+adds_move_if_less point class is_made from to t u old new (unsent e eu en) = less_same t u eu
 
 -- freeing a definition and adding its moves makes no register available
-pub defines_less : (point : ℕ) (v : VirtualRegister) (ret : Bool) (p : Place) (t u : InstRegs) (old new : StateValue) → FreesDef point v ret p t u old new
+pub frees_alloc_less : (point : ℕ) (v : VirtualRegister) (ret : Bool) (p : Place) (t u : InstRegs) (old new : StateValue) → FreesAlloc point v ret p t u old new
     → Less t u
-defines_less point v ret p t u old new d = less_then t d.inst_regs u (sends_less _ _ _ _ _ t d.inst_regs d.left d.middle d.awaited)
-    (sends_less _ _ _ _ _ d.inst_regs u d.middle new d.stored)
+frees_alloc_less point v ret p t u old new d = less_then t d.inst_regs u (adds_move_if_less _ _ _ _ _ t d.inst_regs d.left d.middle d.awaited)
+    (adds_move_if_less _ _ _ _ _ d.inst_regs u d.middle new d.stored)
 
 held_now : (b c s : Bool) → c ≡ (not (true && s) && b) → s ≡ true → c ≡ false
 held_now b c true e h = e
 held_now b c false e h = absurd cc
 
 -- the place is held at the early position
-pub occupies_early : (point : ℕ) (o : OperandRequest) (p : Place) (r : Register) (t u : InstRegs) (old new : StateValue) → o.positions.early ≡ true →
+pub claims_place_early : (point : ℕ) (o : OperandRequest) (p : Place) (r : Register) (t u : InstRegs) (old new : StateValue) → o.positions.early ≡ true →
     p ≡ InRegister r → ClaimsPlace point o p t u old new → has_register u.early r ≡ false
-occupies_early point o p r t u old new early at (in_slot k e same en) = let x : InRegister r ≡ InSlot k = sym at ∙ e in absurd cc
-occupies_early point o p r t u old new early at (in_register g m e clears holds) =
+claims_place_early point o p r t u old new early at (in_slot k e same en) = let x : InRegister r ≡ InSlot k = sym at ∙ e in absurd cc
+claims_place_early point o p r t u old new early at (in_register g m e clears holds) =
     let x : InRegister r ≡ InRegister g = sym at ∙ e in let same : r ≡ g = cc in
     held_now (has_register m.early r) (has_register u.early r) (is_register g r)
     (holds.early r ∙ ap (λ b. not (b && is_register g r) && has_register m.early r) early) (ap (is_register g) same ∙ is_register-same g)
 
-suits_register : (t : StateValue) (w : Requirement) (p : Place) → w ≡ AnyReg → MeetsRequirement t w p → (r : Register) × (p ≡ InRegister r)
+meets_requirement_register : (t : StateValue) (w : Requirement) (p : Place) → w ≡ AnyReg → MeetsRequirement t w p → (r : Register) × (p ≡ InRegister r)
 unfolding MeetsRequirement
-suits_register t w p e s = let x = subst (λ y. MeetsRequirement t y p) e s in (x.0, x.1)
+meets_requirement_register t w p e s = let x = subst (λ y. MeetsRequirement t y p) e s in (x.0, x.1)
 
 -- an operand that asks for a register is in one
-pub picks_register : (t : InstRegs) (o : OperandRequest) (p : Place) (old new : StateValue) → (o.requirement ≡ AnyReg)
+pub selects_place_register : (t : InstRegs) (o : OperandRequest) (p : Place) (old new : StateValue) → (o.requirement ≡ AnyReg)
     ⊎ ((r : Register) × (o.requirement ≡ InPReg r)) → SelectsPlace t o p old new → (r : Register) × (p ≡ InRegister r)
-picks_register t o p old new w (stays x su en) = elim w [
-  | inl a ↦ suits_register old o.requirement p a su
+selects_place_register t o p old new w (stays x su en) = elim w [
+  | inl a ↦ meets_requirement_register old o.requirement p a su
   | inr a ↦
-      (a.0, suits_at old o.requirement p a.0 a.1 su)
+      (a.0, meets_requirement_at old o.requirement p a.0 a.1 su)
 ]
-picks_register t o p old new w (fixed r a e en) = (r, e)
-picks_register t o p old new w (slot h g e ed machine order) = absurd (elim w [
+selects_place_register t o p old new w (fixed r a e en) = (r, e)
+selects_place_register t o p old new w (slot h g e ed machine order) = absurd (elim w [
   | inl a ↦ elim h [ inl b ↦ (let x : AnyReg ≡ AnyPlace = sym a ∙ b in cc) | inr b ↦ (let x : AnyReg ≡ InMemory = sym a ∙ b in cc) ]
   | inr a ↦ elim h [ inl b ↦ (let x : InPReg a.0 ≡ AnyPlace = sym a.1 ∙ b in cc) | inr b ↦ (let x : InPReg a.0 ≡ InMemory = sym a.1 ∙ b in cc) ]
 ])
-picks_register t o p old new w (free r h away may fr first e en) = (r, e)
+selects_place_register t o p old new w (free r h away may fr first e en) = (r, e)
 
 module _ (laying : LayingContext) (late : Bool) (k : ℕ) (list : List Place) (u : InstRegs) (t : StateValue)
     (L : Laid laying.tail laying.ops laying.lived laying.clob laying.ret late k list u t) (lt : k < length laying.ops)
@@ -203,14 +204,14 @@ module _ (laying : LayingContext) (late : Bool) (k : ℕ) (list : List Place) (u
     o = reuse_request (op_at ops k) (op_at ops q)
 
     in_reg : (r : Register) × (p ≡ InRegister r)
-    in_reg = picks_register u o p t s.gets.middle (elim (orderly.named_as k q lt reuse)
+    in_reg = selects_place_register u o p t s.gets.middle (elim (orderly.named_as k q lt reuse)
         [ inl a ↦ inl (ap reuse_requirement_of a) | inr a ↦ inr (a.0, ap reuse_requirement_of a.1) ]) s.gets.picks
 
     real : p ≢ NoPlace
     real e = let x : InRegister in_reg.0 ≡ NoPlace = sym in_reg.1 ∙ e in cc
 
     got : Got tail ops now ret k p s.inst_regs s.middle
-    got = gets_step tail ops now ret (record {
+    got = allocs_operand_step tail ops now ret (record {
       k = k;
       o = o;
       nv = refl;
@@ -319,8 +320,8 @@ module _ (laying : LayingContext) (late : Bool) (k : ℕ) (list : List Place) (u
           (ap opt e ∙ ap Some (sym in_reg.1 ∙ sym got.at_k))
 
       held_w : held_early w (InRegister in_reg.0) ≡ true
-      held_w = ap not ((defines_less (after i) (op_at ops k).vreg ret p s.inst_regs w s.middle m s.defines).early in_reg.0
-          (occupies_early (after i) o p in_reg.0 u s.inst_regs s.gets.middle s.gets.takes.claimed refl in_reg.1
+      held_w = ap not ((frees_alloc_less (after i) (op_at ops k).vreg ret p s.inst_regs w s.middle m s.defines).early in_reg.0
+          (claims_place_early (after i) o p in_reg.0 u s.inst_regs s.gets.middle s.gets.takes.claimed refl in_reg.1
           s.gets.takes.occupies))
 
       abbrev pos : Positions

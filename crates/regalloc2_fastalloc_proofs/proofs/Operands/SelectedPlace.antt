@@ -16,16 +16,16 @@ use Rattle.regalloc2_fastalloc_state.specs.InstRegs.{SameAvailable, RemovesAvail
 use Rattle.regalloc2_fastalloc_proofs.specs.InstSteps.{StateValue, MeetsRequirement, is_stack_in, ClaimsPlace, in_slot, in_register}
 
 -- the tests of what is asked
-pub suits_anywhere : (t : StateValue) (w : Requirement) (p : Place) → w ≡ AnyPlace → p ≢ NoPlace → (IsTrue true → MeetsRequirement t w p)
+pub meets_requirement_anywhere : (t : StateValue) (w : Requirement) (p : Place) → w ≡ AnyPlace → p ≢ NoPlace → (IsTrue true → MeetsRequirement t w p)
     × (MeetsRequirement t w p → IsTrue true)
 unfolding MeetsRequirement
-suits_anywhere t w p e there = rw e (λ h. there, λ s. refl)
+meets_requirement_anywhere t w p e there = rw e (λ h. there, λ s. refl)
 
 -- a place that is there meets the requirement of any register exactly where it isn't in memory
-pub suits_any : (t : StateValue) (w : Requirement) (p : Place) (b : Bool) → w ≡ AnyReg → p ≢ NoPlace → b ≡ is_stack_in t p →
+pub meets_requirement_any : (t : StateValue) (w : Requirement) (p : Place) (b : Bool) → w ≡ AnyReg → p ≢ NoPlace → b ≡ is_stack_in t p →
     (IsTrue (not b) → MeetsRequirement t w p) × (MeetsRequirement t w p → IsTrue (not b))
 unfolding MeetsRequirement
-suits_any t w p b e there same = rw e (by_place p b there same)
+meets_requirement_any t w p b e there same = rw e (by_place p b there same)
   where
     by_place : (p : Place) (b : Bool) → p ≢ NoPlace → b ≡ is_stack_in t p
         → (not b ≡ true → (r : Register) × (p ≡ InRegister r) × (is_stack_in t p ≡ false))
@@ -35,28 +35,29 @@ suits_any t w p b e there same = rw e (by_place p b there same)
     by_place (InSlot n) b there same = (λ h. absurd (let f = not-true b h in cc), λ s. absurd (let f = s.1 in cc))
 
 -- a place meets the requirement of memory exactly where it is in memory
-pub suits_memory : (t : StateValue) (w : Requirement) (p : Place) (b : Bool) → w ≡ InMemory → b ≡ is_stack_in t p → (IsTrue b → MeetsRequirement t w p)
+pub meets_requirement_memory : (t : StateValue) (w : Requirement) (p : Place) (b : Bool) → w ≡ InMemory → b ≡ is_stack_in t p →
+    (IsTrue b → MeetsRequirement t w p)
     × (MeetsRequirement t w p → IsTrue b)
 unfolding MeetsRequirement
-suits_memory t w p b e same = rw e (λ h. sym same ∙ h, λ s. same ∙ s)
+meets_requirement_memory t w p b e same = rw e (λ h. sym same ∙ h, λ s. same ∙ s)
 
 -- a place meets the requirement of one preg exactly where it is that preg
-pub suits_at : (t : StateValue) (w : Requirement) (p : Place) (r : Register) (b : Bool) → w ≡ InPReg r → b ≡ is_place p (InRegister r) →
+pub meets_requirement_at : (t : StateValue) (w : Requirement) (p : Place) (r : Register) (b : Bool) → w ≡ InPReg r → b ≡ is_place p (InRegister r) →
     (IsTrue b → MeetsRequirement t w p) × (MeetsRequirement t w p → IsTrue b)
 unfolding MeetsRequirement
-suits_at t w p r b e same = rw e (
+meets_requirement_at t w p r b e same = rw e (
   λ h. is_place-true p (InRegister r) (sym same ∙ h),
   λ s. same ∙ ap (λ (q : Place). is_place q (InRegister r)) s
       ∙ is_place-same (InRegister r),
 )
 
 -- what meets what is asked is a place
-pub suits_there : (t : StateValue) (w : Requirement) (p : Place) → MeetsRequirement t w p → p ≢ NoPlace
+pub meets_requirement_there : (t : StateValue) (w : Requirement) (p : Place) → MeetsRequirement t w p → p ≢ NoPlace
 unfolding MeetsRequirement
-suits_there t AnyPlace p s = s
-suits_there t AnyReg p s = λ e. let f = sym s.1 ∙ e in cc
-suits_there t InMemory p s = λ e. let f = sym (ap (is_stack_in t) e) ∙ s in cc
-suits_there t (InPReg r) p s = λ e. let f = sym s ∙ e in cc
+meets_requirement_there t AnyPlace p s = s
+meets_requirement_there t AnyReg p s = λ e. let f = sym s.1 ∙ e in cc
+meets_requirement_there t InMemory p s = λ e. let f = sym (ap (is_stack_in t) e) ∙ s in cc
+meets_requirement_there t (InPReg r) p s = λ e. let f = sym s ∙ e in cc
 
 -- what is left where no register is named, and not any will do
 pub wanted_rest : (w : Requirement) → ((r : Register) → w ≡ InPReg r → ⊥) → (w ≡ AnyReg → ⊥) → (w ≡ AnyPlace) ⊎ (w ≡ InMemory)
@@ -80,8 +81,8 @@ holds_counted m h u r p holds same = record {
 }
 
 -- claiming a place says nothing of how many operands still wait for a register: that count may change
-pub occupies_counted : (point : ℕ) (o : OperandRequest) (p : Place) (t u w : InstRegs) (old new : StateValue) → ClaimsPlace point o p t u old new →
+pub claims_place_counted : (point : ℕ) (o : OperandRequest) (p : Place) (t u w : InstRegs) (old new : StateValue) → ClaimsPlace point o p t u old new →
     SameAvailable u w → ClaimsPlace point o p t w old new
-occupies_counted point o p t u w old new (in_slot k e same f) more =
+claims_place_counted point o p t u w old new (in_slot k e same f) more =
     in_slot k e (record { early = more.early ∙ same.early; late = more.late ∙ same.late; scratch = more.scratch ∙ same.scratch }) f
-occupies_counted point o p t u w old new (in_register r m e clears holds) more = in_register r m e clears (holds_counted m u w r o.positions holds more)
+claims_place_counted point o p t u w old new (in_register r m e clears holds) more = in_register r m e clears (holds_counted m u w r o.positions holds more)

@@ -13,11 +13,12 @@ use Rattle.regalloc2_semantics.proofs.BoundaryToBoundary.{Covers}
 use Rattle.regalloc2_semantics.proofs.Operands.{reads_use}
 use Rattle.regalloc2_fastalloc_state.specs.declared.inst_regs.InstRegs.{InstRegs}
 use Rattle.regalloc2_fastalloc_state.specs.declared.request.Requirement.TheVariants.{InPReg}
-use Rattle.regalloc2_validate.specs.Constraints.{op_at}
+use Rattle.regalloc2_function.specs.FunctionValue.{op_at}
 use Rattle.regalloc2_fastalloc_proofs.specs.InstSteps.{StateValue, requirement_of, use_request, def_request, AllocsUse, AllocsDefOp}
 use Rattle.regalloc2_fastalloc_proofs.proofs.Operands.ClaimAndUse.{covers_at}
 use Rattle.regalloc2_fastalloc_proofs.proofs.Operands.RecordOfInst.{progress, Turned, Waits, of_fixed, of_reuse, of_named, Ready, Laid}
-use Rattle.regalloc2_fastalloc_proofs.proofs.Operands.AllocOperand.{Due, owed, fresh, Got, gets_step, and_one, and_one_same, and_one_other, and_one_grows}
+use Rattle.regalloc2_fastalloc_proofs.proofs.Operands.AllocOperand.{Due, owed, fresh, Got, allocs_operand_step, and_one, and_one_same, and_one_other}
+use Rattle.regalloc2_fastalloc_proofs.proofs.Operands.AllocOperand.{and_one_grows}
 use Rattle.regalloc2_fastalloc_proofs.proofs.Operands.AllocOperand.{and_one_keeps}
 use Rattle.regalloc2_fastalloc_proofs.proofs.Operands.RecordAfterOperand.{use_step, def_step, made_one, makes_one}
 use Rattle.regalloc2_fastalloc_proofs.proofs.Operands.RecordOfInst.{LayingContext}
@@ -282,7 +283,7 @@ module _ (laying : LayingContext) where
           let is_use : is_def (op_at ops k).kind ≡ false = reads_use (op_at ops k) reading in
           let counts : Counts ops k = (lt, inr reading) in
           let g : Got tail ops now ret k p w s.middle =
-          gets_step tail ops now ret (record {
+          allocs_operand_step tail ops now ret (record {
             k = k;
             o = use_request (op_at ops k) q;
             nv = use_number (op_at ops k) q;
@@ -323,7 +324,7 @@ module _ (laying : LayingContext) where
       laid_def p w m def plain s =
           let counts : Counts ops k = (lt, inl def) in
           let g : Got tail ops now ret k p s.inst_regs s.middle =
-          gets_step tail ops now ret (record {
+          allocs_operand_step tail ops now ret (record {
             k = k;
             o = def_request (op_at ops k);
             nv = refl;

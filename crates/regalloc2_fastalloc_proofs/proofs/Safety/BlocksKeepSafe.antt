@@ -12,28 +12,28 @@ use Rattle.regalloc2_function.specs.WellFormed.{BlocksFollow}
 use Rattle.regalloc2_function.specs.Following.{end_within}
 use Rattle.regalloc2_semantics.specs.Blocks.{target_at}
 use Rattle.regalloc2_fastalloc_state.specs.declared.inst_regs.InstRegs.{InstRegs}
-use Rattle.regalloc2_validate.specs.Constraints.{op_at}
+use Rattle.regalloc2_function.specs.FunctionValue.{op_at}
 use Rattle.regalloc2_fastalloc_proofs.specs.InstSteps.{StateValue, ends_block}
 use Rattle.regalloc2_branch_defs.specs.BranchDefs.{IsEdgeInto}
 use Rattle.regalloc2_fastalloc_state.specs.StateParts.{SpillSlotsValue}
-use Rattle.regalloc2_fastalloc_proofs.specs.BlockStart.{no_vreg}
+use Rattle.regalloc2_names.specs.Register.{no_vreg}
 use Rattle.regalloc2_fastalloc_proofs.specs.StoreSteps.{IsConcerned, IsStoredFor}
 use Rattle.regalloc2_fastalloc_proofs.specs.BranchSteps.{ProcessesBranch}
 use Rattle.regalloc2_fastalloc_proofs.specs.Safety.{IsSafe, AreSafeRegs}
 use Rattle.regalloc2_fastalloc_proofs.specs.BlockSteps.{AllocsInstInBlock, AllocsBlockInsts, at_end, one_in, AllocsBlocks, all_left, one_block}
 use Rattle.regalloc2_fastalloc_proofs.proofs.Safety.StepsKeepSafe.{IsApart, StepKept}
 use Rattle.regalloc2_fastalloc_proofs.proofs.Slots.SlotsGrow.{SlotsStay, changes_stay}
-use Rattle.regalloc2_fastalloc_proofs.proofs.Changes.WalkChanges.{any_passed, free_begin, passes_changes, begun_changes}
+use Rattle.regalloc2_fastalloc_proofs.proofs.Changes.WalkChanges.{any_passed, free_begin, processes_branch_changes, begins_block_changes}
 use Rattle.regalloc2_fastalloc_proofs.proofs.Operands.AllocsSoFar.{IsTame, good_grows, DefsAreWritten, UsesAreWritten}
-use Rattle.regalloc2_fastalloc_proofs.proofs.Safety.InstKeepsSafe.{InstKept, allocates_kept, allocates_last_kept}
+use Rattle.regalloc2_fastalloc_proofs.proofs.Safety.InstKeepsSafe.{InstKept, allocs_inst_kept, allocs_inst_last_kept}
 use Rattle.regalloc2_fastalloc_proofs.proofs.BlockEnd.NoMoveForOperand.{IsOutside}
 use Rattle.regalloc2_fastalloc_proofs.proofs.BlockEnd.NoMoveInLastInst.{calm_end}
 use Rattle.regalloc2_fastalloc_proofs.proofs.Safety.InstsKeepSafe.{place_of, WritesByBranch, WritesFrom, more_written, WalkKept, AreLast, later_same}
 use Rattle.regalloc2_fastalloc_proofs.proofs.Safety.InstsKeepSafe.{more_places, defs_written}
 use Rattle.regalloc2_fastalloc_proofs.proofs.Safety.InstsKeepSafe.{uses_written}
-use Rattle.regalloc2_fastalloc_proofs.proofs.Safety.BlockStartKeepsSafe.{begins_block_kept}
-use Rattle.regalloc2_fastalloc_proofs.proofs.Safety.StoresKeepSafe.{IsAlike, more_safe, stores_kept}
-use Rattle.regalloc2_fastalloc_proofs.proofs.Safety.BranchKeepsSafe.{passes_kept}
+use Rattle.regalloc2_fastalloc_proofs.proofs.Safety.BlockStartKeepsSafe.{reloads_at_begin_kept}
+use Rattle.regalloc2_fastalloc_proofs.proofs.Safety.StoresKeepSafe.{IsAlike, more_safe, stores_branch_defs_kept}
+use Rattle.regalloc2_fastalloc_proofs.proofs.Safety.BranchKeepsSafe.{processes_branch_kept}
 use Rattle.regalloc2_fastalloc_proofs.proofs.Safety.StepsKeepSafe.{rules_of}
 
 -- where moves may be: before an instruction of a block, or behind one that isn't its last
@@ -113,17 +113,18 @@ module _ (rules : WalkRules) where
       → IsSafe env Known (WritesFrom f last c) (MayInBlocks f) old → AreSafeRegs env t → StepKept env Known (WritesFrom f last c) (MayInBlocks f) u new
   branch_kept c b i lt ge less branch t u old new p h ht =
       let e : i + 1 ≡ (block_at f b).range.end = branches b i lt ge less branch in
-      passes_kept (rules_of env apart Known (WritesFrom f last c) (MayInBlocks f) (before i) (b, i, lt, ge, less, inl refl)) (WritesByBranch f (before i))
+      processes_branch_kept (rules_of env apart Known (WritesFrom f last c) (MayInBlocks f) (before i) (b, i, lt, ge, less, inl refl))
+          (WritesByBranch f (before i))
       (λ v is n. inl (inr is)) f
       b i refl
       (λ k j edge within. (params (target_at f b k) j (targets b k lt edge) within, (b, i, k, j, lt, e, branch, refl, edge, within, refl))) t u old new p h ht
 
   -- an instruction, before a branch passes its arguments
-  inst_kept : (c b i : ℕ) → b < length f.blocks → (blank before_it places : List Place) (old s new : StateValue) →
+  allocs_inst_in_block_kept : (c b i : ℕ) → b < length f.blocks → (blank before_it places : List Place) (old s new : StateValue) →
       (ge : (block_at f b).range.first ≤ i) (less : i < (block_at f b).range.end) → IsOutside old → AllocsBlockInsts f b blank old (i + 1) before_it s
       → (a : AllocsInstInBlock f b i before_it places s new) → AreLast f last i places → WalkKept env Known f (MayInBlocks f) last c (i + 1) before_it s
       → InstKept env Known (WritesFrom f last c) (MayInBlocks f) (inst_at f i).operands a.allocates.here a.allocates.allocates.ended a.middle
-  inst_kept c b i lt blank before_it places old s new ge less bare prev a are_last w =
+  allocs_inst_in_block_kept c b i lt blank before_it places old s new ge less bare prev a are_last w =
       let inst : InstValue = inst_at f i in
       let end = end_within f follow b lt in
       let within : i < length f.insts = omega (arith, less, end) in
@@ -135,24 +136,24 @@ module _ (rules : WalkRules) where
         | inl e ↦ (
             let start : s ≡ old = block_start f b blank old (i + 1) before_it s prev e in
             let still = calm_end Known i inst x.blank x.here s a.middle (tame i within) (returns b i lt e) x.allocates (subst IsOutside (sym start) bare) in
-            allocates_last_kept apart inst (b, i, lt, ge, less, inl refl)
+            allocs_inst_last_kept apart inst (b, i, lt, ge, less, inl refl)
             (tame i within) defs uses x.allocates still w.safe)
-        | inr d ↦ allocates_kept apart inst (b, i, lt, ge, less, inl refl)
+        | inr d ↦ allocs_inst_kept apart inst (b, i, lt, ge, less, inl refl)
             (b, i, lt, ge, less, inr (refl, omega (arith, d, less))) (tame i within) defs uses x.allocates w.safe
       ]
 
   -- the instructions of a block
-  pub in_block : (b : ℕ) → b < length f.blocks → (blank : List Place) (old : StateValue) → IsOutside old →
+  pub allocs_block_insts_kept : (b : ℕ) → b < length f.blocks → (blank : List Place) (old : StateValue) → IsOutside old →
       WalkKept env Known f (MayInBlocks f) last (b + 1) (block_at f b).range.end blank old
       → (i : ℕ) (places : List Place) (t : StateValue) → AllocsBlockInsts f b blank old i places t → AreLast f last i places →
       WalkKept env Known f (MayInBlocks f) last (b + 1) i places t
-  in_block b lt blank old bare h i places t at_end are_last = h
-  in_block b lt blank old bare h i places t (one_in n before_it p s u ge less prev a) are_last =
+  allocs_block_insts_kept b lt blank old bare h i places t at_end are_last = h
+  allocs_block_insts_kept b lt blank old bare h i places t (one_in n before_it p s u ge less prev a) are_last =
       let end = end_within f follow b lt in
       let within : n < length f.insts = omega (arith, less, end) in
-      let w = in_block b lt blank old bare h (n + 1) before_it s prev (λ j k le small inside. are_last j k (omega arith) small inside
+      let w = allocs_block_insts_kept b lt blank old bare h (n + 1) before_it s prev (λ j k le small inside. are_last j k (omega arith) small inside
       ∙ later_same f n before_it places s a.middle within a.allocates j le small k) in
-      let x = inst_kept (b + 1) b n lt blank before_it places old s t ge less bare prev a are_last w in
+      let x = allocs_inst_in_block_kept (b + 1) b n lt blank before_it places old s t ge less bare prev a are_last w in
       let m : WalkKept env Known f (MayInBlocks f) last (b + 1) n places a.middle = record {
         safe = x.safe;
         good = more_places env Known f tame (MayInBlocks f) last (b + 1) within a.allocates x w.good;
@@ -161,39 +162,40 @@ module _ (rules : WalkRules) where
         | inl branch ↦ (let k = branch_kept (b + 1) b n lt ge less branch a.allocates.allocates.ended a.inst_regs a.middle t (a.branch branch) x.safe
             x.inst_regs in
             kept_grows (b + 1) (b + 1) n places a.middle t k.safe
-            (changes_stay (passes_changes (λ p q. tt) (any_passed (λ x. Unit {0}) f b) (a.branch branch))) m)
+            (changes_stay (processes_branch_changes (λ p q. tt) (any_passed (λ x. Unit {0}) f b) (a.branch branch))) m)
         | inr none ↦ subst (WalkKept env Known f (MayInBlocks f) last (b + 1) n places) (sym (a.no_branch none)) m
       ]
 
   -- all blocks, where no vreg is in a register at the boundaries between them
-  pub blocks_kept : (blank : List Place) (old : StateValue) → IsSafe env Known (WritesFrom f last (length f.blocks)) (MayInBlocks f) old →
+  pub allocs_blocks_kept : (blank : List Place) (old : StateValue) → IsSafe env Known (WritesFrom f last (length f.blocks)) (MayInBlocks f) old →
       ((c : ℕ) (places : List Place) (t : StateValue) → AllocsBlocks f blank old c places t → IsOutside t)
       → (c : ℕ) (places : List Place) (t : StateValue) → AllocsBlocks f blank old c places t → (i : ℕ) → StartsAt f c i → AreLast f last i places →
       WalkKept env Known f (MayInBlocks f) last c i places t
-  blocks_kept blank old h outside c places t all_left i starts are_last =
+  allocs_blocks_kept blank old h outside c places t all_left i starts are_last =
       record { safe = h; good = λ j k le less within. (let e = starts.end refl in absurd (omega (arith, e, le, less))) }
-  blocks_kept blank old h outside c places t (one_block b before_it p s u w lt prev walks begins) i starts are_last =
+  allocs_blocks_kept blank old h outside c places t (one_block b before_it p s u w lt prev walks begins) i starts are_last =
       let B = block_at f b in
       let e : i ≡ B.range.first = starts.block lt in
       let some : B.range.first < B.range.end = (follow b lt).0 in
       let end : B.range.end ≤ length f.insts = end_within f follow b lt in
-      let first : WalkKept env Known f (MayInBlocks f) last (b + 1) B.range.end before_it s = blocks_kept blank old h outside (b + 1) before_it s prev
+      let first : WalkKept env Known f (MayInBlocks f) last (b + 1) B.range.end before_it s = allocs_blocks_kept blank old h outside (b + 1) before_it s prev
       B.range.end (start_next f follow b lt)
       (λ j k le less within. are_last j k (omega (arith, e, some, le)) less within
       ∙ later_blocks_same f b end before_it s B.range.first places u walks j k le less) in
-      let second : WalkKept env Known f (MayInBlocks f) last (b + 1) B.range.first places u = in_block b lt before_it s (outside (b + 1) before_it s prev)
+      let second : WalkKept env Known f (MayInBlocks f) last (b + 1) B.range.first places u = allocs_block_insts_kept b lt before_it s
+          (outside (b + 1) before_it s prev)
       first B.range.first places u walks (λ j k le less within. are_last j k (omega (arith, e, le)) less within) in
       let can : MayInBlocks f (before B.range.first) = (b, B.range.first, lt, omega arith, some, inl refl) in
-      let k = begins_block_kept (rules_of env apart Known (WritesFrom f last (b + 1)) (MayInBlocks f) (before B.range.first) can)
+      let k = reloads_at_begin_kept (rules_of env apart Known (WritesFrom f last (b + 1)) (MayInBlocks f) (before B.range.first) can)
       B.params (λ j within. params b j lt within) u begins.middle begins.reloads second.safe in
       let wider : IsSafe env Known (WritesFrom f last b) (MayInBlocks f) begins.middle =
       more_safe env Known (WritesFrom f last (b + 1)) (WritesFrom f last b) (MayInBlocks f) begins.middle (more_written f last (b + 1) b (omega arith))
       k.safe in
-      let stored = stores_kept env Known (WritesFrom f last b) (MayInBlocks f) f b can (λ d g v edge is. concerned b d g v edge is)
+      let stored = stores_branch_defs_kept env Known (WritesFrom f last b) (MayInBlocks f) f b can (λ d g v edge is. concerned b d g v edge is)
       (λ d g j v slots edge is. alike b d g j v slots edge is)
       (λ d g v n edge is. inr (b, omega arith, lt, refl, (d, g, edge, is))) begins.middle t begins.stores wider in
       subst (λ n. WalkKept env Known f (MayInBlocks f) last b n places t) (sym e) (kept_grows (b + 1) b B.range.first places u t stored
-      (changes_stay (begun_changes (free_begin f b) begins)) second)
+      (changes_stay (begins_block_changes (free_begin f b) begins)) second)
 
   -- and so at each instruction of a block, with the blocks behind it walked
   pub within_kept : (blank : List Place) (old : StateValue) → IsSafe env Known (WritesFrom f last (length f.blocks)) (MayInBlocks f) old →
@@ -203,5 +205,6 @@ module _ (rules : WalkRules) where
   within_kept blank old h outside b lt p s prev i q u walk are_last =
       let end : (block_at f b).range.end ≤ length f.insts = end_within f follow b lt in
       let up_to : i ≤ (block_at f b).range.end = walked_to f b p s i q u walk in
-      in_block b lt p s (outside (b + 1) p s prev) (blocks_kept blank old h outside (b + 1) p s prev (block_at f b).range.end (start_next f follow b lt)
+      allocs_block_insts_kept b lt p s (outside (b + 1) p s prev) (allocs_blocks_kept blank old h outside (b + 1) p s prev (block_at f b).range.end
+          (start_next f follow b lt)
       (λ j k le less inside. are_last j k (omega (arith, le, up_to)) less inside ∙ later_blocks_same f b end p s i q u walk j k le less)) i q u walk are_last

@@ -18,14 +18,14 @@ use Rattle.regalloc2_function.specs.OutputValue.{MoveValue}
 use Rattle.regalloc2_fastalloc_state.specs.declared.inst_regs.InstRegs.{InstRegs}
 use Rattle.regalloc2_fastalloc_state.specs.StateParts.{VRegAllocsValue, SpillSlotsValue, IsSlotOrNone, alloc_of, vreg_of_preg, slot_name}
 use Rattle.regalloc2_fastalloc_proofs.specs.InstSteps.{StateValue}
-use Rattle.regalloc2_fastalloc_proofs.specs.BlockStart.{no_vreg}
+use Rattle.regalloc2_names.specs.Register.{no_vreg}
 use Rattle.regalloc2_fastalloc_state.specs.ScratchPool.{Moves, pushed}
 use Rattle.regalloc2_fastalloc_proofs.specs.BranchSteps.{SpillsArgument, from_register, in_slot, GathersEdgeMoves, none_gathered, one_gathered, own_argument}
 use Rattle.regalloc2_fastalloc_proofs.specs.BranchSteps.{GathersMoves, no_edge, one_edge, ClassMove, is_class, of_class, MayBeScratch, IsScratchUsed}
 use Rattle.regalloc2_fastalloc_proofs.specs.BranchSteps.{IsOrdered, OrdersMoves, Pushes, ProcessesBranch}
-use Rattle.regalloc2_fastalloc_proofs.specs.Safety.{MayBeLocatedAtOrNone, HasMachine, IsThrough, IsEndOfArgMove, IsSafe, IsSafeEdit, AreSafeRegs}
+use Rattle.regalloc2_fastalloc_proofs.specs.Safety.{MayBeLocatedAtOrNone, HasMachine, IsMoveReg, IsEndOfArgMove, IsSafe, IsSafeEdit, AreSafeRegs}
 use Rattle.regalloc2_fastalloc_proofs.proofs.Safety.StepsKeepSafe.{StepKept, MayBeHeld, kept_none, same_units, shifted}
-use Rattle.regalloc2_fastalloc_proofs.proofs.Safety.StepsKeepSafe.{clears_kept}
+use Rattle.regalloc2_fastalloc_proofs.proofs.Safety.StepsKeepSafe.{evicts_preg_kept}
 use Rattle.regalloc2_fastalloc_proofs.proofs.Slots.SlotsGrow.{SlotsStay, SlotsGrow, gives_stay, changes_stay, edits_grow, none_grows}
 use Rattle.std.proofs.lemmas.List.Elements.{All-push}
 use Rattle.regalloc2_fastalloc_proofs.proofs.BlockEnd.NoMoveForOperand.{slot_number}
@@ -33,8 +33,8 @@ use Rattle.regalloc2_fastalloc_state.proofs.SlotsAsPlaces.{slot_grows}
 use Rattle.regalloc2_fastalloc_proofs.proofs.Safety.BlockStartKeepsSafe.{given_edits, given_safe}
 use Rattle.regalloc2_fastalloc_proofs.proofs.Safety.StepsKeepSafe.{StepRules}
 use Rattle.regalloc2_fastalloc_proofs.proofs.Changes.OneChange.{in_order}
-use Rattle.regalloc2_fastalloc_proofs.proofs.Changes.InstChanges.{clears_changes}
-use Rattle.regalloc2_fastalloc_proofs.proofs.Changes.WalkChanges.{settles_changes, pushes_changes}
+use Rattle.regalloc2_fastalloc_proofs.proofs.Changes.InstChanges.{evicts_preg_changes}
+use Rattle.regalloc2_fastalloc_proofs.proofs.Changes.WalkChanges.{spills_argument_changes, pushes_changes}
 use Rattle.regalloc2_fastalloc_proofs.proofs.Operands.RecordOverState.{slot_below}
 
 -- the value of a move that is given: it goes from some vreg's slot to that of a known vreg whose value may be written
@@ -102,7 +102,7 @@ in_memory env t (InSlot k) m h = refl
 
 -- a scratch register or the borrowed one is one through which moves of the class go
 lent_through : (env : MachineValue) (inst_regs : InstRegs) (t : StateValue) (class : RegClass) (r : Register) → HasMachine env t →
-    MayBeScratch inst_regs t class r → IsThrough env class r
+    MayBeScratch inst_regs t class r → IsMoveReg env class r
 lent_through env inst_regs t class r m (inl own) = inr (m.dedicated_scratch class r own)
 lent_through env inst_regs t class r m (inr free) = inl (m.allocatable r free.0.small free.0.allocatable, free.0.of_class)
 
@@ -117,17 +117,17 @@ module _ (rules : StepRules) where
     pub own : slot_name new.slots a.number ≡ InSlot number
 
   -- spilling an argument keeps the state safe, and its place is the vreg's own slot
-  pub settles_kept : (a : VirtualRegister) (s : Place) (t u : InstRegs) (old new : StateValue) → SpillsArgument point a s t u old new →
+  pub spills_argument_kept : (a : VirtualRegister) (s : Place) (t u : InstRegs) (old new : StateValue) → SpillsArgument point a s t u old new →
       IsSafe env Known Writes May old → AreSafeRegs env t → Argued a s u new
-  settles_kept a s t u old new (from_register r m at gives places edits machine order clears) h ht =
+  spills_argument_kept a s t u old new (from_register r m at gives places edits machine order clears) h ht =
       let n = slot_number m.slots.count s gives.there gives.below in
       record {
-        kept = clears_kept rules r t u m new clears (given_safe env Known Writes May old m a s gives places edits machine h) ht;
+        kept = evicts_preg_kept rules r t u m new clears (given_safe env Known Writes May old m a s gives places edits machine h) ht;
         number = n.0;
         is = n.1;
-        own = changes_stay (clears_changes (λ q x. tt) clears) a.number n.0 (gives.gives ∙ n.1);
+        own = changes_stay (evicts_preg_changes (λ q x. tt) clears) a.number n.0 (gives.gives ∙ n.1);
       }
-  settles_kept a s t u old new (in_slot away gives settles edits machine order eu) h ht =
+  spills_argument_kept a s t u old new (in_slot away gives settles edits machine order eu) h ht =
       let n = slot_number new.slots.count s gives.there gives.below in
       record {
         kept = record {
@@ -145,23 +145,23 @@ module _ (rules : StepRules) where
     Good v = Known v × Passed v
 
     -- gathering the arguments of one edge keeps the state safe, and its moves go between slots of vregs
-    pub gathers_edge_kept : {Own : VirtualRegister → Type 0} {params arguments : List VirtualRegister} →
+    pub gathers_edge_moves_kept : {Own : VirtualRegister → Type 0} {params arguments : List VirtualRegister} →
         ((j : ℕ) → j < length params → Good (slice_index_or params j no_vreg)) →
         {t : InstRegs} {old : StateValue} {before_it : List ClassMove}
         → IsSafe env Known Writes May old → AreSafeRegs env t → AreGiven Known Passed old.slots before_it
         → {k : ℕ} {u : InstRegs} {new : StateValue} {given : List ClassMove} → GathersEdgeMoves Own point params arguments t old before_it k u new given →
         StepKept env Known Writes May u new × AreGiven Known Passed new.slots given
-    gathers_edge_kept good {t} {old} h ht begin none_gathered =
+    gathers_edge_moves_kept good {t} {old} h ht begin none_gathered =
         (kept_none env Known Writes May old old t t refl refl h ht, begin)
-    gathers_edge_kept {params} {arguments} good {t} {old} {before_it} h ht begin {u} {new}
+    gathers_edge_moves_kept {params} {arguments} good {t} {old} {before_it} h ht begin {u} {new}
         (one_gathered j some to from w x m n o lt prev gives places edits machine order settles foreign) =
-        let p = gathers_edge_kept good h ht begin prev in
+        let p = gathers_edge_moves_kept good h ht begin prev in
         let v : VirtualRegister = slice_index_or params j no_vreg in
         let a : VirtualRegister = slice_index_or arguments j no_vreg in
         let first : IsSafe env Known Writes May n = given_safe env Known Writes May m n v to gives places edits machine p.0.safe in
-        let second : Argued a from u new = settles_kept a from w u n new settles first p.0.inst_regs in
+        let second : Argued a from u new = spills_argument_kept a from w u n new settles first p.0.inst_regs in
         let number = slot_number n.slots.count to gives.there gives.below in
-        let later : SlotsStay n.slots new.slots = changes_stay (settles_changes (λ q x. tt) tt tt settles) in (
+        let later : SlotsStay n.slots new.slots = changes_stay (spills_argument_changes (λ q x. tt) tt tt settles) in (
           second.kept,
           All-push (λ (g : ClassMove). IsGiven Known Passed new.slots g.from g.to) some (record { class = a.class; from = from; to = to })
               (all_given_stay Known Passed m.slots new.slots some (λ x d is. later x d (gives_stay m.slots n.slots v to gives x d is)) p.1)
@@ -178,19 +178,19 @@ module _ (rules : StepRules) where
                 to_there = number.1;
               }),
         )
-    gathers_edge_kept {params} {arguments} good {t} {old} {before_it} h ht begin {u} {new} {given} (own_argument j some w m lt prev own) =
-        gathers_edge_kept good h ht begin prev
+    gathers_edge_moves_kept {params} {arguments} good {t} {old} {before_it} h ht begin {u} {new} {given} (own_argument j some w m lt prev own) =
+        gathers_edge_moves_kept good h ht begin prev
 
     -- gathering the arguments of a block's edges keeps the state safe, and its moves go between slots of vregs
-    pub gathers_kept : (f : FunctionValue) (b : ℕ) → ((k j : ℕ) → k < length (block_at f b).succs → j < length (block_at f (target_at f b k)).params →
+    pub gathers_moves_kept : (f : FunctionValue) (b : ℕ) → ((k j : ℕ) → k < length (block_at f b).succs → j < length (block_at f (target_at f b k)).params →
         Good (slice_index_or (block_at f (target_at f b k)).params j no_vreg))
         → (t : InstRegs) (old : StateValue) → IsSafe env Known Writes May old → AreSafeRegs env t
         → (k : ℕ) (u : InstRegs) (new : StateValue) (given : List ClassMove) → GathersMoves f b point t old k u new given →
         StepKept env Known Writes May u new × AreGiven Known Passed new.slots given
-    gathers_kept f b good t old h ht k u new given no_edge = (kept_none env Known Writes May old old t t refl refl h ht, λ j d lt. absurd (omega arith))
-    gathers_kept f b good t old h ht k u new given (one_edge j some more w x m n lt prev edge) =
-        let p = gathers_kept f b good t old h ht j w m some prev in
-        gathers_edge_kept (λ i less. good j i lt less) p.0.safe p.0.inst_regs p.1 edge
+    gathers_moves_kept f b good t old h ht k u new given no_edge = (kept_none env Known Writes May old old t t refl refl h ht, λ j d lt. absurd (omega arith))
+    gathers_moves_kept f b good t old h ht k u new given (one_edge j some more w x m n lt prev edge) =
+        let p = gathers_moves_kept f b good t old h ht j w m some prev in
+        gathers_edge_moves_kept (λ i less. good j i lt less) p.0.safe p.0.inst_regs p.1 edge
 
     -- the moves of one class are ordered and pushed
     module _ (class : RegClass) (inst_regs : InstRegs) (given : Moves) (old middle : StateValue) (made : Moves)
@@ -296,13 +296,13 @@ module _ (rules : StepRules) where
         (ordered_kept class inst_regs given old p.middle p.made p.orders h all ht)
 
     -- a branch passes its arguments
-    pub passes_kept : (f : FunctionValue) (b i : ℕ) → point ≡ before i →
+    pub processes_branch_kept : (f : FunctionValue) (b i : ℕ) → point ≡ before i →
         ((k j : ℕ) → k < length (block_at f b).succs → j < length (block_at f (target_at f b k)).params →
         Good (slice_index_or (block_at f (target_at f b k)).params j no_vreg))
         → (t u : InstRegs) (old new : StateValue) → ProcessesBranch f b i t u old new → IsSafe env Known Writes May old → AreSafeRegs env t →
         StepKept env Known Writes May u new
-    passes_kept f b i e good t u old new p h ht =
-        let x = gathers_kept f b good t old h ht (length (block_at f b).succs) u p.gathered p.given
+    processes_branch_kept f b i e good t u old new p h ht =
+        let x = gathers_moves_kept f b good t old h ht (length (block_at f b).succs) u p.gathered p.given
         (subst (λ q. GathersMoves f b q t old (length (block_at f b).succs) u p.gathered p.given) (sym e) p.gathers) in
         let of : (c : RegClass) → All (λ m. IsGiven Known Passed p.gathered.slots m.0 m.1) (of_class c p.given) = λ c. of_class_all
         (λ m. IsGiven Known Passed p.gathered.slots m.0 m.1) c p.given x.1 in

@@ -21,14 +21,14 @@ use Rattle.regalloc2_validate.specs.NoLimits.{AreTaken}
 use Rattle.regalloc2_fastalloc_state.specs.StateParts.{no_allocs, no_slots, units_of}
 use Rattle.regalloc2_fastalloc_proofs.specs.InstSteps.{StateValue, ends_block}
 use Rattle.regalloc2_fastalloc_proofs.specs.Safety.{HasMachine, IsSafe}
-use Rattle.regalloc2_fastalloc_proofs.specs.BlockStart.{no_vreg}
+use Rattle.regalloc2_names.specs.Register.{no_vreg}
 use Rattle.regalloc2_fastalloc_proofs.specs.BlockSteps.{AllocsBlockInsts, AllocsBlocks}
 use Rattle.regalloc2_fastalloc_proofs.proofs.Safety.InitialState.{begun_safe}
 use Rattle.regalloc2_fastalloc_proofs.proofs.BlockEnd.NoMoveForOperand.{IsOutside}
 use Rattle.regalloc2_fastalloc_proofs.proofs.Safety.OutputOfWalk.{IsMade, each_edit, machine_apart}
 use Rattle.regalloc2_fastalloc_proofs.proofs.Safety.WellFormedKeepsSafe.{tame_at}
 use Rattle.regalloc2_fastalloc_proofs.proofs.Safety.InstsKeepSafe.{AreLast, WalkKept, WritesByBranch, WritesFrom}
-use Rattle.regalloc2_fastalloc_proofs.proofs.Safety.BlocksKeepSafe.{MayInBlocks, WalkRules, blocks_kept, within_kept}
+use Rattle.regalloc2_fastalloc_proofs.proofs.Safety.BlocksKeepSafe.{MayInBlocks, WalkRules, allocs_blocks_kept, within_kept}
 use Rattle.regalloc2_fastalloc_proofs.proofs.Safety.StoredDefs.{concerned_made, stored_alike}
 
 -- a block's last instruction
@@ -117,7 +117,7 @@ module _ (fresh : FreshWalk) (outside : (c : ℕ) (ps : List Place) (u : StateVa
   pub walk_blocks_good : WalkKept env (Made f) f (MayInBlocks f) places 0 0 places last
   walk_blocks_good =
       let some : 0 < length f.blocks = (let entry = ok.successors.0 in omega (arith, entry)) in
-      blocks_kept walk_rules blank begin begun outside 0 places last
+      allocs_blocks_kept walk_rules blank begin begun outside 0 places last
       walks 0
       (record { block = λ lt. sym ((ok.follow 0 some).1 refl); end = λ e. absurd (omega (arith, e, some)) })
       (λ j k le less within. refl)

@@ -13,16 +13,16 @@ use Rattle.regalloc2_names.specs.Operand.{is_def, is_reading}
 use Rattle.regalloc2_semantics.specs.Blocks.{target_at}
 use Rattle.regalloc2_fastalloc_state.specs.StateParts.{SpillSlotsValue}
 use Rattle.regalloc2_branch_defs.specs.BranchDefs.{IsEdgeInto}
-use Rattle.regalloc2_fastalloc_proofs.specs.BlockStart.{no_vreg}
+use Rattle.regalloc2_names.specs.Register.{no_vreg}
 use Rattle.regalloc2_fastalloc_proofs.specs.StoreSteps.{IsConcerned}
-use Rattle.regalloc2_validate.specs.Constraints.{op_at}
+use Rattle.regalloc2_function.specs.FunctionValue.{op_at}
 use Rattle.regalloc2_fastalloc_proofs.specs.InstSteps.{StateValue}
 use Rattle.regalloc2_fastalloc_proofs.specs.Safety.{IsSafe}
 use Rattle.regalloc2_fastalloc_proofs.specs.BlockSteps.{AllocsInstAt, offset_of}
 use Rattle.regalloc2_fastalloc_proofs.proofs.Operands.AllocsSoFar.{at_place, IsTame, IsGood, good_grows, DefsAreWritten, UsesAreWritten}
 use Rattle.regalloc2_fastalloc_proofs.proofs.Safety.InstKeepsSafe.{InstKept}
 use Rattle.regalloc2_fastalloc_proofs.proofs.Slots.SlotsGrow.{SlotsStay, changes_stay}
-use Rattle.regalloc2_fastalloc_proofs.proofs.Changes.InstChanges.{free_operand, allocates_changes}
+use Rattle.regalloc2_fastalloc_proofs.proofs.Changes.InstChanges.{free_operand, allocs_inst_changes}
 
 -- offsets rise by the numbers of operands
 pub offset_next : (f : FunctionValue) (i : ℕ) → i < length f.insts → offset_of f (i + 1) ≡ offset_of f i + length (inst_at f i).operands
@@ -120,7 +120,7 @@ module _ (env : MachineValue) (Known : VirtualRegister → Type 0) (f : Function
         }) within)
     | inr d ↦ (
         let g = rest j k (omega arith) less within in
-        let stay : SlotsStay t.slots u.slots = changes_stay (allocates_changes (λ q r. tt) (λ q r. tt) (λ n at. free_operand _) a.allocates) in
+        let stay : SlotsStay t.slots u.slots = changes_stay (allocs_inst_changes (λ q r. tt) (λ q r. tt) (λ n at. free_operand _) a.allocates) in
         let same : (x : ℕ) → place_of f p j x ≡ place_of f b j x = later_same f i b p t u lt a j (omega arith) less in
         record {
           good = subst (IsGood env u.slots (op_at (inst_at f j).operands k)) (sym (same k))

@@ -9,7 +9,7 @@ use Rattle.regalloc2_names.specs.RegisterSet.{has_register}
 use Rattle.regalloc2_function.specs.FunctionValue.{FunctionValue}
 use Rattle.regalloc2_function.specs.Machine.{MachineValue, is_allocatable, scratch_of, IsFixedStackSlot}
 use Rattle.regalloc2_function.specs.Fitting.{MachineFits}
-use Rattle.regalloc2_fastalloc_proofs.specs.BranchSteps.{AreApart}
+use Rattle.regalloc2_fastalloc_proofs.specs.BranchSteps.{RegsAvoidStack}
 use Rattle.regalloc2_fastalloc_proofs.specs.InstSteps.{StateValue}
 use Rattle.regalloc2_fastalloc_proofs.proofs.Moves.ScratchRegTaken.{Fit}
 
@@ -39,5 +39,5 @@ machine_fit f env t fits small allocatable fixed dedicated_scratch = record {
         env.fixed_stack_slots r (fits c).slots_apart is
 
 -- no register in memory is allocatable or kept for moves
-pub fit_apart : (t : StateValue) → Fit t → AreApart t
+pub fit_apart : (t : StateValue) → Fit t → RegsAvoidStack t
 fit_apart t fit = record { allocatable = fit.stack_apart; dedicated_scratch = λ c r has. (fit.own_apart c r has).1 }

@@ -12,15 +12,15 @@ use Rattle.regalloc2_function.specs.Machine.{MachineValue}
 use Rattle.regalloc2_fastalloc_state.specs.declared.inst_regs.InstRegs.{InstRegs}
 use Rattle.regalloc2_fastalloc_state.specs.declared.request.Requirement.TheVariants.{InPReg}
 use Rattle.regalloc2_fastalloc_state.specs.StateParts.{SpillSlotsValue}
-use Rattle.regalloc2_validate.specs.Constraints.{op_at}
+use Rattle.regalloc2_function.specs.FunctionValue.{op_at}
 use Rattle.regalloc2_fastalloc_proofs.specs.InstSteps.{StateValue, use_request, def_request, reuse_request, AllocsDefOp, AllocsUse, ProcessesOperand}
 use Rattle.regalloc2_fastalloc_proofs.specs.InstSteps.{a_register, a_use, a_def, a_reuse, ProcessesOperandsAt, none_placed, of_other, one_placed}
 use Rattle.regalloc2_fastalloc_proofs.specs.Safety.{IsOfMachine, MayBeLocatedAt}
-use Rattle.regalloc2_fastalloc_proofs.proofs.Changes.InstChanges.{places_def_changes, places_use_changes}
+use Rattle.regalloc2_fastalloc_proofs.proofs.Changes.InstChanges.{allocs_def_op_changes, allocs_use_changes}
 use Rattle.regalloc2_fastalloc_proofs.proofs.Slots.SlotsGrow.{changes_stay}
 use Rattle.regalloc2_fastalloc_proofs.proofs.Slots.LocatedStaysLocated.{changes_last}
 use Rattle.regalloc2_fastalloc_proofs.proofs.Safety.StepsKeepSafe.{IsApart}
-use Rattle.regalloc2_fastalloc_proofs.proofs.Safety.OperandKeepsSafe.{places_def_kept, places_use_kept}
+use Rattle.regalloc2_fastalloc_proofs.proofs.Safety.OperandKeepsSafe.{allocs_def_op_kept, allocs_use_kept}
 use Rattle.regalloc2_fastalloc_proofs.proofs.Operands.AllocsSoFar.{at_place, IsInRegister, MeetsAlone, IsGood}
 use Rattle.regalloc2_fastalloc_proofs.proofs.Operands.AllocsSoFar.{reads_allocated, answer_meets, answer_named, reuse_meets, fixed_meets, asked_fixed}
 use Rattle.regalloc2_fastalloc_proofs.proofs.Operands.AllocsSoFar.{asked_as_fixed, fixed_class, FixedAreKnown, Filled, DefsAreWritten, reuse_register}
@@ -84,12 +84,12 @@ module _ (passes : PassesContext) where
   use_kept D E k p here t u old new less more reads none places h =
       let o : OperandValue = op_at ops k in
       let allocated : is_fixed_nonallocatable o ≡ false = reads_allocated o reads in
-      let w = places_use_kept (rules_of env apart Known Writes May (after i) can) tame.same (use_request o NoPlace) p t u old new places
+      let w = allocs_use_kept (rules_of env apart Known Writes May (after i) can) tame.same (use_request o NoPlace) p t u old new places
       (tame.known k less allocated)
       (λ r asks. (let e : o.constraint ≡ FixedReg r = asked_fixed o.constraint r asks in
       (fixed k r less allocated e, fixed_class o.vreg.class o.constraint r (tame.constraint k less) e))) h.safe h.inst_regs in
-      let f = filled_on filling D here t u old new w.given.kept.safe w.given.kept.inst_regs (changes_stay (places_use_changes (λ q s. tt) tt tt places))
-      (λ j within r there. changes_last (op_at ops j).vreg.number (places_use_changes (λ q s. tt) tt tt places) there) h in
+      let f = filled_on filling D here t u old new w.given.kept.safe w.given.kept.inst_regs (changes_stay (allocs_use_changes (λ q s. tt) tt tt places))
+      (λ j within r there. changes_last (op_at ops j).vreg.number (allocs_use_changes (λ q s. tt) tt tt places) there) h in
       written filling D E k p here u new less more
       (λ n e. both_ways (is_def o.kind) (reads_use o reads) (tame.late_reuse k n less e).0)
       (record {
@@ -112,11 +112,11 @@ module _ (passes : PassesContext) where
       let o : OperandValue = op_at ops k in
       let allocated : is_fixed_nonallocatable o ≡ false = reads_allocated o reads in
       let stand : MayBeLocatedAt env old.slots o.vreg (InRegister r) = subst (MayBeLocatedAt env old.slots o.vreg) at_it (good.place allocated) in
-      let w = places_use_kept (rules_of env apart Known Writes May (after i) can) tame.same (use_request o (InRegister r)) p t u old new places
+      let w = allocs_use_kept (rules_of env apart Known Writes May (after i) can) tame.same (use_request o (InRegister r)) p t u old new places
       (tame.known k less allocated)
       (λ q asks. subst (λ (x : Register). IsOfMachine env x × (x.class ≡ o.vreg.class)) (same_at r q asks) stand) h.safe h.inst_regs in
-      let f = filled_on filling D here t u old new w.given.kept.safe w.given.kept.inst_regs (changes_stay (places_use_changes (λ q s. tt) tt tt places))
-      (λ j within x there. changes_last (op_at ops j).vreg.number (places_use_changes (λ q s. tt) tt tt places) there) h in
+      let f = filled_on filling D here t u old new w.given.kept.safe w.given.kept.inst_regs (changes_stay (allocs_use_changes (λ q s. tt) tt tt places))
+      (λ j within x there. changes_last (op_at ops j).vreg.number (allocs_use_changes (λ q s. tt) tt tt places) there) h in
       let as_chosen : p ≡ at_place here k = w.given.answer ∙ sym at_it in
       written filling D E k p here u new less more
       (λ n e. both_ways (is_def o.kind) (reads_use o reads) (tame.late_reuse k n less e).0)
@@ -134,13 +134,13 @@ module _ (passes : PassesContext) where
   def_kept D E k p here t u old new less more def no_reuse places h =
       let o : OperandValue = op_at ops k in
       let allocated : is_fixed_nonallocatable o ≡ false = tame.allocated k less def in
-      let w = places_def_kept (rules_of env apart Known Writes May (after i) can) tame.same (def_request o) is_ret p t u old new places
+      let w = allocs_def_op_kept (rules_of env apart Known Writes May (after i) can) tame.same (def_request o) is_ret p t u old new places
       (tame.known k less allocated)
       (λ n. writes k n less def)
       (λ r asks. (let e : o.constraint ≡ FixedReg r = asked_fixed o.constraint r asks in
       (fixed k r less allocated e, fixed_class o.vreg.class o.constraint r (tame.constraint k less) e))) h.safe h.inst_regs in
-      let f = filled_on filling D here t u old new w.kept.safe w.kept.inst_regs (changes_stay (places_def_changes (λ q s. tt) tt tt places))
-      (λ j within r there. changes_last (op_at ops j).vreg.number (places_def_changes (λ q s. tt) tt (tame.unread k j less within def r) places) there) h in
+      let f = filled_on filling D here t u old new w.kept.safe w.kept.inst_regs (changes_stay (allocs_def_op_changes (λ q s. tt) tt tt places))
+      (λ j within r there. changes_last (op_at ops j).vreg.number (allocs_def_op_changes (λ q s. tt) tt (tame.unread k j less within def r) places) there) h in
       written filling D E k p here u new less more no_reuse
       (record { place = λ a. w.place; meets = answer_meets env o.constraint p no_reuse (λ n e. tame.unlimited k n less e) w.answer })
       (λ reads. absurd (both_ways (is_def o.kind) (reads_use o reads) def))
@@ -157,13 +157,13 @@ module _ (passes : PassesContext) where
       let o : OperandValue = op_at ops k in
       let m : OperandValue = op_at ops n in
       let named = tame.named k n less reuses in
-      let w = places_def_kept (rules_of env apart Known Writes May (after i) can) tame.same (reuse_request o m) is_ret p t u old new places
+      let w = allocs_def_op_kept (rules_of env apart Known Writes May (after i) can) tame.same (reuse_request o m) is_ret p t u old new places
       (tame.known k less (tame.allocated k less def)) (λ x. writes k x less def)
       (λ r asks. (let e : m.constraint ≡ FixedReg r = asked_as_fixed m.constraint r asks in
       (fixed n r named.0 (reads_allocated m named.2) e, fixed_class m.vreg.class m.constraint r (tame.constraint n named.0) e ∙ named.3))) h.safe
       h.inst_regs in
-      let f = filled_on filling D here t u old new w.kept.safe w.kept.inst_regs (changes_stay (places_def_changes (λ q s. tt) tt tt places))
-      (λ j within r there. changes_last (op_at ops j).vreg.number (places_def_changes (λ q s. tt) tt (tame.unread k j less within def r) places) there) h in
+      let f = filled_on filling D here t u old new w.kept.safe w.kept.inst_regs (changes_stay (allocs_def_op_changes (λ q s. tt) tt tt places))
+      (λ j within r there. changes_last (op_at ops j).vreg.number (allocs_def_op_changes (λ q s. tt) tt (tame.unread k j less within def r) places) there) h in
       let a = answer_named env m.constraint p (tame.named_as k n less reuses) w.answer in
       written_twice filling n less more reuses not_n
       (record { place = λ x. w.place; meets = reuse_meets env o.constraint n p reuses a.1 })
@@ -171,16 +171,16 @@ module _ (passes : PassesContext) where
       a.1 f
 
   -- an operand is allocated
-  pub one_kept : (D E : ℕ → Type 0) (k : ℕ) (here there : List Place) (t u : InstRegs) (old new : StateValue) →
+  pub processes_operand_kept : (D E : ℕ → Type 0) (k : ℕ) (here there : List Place) (t u : InstRegs) (old new : StateValue) →
       ProcessesOperand i is_ret ops k here there t u old new → k < length ops → OneMore filling D E k
       → ((n : ℕ) → (op_at ops k).constraint ≡ Reuse n → D n → ⊥) → Filled env Known Writes May ops D here t old →
       Filled env Known Writes May ops E there u new
-  one_kept D E k here there t u old new (a_register r silent is written_it eu en) less more not_n h =
+  processes_operand_kept D E k here there t u old new (a_register r silent is written_it eu en) less more not_n h =
       subst (λ l. Filled env Known Writes May ops E l u new) (sym written_it)
       (subst (λ x. Filled env Known Writes May ops E (set here k (InRegister r)) x new) (sym eu)
       (subst (Filled env Known Writes May ops E (set here k (InRegister r)) t) (sym en)
       (register_kept D E k r here t old less more silent is h)))
-  one_kept D E k here there t u old new (a_use p reads places written_it) less more not_n h =
+  processes_operand_kept D E k here there t u old new (a_use p reads places written_it) less more not_n h =
       subst (λ l. Filled env Known Writes May ops E l u new) (sym written_it) (elim (h.waits k less more.before_it) [
         | inl none ↦ use_kept D E k p here t u old new less more reads none
             (subst (λ x. AllocsUse (after i) (use_request (op_at ops k) x) p t u old new) none places) h
@@ -188,9 +188,9 @@ module _ (passes : PassesContext) where
             chosen_kept D E k p r.0 here t u old new less more reads r.1 g.0
             (subst (λ x. AllocsUse (after i) (use_request (op_at ops k) x) p t u old new) r.1 places) h)
       ])
-  one_kept D E k here there t u old new (a_def p def no_reuse places written_it) less more not_n h =
+  processes_operand_kept D E k here there t u old new (a_def p def no_reuse places written_it) less more not_n h =
       subst (λ l. Filled env Known Writes May ops E l u new) (sym written_it) (def_kept D E k p here t u old new less more def no_reuse places h)
-  one_kept D E k here there t u old new (a_reuse n p def reuses places written_it) less more not_n h =
+  processes_operand_kept D E k here there t u old new (a_reuse n p def reuses places written_it) less more not_n h =
       subst (λ l. Filled env Known Writes May ops E l u new) (sym written_it)
       (reuse_kept D E k n p here t u old new less more (not_n n reuses) def reuses places h)
 
@@ -236,11 +236,11 @@ module _ (passes : PassesContext) where
   }
 
   -- the pass over late operands
-  pub lates_kept : (blank : List Place) (t : InstRegs) (old : StateValue) → Filled env Known Writes May ops (InLate 0) blank t old
+  pub late_operands_kept : (blank : List Place) (t : InstRegs) (old : StateValue) → Filled env Known Writes May ops (InLate 0) blank t old
       → (k : ℕ) (there : List Place) (u : InstRegs) (m : StateValue) → ProcessesOperandsAt i is_ret true ops blank t old k there u m → k ≤ length ops →
       Filled env Known Writes May ops (InLate k) there u m
-  lates_kept blank t old h k there u m none_placed le = h
-  lates_kept blank t old h k there u m (of_other j l w s prev other) le =
+  late_operands_kept blank t old h k there u m none_placed le = h
+  late_operands_kept blank t old h k there u m (of_other j l w s prev other) le =
       let early : is_late (op_at ops j).position ≡ false = false_from_ne_true (is_late (op_at ops j).position) other in
       filled_same filling (InLate j) (InLate (j + 1)) there u m
       (λ x less e. (
@@ -249,18 +249,18 @@ module _ (passes : PassesContext) where
         e.1,
       ))
       (λ x less d. ((let a = d.0 in omega arith), d.1))
-      (lates_kept blank t old h j there u m prev (omega arith))
-  lates_kept blank t old h k there u m (one_placed j l next w x s n prev late one) le =
-      one_kept (InLate j) (InLate (j + 1)) j l there w u s m one (omega arith) (late_more j late)
+      (late_operands_kept blank t old h j there u m prev (omega arith))
+  late_operands_kept blank t old h k there u m (one_placed j l next w x s n prev late one) le =
+      processes_operand_kept (InLate j) (InLate (j + 1)) j l there w u s m one (omega arith) (late_more j late)
       (λ y reuses d. both_ways (is_late (op_at ops y).position) (tame.named j y (omega arith) reuses).1 d.1)
-      (lates_kept blank t old h j l w s prev (omega arith))
+      (late_operands_kept blank t old h j l w s prev (omega arith))
 
   -- and that over early ones
-  pub earlies_kept : (half : List Place) (t : InstRegs) (old : StateValue) → Filled env Known Writes May ops (InEarly 0) half t old
+  pub early_operands_kept : (half : List Place) (t : InstRegs) (old : StateValue) → Filled env Known Writes May ops (InEarly 0) half t old
       → (k : ℕ) (there : List Place) (u : InstRegs) (m : StateValue) → ProcessesOperandsAt i is_ret false ops half t old k there u m → k ≤ length ops →
       Filled env Known Writes May ops (InEarly k) there u m
-  earlies_kept half t old h k there u m none_placed le = h
-  earlies_kept half t old h k there u m (of_other j l w s prev other) le =
+  early_operands_kept half t old h k there u m none_placed le = h
+  early_operands_kept half t old h k there u m (of_other j l w s prev other) le =
       let late : is_late (op_at ops j).position ≡ true = true_from_ne_false (is_late (op_at ops j).position) other in
       filled_same filling (InEarly j) (InEarly (j + 1)) there u m
       (λ x less e. elim e [
@@ -274,8 +274,8 @@ module _ (passes : PassesContext) where
         | inl is ↦ inl is
         | inr below ↦ inr (omega arith)
       ])
-      (earlies_kept half t old h j there u m prev (omega arith))
-  earlies_kept half t old h k there u m (one_placed j l next w x s n prev early one) le =
-      one_kept (InEarly j) (InEarly (j + 1)) j l there w u s m one (omega arith) (early_more j early)
+      (early_operands_kept half t old h j there u m prev (omega arith))
+  early_operands_kept half t old h k there u m (one_placed j l next w x s n prev early one) le =
+      processes_operand_kept (InEarly j) (InEarly (j + 1)) j l there w u s m one (omega arith) (early_more j early)
       (λ y reuses d. both_ways (is_late (op_at ops j).position) early (tame.late_reuse j y (omega arith) reuses).1)
-      (earlies_kept half t old h j l w s prev (omega arith))
+      (early_operands_kept half t old h j l w s prev (omega arith))

@@ -20,7 +20,7 @@ use Rattle.regalloc2_function.specs.OutputValue.{OutputValue, DebugLocation, Mov
 use Rattle.regalloc2_function.specs.DebugPoints.{IsKept}
 use Rattle.regalloc2_function.specs.Faithful.{ConstraintsMet, HasNoStackToStack, IsStackToStack, Meets}
 use Rattle.regalloc2_function.specs.Fitting.{MachineFits, PlacesAreProper, IsProperPlace, IsMoveEnd}
-use Rattle.regalloc2_validate.specs.Constraints.{op_at}
+use Rattle.regalloc2_function.specs.FunctionValue.{op_at}
 use Rattle.regalloc2_fastalloc_proofs.specs.InstSteps.{StateValue}
 use Rattle.regalloc2_fastalloc_proofs.specs.Safety.{MayBeLocatedAt, IsEndOfMove, IsEndOfArgMove, IsSafeEdit}
 use Rattle.regalloc2_fastalloc_state.specs.StateParts.{SpillSlotsValue, IsSlotOrNone, slot_name, PointsDescend}

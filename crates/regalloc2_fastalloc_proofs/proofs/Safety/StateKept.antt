@@ -14,13 +14,13 @@ use Rattle.regalloc2_names.specs.Point.{before, after}
 use Rattle.regalloc2_names.specs.Operand.{OperandValue}
 use Rattle.regalloc2_function.specs.FunctionValue.{FunctionValue, InstValue, block_at, inst_at}
 use Rattle.regalloc2_function.specs.WellFormed.{BlocksEnd, BlocksFollow}
-use Rattle.regalloc2_semantics.specs.Listing.{no_operand}
+use Rattle.regalloc2_function.specs.FunctionValue.{no_operand}
 use Rattle.regalloc2_semantics.proofs.SingleDef.{Made, no_vreg}
 use Rattle.regalloc2_semantics.proofs.SingleDef.Made.{by_operand}
 use Rattle.regalloc2_fastalloc_state.specs.declared.inst_regs.InstRegs.{InstRegs}
 use Rattle.regalloc2_fastalloc_state.specs.StateParts.{SpillSlotsValue, AreUpTo, most_units}
 use Rattle.regalloc2_fastalloc_state.specs.OutOfResources.{IsResourceError, SlotsExhaustedWith, IsResourceErrorIn}
-use Rattle.regalloc2_fastalloc_proofs.specs.BranchSteps.{AreApart, AddsTempSlotsAtMost}
+use Rattle.regalloc2_fastalloc_proofs.specs.BranchSteps.{RegsAvoidStack, AddsTempSlotsAtMost}
 use Rattle.regalloc2_fastalloc_proofs.specs.InstSteps.{StateValue, SameMachine, ends_block}
 use Rattle.regalloc2_fastalloc_proofs.specs.BlockSteps.{AllocsInstInto, DefinesBelow, temp_slots_at}
 use Rattle.regalloc2_fastalloc_state.proofs.SpillSlotUnits.{lacks_then}
@@ -75,7 +75,7 @@ lack_all k most a b h few e = lacks_then (SlotsExhaustedWith b.slots b.slots.num
     (full_kept b.slots a.slots b.slots.num_temp_slots (a.slots.num_temp_slots + most) h.sizes h.vregs (let l = h.num_temp_slots in omega (arith, l, few))) e
 
 -- no register in memory is allocatable or kept for moves, as long as the machine stays
-pub apart_kept : (k : ℕ) (a b : StateValue) → AddsTempSlotsAtMost k a b → AreApart a → AreApart b
+pub apart_kept : (k : ℕ) (a b : StateValue) → AddsTempSlotsAtMost k a b → RegsAvoidStack a → RegsAvoidStack b
 apart_kept k a b h apart = record {
   allocatable = λ r has.
       ap (λ (s : PRegSet). has_register s r) h.fixed_stack ∙ apart.allocatable r (ap (λ (s : PRegSet). has_register s r) (sym h.allocatable) ∙ has);

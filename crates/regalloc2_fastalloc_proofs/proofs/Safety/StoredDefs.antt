@@ -16,14 +16,14 @@ use Rattle.regalloc2_function.specs.SourceRun.{arguments_at}
 use Rattle.regalloc2_function.specs.Following.{end_within}
 use Rattle.regalloc2_function.specs.WellFormed.{IsWellFormed, SuccessorsAreBlocks, BlocksFollow, last_of}
 use Rattle.regalloc2_semantics.specs.Blocks.{HasEdge, target_at}
-use Rattle.regalloc2_semantics.specs.Listing.{op_at}
+use Rattle.regalloc2_function.specs.FunctionValue.{op_at}
 use Rattle.regalloc2_semantics.proofs.SingleDef.{Made, one_made, made_behind, is_made}
 use Rattle.regalloc2_semantics.proofs.Soundness.{well_formed_are_sound}
 use Rattle.regalloc2_semantics.proofs.SingleDef.Made.{by_operand}
 use Rattle.regalloc2_branch_defs.specs.BranchDefs.{IsEdgeInto, DefinesNumber, fixed_definition}
 use Rattle.regalloc2_validate.specs.NoLimits.{AreTaken}
 use Rattle.regalloc2_fastalloc_state.specs.StateParts.{SpillSlotsValue}
-use Rattle.regalloc2_fastalloc_proofs.specs.BlockStart.{no_vreg}
+use Rattle.regalloc2_names.specs.Register.{no_vreg}
 use Rattle.regalloc2_fastalloc_proofs.specs.StoreSteps.{branch_operands, IsConcerned, IsStoredFor, its_own, given}
 use Rattle.regalloc2_fastalloc_proofs.specs.InstSteps.{StateValue}
 use Rattle.regalloc2_fastalloc_proofs.specs.BlockSteps.{AllocsBlocks}
@@ -31,7 +31,7 @@ use Rattle.regalloc2_fastalloc_proofs.specs.Safety.{HasMachine}
 use Rattle.regalloc2_fastalloc_proofs.proofs.Operands.AllocsSoFar.{IsTame}
 use Rattle.regalloc2_fastalloc_proofs.proofs.Slots.BranchKeepsSlotsApart.{AreAlike}
 use Rattle.regalloc2_fastalloc_proofs.proofs.Safety.WellFormedKeepsSafe.{tame_at}
-use Rattle.regalloc2_fastalloc_proofs.proofs.Safety.WalkKeepsMachine.{IsAllocatedFrom, blocks_allocated, fixed_of_machine}
+use Rattle.regalloc2_fastalloc_proofs.proofs.Safety.WalkKeepsMachine.{IsAllocatedFrom, allocs_blocks_allocated, fixed_of_machine}
 use Rattle.regalloc2_fastalloc_proofs.proofs.Safety.StoresKeepSafe.{IsAlike, stored_defines}
 
 -- the last instruction of a block is one of the function
@@ -147,7 +147,8 @@ stored_alike {env} {f} limited ok taken {blank} {places} {old} {t} machine walks
     d = stored_defines f e k slots j v is
 
     allocated : IsAllocatedFrom f last old
-    allocated = (let some = (ok.follow e edge.block).0 in blocks_allocated f blank old 0 places t walks e last (omega arith) edge.block (omega (arith, some))
+    allocated = (let some = (ok.follow e edge.block).0 in allocs_blocks_allocated f blank old 0 places t walks e last (omega arith) edge.block
+        (omega (arith, some))
         (omega (arith, some)))
 
     small : (x : OperandConstraint) (r : Register) → IsConstraintOf (op_at (branch_operands f e) j).vreg.class x → fixed_register x ≡ Some r → r.number < 64

@@ -9,14 +9,14 @@ use Rattle.regalloc2_names.specs.Operand.{OperandValue}
 use Rattle.regalloc2_function.specs.FunctionValue.{FunctionValue, block_at}
 use Rattle.regalloc2_function.specs.Machine.{MachineValue, IsStackPlace, scratch_of}
 use Rattle.regalloc2_function.specs.OutputValue.{MoveValue}
-use Rattle.regalloc2_semantics.specs.Listing.{op_at}
+use Rattle.regalloc2_function.specs.FunctionValue.{op_at}
 use Rattle.regalloc2_semantics.specs.Stores.{Store, moves_by, store_moves, IsOneOf, AreInOrder}
 use Rattle.regalloc2_semantics.specs.Stores.IsOneOf.{first, later}
 use Rattle.regalloc2_branch_defs.specs.BranchDefs.{IsEdgeInto, DefinesNumber, fixed_definition}
 use Rattle.regalloc2_branch_defs.proofs.EdgeNotes.{fixed_defines}
 use Rattle.regalloc2_fastalloc_state.specs.StateParts.{VRegAllocsValue, SpillSlotsValue, IsSlotOrNone, alloc_of, vreg_of_preg, slot_name}
 use Rattle.regalloc2_fastalloc_proofs.specs.InstSteps.{StateValue, MayHold}
-use Rattle.regalloc2_fastalloc_proofs.specs.StoreSteps.{branch_operands, place_by, IsStoredFor, its_own, given, IsConcerned, GetsSlots, no_slot, one_slot}
+use Rattle.regalloc2_fastalloc_proofs.specs.StoreSteps.{branch_operands, fixed_or_slot, IsStoredFor, its_own, given, IsConcerned, GetsSlots, no_slot, one_slot}
 use Rattle.regalloc2_fastalloc_proofs.specs.StoreSteps.{StoresFor, pushed_moves, StoresBranchDefs, none_stored, all_stored}
 use Rattle.regalloc2_fastalloc_proofs.specs.Safety.{IsOfMachine, IsEndOfMove, IsSafeEdit, HasMachine, IsSafe, MayBeLocatedAtOrNone}
 use Rattle.regalloc2_fastalloc_proofs.proofs.Safety.StepsKeepSafe.{MayBeHeld, machine_kept, slot_end}
@@ -54,10 +54,10 @@ more_safe env Known Writes More May t more h = record {
 
 module _ (env : MachineValue) (Known : VirtualRegister → Type 0) (Writes : ℕ → VirtualRegister → ℕ → Type 0) (May : ℕ → Type 0) where
   -- slots that are made for known vregs
-  pub slots_safe : (P : VirtualRegister → Type 0) → ((v : VirtualRegister) → P v → Known v) → (old : StateValue) (s : SpillSlotsValue) →
+  pub gets_slots_safe : (P : VirtualRegister → Type 0) → ((v : VirtualRegister) → P v → Known v) → (old : StateValue) (s : SpillSlotsValue) →
       GetsSlots P old.slots s → IsSafe env Known Writes May old → IsSafe env Known Writes May (with_slots old s)
-  slots_safe P known old s no_slot h = h
-  slots_safe P known old s (one_slot v p m n prev of gives temps) h =
+  gets_slots_safe P known old s no_slot h = h
+  gets_slots_safe P known old s (one_slot v p m n prev of gives temps) h =
       given_safe env Known Writes May (with_slots old m) (with_slots old n) v p gives refl refl (record {
         allocatable = refl;
         fixed_stack = refl;
@@ -65,7 +65,7 @@ module _ (env : MachineValue) (Known : VirtualRegister → Type 0) (Writes : ℕ
         sizes = gives.sizes;
         vregs = gives.long;
         num_temp_slots = temps;
-      }) (slots_safe P known old m prev h)
+      }) (gets_slots_safe P known old m prev h)
 
   -- moves of which each is safe are safe edits, as they are pushed
   pushed_safe : (slots : SpillSlotsValue) (point : ℕ) (ms : List MoveValue) → All (λ m. IsSafeEdit env Known Writes slots May (point, m)) ms →
@@ -145,14 +145,14 @@ module _ (env : MachineValue) (Known : VirtualRegister → Type 0) (Writes : ℕ
     abbrev o : OperandValue
     o = op_at (branch_operands f e) j
 
-    from_end : (d : Option Register) → fixed_definition o ≡ d → x.from ≡ place_by d (slot_name new.slots o.vreg.number) →
+    from_end : (d : Option Register) → fixed_definition o ≡ d → x.from ≡ fixed_or_slot d (slot_name new.slots o.vreg.number) →
         IsEndOfMove env new.slots o.vreg x.from
     from_end (Some g) is at = subst (IsEndOfMove env new.slots o.vreg) (sym at) (inl ((alike.fixed g is).0, (alike.fixed g is).1 ∙ sym alike.class))
     from_end None is at = subst (IsEndOfMove env new.slots o.vreg) (sym at)
         (slot_end env new.slots o.vreg (slot_name new.slots o.vreg.number) refl (λ n. r.there (at ∙ n)) (below o.vreg.number))
 
     direct_end : is_memory old.fixed_stack x.from ≡ false → (d : Option Register) → fixed_definition o ≡ d →
-        x.from ≡ place_by d (slot_name new.slots o.vreg.number) → IsEndOfMove env new.slots v x.from
+        x.from ≡ fixed_or_slot d (slot_name new.slots o.vreg.number) → IsEndOfMove env new.slots v x.from
     direct_end flat (Some g) is at = subst (IsEndOfMove env new.slots v) (sym at) (inl (alike.fixed g is))
     direct_end flat None is at = absurd (in_memory (slot_name new.slots o.vreg.number) (below o.vreg.number) (λ n. r.there (at ∙ n))
         (subst (λ p. is_memory old.fixed_stack p ≡ false) at flat))
@@ -223,16 +223,16 @@ module _ (env : MachineValue) (Known : VirtualRegister → Type 0) (Writes : ℕ
       (all_stores slots point ss (λ x is. h x (later is)))
 
   -- all that a block's beginning stores
-  pub stores_kept : (f : FunctionValue) (b : ℕ) → May (before (block_at f b).range.first) →
+  pub stores_branch_defs_kept : (f : FunctionValue) (b : ℕ) → May (before (block_at f b).range.first) →
       ((e k : ℕ) (v : VirtualRegister) → IsEdgeInto f b e k → IsConcerned f e k v → Known v) →
       ((e k j : ℕ) (v : VirtualRegister) (slots : SpillSlotsValue) → IsEdgeInto f b e k → IsStoredFor f e k slots j v → IsAlike env f e j v) →
       ((e k : ℕ) (v : VirtualRegister) (n : ℕ) → IsEdgeInto f b e k → IsConcerned f e k v → Writes (before (block_at f b).range.first) v n) →
       (old new : StateValue) → StoresBranchDefs f b old new → IsSafe env Known Writes May old → IsSafe env Known Writes May new
-  stores_kept f b can concerned alike written old new (none_stored none same) h =
+  stores_branch_defs_kept f b can concerned alike written old new (none_stored none same) h =
       subst (IsSafe env Known Writes May) (sym same) h
-  stores_kept f b can concerned alike written old new (all_stored e k edge s) h =
+  stores_branch_defs_kept f b can concerned alike written old new (all_stored e k edge s) h =
       let point : ℕ = before (block_at f b).range.first in
-      let mid : IsSafe env Known Writes May (with_slots old new.slots) = slots_safe env Known Writes May (IsConcerned f e k)
+      let mid : IsSafe env Known Writes May (with_slots old new.slots) = gets_slots_safe env Known Writes May (IsConcerned f e k)
       (λ v is. concerned e k v edge is) old new.slots s.slots h in
       let moves : All (λ m. IsSafeEdit env Known Writes new.slots May (point, m)) (store_moves s.stores) = all_stores new.slots point s.stores (λ x is.
       let one = s.each x is in

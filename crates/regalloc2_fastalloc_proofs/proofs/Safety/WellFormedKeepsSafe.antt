@@ -1,12 +1,12 @@
 -- The whole walk over a well-formed function keeps the tables safe, and each operand has a good place.
 use Rattle.std.proofs.Common.{ℕ, ◌<◌, length}
 use Rattle.std.proofs.lemmas.List.Elements.{All-get_or}
-use Rattle.regalloc2_function.specs.FunctionValue.{FunctionValue, IsLimited, inst_at, no_inst}
+use Rattle.regalloc2_function.specs.FunctionValue.{FunctionValue, IsLimited, inst_at, no_inst, no_operand}
 use Rattle.regalloc2_function.specs.Machine.{MachineValue}
 use Rattle.regalloc2_function.specs.WellFormed.{IsWellFormed, ReusesAreSound}
 use Rattle.regalloc2_semantics.proofs.SingleDef.{Made}
-use Rattle.regalloc2_validate.specs.NoLimits.{IsTaken, AreTaken}
-use Rattle.regalloc2_validate.specs.Constraints.{no_operand, op_at}
+use Rattle.regalloc2_validate.specs.NoLimits.{IsTakenOperand, AreTaken}
+use Rattle.regalloc2_function.specs.FunctionValue.{op_at}
 use Rattle.regalloc2_fastalloc_proofs.proofs.Operands.AllocsSoFar.{IsTame}
 use Rattle.regalloc2_fastalloc_proofs.proofs.Operands.WellFormedInsts.{orderly, knows}
 use Rattle.regalloc2_fastalloc_proofs.proofs.Safety.OperandAssumptions.{tame_of}
@@ -16,7 +16,8 @@ pub tame_at : (env : MachineValue) (f : FunctionValue) → IsLimited f → IsWel
     IsTame (Made f) (inst_at f i).operands
 tame_at env f limited ok taken i lt =
     let o = orderly env f limited ok i lt in
-    let t : (k : ℕ) → k < length (inst_at f i).operands → IsTaken (op_at (inst_at f i).operands k) = λ k less. All-get_or IsTaken (inst_at f i).operands k
+    let t : (k : ℕ) → k < length (inst_at f i).operands → IsTakenOperand (op_at (inst_at f i).operands k) = λ k less. All-get_or IsTakenOperand
+        (inst_at f i).operands k
     no_operand less (taken i lt) in
     tame_of env (Made f) (inst_at f i) (knows env f limited ok i lt) o.once o.allocated (All-get_or (ReusesAreSound env) f.insts i no_inst lt ok.reuses)
     (λ k less. (t k less).of_class) (λ k n less. (t k less).unlimited n)

@@ -12,9 +12,10 @@ use Rattle.regalloc2_names.specs.Point.{before}
 use Rattle.regalloc2_function.specs.FunctionValue.{FunctionValue, slot_size, inst_at}
 use Rattle.regalloc2_function.specs.OutputValue.{OutputValue, DebugLocation, MoveValue, allocs_of, place_at}
 use Rattle.regalloc2_function.specs.WellFormed.{EachOperand}
-use Rattle.regalloc2_function.specs.Slots.{Owner, OfVReg, OfBranch, class_of_owner, units_of as units_of_owner, first_unit, IsSlotOf, IsOfClass, AreSlotsOwned}
+use Rattle.regalloc2_function.specs.Slots.{Owner, OfVReg, OfBranch, class_of_owner, units_of_owner, first_unit, IsSlotOf, IsOfClass, AreSlotsOwned}
 use Rattle.regalloc2_fastalloc_state.specs.StateParts.{SpillSlotsValue, slot_name, units_of}
-use Rattle.regalloc2_fastalloc_proofs.specs.SlotLayout.{OwnedSlot, units_in, start_in, start_of, end_of, IsLaidOut, AreApart, AreLaidOut, IsNamed, IsEndOf}
+use Rattle.regalloc2_fastalloc_proofs.specs.SlotLayout.{OwnedSlot, units_in, start_in, start_of_slot, end_of_slot, IsLaidOut, AreSlotsApart, AreLaidOut}
+use Rattle.regalloc2_fastalloc_proofs.specs.SlotLayout.{IsNameOfSlot, IsEndOf}
 use Rattle.regalloc2_fastalloc_proofs.specs.SlotLayout.{IsOfOneClass, ServesAt}
 
 -- the slot of a vreg that is known
@@ -55,7 +56,8 @@ name_is_unit false size name some named = (omega arith, omega (arith, some))
 abbrev pub NamesDiffer : List OwnedSlot → Type 0
 NamesDiffer made = (i j : ℕ) (d : OwnedSlot) → i < j → j < length made → (slice_index_or made i d).name ≢ (slice_index_or made j d).name
 
-names_differ : (sizes : List ℕ) (by_last : Bool) (count : ℕ) (made : List OwnedSlot) → All (IsLaidOut sizes by_last count) made → AreApart sizes by_last made →
+names_differ : (sizes : List ℕ) (by_last : Bool) (count : ℕ) (made : List OwnedSlot) → All (IsLaidOut sizes by_last count) made →
+    AreSlotsApart sizes by_last made →
     NamesDiffer made
 names_differ sizes by_last count made each apart i j d lt less e =
     let a = each i d (omega (arith, lt, less)) in
@@ -100,14 +102,15 @@ module _ (Known : VirtualRegister → Type 0) (f : FunctionValue) (s : SpillSlot
 
   -- two slots are one, or lie apart and have two owners
   abbrev AreTwo : OwnedSlot → OwnedSlot → Type 0
-  AreTwo c x = (c.owner ≢ x.owner) × ((end_of s.sizes s.by_last c ≤ start_of s.sizes s.by_last x) ⊎ (end_of s.sizes s.by_last x ≤ start_of s.sizes s.by_last c))
+  AreTwo c x = (c.owner ≢ x.owner) × ((end_of_slot s.sizes s.by_last c ≤ start_of_slot s.sizes s.by_last x)
+      ⊎ (end_of_slot s.sizes s.by_last x ≤ start_of_slot s.sizes s.by_last c))
 
   ordered : (i j : ℕ) → i < j → j < length made → (c x d : OwnedSlot) → slice_index_or made i d ≡ c → slice_index_or made j d ≡ x → AreTwo c x × AreTwo x c
   ordered i j lt less c x d a b =
       let differ : c.owner ≢ x.owner = λ e. h.differ i j d lt less (ap (λ (y : OwnedSlot). y.owner) a ∙ e ∙ sym (ap (λ (y : OwnedSlot). y.owner) b)) in
-      let behind : end_of s.sizes s.by_last x ≤ start_of s.sizes s.by_last c =
-      subst (λ y. end_of s.sizes s.by_last y ≤ start_of s.sizes s.by_last c) b
-      (subst (λ y. end_of s.sizes s.by_last (slice_index_or made j d) ≤ start_of s.sizes s.by_last y) a (h.apart i j d lt less)) in
+      let behind : end_of_slot s.sizes s.by_last x ≤ start_of_slot s.sizes s.by_last c =
+      subst (λ y. end_of_slot s.sizes s.by_last y ≤ start_of_slot s.sizes s.by_last c) b
+      (subst (λ y. end_of_slot s.sizes s.by_last (slice_index_or made j d) ≤ start_of_slot s.sizes s.by_last y) a (h.apart i j d lt less)) in
       ((differ, inr behind), (λ e. differ (sym e), inl behind))
 
   -- two slots that were made are one, or have two owners and units apart
@@ -131,7 +134,7 @@ module _ (Known : VirtualRegister → Type 0) (f : FunctionValue) (s : SpillSlot
       (met : (c : OwnedSlot) → Contains made c → (i : ℕ) (class : RegClass) (time : ℕ) → c.owner ≡ OfBranch i class time → ((i < length f.insts)
       × ((inst_at f i).is_branch ≡ true)) × (time < 2)) where
     -- the slot of a known vreg was made
-    known_named : (n : ℕ) → IsSlotOfKnown Known s n → IsNamed made n
+    known_named : (n : ℕ) → IsSlotOfKnown Known s n → IsNameOfSlot made n
     known_named n (v, known, is) = (record { owner = OfVReg v; name = n }, h.known v known n is, refl)
 
     -- and is that vreg's
@@ -139,7 +142,7 @@ module _ (Known : VirtualRegister → Type 0) (f : FunctionValue) (s : SpillSlot
     own_slot v n known is = owner_found _ (h.known v known n is)
 
     -- an end of a move names a slot that was made, and that serves there
-    end_named : (point : ℕ) (class : RegClass) (p : Place) (n : ℕ) → IsEndOf made point class p → p ≡ InSlot n → IsNamed made n
+    end_named : (point : ℕ) (class : RegClass) (p : Place) (n : ℕ) → IsEndOf made point class p → p ≡ InSlot n → IsNameOfSlot made n
         × ServesAt point (owner_in made n)
     end_named point class p n is at =
         let x = subst (IsEndOf made point class) at is in
@@ -153,19 +156,19 @@ module _ (Known : VirtualRegister → Type 0) (f : FunctionValue) (s : SpillSlot
         subst (ServesAt point) of (⊎_elim (λ from. (end_named point m.0 _ n m.1 from).1) (λ to. (end_named point m.0 _ n m.2 to).1) names)
 
     -- so does whatever is in the output
-    named : (n : ℕ) → IsSlotOf f out n → IsNamed made n
+    named : (n : ℕ) → IsSlotOf f out n → IsNameOfSlot made n
     named n (inl (k, x, lt, at, is)) = known_named n (allocs k x lt n (at ∙ is))
     named n (inr (inl (k, x, lt, at, is))) = (let m = subst (IsOfOneClass made) at (moves k x lt) in
         ⊎_elim (λ from. (end_named x.0 m.0 _ n m.1 from).0) (λ to. (end_named x.0 m.0 _ n m.2 to).0) is)
     named n (inr (inr (k, x, lt, at, is))) = known_named n (shown k x lt n (subst (λ (d : DebugLocation). d.place ≡ InSlot n) (sym at) is))
 
     -- the owner's units, and the first of them, are those that were made
-    first_is : (c : OwnedSlot) → first_unit f c.owner c.name ≡ start_of s.sizes s.by_last c
+    first_is : (c : OwnedSlot) → first_unit f c.owner c.name ≡ start_of_slot s.sizes s.by_last c
     first_is c = ap (λ z. start_in f.named_by_last_slot z c.name) (sizes (class_of_owner c.owner))
         ∙ ap (λ b. start_in b (units_in s.sizes c.owner) c.name) by_last
 
-    owner_is : (n : ℕ) → IsNamed made n → (c : OwnedSlot) × Contains made c × (c.name ≡ n) × (owner_in made n ≡ c.owner)
-        × (first_unit f (owner_in made n) n ≡ start_of s.sizes s.by_last c) × (units_of_owner f (owner_in made n) ≡ units_in s.sizes c.owner)
+    owner_is : (n : ℕ) → IsNameOfSlot made n → (c : OwnedSlot) × Contains made c × (c.name ≡ n) × (owner_in made n ≡ c.owner)
+        × (first_unit f (owner_in made n) n ≡ start_of_slot s.sizes s.by_last c) × (units_of_owner f (owner_in made n) ≡ units_in s.sizes c.owner)
     owner_is n (c, there, is) =
         let mine : owner_in made n ≡ c.owner = ap (owner_in made) (sym is) ∙ owner_found c there in (
           c,
@@ -206,7 +209,7 @@ module _ (Known : VirtualRegister → Type 0) (f : FunctionValue) (s : SpillSlot
             omega (arith, l, u, e);
         aligned = λ n a.
             let x = owner_is n (named n a) in
-            ap (λ z. z % units_of_owner f (owner_in made n)) x.4 ∙ ap (λ z. start_of s.sizes s.by_last x.0 % z) x.5 ∙ (lies x.0 x.1).aligned;
+            ap (λ z. z % units_of_owner f (owner_in made n)) x.4 ∙ ap (λ z. start_of_slot s.sizes s.by_last x.0 % z) x.5 ∙ (lies x.0 x.1).aligned;
         within = λ n a.
             let x = owner_is n (named n a) in
             let w = (lies x.0 x.1).within in

@@ -6,7 +6,7 @@ use Rattle.std.proofs.Math.Nat.{mul-le-mul_right}
 use Rattle.std.proofs.lemmas.List.Elements.{All-append, All-push, All-contains}
 use Rattle.regalloc2_names.specs.declared.RegClass.{RegClass}
 use Rattle.regalloc2_names.specs.declared.RegClass.TheVariants.{Int, Float, Vector}
-use Rattle.regalloc2_names.specs.Register.{Register, VirtualRegister}
+use Rattle.regalloc2_names.specs.Register.{Register, VirtualRegister, no_vreg}
 use Rattle.regalloc2_names.specs.Place.{Place, NoPlace}
 use Rattle.regalloc2_names.specs.Point.{before}
 use Rattle.regalloc2_function.specs.FunctionValue.{FunctionValue, block_at}
@@ -19,7 +19,7 @@ use Rattle.regalloc2_fastalloc_state.specs.StateParts.{units_of, later_slot, lat
 use Rattle.regalloc2_fastalloc_state.specs.ScratchPool.{Moves, pushed}
 use Rattle.regalloc2_fastalloc_state.proofs.SlotsAsPlaces.{slot_grows}
 use Rattle.regalloc2_fastalloc_proofs.specs.InstSteps.{StateValue}
-use Rattle.regalloc2_fastalloc_proofs.specs.BlockStart.{no_vreg, ReloadsParam, nowhere, comes, ReloadsParams, none_begun, one_begun}
+use Rattle.regalloc2_fastalloc_proofs.specs.BlockStart.{ReloadsParam, nowhere, comes, ReloadsParams, none_begun, one_begun}
 use Rattle.regalloc2_fastalloc_proofs.specs.BlockStart.{ReloadsAtBegin}
 use Rattle.regalloc2_fastalloc_proofs.specs.BranchSteps.{SpillsArgument, from_register, in_slot, ClassMove, of_class, GathersEdgeMoves, none_gathered}
 use Rattle.regalloc2_fastalloc_proofs.specs.BranchSteps.{one_gathered, own_argument, GathersMoves, no_edge, one_edge, IsScratchUsed, IsOrdered, OrdersMoves}
@@ -33,9 +33,9 @@ use Rattle.regalloc2_fastalloc_proofs.proofs.Slots.NewSlotsApart.{LaysOutTempSlo
 use Rattle.regalloc2_fastalloc_proofs.proofs.Slots.StepsKeepSlotsApart.{IsOwnPlace, IsEndOrNone, KeepsToClass, IsOfMet, IsClassed, IsClassedTurn}
 use Rattle.regalloc2_fastalloc_proofs.proofs.Slots.StepsKeepSlotsApart.{StepClassed, slot_own, own_grows, moves_grow, dedicated_kept, own_end}
 use Rattle.regalloc2_fastalloc_proofs.proofs.Slots.StepsKeepSlotsApart.{classed_same, to_slot_only, left_in_slot, only_slot}
-use Rattle.regalloc2_fastalloc_proofs.proofs.Slots.StepsKeepSlotsApart.{clears_classed, evictions_classed, sends_classed}
-use Rattle.regalloc2_fastalloc_proofs.proofs.Changes.InstChanges.{clears_changes}
-use Rattle.regalloc2_fastalloc_proofs.proofs.Changes.WalkChanges.{settles_changes, pushes_changes}
+use Rattle.regalloc2_fastalloc_proofs.proofs.Slots.StepsKeepSlotsApart.{evicts_preg_classed, evictions_classed, adds_move_if_classed}
+use Rattle.regalloc2_fastalloc_proofs.proofs.Changes.InstChanges.{evicts_preg_changes}
+use Rattle.regalloc2_fastalloc_proofs.proofs.Changes.WalkChanges.{spills_argument_changes, pushes_changes}
 use Rattle.regalloc2_fastalloc_proofs.proofs.Changes.Evictions.{regs_evict}
 use Rattle.regalloc2_fastalloc_proofs.proofs.Slots.InstKeepsSlotsApart.{fresh_classed}
 
@@ -118,16 +118,16 @@ module _ (Known : VirtualRegister → Type 0) (same : (v w : VirtualRegister) �
       pub step : StepClassed Known named Met u new
       pub own : IsOwnPlace new.slots a s
 
-    settles_classed : (a : VirtualRegister) (s : Place) (t u : InstRegs) (old new : StateValue) → SpillsArgument point a s t u old new → Known a →
+    spills_argument_classed : (a : VirtualRegister) (s : Place) (t u : InstRegs) (old new : StateValue) → SpillsArgument point a s t u old new → Known a →
         IsClassed Known named Met old → IsClassedTurn t → Argued a s u new
-    settles_classed a s t u old new (from_register r m at gives places edits machine order clears) known h ht =
+    spills_argument_classed a s t u old new (from_register r m at gives places edits machine order clears) known h ht =
         record {
-          step = clears_classed Known same named Met point r t u m new clears
+          step = evicts_preg_classed Known same named Met point r t u m new clears
               (only_slot Known same named Met old m a s known gives places machine edits h) ht;
-          own = own_grows m.slots new.slots a s (changes_stay (clears_changes (λ q r. tt) clears))
+          own = own_grows m.slots new.slots a s (changes_stay (evicts_preg_changes (λ q r. tt) clears))
               (slot_own m.slots a s m.slots.count gives.gives gives.below);
         }
-    settles_classed a s t u old new (in_slot away gives settles edits machine order eu) known h ht = record {
+    spills_argument_classed a s t u old new (in_slot away gives settles edits machine order eu) known h ht = record {
       step = record {
         classed = to_slot_only Known same named Met old new a s known gives settles machine edits h;
         inst_regs = subst IsClassedTurn (sym eu) ht;
@@ -140,22 +140,22 @@ module _ (Known : VirtualRegister → Type 0) (same : (v w : VirtualRegister) �
       pub step : StepClassed Known named Met u new
       pub passed : ArePassed Known new.slots given
 
-    edge_classed : {Own : VirtualRegister → Type 0} (params arguments : List VirtualRegister) → ((j : ℕ) → j < length params →
+    gathers_edge_moves_classed : {Own : VirtualRegister → Type 0} (params arguments : List VirtualRegister) → ((j : ℕ) → j < length params →
         AreAlike Known (slice_index_or params j no_vreg) (slice_index_or arguments j no_vreg)) → (t : InstRegs) (old : StateValue) (before_it : List ClassMove)
         → IsClassed Known named Met old → IsClassedTurn t → ArePassed Known old.slots before_it →
         (k : ℕ) (u : InstRegs) (new : StateValue) (given : List ClassMove) → GathersEdgeMoves Own point params arguments t old before_it k u new given →
         GatherClassed u new given
-    edge_classed params arguments alike t old before_it h ht begin k u new given none_gathered =
+    gathers_edge_moves_classed params arguments alike t old before_it h ht begin k u new given none_gathered =
         record { step = classed_same Known same named Met old old t t refl refl h ht; passed = begin }
-    edge_classed params arguments alike t old before_it h ht begin k u new given
+    gathers_edge_moves_classed params arguments alike t old before_it h ht begin k u new given
         (one_gathered j some to from w x m n o lt prev gives places edits machine order settles foreign) =
-        let p = edge_classed params arguments alike t old before_it h ht begin j w m some prev in
+        let p = gathers_edge_moves_classed params arguments alike t old before_it h ht begin j w m some prev in
         let v : VirtualRegister = slice_index_or params j no_vreg in
         let a : VirtualRegister = slice_index_or arguments j no_vreg in
         let known = alike j lt in
         let first : IsClassed Known named Met n = only_slot Known same named Met m n v to known.0 gives places machine edits p.step.classed in
-        let second : Argued a from u new = settles_classed a from w u n new settles known.1 first p.step.inst_regs in
-        let later : SlotsStay n.slots new.slots = changes_stay (settles_changes (λ q r. tt) tt tt settles) in
+        let second : Argued a from u new = spills_argument_classed a from w u n new settles known.1 first p.step.inst_regs in
+        let later : SlotsStay n.slots new.slots = changes_stay (spills_argument_changes (λ q r. tt) tt tt settles) in
         record {
           step = second.step;
           passed = All-push (λ (g : ClassMove). IsPassed Known new.slots g.class g.from × IsPassed Known new.slots g.class g.to) some
@@ -165,46 +165,47 @@ module _ (Known : VirtualRegister → Type 0) (same : (v w : VirtualRegister) �
                 (v, known.0, known.2, own_grows n.slots new.slots v to later (slot_own n.slots v to n.slots.count gives.gives gives.below)),
               );
         }
-    edge_classed params arguments alike t old before_it h ht begin k u new given (own_argument j some w m lt prev own) =
-        edge_classed params arguments alike t old before_it h ht begin j u new given prev
+    gathers_edge_moves_classed params arguments alike t old before_it h ht begin k u new given (own_argument j some w m lt prev own) =
+        gathers_edge_moves_classed params arguments alike t old before_it h ht begin j u new given prev
 
-    gathers_classed : (f : FunctionValue) (b : ℕ)
+    gathers_moves_classed : (f : FunctionValue) (b : ℕ)
         → ((k j : ℕ) → k < length (block_at f b).succs → j < length (block_at f (target_at f b k)).params →
         AreAlike Known (slice_index_or (block_at f (target_at f b k)).params j no_vreg) (slice_index_or (arguments_at f b k) j no_vreg))
         → (t : InstRegs) (old : StateValue) → IsClassed Known named Met old → IsClassedTurn t →
         (k : ℕ) (u : InstRegs) (new : StateValue) (given : List ClassMove) → GathersMoves f b point t old k u new given → GatherClassed u new given
-    gathers_classed f b alike t old h ht k u new given no_edge = record {
+    gathers_moves_classed f b alike t old h ht k u new given no_edge = record {
       step = classed_same Known same named Met old old t t refl refl h ht;
       passed = λ j d lt. absurd (omega (arith, lt));
     }
-    gathers_classed f b alike t old h ht k u new given (one_edge j some more w x m n lt prev edge) =
-        let p = gathers_classed f b alike t old h ht j w m some prev in
-        edge_classed (block_at f (target_at f b j)).params (arguments_at f b j) (λ i less. alike j i lt less) w m some p.step.classed p.step.inst_regs
+    gathers_moves_classed f b alike t old h ht k u new given (one_edge j some more w x m n lt prev edge) =
+        let p = gathers_moves_classed f b alike t old h ht j w m some prev in
+        gathers_edge_moves_classed (block_at f (target_at f b j)).params (arguments_at f b j) (λ i less. alike j i lt less) w m some p.step.classed
+            p.step.inst_regs
         p.passed (length (block_at f (target_at f b j)).params) u new given edge
 
     -- a block's beginning
-    begins_classed : (v : VirtualRegister) (t u : InstRegs) (old new : StateValue) → ReloadsParam point v t u old new → Known v →
+    reloads_param_classed : (v : VirtualRegister) (t u : InstRegs) (old new : StateValue) → ReloadsParam point v t u old new → Known v →
         IsClassed Known named Met old → IsClassedTurn t → StepClassed Known named Met u new
-    begins_classed v t u old new (nowhere none eu en) known h ht = classed_same Known same named Met old new t u en eu h ht
-    begins_classed v t u old new (comes s m there gives settles edits machine order sends) known h ht =
+    reloads_param_classed v t u old new (nowhere none eu en) known h ht = classed_same Known same named Met old new t u en eu h ht
+    reloads_param_classed v t u old new (comes s m there gives settles edits machine order sends) known h ht =
         let q : Place = alloc_of old.places v.number in
         let stay : SlotsStay old.slots m.slots = gives_stay old.slots m.slots v s gives in
-        sends_classed Known same named Met point v sends known (slot_own m.slots v s m.slots.count gives.gives gives.below)
+        adds_move_if_classed Known same named Met point v sends known (slot_own m.slots v s m.slots.count gives.gives gives.below)
         (own_grows old.slots m.slots v q stay (h.places v known)) (left_in_slot Known same named Met old m v s known gives settles machine edits h) ht
 
-    parameters_classed : (params : List VirtualRegister) → ((k : ℕ) → k < length params → Known (slice_index_or params k no_vreg)) →
+    reloads_params_classed : (params : List VirtualRegister) → ((k : ℕ) → k < length params → Known (slice_index_or params k no_vreg)) →
         (t : InstRegs) (old : StateValue) → IsClassed Known named Met old → IsClassedTurn t
         → (k : ℕ) (u : InstRegs) (new : StateValue) → ReloadsParams point params t old k u new → StepClassed Known named Met u new
-    parameters_classed params known t old h ht k u new none_begun = classed_same Known same named Met old old t t refl refl h ht
-    parameters_classed params known t old h ht k u new (one_begun j w x m n lt prev one) =
-        let p = parameters_classed params known t old h ht j w m prev in
-        begins_classed (slice_index_or params j no_vreg) w u m new one (known j lt) p.classed p.inst_regs
+    reloads_params_classed params known t old h ht k u new none_begun = classed_same Known same named Met old old t t refl refl h ht
+    reloads_params_classed params known t old h ht k u new (one_begun j w x m n lt prev one) =
+        let p = reloads_params_classed params known t old h ht j w m prev in
+        reloads_param_classed (slice_index_or params j no_vreg) w u m new one (known j lt) p.classed p.inst_regs
 
     -- a block's beginning keeps slots apart and moves within a class
-    pub begins_block_classed : (params : List VirtualRegister) → ((k : ℕ) → k < length params → Known (slice_index_or params k no_vreg)) →
+    pub reloads_at_begin_classed : (params : List VirtualRegister) → ((k : ℕ) → k < length params → Known (slice_index_or params k no_vreg)) →
         (old new : StateValue) → ReloadsAtBegin point params old new → IsClassed Known named Met old → IsClassed Known named Met new
-    begins_block_classed params known old new b h =
-        let p = parameters_classed params known b.began old h (fresh_classed b.began b.fresh.scratch) (length params) b.begun b.middle b.parameters in
+    reloads_at_begin_classed params known old new b h =
+        let p = reloads_params_classed params known b.began old h (fresh_classed b.began b.fresh.scratch) (length params) b.begun b.middle b.parameters in
         (evictions_classed Known same named Met point (regs_evict b.empties) p.classed p.inst_regs).classed
 
   -- the moves of one class are ordered and pushed before the branch
@@ -286,14 +287,14 @@ module _ (Known : VirtualRegister → Type 0) (same : (v w : VirtualRegister) �
       (ordered_classed Met branch class first_time inst_regs given old p.middle p.made p.orders h passed ht)
 
   -- a branch passes its arguments
-  pub passes_classed : {Met More : ℕ → RegClass → Type 0} {f : FunctionValue} {b i : ℕ} → ((c : RegClass) → Met i c → ⊥) →
+  pub processes_branch_classed : {Met More : ℕ → RegClass → Type 0} {f : FunctionValue} {b i : ℕ} → ((c : RegClass) → Met i c → ⊥) →
       ((j : ℕ) (c : RegClass) → Met j c → More j c) → ((c : RegClass) → More i c)
       → ((k j : ℕ) → k < length (block_at f b).succs → j < length (block_at f (target_at f b k)).params →
       AreAlike Known (slice_index_or (block_at f (target_at f b k)).params j no_vreg) (slice_index_or (arguments_at f b k) j no_vreg))
       → {t u : InstRegs} {old new : StateValue} → ProcessesBranch f b i t u old new → IsClassed Known named Met old → IsClassedTurn t
       → IsClassed Known named More new
-  passes_classed {Met} {More} {f} {b} {i} first_time more mine alike {t} {u} {old} {new} p h ht =
-      let x = gathers_classed Met (before i) f b alike t old h ht (length (block_at f b).succs) u p.gathered p.given p.gathers in
+  processes_branch_classed {Met} {More} {f} {b} {i} first_time more mine alike {t} {u} {old} {new} p h ht =
+      let x = gathers_moves_classed Met (before i) f b alike t old h ht (length (block_at f b).succs) u p.gathered p.given p.gathers in
       let One : ℕ → RegClass → Type 0 = AndMet Met i Int in
       let Two : ℕ → RegClass → Type 0 = AndMet One i Float in
       let Three : ℕ → RegClass → Type 0 = AndMet Two i Vector in

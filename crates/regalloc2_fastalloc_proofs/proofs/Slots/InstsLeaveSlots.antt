@@ -14,7 +14,7 @@ use Rattle.regalloc2_semantics.specs.BlockByPoints.{at_point, listed}
 use Rattle.regalloc2_semantics.proofs.UnwrittenPlaces.{IsReadAt, Keeps}
 use Rattle.regalloc2_semantics.proofs.Order.{ends_before, ends_within}
 use Rattle.regalloc2_fastalloc_state.specs.StateParts.{slot_name}
-use Rattle.regalloc2_validate.specs.Constraints.{op_at}
+use Rattle.regalloc2_function.specs.FunctionValue.{op_at}
 use Rattle.regalloc2_fastalloc_proofs.specs.InstSteps.{StateValue}
 use Rattle.regalloc2_fastalloc_proofs.specs.Safety.{MayBeLocatedAt, IsSafe}
 use Rattle.regalloc2_fastalloc_proofs.proofs.Safety.StepsKeepState.{slot_in, IsWhole, slot_no_register}

@@ -13,7 +13,8 @@ use Rattle.regalloc2_names.specs.Register.{VirtualRegister}
 use Rattle.regalloc2_names.specs.Place.{Place, NoPlace, InSlot}
 use Rattle.regalloc2_function.specs.Slots.{Owner, OfVReg, OfBranch, class_of_owner}
 use Rattle.regalloc2_fastalloc_state.specs.StateParts.{SpillSlotsValue, GetsSpillSlot, AddsTempSlots, slot_name, new_slot, later_slot, later_end, units_of}
-use Rattle.regalloc2_fastalloc_proofs.specs.SlotLayout.{OwnedSlot, start_in, start_of, end_of, IsLaidOut, AreApart, HaveDistinctOwners, IsOwn, AreLaidOut}
+use Rattle.regalloc2_fastalloc_proofs.specs.SlotLayout.{OwnedSlot, start_in, start_of_slot, end_of_slot, IsLaidOut, AreSlotsApart, HaveDistinctOwners}
+use Rattle.regalloc2_fastalloc_proofs.specs.SlotLayout.{IsOwnSlot, AreLaidOut}
 use Rattle.regalloc2_fastalloc_proofs.specs.SlotLayout.{LaysOut}
 use Rattle.regalloc2_fastalloc_proofs.proofs.Slots.SlotsGrow.{gives_stay}
 use Rattle.regalloc2_fastalloc_proofs.proofs.Slots.StepsKeepSlots.{cases_none}
@@ -58,14 +59,15 @@ later_laid s owner k count some upto =
 
 -- where it starts
 pub later_start : (s : SpillSlotsValue) (owner : Owner) (k : ℕ) → 0 < units_of s (class_of_owner owner)
-    → start_of s.sizes s.by_last (record { owner = owner; name = later_slot s (class_of_owner owner) k }) ≡ next_multiple_of s.count
+    → start_of_slot s.sizes s.by_last (record { owner = owner; name = later_slot s (class_of_owner owner) k }) ≡ next_multiple_of s.count
     (units_of s (class_of_owner owner)) + k * units_of s (class_of_owner owner)
 later_start s owner k some = named_start s.by_last (next_multiple_of s.count (units_of s (class_of_owner owner)) + k * units_of s (class_of_owner owner))
     (units_of s (class_of_owner owner)) some
 
 -- one more of a list
-apart_more : (sizes : List ℕ) (by_last : Bool) (c : OwnedSlot) (made : List OwnedSlot) → All (λ x. end_of sizes by_last x ≤ start_of sizes by_last c) made →
-    AreApart sizes by_last made → AreApart sizes by_last (c ∷ made)
+apart_more : (sizes : List ℕ) (by_last : Bool) (c : OwnedSlot) (made : List OwnedSlot) →
+    All (λ x. end_of_slot sizes by_last x ≤ start_of_slot sizes by_last c) made →
+    AreSlotsApart sizes by_last made → AreSlotsApart sizes by_last (c ∷ made)
 apart_more sizes by_last c made below h zero zero d lt less = absurd (omega (arith, lt))
 apart_more sizes by_last c made below h zero (suc j) d lt less = below j d (omega (arith, less))
 apart_more sizes by_last c made below h (suc i) zero d lt less = absurd (omega (arith, lt))
@@ -87,28 +89,28 @@ module _ (Known : VirtualRegister → Type 0) (s t : SpillSlotsValue) (made : Li
   still_laid names = record {
     each = subst (λ z. All (IsLaidOut z t.by_last t.count) made) (sym sizes)
         (subst (λ z. All (IsLaidOut s.sizes z t.count) made) (sym by_last) (λ k d lt. laid_upto s.sizes s.by_last s.count t.count _ grows (h.each k d lt)));
-    apart = subst (λ z. AreApart z t.by_last made) (sym sizes) (subst (λ z. AreApart s.sizes z made) (sym by_last) h.apart);
+    apart = subst (λ z. AreSlotsApart z t.by_last made) (sym sizes) (subst (λ z. AreSlotsApart s.sizes z made) (sym by_last) h.apart);
     differ = h.differ;
     known = λ v is k at. h.known v is k (sym (names v.number) ∙ at);
     own = λ k d lt v e. names v.number ∙ h.own k d lt v e;
   }
 
   -- a slot is made at or past the count
-  pub one_more_laid : (c : OwnedSlot) → s.count ≤ start_of s.sizes s.by_last c → IsLaidOut s.sizes s.by_last t.count c → All (λ x. c.owner ≢ x.owner) made
+  pub one_more_laid : (c : OwnedSlot) → s.count ≤ start_of_slot s.sizes s.by_last c → IsLaidOut s.sizes s.by_last t.count c → All (λ x. c.owner ≢ x.owner) made
       → ((v : VirtualRegister) → Known v → (k : ℕ) → slot_name t v.number ≡ InSlot k → Contains (c ∷ made) (record { owner = OfVReg v; name = k })) →
-      IsOwn t c → All (IsOwn t) made → AreLaidOut Known t (c ∷ made)
+      IsOwnSlot t c → All (IsOwnSlot t) made → AreLaidOut Known t (c ∷ made)
   one_more_laid c past lies other known mine own =
       let all : All (IsLaidOut s.sizes s.by_last t.count) (c ∷ made) = All-cons (IsLaidOut s.sizes s.by_last t.count) c made lies
       (λ k d lt. laid_upto s.sizes s.by_last s.count t.count _ grows (h.each k d lt)) in
-      let behind : AreApart s.sizes s.by_last (c ∷ made) = apart_more s.sizes s.by_last c made
+      let behind : AreSlotsApart s.sizes s.by_last (c ∷ made) = apart_more s.sizes s.by_last c made
       (λ k d lt. let w = (h.each k d lt).within in omega (arith, w, past)) h.apart in
       record {
         each = subst (λ z. All (IsLaidOut z t.by_last t.count) (c ∷ made)) (sym sizes)
             (subst (λ z. All (IsLaidOut s.sizes z t.count) (c ∷ made)) (sym by_last) all);
-        apart = subst (λ z. AreApart z t.by_last (c ∷ made)) (sym sizes) (subst (λ z. AreApart s.sizes z (c ∷ made)) (sym by_last) behind);
+        apart = subst (λ z. AreSlotsApart z t.by_last (c ∷ made)) (sym sizes) (subst (λ z. AreSlotsApart s.sizes z (c ∷ made)) (sym by_last) behind);
         differ = owners_more c made other h.differ;
         known = known;
-        own = All-cons (IsOwn t) c made mine own;
+        own = All-cons (IsOwnSlot t) c made mine own;
       }
 
 new_is_later : (s : SpillSlotsValue) (class : RegClass) → new_slot s class ≡ later_slot s class 0

@@ -20,7 +20,7 @@ use Rattle.regalloc2_fastalloc_proofs.specs.InstSteps.{AddsMoveIf, sent, unsent}
 use Rattle.regalloc2_fastalloc_proofs.proofs.Changes.Evictions.{Evictions, evictions_keep}
 use Rattle.regalloc2_fastalloc_proofs.specs.SlotLayout.{OwnedSlot, AreLaidOut, ServesAt}
 use Rattle.regalloc2_fastalloc_proofs.proofs.Slots.SlotsGrow.{SlotsStay, gives_stay, same_stay, changes_stay}
-use Rattle.regalloc2_fastalloc_proofs.proofs.Changes.InstChanges.{scratches_changes}
+use Rattle.regalloc2_fastalloc_proofs.proofs.Changes.InstChanges.{allocs_scratch_reg_changes}
 use Rattle.regalloc2_fastalloc_proofs.proofs.Safety.StepsKeepSafe.{same_units, slots_kept, settled_holder, scratch_each}
 use Rattle.regalloc2_fastalloc_proofs.proofs.Slots.NewSlotsApart.{gives_laid}
 use Rattle.regalloc2_fastalloc_proofs.specs.InstSteps.{SameButOrder}
@@ -265,10 +265,11 @@ module _ (Known : VirtualRegister → Type 0) (same : (v w : VirtualRegister) �
 
   module _ (point : ℕ) where
     -- evicting a vreg from an allocatable register keeps slots apart and moves within a class
-    pub evicts_classed : (r : Register) (u : InstRegs) (old new : StateValue) → EvictsVReg point r old new → IsClassed Known named Met old → IsClassedTurn u →
+    pub evicts_vreg_classed : (r : Register) (u : InstRegs) (old new : StateValue) → EvictsVReg point r old new → IsClassed Known named Met old →
+        IsClassedTurn u →
         StepClassed Known named Met u new
-    evicts_classed r u old new (nobody none is) h ht = classed_same old new u u is refl h ht
-    evicts_classed r u old new (moved v s small held gives settles edits machine order) h ht =
+    evicts_vreg_classed r u old new (nobody none is) h ht = classed_same old new u u is refl h ht
+    evicts_vreg_classed r u old new (moved v s small held gives settles edits machine order) h ht =
         let was = h.holders r v small held in
         record {
           classed = to_slot old new v s (a_move point s (InRegister r) ∷ []) was.0 gives settles machine edits
@@ -278,30 +279,30 @@ module _ (Known : VirtualRegister → Type 0) (same : (v w : VirtualRegister) �
         }
 
     -- taking a scratch register keeps slots apart and moves within a class, and the register is of the class
-    pub scratches_classed : (class : RegClass) (t u : InstRegs) (by : Register) (old new : StateValue) → AllocsScratchReg point class t u by old new →
+    pub allocs_scratch_reg_classed : (class : RegClass) (t u : InstRegs) (by : Register) (old new : StateValue) → AllocsScratchReg point class t u by old new →
         IsClassed Known named Met old → IsClassedTurn t → StepClassed Known named Met u new × (by.class ≡ class)
-    scratches_classed class t u by old new (dedicated_scratch is eu en) h ht = (classed_same old new t u en eu h ht, h.dedicated_scratch class by is)
-    scratches_classed class t u by old new (had none is eu en) h ht = (classed_same old new t u en eu h ht, ht.scratch class by is)
-    scratches_classed class t u by old new (found none first may early late e l scratch evicts) h ht =
+    allocs_scratch_reg_classed class t u by old new (dedicated_scratch is eu en) h ht = (classed_same old new t u en eu h ht, h.dedicated_scratch class by is)
+    allocs_scratch_reg_classed class t u by old new (had none is eu en) h ht = (classed_same old new t u en eu h ht, ht.scratch class by is)
+    allocs_scratch_reg_classed class t u by old new (found none first may early late e l scratch evicts) h ht =
         let next : IsClassedTurn u = record {
           three = ap length scratch ∙ length-set t.scratch (class_code class) (Some by) ∙ ht.three;
           scratch = λ c r is. scratch_each (λ d q. q.class ≡ d) class by t.scratch ht.three may.of_class ht.scratch c r
               (ap (λ (x : List (Option Register)). slice_index_or x (class_code c) None) (sym scratch) ∙ is);
         } in
-        (evicts_classed by u old new evicts h next, may.of_class)
+        (evicts_vreg_classed by u old new evicts h next, may.of_class)
 
     -- a move of a vreg's value
-    pub crosses_classed : (v : VirtualRegister) {from to : Place} {t u : InstRegs} {old new : StateValue} → AddsMove point v.class from to t u old new →
+    pub adds_move_classed : (v : VirtualRegister) {from to : Place} {t u : InstRegs} {old new : StateValue} → AddsMove point v.class from to t u old new →
         Known v → IsOwnPlace old.slots v from → IsOwnPlace old.slots v to
         → IsClassed Known named Met old → IsClassedTurn t → StepClassed Known named Met u new
-    crosses_classed v {from} {to} {u} {old} (direct one eu en) known f g h ht = subst (StepClassed Known named Met u) (sym en) (record {
+    adds_move_classed v {from} {to} {u} {old} (direct one eu en) known f g h ht = subst (StepClassed Known named Met u) (sym en) (record {
       classed = pushed_classed old (a_move point from to ∷ []) (λ made laid. one_keeps made point v.class from to
           (own_end old.slots made laid point v from known f) (own_end old.slots made laid point v to known g)) h;
       inst_regs = subst IsClassedTurn (sym eu) ht;
     })
-    crosses_classed v {from} {to} {t} {u} {old} (through by m both scratches en) known f g h ht =
-        let s = scratches_classed v.class t u by old m scratches h ht in
-        let stay : SlotsStay old.slots m.slots = changes_stay (scratches_changes (λ q r. tt) scratches) in
+    adds_move_classed v {from} {to} {t} {u} {old} (through by m both scratches en) known f g h ht =
+        let s = allocs_scratch_reg_classed v.class t u by old m scratches h ht in
+        let stay : SlotsStay old.slots m.slots = changes_stay (allocs_scratch_reg_changes (λ q r. tt) scratches) in
         subst (StepClassed Known named Met u) (sym en) (record {
           classed = pushed_classed m (a_move point (InRegister by) to ∷ a_move point from (InRegister by) ∷ [])
               (λ made laid. All-append (KeepsToClass made) (a_move point (InRegister by) to ∷ []) (a_move point from (InRegister by) ∷ [])
@@ -313,19 +314,19 @@ module _ (Known : VirtualRegister → Type 0) (same : (v w : VirtualRegister) �
         })
 
     -- adding a move of a vreg's value between its own places, or none, keeps slots apart and moves within a class
-    pub sends_classed : (v : VirtualRegister) {is_made : Bool} {from to : Place} {t u : InstRegs} {old new : StateValue} →
+    pub adds_move_if_classed : (v : VirtualRegister) {is_made : Bool} {from to : Place} {t u : InstRegs} {old new : StateValue} →
         AddsMoveIf point v.class is_made from to t u old new → Known v → IsOwnPlace old.slots v from → IsOwnPlace old.slots v to
         → IsClassed Known named Met old → IsClassedTurn t → StepClassed Known named Met u new
-    sends_classed v {from} {to} {t} {u} {old} {new} (sent is crosses) known f g h ht = crosses_classed v crosses known f g h ht
-    sends_classed v {t} {u} {old} {new} (unsent is eu en) known f g h ht = classed_same old new t u en eu h ht
+    adds_move_if_classed v {from} {to} {t} {u} {old} {new} (sent is crosses) known f g h ht = adds_move_classed v crosses known f g h ht
+    adds_move_if_classed v {t} {u} {old} {new} (unsent is eu en) known f g h ht = classed_same old new t u en eu h ht
 
     -- evicting a register or a fixed stack slot keeps slots apart and moves within a class
-    pub clears_classed : (r : Register) (t u : InstRegs) (old new : StateValue) → EvictsPReg point r t u old new → IsClassed Known named Met old →
+    pub evicts_preg_classed : (r : Register) (t u : InstRegs) (old new : StateValue) → EvictsPReg point r t u old new → IsClassed Known named Met old →
         IsClassedTurn t → StepClassed Known named Met u new
-    clears_classed r t u old new (empty none eu en) h ht = classed_same old new t u en eu h ht
-    clears_classed r t u old new (cleared v s m small held gives settles edits machine order crosses) h ht =
+    evicts_preg_classed r t u old new (empty none eu en) h ht = classed_same old new t u en eu h ht
+    evicts_preg_classed r t u old new (cleared v s m small held gives settles edits machine order crosses) h ht =
         let was = h.holders r v small held in
-        crosses_classed v crosses was.0 (slot_own m.slots v s m.slots.count gives.gives gives.below) was.1
+        adds_move_classed v crosses was.0 (slot_own m.slots v s m.slots.count gives.gives gives.below) was.1
         (to_slot_only old m v s was.0 gives settles machine edits h) ht
 
     -- any evictions keep slots apart and moves within a class
@@ -334,5 +335,5 @@ module _ (Known : VirtualRegister → Type 0) (same : (v w : VirtualRegister) �
     evictions_classed = evictions_keep (record {
       same = λ t u old new eu en h ht. record { classed = classed_used old new en h; inst_regs = subst IsClassedTurn (sym eu) ht };
       over = λ t u w a b c f g h ht. (let x = f h ht in g x.classed x.inst_regs);
-      each = clears_classed;
+      each = evicts_preg_classed;
     })

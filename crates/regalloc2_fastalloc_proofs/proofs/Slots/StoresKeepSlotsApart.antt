@@ -10,13 +10,13 @@ use Rattle.regalloc2_names.specs.Point.{before}
 use Rattle.regalloc2_function.specs.FunctionValue.{FunctionValue, block_at}
 use Rattle.regalloc2_function.specs.OutputValue.{MoveValue}
 use Rattle.regalloc2_fastalloc_proofs.specs.SlotLayout.{OwnedSlot}
-use Rattle.regalloc2_semantics.specs.Listing.{op_at}
+use Rattle.regalloc2_function.specs.FunctionValue.{op_at}
 use Rattle.regalloc2_semantics.specs.Stores.{Store, moves_by, store_moves, IsOneOf}
 use Rattle.regalloc2_semantics.specs.Stores.IsOneOf.{first, later}
 use Rattle.regalloc2_branch_defs.specs.BranchDefs.{IsEdgeInto, fixed_definition}
 use Rattle.regalloc2_fastalloc_state.specs.StateParts.{VRegAllocsValue, SpillSlotsValue, IsSlotOrNone, alloc_of, vreg_of_preg, slot_name}
 use Rattle.regalloc2_fastalloc_proofs.specs.InstSteps.{StateValue, MayHold}
-use Rattle.regalloc2_fastalloc_proofs.specs.StoreSteps.{branch_operands, place_by, IsStoredFor, IsConcerned, GetsSlots, no_slot, one_slot}
+use Rattle.regalloc2_fastalloc_proofs.specs.StoreSteps.{branch_operands, fixed_or_slot, IsStoredFor, IsConcerned, GetsSlots, no_slot, one_slot}
 use Rattle.regalloc2_fastalloc_proofs.specs.StoreSteps.{StoresFor, pushed_moves, StoresBranchDefs, none_stored, all_stored}
 use Rattle.regalloc2_fastalloc_proofs.proofs.BlockBegin.StoresOfDefs.{with_slots}
 use Rattle.regalloc2_fastalloc_proofs.proofs.Safety.StoresKeepSafe.{stored_defines, stored_concerned}
@@ -43,10 +43,10 @@ all_keep made point (s ∷ ss) h =
 module _ (Known : VirtualRegister → Type 0) (same : (v w : VirtualRegister) → Known v → Known w → v.number ≡ w.number → v ≡ w) (named : Bool)
     (Met : ℕ → RegClass → Type 0) where
   -- slots that are made for known vregs
-  slots_classed : (P : VirtualRegister → Type 0) → ((v : VirtualRegister) → P v → Known v) → (old : StateValue) (s : SpillSlotsValue) →
+  gets_slots_classed : (P : VirtualRegister → Type 0) → ((v : VirtualRegister) → P v → Known v) → (old : StateValue) (s : SpillSlotsValue) →
       GetsSlots P old.slots s → IsClassed Known named Met old → IsClassed Known named Met (with_slots old s)
-  slots_classed P known old s no_slot h = h
-  slots_classed P known old s (one_slot v p m n prev of gives temps) h =
+  gets_slots_classed P known old s no_slot h = h
+  gets_slots_classed P known old s (one_slot v p m n prev of gives temps) h =
       only_slot Known same named Met (with_slots old m) (with_slots old n) v p (known v of) gives refl (record {
         allocatable = refl;
         fixed_stack = refl;
@@ -54,7 +54,7 @@ module _ (Known : VirtualRegister → Type 0) (same : (v w : VirtualRegister) �
         sizes = gives.sizes;
         vregs = gives.long;
         num_temp_slots = temps;
-      }) refl (slots_classed P known old m prev h)
+      }) refl (gets_slots_classed P known old m prev h)
 
   -- one store
   module _ (f : FunctionValue) (e k point : ℕ) (old new : StateValue) (h : IsClassed Known named Met (with_slots old new.slots)) (x : Store) (j : ℕ)
@@ -67,7 +67,7 @@ module _ (Known : VirtualRegister → Type 0) (same : (v w : VirtualRegister) �
     slot_end w p is known = own_end Known same named Met new.slots h.made h.laid point w p known
         (slot_own new.slots w p new.slots.count is (subst (IsSlotOrNone new.slots.count) is (h.slots w.number)))
 
-    from_end : (d : Option Register) → fixed_definition o ≡ d → x.from ≡ place_by d (slot_name new.slots o.vreg.number) →
+    from_end : (d : Option Register) → fixed_definition o ≡ d → x.from ≡ fixed_or_slot d (slot_name new.slots o.vreg.number) →
         IsEndOrNone h.made point v.class x.from
     from_end (Some g) is at = subst (IsEndOrNone h.made point v.class) (sym at) (of_class.fixed g is)
     from_end None is at = subst (IsEndOrNone h.made point v.class) (sym at)
@@ -92,13 +92,13 @@ module _ (Known : VirtualRegister → Type 0) (same : (v w : VirtualRegister) �
         (All-nil (λ m. KeepsToClass h.made (point, m))))
 
   -- all that a block's beginning stores
-  pub stores_classed : (f : FunctionValue) (b : ℕ) → ((e k : ℕ) (v : VirtualRegister) → IsEdgeInto f b e k → IsConcerned f e k v → Known v) →
+  pub stores_branch_defs_classed : (f : FunctionValue) (b : ℕ) → ((e k : ℕ) (v : VirtualRegister) → IsEdgeInto f b e k → IsConcerned f e k v → Known v) →
       ((e k j : ℕ) (v : VirtualRegister) (slots : SpillSlotsValue) → IsEdgeInto f b e k → IsStoredFor f e k slots j v → IsOfClass f e j v) →
       (old new : StateValue) → StoresBranchDefs f b old new → IsClassed Known named Met old → IsClassed Known named Met new
-  stores_classed f b concerned of_class old new (none_stored none is) h = subst (IsClassed Known named Met) (sym is) h
-  stores_classed f b concerned of_class old new (all_stored e k edge s) h =
+  stores_branch_defs_classed f b concerned of_class old new (none_stored none is) h = subst (IsClassed Known named Met) (sym is) h
+  stores_branch_defs_classed f b concerned of_class old new (all_stored e k edge s) h =
       let point : ℕ = before (block_at f b).range.first in
-      let mid : IsClassed Known named Met (with_slots old new.slots) = slots_classed (IsConcerned f e k) (λ v is. concerned e k v edge is) old new.slots
+      let mid : IsClassed Known named Met (with_slots old new.slots) = gets_slots_classed (IsConcerned f e k) (λ v is. concerned e k v edge is) old new.slots
       s.slots h in
       let moves : All (λ m. KeepsToClass mid.made (point, m)) (store_moves s.stores) = all_keep mid.made point s.stores (λ x is.
       let one = s.each x is in

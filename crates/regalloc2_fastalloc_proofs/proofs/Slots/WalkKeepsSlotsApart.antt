@@ -18,7 +18,7 @@ use Rattle.regalloc2_fastalloc_state.specs.StateParts.{SpillSlotsValue, IsSlotOr
 use Rattle.regalloc2_validate.specs.NoLimits.{AreTaken}
 use Rattle.regalloc2_fastalloc_proofs.specs.InstSteps.{StateValue}
 use Rattle.regalloc2_fastalloc_proofs.specs.Safety.{HasMachine}
-use Rattle.regalloc2_fastalloc_proofs.specs.BlockStart.{no_vreg}
+use Rattle.regalloc2_names.specs.Register.{no_vreg}
 use Rattle.regalloc2_fastalloc_proofs.specs.StoreSteps.{IsConcerned, IsStoredFor}
 use Rattle.regalloc2_fastalloc_proofs.specs.BlockSteps.{AllocsInstInBlock, AllocsBlockInsts, at_end, one_in, AllocsBlocks, all_left, one_block}
 use Rattle.regalloc2_fastalloc_proofs.proofs.Safety.InitialState.{begun_empty}
@@ -26,10 +26,10 @@ use Rattle.regalloc2_fastalloc_proofs.proofs.Operands.AllocsSoFar.{IsTame}
 use Rattle.regalloc2_fastalloc_proofs.proofs.Safety.WellFormedKeepsSafe.{tame_at}
 use Rattle.regalloc2_fastalloc_proofs.proofs.Slots.NewSlotsApart.{none_laid}
 use Rattle.regalloc2_fastalloc_proofs.proofs.Slots.StepsKeepSlotsApart.{IsOwnPlace, IsClassed}
-use Rattle.regalloc2_fastalloc_proofs.proofs.Slots.InstKeepsSlotsApart.{allocates_classed}
+use Rattle.regalloc2_fastalloc_proofs.proofs.Slots.InstKeepsSlotsApart.{allocs_inst_classed}
 use Rattle.regalloc2_fastalloc_proofs.proofs.Safety.StoredDefs.{IsOfClass, concerned_made, made_alike, stored_of_class}
-use Rattle.regalloc2_fastalloc_proofs.proofs.Slots.StoresKeepSlotsApart.{stores_classed}
-use Rattle.regalloc2_fastalloc_proofs.proofs.Slots.BranchKeepsSlotsApart.{AreAlike, met_more, passes_classed, begins_block_classed}
+use Rattle.regalloc2_fastalloc_proofs.proofs.Slots.StoresKeepSlotsApart.{stores_branch_defs_classed}
+use Rattle.regalloc2_fastalloc_proofs.proofs.Slots.BranchKeepsSlotsApart.{AreAlike, met_more, processes_branch_classed, reloads_at_begin_classed}
 use Rattle.regalloc2_fastalloc_proofs.proofs.Safety.BlocksKeepSafe.{StartsAt, start_next}
 use Rattle.regalloc2_fastalloc_proofs.proofs.Slots.OutputOwnsSlots.{KeepsOfClass}
 use Rattle.regalloc2_semantics.proofs.Plain.{always, no_some}
@@ -50,37 +50,38 @@ module _ (f : FunctionValue) (Known : VirtualRegister → Type 0) (same : (v w :
   abbrev ClassedAt : ℕ → StateValue → Type 0
   ClassedAt i t = IsClassed Known named (BranchesFrom f i) t
 
-  inst_classed : (b i : ℕ) → b < length f.blocks → (before_it places : List Place) (old new : StateValue) → i < length f.insts →
+  allocs_inst_in_block_classed : (b i : ℕ) → b < length f.blocks → (before_it places : List Place) (old new : StateValue) → i < length f.insts →
       AllocsInstInBlock f b i before_it places old new → ClassedAt (i + 1) old → ClassedAt i new
-  inst_classed b i lt before_it places old new within a h =
+  allocs_inst_in_block_classed b i lt before_it places old new within a h =
       let x = a.allocates.allocates in
-      let k = allocates_classed Known named (BranchesFrom f (i + 1)) i (inst_at f i) a.allocates.blank a.allocates.here old a.middle (tame i within) x h in
+      let k = allocs_inst_classed Known named (BranchesFrom f (i + 1)) i (inst_at f i) a.allocates.blank a.allocates.here old a.middle (tame i within) x h in
       let more : (j : ℕ) (c : RegClass) → BranchesFrom f (i + 1) j c → BranchesFrom f i j c = λ j c m. (let from = m.0 in (omega (arith, from), m.1, m.2)) in
       elim (cases_Bool (inst_at f i).is_branch) [
-        | inl branch ↦ passes_classed Known same named (λ c m. (let from = m.0 in omega (arith, from))) more
+        | inl branch ↦ processes_branch_classed Known same named (λ c m. (let from = m.0 in omega (arith, from))) more
             (λ c. (omega arith, within, branch))
             (λ e j edge less. alike b e j lt edge less) (a.branch branch) k.classed k.inst_regs
         | inr none ↦ subst (ClassedAt i) (sym (a.no_branch none)) (met_more Known named (BranchesFrom f (i + 1)) (BranchesFrom f i) a.middle more k.classed)
       ]
 
   -- the instructions of a block
-  in_block_classed : (b : ℕ) → b < length f.blocks → (blank : List Place) (old : StateValue) → ClassedAt (block_at f b).range.end old →
+  allocs_block_insts_classed : (b : ℕ) → b < length f.blocks → (blank : List Place) (old : StateValue) → ClassedAt (block_at f b).range.end old →
       (i : ℕ) (places : List Place) (t : StateValue) → AllocsBlockInsts f b blank old i places t → ClassedAt i t
-  in_block_classed b lt blank old h i places t at_end = h
-  in_block_classed b lt blank old h i places t (one_in n before_it p s u ge less prev a) =
-      inst_classed b n lt before_it places s t (let end = end_within f follow b lt in omega (arith, less, end)) a
-      (in_block_classed b lt blank old h (n + 1) before_it s prev)
+  allocs_block_insts_classed b lt blank old h i places t at_end = h
+  allocs_block_insts_classed b lt blank old h i places t (one_in n before_it p s u ge less prev a) =
+      allocs_inst_in_block_classed b n lt before_it places s t (let end = end_within f follow b lt in omega (arith, less, end)) a
+      (allocs_block_insts_classed b lt blank old h (n + 1) before_it s prev)
 
   -- all blocks
-  pub blocks_classed : {blank : List Place} {old : StateValue} → ClassedAt (length f.insts) old → {c : ℕ} {places : List Place} {t : StateValue} →
+  pub allocs_blocks_classed : {blank : List Place} {old : StateValue} → ClassedAt (length f.insts) old → {c : ℕ} {places : List Place} {t : StateValue} →
       AllocsBlocks f blank old c places t → {i : ℕ} → StartsAt f c i → ClassedAt i t
-  blocks_classed {old} h all_left starts = subst (λ (n : ℕ). ClassedAt n old) (sym (starts.end refl)) h
-  blocks_classed {blank} {old} h {places} {t} (one_block b before_it p s u w lt prev walks begins) starts =
+  allocs_blocks_classed {old} h all_left starts = subst (λ (n : ℕ). ClassedAt n old) (sym (starts.end refl)) h
+  allocs_blocks_classed {blank} {old} h {places} {t} (one_block b before_it p s u w lt prev walks begins) starts =
       let first : ℕ = (block_at f b).range.first in
-      let later = blocks_classed h prev (start_next f follow b lt) in
-      let here : ClassedAt first u = in_block_classed b lt before_it s later first places u walks in
-      subst (λ (n : ℕ). ClassedAt n t) (sym (starts.block lt)) (stores_classed Known same named (BranchesFrom f first) f b (concerned b) (of_class b)
-      begins.middle t begins.stores (begins_block_classed Known same named (BranchesFrom f first) (before first)
+      let later = allocs_blocks_classed h prev (start_next f follow b lt) in
+      let here : ClassedAt first u = allocs_block_insts_classed b lt before_it s later first places u walks in
+      subst (λ (n : ℕ). ClassedAt n t) (sym (starts.block lt)) (stores_branch_defs_classed Known same named (BranchesFrom f first) f b (concerned b)
+          (of_class b)
+      begins.middle t begins.stores (reloads_at_begin_classed Known same named (BranchesFrom f first) (before first)
       (block_at f b).params (λ k less. params b k lt less) u begins.middle begins.reloads here))
 
 -- the fresh tables
@@ -111,7 +112,7 @@ pub walk_classed : {env : MachineValue} {f : FunctionValue} → KeepsOfClass env
     → IsClassed (Made f) named (BranchesFrom f 0) last
 walk_classed {env} {f} kept limited ok taken {blank} {places} {begin} {last} n m sizes {named} nobody slots none units machine walks =
     let some : 0 < length f.blocks = (let entry = ok.successors.0 in omega (arith, entry)) in
-    blocks_classed f (Made f) (one_made f ok.defined_once) named (tame_at env f limited ok taken) ok.follow
+    allocs_blocks_classed f (Made f) (one_made f ok.defined_once) named (tame_at env f limited ok taken) ok.follow
     (λ b k lt less. Made.by_param b k (record { block = lt; param = less; number = refl }) refl) (made_alike env f ok)
     (concerned_made f ok.successors ok.follow) (stored_of_class env f limited ok taken) (begun_classed f env (Made f) named kept begin n m sizes nobody slots
     none units machine (BranchesFrom f (length f.insts))) walks

@@ -26,7 +26,7 @@ use Rattle.regalloc2_fastalloc_proofs.proofs.Walk.LastInstAndRest.{walk_listed}
 use Rattle.regalloc2_fastalloc_proofs.proofs.Walk.BlockCarries.{CarryingContext, IsBelow, nothing_goes, block_carries}
 use Rattle.regalloc2_fastalloc_proofs.proofs.Walk.FunctionLaws.{code_of}
 use Rattle.regalloc2_fastalloc_proofs.proofs.Walk.InstBoundaries.{kept_of}
-use Rattle.regalloc2_fastalloc_proofs.proofs.Changes.WalkChanges.{begun_changes, any_begin}
+use Rattle.regalloc2_fastalloc_proofs.proofs.Changes.WalkChanges.{begins_block_changes, any_begin}
 
 module _ (carrying : CarryingContext) where
   open carrying.laws use {f, once, follow, ends, uses, counted, proper, kept}
@@ -58,7 +58,7 @@ module _ (carrying : CarryingContext) where
             (grown_then (IsBelow end) s u final (grown_weaken (IsWithin first end) (IsBelow end) s u (λ m h. h.1)
             (walk_grown (kept_of (Made f) f proper kept) follow d lt p s first q u walk))
             (grown_then (IsBelow end) u w final
-            (changes_grow (IsBelow end) (begun_changes (any_begin (λ e. IsBelow end e.0) f d (λ m r. omega (arith, some))) begins))
+            (changes_grow (IsBelow end) (begins_block_changes (any_begin (λ e. IsBelow end e.0) f d (λ m r. omega (arith, some))) begins))
             (grown_weaken (IsBelow first) (IsBelow end) w final (λ m h. omega (arith, h, some)) rest_here)))
             c (omega (arith, le, ne)) lc
       ]

@@ -4,7 +4,7 @@ use Rattle.std.specs.Prelude.{Option, None, Some, slice_index_or}
 use Rattle.regalloc2_names.specs.Register.{Register, VirtualRegister}
 use Rattle.regalloc2_names.specs.Place.{Place, NoPlace, InRegister, InSlot}
 use Rattle.regalloc2_names.specs.Point.{before}
-use Rattle.regalloc2_function.specs.FunctionValue.{FunctionValue, InstValue, block_at, inst_at, no_inst}
+use Rattle.regalloc2_function.specs.FunctionValue.{FunctionValue, InstValue, block_at, inst_at, no_inst, no_operand, op_at}
 use Rattle.regalloc2_function.specs.WellFormed.{last_of}
 use Rattle.regalloc2_function.specs.OutputValue.{place_at}
 use Rattle.regalloc2_semantics.specs.Carry.{Carries}
@@ -15,7 +15,7 @@ use Rattle.regalloc2_semantics.proofs.SingleDef.{Made, ReadsDefined, reads_defin
 use Rattle.regalloc2_semantics.proofs.SingleDef.Made.{by_operand}
 use Rattle.regalloc2_semantics.proofs.CarryRules.{carries_weaken, carries_moves}
 use Rattle.regalloc2_semantics.proofs.NotRead.{Unread, silent_walked, carries_silent}
-use Rattle.regalloc2_semantics.specs.Listing.{Item, op_at, no_operand}
+use Rattle.regalloc2_semantics.specs.Listing.{Item}
 use Rattle.regalloc2_semantics.specs.Stores.{store_moves}
 use Rattle.regalloc2_function.specs.DebugPoints.{UsesAt}
 use Rattle.regalloc2_function.specs.SourceRun.{arguments_at}
@@ -27,8 +27,8 @@ use Rattle.std.proofs.lemmas.List.{get_or_default, get_or_past, nil_from_length}
 use Rattle.std.proofs.lemmas.Bool.{cases_Bool, cases_lt}
 use Rattle.regalloc2_semantics.proofs.Order.{ends_within}
 use Rattle.regalloc2_fastalloc_proofs.specs.InstSteps.{StateValue}
-use Rattle.regalloc2_fastalloc_proofs.specs.BlockStart.{no_vreg}
-use Rattle.regalloc2_fastalloc_proofs.specs.BranchSteps.{IsOwn}
+use Rattle.regalloc2_names.specs.Register.{no_vreg}
+use Rattle.regalloc2_fastalloc_proofs.specs.BranchSteps.{IsOwnDef}
 use Rattle.regalloc2_fastalloc_proofs.specs.StoreSteps.{branch_operands, IsConcerned, StoresBranchDefs, none_stored, all_stored}
 use Rattle.regalloc2_fastalloc_proofs.specs.BlockSteps.{AllocsInstInBlock, AllocsBlockInsts, AllocsBlocks}
 use Rattle.regalloc2_fastalloc_proofs.proofs.Safety.StepsKeepState.{place_in, slot_in, IsWhole, slot_no_register}
@@ -43,20 +43,20 @@ use Rattle.regalloc2_fastalloc_proofs.proofs.Walk.InstsBeforeLastCarry.{defined_
 use Rattle.regalloc2_fastalloc_proofs.proofs.Walk.BlockObligations.{Walked, block_owes}
 use Rattle.regalloc2_fastalloc_proofs.proofs.BlockEnd.LastInst.{return_owes}
 use Rattle.regalloc2_fastalloc_proofs.proofs.Operands.DefinedNumbers.{defined_by, defined_by-number, number_defined}
-use Rattle.regalloc2_fastalloc_proofs.proofs.BlockBegin.StoresOfDefs.{stores_grown, walked_stores}
-use Rattle.regalloc2_fastalloc_proofs.proofs.BlockBegin.BranchDefsCarried.{stores_carried}
+use Rattle.regalloc2_fastalloc_proofs.proofs.BlockBegin.StoresOfDefs.{stores_branch_defs_grown, walked_stores}
+use Rattle.regalloc2_fastalloc_proofs.proofs.BlockBegin.BranchDefsCarried.{stores_branch_defs_carried}
 use Rattle.regalloc2_fastalloc_proofs.proofs.Branches.Arrivals.{IsNeeded, Arrive, DefsPlaced}
 use Rattle.regalloc2_fastalloc_proofs.proofs.Branches.EdgeArgsGathered.{params_on, passes_at}
 use Rattle.regalloc2_fastalloc_proofs.proofs.Slots.LiveInHasSlot.{used_at_begin}
 use Rattle.regalloc2_fastalloc_proofs.proofs.Walk.InstBoundaries.{IsEdge, grown_weaken, grown_fresh, grown_pushes}
-use Rattle.regalloc2_fastalloc_proofs.proofs.Walk.InstBoundaries.{in_between, edge_next, blocks_between, blocks_settled, blocks_outside}
+use Rattle.regalloc2_fastalloc_proofs.proofs.Walk.InstBoundaries.{in_between, edge_next, allocs_blocks_between, allocs_blocks_settled, allocs_blocks_outside}
 use Rattle.regalloc2_fastalloc_proofs.proofs.Walk.DefsBeforeUses.{used_made, used_somewhere, param_before, written_there, stands_behind}
 use Rattle.regalloc2_fastalloc_proofs.proofs.Walk.LastInstAndRest.{Split, split, KeepsSlots, leaves_at}
 use Rattle.regalloc2_fastalloc_proofs.proofs.Walk.FunctionLaws.{FunctionLaws, BlockInWalk}
 use Rattle.regalloc2_fastalloc_proofs.proofs.Walk.FunctionLaws.{PlacedCode, code_of}
 use Rattle.regalloc2_fastalloc_proofs.proofs.Inst.ProperInsts.{proper_of}
 use Rattle.regalloc2_fastalloc_proofs.proofs.Walk.InstBoundaries.{kept_of}
-use Rattle.regalloc2_fastalloc_proofs.proofs.Changes.WalkChanges.{begun_changes, any_begin}
+use Rattle.regalloc2_fastalloc_proofs.proofs.Changes.WalkChanges.{begins_block_changes, any_begin}
 
 -- whether a block writes a number
 abbrev pub writes_in : FunctionValue → ℕ → ℕ → ℕ → Bool
@@ -100,7 +100,7 @@ nothing_goes f stand b v p none (inr passed) = (let edge = passed.2 in let n : l
 
 -- a vreg that a branch defines and only its own edges pass
 abbrev pub IsUnused : FunctionValue → VirtualRegister → Type 0
-IsUnused f v = (b e k : ℕ) × IsEdgeInto f b e k × IsOwn f e v × (IsUsedElsewhere f v → ⊥)
+IsUnused f v = (b e k : ℕ) × IsEdgeInto f b e k × IsOwnDef f e v × (IsUsedElsewhere f v → ⊥)
 
 -- points before an instruction
 abbrev pub IsBelow : ℕ → ℕ → Type 0
@@ -173,12 +173,12 @@ module _ (carrying : CarryingContext) where
 
     -- the tables behind its last instruction
     behind : Between (last + 1) s
-    behind = blocks_between (kept_of (Made f) f proper kept) follow blank begin start (b + 1) p s prev (last + 1)
+    behind = allocs_blocks_between (kept_of (Made f) f proper kept) follow blank begin start (b + 1) p s prev (last + 1)
         (subst (IsEdge f (b + 1)) (sym ended) (edge_next f follow b lb))
 
     -- from the block's first instruction to the walk's end
     onward : Grown AnyPlace u final
-    onward = grown_then AnyPlace u w final (changes_grow AnyPlace (begun_changes (any_begin (λ e. AnyPlace e.0) f b (λ n r. tt)) begins))
+    onward = grown_then AnyPlace u w final (changes_grow AnyPlace (begins_block_changes (any_begin (λ e. AnyPlace e.0) f b (λ n r. tt)) begins))
         (grown_weaken (IsBelow (block_at f b).range.first) AnyPlace w final (λ n x. tt) rest)
 
     parts : Split f placesf each_leaves final b last s (block_at f b).range.first u
@@ -191,7 +191,7 @@ module _ (carrying : CarryingContext) where
     before_last = in_between (kept_of (Made f) f proper kept) b last parts.blank parts.places s parts.begin within parts.ends behind
 
     settled : (x : ℕ) → (place_in s x ≡ NoPlace) ⊎ ((k : ℕ) × (place_in s x ≡ InSlot k) × (slot_in s x ≡ InSlot k))
-    settled = blocks_settled (kept_of (Made f) f proper kept) follow blank begin start empty.nowhere (b + 1) p s prev
+    settled = allocs_blocks_settled (kept_of (Made f) f proper kept) follow blank begin start empty.nowhere (b + 1) p s prev
 
     at_block_end : BlockEnd f placesf (slots_at final) b last s parts.begin
     at_block_end = record {
@@ -206,7 +206,7 @@ module _ (carrying : CarryingContext) where
       fresh = λ x k none is. grown_fresh AnyPlace parts.begin final parts.rest before_last.whole x k none is;
       own = slot_own;
       only_slots = slot_only;
-      bare = blocks_outside (kept_of (Made f) f proper kept) follow blank begin start empty (b + 1) p s prev;
+      bare = allocs_blocks_outside (kept_of (Made f) f proper kept) follow blank begin start empty (b + 1) p s prev;
       writes = λ v made is. written_there carrying.laws b lb v (suc (last - (block_at f b).range.first)) count is made;
       lives = λ v is c lc ne used. stands_behind carrying.laws b lb v (suc (last - (block_at f b).range.first)) count is c
           lc ne used start prev;
@@ -230,7 +230,7 @@ module _ (carrying : CarryingContext) where
 
     -- from the reloads at its beginning to the walk's end
     from_middle : Grown AnyPlace begins.middle final
-    from_middle = grown_then AnyPlace begins.middle w final (stores_grown AnyPlace f b begins.middle w tt begins.stores)
+    from_middle = grown_then AnyPlace begins.middle w final (stores_branch_defs_grown AnyPlace f b begins.middle w tt begins.stores)
         (grown_weaken (IsBelow (block_at f b).range.first) AnyPlace w final (λ n x. tt) rest)
 
     all_walked : Walked (proper_of (Made f) f placesf proper) once reads (slots_at final) slot_only b last parts.begin u begins.middle
@@ -350,7 +350,7 @@ module _ (carrying : CarryingContext) where
         let there = used_somewhere f v used in
         let made : Made f v = used_made f once follow uses v there.0 there.1 there.2 in
         let c : Carries v (Listing w) (ComesIn f stand b v) (GoesOut f stand b v) = elim (decide v used) [
-          | inl needed ↦ stores_carried (record {
+          | inl needed ↦ stores_branch_defs_carried (record {
             f = f;
             once = once;
             placesf = placesf;

@@ -7,7 +7,7 @@ use Rattle.regalloc2_names.specs.Register.{VirtualRegister}
 use Rattle.regalloc2_names.specs.Operand.{OperandValue}
 use Rattle.regalloc2_names.specs.Place.{Place, NoPlace}
 use Rattle.regalloc2_function.specs.DebugPoints.{DefinesAt, PassesAt}
-use Rattle.regalloc2_function.specs.FunctionValue.{FunctionValue, IsLimited, block_at, inst_at}
+use Rattle.regalloc2_function.specs.FunctionValue.{FunctionValue, IsLimited, block_at, inst_at, no_operand, op_at}
 use Rattle.regalloc2_function.specs.Machine.{MachineValue}
 use Rattle.regalloc2_function.specs.OutputValue.{allocs_of}
 use Rattle.regalloc2_function.specs.SourceRun.{arguments_at}
@@ -19,14 +19,14 @@ use Rattle.regalloc2_semantics.proofs.SingleDef.Made.{by_operand}
 use Rattle.regalloc2_semantics.proofs.Paths.{UsedSomewhere}
 use Rattle.regalloc2_fastalloc_state.specs.declared.inst_regs.InstRegs.{InstRegs}
 use Rattle.regalloc2_fastalloc_proofs.specs.InstSteps.{StateValue}
-use Rattle.regalloc2_fastalloc_proofs.specs.BranchSteps.{ProcessesBranch, IsOwn}
+use Rattle.regalloc2_fastalloc_proofs.specs.BranchSteps.{ProcessesBranch, IsOwnDef}
 use Rattle.regalloc2_fastalloc_proofs.specs.BlockSteps.{AllocsBlockInsts, AllocsBlocks}
 use Rattle.regalloc2_fastalloc_proofs.proofs.Operands.RecordOverState.{slots_at}
 use Rattle.regalloc2_fastalloc_proofs.proofs.Operands.AllocsSoFar.{IsGood}
 use Rattle.regalloc2_fastalloc_proofs.proofs.Walk.InstsCarry.{AreListed}
 use Rattle.regalloc2_fastalloc_proofs.proofs.Inst.OneInstCarries.{Between}
 use Rattle.regalloc2_fastalloc_proofs.proofs.Safety.InstsKeepSafe.{HasGood}
-use Rattle.regalloc2_fastalloc_proofs.proofs.Walk.InstBoundaries.{BranchKept, blocks_between, blocks_outside}
+use Rattle.regalloc2_fastalloc_proofs.proofs.Walk.InstBoundaries.{BranchKept, allocs_blocks_between, allocs_blocks_outside}
 use Rattle.regalloc2_fastalloc_proofs.proofs.Branches.LocationsAfterBranch.{branch_kept}
 use Rattle.regalloc2_fastalloc_proofs.proofs.Walk.DefsBeforeUses.{used_made}
 use Rattle.regalloc2_fastalloc_proofs.proofs.Walk.BranchesPlaceDefs.{last_allocated, defs_placed}
@@ -36,7 +36,7 @@ use Rattle.regalloc2_fastalloc_proofs.proofs.Branches.EdgesInto.{one_edge_into}
 use Rattle.regalloc2_fastalloc_proofs.proofs.Branches.BranchInWalk.{branches_carry}
 use Rattle.regalloc2_fastalloc_proofs.proofs.Safety.StoredDefs.{concerned_made, last_within}
 use Rattle.regalloc2_fastalloc_proofs.specs.Safety.{IsSafe}
-use Rattle.regalloc2_validate.specs.Constraints.{BranchDefinesInPlace, no_operand, op_at}
+use Rattle.regalloc2_validate.specs.Constraints.{BranchDefinesInPlace}
 use Rattle.regalloc2_validate.specs.NoLimits.{AreTaken}
 use Rattle.regalloc2_fastalloc_proofs.proofs.Slots.InstsLeaveSlots.{WritesSound, keeps_slots}
 use Rattle.regalloc2_fastalloc_proofs.proofs.Walk.AllBlocksCarry.{begin_between, first_edge, all_blocks_carry}
@@ -71,7 +71,8 @@ module _ (walk : WholeWalk)
 
   -- between all instructions of the walk, so at its end too
   pub at_walks_end : Between 0 last
-  at_walks_end = blocks_between (kept_of (Made f) f (all_proper env f limited ok) branch) ok.follow blank begin (begin_between f begin empty fit) 0 out.allocs
+  at_walks_end = allocs_blocks_between (kept_of (Made f) f (all_proper env f limited ok) branch) ok.follow blank begin (begin_between f begin empty fit) 0
+      out.allocs
       last
       walks 0 (first_edge f ok.follow (some_block env f limited ok))
 
@@ -89,7 +90,7 @@ module _ (walk : WholeWalk)
       (λ i k lt less. subst (IsGood env last.slots (op_at (inst_at f i).operands k)) (sym (are_listed i (omega arith) lt k less)) (good i k lt less).good)
       places b lb is_branch
       (last_allocated code blank begin
-      (blocks_outside (kept_of (Made f) f (all_proper env f limited ok) branch) ok.follow blank begin (begin_between f begin empty fit)
+      (allocs_blocks_outside (kept_of (Made f) f (all_proper env f limited ok) branch) ok.follow blank begin (begin_between f begin empty fit)
       (record { nowhere = empty.nowhere; nobody = empty.nobody })) 0 out.allocs last walks 0 (first_edge f ok.follow (some_block env f limited ok)) are_listed
       b (omega arith)
       lb)
@@ -139,7 +140,7 @@ module _ (walk : WholeWalk)
 
   -- and so has a vreg that is passed as an argument, and not defined by the branch
   pub handed_slots : (v : VirtualRegister) (b k : ℕ) → b < length f.blocks → k < length (block_at f b).succs → Contains (arguments_at f b k) v →
-      (IsOwn f b v → ⊥) → slot_in last v.number ≢ NoPlace
+      (IsOwnDef f b v → ⊥) → slot_in last v.number ≢ NoPlace
   handed_slots v b k lb edge has foreign =
       handed_has_slot laws b lb k edge v has foreign blank begin 0 out.allocs last walks
       (omega arith)

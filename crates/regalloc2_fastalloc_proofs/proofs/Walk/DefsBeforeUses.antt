@@ -8,13 +8,13 @@ use Rattle.std.proofs.lemmas.List.{get_or_default, get_or_past}
 use Rattle.regalloc2_function.specs.FunctionValue.{FunctionValue, BlockValue, InstValue, block_at, no_block, inst_at, no_inst}
 use Rattle.regalloc2_names.specs.Operand.{OperandValue, is_def}
 use Rattle.regalloc2_names.specs.Point.{before, after}
-use Rattle.regalloc2_semantics.specs.Listing.{no_operand}
-use Rattle.regalloc2_fastalloc_proofs.specs.BlockStart.{no_vreg}
+use Rattle.regalloc2_function.specs.FunctionValue.{no_operand}
+use Rattle.regalloc2_names.specs.Register.{no_vreg}
 use Rattle.regalloc2_function.specs.WellFormed.{BlocksFollow, BlocksEnd, DefinedOnce, IsDefinedBy, UsesAreDefined, last_of}
 use Rattle.regalloc2_semantics.specs.Blocks.{IsUsedIn, IsUnwritten, IsUsed}
 use Rattle.regalloc2_semantics.proofs.SingleDef.{Made, DefinesAt, TakesAt, one_made, one_operand, one_param, not_both, reads_defined, made_before, is_made}
 use Rattle.regalloc2_semantics.proofs.Order.{ends_before, ends_within, stands_later, reads_later, passes_later, passed_made}
-use Rattle.regalloc2_validate.specs.Constraints.{op_at}
+use Rattle.regalloc2_function.specs.FunctionValue.{op_at}
 use Rattle.regalloc2_fastalloc_proofs.specs.InstSteps.{StateValue}
 use Rattle.regalloc2_fastalloc_proofs.specs.BlockSteps.{AllocsBlocks}
 use Rattle.regalloc2_fastalloc_proofs.proofs.Safety.StepsKeepState.{place_in}
@@ -22,7 +22,7 @@ use Rattle.regalloc2_fastalloc_proofs.proofs.Operands.DefinedNumbers.{defined_by
 use Rattle.regalloc2_fastalloc_proofs.proofs.Inst.OneInstCarries.{Between}
 use Rattle.regalloc2_fastalloc_proofs.proofs.Walk.InstsBeforeLastCarry.{defined_from}
 use Rattle.regalloc2_fastalloc_proofs.proofs.Walk.BlockObligations.{defined_from-some, defines_at}
-use Rattle.regalloc2_fastalloc_proofs.proofs.Walk.InstBoundaries.{IsUsedAt, blocks_live}
+use Rattle.regalloc2_fastalloc_proofs.proofs.Walk.InstBoundaries.{IsUsedAt, allocs_blocks_live}
 use Rattle.regalloc2_fastalloc_proofs.proofs.Walk.InstBoundaries.{kept_of}
 use Rattle.regalloc2_fastalloc_proofs.proofs.Walk.FunctionLaws.{FunctionLaws}
 
@@ -95,7 +95,7 @@ module _ (laws : FunctionLaws) (b : ℕ) (lb : b < length laws.f.blocks) (v : Vi
       let u = used_at f follow ends c v lc used in
       let more : b + 1 < length f.blocks = omega (arith, order, ne, lc) in
       let apart : (block_at f b).range.end ≤ (block_at f (b + 1)).range.first = ends_before f follow b (b + 1) (omega arith) more in
-      blocks_live (kept_of (Made f) f proper kept) follow blank begin start x c u.0
+      allocs_blocks_live (kept_of (Made f) f proper kept) follow blank begin start x c u.0
       (λ d k ld few is. not_both f once x w.0 w.1 d k at (record { block = ld; param = few; number = sym is }))
       lc u.1 u.2 u.3 walk (omega (arith, order, ne))
       (λ k ge less. elim (cases_Bool (defined_by (inst_at f k).operands x)) [

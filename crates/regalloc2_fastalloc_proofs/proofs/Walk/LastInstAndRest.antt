@@ -23,7 +23,7 @@ use Rattle.regalloc2_fastalloc_proofs.proofs.Walk.InstForOneVReg.{Leaves}
 use Rattle.regalloc2_fastalloc_proofs.proofs.Walk.InstsBeforeLastCarry.{Goes, stopped, one_more}
 use Rattle.regalloc2_fastalloc_proofs.proofs.Walk.FunctionLaws.{PlacedCode}
 use Rattle.regalloc2_fastalloc_proofs.proofs.Safety.BlocksKeepSafe.{block_start}
-use Rattle.regalloc2_fastalloc_proofs.proofs.Changes.WalkChanges.{in_changes, any_inst}
+use Rattle.regalloc2_fastalloc_proofs.proofs.Changes.WalkChanges.{allocs_inst_in_block_changes, any_inst}
 
 -- The last instruction of a block, with the tables behind it and before it, and the instructions before it; the walk goes on from there to its end.
 pub record Split (f : FunctionValue) (placesf : ℕ → List Place) (L : ℕ → StateValue → StateValue → Type 0) (final : StateValue) (b last : ℕ) (old : StateValue)
@@ -82,7 +82,7 @@ module _ (code : PlacedCode) (final : StateValue) where
                 let sooner : j < last_of (block_at f b) = omega (arith, less, ne) in
                 let plain = ((ends b lb).1 j ge less sooner).0 in
                 let before_it : Grown AnyPlace s final = grown_then AnyPlace s u final
-                (changes_grow AnyPlace (in_changes (any_inst (λ e. AnyPlace e.0) f b j (λ n r. tt) (λ n r. tt)) a)) rest in
+                (changes_grow AnyPlace (allocs_inst_in_block_changes (any_inst (λ e. AnyPlace e.0) f b j (λ n r. tt) (λ n r. tt)) a)) rest in
                 let sp = split (j + 1) p s prev (omega (arith, sooner)) (listed_behind b j p q s u (within j less) a h) before_it in
                 record {
                   begin = sp.begin;

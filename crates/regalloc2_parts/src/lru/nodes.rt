@@ -3,7 +3,7 @@
 ghost use Rattle.std.specs.Prelude.{◌≡◌, ◌≢◌, ◌∷◌, ◌++◌, [], ◌<◌, ◌≤◌, All, Contains, length, map, not, filter, nat_eq, reverse, slice_set};
 ghost use Rattle.std.specs.List.{IsDistinct};
 ghost use Rattle.std.specs.Iterator.{YieldsFirst, item_count};
-ghost use Rattle.regalloc2_parts.specs.RingNodes.{IsNodeRing, IsRingOf, changed_links, named, nexts, prevs, ring_numbers};
+ghost use Rattle.regalloc2_parts.specs.RingNodes.{IsNodeRing, IsRingOfNumbers, lru_changed_links, named, lru_nexts, lru_prevs, ring_numbers};
 
 use regalloc2_names::{PReg, PRegSetIter, RegClass};
 use std::marker::Model;
@@ -19,9 +19,9 @@ pub struct LruNode {
 fn link(nodes: &mut [LruNode], prev: u8, next: u8)
     requires prev { prev < length nodes.old }
     requires next { next < length nodes.old }
-    ensures nexts { nexts nodes.new ≡ slice_set (nexts nodes.old) prev next }
-    ensures prevs { prevs nodes.new ≡ slice_set (prevs nodes.old) next prev }
-    ensures few { changed_links nodes.old nodes.new ≤ 2 }
+    ensures nexts { lru_nexts nodes.new ≡ slice_set (lru_nexts nodes.old) prev next }
+    ensures prevs { lru_prevs nodes.new ≡ slice_set (lru_prevs nodes.old) next prev }
+    ensures few { lru_changed_links nodes.old nodes.new ≤ 2 }
     ensures long { length nodes.new ≡ length nodes.old }
 {
     nodes[prev as usize].next = next;
@@ -33,8 +33,8 @@ pub fn append_node(nodes: &mut [LruNode], head: u8, number: u8)
     requires ring { IsNodeRing nodes.old head }
     requires below { number < length nodes.old }
     requires absent { All (λ n. n ≢ number) (ring_numbers nodes.old head) }
-    ensures ring { IsRingOf nodes.new head (ring_numbers nodes.old head ++ number ∷ []) }
-    ensures few { changed_links nodes.old nodes.new ≤ 4 }
+    ensures ring { IsRingOfNumbers nodes.new head (ring_numbers nodes.old head ++ number ∷ []) }
+    ensures few { lru_changed_links nodes.old nodes.new ≤ 4 }
     ensures long { length nodes.new ≡ length nodes.old }
 {
     let oldest = nodes[head as usize].prev;
@@ -47,8 +47,8 @@ fn take_out_node(nodes: &mut [LruNode], head: u8, number: u8)
     requires ring { IsNodeRing nodes.old head }
     requires member { Contains (ring_numbers nodes.old head) number }
     requires other { number ≢ head }
-    ensures ring { IsRingOf nodes.new head (filter (λ n. not (nat_eq number n)) (ring_numbers nodes.old head)) }
-    ensures few { changed_links nodes.old nodes.new ≤ 2 }
+    ensures ring { IsRingOfNumbers nodes.new head (filter (λ n. not (nat_eq number n)) (ring_numbers nodes.old head)) }
+    ensures few { lru_changed_links nodes.old nodes.new ≤ 2 }
     ensures long { length nodes.new ≡ length nodes.old }
 {
     let node = nodes[number as usize];
@@ -60,8 +60,8 @@ fn make_oldest(nodes: &mut [LruNode], head: u8, number: u8)
     requires ring { IsNodeRing nodes.old head }
     requires member { Contains (ring_numbers nodes.old head) number }
     requires other { number ≢ head }
-    ensures ring { IsRingOf nodes.new head (filter (λ n. not (nat_eq number n)) (ring_numbers nodes.old head) ++ number ∷ []) }
-    ensures few { changed_links nodes.old nodes.new ≤ 6 }
+    ensures ring { IsRingOfNumbers nodes.new head (filter (λ n. not (nat_eq number n)) (ring_numbers nodes.old head) ++ number ∷ []) }
+    ensures few { lru_changed_links nodes.old nodes.new ≤ 6 }
     ensures long { length nodes.new ≡ length nodes.old }
 {
     take_out_node(nodes, head, number);
@@ -73,8 +73,8 @@ fn make_oldest(nodes: &mut [LruNode], head: u8, number: u8)
 fn poke_younger(nodes: &mut [LruNode], head: &mut u8, number: u8)
     requires ring { IsNodeRing nodes.old head.old }
     requires member { Contains (ring_numbers nodes.old head.old) number }
-    ensures ring { IsRingOf nodes.new head.new (number ∷ filter (λ n. not (nat_eq number n)) (ring_numbers nodes.old head.old)) }
-    ensures few { changed_links nodes.old nodes.new ≤ 6 }
+    ensures ring { IsRingOfNumbers nodes.new head.new (number ∷ filter (λ n. not (nat_eq number n)) (ring_numbers nodes.old head.old)) }
+    ensures few { lru_changed_links nodes.old nodes.new ≤ 6 }
     ensures long { length nodes.new ≡ length nodes.old }
 {
     if number == *head {
@@ -92,8 +92,8 @@ fn poke_younger(nodes: &mut [LruNode], head: &mut u8, number: u8)
 pub fn poke_node(nodes: &mut [LruNode], head: &mut u8, number: u8)
     requires ring { IsNodeRing nodes.old head.old }
     requires member { Contains (ring_numbers nodes.old head.old) number }
-    ensures ring { IsRingOf nodes.new head.new (number ∷ filter (λ n. not (nat_eq number n)) (ring_numbers nodes.old head.old)) }
-    ensures few { changed_links nodes.old nodes.new ≤ 6 }
+    ensures ring { IsRingOfNumbers nodes.new head.new (number ∷ filter (λ n. not (nat_eq number n)) (ring_numbers nodes.old head.old)) }
+    ensures few { lru_changed_links nodes.old nodes.new ≤ 6 }
     ensures long { length nodes.new ≡ length nodes.old }
 {
     if nodes[*head as usize].prev == number {
@@ -108,7 +108,7 @@ pub fn make_ring(nodes: &mut [LruNode], head: u8, rest: PRegSetIter)
     requires room { length nodes.old ≡ 64 }
     requires below { head < 64 }
     requires distinct { IsDistinct nat_eq (head ∷ map (λ r. r.number) rest) }
-    ensures ring { IsRingOf nodes.new head (head ∷ map (λ r. r.number) rest) }
+    ensures ring { IsRingOfNumbers nodes.new head (head ∷ map (λ r. r.number) rest) }
     ensures long { length nodes.new ≡ length nodes.old }
 {
     link(nodes, head, head);

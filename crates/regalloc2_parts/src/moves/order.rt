@@ -16,9 +16,9 @@ ghost use Rattle.std.specs.List.Sorted.{IsPermutation, IsNonDecreasingBy};
 ghost use Rattle.regalloc2_names.specs.Place.{Place};
 ghost use Rattle.regalloc2_names.specs.PlaceBits.{bits_of_place};
 ghost use Rattle.regalloc2_parts.specs.AtOnce.{ends_of, AreReal, HasOneSourceEach, IsOfMoves, IsPlace};
-ghost use Rattle.regalloc2_parts.specs.Giving.{AreFair, AreProper, IsTidied, IsWriterOf, AreApart, AreNexts, IsOrder, IsChain};
+ghost use Rattle.regalloc2_parts.specs.Giving.{AreFair, AreProper, IsTidied, IsWriterOf, AreMovesApart, AreNexts, IsOrder, IsMoveChain};
 ghost use Rattle.regalloc2_parts.specs.Giving.{CanFollow, CanOpen, CanGive, CanBegin, IsGiving, LeadsTo, HasGoneOn, IsGivenOut, AreSameDone, state_at};
-ghost use Rattle.regalloc2_parts.specs.Resolved.{listed, has_scratch, IsResolution, IsRunnable};
+ghost use Rattle.regalloc2_parts.specs.Resolved.{moves_listed, has_scratch, IsResolution, IsRunnable};
 ghost use Rattle.regalloc2_parts.specs.declared.moves.order.State.TheVariants.{Todo, Pending, Done};
 
 use super::{MoveFault, MoveVec, MoveVecWithScratch};
@@ -50,7 +50,7 @@ fn follow<'a, B: Allocator>(
     chain: &mut Indexes<'a, B>,
 ) -> Result<usize, AllocError>
     requires { CanFollow nexts.now state.old chain.old.items start }
-    ensures chain { OnOk result (IsChain nexts.now state.new chain.new.items) }
+    ensures chain { OnOk result (IsMoveChain nexts.now state.new chain.new.items) }
     ensures link { IfOk result (λ stop. LeadsTo nexts.now chain.new.items stop) }
     ensures stops { IfOk result (λ stop. stop < length nexts.now → state_at state.new stop ≢ Todo) }
     ensures same { OnOk result (AreSameDone state.old state.new) }
@@ -150,7 +150,7 @@ fn give_all<T: Copy + Default, A: Allocator + Copy>(
     moves: &[(Allocation, Allocation, T)],
     nexts: &[usize],
 ) -> Result<MoveVec<T, A>, AllocError>
-    requires apart { AreApart (ends_of moves.now) }
+    requires apart { AreMovesApart (ends_of moves.now) }
     requires nexts { AreNexts (ends_of moves.now) nexts.now }
     requires indexed { length nexts.now ≡ length moves.now }
     ensures order { IfOk result (λ given. IsOrder (ends_of moves.now) nexts.now (ends_of given.items) × All (IsOfMoves moves.now) given.items) }
@@ -262,7 +262,7 @@ pub(super) fn resolve<T: Copy + Default, A: Allocator + Copy>(
 ) -> Result<MoveVecWithScratch<T, A>, MoveFault>
     requires one_source { HasOneSourceEach (ends_of moves.items) }
     requires real { AreReal moves.items }
-    ensures resolved { IfOk result (λ r. IsResolution moves.items (has_scratch r) (listed r)) }
+    ensures resolved { IfOk result (λ r. IsResolution moves.items (has_scratch r) (moves_listed r)) }
     ensures runnable { IfOk result (λ r. IsRunnable r) }
     ensures short { length moves.items ≤ 1 → IsOk result }
     ensures memory { IfErr result (λ e. e ≡ MoveFault.Memory) }

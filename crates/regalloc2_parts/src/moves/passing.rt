@@ -2,8 +2,8 @@
 
 ghost use Rattle.std.specs.Prelude.{◌≡◌, ◌≢◌, ◌⊎◌, Contains, IsTrue, IfOk, OnOk};
 ghost use Rattle.regalloc2_names.specs.Place.{Place};
-ghost use Rattle.regalloc2_parts.specs.AtOnce.{Cells, ends_of, in_turn, moved};
-ghost use Rattle.regalloc2_parts.specs.Tracking.{Tracks, CanPass, IsAside, IsThrough, IsStep};
+ghost use Rattle.regalloc2_parts.specs.AtOnce.{CellsOf, ends_of, in_turn, moved};
+ghost use Rattle.regalloc2_parts.specs.Tracking.{Tracks, CanPass, SavesOrRestores, GoesThrough, IsMadeFor};
 ghost use Rattle.regalloc2_parts.specs.declared.moves.passing.Held.TheVariants.{Free, InRegister, InBoth, InSave};
 
 use super::MoveVec;
@@ -36,10 +36,10 @@ fn save_first<T: Copy + Default, A: Allocator + Copy>(
     held: Held,
     out: &mut MoveVec<T, A>,
 ) -> Result<Held, AllocError>
-    ensures tracks { IfOk result (λ after. (c d : Cells Place) → Tracks via.now.register via.now.save held c (in_turn (ends_of out.old.items) d) →
+    ensures tracks { IfOk result (λ after. (c d : CellsOf Place) → Tracks via.now.register via.now.save held c (in_turn (ends_of out.old.items) d) →
         Tracks via.now.register via.now.save after c (in_turn (ends_of out.new.items) d)) }
     ensures can_pass { IfOk result (λ after. CanPass after) }
-    ensures added { OnOk result ((x : Place × Place × _) → Contains out.new.items x → Contains out.old.items x ⊎ IsAside via.now.register via.now.save x) }
+    ensures added { OnOk result ((x : Place × Place × _) → Contains out.new.items x → Contains out.old.items x ⊎ SavesOrRestores via.now.register via.now.save x) }
 {
     match held {
         Held::Free => Ok(Held::Free),
@@ -58,10 +58,10 @@ pub(super) fn restore_first<T: Copy + Default, A: Allocator + Copy>(
     held: Held,
     out: &mut MoveVec<T, A>,
 ) -> Result<Held, AllocError>
-    ensures tracks { IfOk result (λ after. (c d : Cells Place) → Tracks via.now.register via.now.save held c (in_turn (ends_of out.old.items) d) →
+    ensures tracks { IfOk result (λ after. (c d : CellsOf Place) → Tracks via.now.register via.now.save held c (in_turn (ends_of out.old.items) d) →
         Tracks via.now.register via.now.save after c (in_turn (ends_of out.new.items) d)) }
     ensures restored { IfOk result (λ after. after ≢ InSave) }
-    ensures added { OnOk result ((x : Place × Place × _) → Contains out.new.items x → Contains out.old.items x ⊎ IsAside via.now.register via.now.save x) }
+    ensures added { OnOk result ((x : Place × Place × _) → Contains out.new.items x → Contains out.old.items x ⊎ SavesOrRestores via.now.register via.now.save x) }
 {
     match held {
         Held::Free => Ok(Held::Free),
@@ -83,10 +83,10 @@ fn pass<T: Copy + Default, A: Allocator + Copy>(
 ) -> Result<Held, AllocError>
     requires from { (m.now.0 ≢ via.now.register) × (m.now.0 ≢ via.now.save) }
     requires to { (m.now.1 ≢ via.now.register) × (m.now.1 ≢ via.now.save) }
-    ensures tracks { IfOk result (λ after. (c d : Cells Place) → Tracks via.now.register via.now.save held c (in_turn (ends_of out.old.items) d) →
+    ensures tracks { IfOk result (λ after. (c d : CellsOf Place) → Tracks via.now.register via.now.save held c (in_turn (ends_of out.old.items) d) →
         Tracks via.now.register via.now.save after (moved c m.now.1 (c m.now.0)) (in_turn (ends_of out.new.items) d)) }
-    ensures added { OnOk result ((x : Place × Place × _) → Contains out.new.items x → (Contains out.old.items x ⊎ IsAside via.now.register via.now.save x)
-        ⊎ IsThrough via.now.register m.now x) }
+    ensures added { OnOk result ((x : Place × Place × _) → Contains out.new.items x → (Contains out.old.items x ⊎ SavesOrRestores via.now.register via.now.save x)
+        ⊎ GoesThrough via.now.register m.now x) }
 {
     let after = save_first(via, held, out)?;
     let first = *m;
@@ -105,7 +105,7 @@ fn copy<T: Copy + Default, A: Allocator + Copy>(
 ) -> Result<Held, AllocError>
     requires unnamed { (m.now.0 ≢ via.now.save) × (m.now.1 ≢ via.now.save) }
     requires ready { m.now.0 ≡ via.now.register → held ≢ InSave }
-    ensures tracks { IfOk result (λ after. (c d : Cells Place) → Tracks via.now.register via.now.save held c (in_turn (ends_of out.old.items) d) →
+    ensures tracks { IfOk result (λ after. (c d : CellsOf Place) → Tracks via.now.register via.now.save held c (in_turn (ends_of out.old.items) d) →
         Tracks via.now.register via.now.save after (moved c m.now.1 (c m.now.0)) (in_turn (ends_of out.new.items) d)) }
     ensures added { OnOk result ((x : Place × Place × _) → Contains out.new.items x → Contains out.old.items x ⊎ (x ≡ m.now)) }
 {
@@ -126,10 +126,10 @@ pub(super) fn make<T: Copy + Default, A: Allocator + Copy>(
 ) -> Result<Held, AllocError>
     requires unnamed { (m.now.0 ≢ via.now.save) × (m.now.1 ≢ via.now.save) }
     requires passing { IsTrue is_passing → (m.now.0 ≢ via.now.register) × (m.now.1 ≢ via.now.register) }
-    ensures tracks { IfOk result (λ after. (c d : Cells Place) → Tracks via.now.register via.now.save held c (in_turn (ends_of out.old.items) d) →
+    ensures tracks { IfOk result (λ after. (c d : CellsOf Place) → Tracks via.now.register via.now.save held c (in_turn (ends_of out.old.items) d) →
         Tracks via.now.register via.now.save after (moved c m.now.1 (c m.now.0)) (in_turn (ends_of out.new.items) d)) }
-    ensures added { OnOk result ((x : Place × Place × _) → Contains out.new.items x → (Contains out.old.items x ⊎ IsAside via.now.register via.now.save x)
-        ⊎ IsStep via.now.register is_passing m.now x) }
+    ensures added { OnOk result ((x : Place × Place × _) → Contains out.new.items x → (Contains out.old.items x ⊎ SavesOrRestores via.now.register via.now.save x)
+        ⊎ IsMadeFor via.now.register is_passing m.now x) }
 {
     if is_passing {
         return pass(m, via, held, out);

@@ -2,8 +2,8 @@
 
 ghost use Rattle.std.specs.Prelude.{◌≡◌, ◌≢◌, map};
 ghost use Rattle.regalloc2_names.specs.Place.{Place, NoPlace};
-ghost use Rattle.regalloc2_parts.specs.AtOnce.{ends_of, names, in_turn};
-ghost use Rattle.regalloc2_parts.specs.Resolved.{listed, has_scratch, with_place, place_or, filled, unscratched, IsRunnable, IsUnnamed, AreBetweenPlaces};
+ghost use Rattle.regalloc2_parts.specs.AtOnce.{ends_of, own_names, in_turn};
+ghost use Rattle.regalloc2_parts.specs.Resolved.{moves_listed, has_scratch, with_place, place_or, filled, unscratched, IsRunnable, IsUnnamed, AreBetweenPlaces};
 
 use super::MoveVec;
 use regalloc2_names::Allocation;
@@ -43,8 +43,8 @@ impl<T: Copy + Default, A: Allocator + Copy> MoveVecWithScratch<T, A> {
     pub fn with_scratch(self, scratch: Allocation) -> MoveVec<T, A>
         ensures items { result.items ≡ with_place scratch self }
         ensures real { scratch ≢ NoPlace → IsRunnable self → AreBetweenPlaces result.items }
-        ensures same { scratch ≢ NoPlace → IsRunnable self → IsUnnamed scratch (listed self) → (q : Place) → q ≢ scratch → q ≢ NoPlace →
-            in_turn (ends_of result.items) names q ≡ in_turn (ends_of (listed self)) names q }
+        ensures same { scratch ≢ NoPlace → IsRunnable self → IsUnnamed scratch (moves_listed self) → (q : Place) → q ≢ scratch → q ≢ NoPlace →
+            in_turn (ends_of result.items) own_names q ≡ in_turn (ends_of (moves_listed self)) own_names q }
     {
         match self {
             MoveVecWithScratch::NoScratch(moves) => moves,

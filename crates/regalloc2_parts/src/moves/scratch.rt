@@ -2,7 +2,7 @@
 
 ghost use Rattle.std.specs.Prelude.{◌≡◌, ◌⊎◌, true, false, IfOk, IfErr, MatchResult};
 ghost use Rattle.regalloc2_names.specs.Place.{InRegister};
-ghost use Rattle.regalloc2_parts.specs.Resolved.{listed, has_scratch, IsRunnable};
+ghost use Rattle.regalloc2_parts.specs.Resolved.{moves_listed, has_scratch, IsRunnable};
 ghost use Rattle.regalloc2_parts.specs.Tracking.{CanExpandBy, IsExpanded};
 ghost use Rattle.regalloc2_parts.specs.Computed.{CanAsk, Owes, MayBeAskedTwice, IsHanding, IsRefusing, IsVia, IsChoice};
 ghost use Rattle.regalloc2_parts.specs.Computed.{Computes, AreApartInMemory, AreSeenApart};
@@ -168,7 +168,7 @@ where
         requires stack { IsStackAlloc.IsAlwaysCallable self.old.is_stack_alloc }
         requires runnable { IsRunnable moves }
         requires owes { Owes (λ s a t. GetReg.step s a t) (λ s a t. GetStackSlot.step s a t) (λ p b. IsStackAlloc.post self.old.is_stack_alloc p b)
-            (InRegister self.old.borrowed_scratch_reg) (listed moves) self.old.find_free_reg self.old.get_stackslot }
+            (InRegister self.old.borrowed_scratch_reg) (moves_listed moves) self.old.find_free_reg self.old.get_stackslot }
         ensures computed { Computes (λ s a t. GetReg.step s a t) (λ s a t. GetStackSlot.step s a t) (λ p b. IsStackAlloc.post self.old.is_stack_alloc p b)
             self.old self.new moves result }
     {
@@ -203,7 +203,7 @@ where
         requires stack { IsStackAlloc.IsAlwaysCallable self.is_stack_alloc }
         requires runnable { IsRunnable moves }
         requires owes { Owes (λ s a t. GetReg.step s a t) (λ s a t. GetStackSlot.step s a t) (λ p b. IsStackAlloc.post self.is_stack_alloc p b)
-            (InRegister self.borrowed_scratch_reg) (listed moves) self.find_free_reg self.get_stackslot }
+            (InRegister self.borrowed_scratch_reg) (moves_listed moves) self.find_free_reg self.get_stackslot }
         ensures computed { (after : MoveAndScratchResolver GetReg GetStackSlot IsStackAlloc)
             × Computes (λ s a t. GetReg.step s a t) (λ s a t. GetStackSlot.step s a t) (λ p b. IsStackAlloc.post self.is_stack_alloc p b) self after moves
             result }

@@ -5,7 +5,7 @@
 
 ghost use Rattle.std.specs.Prelude.{◌≡◌, ◌≢◌, ◌↔◌, Bool, Option, None, Some, IsTrue};
 ghost use Rattle.regalloc2_names.specs.Place.{Place, NoPlace, is_in_slot};
-ghost use Rattle.regalloc2_parts.specs.Resolved.{listed, IsRunnable, IsUnnamed};
+ghost use Rattle.regalloc2_parts.specs.Resolved.{moves_listed, IsRunnable, IsUnnamed};
 
 use super::listed::{Move, Pairs, SLOT, place, resolved, write_moves};
 use crate::report::Report;
@@ -57,7 +57,7 @@ fn is_unnamed(moves: &[Move], place: Allocation) -> bool
 
 /// Whether no move names the place, where there is one, and it is a slot or none as it should be.
 fn serves(moves: &Resolved<'_>, place: Option<Allocation>, is_slot: bool) -> bool
-    ensures { IsTrue result → (p : Place) → place ≡ Some p → (is_in_slot p ≡ is_slot) × (p ≢ NoPlace) × IsUnnamed p (listed moves.now) }
+    ensures { IsTrue result → (p : Place) → place ≡ Some p → (is_in_slot p ≡ is_slot) × (p ≢ NoPlace) × IsUnnamed p (moves_listed moves.now) }
 {
     let Some(p) = place else {
         return true;

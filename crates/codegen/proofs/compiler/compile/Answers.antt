@@ -1,6 +1,6 @@
 use Rattle.std.proofs.Common.{sym, subst}
 use Rattle.regalloc2_function.specs.Views.{machine_of, output_of}
-use Rattle.codegen_ir.specs.Seen.{function_of}
+use Rattle.codegen_ir.specs.Seen.{function_of_procedure}
 use Rattle.codegen_machine.specs.Machine.{CodeValue}
 use Rattle.codegen.specs.Behaves.{BehavesAs}
 use Rattle.codegen.proofs.Behaving.{behaves}
@@ -14,5 +14,5 @@ returns-in-Ok-emit-clause-behaves c =
     let out = output_of c.in-Ok.out in
     let given = c.in-Ok.ensures in
     let is = emitted_is p env out c.target-env.ensures given.tested given.allocation in
-    let alike = c.runs_alike.ensures.well_formed (function_of p) env out given.tested given.runs.faithful in
+    let alike = c.runs_alike.ensures.well_formed (function_of_procedure p) env out given.tested given.runs.faithful in
     subst (λ (code : CodeValue). BehavesAs p code) (sym c.in-Ok-emit.ensures) (behaves p out _ _ is alike)

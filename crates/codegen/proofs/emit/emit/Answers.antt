@@ -1,6 +1,6 @@
 use Rattle.std.proofs.Common.{◌∙◌}
 use Rattle.regalloc2_function.specs.Views.{output_of}
-use Rattle.codegen_ir.specs.Seen.{function_of, operations}
+use Rattle.codegen_ir.specs.Seen.{function_of_procedure, operations}
 use Rattle.codegen.proofs.Emitting.{no_block_yet, one_block, no_start, one_start}
 use Rattle.codegen.proofs.emit.emit.Goals as goal
 
@@ -8,14 +8,14 @@ pub loop-b-init : goal.loop-b-init
 loop-b-init c =
     let os = operations c.args.f.now in
     let out = output_of c.args.out.now in
-    let f = function_of c.args.f.now in
+    let f = function_of_procedure c.args.f.now in
     (rw c.new-code.ensures.items (no_block_yet os out f), rw c.new-starts.ensures.items (no_start os out f))
 
 pub loop-b-preserved : goal.loop-b-preserved
 loop-b-preserved c =
     let os = operations c.args.f.now in
     let out = output_of c.args.out.now in
-    let f = function_of c.args.f.now in (
+    let f = function_of_procedure c.args.f.now in (
       one_block os out f c.loop-b.b _ _ c.loop-b.invariant.0 (rw c.new.ensures at c.in_ok-emit_block.ensures),
       one_start os out f c.loop-b.b _ _ _ _ c.loop-b.invariant.1 c.loop-b.invariant.0 (c.len.ensures ∙ c.loop-b.code.ok.0) c.in_ok-push.ensures.items,
     )

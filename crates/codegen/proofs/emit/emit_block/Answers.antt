@@ -2,14 +2,14 @@ use Rattle.std.proofs.Common.{ap, ◌++◌, length}
 use Rattle.regalloc2_function.specs.FunctionValue.{block_at}
 use Rattle.regalloc2_function.specs.Following.{end_within}
 use Rattle.regalloc2_function.specs.Views.{output_of}
-use Rattle.codegen_ir.specs.Seen.{function_of, operations}
+use Rattle.codegen_ir.specs.Seen.{function_of_procedure, operations}
 use Rattle.codegen.specs.Emitted.{items_code}
 use Rattle.codegen.proofs.Emitting.{all_wider, next_within, one_item, no_item}
 use Rattle.codegen.proofs.emit.emit_block.Goals as goal
 
 pub loop-item-init : goal.loop-item-init
 loop-item-init c =
-    let f = function_of c.args.f.now in
+    let f = function_of_procedure c.args.f.now in
     let b = block_at f c.args.block in
     let code = items_code (operations c.args.f.now) (output_of c.args.out.now) b.succs in (
       rw c.into_iter-item-iterator.ensures.into_iter_gives (all_wider b.range.first b.range.end (length f.insts) _

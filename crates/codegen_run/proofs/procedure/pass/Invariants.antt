@@ -1,8 +1,8 @@
 use Rattle.std.proofs.Common.{◌≡◌, drop}
 use Rattle.regalloc2_values.specs.Interpreters.{passed_on}
-use Rattle.codegen_run.specs.States.{numbers_of}
+use Rattle.codegen_run.specs.States.{numbers_by_vreg}
 use Rattle.codegen_run.proofs.procedure.pass.Given as goal
 
 abbrev pub invariant-loop-at : goal.invariant-loop-at
-invariant-loop-at l = passed_on l.params l.arguments (numbers_of l.fn.numbers) (numbers_of l.fn.numbers)
-    ≡ passed_on (drop l.at l.params) (drop l.at l.arguments) (numbers_of l.fn.numbers) (numbers_of l.numbers)
+invariant-loop-at l = passed_on l.params l.arguments (numbers_by_vreg l.fn.numbers) (numbers_by_vreg l.fn.numbers)
+    ≡ passed_on (drop l.at l.params) (drop l.at l.arguments) (numbers_by_vreg l.fn.numbers) (numbers_by_vreg l.numbers)

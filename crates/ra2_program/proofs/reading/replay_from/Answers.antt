@@ -1,6 +1,6 @@
 use Rattle.std.proofs.Common.{◌≡◌, true, false, refl}
 use Rattle.regalloc2_function.specs.Views.{machine_of, output_of}
-use Rattle.regalloc2_serialize.specs.Tables.{function_of}
+use Rattle.regalloc2_serialize.specs.Tables.{function_of_serializable}
 use Rattle.ra2_program.proofs.TextReadings.{output_fault}
 use Rattle.ra2_program.proofs.reading.replay_from.Goals as goal
 
@@ -16,7 +16,7 @@ returns-in-Err-from_stored-clause-err g c = (
 
 pub returns-then-not-is_framed-clause-err : goal.returns-then-not-is_framed-clause-err
 returns-then-not-is_framed-clause-err g c = (
-  function_of c.in-Ok.f,
+  function_of_serializable c.in-Ok.f,
   machine_of c.in-Ok.f.machine,
   output_of c.in-Ok-from_stored.output,
   record {

@@ -1,6 +1,6 @@
 use Rattle.std.proofs.Common.{List, ◌≡◌, true, false, refl, sym, ap, ◌∙◌, arith, below_more}
 use Rattle.regalloc2_names.specs.Operand.{OperandValue, is_def}
-use Rattle.regalloc2_semantics.specs.Listing.{op_at}
+use Rattle.regalloc2_function.specs.FunctionValue.{op_at}
 use Rattle.regalloc2_branch_defs.proofs.BlockEnds.{read_operand}
 use Rattle.regalloc2_branch_defs.proofs.edges.some_defines.Goals as goal
 

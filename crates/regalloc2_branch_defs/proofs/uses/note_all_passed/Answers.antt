@@ -1,7 +1,8 @@
 use Rattle.std.proofs.Common.{ℕ, ◌≡◌, length, subst, arith}
 use Rattle.regalloc2_function.specs.FunctionValue.{FunctionValue}
-use Rattle.regalloc2_branch_defs.specs.Notes.{Marks, PassesIn}
+use Rattle.regalloc2_branch_defs.specs.Notes.{PassesIn}
 use Rattle.regalloc2_branch_defs.proofs.UseNotes.{blocks_more}
+use Rattle.regalloc2_cfg.specs.MarkedNumbers.{Marks}
 use Rattle.regalloc2_branch_defs.proofs.uses.note_all_passed.Goals as goal
 
 pub loop-b-preserved : goal.loop-b-preserved

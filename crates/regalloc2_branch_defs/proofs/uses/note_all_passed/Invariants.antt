@@ -1,5 +1,6 @@
 use Rattle.std.proofs.Common.{◌≡◌, length}
-use Rattle.regalloc2_branch_defs.specs.Notes.{Marks, PassesIn}
+use Rattle.regalloc2_branch_defs.specs.Notes.{PassesIn}
+use Rattle.regalloc2_cfg.specs.MarkedNumbers.{Marks}
 use Rattle.regalloc2_branch_defs.proofs.uses.note_all_passed.Given as goal
 
 -- what the blocks so far pass is marked

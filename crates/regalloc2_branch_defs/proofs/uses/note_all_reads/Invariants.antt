@@ -1,5 +1,6 @@
 use Rattle.std.proofs.Common.{◌≡◌, length}
-use Rattle.regalloc2_branch_defs.specs.Notes.{Marks, ReadsIn}
+use Rattle.regalloc2_branch_defs.specs.Notes.{ReadsIn}
+use Rattle.regalloc2_cfg.specs.MarkedNumbers.{Marks}
 use Rattle.regalloc2_branch_defs.proofs.uses.note_all_reads.Given as goal
 
 -- what the instructions so far read is marked

@@ -1,4 +1,5 @@
-use Rattle.regalloc2_branch_defs.specs.Notes.{Marks, PassesAmong}
+use Rattle.regalloc2_branch_defs.specs.Notes.{PassesAmong}
+use Rattle.regalloc2_cfg.specs.MarkedNumbers.{Marks}
 use Rattle.regalloc2_branch_defs.proofs.uses.note_arguments.Given as goal
 
 -- the arguments so far are marked, but for those that the instruction defines

@@ -2,8 +2,9 @@ use Rattle.std.proofs.Common.{ℕ, ◌≡◌, ◌-◌, length, ap, ◌∙◌, su
 use Rattle.regalloc2_index.specs.Range.{Span}
 use Rattle.regalloc2_function.specs.FunctionValue.{FunctionValue, block_at}
 use Rattle.regalloc2_function.specs.WellFormed.{last_of}
-use Rattle.regalloc2_branch_defs.specs.Notes.{Marks, PassesOut}
+use Rattle.regalloc2_branch_defs.specs.Notes.{PassesOut}
 use Rattle.regalloc2_branch_defs.proofs.UseNotes.{edges_more}
+use Rattle.regalloc2_cfg.specs.MarkedNumbers.{Marks}
 use Rattle.regalloc2_branch_defs.proofs.uses.note_passed.Goals as goal
 
 pub loop-k-preserved : goal.loop-k-preserved

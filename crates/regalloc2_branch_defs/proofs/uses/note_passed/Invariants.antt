@@ -1,6 +1,7 @@
 use Rattle.std.proofs.Common.{◌≡◌, length}
 use Rattle.regalloc2_function.specs.FunctionValue.{block_at}
-use Rattle.regalloc2_branch_defs.specs.Notes.{Marks, PassesOut}
+use Rattle.regalloc2_branch_defs.specs.Notes.{PassesOut}
+use Rattle.regalloc2_cfg.specs.MarkedNumbers.{Marks}
 use Rattle.regalloc2_branch_defs.proofs.uses.note_passed.Given as goal
 
 -- what is passed at the edges so far is marked

@@ -1,4 +1,5 @@
-use Rattle.regalloc2_branch_defs.specs.Notes.{Marks, ReadsAmong}
+use Rattle.regalloc2_branch_defs.specs.Notes.{ReadsAmong}
+use Rattle.regalloc2_cfg.specs.MarkedNumbers.{Marks}
 use Rattle.regalloc2_branch_defs.proofs.uses.note_reads.Given as goal
 
 -- what the operands so far read is marked

@@ -1,44 +1,44 @@
 use Rattle.std.proofs.Common.{subst, sym}
 use Rattle.regalloc2.specs.Views.{machine_of, output_of}
 use Rattle.regalloc2_serialize.specs.Decoded.{NamesMachine}
-use Rattle.regalloc2_serialize.specs.Tables.{function_of}
+use Rattle.regalloc2_serialize.specs.Tables.{function_of_serializable}
 use Rattle.regalloc2_flat.specs.Flat.{output_words}
-use Rattle.regalloc2_c.specs.Outcome.{IsNamed, IsAllocated, IsAllocateFailure}
+use Rattle.regalloc2_c.specs.Outcome.{NumbersNameFunction, IsAllocatedOutput, IsAllocateFailure}
 use Rattle.regalloc2_c.proofs.Outcomes.{allocated_words, refused_as, unlisted}
 use Rattle.regalloc2_c.proofs.calls.allocated.Goals as goal
 
 pub returns-in-Err-allocate-clause-err : goal.returns-in-Err-allocate-clause-err
 returns-in-Err-allocate-clause-err c room =
-    let named : IsNamed c.args.stored.now (function_of c.in-Ok.f) (machine_of c.machine_env.result.now) = record {
+    let named : NumbersNameFunction c.args.stored.now (function_of_serializable c.in-Ok.f) (machine_of c.machine_env.result.now) = record {
       sound = c.in-Ok.ensures.sound;
       function = c.in-Ok.ensures.function;
       machine = subst (λ m. NamesMachine c.args.stored.now.machine_env m) (sym c.machine_env.ensures) c.in-Ok.ensures.machine;
     } in
     subst (λ e. IsAllocateFailure c.args.stored.now room e) (sym c.failure_of.ensures)
-    (refused_as c.args.stored.now (function_of c.in-Ok.f) (machine_of c.machine_env.result.now) room named c.in-Err-allocate.error
+    (refused_as c.args.stored.now (function_of_serializable c.in-Ok.f) (machine_of c.machine_env.result.now) room named c.in-Err-allocate.error
     c.in-Err-allocate.ensures.refused)
 
 pub returns-in-Ok-words_of-clause-ok : goal.returns-in-Ok-words_of-clause-ok
 returns-in-Ok-words_of-clause-ok c =
-    let named : IsNamed c.args.stored.now (function_of c.in-Ok.f) (machine_of c.machine_env.result.now) = record {
+    let named : NumbersNameFunction c.args.stored.now (function_of_serializable c.in-Ok.f) (machine_of c.machine_env.result.now) = record {
       sound = c.in-Ok.ensures.sound;
       function = c.in-Ok.ensures.function;
       machine = subst (λ m. NamesMachine c.args.stored.now.machine_env m) (sym c.machine_env.ensures) c.in-Ok.ensures.machine;
     } in
-    subst (λ words. IsAllocated c.args.stored.now words) (sym c.in-Ok-words_of.ensures.ok)
-    (allocated_words c.args.stored.now (function_of c.in-Ok.f) (machine_of c.machine_env.result.now) (output_of c.in-Ok-allocate.output)
+    subst (λ words. IsAllocatedOutput c.args.stored.now words) (sym c.in-Ok-words_of.ensures.ok)
+    (allocated_words c.args.stored.now (function_of_serializable c.in-Ok.f) (machine_of c.machine_env.result.now) (output_of c.in-Ok-allocate.output)
     c.in-Ok-stored.numbers named c.in-Ok-allocate.ensures.tested c.in-Ok-allocate.ensures.allocation c.in-Ok-allocate.ensures.faithful
     c.in-Ok-stored.ensures.output c.in-Ok-stored.ensures.names)
 
 pub returns-clause-err : goal.returns-clause-err
 returns-clause-err c room =
-    let named : IsNamed c.args.stored.now (function_of c.in-Ok.f) (machine_of c.machine_env.result.now) = record {
+    let named : NumbersNameFunction c.args.stored.now (function_of_serializable c.in-Ok.f) (machine_of c.machine_env.result.now) = record {
       sound = c.in-Ok.ensures.sound;
       function = c.in-Ok.ensures.function;
       machine = subst (λ m. NamesMachine c.args.stored.now.machine_env m) (sym c.machine_env.ensures) c.in-Ok.ensures.machine;
     } in
     subst (λ e. IsAllocateFailure c.args.stored.now room e) (sym c.failure_to_write.ensures)
     (unlisted c.args.stored.now room (output_words c.in-Ok-stored.numbers)
-    (allocated_words c.args.stored.now (function_of c.in-Ok.f) (machine_of c.machine_env.result.now) (output_of c.in-Ok-allocate.output)
+    (allocated_words c.args.stored.now (function_of_serializable c.in-Ok.f) (machine_of c.machine_env.result.now) (output_of c.in-Ok-allocate.output)
     c.in-Ok-stored.numbers named c.in-Ok-allocate.ensures.tested c.in-Ok-allocate.ensures.allocation c.in-Ok-allocate.ensures.faithful
     c.in-Ok-stored.ensures.output c.in-Ok-stored.ensures.names) c.in-Err-words_of.fault c.in-Err-words_of.ensures.limit)

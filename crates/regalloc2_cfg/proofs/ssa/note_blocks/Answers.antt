@@ -3,7 +3,7 @@ use Rattle.std.specs.Prelude.{flat_map}
 use Rattle.std.proofs.lemmas.Result.{err_from_is_err_and}
 use Rattle.regalloc2_function.specs.FunctionValue.{FunctionValue, block_at}
 use Rattle.regalloc2_function.specs.Reasons.{block_definitions, definitions_in}
-use Rattle.regalloc2_cfg.specs.Definitions.Notes.{none}
+use Rattle.regalloc2_cfg.specs.Definitions.NotesDefinitions.{none}
 use Rattle.regalloc2_cfg.proofs.ListsInParts.{flat_split, flat_more}
 use Rattle.regalloc2_function.specs.Following.{end_within}
 use Rattle.regalloc2_cfg.proofs.BlockRanges.{block_is}

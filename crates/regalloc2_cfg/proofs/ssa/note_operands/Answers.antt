@@ -3,7 +3,7 @@ use Rattle.std.specs.Prelude.{filter_map}
 use Rattle.regalloc2_names.specs.Operand.{is_def}
 use Rattle.regalloc2_names.specs.Point.{after}
 use Rattle.regalloc2_function.specs.Reasons.{operand_definition}
-use Rattle.regalloc2_cfg.specs.Definitions.Notes.{none, more}
+use Rattle.regalloc2_cfg.specs.Definitions.NotesDefinitions.{none, more}
 use Rattle.regalloc2_cfg.proofs.ListsInParts.{filter_split, filter_more}
 use Rattle.regalloc2_cfg.proofs.NotedInParts.{names_in_part, taken_now}
 use Rattle.regalloc2_names.specs.declared.RegAllocError.TheVariants.{SSA}

@@ -2,7 +2,7 @@ use Rattle.std.proofs.Common.{◌≡◌, ◌+◌, [], ◌∷◌, take, drop, ap,
 use Rattle.std.specs.Prelude.{map}
 use Rattle.regalloc2_names.specs.Point.{before}
 use Rattle.regalloc2_function.specs.Reasons.{param_definition}
-use Rattle.regalloc2_cfg.specs.Definitions.Notes.{none, more}
+use Rattle.regalloc2_cfg.specs.Definitions.NotesDefinitions.{none, more}
 use Rattle.regalloc2_cfg.proofs.ListsInParts.{map_split, map_more}
 use Rattle.regalloc2_cfg.proofs.NotedInParts.{names_in_part, taken_now}
 use Rattle.regalloc2_names.specs.declared.RegAllocError.TheVariants.{SSA}

@@ -4,7 +4,7 @@ use Rattle.std.specs.BinaryHeap.{heap_items, heap_len}
 use Rattle.regalloc2_function.specs.FunctionValue.{block_at}
 use Rattle.regalloc2_checker.specs.Propagation.{IsQueue, AreReached, AreSized}
 use Rattle.regalloc2_checker.specs.TableFacts.{facts_now, facts_table}
-use Rattle.regalloc2_checker.specs.Tables.{AreAlike, views, weight}
+use Rattle.regalloc2_checker.specs.Tables.{ListTheSame, views, weight}
 use Rattle.regalloc2_checker.proofs.UnmarkedStaySolved.{EdgesPassed}
 use Rattle.regalloc2_checker.proofs.analyze.propagate_edges.Given as goal
 
@@ -13,7 +13,7 @@ abbrev pub invariant-loop-k : goal.invariant-loop-k
 invariant-loop-k g l = record {
   last : l.k-end ≡ length (block_at (g.F.Function.function l.f) l.block).succs;
   low : l.k ≤ length (block_at (g.F.Function.function l.f) l.block).succs;
-  alike : AreAlike l.fn.state.values l.state.values;
+  alike : ListTheSame l.fn.state.values l.state.values;
   sized : AreSized (g.F.Function.function l.f) l.state.values l.state.reached.items l.state.queue.is_queued.items;
   table : facts_table l.state.values (length (g.F.Function.function l.f).blocks) ≡ facts_now l.fn.state.values;
   done : EdgesPassed (g.F.Function.function l.f) g.o (views l.fn.state.values l.fn.state.reached.items) (views l.state.values l.state.reached.items)

@@ -1,6 +1,6 @@
 use Rattle.std.proofs.Common.{◌≡◌, ℕ, length, ap, refl, subst, arith}
 use Rattle.regalloc2_function.specs.declared.listing.Edit.{Edit}
-use Rattle.regalloc2_checker.specs.ListingCopied.{ArePassed}
+use Rattle.regalloc2_checker.specs.ListingCopied.{AreBeforePoint}
 use Rattle.regalloc2_checker.proofs.CopiedListing.{passed_more, split_here, split_end}
 use Rattle.regalloc2_checker.proofs.handle.first_from.Goals as goal
 
@@ -25,4 +25,4 @@ pub returns-clause-split : goal.returns-clause-split
 returns-clause-split c =
     let all : c.loop-k.k ≡ length c.args.edits.now = omega (arith, c.loop-k-test.false, c.loop-k.invariant.end, c.loop-k.invariant.high) in
     split_end c.args.edits.now (length c.args.edits.now) c.args.point refl
-    (subst (λ (n : ℕ). ArePassed c.args.edits.now n c.args.point) all c.loop-k.invariant.passed)
+    (subst (λ (n : ℕ). AreBeforePoint c.args.edits.now n c.args.point) all c.loop-k.invariant.passed)

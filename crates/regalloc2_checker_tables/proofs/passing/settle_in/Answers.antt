@@ -1,5 +1,5 @@
 use Rattle.std.proofs.Common.{ℕ, List, arith, sym, ◌∙◌, subst}
-use Rattle.regalloc2_checker_tables.specs.Showing.{ArePassed}
+use Rattle.regalloc2_checker_tables.specs.Showing.{ListsPassed}
 use Rattle.regalloc2_checker_tables.proofs.Shown.{IsSettledIn, settled-places, settled-vregs, settled-in-now, settled-in-tables}
 use Rattle.regalloc2_checker_tables.proofs.passing.settle_in.Goals as goal
 
@@ -7,7 +7,7 @@ pub load-requires : goal.load-requires
 load-requires g c = omega (arith, c.requires.table, c.save.ensures.count)
 
 pub settle-requires : goal.settle-requires
-settle-requires g c = subst (λ (vs : List ℕ). ArePassed vs c.args.passed) (sym (c.load.ensures.kept.vregs ∙ c.save.ensures.vregs)) c.requires.passed
+settle-requires g c = subst (λ (vs : List ℕ). ListsPassed vs c.args.passed) (sym (c.load.ensures.kept.vregs ∙ c.save.ensures.vregs)) c.requires.passed
 
 pub returns-in_err-settle-clause-places : goal.returns-in_err-settle-clause-places
 returns-in_err-settle-clause-places g c = c.settle.ensures.kept.places ∙ c.load.ensures.kept.places ∙ c.save.ensures.places

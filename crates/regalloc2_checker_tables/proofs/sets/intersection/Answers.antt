@@ -1,5 +1,5 @@
 use Rattle.std.proofs.Common.{ℕ, List, arith, true, ap, sym, ◌∙◌, cond, nat_eq}
-use Rattle.regalloc2_cfg.specs.Numbers.{times_in, has_number}
+use Rattle.regalloc2_cfg.specs.Numbers.{times_listed, has_number}
 use Rattle.regalloc2_checker_tables.specs.EntrySets.{has_bits}
 use Rattle.regalloc2_checker_tables.proofs.Bits.{both-more, both-none, both-skip, both-all, bits-out}
 use Rattle.regalloc2_checker_tables.proofs.Walked.{walked-on}
@@ -7,7 +7,7 @@ use Rattle.regalloc2_checker_tables.proofs.sets.intersection.Goals as goal
 
 pub loop-member-init : goal.loop-member-init
 loop-member-init g c = record {
-  all = λ i. ap (λ (l : List ℕ). times_in l i) c.into_iter-member-iterator.ensures.into_iter_gives ∙ c.iter-member-items.ensures i;
+  all = λ i. ap (λ (l : List ℕ). times_listed l i) c.into_iter-member-iterator.ensures.into_iter_gives ∙ c.iter-member-items.ensures i;
   both = both-none c.new-both.result c.args.other.now c.new-both.ensures;
 }
 

@@ -1,5 +1,5 @@
 use Rattle.std.proofs.Common.{ℕ, ◌<◌, List, arith, ap, ◌∙◌}
-use Rattle.regalloc2_cfg.specs.Numbers.{times_in}
+use Rattle.regalloc2_cfg.specs.Numbers.{times_listed}
 use Rattle.regalloc2_checker_tables.proofs.Bits.{bits-in, bits-small}
 use Rattle.regalloc2_checker_tables.proofs.Walked.{times-nil, walked-on, walked-is, walked-more, walked-end}
 use Rattle.regalloc2_checker_tables.proofs.Lone.{none-there, member-as}
@@ -7,7 +7,7 @@ use Rattle.regalloc2_checker_tables.proofs.sets.member_of.Goals as goal
 
 pub loop-member-init : goal.loop-member-init
 loop-member-init g c = record {
-  all = λ i. ap (λ (l : List ℕ). times_in l i) c.into_iter-member-iterator.ensures.into_iter_gives ∙ c.iter-member-items.ensures i;
+  all = λ i. ap (λ (l : List ℕ). times_listed l i) c.into_iter-member-iterator.ensures.into_iter_gives ∙ c.iter-member-items.ensures i;
   none = λ y h l. (let e = times-nil y in absurd (omega arith));
 }
 

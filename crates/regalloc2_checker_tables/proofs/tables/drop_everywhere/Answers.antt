@@ -1,5 +1,5 @@
 use Rattle.std.proofs.Common.{ℕ, List, length, arith, ap, ◌∙◌}
-use Rattle.regalloc2_cfg.specs.Numbers.{times_in}
+use Rattle.regalloc2_cfg.specs.Numbers.{times_listed}
 use Rattle.regalloc2_checker_tables.specs.Holding.{held}
 use Rattle.regalloc2_checker_tables.proofs.Walked.{walked-on}
 use Rattle.regalloc2_checker_tables.proofs.Holders.{still-same, still-then, dropped-none, dropped-more}
@@ -7,7 +7,7 @@ use Rattle.regalloc2_checker_tables.proofs.tables.drop_everywhere.Goals as goal
 
 pub loop-place-init : goal.loop-place-init
 loop-place-init g c = record {
-  all = λ i. ap (λ (l : List ℕ). times_in l i) c.into_iter-place-iterator.ensures.into_iter_gives ∙ c.iter-place-items.ensures i;
+  all = λ i. ap (λ (l : List ℕ). times_listed l i) c.into_iter-place-iterator.ensures.into_iter_gives ∙ c.iter-place-items.ensures i;
   still = still-same c.args.sets.now c.args.entries.now c.requires;
   dropped = λ i y l. dropped-none (held c.args.sets.now c.args.entries.now) c.args.bits i y;
 }

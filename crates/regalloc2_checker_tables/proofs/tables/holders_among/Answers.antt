@@ -1,5 +1,5 @@
 use Rattle.std.proofs.Common.{ℕ, List, arith, ap, sym, ◌∙◌}
-use Rattle.regalloc2_cfg.specs.Numbers.{times_in}
+use Rattle.regalloc2_cfg.specs.Numbers.{times_listed}
 use Rattle.regalloc2_checker_tables.specs.EntrySets.{is_member}
 use Rattle.regalloc2_checker_tables.specs.Holding.{held, is_in}
 use Rattle.regalloc2_checker_tables.proofs.Walked.{walked-on}
@@ -9,7 +9,7 @@ use Rattle.regalloc2_checker_tables.proofs.tables.holders_among.Goals as goal
 
 pub loop-place-init : goal.loop-place-init
 loop-place-init g c = record {
-  all = λ i. ap (λ (l : List ℕ). times_in l i) c.into_iter-place-iterator.ensures.into_iter_gives ∙ c.iter-place-items.ensures i;
+  all = λ i. ap (λ (l : List ℕ). times_listed l i) c.into_iter-place-iterator.ensures.into_iter_gives ∙ c.iter-place-items.ensures i;
   holders = holders-none (λ i. held c.args.sets.now c.args.entries.now i c.args.bits) c.args.bound c.new-holders.result.items c.new-holders.ensures.items;
 }
 

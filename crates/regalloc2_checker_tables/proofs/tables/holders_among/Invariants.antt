@@ -1,11 +1,11 @@
 use Rattle.std.proofs.Common.{ℕ, ◌≡◌, ◌++◌, nat_lt}
 use Rattle.std.specs.Prelude.{◌&&◌}
-use Rattle.regalloc2_cfg.specs.Numbers.{ListsMembers, times_in}
+use Rattle.regalloc2_cfg.specs.Numbers.{ListsMembers, times_listed}
 use Rattle.regalloc2_checker_tables.specs.Holding.{held, is_in}
 use Rattle.regalloc2_checker_tables.proofs.tables.holders_among.Given as goal
 
 abbrev pub invariant-loop-place : goal.invariant-loop-place
 invariant-loop-place g l = record {
   all : ListsMembers l.homes (l.yielded ++ l.place-iterator);
-  holders : (i : ℕ) → is_in l.holders.items i ≡ (nat_lt i l.bound && (nat_lt 0 (times_in l.yielded i) && held l.sets l.entries i l.bits));
+  holders : (i : ℕ) → is_in l.holders.items i ≡ (nat_lt i l.bound && (nat_lt 0 (times_listed l.yielded i) && held l.sets l.entries i l.bits));
 }

@@ -1,10 +1,10 @@
 use Rattle.std.proofs.Common.{ℕ, ◌<◌, take}
-use Rattle.regalloc2_cfg.specs.Numbers.{times_in}
+use Rattle.regalloc2_cfg.specs.Numbers.{times_listed}
 use Rattle.regalloc2_checker_tables.specs.Holding.{AreMoreHomes, IsHome}
 use Rattle.regalloc2_checker_tables.proofs.tables.note_all.Given as goal
 
 abbrev pub invariant-loop-bits : goal.invariant-loop-bits
 invariant-loop-bits g l = record {
   more : AreMoreHomes l.fn.homes.items l.homes.items;
-  noted : (y : ℕ) → 0 < times_in (take l.bits-index l.members) y → IsHome l.vregs l.homes.items l.place y;
+  noted : (y : ℕ) → 0 < times_listed (take l.bits-index l.members) y → IsHome l.vregs l.homes.items l.place y;
 }

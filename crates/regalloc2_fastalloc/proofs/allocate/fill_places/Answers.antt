@@ -47,7 +47,7 @@ use Rattle.regalloc2_fastalloc_proofs.proofs.Walk.InstsCarry.{Blank, blank_whole
 use Rattle.regalloc2_fastalloc_proofs.proofs.Safety.FunctionKeepsSafe.{SafeWithin, made_listed_blocks}
 use Rattle.regalloc2_fastalloc_proofs.proofs.Safety.BlocksKeepSafe.{MayInBlocks}
 use Rattle.regalloc2_fastalloc_proofs.proofs.Moves.ScratchRegTaken.{Fit}
-use Rattle.regalloc2_fastalloc_proofs.proofs.Safety.BranchArgsKeepState.{passes_between}
+use Rattle.regalloc2_fastalloc_proofs.proofs.Safety.BranchArgsKeepState.{processes_branch_between}
 use Rattle.regalloc2_fastalloc_proofs.proofs.Safety.InstsKeepSafe.{WalkKept}
 use Rattle.regalloc2_unspilled_proofs.proofs.BlockSpillFree.{begins_uncrowded}
 use Rattle.regalloc2_unspilled_proofs.proofs.OneBlock.{unspilled}
@@ -204,7 +204,7 @@ handed_is : (g : Over) (c : goal.After-reads_the_same_numbers g) → (v : Virtua
     slot_name (left g c).slots v.number ≢ NoPlace
 handed_is g c v i p =
     let f : FunctionValue = g.F.Function.function c.args.f.now in
-    passed_slots (whole_is g c) (passes_between f) v i p
+    passed_slots (whole_is g c) (processes_branch_between f) v i p
 
 made : (g : Over) (c : goal.After-reads_the_same_numbers g) →
     IsMade (g.F.Function.function c.args.f.now) (machine_of c.args.env.now) (Made (g.F.Function.function c.args.f.now))

@@ -5,7 +5,7 @@ use Rattle.regalloc2_live_ranges.specs.declared.LiveRange.{LiveRange}
 use Rattle.regalloc2_live_ranges.specs.declared.ends.RangeEnd.{RangeEnd}
 use Rattle.regalloc2_live_ranges.specs.LiveRanges.{IsWanted}
 use Rattle.regalloc2_live_ranges.specs.Slots.{spread}
-use Rattle.regalloc2_live_ranges.specs.WalkInvariant.{IsWalked, begin_of}
+use Rattle.regalloc2_live_ranges.specs.WalkInvariant.{AreRangesWalked, begin_of}
 use Rattle.regalloc2_live_ranges.proofs.LiveRangeTable.{begins_at, begins_next, begins_past, walked_all, walked_block, walked_none}
 use Rattle.regalloc2_live_ranges.proofs.Spread.{spread_length}
 use Rattle.regalloc2_live_ranges.proofs.walk.walk_blocks.Goals as goal
@@ -19,9 +19,10 @@ loop-b-init g c =
     record {
       within = omega (arith, count);
       walked = rw (begins_past f c.num_blocks-b.result count, count)
-          (subst (λ (t : List (Option RangeEnd)). IsWalked f W (length f.insts) (length f.blocks) (spread slots t) (spread slots c.args.ranges.now))
+          (subst (λ (t : List (Option RangeEnd)). AreRangesWalked f W (length f.insts) (length f.blocks) (spread slots t) (spread slots c.args.ranges.now))
           (sym c.requires.no_ends)
-          (subst (λ (t : List (Option LiveRange)). IsWalked f W (length f.insts) (length f.blocks) (spread slots (replicate (length c.args.ends.now) None))
+          (subst (λ (t : List (Option LiveRange)). AreRangesWalked f W (length f.insts) (length f.blocks)
+              (spread slots (replicate (length c.args.ends.now) None))
           (spread slots t))
           (sym c.requires.no_ranges) (walked_none f c.requires.ssa W slots (length c.args.ends.now) c.requires.room)));
     }
@@ -35,8 +36,8 @@ walk_insts-requires-clause-walked g c =
     let next : c.loop-b.b ≡ b + 1 = omega (arith, c.new-block.ensures, c.loop-b-test.true) in
     let lt : b < length f.blocks = omega (arith, next, c.loop-b.invariant.within) in
     let begin : begin_of f c.loop-b.b ≡ (block_at f b).range.end = ap (begin_of f) next ∙ begins_next f c.requires.ssa.follow b lt in
-    subst (λ (n : ℕ). IsWalked f W (block_at f b).range.end n (spread slots c.loop-b.ends) (spread slots c.loop-b.ranges)) next
-    (subst (λ (n : ℕ). IsWalked f W n c.loop-b.b (spread slots c.loop-b.ends) (spread slots c.loop-b.ranges)) begin c.loop-b.invariant.walked)
+    subst (λ (n : ℕ). AreRangesWalked f W (block_at f b).range.end n (spread slots c.loop-b.ends) (spread slots c.loop-b.ranges)) next
+    (subst (λ (n : ℕ). AreRangesWalked f W n c.loop-b.b (spread slots c.loop-b.ends) (spread slots c.loop-b.ranges)) begin c.loop-b.invariant.walked)
 
 pub loop-b-preserved : goal.loop-b-preserved
 loop-b-preserved g c =
@@ -46,15 +47,16 @@ loop-b-preserved g c =
     let b : ℕ = c.new-block.result in
     let at : b ≡ c.loop-b.b - 1 = c.new-block.ensures in
     let lt : b < length f.blocks = omega (arith, at, c.loop-b-test.true, c.loop-b.invariant.within) in
-    let walked : IsWalked f W (block_at f b).range.first b (spread slots c.walk_insts.new.ends) (spread slots c.begin_at_params.new.ranges) = walked_block f
+    let walked : AreRangesWalked f W (block_at f b).range.first b (spread slots c.walk_insts.new.ends)
+        (spread slots c.begin_at_params.new.ranges) = walked_block f
     W (block_at f b).range.first b
     (spread slots c.walk_insts.new.ends) (spread slots c.walk_insts.new.ranges) (spread slots c.begin_at_params.new.ranges) c.walk_insts.ensures
     (spread_length slots c.begin_at_params.new.ranges ∙ sym (spread_length slots c.walk_insts.new.ranges))
     c.begin_at_params.ensures.right c.begin_at_params.ensures.stay c.begin_at_params.ensures.taken in
     record {
       within = omega (arith, c.loop-b.invariant.within);
-      walked = subst (λ (n : ℕ). IsWalked f W (begin_of f n) n (spread slots c.walk_insts.new.ends) (spread slots c.begin_at_params.new.ranges)) at
-          (subst (λ (n : ℕ). IsWalked f W n b (spread slots c.walk_insts.new.ends) (spread slots c.begin_at_params.new.ranges)) (sym (begins_at f b lt))
+      walked = subst (λ (n : ℕ). AreRangesWalked f W (begin_of f n) n (spread slots c.walk_insts.new.ends) (spread slots c.begin_at_params.new.ranges)) at
+          (subst (λ (n : ℕ). AreRangesWalked f W n b (spread slots c.walk_insts.new.ends) (spread slots c.begin_at_params.new.ranges)) (sym (begins_at f b lt))
           walked);
     }
 
@@ -65,8 +67,8 @@ returns g c =
     let W : ℕ → Type 0 = IsWanted c.args.wanted.now in
     let none : c.loop-b.b ≡ 0 = omega (arith, c.loop-b-test.false) in
     let first : begin_of f 0 ≡ 0 = begins_at f 0 c.requires.ssa.some ∙ (c.requires.ssa.follow 0 c.requires.ssa.some).1 refl in
-    let all : IsWalked f W (begin_of f 0) 0 (spread slots c.loop-b.ends) (spread slots c.loop-b.ranges) = subst
-    (λ (n : ℕ). IsWalked f W (begin_of f n) n (spread slots c.loop-b.ends) (spread slots c.loop-b.ranges)) none
+    let all : AreRangesWalked f W (begin_of f 0) 0 (spread slots c.loop-b.ends) (spread slots c.loop-b.ranges) = subst
+    (λ (n : ℕ). AreRangesWalked f W (begin_of f n) n (spread slots c.loop-b.ends) (spread slots c.loop-b.ranges)) none
     c.loop-b.invariant.walked in
     walked_all f c.requires.ssa W (spread slots c.loop-b.ends) (spread slots c.loop-b.ranges)
-    (subst (λ (n : ℕ). IsWalked f W n 0 (spread slots c.loop-b.ends) (spread slots c.loop-b.ranges)) first all)
+    (subst (λ (n : ℕ). AreRangesWalked f W n 0 (spread slots c.loop-b.ends) (spread slots c.loop-b.ranges)) first all)

@@ -1,14 +1,14 @@
 use Rattle.std.proofs.Common.{◌≤◌, length}
 use Rattle.regalloc2_live_ranges.specs.LiveRanges.{IsWanted}
 use Rattle.regalloc2_live_ranges.specs.Slots.{spread}
-use Rattle.regalloc2_live_ranges.specs.WalkInvariant.{IsWalked, begin_of}
+use Rattle.regalloc2_live_ranges.specs.WalkInvariant.{AreRangesWalked, begin_of}
 use Rattle.regalloc2_live_ranges.proofs.walk.walk_blocks.Given as goal
 
 -- the blocks from b on are walked
 abbrev pub invariant-loop-b : goal.invariant-loop-b
 invariant-loop-b g l = record {
   within : l.b ≤ length (g.F.Function.function l.f).blocks;
-  walked : IsWalked (g.F.Function.function l.f) (IsWanted l.wanted) (begin_of (g.F.Function.function l.f) l.b) l.b
+  walked : AreRangesWalked (g.F.Function.function l.f) (IsWanted l.wanted) (begin_of (g.F.Function.function l.f) l.b) l.b
       (spread l.slots l.ends) (spread l.slots l.ranges);
 }
 

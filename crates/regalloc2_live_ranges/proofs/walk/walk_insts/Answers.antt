@@ -6,7 +6,7 @@ use Rattle.regalloc2_semantics.proofs.Order.{ends_within}
 use Rattle.regalloc2_cfg.specs.TableLength.{HasRoom}
 use Rattle.regalloc2_live_ranges.specs.LiveRanges.{IsWanted}
 use Rattle.regalloc2_live_ranges.specs.Slots.{HasSlot, spread}
-use Rattle.regalloc2_live_ranges.specs.WalkInvariant.{AreEndsFrom, IsWalked, NamesNone}
+use Rattle.regalloc2_live_ranges.specs.WalkInvariant.{AreEndsFrom, AreRangesWalked, NamesNoAsked}
 use Rattle.regalloc2_live_ranges.proofs.LiveRangeTable.{noted_more, walked_inst, walked_over}
 use Rattle.regalloc2_live_ranges.proofs.Spread.{spread_length}
 use Rattle.regalloc2_live_ranges.proofs.walk.walk_insts.Goals as goal
@@ -57,8 +57,8 @@ loop-i-preserved-then-not-is_passed_over g c =
     let i : ℕ = c.loop-i.i - 1 in
     let at : c.new-inst.result ≡ i = c.new-inst.ensures in
     let next : c.loop-i.i ≡ i + 1 = omega (arith, c.loop-i-test.true) in
-    let before : IsWalked f W (i + 1) (b + 1) (spread slots c.loop-i.ends) (spread slots c.loop-i.ranges) =
-    subst (λ (n : ℕ). IsWalked f W n (b + 1) (spread slots c.loop-i.ends) (spread slots c.loop-i.ranges)) next
+    let before : AreRangesWalked f W (i + 1) (b + 1) (spread slots c.loop-i.ends) (spread slots c.loop-i.ranges) =
+    subst (λ (n : ℕ). AreRangesWalked f W n (b + 1) (spread slots c.loop-i.ends) (spread slots c.loop-i.ranges)) next
     c.loop-i.invariant.walked in
     let same : length (spread slots c.loop-i.ends) ≡ length slots = spread_length slots c.loop-i.ends in
     let long : length (spread slots c.note_uses.new.ends) ≡ length (spread slots c.loop-i.ends) = spread_length slots c.note_uses.new.ends ∙ sym same in
@@ -88,13 +88,13 @@ loop-i-preserved g c =
     let i : ℕ = c.loop-i.i - 1 in
     let at : c.new-inst.result ≡ i = c.new-inst.ensures in
     let next : c.loop-i.i ≡ i + 1 = omega (arith, c.loop-i-test.true) in
-    let before : IsWalked f W (i + 1) (b + 1) (spread slots c.loop-i.ends) (spread slots c.loop-i.ranges) =
-    subst (λ (n : ℕ). IsWalked f W n (b + 1) (spread slots c.loop-i.ends) (spread slots c.loop-i.ranges)) next
+    let before : AreRangesWalked f W (i + 1) (b + 1) (spread slots c.loop-i.ends) (spread slots c.loop-i.ranges) =
+    subst (λ (n : ℕ). AreRangesWalked f W n (b + 1) (spread slots c.loop-i.ends) (spread slots c.loop-i.ranges)) next
     c.loop-i.invariant.walked in
     let over = c.is_passed_over.ensures.0 c.if-not-is_passed_over.false in
     let end : c.end-end.result ≡ (block_at f b).range.end = c.end-end.ensures ∙ ap (λ (r : Span). r.end) c.block_insns-range.ensures in
     let inside : i + 1 ≢ (block_at f b).range.end = subst (λ (n : ℕ). i + 1 ≢ n) end (subst (λ (n : ℕ). n + 1 ≢ c.end-end.result) at over.0) in
-    let none : NamesNone f W i = subst (NamesNone f W) at over.1 in
+    let none : NamesNoAsked f W i = subst (NamesNoAsked f W) at over.1 in
     let from : (block_at f b).range.first ≤ i = omega (arith, c.loop-i-test.true, c.loop-i.invariant.first) in
     let upto : i < (block_at f b).range.end = omega (arith, next, c.loop-i.invariant.within) in
     record {
@@ -109,5 +109,5 @@ pub returns : goal.returns
 returns g c =
     let f : FunctionValue = g.F.Function.function c.args.f.now in
     let at_first : c.loop-i.i ≡ (block_at f c.args.block).range.first = omega (arith, c.loop-i-test.false, c.loop-i.invariant.from, c.loop-i.invariant.first) in
-    subst (λ (n : ℕ). IsWalked f (IsWanted c.args.wanted.now) n (c.args.block + 1) (spread c.args.slots.now c.loop-i.ends)
+    subst (λ (n : ℕ). AreRangesWalked f (IsWanted c.args.wanted.now) n (c.args.block + 1) (spread c.args.slots.now c.loop-i.ends)
     (spread c.args.slots.now c.loop-i.ranges)) at_first c.loop-i.invariant.walked

@@ -2,7 +2,7 @@ use Rattle.std.proofs.Common.{◌≡◌, ◌+◌, ◌-◌, ◌≤◌}
 use Rattle.regalloc2_function.specs.FunctionValue.{block_at}
 use Rattle.regalloc2_live_ranges.specs.LiveRanges.{IsWanted}
 use Rattle.regalloc2_live_ranges.specs.Slots.{spread}
-use Rattle.regalloc2_live_ranges.specs.WalkInvariant.{IsWalked}
+use Rattle.regalloc2_live_ranges.specs.WalkInvariant.{AreRangesWalked}
 use Rattle.regalloc2_live_ranges.proofs.walk.walk_insts.Given as goal
 
 -- the instructions from i on are walked
@@ -11,7 +11,7 @@ invariant-loop-i g l = record {
   first : l.first ≡ (block_at (g.F.Function.function l.f) l.block).range.first;
   from : l.first ≤ l.i;
   within : l.i ≤ (block_at (g.F.Function.function l.f) l.block).range.end;
-  walked : IsWalked (g.F.Function.function l.f) (IsWanted l.wanted) l.i (l.block + 1) (spread l.slots l.ends)
+  walked : AreRangesWalked (g.F.Function.function l.f) (IsWanted l.wanted) l.i (l.block + 1) (spread l.slots l.ends)
       (spread l.slots l.ranges);
 }
 

@@ -3,7 +3,7 @@ use Rattle.std.specs.Prelude.{nat_eq}
 use Rattle.std.proofs.lemmas.Bool.Decides.{Decides-eqb}
 use Rattle.regalloc2_index.proofs.Bools.{not_both, not_with_itself}
 use Rattle.regalloc2_names.specs.Operand.{OperandValue}
-use Rattle.regalloc2_semantics.specs.Listing.{op_at}
+use Rattle.regalloc2_function.specs.FunctionValue.{op_at}
 use Rattle.regalloc2_live_ranges.specs.LiveRanges.{IsWanted}
 use Rattle.regalloc2_live_ranges.proofs.Labelled.{none_is}
 use Rattle.regalloc2_live_ranges.proofs.wanted.is_passed_over.Goals as goal

@@ -1,4 +1,5 @@
-use Rattle.regalloc2_live_ranges.specs.Marks.{Marks, NamedAmong}
+use Rattle.regalloc2_live_ranges.specs.Marks.{NamedAmong}
+use Rattle.regalloc2_cfg.specs.MarkedNumbers.{Marks}
 use Rattle.regalloc2_live_ranges.proofs.wanted.mark_labelled.Given as goal
 
 -- the numbers of the labels so far are marked

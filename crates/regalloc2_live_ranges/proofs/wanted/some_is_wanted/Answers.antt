@@ -1,7 +1,7 @@
 use Rattle.std.proofs.Common.{List, Bool, ◌≡◌, true, false, refl, sym, ap, ◌∙◌, arith, below_more, slice_index_or}
 use Rattle.regalloc2_names.specs.Operand.{OperandValue}
 use Rattle.regalloc2_names.specs.Register.{VirtualRegister}
-use Rattle.regalloc2_semantics.specs.Listing.{op_at}
+use Rattle.regalloc2_function.specs.FunctionValue.{op_at}
 use Rattle.regalloc2_live_ranges.proofs.ItemsPastEnd.{op_is}
 use Rattle.regalloc2_live_ranges.proofs.wanted.some_is_wanted.Goals as goal
 

@@ -1,6 +1,6 @@
 use Rattle.std.proofs.Common.{ℕ, ◌≡◌, length, subst, arith}
 use Rattle.regalloc2_function.specs.FunctionValue.{FunctionValue, block_at}
-use Rattle.regalloc2_liveness.specs.BlockWalk.{Passes}
+use Rattle.regalloc2_liveness.specs.BlockWalk.{PassesNeeds}
 use Rattle.regalloc2_liveness.proofs.LiveAtBlockBegin.{passes_more}
 use Rattle.regalloc2_liveness.proofs.walk.ask_passed.Goals as goal
 
@@ -17,4 +17,4 @@ pub returns : goal.returns
 returns g c =
     let f : FunctionValue = g.F.Function.function c.args.f.now in
     let e : c.loop-k.k ≡ length (block_at f c.args.block).succs = omega (arith, c.loop-k.invariant.end) in
-    subst (λ (n : ℕ). Passes f c.args.block n c.args.written.now c.args.needs.now c.loop-k.needs) e c.loop-k.invariant.so_far
+    subst (λ (n : ℕ). PassesNeeds f c.args.block n c.args.written.now c.args.needs.now c.loop-k.needs) e c.loop-k.invariant.so_far

@@ -1,6 +1,6 @@
 use Rattle.std.proofs.Common.{refl}
 use Rattle.regalloc2_function.specs.FunctionValue.{FunctionValue}
-use Rattle.regalloc2_liveness.specs.BlockWalk.{IsWalked}
+use Rattle.regalloc2_liveness.specs.BlockWalk.{IsBlockWalked}
 use Rattle.regalloc2_liveness.proofs.LiveAtBlockBegin.{asked_more, asked_start, writes_more, writes_start}
 use Rattle.regalloc2_liveness.proofs.walk.walk_blocks.Goals as goal
 
@@ -16,7 +16,7 @@ loop-b-init g c =
 pub loop-b-preserved : goal.loop-b-preserved
 loop-b-preserved g c =
     let f : FunctionValue = g.F.Function.function c.args.f.now in
-    let here : IsWalked f c.loop-b.b c.loop-b.written c.loop-b.needs c.walk_block.new.written
+    let here : IsBlockWalked f c.loop-b.b c.loop-b.written c.loop-b.needs c.walk_block.new.written
     c.walk_block.new.needs = rw c.new.ensures at c.in_ok-walk_block.ensures in
     record {
       end = c.loop-b.invariant.end;

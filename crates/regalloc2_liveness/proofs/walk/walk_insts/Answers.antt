@@ -2,7 +2,7 @@ use Rattle.std.proofs.Common.{ℕ, ◌≡◌, ◌<◌, ◌∙◌, ap, subst, ari
 use Rattle.regalloc2_index.specs.Range.{Span}
 use Rattle.regalloc2_function.specs.FunctionValue.{FunctionValue, block_at}
 use Rattle.regalloc2_function.specs.Following.{end_within}
-use Rattle.regalloc2_liveness.specs.BlockWalk.{IsWalkedTo}
+use Rattle.regalloc2_liveness.specs.BlockWalk.{IsBlockWalkedTo}
 use Rattle.regalloc2_liveness.proofs.LiveAtBlockBegin.{walked_more, walked_start}
 use Rattle.regalloc2_liveness.proofs.walk.walk_insts.Goals as goal
 
@@ -42,4 +42,4 @@ returns g c =
     let first : c.index-i.result ≡ (block_at f c.args.block).range.first = c.index-i.ensures ∙ c.first.ensures
     ∙ ap (λ (s : Span). s.first) c.block_insns-range.ensures in
     let e : c.loop-i.i ≡ (block_at f c.args.block).range.end = omega (arith, c.loop-i.invariant.end) in
-    subst (λ (i : ℕ). IsWalkedTo f c.args.block i c.args.written.now c.args.needs.now c.loop-i.written c.loop-i.needs) e c.loop-i.invariant.so_far
+    subst (λ (i : ℕ). IsBlockWalkedTo f c.args.block i c.args.written.now c.args.needs.now c.loop-i.written c.loop-i.needs) e c.loop-i.invariant.so_far

@@ -1,12 +1,12 @@
 use Rattle.std.proofs.Common.{get_or, rules}
-use Rattle.regalloc2_parts.specs.Resolved.{listed, has_scratch}
+use Rattle.regalloc2_parts.specs.Resolved.{moves_listed, has_scratch}
 use Rattle.regalloc2_parts.proofs.ResolverContracts.{LendPool, HaveTaken, owes_lent, made_with, is_short, stay_apart}
 use Rattle.regalloc2_parts.proofs.scratch_pool.compute_with_resolver.Goals as goal
 
 pub compute_by_ref-requires : goal.compute_by_ref-requires
 compute_by_ref-requires g c =
     let lend : LendPool g.R.FnMut g.S.FnMut g.M.Fn c.args.resolver.find_free_reg c.args.resolver.get_stackslot c.args.resolver.is_stack_alloc c.args.pool.now
-    (listed c.args.moves) = record {
+    (moves_listed c.args.moves) = record {
       registers = c.requires.first;
       slots = c.requires.second;
       tells = c.requires.tells;
@@ -35,7 +35,7 @@ pub returns-in-Ok-clause-made : goal.returns-in-Ok-clause-made
 returns-in-Ok-clause-made g c =
     let x = c.in-Ok.ensures.computed in
     let lend : LendPool g.R.FnMut g.S.FnMut g.M.Fn c.args.resolver.find_free_reg c.args.resolver.get_stackslot c.args.resolver.is_stack_alloc c.args.pool.now
-    (listed c.args.moves) = record {
+    (moves_listed c.args.moves) = record {
       registers = c.requires.first;
       slots = c.requires.second;
       tells = c.requires.tells;
@@ -61,4 +61,5 @@ returns-clause-err g c = λ e.
 pub returns-clause-plain : goal.returns-clause-plain
 returns-clause-plain g c = λ none apart.
     c.in-Err.ensures.computed.plain none
-    (λ k d lt. stay_apart g.M.Fn c.args.resolver.is_stack_alloc c.args.pool.now.fixed_stack c.requires.tells (get_or (listed c.args.moves) k d) (apart k d lt))
+    (λ k d lt. stay_apart g.M.Fn c.args.resolver.is_stack_alloc c.args.pool.now.fixed_stack c.requires.tells (get_or (moves_listed c.args.moves) k d)
+        (apart k d lt))

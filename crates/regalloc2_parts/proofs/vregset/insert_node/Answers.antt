@@ -1,7 +1,7 @@
 use Rattle.std.proofs.Common.{◌≢◌, ◌<◌, ◌∙◌, ℕ, ap, subst, sym}
 use Rattle.std.specs.Prelude.{All, slice_set}
 use Rattle.std.proofs.lemmas.List.{length-set}
-use Rattle.regalloc2_parts.specs.VRegNodes.{numbers, vregs}
+use Rattle.regalloc2_parts.specs.VRegNodes.{vreg_ring_numbers, vregs}
 use Rattle.regalloc2_parts.proofs.VRegLinks.{changes_added, changes_written, first_fits, node_inserted, written}
 use Rattle.regalloc2_parts.proofs.vregset.insert_node.Goals as goal
 
@@ -14,7 +14,7 @@ returns-clause-list c =
     let w = written c.args.nodes.now k c.args.vreg c.index-nodes-number.result in
     node_inserted c.args.nodes.now _ c.link.new.nodes c.link-2.new.nodes c.args.head k c.args.vreg c.index-nodes-head.result c.requires.list
     c.vreg-number.ensures.number (subst (λ (n : ℕ). n < c.args.head) (sym c.vreg-number.ensures.number) c.requires.below)
-    (subst (λ (n : ℕ). All (λ m. m ≢ n) (numbers c.args.nodes.now c.args.head)) (sym c.vreg-number.ensures.number) c.requires.absent) w
+    (subst (λ (n : ℕ). All (λ m. m ≢ n) (vreg_ring_numbers c.args.nodes.now c.args.head)) (sym c.vreg-number.ensures.number) c.requires.absent) w
     (record { nexts = c.link.ensures.nexts; prevs = c.link.ensures.prevs; vregs = c.link.ensures.vregs })
     (record { nexts = c.link-2.ensures.nexts; prevs = c.link-2.ensures.prevs; vregs = c.link-2.ensures.vregs })
 

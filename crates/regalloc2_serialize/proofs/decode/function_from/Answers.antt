@@ -6,7 +6,7 @@ use Rattle.regalloc2_names.specs.Packing.{IsVRegBits}
 use Rattle.regalloc2_function.specs.FunctionValue.{IsSlotSize, label_of}
 use Rattle.regalloc2_serialize.specs.Validity.{NamesOperands}
 use Rattle.regalloc2_serialize.specs.Decoded.{NamesInst, stored_label, stored_sizes}
-use Rattle.regalloc2_serialize.specs.Tables.{inst_of, block_of}
+use Rattle.regalloc2_serialize.specs.Tables.{inst_of_serializable, block_of_serializable}
 use Rattle.regalloc2_serialize.proofs.Given.{ends-within}
 use Rattle.regalloc2_serialize.proofs.Lists.{all-under}
 use Rattle.regalloc2_serialize.proofs.decode.function_from.Goals as goal
@@ -57,7 +57,7 @@ invariant_of-result g c = record {
       (subst (λ ls. map label_of c.in_ok-labels.labels.items ≡ map stored_label ls) c.as_slice-2.ensures.value c.in_ok-labels.ensures) c.requires.within.labels;
   ends_within = λ k d less. omega (
     arith,
-    ends-within c.args.stored.now block_of c.in_ok-blocks.blocks.items c.requires c.in_ok-blocks.ensures.blocks k d less,
+    ends-within c.args.stored.now block_of_serializable c.in_ok-blocks.blocks.items c.requires c.in_ok-blocks.ensures.blocks k d less,
     c.in_ok-insts.ensures.count,
     ap length c.as_slice.ensures.value,
     c.in_ok-insts.insts.ok.0,
@@ -67,7 +67,8 @@ invariant_of-result g c = record {
 pub returns-clause-function : goal.returns-clause-function
 returns-clause-function g c = record {
   blocks = c.in_ok-blocks.ensures.blocks;
-  insts = subst (λ xs. AllZip (λ x i. NamesInst x i) xs (map inst_of c.in_ok-insts.insts.items)) c.as_slice.ensures.value c.in_ok-insts.ensures.insts;
+  insts = subst (λ xs. AllZip (λ x i. NamesInst x i) xs (map inst_of_serializable c.in_ok-insts.insts.items)) c.as_slice.ensures.value
+      c.in_ok-insts.ensures.insts;
   entry = c.new.ensures;
   num_vregs = refl;
   slot_sizes = c.sizes_from.ensures ∙ ap stored_sizes c.as_slice-3.ensures.value;

@@ -4,7 +4,7 @@ use Rattle.std.proofs.lemmas.Result.{err_from_is_err_and}
 use Rattle.std.proofs.lemmas.Iterator.Adapters.{YieldsList-from_vec}
 use Rattle.std.proofs.lemmas.Iterator.Consumers.{YieldsList-end}
 use Rattle.std.specs.Vec.Iter.{into_iter_items}
-use Rattle.regalloc2_table.specs.Table.{inst_of}
+use Rattle.regalloc2_table.specs.Table.{inst_of_table}
 use Rattle.regalloc2_table.proofs.BuiltLaws.{blocks_more, insts_more, insts_within, unplaced_more}
 use Rattle.regalloc2_table.proofs.builder.lay_out.Goals as goal
 
@@ -22,7 +22,7 @@ returns-in_err-place-clause-err g c =
     let p = err_from_is_err_and c.from_residual.result c.from_residual.ensures.1 in
     let within = insts_within c.loop-draft.yielded (into_iter_items c.next.new.self) c.args.drafts.items c.in-Some.draft
     (rw (← c.in-Some.ensures.steps.0) c.loop-draft.invariant.left) in
-    let long = sym (length-map c.loop-draft.insts.items inst_of) ∙ ap length c.loop-draft.invariant.insts in
+    let long = sym (length-map c.loop-draft.insts.items inst_of_table) ∙ ap length c.loop-draft.invariant.insts in
     rw (p.1, p.2) (unplaced_more _ _ _ (omega (arith, within, long)) c.in_err-place.ensures.err)
 
 pub returns-clause-insts : goal.returns-clause-insts

@@ -1,7 +1,7 @@
 use Rattle.std.proofs.Common.{◌≡◌, [], length, map, drop, sym, ◌∙◌, arith, below_more}
 use Rattle.std.proofs.lemmas.List.{append-nil, drop_all, length-map}
 use Rattle.std.proofs.lemmas.Result.{err_from_is_err_and}
-use Rattle.regalloc2_table.specs.Table.{block_of}
+use Rattle.regalloc2_table.specs.Table.{block_of_table}
 use Rattle.regalloc2_table.specs.Steps.{succs_at}
 use Rattle.regalloc2_table.proofs.PredLaws.{same_succs, same_count, preds_step, succs_listed, unlinked_blocks}
 use Rattle.regalloc2_table.proofs.builder.link.Goals as goal
@@ -9,15 +9,15 @@ use Rattle.regalloc2_table.proofs.builder.link.Goals as goal
 pub returns-in_err-link_one-clause-err : goal.returns-in_err-link_one-clause-err
 returns-in_err-link_one-clause-err g c =
     let p = err_from_is_err_and c.from_residual.result c.from_residual.ensures.1 in
-    let first = map block_of c.args.blocks.now.items in
-    let same = same_succs first (map block_of c.loop-number.blocks.items) c.new.result c.loop-number.invariant.others in
+    let first = map block_of_table c.args.blocks.now.items in
+    let same = same_succs first (map block_of_table c.loop-number.blocks.items) c.new.result c.loop-number.invariant.others in
     let long = same_count c.args.blocks.now.items c.loop-number.blocks.items c.loop-number.invariant.others in
     rw (p.1, p.2) (unlinked_blocks first (length c.loop-number.blocks.items) c.new.result _ _ (rw length-map long) same c.in_err-link_one.ensures.err)
 
 pub loop-number-preserved : goal.loop-number-preserved
 loop-number-preserved g c =
-    let first = map block_of c.args.blocks.now.items in
-    let now = map block_of c.loop-number.blocks.items in
+    let first = map block_of_table c.args.blocks.now.items in
+    let now = map block_of_table c.loop-number.blocks.items in
     let n = c.loop-number.number in
     let same : succs_at now n ≡ succs_at first n = same_succs first now n c.loop-number.invariant.others in
     let long = same_count c.args.blocks.now.items c.loop-number.blocks.items c.loop-number.invariant.others in
@@ -32,7 +32,7 @@ loop-number-preserved g c =
 
 pub returns-clause-ok : goal.returns-clause-ok
 returns-clause-ok g c =
-    let first = map block_of c.args.blocks.now.items in
+    let first = map block_of_table c.args.blocks.now.items in
     let all : drop c.loop-number.number (map (λ x. x.succs) first) ≡ [] = drop_all c.loop-number.number (map (λ x. x.succs) first)
     (rw (length-map, length-map) (omega arith)) in
     record {

@@ -1,6 +1,6 @@
 use Rattle.std.proofs.Common.{◌+◌, ◌<◌, length, map, take, ap, arith}
 use Rattle.std.proofs.lemmas.Result.{err_from_is_err_and}
-use Rattle.regalloc2_table.specs.Table.{block_of}
+use Rattle.regalloc2_table.specs.Table.{block_of_table}
 use Rattle.regalloc2_table.specs.Built.{edges_to}
 use Rattle.regalloc2_table.specs.Steps.{one_edge, succs_at}
 use Rattle.regalloc2_table.proofs.PredLaws.{succs_then, same_count, preds_both, edges_more, within_more, unadded_unlinked}
@@ -24,7 +24,7 @@ pub loop-k-preserved : goal.loop-k-preserved
 loop-k-preserved g c =
     let here = succs_then c.args.blocks.now.items c.loop-k.blocks.items c.args.pred c.index-in-loop-k-2.result.now c.loop-k.invariant.linked.others
     (omega arith) (rw c.index-in-loop-k.ensures at c.index-in-loop-k-2.ensures) in
-    let succs = succs_at (map block_of c.args.blocks.now.items) c.args.pred in
+    let succs = succs_at (map block_of_table c.args.blocks.now.items) c.args.pred in
     let less : c.loop-k.k < length succs = omega (arith, c.loop-k.invariant.all) in
     let is = rw here at c.index-to.ensures in
     let next = c.in_ok-add_pred.ensures.within in

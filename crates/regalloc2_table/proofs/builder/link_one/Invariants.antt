@@ -1,6 +1,6 @@
 use Rattle.std.proofs.Common.{◌≡◌, ◌<◌, length, map, take}
 use Rattle.std.specs.Prelude.{All}
-use Rattle.regalloc2_table.specs.Table.{block_of}
+use Rattle.regalloc2_table.specs.Table.{block_of_table}
 use Rattle.regalloc2_table.specs.Built.{edges_to}
 use Rattle.regalloc2_table.specs.Steps.{HasPreds, succs_at}
 use Rattle.regalloc2_table.proofs.builder.link_one.Given as goal
@@ -8,8 +8,9 @@ use Rattle.regalloc2_table.proofs.builder.link_one.Given as goal
 -- the first successors have the block as a predecessor
 abbrev pub invariant-loop-k : goal.invariant-loop-k
 invariant-loop-k g l = record {
-  linked : HasPreds (map block_of l.initial.blocks.items) (λ b. edges_to b l.pred (take l.k (succs_at (map block_of l.initial.blocks.items) l.pred)))
-      (map block_of l.blocks.items);
-  within : All (λ s. s < length l.initial.blocks.items) (take l.k (succs_at (map block_of l.initial.blocks.items) l.pred));
-  all : l.k-end ≡ length (succs_at (map block_of l.initial.blocks.items) l.pred);
+  linked : HasPreds (map block_of_table l.initial.blocks.items)
+      (λ b. edges_to b l.pred (take l.k (succs_at (map block_of_table l.initial.blocks.items) l.pred)))
+      (map block_of_table l.blocks.items);
+  within : All (λ s. s < length l.initial.blocks.items) (take l.k (succs_at (map block_of_table l.initial.blocks.items) l.pred));
+  all : l.k-end ≡ length (succs_at (map block_of_table l.initial.blocks.items) l.pred);
 }

@@ -3,7 +3,7 @@ use Rattle.std.proofs.lemmas.List.{map-append, map-id, length-append, length-map
 use Rattle.std.proofs.lemmas.Result.{IfOk-at_ok}
 use Rattle.std.proofs.lemmas.Iterator.Adapters.{fact_from_extend, YieldsList-from_vec}
 use Rattle.regalloc2_table.specs.declared.table.TableInst.{TableInst}
-use Rattle.regalloc2_table.specs.Table.{inst_of}
+use Rattle.regalloc2_table.specs.Table.{inst_of_table}
 use Rattle.regalloc2_table.proofs.builder.place.Goals as goal
 
 pub returns-then-len-ge-LIMIT-clause-err : goal.returns-then-len-ge-LIMIT-clause-err
@@ -23,7 +23,7 @@ returns-clause-blocks g c =
     (λ xs e h. h.0 ∙ ap (λ (l : List (TableInst g.row.A.Denot)). c.args.insts.now.items ++ l) (sym (map-id xs) ∙ e))) in
     let long = ap length more in
     let start : c.new-first.result ≡ length c.args.insts.now.items = omega arith in
-    let end : c.new.result ≡ length c.args.insts.now.items + length (map inst_of c.args.draft.insts.items) = rw length-map
+    let end : c.new.result ≡ length c.args.insts.now.items + length (map inst_of_table c.args.draft.insts.items) = rw length-map
     (omega (arith, rw length-append at long)) in
     rw (c.in_ok-push.ensures.items, map-append, c.new-2.ensures, c.new-3.ensures.items, start, end) refl
 

@@ -2,7 +2,7 @@ use Rattle.std.proofs.Common.{ℕ, ◌≡◌, ◌<◌, length}
 use Rattle.regalloc2_function.specs.FunctionValue.{inst_at}
 use Rattle.std.specs.Prelude.{All}
 use Rattle.regalloc2_validate.specs.Constraints.{AreUnlimited, BranchDefinesInPlace}
-use Rattle.regalloc2_validate.specs.NoLimits.{IsTaken}
+use Rattle.regalloc2_validate.specs.NoLimits.{IsTakenOperand}
 use Rattle.regalloc2_validate.proofs.constraints.all_pass_operand_tests.Given as goal
 
 -- the instructions so far pass
@@ -11,5 +11,5 @@ invariant-loop-i g l = record {
   within : l.i-end ≡ length (g.F.Function.function l.f).insts;
   unlimited : (n : ℕ) → n < l.i → AreUnlimited (inst_at (g.F.Function.function l.f) n);
   branches : (n : ℕ) → n < l.i → BranchDefinesInPlace (inst_at (g.F.Function.function l.f) n);
-  taken : (n : ℕ) → n < l.i → All IsTaken (inst_at (g.F.Function.function l.f) n).operands;
+  taken : (n : ℕ) → n < l.i → All IsTakenOperand (inst_at (g.F.Function.function l.f) n).operands;
 }

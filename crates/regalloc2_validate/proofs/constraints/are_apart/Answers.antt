@@ -1,6 +1,6 @@
 use Rattle.std.proofs.Common.{ℕ, ◌≡◌, List, false, length, length-set, refl, sym, ap, ◌∙◌, subst, arith}
 use Rattle.regalloc2_names.specs.Operand.{OperandValue}
-use Rattle.regalloc2_validate.specs.Constraints.{AreApart}
+use Rattle.regalloc2_validate.specs.Constraints.{AreReusesApart}
 use Rattle.regalloc2_semantics.proofs.Plain.{always}
 use Rattle.regalloc2_validate.proofs.ConstraintTests.{named_none, named_same, named_more, one_named, not_named, apart_none, apart_same, apart_more}
 use Rattle.regalloc2_validate.proofs.OperandReads.{read_operand}
@@ -44,4 +44,4 @@ loop-k-preserved c =
 pub returns : goal.returns
 returns c =
     let e : c.loop-k.k ≡ length c.args.operands.now = omega arith in
-    (λ t. subst (AreApart c.args.operands.now) e c.loop-k.invariant.apart, λ h. refl)
+    (λ t. subst (AreReusesApart c.args.operands.now) e c.loop-k.invariant.apart, λ h. refl)

@@ -1,6 +1,6 @@
 use Rattle.std.proofs.Common.{◌≡◌}
 use Rattle.std.specs.Prelude.{length}
-use Rattle.regalloc2_validate.specs.Constraints.{AreApart}
+use Rattle.regalloc2_validate.specs.Constraints.{AreReusesApart}
 use Rattle.regalloc2_validate.proofs.ConstraintTests.{AreNamed}
 use Rattle.regalloc2_validate.proofs.constraints.are_apart.Given as goal
 
@@ -8,5 +8,5 @@ abbrev pub invariant-loop-k : goal.invariant-loop-k
 invariant-loop-k l = record {
   long : length l.named ≡ 32;
   named : AreNamed l.operands l.k l.named;
-  apart : AreApart l.operands l.k;
+  apart : AreReusesApart l.operands l.k;
 }

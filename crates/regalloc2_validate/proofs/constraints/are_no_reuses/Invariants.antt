@@ -1,5 +1,6 @@
 use Rattle.std.proofs.Common.{ℕ, ◌<◌}
-use Rattle.regalloc2_validate.specs.Constraints.{op_at, IsNoReuse}
+use Rattle.regalloc2_validate.specs.Constraints.{IsNoReuse}
+use Rattle.regalloc2_function.specs.FunctionValue.{op_at}
 use Rattle.regalloc2_validate.proofs.constraints.are_no_reuses.Given as goal
 
 abbrev pub invariant-loop-k : goal.invariant-loop-k

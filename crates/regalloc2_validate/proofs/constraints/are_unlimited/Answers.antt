@@ -1,8 +1,8 @@
 use Rattle.std.proofs.Common.{List, refl, sym, subst, arith, below_more}
 use Rattle.regalloc2_names.specs.Operand.{OperandValue}
-use Rattle.regalloc2_validate.specs.Constraints.{op_at}
+use Rattle.regalloc2_function.specs.FunctionValue.{op_at}
 use Rattle.regalloc2_validate.specs.Constraints.{IsUnlimited}
-use Rattle.regalloc2_validate.specs.NoLimits.{IsTaken}
+use Rattle.regalloc2_validate.specs.NoLimits.{IsTakenOperand}
 use Rattle.regalloc2_validate.proofs.OperandReads.{read_operand}
 use Rattle.regalloc2_validate.proofs.constraints.are_unlimited.Goals as goal
 
@@ -17,8 +17,8 @@ loop-k-preserved c =
     let ops : List OperandValue = c.args.operands.now in
     let is = read_operand ops c.loop-k.k c.index-operands-k.result c.loop-k-test.true c.index-operands-k.is in
     record {
-      so_far = below_more (λ n. IsTaken (op_at ops n)) _ c.loop-k.invariant.so_far
-          (subst IsTaken is (record {
+      so_far = below_more (λ n. IsTakenOperand (op_at ops n)) _ c.loop-k.invariant.so_far
+          (subst IsTakenOperand is (record {
             of_class = c.is_unlimited.ensures.of_class;
             unlimited = c.is_unlimited.ensures.unlimited.0 c.if-not-is_unlimited.false;
           }));

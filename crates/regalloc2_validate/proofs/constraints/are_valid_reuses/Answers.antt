@@ -2,7 +2,7 @@ use Rattle.std.proofs.Common.{◌<◌, List, length, refl, sym, subst, arith, be
 use Rattle.regalloc2_names.specs.Operand.{OperandValue}
 use Rattle.regalloc2_function.specs.Machine.{MachineValue}
 use Rattle.regalloc2_function.specs.Views.{machine_of}
-use Rattle.regalloc2_validate.specs.Constraints.{op_at}
+use Rattle.regalloc2_function.specs.FunctionValue.{op_at}
 use Rattle.regalloc2_validate.specs.Constraints.{IsSoundReuse}
 use Rattle.regalloc2_validate.proofs.OperandReads.{read_operand}
 use Rattle.regalloc2_validate.proofs.constraints.are_valid_reuses.Goals as goal

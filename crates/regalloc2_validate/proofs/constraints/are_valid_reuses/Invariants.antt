@@ -1,7 +1,7 @@
 use Rattle.std.proofs.Common.{ℕ, ◌≡◌, ◌<◌}
 use Rattle.std.specs.Prelude.{length}
 use Rattle.regalloc2_function.specs.Views.{machine_of}
-use Rattle.regalloc2_validate.specs.Constraints.{op_at}
+use Rattle.regalloc2_function.specs.FunctionValue.{op_at}
 use Rattle.regalloc2_validate.specs.Constraints.{IsSoundReuse}
 use Rattle.regalloc2_validate.proofs.constraints.are_valid_reuses.Given as goal
 

@@ -1,7 +1,8 @@
 use Rattle.std.proofs.Common.{List, refl, sym, subst, arith, below_more}
 use Rattle.regalloc2_names.specs.Operand.{OperandValue}
-use Rattle.regalloc2_validate.specs.Constraints.{op_at, DefinesInPlace}
+use Rattle.regalloc2_validate.specs.Constraints.{DefinesInPlace}
 use Rattle.regalloc2_validate.proofs.OperandReads.{read_operand}
+use Rattle.regalloc2_function.specs.FunctionValue.{op_at}
 use Rattle.regalloc2_validate.proofs.constraints.define_in_place.Goals as goal
 
 pub returns-then-not-defines_in_place : goal.returns-then-not-defines_in_place

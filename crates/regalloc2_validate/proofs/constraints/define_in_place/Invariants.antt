@@ -1,5 +1,6 @@
 use Rattle.std.proofs.Common.{ℕ, ◌<◌}
-use Rattle.regalloc2_validate.specs.Constraints.{op_at, DefinesInPlace}
+use Rattle.regalloc2_validate.specs.Constraints.{DefinesInPlace}
+use Rattle.regalloc2_function.specs.FunctionValue.{op_at}
 use Rattle.regalloc2_validate.proofs.constraints.define_in_place.Given as goal
 
 abbrev pub invariant-loop-k : goal.invariant-loop-k

@@ -2,7 +2,7 @@ use Rattle.std.proofs.Common.{◌<◌, length, refl, arith, below_more}
 use Rattle.regalloc2_function.specs.FunctionValue.{FunctionValue, inst_at}
 use Rattle.std.specs.Prelude.{All}
 use Rattle.regalloc2_validate.specs.Constraints.{AreUnlimited}
-use Rattle.regalloc2_validate.specs.NoLimits.{IsTaken}
+use Rattle.regalloc2_validate.specs.NoLimits.{IsTakenOperand}
 use Rattle.regalloc2_validate.proofs.constraints.validate_limits.Goals as goal
 
 pub returns-then-not-has_no_limit-clause-ok : goal.returns-then-not-has_no_limit-clause-ok
@@ -31,6 +31,6 @@ loop-i-preserved g c =
       within = c.loop-i.invariant.within;
       so_far = below_more (λ n. AreUnlimited (inst_at f n)) _ c.loop-i.invariant.so_far
           (rw c.new-inst.ensures at (c.has_no_limit.ensures.unlimited.0 c.if-not-has_no_limit.false));
-      taken = below_more (λ n. All IsTaken (inst_at f n).operands) _ c.loop-i.invariant.taken
+      taken = below_more (λ n. All IsTakenOperand (inst_at f n).operands) _ c.loop-i.invariant.taken
           (rw c.new-inst.ensures at (c.has_no_limit.ensures.taken c.if-not-has_no_limit.false));
     }

@@ -1,6 +1,6 @@
 use Rattle.std.proofs.Common.{ℕ, ◌≡◌, List, get_or, arith, sym, refl, subst}
 use Rattle.std.specs.Prelude.{Option, None}
-use Rattle.regalloc2_checker_tables.specs.Showing.{Showing, showing, shows_in, ArePassed, AreTablesKept}
+use Rattle.regalloc2_checker_tables.specs.Showing.{Showing, showing, shows_in, ListsPassed, AreTablesKept}
 use Rattle.regalloc2_checker_tables.specs.Showing.{ShowsNow}
 use Rattle.regalloc2_checker_tables.specs.declared.passing.Passed.{Passed}
 use Rattle.regalloc2_checker_tables.proofs.Bits.{read-is}
@@ -18,8 +18,8 @@ invariant_of-self g c =
     let q : c.index.result.now ≡ get_or c.self.inside.saved.items c.args.table None = read-is c.self.inside.saved.items c.self.inside.saved.items c.args.table
     c.index.result.now None refl l c.index.ensures in
     shown-with c.load.new.self c.self.inside.passed c.index.result.now c.self.inside.saved.items
-    (subst (λ (o : Option Passed). ArePassed c.load.new.self.vregs o) (sym q)
-    (subst (λ (vs : List ℕ). ArePassed vs (get_or c.self.inside.saved.items c.args.table None)) (sym c.load.ensures.kept.vregs) (c.self.invariant.tables
+    (subst (λ (o : Option Passed). ListsPassed c.load.new.self.vregs o) (sym q)
+    (subst (λ (vs : List ℕ). ListsPassed vs (get_or c.self.inside.saved.items c.args.table None)) (sym c.load.ensures.kept.vregs) (c.self.invariant.tables
     c.args.table)))
     (shown-after c.self.inside.tables c.load.new.self c.self.inside.passed c.self.inside.saved.items c.load.ensures.kept.vregs c.load.ensures.kept.count
     c.self.invariant)

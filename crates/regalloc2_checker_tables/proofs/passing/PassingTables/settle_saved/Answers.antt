@@ -2,7 +2,7 @@ use Rattle.std.proofs.Common.{ℕ, ◌≡◌, ◌<◌, length, get_or, arith, ap
 use Rattle.std.specs.Prelude.{if◌then◌else◌, slice_set, Option, None, Some}
 use Rattle.std.proofs.lemmas.List.{get_or-set_same, length-set}
 use Rattle.regalloc2_checker_tables.specs.Holding.{holds_now, holds_in}
-use Rattle.regalloc2_checker_tables.specs.Showing.{Showing, showing, read_as, table_count, shows_now, shows_in, ArePassed}
+use Rattle.regalloc2_checker_tables.specs.Showing.{Showing, showing, read_as, table_count, shows_now, shows_in, ListsPassed}
 use Rattle.regalloc2_checker_tables.specs.Showing.{ShowsNow}
 use Rattle.regalloc2_checker_tables.specs.declared.passing.Passed.{Passed}
 use Rattle.regalloc2_checker_tables.proofs.Bits.{read-is}
@@ -18,7 +18,7 @@ returns-in_default-clause-none g c =
 pub settle_in-requires-clause-passed : goal.settle_in-requires-clause-passed
 settle_in-requires-clause-passed g c =
     let l = inside-table c.args.self.now c.self.inside.tables c.self.inside.passed c.self.inside.saved.items c.args.table c.self.view_is c.requires in
-    subst (λ (o : Option Passed). ArePassed c.self.inside.tables.vregs o) (sym (read-is c.self.inside.saved.items c.self.inside.saved.items c.args.table
+    subst (λ (o : Option Passed). ListsPassed c.self.inside.tables.vregs o) (sym (read-is c.self.inside.saved.items c.self.inside.saved.items c.args.table
     c.index.result.now None refl l c.index.ensures) ∙ c.in-Some.is) (c.self.invariant.tables c.args.table)
 
 pub settle_in-requires-clause-table : goal.settle_in-requires-clause-table

@@ -1,7 +1,7 @@
 use Rattle.std.proofs.Common.{ℕ, List, [], ◌∷◌, ◌++◌, arith, ap, sym, ◌∙◌, refl, subst}
 use Rattle.std.specs.Prelude.{Option}
 use Rattle.regalloc2_cfg.specs.Numbers.{NumberSet}
-use Rattle.regalloc2_checker_tables.specs.EntrySets.{has_bits, AreKnown, IsGrown}
+use Rattle.regalloc2_checker_tables.specs.EntrySets.{has_bits, AreEntrySets, IsGrown}
 use Rattle.regalloc2_checker_tables.proofs.Bits.{added-is, added-more, same-sets}
 use Rattle.regalloc2_checker_tables.proofs.Lone.{known-more}
 use Rattle.regalloc2_checker_tables.proofs.Lone.{grown-more}
@@ -34,7 +34,7 @@ returns-clause-found g c =
 
 pub invariant_of-self-in_err-push : goal.invariant_of-self-in_err-push
 invariant_of-self-in_err-push g c = (
-  subst (λ (l : List NumberSet). AreKnown l c.reserve.new.self.items) (sym c.in_err-push.ensures.items)
-      (subst (λ (o : List (Option ℕ)). AreKnown c.self.inside.sets.items o) (sym c.in_ok-reserve.ensures.items) c.self.invariant.0),
+  subst (λ (l : List NumberSet). AreEntrySets l c.reserve.new.self.items) (sym c.in_err-push.ensures.items)
+      (subst (λ (o : List (Option ℕ)). AreEntrySets c.self.inside.sets.items o) (sym c.in_ok-reserve.ensures.items) c.self.invariant.0),
   subst (λ (l : List NumberSet). IsGrown l c.self.inside.grown) (sym c.in_err-push.ensures.items) c.self.invariant.1,
 )

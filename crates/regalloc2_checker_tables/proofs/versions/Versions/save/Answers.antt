@@ -4,7 +4,7 @@ use Rattle.std.specs.Vec.{with_items}
 use Rattle.std.proofs.Common.{inl, inr}
 use Rattle.std.proofs.lemmas.Bool.{cases_eq}
 use Rattle.std.proofs.lemmas.List.{with_items_is}
-use Rattle.regalloc2_checker_tables.specs.SavedCopies.{Copies, saved_at, cell_at, number_in}
+use Rattle.regalloc2_checker_tables.specs.SavedCopies.{Copies, saved_at, number_in_cell, number_in}
 use Rattle.regalloc2_checker_tables.proofs.Rows.{row-is, row-less, row-set_same, row-set_other, within-as}
 use Rattle.regalloc2_checker_tables.proofs.Rows.{clean-as, within-more, number-kept, bases-within, bases-same}
 use Rattle.regalloc2_checker_tables.proofs.versions.Versions.save.Goals as goal
@@ -83,4 +83,4 @@ returns-clause-saved g c i less =
     ap (λ (l : List ℕ). number_in c.save_all.new.words.items l i) row
     ∙ bases-same c.save_all.new.words.items c.deref-2.result.now c.in_ok-bases.bases.items (length c.deref_mut.result.now) i
     (omega (arith, d, e, c.self.invariant.long)) c.in_ok-bases.ensures.saved (omega (arith, d, v, less))
-    ∙ ap (λ (l : List ℕ). get_or l i 0) c.deref-2.ensures.value ∙ ap (λ (x : Copies). cell_at x i) c.self.view_is
+    ∙ ap (λ (l : List ℕ). get_or l i 0) c.deref-2.ensures.value ∙ ap (λ (x : Copies). number_in_cell x i) c.self.view_is

@@ -9,7 +9,7 @@ use Rattle.regalloc2_fastalloc_state.proofs.TakenOut.{all_other}
 use Rattle.std.specs.Prelude.{None, Some}
 use Rattle.regalloc2_names.specs.Place.{NoPlace}
 use Rattle.regalloc2_fastalloc_state.specs.StateParts.{VRegAllocsValue, SetsAlloc, vreg_of_preg, in_front_if, without}
-use Rattle.regalloc2_fastalloc_state.proofs.VRegInPRegInverse.{Marks, inverse_marked, listed_if, marked, settles_by_marks}
+use Rattle.regalloc2_fastalloc_state.proofs.VRegInPRegInverse.{Marks, inverse_marked, listed_if, marked, sets_alloc_by_marks}
 use Rattle.regalloc2_fastalloc_state.proofs.vreg_allocs.VRegAllocs.set_alloc.Given.{Over}
 use Rattle.regalloc2_fastalloc_state.proofs.vreg_allocs.VRegAllocs.set_alloc.Goals as goal
 
@@ -65,7 +65,7 @@ returns-clause-inverse g c = inverse_marked (marks g c) c.set_vreg_in_preg-2.ens
 
 pub returns-clause-settled : goal.returns-clause-settled
 returns-clause-settled g c = subst (λ (t : VRegAllocsValue). SetsAlloc t (marked (marks g c)) c.args.vreg c.args.place) c.self.view_is
-    (settles_by_marks (marks g c))
+    (sets_alloc_by_marks (marks g c))
 
 pub invariant_of-self : goal.invariant_of-self
 invariant_of-self g c = (

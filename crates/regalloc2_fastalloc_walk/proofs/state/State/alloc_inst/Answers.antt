@@ -19,7 +19,7 @@ process_operands_at-requires g c = (
       c.in_ok-prepare_regs.ensures.step.later,
       (
         λ k lt f. let w = c.requires.in_tables k lt f in let long = c.in_ok-prepare_regs.ensures.step.long in omega (arith, w, long),
-        c.requires.here_long,
+        c.requires.allocs_long,
       ),
     ),
   ),
@@ -36,7 +36,7 @@ process_operands_at-requires-2 g c =
           c.in_ok-process_operands_at.ensures.step.later,
           (
             λ k lt f. let w = c.requires.in_tables k lt f in omega (arith, w, long),
-            c.process_operands_at.auto.here ∙ c.requires.here_long,
+            c.process_operands_at.auto.allocs ∙ c.requires.allocs_long,
           ),
         ),
       ),
@@ -52,8 +52,8 @@ move_uses-requires g c =
         λ k d lt. let w = c.in_ok-process_operands_at-2.ensures.step.later k d lt in omega (arith, w, at),
         (
           λ k lt f. let w = c.requires.in_tables k lt f in omega (arith, w, long),
-          c.process_operands_at-2.auto.here ∙ c.process_operands_at.auto.here
-              ∙ c.requires.here_long,
+          c.process_operands_at-2.auto.allocs ∙ c.process_operands_at.auto.allocs
+              ∙ c.requires.allocs_long,
         ),
       ),
     )
@@ -62,7 +62,7 @@ pub returns-clause-outcome : goal.returns-clause-outcome
 returns-clause-outcome g c =
     let ops : List OperandValue = c.args.cx.now.operands.now in
     let early : c.before-2.result ≡ before c.args.cx.now.inst = c.before-2.ensures.point (λ e. omega (arith, c.requires.inst)) in
-    let M : ℕ → Type 0 = λ p. MovesUses p ops c.process_operands_at-2.new.here c.process_operands_at-2.new.inst_regs
+    let M : ℕ → Type 0 = λ p. MovesUses p ops c.process_operands_at-2.new.allocs c.process_operands_at-2.new.inst_regs
     (tables_of c.process_operands_at-2.new.self) (length ops) c.move_uses.new.inst_regs (tables_of c.move_uses.new.self) in (
       record {
         began = c.args.inst_regs.now;
@@ -73,8 +73,8 @@ returns-clause-outcome g c =
         after_clobbers = tables_of c.prepare_regs.new.self;
         after_late = tables_of c.process_operands_at.new.self;
         after_early = tables_of c.process_operands_at-2.new.self;
-        half = c.process_operands_at.new.here;
-        long = c.requires.here_long;
+        half = c.process_operands_at.new.allocs;
+        long = c.requires.allocs_long;
         no_places = c.requires.no_places;
         fresh = c.requires.fresh;
         prepares = c.in_ok-prepare_regs.ensures.outcome;
@@ -138,7 +138,7 @@ pub returns-in_err-process_operands_at-2-clause-outcome : goal.returns-in_err-pr
 returns-in_err-process_operands_at-2-clause-outcome g c =
     let e = err_from_is_err_and c.from_residual-in_err-process_operands_at-2.result c.from_residual-in_err-process_operands_at-2.ensures.1 in
     rw e.1 (λ lacks. in_earlies c.prepare_regs.new.inst_regs c.process_operands_at.new.inst_regs (tables_of c.prepare_regs.new.self)
-    (tables_of c.process_operands_at.new.self) c.process_operands_at.new.here c.in_ok-prepare_regs.ensures.outcome c.in_ok-process_operands_at.ensures.outcome
+    (tables_of c.process_operands_at.new.self) c.process_operands_at.new.allocs c.in_ok-prepare_regs.ensures.outcome c.in_ok-process_operands_at.ensures.outcome
     (c.in_err-process_operands_at-2.ensures.outcome (sym e.2 ∙ lacks)))
 
 pub returns-in_err-move_uses-clause-outcome : goal.returns-in_err-move_uses-clause-outcome
@@ -149,7 +149,7 @@ returns-in_err-move_uses-clause-outcome g c =
     let e = err_from_is_err_and c.from_residual-in_err-move_uses.result c.from_residual-in_err-move_uses.ensures.1 in
     rw e.1 (λ lacks. in_moves c.prepare_regs.new.inst_regs c.process_operands_at.new.inst_regs c.process_operands_at-2.new.inst_regs
     (tables_of c.prepare_regs.new.self) (tables_of c.process_operands_at.new.self) (tables_of c.process_operands_at-2.new.self)
-    c.process_operands_at.new.here c.process_operands_at-2.new.here c.in_ok-prepare_regs.ensures.outcome c.in_ok-process_operands_at.ensures.outcome
+    c.process_operands_at.new.allocs c.process_operands_at-2.new.allocs c.in_ok-prepare_regs.ensures.outcome c.in_ok-process_operands_at.ensures.outcome
     c.in_ok-process_operands_at-2.ensures.outcome
-    (subst (λ (p : ℕ). MoveUses p ops c.process_operands_at-2.new.here c.process_operands_at-2.new.inst_regs (tables_of c.process_operands_at-2.new.self)
+    (subst (λ (p : ℕ). MoveUses p ops c.process_operands_at-2.new.allocs c.process_operands_at-2.new.inst_regs (tables_of c.process_operands_at-2.new.self)
     no_register) early (c.in_err-move_uses.ensures.outcome (sym e.2 ∙ lacks))))

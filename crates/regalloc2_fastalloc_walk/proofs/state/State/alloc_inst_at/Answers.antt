@@ -34,17 +34,17 @@ returns-clause-outcome g c =
     let k : ℕ = (a + n) - a in
     let same : k ≡ n = omega arith in
     let blank : length (take k (drop a xs)) ≡ n = length-take k (drop a xs) ∙ omega (arith, length-drop a xs, c.requires.room) in
-    let here : length c.alloc_inst.new.here ≡ n = c.alloc_inst.auto.here ∙ blank in
+    let allocs : length c.alloc_inst.new.allocs ≡ n = c.alloc_inst.auto.allocs ∙ blank in
     let le : a ≤ length xs = omega (arith, c.requires.room) in (
       record {
         blank = take k (drop a xs);
-        here = c.alloc_inst.new.here;
+        here = c.alloc_inst.new.allocs;
         allocates = c.in_ok-alloc_inst.ensures.outcome.0;
-        long = length_part a k xs c.alloc_inst.new.here (omega (arith, c.requires.room)) (here ∙ sym same);
-        inside = λ j lt. inside_part a k j xs c.alloc_inst.new.here NoPlace le (omega arith);
+        long = length_part a k xs c.alloc_inst.new.allocs (omega (arith, c.requires.room)) (allocs ∙ sym same);
+        inside = λ j lt. inside_part a k j xs c.alloc_inst.new.allocs NoPlace le (omega arith);
         outside = λ j o. ⊎_elim
-            (λ (lt : j < a). below_part a k j xs c.alloc_inst.new.here NoPlace le lt)
-            (λ (ge : a + n ≤ j). above_part a k j xs c.alloc_inst.new.here NoPlace le (here ∙ sym same) (omega arith))
+            (λ (lt : j < a). below_part a k j xs c.alloc_inst.new.allocs NoPlace le lt)
+            (λ (ge : a + n ≤ j). above_part a k j xs c.alloc_inst.new.allocs NoPlace le (allocs ∙ sym same) (omega arith))
             o;
       },
       c.in_ok-alloc_inst.ensures.outcome.1,

@@ -9,9 +9,9 @@ use Rattle.regalloc2_fastalloc_walk.proofs.state.State.current_if_allowed.Goals.
 use Rattle.regalloc2_fastalloc_walk.proofs.state.State.current_if_allowed.Goals as goal
 
 -- no place at all doesn't meet the requirement of any register
-suits_none : (t : StateValue) (p : Place) → p ≡ NoPlace → MeetsRequirement t AnyReg p → ⊥
+meets_requirement_none : (t : StateValue) (p : Place) → p ≡ NoPlace → MeetsRequirement t AnyReg p → ⊥
 unfolding MeetsRequirement
-suits_none t p e (r, is, apart) = (let wrong : NoPlace ≡ InRegister r = sym e ∙ is in cc)
+meets_requirement_none t p e (r, is, apart) = (let wrong : NoPlace ≡ InRegister r = sym e ∙ is in cc)
 
 -- a place that tests as none is none
 no_place_is : (p : Place) → is_no_place p ≡ true → p ≡ NoPlace
@@ -30,7 +30,7 @@ returns-then-is_none-clause-none g c = λ any suits.
     let there : MeetsRequirement t AnyReg c.current_alloc-current.result = subst (λ (p : Place). MeetsRequirement t AnyReg p)
     (sym c.current_alloc-current.ensures.place) suits in
     elim c.then-is_none.branch [
-      | then-is_none-via-then-is_none w ↦ suits_none t c.current_alloc-current.result
+      | then-is_none-via-then-is_none w ↦ meets_requirement_none t c.current_alloc-current.result
           (no_place_is c.current_alloc-current.result (sym c.is_none.ensures ∙ w.if-is_none.true)) there
       | then-is_none-via-else-is_none+then-not-allocd_within_constraint w ↦
           (let meets = w.allocd_within_constraint.ensures.1 (subst (λ (x : Requirement). MeetsRequirement t x c.current_alloc-current.result) (sym any) there)

@@ -7,7 +7,7 @@ use Rattle.regalloc2_fastalloc_proofs.specs.InstSteps.{StateValue, EvictsEach, n
 use Rattle.regalloc2_fastalloc_proofs.proofs.Evictions.PushedAndRemoved.{no_some}
 use Rattle.regalloc2_fastalloc_walk.proofs.FilledClobbers.{AreLeftOut, are_small, evicts_all, none_listed, shared_are}
 use Rattle.regalloc2_fastalloc_walk.specs.StateView.{tables_of}
-use Rattle.regalloc2_fastalloc_proofs.proofs.Evictions.EvictClobbers.{clears_all, clears_more}
+use Rattle.regalloc2_fastalloc_proofs.proofs.Evictions.EvictClobbers.{evicts_each_step, evicts_each_more}
 use Rattle.regalloc2_fastalloc_walk.proofs.state.State.evict_clobbers.Goals as goal
 
 pub loop-preg-init : goal.loop-preg-init
@@ -26,7 +26,7 @@ evict_preg-requires g c = (search rules, c.loop-preg.invariant.later)
 pub loop-preg-preserved : goal.loop-preg-preserved
 loop-preg-preserved g c = record {
   left = rw (append_assoc, ← c.in-Some.ensures.steps) c.loop-preg.invariant.left;
-  cleared = clears_more c.args.point c.loop-preg.yielded c.in-Some.preg c.args.inst_regs.now c.loop-preg.inst_regs c.evict_preg.new.inst_regs
+  cleared = evicts_each_more c.args.point c.loop-preg.yielded c.in-Some.preg c.args.inst_regs.now c.loop-preg.inst_regs c.evict_preg.new.inst_regs
       (tables_of c.args.self.now) (tables_of c.loop-preg.self) (tables_of c.evict_preg.new.self)
       c.loop-preg.invariant.cleared c.in_ok-evict_preg.ensures.outcome;
   awaited = c.evict_preg.ensures.awaited ∙ c.loop-preg.invariant.awaited;
@@ -58,7 +58,7 @@ returns-clause-outcome g c =
     let left : AreLeftOut c.args.point (has_register filled) old =
     λ r lt out. no_some (vreg_of_preg old.places r) (λ v e. let x : true ≡ false = sym ((c.filled-filled.ensures r lt).1 (v, e)) ∙ out in cc) in
     let all : EvictsEach c.args.point (registers_of c.bitand-held.result) c.args.inst_regs.now old c.loop-preg.inst_regs new =
-    clears_all c.args.point c.loop-preg.yielded c.loop-preg.preg-iterator (registers_of c.bitand-held.result) c.args.inst_regs.now
+    evicts_each_step c.args.point c.loop-preg.yielded c.loop-preg.preg-iterator (registers_of c.bitand-held.result) c.args.inst_regs.now
     c.loop-preg.inst_regs old new c.in-None.ensures.steps.0 (c.loop-preg.invariant.left ∙ c.into_iter-preg-iterator.ensures.into_iter_gives.list)
     c.loop-preg.invariant.cleared in
     evicts_all c.args.point (has_register filled) (registers_of c.args.clobbers) c.args.inst_regs.now c.loop-preg.inst_regs old new

@@ -1,8 +1,8 @@
 use Rattle.std.proofs.Common.{ℕ, ◌≡◌, List, length, refl, sym, ap, ◌∙◌, subst, arith}
 use Rattle.regalloc2_names.specs.Register.{VirtualRegister}
 use Rattle.regalloc2_names.specs.Operand.{OperandValue}
-use Rattle.regalloc2_validate.specs.Constraints.{op_at}
-use Rattle.regalloc2_fastalloc_proofs.specs.InstSteps.{StateValue, EvictsOthers, EvictsFixed, none_cleared, not_fixed, of_fixed, of_reuse}
+use Rattle.regalloc2_function.specs.FunctionValue.{op_at}
+use Rattle.regalloc2_fastalloc_proofs.specs.InstSteps.{StateValue, EvictsOtherVRegs, EvictsFixed, none_cleared, not_fixed, of_fixed, of_reuse}
 use Rattle.regalloc2_fastalloc_proofs.proofs.Evictions.PushedAndRemoved.{same_then}
 use Rattle.regalloc2_fastalloc_walk.specs.StateView.{tables_of}
 use Rattle.regalloc2_validate.proofs.OperandReads.{read_operand, read_vreg}
@@ -10,7 +10,7 @@ use Rattle.std.proofs.lemmas.Result.{err_from_is_err_and}
 use Rattle.regalloc2_fastalloc_walk.proofs.RegsReserved.{evicts_none}
 use Rattle.regalloc2_fastalloc_walk.proofs.Steps.{stops_others}
 use Rattle.regalloc2_fastalloc_walk.proofs.state.State.evict_fixed.Goals as goal
-use Rattle.regalloc2_fastalloc_walk.proofs.state.State.evict_fixed.Goals.{in-FixedReg+in_ok-evict_others-in-FixedReg}
+use Rattle.regalloc2_fastalloc_walk.proofs.state.State.evict_fixed.Goals.{in-FixedReg+in_ok-evict_other_vregs-in-FixedReg}
 use Rattle.regalloc2_fastalloc_walk.proofs.state.State.evict_fixed.Goals.{in-Reuse+in-Some+in_ok-evict_preg-in-Reuse}
 use Rattle.regalloc2_fastalloc_walk.proofs.state.State.evict_fixed.Goals.{in-Reuse+in_default-reused_register, in_default}
 
@@ -41,17 +41,17 @@ loop-k-preserved g c =
     let m : StateValue = tables_of c.loop-k.self in
     let h = c.loop-k.invariant in
     elim c.match-constraint.branch [
-      | in-FixedReg+in_ok-evict_others-in-FixedReg w ↦ rw (w.self-is, w.inst_regs-is) (
-          let n : StateValue = tables_of w.evict_others.new.self in
-          let P : VirtualRegister → Type 0 = λ v. EvictsOthers c.args.point w.in-FixedReg.preg v c.loop-k.inst_regs w.evict_others.new.inst_regs m n in
+      | in-FixedReg+in_ok-evict_other_vregs-in-FixedReg w ↦ rw (w.self-is, w.inst_regs-is) (
+          let n : StateValue = tables_of w.evict_other_vregs.new.self in
+          let P : VirtualRegister → Type 0 = λ v. EvictsOtherVRegs c.args.point w.in-FixedReg.preg v c.loop-k.inst_regs w.evict_other_vregs.new.inst_regs m n in
           record {
-            cleared = of_fixed k w.in-FixedReg.preg c.loop-k.inst_regs w.evict_others.new.inst_regs m n h.cleared (at ∙ w.in-FixedReg.is)
+            cleared = of_fixed k w.in-FixedReg.preg c.loop-k.inst_regs w.evict_other_vregs.new.inst_regs m n h.cleared (at ∙ w.in-FixedReg.is)
                 (subst P (read_vreg ops k o w.vreg.result c.loop-k-test.true c.index-operands-k.is w.vreg.ensures)
-                w.in_ok-evict_others-in-FixedReg.ensures.outcome);
-            awaited = w.evict_others.ensures.awaited ∙ h.awaited;
-            later = w.in_ok-evict_others-in-FixedReg.ensures.step.later;
-            long = w.in_ok-evict_others-in-FixedReg.ensures.step.long ∙ h.long;
-            machine = same_then begin m n h.machine w.in_ok-evict_others-in-FixedReg.ensures.step.machine;
+                w.in_ok-evict_other_vregs-in-FixedReg.ensures.outcome);
+            awaited = w.evict_other_vregs.ensures.awaited ∙ h.awaited;
+            later = w.in_ok-evict_other_vregs-in-FixedReg.ensures.step.later;
+            long = w.in_ok-evict_other_vregs-in-FixedReg.ensures.step.long ∙ h.long;
+            machine = same_then begin m n h.machine w.in_ok-evict_other_vregs-in-FixedReg.ensures.step.machine;
           })
       | in-Reuse+in-Some+in_ok-evict_preg-in-Reuse w ↦ rw (w.self-is, w.inst_regs-is) (
           let n : StateValue = tables_of w.evict_preg.new.self in
@@ -89,8 +89,8 @@ returns-clause-outcome g c =
     c.loop-k.invariant.cleared
 
 -- a register can't be emptied of others
-pub returns-in_err-evict_others-in-FixedReg-clause-outcome : goal.returns-in_err-evict_others-in-FixedReg-clause-outcome
-returns-in_err-evict_others-in-FixedReg-clause-outcome g c =
+pub returns-in_err-evict_other_vregs-in-FixedReg-clause-outcome : goal.returns-in_err-evict_other_vregs-in-FixedReg-clause-outcome
+returns-in_err-evict_other_vregs-in-FixedReg-clause-outcome g c =
     let e = err_from_is_err_and c.from_residual.result c.from_residual.ensures.1 in
     rw e.1 (λ same. record {
       index = c.loop-k.k;
@@ -98,5 +98,5 @@ returns-in_err-evict_others-in-FixedReg-clause-outcome g c =
       middle = tables_of c.loop-k.self;
       inside = c.loop-k-test.true;
       done = c.loop-k.invariant.cleared;
-      stops = (c.in-FixedReg.preg, stops_others (c.in_err-evict_others-in-FixedReg.ensures.outcome (sym e.2 ∙ same)));
+      stops = (c.in-FixedReg.preg, stops_others (c.in_err-evict_other_vregs-in-FixedReg.ensures.outcome (sym e.2 ∙ same)));
     })

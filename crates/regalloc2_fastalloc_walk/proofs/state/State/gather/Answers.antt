@@ -6,7 +6,7 @@ use Rattle.regalloc2_function.specs.FunctionValue.{FunctionValue, block_at, inst
 use Rattle.regalloc2_function.specs.SourceRun.{arguments_at}
 use Rattle.regalloc2_function.specs.Following.{end_within}
 use Rattle.regalloc2_semantics.specs.Blocks.{target_at}
-use Rattle.regalloc2_fastalloc_proofs.specs.BranchSteps.{GathersMoves, no_edge, one_edge, IsOwn}
+use Rattle.regalloc2_fastalloc_proofs.specs.BranchSteps.{GathersMoves, no_edge, one_edge, IsOwnDef}
 use Rattle.regalloc2_fastalloc_proofs.specs.InstSteps.{StateValue, no_register}
 use Rattle.std.proofs.lemmas.Result.{err_from_is_err_and}
 use Rattle.regalloc2_fastalloc_proofs.specs.BranchSteps.{GatherEdge}
@@ -16,7 +16,7 @@ use Rattle.regalloc2_fastalloc_proofs.specs.BlockSteps.{MayBeAllocated}
 use Rattle.regalloc2_fastalloc_walk.proofs.OwnDefs.{own_by, by_own, gathers_as, fails_as}
 use Rattle.regalloc2_fastalloc_walk.specs.OwnDefs.{IsOwnBy}
 use Rattle.regalloc2_fastalloc_walk.specs.StateView.{tables_of}
-use Rattle.regalloc2_fastalloc_proofs.proofs.Branches.ArgMovesAreParallel.{known_still, edge_at}
+use Rattle.regalloc2_fastalloc_proofs.proofs.Branches.ArgMovesAreParallel.{known_still, gathers_edge_moves_at}
 use Rattle.regalloc2_fastalloc_proofs.proofs.Evictions.PushedAndRemoved.{same_then}
 use Rattle.regalloc2_fastalloc_walk.proofs.state.State.gather.Goals as goal
 
@@ -71,10 +71,10 @@ gather_edge-requires g c =
 -- what the tables say that the branch defines is its own
 module _ (f : FunctionValue) {A : Type 0} (defs : BranchDefs A) (are : AreBranchDefsOf f defs) (well : MayBeAllocated f) (b i : ℕ) (lt : b < length f.blocks)
     (last : i + 1 ≡ (block_at f b).range.end) (branch : (inst_at f i).is_branch ≡ true) where
-  own_there : (v : VirtualRegister) → IsOwnBy defs i v → IsOwn f b v
+  own_there : (v : VirtualRegister) → IsOwnBy defs i v → IsOwnDef f b v
   own_there v own = own_by f defs are b i (omega (arith, last)) v own
 
-  there_own : (v : VirtualRegister) → IsOwn f b v → IsOwnBy defs i v
+  there_own : (v : VirtualRegister) → IsOwnDef f b v → IsOwnBy defs i v
   there_own v own = (let within = end_within f well.1.follow b lt in by_own f defs are well.1.defined_once b i (omega (arith, last)) (omega (
     arith,
     last,
@@ -101,10 +101,10 @@ loop-k-preserved g c =
         y.0,
         y.1,
         one_edge k x.0 y.0 c.loop-k.inst_regs c.gather_edge.new.inst_regs m n lt x.2
-            (edge_at (before c.args.inst) (before c.args.inst) c.block_params-params.result.now (block_at f (target_at f c.args.block k)).params
+            (gathers_edge_moves_at (before c.args.inst) (before c.args.inst) c.block_params-params.result.now (block_at f (target_at f c.args.block k)).params
             c.branch_blockparams-arguments.result.now (arguments_at f c.args.block k)
             c.loop-k.inst_regs c.gather_edge.new.inst_regs m n x.0 y.0 refl ps xs
-            (gathers_as (IsOwnBy c.args.cx.now.defs.now c.args.inst) (IsOwn f c.args.block)
+            (gathers_as (IsOwnBy c.args.cx.now.defs.now c.args.inst) (IsOwnDef f c.args.block)
             (own_there f c.args.cx.now.defs.now c.requires.defs c.requires.well_formed c.args.block c.args.inst c.requires.block c.requires.last
             c.requires.branch)
             (there_own f c.args.cx.now.defs.now c.requires.defs c.requires.well_formed c.args.block c.args.inst c.requires.block c.requires.last
@@ -150,7 +150,7 @@ returns-in_err-gather_edge-clause-outcome g c =
       middle = m;
       inside = lt;
       done = x.2;
-      stops = fails_as (IsOwnBy c.args.cx.now.defs.now c.args.inst) (IsOwn f c.args.block)
+      stops = fails_as (IsOwnBy c.args.cx.now.defs.now c.args.inst) (IsOwnDef f c.args.block)
           (own_there f c.args.cx.now.defs.now c.requires.defs c.requires.well_formed c.args.block c.args.inst c.requires.block c.requires.last
           c.requires.branch)
           (there_own f c.args.cx.now.defs.now c.requires.defs c.requires.well_formed c.args.block c.args.inst c.requires.block c.requires.last

@@ -4,8 +4,8 @@ use Rattle.std.proofs.lemmas.List.{get_or_read}
 use Rattle.regalloc2_names.specs.Place.{Place, NoPlace, is_place}
 use Rattle.regalloc2_names.specs.Operand.{OperandValue, is_reading}
 use Rattle.regalloc2_fastalloc_state.specs.StateParts.{alloc_of}
-use Rattle.regalloc2_parts.specs.Picked.{is_use, picked}
-use Rattle.regalloc2_validate.specs.Constraints.{op_at}
+use Rattle.regalloc2_parts.specs.Picked.{is_use_operand, picked}
+use Rattle.regalloc2_function.specs.FunctionValue.{op_at}
 use Rattle.regalloc2_fastalloc_proofs.specs.InstSteps.{none_moved, not_moved, one_moved, AddsMoveIf, MoveUse, no_register}
 use Rattle.std.proofs.lemmas.Result.{err_from_is_err_and}
 use Rattle.regalloc2_fastalloc_walk.specs.StateView.{tables_of}
@@ -19,7 +19,8 @@ loop-k-init g c = record {
   done = (
     0,
     omega arith,
-    sym (c.into_iter-k-iterator.ensures.into_iter_gives ∙ c.use_ops-k-items.ensures ∙ ap (λ (ops : List OperandValue). picked is_use ops) c.new.ensures),
+    sym (c.into_iter-k-iterator.ensures.into_iter_gives ∙ c.use_ops-k-items.ensures ∙ ap (λ (ops : List OperandValue). picked is_use_operand ops)
+        c.new.ensures),
     none_moved,
   );
   later = c.requires.later;
@@ -31,7 +32,7 @@ pub move_use-requires : goal.move_use-requires
 move_use-requires g c =
     let ops : List OperandValue = c.args.operands.now in
     let h = c.loop-k.invariant.done in
-    let met = use_next c.args.point ops c.args.here.now c.args.inst_regs.now (tables_of c.args.self.now) c.loop-k.inst_regs (tables_of c.loop-k.self) h.0
+    let met = use_next c.args.point ops c.args.allocs.now c.args.inst_regs.now (tables_of c.args.self.now) c.loop-k.inst_regs (tables_of c.loop-k.self) h.0
     c.loop-k.k-iterator c.next.new.self (c.in-Some.k, c.in-Some.operand) h.1 h.2 c.in-Some.ensures.steps h.3 in
     let marked = reads_allocated (op_at ops c.in-Some.k) (ap (λ (o : OperandValue). is_reading o) (sym met.operand) ∙ sym c.is_reading.ensures
     ∙ c.if-is_reading.true) in
@@ -44,15 +45,16 @@ move_use-requires g c =
       ),
     )
 
-pub bounds-here-k : goal.bounds-here-k
-bounds-here-k g c =
+pub bounds-allocs-k : goal.bounds-allocs-k
+bounds-allocs-k g c =
     let ops : List OperandValue = c.args.operands.now in
     let h = c.loop-k.invariant.done in
-    let met = use_next c.args.point ops c.args.here.now c.args.inst_regs.now (tables_of c.args.self.now) c.loop-k.inst_regs (tables_of c.loop-k.self) h.0
-    c.loop-k.k-iterator c.next.new.self (c.in-Some.k, c.in-Some.operand) h.1 h.2 c.in-Some.ensures.steps h.3 in omega (arith, met.inside, c.requires.here_long)
+    let met = use_next c.args.point ops c.args.allocs.now c.args.inst_regs.now (tables_of c.args.self.now) c.loop-k.inst_regs (tables_of c.loop-k.self) h.0
+    c.loop-k.k-iterator c.next.new.self (c.in-Some.k, c.in-Some.operand) h.1 h.2 c.in-Some.ensures.steps h.3 in omega (arith, met.inside,
+        c.requires.allocs_long)
 
-pub offset_bounds-here-k : goal.offset_bounds-here-k
-offset_bounds-here-k g c = omega (arith, bounds-here-k g c)
+pub offset_bounds-allocs-k : goal.offset_bounds-allocs-k
+offset_bounds-allocs-k g c = omega (arith, bounds-allocs-k g c)
 
 -- a use that reads is moved
 pub loop-k-preserved-in-Continue-1 : goal.loop-k-preserved-in-Continue-1
@@ -60,15 +62,15 @@ loop-k-preserved-in-Continue-1 g c =
     let ops : List OperandValue = c.args.operands.now in
     let k : ℕ = c.in-Some.k in
     let h = c.loop-k.invariant.done in
-    let met = use_next c.args.point ops c.args.here.now c.args.inst_regs.now (tables_of c.args.self.now) c.loop-k.inst_regs (tables_of c.loop-k.self) h.0
+    let met = use_next c.args.point ops c.args.allocs.now c.args.inst_regs.now (tables_of c.args.self.now) c.loop-k.inst_regs (tables_of c.loop-k.self) h.0
     c.loop-k.k-iterator c.next.new.self (k, c.in-Some.operand) h.1 h.2 c.in-Some.ensures.steps h.3 in
     let less : k < length ops = met.inside in
     let kind : is_reading (op_at ops k) ≡ c.is_reading.result = ap (λ (o : OperandValue). is_reading o) (sym met.operand) ∙ sym c.is_reading.ensures in
     let S : OperandValue → Place → Type 0 = λ o p. AddsMoveIf c.args.point o.vreg.class
     (not (is_place (alloc_of c.loop-k.self.places o.vreg.number) p)) (alloc_of c.loop-k.self.places o.vreg.number) p
     c.loop-k.inst_regs c.move_use.new.inst_regs (tables_of c.loop-k.self) (tables_of c.move_use.new.self) in
-    let place : c.index-here-k.result ≡ slice_index_or c.args.here.now k NoPlace = get_or_read c.args.here.now k c.index-here-k.result
-    (omega (arith, less, c.requires.here_long)) c.index-here-k.is NoPlace in
+    let place : c.index-allocs-k.result ≡ slice_index_or c.args.allocs.now k NoPlace = get_or_read c.args.allocs.now k c.index-allocs-k.result
+    (omega (arith, less, c.requires.allocs_long)) c.index-allocs-k.is NoPlace in
     record {
       done = (
         k + 1,
@@ -76,7 +78,7 @@ loop-k-preserved-in-Continue-1 g c =
         sym met.after,
         one_moved k c.loop-k.inst_regs c.move_use.new.inst_regs (tables_of c.loop-k.self) (tables_of c.move_use.new.self) met.so_far
             (kind ∙ c.if-is_reading.true)
-            (subst (S (op_at ops k)) place (subst (λ (o : OperandValue). S o c.index-here-k.result) met.operand c.in_ok-move_use.ensures.outcome)),
+            (subst (S (op_at ops k)) place (subst (λ (o : OperandValue). S o c.index-allocs-k.result) met.operand c.in_ok-move_use.ensures.outcome)),
       );
       later = c.in_ok-move_use.ensures.step.later;
       long = c.in_ok-move_use.ensures.step.long ∙ c.loop-k.invariant.long;
@@ -90,7 +92,7 @@ loop-k-preserved g c =
     let ops : List OperandValue = c.args.operands.now in
     let k : ℕ = c.in-Some.k in
     let h = c.loop-k.invariant.done in
-    let met = use_next c.args.point ops c.args.here.now c.args.inst_regs.now (tables_of c.args.self.now) c.loop-k.inst_regs (tables_of c.loop-k.self) h.0
+    let met = use_next c.args.point ops c.args.allocs.now c.args.inst_regs.now (tables_of c.args.self.now) c.loop-k.inst_regs (tables_of c.loop-k.self) h.0
     c.loop-k.k-iterator c.next.new.self (k, c.in-Some.operand) h.1 h.2 c.in-Some.ensures.steps h.3 in
     let kind : is_reading (op_at ops k) ≡ c.is_reading.result = ap (λ (o : OperandValue). is_reading o) (sym met.operand) ∙ sym c.is_reading.ensures in
     record {
@@ -108,7 +110,8 @@ loop-k-preserved g c =
 pub returns-clause-outcome : goal.returns-clause-outcome
 returns-clause-outcome g c =
     let h = c.loop-k.invariant.done in
-    uses_all c.args.point c.args.operands.now c.args.here.now c.args.inst_regs.now (tables_of c.args.self.now) c.loop-k.inst_regs (tables_of c.loop-k.self) h.0
+    uses_all c.args.point c.args.operands.now c.args.allocs.now c.args.inst_regs.now (tables_of c.args.self.now) c.loop-k.inst_regs (tables_of c.loop-k.self)
+        h.0
     c.loop-k.k-iterator h.1 h.2 c.in-None.ensures.steps.0 h.3
 
 -- a use can't be moved
@@ -117,12 +120,12 @@ returns-in_err-move_use-clause-outcome g c =
     let ops : List OperandValue = c.args.operands.now in
     let k : ℕ = c.in-Some.k in
     let h = c.loop-k.invariant.done in
-    let met = use_next c.args.point ops c.args.here.now c.args.inst_regs.now (tables_of c.args.self.now) c.loop-k.inst_regs (tables_of c.loop-k.self) h.0
+    let met = use_next c.args.point ops c.args.allocs.now c.args.inst_regs.now (tables_of c.args.self.now) c.loop-k.inst_regs (tables_of c.loop-k.self) h.0
     c.loop-k.k-iterator c.next.new.self (k, c.in-Some.operand) h.1 h.2 c.in-Some.ensures.steps h.3 in
     let less : k < length ops = met.inside in
     let F : OperandValue → Place → Type 0 = λ o p. MoveUse c.args.point o p c.loop-k.inst_regs (tables_of c.loop-k.self) no_register in
-    let place : c.index-here-k.result ≡ slice_index_or c.args.here.now k NoPlace = get_or_read c.args.here.now k c.index-here-k.result
-    (omega (arith, less, c.requires.here_long)) c.index-here-k.is NoPlace in
+    let place : c.index-allocs-k.result ≡ slice_index_or c.args.allocs.now k NoPlace = get_or_read c.args.allocs.now k c.index-allocs-k.result
+    (omega (arith, less, c.requires.allocs_long)) c.index-allocs-k.is NoPlace in
     let e = err_from_is_err_and c.from_residual.result c.from_residual.ensures.1 in
     rw e.1 (λ same. record {
       index = k;
@@ -132,7 +135,7 @@ returns-in_err-move_use-clause-outcome g c =
       done = met.so_far;
       stops = (
         ap (λ (o : OperandValue). is_reading o) (sym met.operand) ∙ sym c.is_reading.ensures ∙ c.if-is_reading.true,
-        subst (F (op_at ops k)) place (subst (λ (o : OperandValue). F o c.index-here-k.result) met.operand
+        subst (F (op_at ops k)) place (subst (λ (o : OperandValue). F o c.index-allocs-k.result) met.operand
             (c.in_err-move_use.ensures.outcome (sym e.2 ∙ same))),
       );
     })

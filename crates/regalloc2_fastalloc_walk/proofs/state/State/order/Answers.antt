@@ -1,7 +1,7 @@
 use Rattle.std.proofs.Common.{◌≡◌, ◌+◌, [], refl, sym, ap, ◌∙◌, subst, arith}
 use Rattle.std.proofs.lemmas.Result.{err_from_is_err_and}
 use Rattle.regalloc2_names.specs.Place.{Place}
-use Rattle.regalloc2_parts.specs.Resolved.{listed, has_scratch, with_place}
+use Rattle.regalloc2_parts.specs.Resolved.{moves_listed, has_scratch, with_place}
 use Rattle.regalloc2_parts.specs.declared.scratch_pool.ScratchPool.{ScratchPool}
 use Rattle.regalloc2_fastalloc_state.specs.OutOfResources.{IsResourceError, SlotsExhaustedWith}
 use Rattle.regalloc2_parts.specs.ScratchPool.{HasTooFewSlots}
@@ -13,7 +13,7 @@ use Rattle.regalloc2_fastalloc_walk.proofs.state.State.order.Goals as goal
 
 pub returns-then-are_none-clause-outcome : goal.returns-then-are_none-clause-outcome
 returns-then-are_none-clause-outcome g c =
-    orders_none c.args.inst_regs.now c.args.class (tables_of c.args.self.now) c.args.moves (listed c.in_ok-resolved.resolved) c.with_scratch.result.items
+    orders_none c.args.inst_regs.now c.args.class (tables_of c.args.self.now) c.args.moves (moves_listed c.in_ok-resolved.resolved) c.with_scratch.result.items
     (has_scratch c.in_ok-resolved.resolved) c.in_ok-resolved.ensures.resolved ((c.if-are_none.ensures.none.0 refl))
     (c.with_scratch.ensures.items ∙ ap (λ (p : Place). with_place p c.in_ok-resolved.resolved) c.none.ensures ∙ c.if-are_none.ensures.same refl)
 
@@ -47,7 +47,7 @@ compute-requires g c =
     } in (
       omega arith,
       (
-        serves_given moves (has_scratch c.in_ok-resolved.resolved) (listed c.in_ok-resolved.resolved) c.in_ok-resolved.ensures.resolved,
+        serves_given moves (has_scratch c.in_ok-resolved.resolved) (moves_listed c.in_ok-resolved.resolved) c.in_ok-resolved.ensures.resolved,
         c.in_ok-resolved.ensures.runnable,
       ),
     )
@@ -109,19 +109,19 @@ returns-clause-outcome g c =
       lends = c.add_temp_slots.ensures.added;
       few = c.in_ok-made.ensures.there.0;
       scratch = has_scratch c.in_ok-resolved.resolved;
-      listed = listed c.in_ok-resolved.resolved;
+      listed = moves_listed c.in_ok-resolved.resolved;
       made = c.in_ok-made.made.moves.items;
       is = c.in_ok-resolved.ensures.resolved;
       made_so = c.in_ok-made.ensures.made;
     })
     refl refl refl refl refl refl
-    (λ none. let short : listed c.in_ok-resolved.resolved ≡ [] = c.in_ok-resolved.ensures.resolved.short (rw none (omega arith)) ∙ none in
+    (λ none. let short : moves_listed c.in_ok-resolved.resolved ≡ [] = c.in_ok-resolved.ensures.resolved.short (rw none (omega arith)) ∙ none in
     let yes = c.are_none.ensures.none.1 short in let no = c.if-are_none.false in cc)
 
 -- moves of a class that has no allocatable register
 pub returns-in_default-clause-outcome : goal.returns-in_default-clause-outcome
 returns-in_default-clause-outcome g c = λ lacks. (
-  λ none. let short : listed c.in_ok-resolved.resolved ≡ [] = c.in_ok-resolved.ensures.resolved.short (rw none (omega arith)) ∙ none in
+  λ none. let short : moves_listed c.in_ok-resolved.resolved ≡ [] = c.in_ok-resolved.ensures.resolved.short (rw none (omega arith)) ∙ none in
       let yes = c.are_none.ensures.none.1 short in let no = c.if-are_none.false in cc,
   c.in_default.ensures.none,
 )

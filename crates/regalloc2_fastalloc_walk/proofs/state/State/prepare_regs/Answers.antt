@@ -8,7 +8,7 @@ use Rattle.regalloc2_fastalloc_state.specs.StateParts.{AllAtOrAfter}
 use Rattle.regalloc2_fastalloc_proofs.specs.InstSteps.{StateValue, EvictsFixed, EvictsEach}
 use Rattle.regalloc2_fastalloc_proofs.specs.InstSteps.{no_register, EvictFixed, EvictEach, in_reserve, in_fixed, in_clobbers}
 use Rattle.regalloc2_fastalloc_proofs.proofs.Evictions.PushedAndRemoved.{same_then}
-use Rattle.regalloc2_fastalloc_proofs.proofs.Evictions.FixedUsed.{fails_from, fixed_from, same_used}
+use Rattle.regalloc2_fastalloc_proofs.proofs.Evictions.FixedUsed.{fails_from, evicts_fixed_from, same_used}
 use Rattle.regalloc2_fastalloc_walk.proofs.Steps.{fails_with, step_then_fails}
 use Rattle.regalloc2_fastalloc_walk.specs.StateView.{tables_of}
 use Rattle.regalloc2_fastalloc_walk.proofs.state.State.prepare_regs.Goals as goal
@@ -43,7 +43,7 @@ returns-clause-outcome g c =
       middle = tables_of c.evict_fixed.new.self;
       reserves = c.in_ok-any_fixed.ensures.outcome;
       holds = c.remove_clobbers_from_available_pregs.ensures.removed;
-      fixed = fixed_from c.in_ok-any_fixed.ensures.unused (subst (F (after c.args.cx.now.inst)) same
+      fixed = evicts_fixed_from c.in_ok-any_fixed.ensures.unused (subst (F (after c.args.cx.now.inst)) same
           (subst (λ (p : ℕ). F p (tables_of c.remove_clobbers_from_available_pregs.new.self)) at c.in_ok-evict_fixed.ensures.outcome));
       emptied = subst C at c.in_ok-evict_clobbers.ensures.outcome;
       awaited = λ class. ap (λ (xs : List ℕ). slice_index xs (class_code class))
@@ -113,7 +113,7 @@ returns-in_err-evict_clobbers-clause-outcome g c =
     c.remove_clobbers_from_available_pregs.ensures.same ∙ c.reserve.ensures.same in
     let F : ℕ → StateValue → Type 0 = λ p t. EvictsFixed p ops c.remove_clobbers_from_available_pregs.new.inst_regs t (length ops) c.evict_fixed.new.inst_regs
     (tables_of c.evict_fixed.new.self) in
-    let fixed : F (after i) old = fixed_from c.in_ok-any_fixed.ensures.unused (subst (F (after i)) same
+    let fixed : F (after i) old = evicts_fixed_from c.in_ok-any_fixed.ensures.unused (subst (F (after i)) same
     (subst (λ (p : ℕ). F p (tables_of c.remove_clobbers_from_available_pregs.new.self)) at c.in_ok-evict_fixed.ensures.outcome)) in
     let e = err_from_is_err_and c.from_residual-in_err-evict_clobbers.result c.from_residual-in_err-evict_clobbers.ensures.1 in
     rw e.1 (λ lacks. in_clobbers c.reserve.new.inst_regs c.remove_clobbers_from_available_pregs.new.inst_regs c.evict_fixed.new.inst_regs

@@ -2,7 +2,7 @@ use Rattle.std.proofs.Common.{◌≡◌, List, refl, sym, ap, ◌∙◌, arith, 
 use Rattle.std.proofs.lemmas.List.{get_or_read}
 use Rattle.regalloc2_names.specs.Operand.{OperandValue}
 use Rattle.regalloc2_names.specs.Place.{NoPlace}
-use Rattle.regalloc2_validate.specs.Constraints.{op_at}
+use Rattle.regalloc2_function.specs.FunctionValue.{op_at}
 use Rattle.regalloc2_validate.proofs.OperandReads.{read_operand}
 use Rattle.regalloc2_fastalloc_walk.proofs.SlotUses.{slot_use}
 use Rattle.regalloc2_fastalloc_walk.proofs.state.State.process_operand_allocation.Goals as goal
@@ -11,8 +11,8 @@ pub process_reg_operand-requires : goal.process_reg_operand-requires
 process_reg_operand-requires g c =
     let ops : List OperandValue = c.args.cx.now.operands.now in
     let o : c.index-operands-k.result ≡ op_at ops c.args.k = read_operand ops c.args.k c.index-operands-k.result c.requires.inside c.index-operands-k.is in
-    let h : c.index-here-k.result ≡ slice_index_or c.args.here.now c.args.k NoPlace = get_or_read c.args.here.now c.args.k c.index-here-k.result
-    (omega (arith, c.requires.inside, c.requires.here_long)) c.index-here-k.is NoPlace in
+    let h : c.index-allocs-k.result ≡ slice_index_or c.args.allocs.now c.args.k NoPlace = get_or_read c.args.allocs.now c.args.k c.index-allocs-k.result
+    (omega (arith, c.requires.inside, c.requires.allocs_long)) c.index-allocs-k.is NoPlace in
     let asks = c.if-asks_any_reg.ensures.0 refl in (
       search rules,
       (
@@ -21,7 +21,7 @@ process_reg_operand-requires g c =
           c.requires.inst,
           (
             c.requires.later,
-            (c.requires.in_tables, (c.requires.here_long, (ap (λ (x : OperandValue). x.constraint) (sym o) ∙ asks.0, sym h ∙ asks.1))),
+            (c.requires.in_tables, (c.requires.allocs_long, (ap (λ (x : OperandValue). x.constraint) (sym o) ∙ asks.0, sym h ∙ asks.1))),
           ),
         ),
       ),
@@ -32,7 +32,7 @@ pub returns-in-Some-slot_of_any_use-clause-outcome : goal.returns-in-Some-slot_o
 returns-in-Some-slot_of_any_use-clause-outcome g c =
     let ops : List OperandValue = c.args.cx.now.operands.now in
     let o : c.index-operands-k.result ≡ op_at ops c.args.k = read_operand ops c.args.k c.index-operands-k.result c.requires.inside c.index-operands-k.is in
-    let h : c.index-here-k.result ≡ slice_index_or c.args.here.now c.args.k NoPlace = get_or_read c.args.here.now c.args.k c.index-here-k.result
-    (omega (arith, c.requires.inside, c.requires.here_long)) c.index-here-k.is NoPlace in
+    let h : c.index-allocs-k.result ≡ slice_index_or c.args.allocs.now c.args.k NoPlace = get_or_read c.args.allocs.now c.args.k c.index-allocs-k.result
+    (omega (arith, c.requires.inside, c.requires.allocs_long)) c.index-allocs-k.is NoPlace in
     let s = c.in-Some-slot_of_any_use.ensures.some in
-    slot_use c.index-operands-k.result c.index-here-k.result c.in-Some-slot_of_any_use.slot o h s.0 s.1 c.in_default.ensures.none s.2 s.3
+    slot_use c.index-operands-k.result c.index-allocs-k.result c.in-Some-slot_of_any_use.slot o h s.0 s.1 c.in_default.ensures.none s.2 s.3

@@ -1,6 +1,6 @@
 use Rattle.std.proofs.Common.{◌+◌, refl, sym, ◌∙◌, arith, rules}
 use Rattle.std.proofs.lemmas.Result.{err_from_is_err_and}
-use Rattle.regalloc2_validate.specs.Constraints.{op_at}
+use Rattle.regalloc2_function.specs.FunctionValue.{op_at}
 use Rattle.regalloc2_fastalloc_walk.specs.StateView.{tables_of}
 use Rattle.regalloc2_fastalloc_walk.proofs.PickedInTurn.{is_there}
 use Rattle.regalloc2_fastalloc_proofs.proofs.Evictions.PushedAndRemoved.{same_then}
@@ -24,7 +24,7 @@ loop-k-init g c = record {
 pub process_operand_allocation-requires : goal.process_operand_allocation-requires
 process_operand_allocation-requires g c =
     let h = c.loop-k.invariant.done in
-    let met = processed_next c.args.cx.now.inst c.args.cx.now.ends_block c.args.pos c.args.cx.now.operands.now c.args.here.now c.args.inst_regs.now
+    let met = processed_next c.args.cx.now.inst c.args.cx.now.ends_block c.args.pos c.args.cx.now.operands.now c.args.allocs.now c.args.inst_regs.now
     (tables_of c.args.self.now)
     c.loop-k.k-iterator h.1 h.2 c.in-Some.ensures.steps h.3 in (
       search rules,
@@ -36,7 +36,7 @@ process_operand_allocation-requires g c =
             c.loop-k.invariant.later,
             (
               λ k lt f. let w = c.requires.in_tables k lt f in omega (arith, w, c.loop-k.invariant.long),
-              omega (arith, c.requires.here_long, c.loop-k.auto.here),
+              omega (arith, c.requires.allocs_long, c.loop-k.auto.allocs),
             ),
           ),
         ),
@@ -46,7 +46,7 @@ process_operand_allocation-requires g c =
 pub loop-k-preserved : goal.loop-k-preserved
 loop-k-preserved g c =
     let h = c.loop-k.invariant.done in
-    let met = processed_next c.args.cx.now.inst c.args.cx.now.ends_block c.args.pos c.args.cx.now.operands.now c.args.here.now c.args.inst_regs.now
+    let met = processed_next c.args.cx.now.inst c.args.cx.now.ends_block c.args.pos c.args.cx.now.operands.now c.args.allocs.now c.args.inst_regs.now
     (tables_of c.args.self.now)
     c.loop-k.k-iterator h.1 h.2 c.in-Some.ensures.steps h.3 in
     record {
@@ -54,7 +54,7 @@ loop-k-preserved g c =
         c.in-Some.k + 1,
         omega (arith, met.inside),
         sym met.after,
-        processed_more c.args.cx.now.inst c.args.cx.now.ends_block c.args.pos c.args.cx.now.operands.now c.args.here.now c.args.inst_regs.now
+        processed_more c.args.cx.now.inst c.args.cx.now.ends_block c.args.pos c.args.cx.now.operands.now c.args.allocs.now c.args.inst_regs.now
             (tables_of c.args.self.now) met.passes c.in_ok-process_operand_allocation.ensures.outcome met.so_far,
       );
       later = c.in_ok-process_operand_allocation.ensures.step.later;
@@ -66,7 +66,7 @@ loop-k-preserved g c =
 pub returns-clause-outcome : goal.returns-clause-outcome
 returns-clause-outcome g c =
     let h = c.loop-k.invariant.done in
-    processed_all c.args.cx.now.inst c.args.cx.now.ends_block c.args.pos c.args.cx.now.operands.now c.args.here.now c.args.inst_regs.now
+    processed_all c.args.cx.now.inst c.args.cx.now.ends_block c.args.pos c.args.cx.now.operands.now c.args.allocs.now c.args.inst_regs.now
     (tables_of c.args.self.now)
     c.loop-k.k-iterator h.1 h.2 c.in-None.ensures.steps.0 h.3
 
@@ -74,13 +74,13 @@ returns-clause-outcome g c =
 pub returns-in_err-process_operand_allocation-clause-outcome : goal.returns-in_err-process_operand_allocation-clause-outcome
 returns-in_err-process_operand_allocation-clause-outcome g c =
     let h = c.loop-k.invariant.done in
-    let met = processed_next c.args.cx.now.inst c.args.cx.now.ends_block c.args.pos c.args.cx.now.operands.now c.args.here.now c.args.inst_regs.now
+    let met = processed_next c.args.cx.now.inst c.args.cx.now.ends_block c.args.pos c.args.cx.now.operands.now c.args.allocs.now c.args.inst_regs.now
     (tables_of c.args.self.now)
     c.loop-k.k-iterator h.1 h.2 c.in-Some.ensures.steps h.3 in
     let e = err_from_is_err_and c.from_residual.result c.from_residual.ensures.1 in
     rw e.1 (λ same. record {
       index = c.in-Some.k;
-      given = (c.loop-k.here, c.loop-k.inst_regs);
+      given = (c.loop-k.allocs, c.loop-k.inst_regs);
       middle = tables_of c.loop-k.self;
       inside = met.inside;
       done = met.so_far;

@@ -12,7 +12,7 @@ use Rattle.regalloc2_fastalloc_walk.proofs.state.State.process_operands_at.Given
 abbrev pub invariant-loop-k : goal.invariant-loop-k
 invariant-loop-k g l = record {
   done : (n : ℕ) × (n ≤ length l.cx.operands.now) × (left_from (is_at l.fn.pos) n l.cx.operands.now ≡ l.k-iterator)
-      × AreProcessed l.cx.inst l.cx.ends_block l.fn.pos l.cx.operands.now l.fn.here l.fn.inst_regs (tables_of l.fn.self) l.here l.inst_regs
+      × AreProcessed l.cx.inst l.cx.ends_block l.fn.pos l.cx.operands.now l.fn.allocs l.fn.inst_regs (tables_of l.fn.self) l.allocs l.inst_regs
       (tables_of l.self) n;
   later : AllAtOrAfter (after l.cx.inst) l.self.edits;
   long : length l.self.places.vreg_allocs ≡ length l.fn.self.places.vreg_allocs;

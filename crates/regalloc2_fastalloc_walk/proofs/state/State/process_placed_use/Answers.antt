@@ -9,7 +9,7 @@ use Rattle.regalloc2_fastalloc_state.specs.declared.inst_regs.Positions.{Positio
 use Rattle.regalloc2_fastalloc_state.specs.declared.request.Requirement.{Requirement}
 use Rattle.regalloc2_fastalloc_state.specs.declared.request.Requirement.TheVariants.{InPReg}
 use Rattle.regalloc2_fastalloc_state.specs.declared.request.OperandRequest.{OperandRequest}
-use Rattle.regalloc2_validate.specs.Constraints.{op_at}
+use Rattle.regalloc2_function.specs.FunctionValue.{op_at}
 use Rattle.regalloc2_validate.proofs.OperandReads.{read_operand}
 use Rattle.regalloc2_fastalloc_proofs.specs.InstSteps.{AllocsUse, use_request, a_use}
 use Rattle.regalloc2_fastalloc_proofs.specs.InstSteps.{no_register, AllocUse, at_use}
@@ -35,21 +35,21 @@ placed o p h r v at same known is_v is_at =
 pub returns-clause-outcome : goal.returns-clause-outcome
 returns-clause-outcome g c =
     let ops : List OperandValue = c.args.cx.now.operands.now in
-    let h : Place = slice_index_or c.args.here.now c.args.k NoPlace in
+    let h : Place = slice_index_or c.args.allocs.now c.args.k NoPlace in
     let o : c.index-operands-k.result ≡ op_at ops c.args.k = read_operand ops c.args.k c.index-operands-k.result c.requires.inside c.index-operands-k.is in
     let at : c.after-point.result ≡ after c.args.cx.now.inst = c.after-point.ensures.point (λ e. omega (arith, c.requires.inst)) in
     let asked = placed c.index-operands-k.result (op_at ops c.args.k) h c.args.preg c.vreg.result c.of.result o c.requires.known c.vreg.ensures c.of.ensures in
     let request : OperandRequest = record { vreg = c.vreg.result; requirement = InPReg c.args.preg; positions = c.of.result; is_def = false } in
     let P : ℕ → OperandRequest → Type 0 =
-    λ n x. AllocsUse n x c.in_ok-here.field-0 c.args.inst_regs.now c.alloc_use.new.inst_regs (tables_of c.args.self.now) (tables_of c.alloc_use.new.self) in
-    a_use c.in_ok-here.field-0 c.requires.reading
-    (subst (P (after c.args.cx.now.inst)) asked (subst (λ (n : ℕ). P n request) at c.in_ok-here.ensures.outcome)) refl
+    λ n x. AllocsUse n x c.in_ok-allocs.field-0 c.args.inst_regs.now c.alloc_use.new.inst_regs (tables_of c.args.self.now) (tables_of c.alloc_use.new.self) in
+    a_use c.in_ok-allocs.field-0 c.requires.reading
+    (subst (P (after c.args.cx.now.inst)) asked (subst (λ (n : ℕ). P n request) at c.in_ok-allocs.ensures.outcome)) refl
 
 -- it gets no place
-pub returns-in_err-here-clause-outcome : goal.returns-in_err-here-clause-outcome
-returns-in_err-here-clause-outcome g c =
+pub returns-in_err-allocs-clause-outcome : goal.returns-in_err-allocs-clause-outcome
+returns-in_err-allocs-clause-outcome g c =
     let ops : List OperandValue = c.args.cx.now.operands.now in
-    let h : Place = slice_index_or c.args.here.now c.args.k NoPlace in
+    let h : Place = slice_index_or c.args.allocs.now c.args.k NoPlace in
     let o : c.index-operands-k.result ≡ op_at ops c.args.k = read_operand ops c.args.k c.index-operands-k.result c.requires.inside c.index-operands-k.is in
     let asked = placed c.index-operands-k.result (op_at ops c.args.k) h c.args.preg c.vreg.result c.of.result o c.requires.known c.vreg.ensures c.of.ensures in
     let at : c.after-point.result ≡ after c.args.cx.now.inst = c.after-point.ensures.point (λ e. omega (arith, c.requires.inst)) in
@@ -57,4 +57,4 @@ returns-in_err-here-clause-outcome g c =
     let request : OperandRequest = record { vreg = c.vreg.result; requirement = InPReg c.args.preg; positions = c.of.result; is_def = false } in
     let e = err_from_is_err_and c.from_residual.result c.from_residual.ensures.1 in
     rw e.1 (λ same. at_use c.requires.reading
-    (subst (P (after c.args.cx.now.inst)) asked (subst (λ (n : ℕ). P n request) at (c.in_err-here.ensures.outcome (sym e.2 ∙ same)))))
+    (subst (P (after c.args.cx.now.inst)) asked (subst (λ (n : ℕ). P n request) at (c.in_err-allocs.ensures.outcome (sym e.2 ∙ same)))))

@@ -1,8 +1,8 @@
 use Rattle.std.proofs.Common.{ℕ, ◌≡◌, ◌<◌, List, length, refl, sym, ◌∙◌, subst, arith, rules, slice_index_or}
 use Rattle.std.proofs.lemmas.List.{get_or_read}
 use Rattle.std.proofs.lemmas.List.Elements.{All-get_or}
-use Rattle.regalloc2_names.specs.Register.{VirtualRegister}
-use Rattle.regalloc2_fastalloc_proofs.specs.BlockStart.{ReloadsParam, ReloadsParams, no_vreg, none_begun, one_begun}
+use Rattle.regalloc2_names.specs.Register.{VirtualRegister, no_vreg}
+use Rattle.regalloc2_fastalloc_proofs.specs.BlockStart.{ReloadsParam, ReloadsParams, none_begun, one_begun}
 use Rattle.regalloc2_fastalloc_proofs.specs.InstSteps.{StateValue}
 use Rattle.regalloc2_fastalloc_walk.specs.StateView.{tables_of}
 use Rattle.regalloc2_fastalloc_proofs.proofs.Evictions.PushedAndRemoved.{same_then}

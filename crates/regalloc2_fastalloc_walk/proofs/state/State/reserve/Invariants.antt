@@ -5,7 +5,7 @@ use Rattle.regalloc2_fastalloc_walk.proofs.RegsReserved.{Awaiting, NoneIsFixed, 
 use Rattle.std.specs.Prelude.{ℕ, ◌<◌}
 use Rattle.regalloc2_names.specs.declared.OperandConstraint.TheVariants.{FixedReg}
 use Rattle.regalloc2_names.specs.Register.{Register}
-use Rattle.regalloc2_validate.specs.Constraints.{op_at}
+use Rattle.regalloc2_function.specs.FunctionValue.{op_at}
 use Rattle.regalloc2_fastalloc_walk.proofs.state.State.reserve.Given as goal
 
 abbrev pub invariant-loop-k : goal.invariant-loop-k

@@ -1,5 +1,5 @@
 use Rattle.std.proofs.Common.{◌<◌, ◌++◌, ◌∷◌, [], List, ℕ, arith, length, subst}
-use Rattle.regalloc2_parts.specs.RingNodes.{IsRingOf, ring_numbers}
+use Rattle.regalloc2_parts.specs.RingNodes.{IsRingOfNumbers, ring_numbers}
 use Rattle.regalloc2_parts.proofs.RingLinks.{changes_added, member_fits, taken_out}
 use Rattle.regalloc2_parts.proofs.lru.nodes.make_oldest.Goals as goal
 
@@ -13,7 +13,8 @@ append_node-requires c = record {
 
 pub returns-clause-ring : goal.returns-clause-ring
 returns-clause-ring c =
-    subst (λ (l : List ℕ). IsRingOf c.append_node.new.nodes c.args.head (l ++ c.args.number ∷ [])) c.take_out_node.ensures.ring.are c.append_node.ensures.ring
+    subst (λ (l : List ℕ). IsRingOfNumbers c.append_node.new.nodes c.args.head (l ++ c.args.number ∷ [])) c.take_out_node.ensures.ring.are
+        c.append_node.ensures.ring
 
 pub returns-clause-few : goal.returns-clause-few
 returns-clause-few c =

@@ -1,6 +1,6 @@
 use Rattle.std.proofs.Common.{◌≤◌, IfOk, IsOk, length, rules, sym, subst}
 use Rattle.regalloc2_parts.specs.AtOnce.{ends_of, AreReal, HasOneSourceEach}
-use Rattle.regalloc2_parts.specs.Resolved.{listed, has_scratch, IsResolution}
+use Rattle.regalloc2_parts.specs.Resolved.{moves_listed, has_scratch, IsResolution}
 use Rattle.regalloc2_parts.proofs.moves.ParallelMoves.resolve.Goals as goal
 
 pub resolve-requires : goal.resolve-requires
@@ -11,7 +11,7 @@ resolve-requires g c =
 
 pub returns-clause-resolved : goal.returns-clause-resolved
 returns-clause-resolved g c =
-    subst (λ xs. IfOk c.resolve.result (λ r. IsResolution xs (has_scratch r) (listed r))) c.self.view_is c.resolve.ensures.resolved
+    subst (λ xs. IfOk c.resolve.result (λ r. IsResolution xs (has_scratch r) (moves_listed r))) c.self.view_is c.resolve.ensures.resolved
 
 pub returns-clause-runnable : goal.returns-clause-runnable
 returns-clause-runnable g c = c.resolve.ensures.runnable

@@ -4,7 +4,7 @@ use Rattle.std.proofs.lemmas.List.Elements.{All-push}
 use Rattle.regalloc2_names.specs.Place.{Place}
 use Rattle.regalloc2_parts.specs.declared.moves.order.State.TheVariants.{Pending, Done}
 use Rattle.regalloc2_parts.specs.AtOnce.{ends, ends_of, IsOfMoves}
-use Rattle.regalloc2_parts.specs.Giving.{state_at, IsGiving, IsChain, LeadsTo, HasRings, AreRingsDone}
+use Rattle.regalloc2_parts.specs.Giving.{state_at, IsGiving, IsMoveChain, LeadsTo, HasRings, AreRingsDone}
 use Rattle.regalloc2_parts.proofs.Lists.{length_ends, ends_push, read_to, read_in, of_end}
 use Rattle.regalloc2_parts.proofs.Chains.{last_leads, last_within, goes_on, todo_done}
 use Rattle.regalloc2_parts.proofs.Rounds.{gives_ring, gives_start}
@@ -13,22 +13,22 @@ use Rattle.regalloc2_parts.proofs.moves.order.open_ring.Goals as goal
 
 pub bounds-moves-last : goal.bounds-moves-last
 bounds-moves-last g c =
-    let chain : IsChain c.args.nexts.now c.args.state.now (c.pop.new.self.items ++ c.in-Some.last ∷ []) =
-    subst (λ x. IsChain c.args.nexts.now c.args.state.now x) c.in-Some.ensures.items c.requires.chain in
+    let chain : IsMoveChain c.args.nexts.now c.args.state.now (c.pop.new.self.items ++ c.in-Some.last ∷ []) =
+    subst (λ x. IsMoveChain c.args.nexts.now c.args.state.now x) c.in-Some.ensures.items c.requires.chain in
     let within : c.in-Some.last < length c.args.nexts.now = last_within c.args.nexts.now c.args.state.now c.pop.new.self.items c.in-Some.last chain in
     omega arith
 
 pub offset_bounds-moves-last : goal.offset_bounds-moves-last
 offset_bounds-moves-last g c =
-    let chain : IsChain c.args.nexts.now c.args.state.now (c.pop.new.self.items ++ c.in-Some.last ∷ []) =
-    subst (λ x. IsChain c.args.nexts.now c.args.state.now x) c.in-Some.ensures.items c.requires.chain in
+    let chain : IsMoveChain c.args.nexts.now c.args.state.now (c.pop.new.self.items ++ c.in-Some.last ∷ []) =
+    subst (λ x. IsMoveChain c.args.nexts.now c.args.state.now x) c.in-Some.ensures.items c.requires.chain in
     let within : c.in-Some.last < length c.args.nexts.now = last_within c.args.nexts.now c.args.state.now c.pop.new.self.items c.in-Some.last chain in
     omega arith
 
 pub bounds-state-last : goal.bounds-state-last
 bounds-state-last g c =
-    let chain : IsChain c.args.nexts.now c.args.state.now (c.pop.new.self.items ++ c.in-Some.last ∷ []) =
-    subst (λ x. IsChain c.args.nexts.now c.args.state.now x) c.in-Some.ensures.items c.requires.chain in
+    let chain : IsMoveChain c.args.nexts.now c.args.state.now (c.pop.new.self.items ++ c.in-Some.last ∷ []) =
+    subst (λ x. IsMoveChain c.args.nexts.now c.args.state.now x) c.in-Some.ensures.items c.requires.chain in
     let within : c.in-Some.last < length c.args.nexts.now = last_within c.args.nexts.now c.args.state.now c.pop.new.self.items c.in-Some.last chain in
     omega arith
 
@@ -57,8 +57,8 @@ returns g c =
     let last : ℕ = c.in-Some.last in
     let ms = ends_of c.args.moves.now in
     let here = c.is_pending.ensures.yes c.if-not-is_pending.false in
-    let chain : IsChain c.args.nexts.now c.args.state.now (c.pop.new.self.items ++ last ∷ []) =
-    subst (λ x. IsChain c.args.nexts.now c.args.state.now x) c.in-Some.ensures.items c.requires.chain in
+    let chain : IsMoveChain c.args.nexts.now c.args.state.now (c.pop.new.self.items ++ last ∷ []) =
+    subst (λ x. IsMoveChain c.args.nexts.now c.args.state.now x) c.in-Some.ensures.items c.requires.chain in
     let link : LeadsTo c.args.nexts.now (c.pop.new.self.items ++ last ∷ []) c.args.stop =
     subst (λ x. LeadsTo c.args.nexts.now x c.args.stop) c.in-Some.ensures.items c.requires.link in
     let within : last < length c.args.nexts.now = last_within c.args.nexts.now c.args.state.now c.pop.new.self.items last chain in

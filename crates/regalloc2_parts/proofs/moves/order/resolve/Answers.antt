@@ -4,7 +4,7 @@ use Rattle.std.specs.List.Sorted.{IsNonDecreasingBy}
 use Rattle.regalloc2_names.specs.Place.{Place}
 use Rattle.regalloc2_names.specs.PlaceBits.{bits_of_place}
 use Rattle.regalloc2_parts.specs.AtOnce.{ends_of, IsOfMoves}
-use Rattle.regalloc2_parts.specs.Giving.{AreApart, AreProper, AreNexts, IsOrder}
+use Rattle.regalloc2_parts.specs.Giving.{AreMovesApart, AreProper, AreNexts, IsOrder}
 use Rattle.regalloc2_parts.proofs.Lists.{length_ends}
 use Rattle.regalloc2_parts.proofs.Tidying.{tidied_apart, tidied_sorted}
 use Rattle.regalloc2_parts.proofs.Resolving.{real_proper, real_fair, resolves_short, resolves_free, resolves_order}
@@ -65,10 +65,10 @@ give_all-requires g c =
     c.in_ok-nexts.ensures.ok in
     let many : length (ends_of new) ≡ length new = length_ends new in
     let fair = real_fair old c.requires.one_source c.requires.real in
-    let apart : AreApart (ends_of new) = tidied_apart (ends_of old) (ends_of new) fair c.tidy.ensures.tidied in (
+    let apart : AreMovesApart (ends_of new) = tidied_apart (ends_of old) (ends_of new) fair c.tidy.ensures.tidied in (
       search rules,
       (
-        subst (λ (xs : List (Place × Place × g.row.T.Denot)). AreApart (ends_of xs)) (sym c.as_slice-3.ensures) apart,
+        subst (λ (xs : List (Place × Place × g.row.T.Denot)). AreMovesApart (ends_of xs)) (sym c.as_slice-3.ensures) apart,
         (
           subst (λ (xs : List (Place × Place × g.row.T.Denot)). AreNexts (ends_of xs) c.as_slice-4.result.now) (sym c.as_slice-3.ensures)
               (subst (λ (ks : List ℕ). AreNexts (ends_of new) ks) (sym c.as_slice-4.ensures) ns),

@@ -1,25 +1,25 @@
 use Rattle.std.proofs.Common.{◌≡◌, true, false, rules, inl, inr, sym, subst, ⊎_elim}
 use Rattle.std.proofs.lemmas.Result.{on_ok_weaker, IfOk-weaker}
-use Rattle.regalloc2_parts.specs.Tracking.{IsStep}
+use Rattle.regalloc2_parts.specs.Tracking.{IsMadeFor}
 use Rattle.regalloc2_parts.proofs.moves.passing.make.Goals as goal
 
 pub returns-then-is_passing-clause-added : goal.returns-then-is_passing-clause-added
 returns-then-is_passing-clause-added g c =
     on_ok_weaker c.pass.result
-    (λ had x h. ⊎_elim (λ l. inl l) (λ t. inr (subst (λ b. IsStep c.args.via.now.register b c.args.m.now x) (sym c.if-is_passing.true) t)) (had x h))
+    (λ had x h. ⊎_elim (λ l. inl l) (λ t. inr (subst (λ b. IsMadeFor c.args.via.now.register b c.args.m.now x) (sym c.if-is_passing.true) t)) (had x h))
     c.pass.ensures.added
 
 pub returns-then-is_same-clause-added : goal.returns-then-is_same-clause-added
 returns-then-is_same-clause-added g c =
     on_ok_weaker c.copy.result
     (λ had x h. ⊎_elim (λ l. inl (c.in_ok-after.ensures.added x l)) (λ t. inr
-    (subst (λ b. IsStep c.args.via.now.register b c.args.m.now x) (sym c.if-is_passing.false) t)) (had x h))
+    (subst (λ b. IsMadeFor c.args.via.now.register b c.args.m.now x) (sym c.if-is_passing.false) t)) (had x h))
     c.copy.ensures.added
 
 pub returns-clause-added : goal.returns-clause-added
 returns-clause-added g c =
     on_ok_weaker c.copy-2.result
-    (λ had x h. ⊎_elim (λ l. inl (inl l)) (λ t. inr (subst (λ b. IsStep c.args.via.now.register b c.args.m.now x) (sym c.if-is_passing.false) t)) (had x h))
+    (λ had x h. ⊎_elim (λ l. inl (inl l)) (λ t. inr (subst (λ b. IsMadeFor c.args.via.now.register b c.args.m.now x) (sym c.if-is_passing.false) t)) (had x h))
     c.copy-2.ensures.added
 
 pub returns-then-is_passing-clause-tracks : goal.returns-then-is_passing-clause-tracks

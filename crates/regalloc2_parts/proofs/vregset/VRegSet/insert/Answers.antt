@@ -3,7 +3,7 @@ use Rattle.std.specs.Prelude.{All}
 use Rattle.std.proofs.lemmas.List.{with_items_is}
 use Rattle.regalloc2_parts.specs.declared.vregset.VRegNode.{VRegNode}
 use Rattle.regalloc2_parts.specs.LiveList.{LiveList, NamesEachOnce}
-use Rattle.regalloc2_parts.specs.VRegNodes.{IsVRegList, members_of, numbers}
+use Rattle.regalloc2_parts.specs.VRegNodes.{IsVRegList, members_of, vreg_ring_numbers}
 use Rattle.regalloc2_parts.proofs.VRegLinks.{absent_numbers, proper}
 use Rattle.regalloc2_parts.proofs.vregset.VRegSet.insert.Goals as goal
 
@@ -16,7 +16,7 @@ insert_node-requires g c =
     record {
       list = subst (λ (l : List VRegNode). IsVRegList l head) (sym c.deref_mut.ensures.value) c.self.invariant;
       below = subst (λ (s : LiveList). k < s.capacity) (sym c.self.view_is) c.requires.below;
-      absent = subst (λ (l : List VRegNode). All (λ n. n ≢ k) (numbers l head)) (sym c.deref_mut.ensures.value)
+      absent = subst (λ (l : List VRegNode). All (λ n. n ≢ k) (vreg_ring_numbers l head)) (sym c.deref_mut.ensures.value)
           (absent_numbers nodes head k c.self.invariant absent);
     }
 

@@ -3,7 +3,7 @@ use Rattle.std.specs.Prelude.{Any, Contains}
 use Rattle.std.proofs.lemmas.List.{with_items_is}
 use Rattle.regalloc2_parts.specs.declared.vregset.VRegNode.{VRegNode}
 use Rattle.regalloc2_parts.specs.LiveList.{LiveList, NamesEachOnce}
-use Rattle.regalloc2_parts.specs.VRegNodes.{IsVRegList, members_of, numbers}
+use Rattle.regalloc2_parts.specs.VRegNodes.{IsVRegList, members_of, vreg_ring_numbers}
 use Rattle.regalloc2_parts.proofs.VRegLinks.{member_below, member_number, proper}
 use Rattle.regalloc2_parts.proofs.vregset.VRegSet.remove.Goals as goal
 
@@ -23,7 +23,7 @@ remove_node-requires g c =
     let there = member_number nodes c.self.inside.head c.args.vreg_num c.self.invariant any in
     record {
       list = subst (λ (l : List VRegNode). IsVRegList l c.self.inside.head) (sym c.deref_mut.ensures.value) c.self.invariant;
-      member = subst (λ (l : List VRegNode). Contains (numbers l c.self.inside.head) c.args.vreg_num) (sym c.deref_mut.ensures.value) there;
+      member = subst (λ (l : List VRegNode). Contains (vreg_ring_numbers l c.self.inside.head) c.args.vreg_num) (sym c.deref_mut.ensures.value) there;
     }
 
 pub returns-clause-proper : goal.returns-clause-proper

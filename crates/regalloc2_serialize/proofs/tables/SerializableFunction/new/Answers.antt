@@ -2,7 +2,7 @@ use Rattle.std.proofs.Common.{rules, arith, ◌≡◌, ◌∙◌, ◌<◌, subst
 use Rattle.std.specs.Prelude.{All}
 use Rattle.std.proofs.lemmas.List.{map-id}
 use Rattle.regalloc2_function.specs.FunctionValue.{FunctionValue, IsLimited, label_of}
-use Rattle.regalloc2_serialize.specs.Tables.{block_of}
+use Rattle.regalloc2_serialize.specs.Tables.{block_of_serializable}
 use Rattle.regalloc2_serialize.proofs.FilledLists.{same-function, ends-shown}
 use Rattle.regalloc2_serialize.proofs.Lists.{all-under}
 use Rattle.regalloc2_serialize.proofs.Whole.{kept-whole}
@@ -21,7 +21,7 @@ invariant_of-result g c =
           (subst (λ n. All (λ l. l.vreg.number < n) f.labels) (sym c.num_vregs.ensures.count) limits.labels);
       ends_within = λ k d less. omega (
         arith,
-        ends-shown f block_of c.in_ok-blocks.blocks.items c.requires c.in_ok-blocks.ensures.blocks k d less,
+        ends-shown f block_of_serializable c.in_ok-blocks.blocks.items c.requires c.in_ok-blocks.ensures.blocks k d less,
         c.in_ok-insts.ensures.count,
         c.in_ok-insts.insts.ok.0,
       );

@@ -5,7 +5,7 @@ use Rattle.std.specs.List.{AllZip, range_with_len}
 use Rattle.regalloc2_function.specs.FunctionValue.{label_of}
 use Rattle.regalloc2_function.specs.Views.{machine_of}
 use Rattle.regalloc2_serialize.specs.Decoded.{NamesInst, stored_label, stored_block}
-use Rattle.regalloc2_serialize.specs.Tables.{inst_of, block_of, function_of}
+use Rattle.regalloc2_serialize.specs.Tables.{inst_of_serializable, block_of_serializable, function_of_serializable}
 use Rattle.regalloc2_serialize.proofs.Blocks.{read-blocks}
 use Rattle.regalloc2_serialize.proofs.SameNames.{function-named, machine-named}
 use Rattle.regalloc2_serialize.proofs.Storable.{AreListsOf, ArePartsOf, passes, sound}
@@ -35,11 +35,12 @@ numbers g c = record {
 
 pub returns-clause-function : goal.returns-clause-function
 returns-clause-function g c = record {
-  blocks = subst (λ xs. map block_of xs ≡ map (stored_block (numbers g c)) (range_with_len 0 (length c.in_ok-blocks.blocks.items)))
+  blocks = subst (λ xs. map block_of_serializable xs ≡ map (stored_block (numbers g c)) (range_with_len 0 (length c.in_ok-blocks.blocks.items)))
       c.as_slice-tables.ensures.value
-      (read-blocks (numbers g c) block_of c.as_slice-tables.result.now c.in_ok-blocks.ensures c.in_ok-block_succs.ensures
+      (read-blocks (numbers g c) block_of_serializable c.as_slice-tables.result.now c.in_ok-blocks.ensures c.in_ok-block_succs.ensures
       c.in_ok-block_preds.ensures c.in_ok-block_params_in.ensures.params c.in_ok-block_params_out.ensures.arguments);
-  insts = subst (λ xs. AllZip (λ x i. NamesInst x i) c.in_ok-insts.insts.items (map inst_of xs)) c.as_slice.ensures.value c.in_ok-insts.ensures.insts;
+  insts = subst (λ xs. AllZip (λ x i. NamesInst x i) c.in_ok-insts.insts.items (map inst_of_serializable xs)) c.as_slice.ensures.value
+      c.in_ok-insts.ensures.insts;
   entry = sym c.raw_u32.ensures;
   num_vregs = refl;
   slot_sizes = sym c.in_ok-spillslot_size.ensures.sizes;
@@ -51,7 +52,7 @@ returns-clause-function g c = record {
 
 pub returns-clause-only_function : goal.returns-clause-only_function
 returns-clause-only_function g c = λ f named.
-    function-named (numbers g c) f (function_of c.args.self.now) named (returns-clause-function g c)
+    function-named (numbers g c) f (function_of_serializable c.args.self.now) named (returns-clause-function g c)
 
 pub returns-clause-only_machine : goal.returns-clause-only_machine
 returns-clause-only_machine g c = λ env named.
@@ -66,8 +67,8 @@ parts g c = record {
     params = c.in_ok-block_params_in.ensures.params;
     arguments = c.in_ok-block_params_out.ensures.arguments;
   });
-  insts = sym (AllZip-long (λ x i. NamesInst x i) c.in_ok-insts.insts.items (map inst_of c.as_slice.result.now) c.in_ok-insts.ensures.insts)
-      ∙ length-map c.as_slice.result.now inst_of ∙ ap length c.as_slice.ensures.value;
+  insts = sym (AllZip-long (λ x i. NamesInst x i) c.in_ok-insts.insts.items (map inst_of_serializable c.as_slice.result.now) c.in_ok-insts.ensures.insts)
+      ∙ length-map c.as_slice.result.now inst_of_serializable ∙ ap length c.as_slice.ensures.value;
   entry = c.raw_u32.ensures;
   num_vregs = refl;
   labels = subst (λ ls. map stored_label c.in_ok-debug_value_labels.debug_value_labels.items ≡ map label_of ls) c.as_slice-2.ensures.value

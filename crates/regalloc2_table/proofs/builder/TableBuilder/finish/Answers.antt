@@ -1,7 +1,7 @@
 use Rattle.std.proofs.Common.{length, map, sym, refl, ◌∙◌, arith}
 use Rattle.std.proofs.lemmas.List.{length-map}
 use Rattle.std.proofs.lemmas.Result.{err_from_is_err_and}
-use Rattle.regalloc2_table.specs.Table.{block_of}
+use Rattle.regalloc2_table.specs.Table.{block_of_table}
 use Rattle.regalloc2_table.specs.Draft.{drafts_of}
 use Rattle.regalloc2_table.proofs.BuiltLaws.{count_from, unbuilt_from_unlinked, unbuilt_from_unplaced, built_blocks, built_preds, built_succs}
 use Rattle.regalloc2_table.proofs.PredLaws.{same_count}
@@ -30,8 +30,8 @@ pub returns-clause-ok : goal.returns-clause-ok
 returns-clause-ok g c =
     let drafts = drafts_of c.args.self in
     let laid = c.in_ok-blocks.ensures.blocks in
-    let bare = map block_of c.in_ok-blocks.blocks.items in
-    let linked = map block_of c.link.new.blocks.items in
+    let bare = map block_of_table c.in_ok-blocks.blocks.items in
+    let linked = map block_of_table c.link.new.blocks.items in
     let count = count_from c.in_ok-blocks.blocks.items c.args.self.blocks.items laid in
     record {
       blocks = rw c.of_blocks.ensures.blocks (built_blocks bare linked drafts laid c.in_ok-link.ensures.ok.others);

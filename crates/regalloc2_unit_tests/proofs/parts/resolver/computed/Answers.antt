@@ -1,5 +1,5 @@
 use Rattle.std.proofs.Common.{rules}
-use Rattle.regalloc2_parts.specs.Resolved.{listed}
+use Rattle.regalloc2_parts.specs.Resolved.{moves_listed}
 use Rattle.regalloc2_unit_tests.proofs.Handing.{owes_once}
 use Rattle.regalloc2_unit_tests.proofs.parts.resolver.computed.Goals as goal
 
@@ -16,7 +16,7 @@ compute-requires g c = (
           c.requires.stack,
           (
             c.requires.runnable,
-            owes_once _ _ _ c.args.free.0 c.args.free.1 c.args.resolver.find_free_reg c.args.resolver.get_stackslot (listed c.args.moves)
+            owes_once _ _ _ c.args.free.0 c.args.free.1 c.args.resolver.find_free_reg c.args.resolver.get_stackslot (moves_listed c.args.moves)
                 c.args.resolver.borrowed_scratch_reg c.requires.first c.requires.second (c.serves.ensures c.if-not-serves.false)
                 (c.serves-else-not-serves.ensures c.if-not-serves-2.false) c.requires.tells,
           ),
@@ -39,7 +39,7 @@ compute_by_ref-made-requires g c = (
           c.requires.stack,
           (
             c.requires.runnable,
-            owes_once _ _ _ c.args.free.0 c.args.free.1 c.args.resolver.find_free_reg c.args.resolver.get_stackslot (listed c.args.moves)
+            owes_once _ _ _ c.args.free.0 c.args.free.1 c.args.resolver.find_free_reg c.args.resolver.get_stackslot (moves_listed c.args.moves)
                 c.args.resolver.borrowed_scratch_reg c.requires.first c.requires.second (c.serves.ensures c.if-not-serves.false)
                 (c.serves-else-not-serves.ensures c.if-not-serves-2.false) c.requires.tells,
           ),

@@ -2,7 +2,7 @@ use Rattle.std.proofs.Common.{◌≡◌, Bool, true, false, Option, rules, refl,
 use Rattle.std.proofs.lemmas.Result.{err_from_is_err_and, MatchResult-weaker}
 use Rattle.regalloc2_parts.specs.declared.moves.MoveFault.TheVariants.{NoSlot, Memory}
 use Rattle.regalloc2_names.specs.Place.{Place, NoPlace, InRegister}
-use Rattle.regalloc2_parts.specs.Resolved.{listed, has_scratch}
+use Rattle.regalloc2_parts.specs.Resolved.{moves_listed, has_scratch}
 use Rattle.regalloc2_parts.specs.Tracking.{CanExpand, IsExpanded}
 use Rattle.regalloc2_parts.specs.Computed.{IsVia, AreApartInMemory, AreSeenApart}
 use Rattle.regalloc2_parts.proofs.Computing.{Chosen, chosen, may_ask_again, refused_first, computes_at_once, computes_refused, can_expand}
@@ -45,7 +45,8 @@ returns-then-not-has_stack_to_stack g c =
     subst (λ xs. AreSeenApart stack xs) c.as_slice-list.ensures
     (subst (λ f. AreSeenApart (λ p b. goal.IsStackAlloc-post g f p b) c.as_slice-list.result.now) c.in_ok-chosen.ensures.stack
     (c.if-not-has_stack_to_stack.ensures.none refl)) in
-    let h = computes_at_once reg slots stack (InRegister self.borrowed_scratch_reg) (listed c.args.moves) made (has_scratch c.args.moves) self.find_free_reg
+    let h = computes_at_once reg slots stack (InRegister self.borrowed_scratch_reg) (moves_listed c.args.moves) made (has_scratch c.args.moves)
+        self.find_free_reg
     after.find_free_reg self.get_stackslot after.get_stackslot
     (chosen reg slots stack (InRegister self.borrowed_scratch_reg) c.args.moves made self.find_free_reg after.find_free_reg self.get_stackslot
     after.get_stackslot c.requires.owes c.requires.runnable c.in_ok-chosen.ensures.chosen)
@@ -79,11 +80,13 @@ returns-in_err-hand_out g c =
     let mid = c.choose_scratch.new.self in
     let last = c.hand_out.new.self in
     let made = c.in_ok-chosen.chosen.items in
-    let ch : Chosen reg slots stack (InRegister self.borrowed_scratch_reg) (listed c.args.moves) (has_scratch c.args.moves) self.find_free_reg mid.find_free_reg
+    let ch : Chosen reg slots stack (InRegister self.borrowed_scratch_reg) (moves_listed c.args.moves) (has_scratch c.args.moves) self.find_free_reg
+        mid.find_free_reg
     self.get_stackslot mid.get_stackslot made =
     chosen reg slots stack (InRegister self.borrowed_scratch_reg) c.args.moves made self.find_free_reg mid.find_free_reg self.get_stackslot mid.get_stackslot
     c.requires.owes c.requires.runnable c.in_ok-chosen.ensures.chosen in
-    let h = computes_refused reg slots stack (InRegister self.borrowed_scratch_reg) (listed c.args.moves) made (has_scratch c.args.moves) self.find_free_reg
+    let h = computes_refused reg slots stack (InRegister self.borrowed_scratch_reg) (moves_listed c.args.moves) made (has_scratch c.args.moves)
+        self.find_free_reg
     mid.find_free_reg last.find_free_reg self.get_stackslot mid.get_stackslot last.get_stackslot ch c.in_err-hand_out.ensures.none.1 in
     let p = err_from_is_err_and c.from_residual-in_err-hand_out.result c.from_residual-in_err-hand_out.ensures.1 in
     let some : AreApartInMemory stack made → ⊥ =
@@ -109,7 +112,8 @@ expand-requires g c =
     let mid = c.choose_scratch.new.self in
     let last = c.hand_out.new.self in
     let made = c.in_ok-chosen.chosen.items in
-    let ch : Chosen reg slots stack (InRegister self.borrowed_scratch_reg) (listed c.args.moves) (has_scratch c.args.moves) self.find_free_reg mid.find_free_reg
+    let ch : Chosen reg slots stack (InRegister self.borrowed_scratch_reg) (moves_listed c.args.moves) (has_scratch c.args.moves) self.find_free_reg
+        mid.find_free_reg
     self.get_stackslot mid.get_stackslot made =
     chosen reg slots stack (InRegister self.borrowed_scratch_reg) c.args.moves made self.find_free_reg mid.find_free_reg self.get_stackslot mid.get_stackslot
     c.requires.owes c.requires.runnable c.in_ok-chosen.ensures.chosen in
@@ -140,7 +144,8 @@ returns g c =
     let mid = c.choose_scratch.new.self in
     let last = c.hand_out.new.self in
     let made = c.in_ok-chosen.chosen.items in
-    let ch : Chosen reg slots stack (InRegister self.borrowed_scratch_reg) (listed c.args.moves) (has_scratch c.args.moves) self.find_free_reg mid.find_free_reg
+    let ch : Chosen reg slots stack (InRegister self.borrowed_scratch_reg) (moves_listed c.args.moves) (has_scratch c.args.moves) self.find_free_reg
+        mid.find_free_reg
     self.get_stackslot mid.get_stackslot made =
     chosen reg slots stack (InRegister self.borrowed_scratch_reg) c.args.moves made self.find_free_reg mid.find_free_reg self.get_stackslot mid.get_stackslot
     c.requires.owes c.requires.runnable c.in_ok-chosen.ensures.chosen in

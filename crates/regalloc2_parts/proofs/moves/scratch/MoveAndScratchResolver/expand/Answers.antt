@@ -4,7 +4,7 @@ use Rattle.std.specs.List.{All}
 use Rattle.std.proofs.lemmas.List.Elements.{All-contains, All-nil}
 use Rattle.std.proofs.lemmas.Result.{err_from_is_err_and}
 use Rattle.regalloc2_names.specs.Place.{Place, NoPlace}
-use Rattle.regalloc2_parts.specs.AtOnce.{ends_of, names}
+use Rattle.regalloc2_parts.specs.AtOnce.{ends_of, own_names}
 use Rattle.regalloc2_parts.specs.Tracking.{IsMade, IsExpanded}
 use Rattle.regalloc2_parts.proofs.Lists.{length_ends, read_from, read_to, read_in}
 use Rattle.regalloc2_parts.proofs.Tracking.{follows_none, follows_more, follows_all, made_more, made_last}
@@ -78,7 +78,7 @@ returns g c =
     let expanded : IsExpanded stack r s ms c.restore_first.new.out.items = record {
       same = λ q n. follows_all r s c.loop-m.held c.in_ok-_held._held ms c.loop-m.out.items c.restore_first.new.out.items c.loop-m.m-index
           (let end : length ms ≤ c.loop-m.m-index = c.loop-m-test.false in omega arith) c.loop-m.invariant.follows c.in_ok-_held.ensures.tracks
-          c.in_ok-_held.ensures.restored names q n;
+          c.in_ok-_held.ensures.restored own_names q n;
       each = made_last stack r s c.requires.can.no_memory c.requires.can.real ms c.loop-m.out.items c.restore_first.new.out.items c.loop-m.invariant.made
           c.in_ok-_held.ensures.added;
     } in

@@ -8,7 +8,7 @@ use Rattle.regalloc2_fastalloc_proofs.specs.InstSteps.{TakesPlace, in_slot, not_
 use Rattle.regalloc2_fastalloc_walk.specs.StateView.{tables_of}
 use Rattle.regalloc2_fastalloc_proofs.proofs.Operands.SelectedPlace.{slot_place}
 use Rattle.regalloc2_semantics.proofs.Forms.{place_of_register, same_register}
-use Rattle.regalloc2_fastalloc_walk.proofs.state.State.claim_place.Goals as goal
+use Rattle.regalloc2_fastalloc_walk.proofs.state.State.take_place.Goals as goal
 
 pub returns-in_default-clause-outcome : goal.returns-in_default-clause-outcome
 returns-in_default-clause-outcome g c =
@@ -22,19 +22,19 @@ returns-in_default-clause-outcome g c =
 pub returns-clause-outcome : goal.returns-clause-outcome
 returns-clause-outcome g c =
     let e : c.args.place ≡ InRegister c.in-Some.preg = place_of_register c.args.place c.in-Some.preg (sym c.as_reg.ensures ∙ c.in-Some.is) in
-    let P : Place → Type 0 = λ p. TakesPlace c.args.point c.args.request.now p c.args.inst_regs.now c.claim_preg.new.inst_regs (tables_of c.args.self.now)
-    (tables_of c.claim_preg.new.self) in
-    subst P (sym e) c.in_ok-claim_preg.ensures.outcome
+    let P : Place → Type 0 = λ p. TakesPlace c.args.point c.args.request.now p c.args.inst_regs.now c.take_preg.new.inst_regs (tables_of c.args.self.now)
+    (tables_of c.take_preg.new.self) in
+    subst P (sym e) c.in_ok-take_preg.ensures.outcome
 
-pub returns-in_err-claim_preg-clause-outcome : goal.returns-in_err-claim_preg-clause-outcome
-returns-in_err-claim_preg-clause-outcome g c =
+pub returns-in_err-take_preg-clause-outcome : goal.returns-in_err-take_preg-clause-outcome
+returns-in_err-take_preg-clause-outcome g c =
     let is : c.args.place ≡ InRegister c.in-Some.preg = place_of_register c.args.place c.in-Some.preg (sym c.as_reg.ensures ∙ c.in-Some.is) in
     let e = err_from_is_err_and c.from_residual.result c.from_residual.ensures.1 in
-    rw e.1 (λ lacks. let h = c.in_err-claim_preg.ensures.outcome (sym e.2 ∙ lacks) in (h.0, is ∙ h.1, h.2))
+    rw e.1 (λ lacks. let h = c.in_err-take_preg.ensures.outcome (sym e.2 ∙ lacks) in (h.0, is ∙ h.1, h.2))
 
 pub returns-clause-alone : goal.returns-clause-alone
 returns-clause-alone g c = λ r f.
     let e : c.args.place ≡ InRegister c.in-Some.preg = place_of_register c.args.place c.in-Some.preg (sym c.as_reg.ensures ∙ c.in-Some.is) in
-    let P : Register → Type 0 = λ q. alloc_of c.claim_preg.new.self.places c.args.request.now.vreg.number ≡ NoPlace
-    → vreg_of_preg c.claim_preg.new.self.places q ≡ None in
-    subst P (same_register c.in-Some.preg r (sym e ∙ f)) c.in_ok-claim_preg.ensures.alone
+    let P : Register → Type 0 = λ q. alloc_of c.take_preg.new.self.places c.args.request.now.vreg.number ≡ NoPlace
+    → vreg_of_preg c.take_preg.new.self.places q ≡ None in
+    subst P (same_register c.in-Some.preg r (sym e ∙ f)) c.in_ok-take_preg.ensures.alone

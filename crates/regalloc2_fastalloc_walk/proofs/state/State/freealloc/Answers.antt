@@ -7,7 +7,7 @@ use Rattle.regalloc2_fastalloc_proofs.specs.InstSteps.{StateValue, AddsMoveIf, i
 use Rattle.std.proofs.lemmas.Result.{err_from_is_err_and}
 use Rattle.regalloc2_fastalloc_proofs.specs.InstSteps.{to_awaited, to_slot}
 use Rattle.regalloc2_fastalloc_walk.specs.StateView.{tables_of}
-use Rattle.regalloc2_fastalloc_walk.proofs.state.State.free_def.Goals as goal
+use Rattle.regalloc2_fastalloc_walk.proofs.state.State.freealloc.Goals as goal
 
 pub returns-clause-outcome : goal.returns-clause-outcome
 returns-clause-outcome g c =

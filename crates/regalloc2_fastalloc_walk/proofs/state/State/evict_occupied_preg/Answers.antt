@@ -6,9 +6,9 @@ use Rattle.regalloc2_names.specs.Place.{Place, InRegister}
 use Rattle.regalloc2_fastalloc_state.specs.StateParts.{vreg_of_preg, alloc_of}
 use Rattle.regalloc2_fastalloc_proofs.specs.InstSteps.{StateValue, AddMove, next, no_register, cleared}
 use Rattle.regalloc2_fastalloc_walk.specs.StateView.{tables_of}
-use Rattle.regalloc2_fastalloc_proofs.proofs.Evictions.PushedAndRemoved.{crosses_empty, settled_empty}
+use Rattle.regalloc2_fastalloc_proofs.proofs.Evictions.PushedAndRemoved.{adds_move_empty, sets_alloc_empties}
 use Rattle.regalloc2_fastalloc_state.proofs.SlotsAsPlaces.{slot_is_no_register}
-use Rattle.regalloc2_fastalloc_walk.proofs.state.State.evict_held.Goals as goal
+use Rattle.regalloc2_fastalloc_walk.proofs.state.State.evict_occupied_preg.Goals as goal
 
 pub get_spillslot-requires : goal.get_spillslot-requires
 get_spillslot-requires g c =
@@ -65,8 +65,8 @@ returns-clause-empty g c =
     let there : alloc_of c.args.self.now.places c.args.vreg.number ≡ InRegister c.args.preg = c.requires.inverse.holds c.args.preg c.args.vreg
     small h in
     let m : StateValue = record (tables_of c.args.self.now) { places = c.set_alloc.new.self; slots = c.get_spillslot.new.self } in
-    crosses_empty c.args.point c.class.result c.in_ok-slot.slot c.reg.result c.args.inst_regs.now c.add_move.new.inst_regs m (tables_of c.add_move.new.self)
+    adds_move_empty c.args.point c.class.result c.in_ok-slot.slot c.reg.result c.args.inst_regs.now c.add_move.new.inst_regs m (tables_of c.add_move.new.self)
     c.in_ok-add_move.ensures.outcome c.args.preg small
-    (settled_empty c.args.self.now.places c.set_alloc.new.self c.args.vreg c.in_ok-slot.slot c.args.preg small
+    (sets_alloc_empties c.args.self.now.places c.set_alloc.new.self c.args.vreg c.in_ok-slot.slot c.args.preg small
     (λ e. slot_is_no_register c.args.self.now.slots c.get_spillslot.new.self c.args.vreg c.in_ok-slot.slot c.args.preg c.in_ok-slot.ensures.ok
     c.get_spillslot.ensures.owned e) there c.set_alloc.ensures.settled)

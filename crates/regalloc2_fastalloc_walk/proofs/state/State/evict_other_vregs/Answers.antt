@@ -5,8 +5,8 @@ use Rattle.regalloc2_names.specs.Place.{NoPlace, InRegister}
 use Rattle.regalloc2_fastalloc_state.specs.StateParts.{vreg_of_preg, alloc_of}
 use Rattle.regalloc2_fastalloc_proofs.specs.InstSteps.{own, others}
 use Rattle.regalloc2_fastalloc_proofs.proofs.Evictions.PushedAndRemoved.{same_held}
-use Rattle.regalloc2_fastalloc_walk.proofs.state.State.evict_others.Goals as goal
-use Rattle.regalloc2_fastalloc_walk.proofs.state.State.evict_others.Goals.{in-Some+else-vreg, in_default}
+use Rattle.regalloc2_fastalloc_walk.proofs.state.State.evict_other_vregs.Goals as goal
+use Rattle.regalloc2_fastalloc_walk.proofs.state.State.evict_other_vregs.Goals.{in-Some+else-vreg, in_default}
 
 pub returns-then-vreg-clause-outcome : goal.returns-then-vreg-clause-outcome
 returns-then-vreg-clause-outcome g c = own c.in-Some.held (sym c.vreg_in.ensures.vreg ∙ c.in-Some.is)
