@@ -6,13 +6,13 @@ use Rattle.regalloc2_names.specs.Place.{Place, NoPlace, InRegister, InSlot}
 use Rattle.regalloc2_function.specs.FunctionValue.{FunctionValue, block_at}
 use Rattle.regalloc2_function.specs.OutputValue.{OutputValue}
 use Rattle.regalloc2_function.specs.Path.{Location, first_of}
-use Rattle.regalloc2_values.specs.Interpreters.{History, InstMeaning, State, vreg_reads, source_step, source_run, place_reads, place_step, place_run}
-use Rattle.regalloc2_values.specs.Alike.{AreAlike, HaveRunAlike, RunAlike}
-use Rattle.codegen_ir.specs.Numbers.{RunOutcome, Running, Returned, Stuck, further}
-use Rattle.codegen_ir.specs.Meaning.{ProcedureState, procedure_step, procedure_run}
-use Rattle.codegen_ir.specs.Seen.{function_of_procedure, operations}
-use Rattle.codegen_ir.specs.declared.operation.Operation.{Operation}
-use Rattle.codegen_ir.specs.declared.procedure.Procedure.{Procedure}
+use Rattle.regalloc2_semantics.specs.Values.Interpreters.{History, InstMeaning, State, vreg_reads, source_step, source_run, place_reads, place_step, place_run}
+use Rattle.regalloc2_semantics.specs.Values.Alike.{AreAlike, HaveRunAlike, RunAlike}
+use Rattle.codegen_machine.specs.Ir.Numbers.{RunOutcome, Running, Returned, Stuck, further}
+use Rattle.codegen_machine.specs.Ir.Meaning.{ProcedureState, procedure_step, procedure_run}
+use Rattle.codegen_machine.specs.Ir.Seen.{function_of_procedure, operations}
+use Rattle.codegen_machine.specs.declared.ir.operation.Operation.{Operation}
+use Rattle.codegen_machine.specs.declared.ir.procedure.Procedure.{Procedure}
 use Rattle.codegen_machine.specs.Machine.{CodeValue, MachineState, machine_run}
 use Rattle.codegen.specs.Emitted.{blocks_code}
 use Rattle.codegen.specs.Behaves.{Beginning, procedure_after, BehavesAs}

@@ -8,9 +8,9 @@ use Rattle.regalloc2_names.specs.Register.{Register, class_code}
 use Rattle.regalloc2_names.specs.Place.{Place, NoPlace, InRegister, InSlot}
 use Rattle.regalloc2_function.specs.OutputValue.{OutputValue, MoveValue}
 use Rattle.regalloc2_function.specs.Listing.{Listed, ListedMove}
-use Rattle.regalloc2_values.specs.Interpreters.{place_set, numbers_moved}
-use Rattle.codegen_ir.specs.Numbers.{RunOutcome, Running, Stuck, put}
-use Rattle.codegen_ir.specs.declared.operation.Operation.{Operation}
+use Rattle.regalloc2_semantics.specs.Values.Interpreters.{place_set, numbers_moved}
+use Rattle.codegen_machine.specs.Ir.Numbers.{RunOutcome, Running, Stuck, put}
+use Rattle.codegen_machine.specs.declared.ir.operation.Operation.{Operation}
 use Rattle.codegen_machine.specs.declared.Instruction.{Instruction}
 use Rattle.codegen_machine.specs.Machine.{CodeValue, MachineState, is_general, with_register, with_slot, with_source, written, frame_stored, executed}
 use Rattle.codegen.specs.Emitted.{register_of, source_of, fetched, move_code, resolved, items_code}

@@ -6,15 +6,15 @@ use Rattle.regalloc2_names.specs.RegisterSet.{has_register}
 use Rattle.regalloc2_names.specs.Place.{Place, NoPlace, InRegister, InSlot}
 use Rattle.regalloc2_function.specs.FunctionValue.{FunctionValue, block_at, inst_at}
 use Rattle.regalloc2_function.specs.OutputValue.{OutputValue, allocs_of, place_at}
-use Rattle.codegen_ir.specs.Operands.{operands_of}
-use Rattle.codegen_ir.specs.declared.operation.Operation.{Operation}
-use Rattle.codegen_ir.specs.declared.operation.Operation.TheVariants.{Argument as TakeArgument, Constant as TakeConstant, Copy, Compute as Computation}
-use Rattle.codegen_ir.specs.declared.operation.Operation.TheVariants.{Shift as Shifting, Compare as Comparison, Select, Jump as GoTo, BranchIf, BranchIfHolds}
-use Rattle.codegen_ir.specs.declared.operation.Operation.TheVariants.{Return as GiveBack}
-use Rattle.codegen_ir.specs.declared.operation.Count.{Count}
-use Rattle.codegen_ir.specs.declared.operation.Count.TheVariants.{VReg as CountIn, Number as CountOf}
-use Rattle.codegen_ir.specs.declared.operation.Right.{Right}
-use Rattle.codegen_ir.specs.declared.operation.Right.TheVariants.{VReg, Number as Given}
+use Rattle.codegen_machine.specs.Ir.Operands.{operands_of}
+use Rattle.codegen_machine.specs.declared.ir.operation.Operation.{Operation}
+use Rattle.codegen_machine.specs.declared.ir.operation.Operation.TheVariants.{Argument as TakeArgument, Constant as TakeConstant, Copy, Compute as Computation}
+use Rattle.codegen_machine.specs.declared.ir.operation.Operation.TheVariants.{Shift as Shifting, Compare as Comparison, Select, Jump as GoTo, BranchIf, BranchIfHolds}
+use Rattle.codegen_machine.specs.declared.ir.operation.Operation.TheVariants.{Return as GiveBack}
+use Rattle.codegen_machine.specs.declared.ir.operation.Count.{Count}
+use Rattle.codegen_machine.specs.declared.ir.operation.Count.TheVariants.{VReg as CountIn, Number as CountOf}
+use Rattle.codegen_machine.specs.declared.ir.operation.Right.{Right}
+use Rattle.codegen_machine.specs.declared.ir.operation.Right.TheVariants.{VReg, Number as Given}
 use Rattle.codegen_machine.specs.Machine.{CodeValue, is_general}
 use Rattle.codegen.specs.Emitted.{register_of, operation_at, blocks_code, block_start, resolved}
 

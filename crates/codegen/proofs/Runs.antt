@@ -2,7 +2,7 @@
 use Rattle.std.proofs.Common.{ℕ, zero, suc, ◌≡◌, ◌+◌, ◌≤◌, Option, Some, refl, sym, ap, ◌∙◌, subst, ⊎_elim, arith}
 use Rattle.std.specs.Prelude.{slice_get}
 use Rattle.std.proofs.lemmas.Bool.{cases_lt}
-use Rattle.codegen_ir.specs.Numbers.{RunOutcome, Running, Returned, Stuck, further}
+use Rattle.codegen_machine.specs.Ir.Numbers.{RunOutcome, Running, Returned, Stuck, further}
 use Rattle.codegen_machine.specs.declared.Instruction.{Instruction}
 use Rattle.codegen_machine.specs.Machine.{CodeValue, MachineState, executed, machine_step, machine_run}
 

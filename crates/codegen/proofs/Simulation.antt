@@ -15,11 +15,11 @@ use Rattle.regalloc2_function.specs.OutputValue.{OutputValue, MoveValue, allocs_
 use Rattle.regalloc2_function.specs.Path.{Way, Onward, ToSuccessor, first_of, next_of}
 use Rattle.regalloc2_function.specs.Listing.{ListedInst, listing_from}
 use Rattle.regalloc2_function.specs.AllocatedRun.{moves_at}
-use Rattle.regalloc2_values.specs.Interpreters.{History, State, read_by, edge_to, numbers_moved, disturbed, written_to, numbers_clobbered, place_found}
-use Rattle.regalloc2_values.specs.Interpreters.{place_reads}
-use Rattle.regalloc2_values.specs.Interpreters.{place_told, place_written, place_step}
-use Rattle.codegen_ir.specs.Numbers.{Returned}
-use Rattle.codegen_ir.specs.declared.operation.Operation.{Operation}
+use Rattle.regalloc2_semantics.specs.Values.Interpreters.{History, State, read_by, edge_to, numbers_moved, disturbed, written_to, numbers_clobbered, place_found}
+use Rattle.regalloc2_semantics.specs.Values.Interpreters.{place_reads}
+use Rattle.regalloc2_semantics.specs.Values.Interpreters.{place_told, place_written, place_step}
+use Rattle.codegen_machine.specs.Ir.Numbers.{Returned}
+use Rattle.codegen_machine.specs.declared.ir.operation.Operation.{Operation}
 use Rattle.codegen_machine.specs.declared.Instruction.{Instruction}
 use Rattle.codegen_machine.specs.Machine.{CodeValue, MachineState, machine_run}
 use Rattle.codegen.specs.Emitted.{operation_at, operation_code, items_code, block_code, block_start}

@@ -6,21 +6,21 @@ use Rattle.regalloc2_names.specs.Operand.{is_reading}
 use Rattle.regalloc2_names.specs.Place.{Place, NoPlace, InRegister, InSlot}
 use Rattle.regalloc2_function.specs.OutputValue.{place_at}
 use Rattle.regalloc2_function.specs.Path.{Way, Onward, ToSuccessor}
-use Rattle.regalloc2_values.specs.Interpreters.{History, InstMeaning, read_by, place_set, written_to, disturbed, edge_to}
-use Rattle.codegen_ir.specs.Numbers.{RunOutcome, Running, Returned, computed, shifted, condition_holds, truth}
-use Rattle.codegen_ir.specs.Operands.{operands_of}
-use Rattle.codegen_ir.specs.declared.operation.Operator.{Operator}
-use Rattle.codegen_ir.specs.declared.operation.ShiftOperator.{ShiftOperator}
-use Rattle.codegen_ir.specs.declared.operation.Condition.{Condition}
-use Rattle.codegen_ir.specs.declared.operation.Condition.TheVariants.{Equal, NotEqual}
-use Rattle.codegen_ir.specs.declared.operation.Operation.{Operation}
-use Rattle.codegen_ir.specs.declared.operation.Operation.TheVariants.{Argument as TakeArgument, Constant as TakeConstant, Copy, Compute as Computation}
-use Rattle.codegen_ir.specs.declared.operation.Operation.TheVariants.{Shift as Shifting, Compare as Comparison, Select, Jump as GoTo, BranchIf, BranchIfHolds}
-use Rattle.codegen_ir.specs.declared.operation.Operation.TheVariants.{Return as GiveBack}
-use Rattle.codegen_ir.specs.declared.operation.Count.{Count}
-use Rattle.codegen_ir.specs.declared.operation.Count.TheVariants.{VReg as CountIn, Number as CountOf}
-use Rattle.codegen_ir.specs.declared.operation.Right.{Right}
-use Rattle.codegen_ir.specs.declared.operation.Right.TheVariants.{VReg, Number as Given}
+use Rattle.regalloc2_semantics.specs.Values.Interpreters.{History, InstMeaning, read_by, place_set, written_to, disturbed, edge_to}
+use Rattle.codegen_machine.specs.Ir.Numbers.{RunOutcome, Running, Returned, computed, shifted, condition_holds, truth}
+use Rattle.codegen_machine.specs.Ir.Operands.{operands_of}
+use Rattle.codegen_machine.specs.declared.ir.operation.Operator.{Operator}
+use Rattle.codegen_machine.specs.declared.ir.operation.ShiftOperator.{ShiftOperator}
+use Rattle.codegen_machine.specs.declared.ir.operation.Condition.{Condition}
+use Rattle.codegen_machine.specs.declared.ir.operation.Condition.TheVariants.{Equal, NotEqual}
+use Rattle.codegen_machine.specs.declared.ir.operation.Operation.{Operation}
+use Rattle.codegen_machine.specs.declared.ir.operation.Operation.TheVariants.{Argument as TakeArgument, Constant as TakeConstant, Copy, Compute as Computation}
+use Rattle.codegen_machine.specs.declared.ir.operation.Operation.TheVariants.{Shift as Shifting, Compare as Comparison, Select, Jump as GoTo, BranchIf, BranchIfHolds}
+use Rattle.codegen_machine.specs.declared.ir.operation.Operation.TheVariants.{Return as GiveBack}
+use Rattle.codegen_machine.specs.declared.ir.operation.Count.{Count}
+use Rattle.codegen_machine.specs.declared.ir.operation.Count.TheVariants.{VReg as CountIn, Number as CountOf}
+use Rattle.codegen_machine.specs.declared.ir.operation.Right.{Right}
+use Rattle.codegen_machine.specs.declared.ir.operation.Right.TheVariants.{VReg, Number as Given}
 use Rattle.codegen_machine.specs.declared.Instruction.{Instruction}
 use Rattle.codegen_machine.specs.declared.Instruction.TheVariants.{Constant, Clear, Argument, Compute, Shift, ShiftBy, Compare, Set, MoveIf, Test, Jump, JumpIf}
 use Rattle.codegen_machine.specs.declared.Instruction.TheVariants.{Return}

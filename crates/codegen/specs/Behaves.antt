@@ -2,10 +2,10 @@
 use Rattle.std.specs.Prelude.{ℕ, ◌≡◌, ◌≢◌, ◌≤◌, None}
 use Rattle.regalloc2_names.specs.Register.{VirtualRegister}
 use Rattle.regalloc2_function.specs.Path.{first_of}
-use Rattle.codegen_ir.specs.Numbers.{RunOutcome, Running, Returned, Stuck}
-use Rattle.codegen_ir.specs.Meaning.{ProcedureState, procedure_run}
-use Rattle.codegen_ir.specs.Seen.{function_of_procedure, operations}
-use Rattle.codegen_ir.specs.declared.procedure.Procedure.{Procedure}
+use Rattle.codegen_machine.specs.Ir.Numbers.{RunOutcome, Running, Returned, Stuck}
+use Rattle.codegen_machine.specs.Ir.Meaning.{ProcedureState, procedure_run}
+use Rattle.codegen_machine.specs.Ir.Seen.{function_of_procedure, operations}
+use Rattle.codegen_machine.specs.declared.ir.procedure.Procedure.{Procedure}
 use Rattle.codegen_machine.specs.Machine.{CodeValue, MachineState, machine_run}
 
 -- the arguments, and the numbers with which virtual registers, registers and slots begin, which may be any

@@ -1,17 +1,17 @@
 //! From a function to code.
 
 ghost use Rattle.std.specs.Prelude.{IfErr, IfOk};
-ghost use Rattle.codegen_ir.specs.Seen.{function_of_procedure};
+ghost use Rattle.codegen_machine.specs.Ir.Seen.{function_of_procedure};
 ghost use Rattle.codegen_machine.specs.Machine.{code_of};
 ghost use Rattle.codegen.specs.Behaves.{BehavesAs};
 ghost use Rattle.codegen.specs.Reasons.{IsCompileReason, error_text};
 
 use super::emit::emit;
 use super::registers::target;
-use codegen_ir::Procedure;
 use codegen_machine::Code;
+use codegen_machine::ir::Procedure;
 use regalloc2::{TestedRunError, run_tested};
-use regalloc2_values::runs_alike;
+use regalloc2_semantics::values::runs_alike;
 use std::alloc::Global;
 use std::error::Error;
 use std::fmt;

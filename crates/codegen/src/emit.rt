@@ -6,13 +6,13 @@ ghost use Rattle.regalloc2_function.specs.Listing.{IsListedWithin};
 ghost use Rattle.regalloc2_function.specs.OutputValue.{IsInOrder, place_at};
 ghost use Rattle.regalloc2_function.specs.Views.{item_of, output_of};
 ghost use Rattle.regalloc2_function.specs.WellFormed.{BlocksFollow};
-ghost use Rattle.codegen_ir.specs.Seen.{function_of_procedure, operations};
+ghost use Rattle.codegen_machine.specs.Ir.Seen.{function_of_procedure, operations};
 ghost use Rattle.codegen_machine.specs.Machine.{code_of};
 ghost use Rattle.codegen.specs.Emitted.{register_of, source_of, right_source, fetched, move_code, constant_code, operation_code, item_code, resolved};
 ghost use Rattle.codegen.specs.Emitted.{branch_code, branch_if_code, compare_code, return_code, select_code, shift_code};
 ghost use Rattle.codegen.specs.Emitted.{block_code, emitted};
 
-use codegen_ir::{Condition, Count, Operation, Procedure, Right, ShiftOperator};
+use codegen_machine::ir::{Condition, Count, Operation, Procedure, Right, ShiftOperator};
 use codegen_machine::{Code, Instruction, NO_REGISTER, Source};
 use regalloc2::{Allocation, Block, Function, InstOrEdit, Output};
 use std::alloc::{AllocError, Global};

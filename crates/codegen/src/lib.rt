@@ -1,11 +1,11 @@
 //! A code generator: it allocates registers to a function over whole numbers and emits the machine's code, which does what the function does.
 //!
-//! `specs/Behaves.antt` says what that is. The theorem rests on the contract of `regalloc2::run_tested` and on the law of `regalloc2_values`, and
+//! `specs/Behaves.antt` says what that is. The theorem rests on the contract of `regalloc2::run_tested` and on the law of `regalloc2_semantics::values`, and
 //! on nothing else of the allocator: the proofs name none of its steps, tables and lemmas.
 //!
 //! # From an operation to instructions
 //!
-//! The operation of a line fixes its operands (`codegen_ir`). Where the processor has instructions of two addresses, the result reuses the register of
+//! The operation of a line fixes its operands (`codegen_machine::ir`). Where the processor has instructions of two addresses, the result reuses the register of
 //! the first number, and the second number comes from a register, from a slot or from the instruction. The emitter writes one to three
 //! instructions for a line, and one for a move. Jumps name blocks at first; once all blocks are emitted, `resolve` puts in the instructions'
 //! numbers.
@@ -37,11 +37,12 @@
 //! Unused: that values are in their slots between blocks, that slots have owners, bounds on their number, debug locations, and when nothing is spilled.
 //! A code generator that keeps other things in the frame, or describes it to a debugger, needs those.
 //!
-//! Not proved: that x86-64 runs the printed text as the machine runs the code. `codegen_text` has a spec of the text, and tests run it.
+//! Not proved: that x86-64 runs the printed text as the machine runs the code. `codegen_machine::text` has a spec of the text, and tests run it.
 #![tactic(auto)]
 
 mod compiler;
 mod emit;
+pub mod program;
 mod registers;
 
 pub use compiler::{CompileError, compile};

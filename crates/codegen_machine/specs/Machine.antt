@@ -1,7 +1,7 @@
 -- What the machine does: an interpreter that makes a step for each instruction. It is stuck where there is no instruction, no such register
 -- for numbers or slot, and where numbers are needed that were compared, and none were since the last instruction that forgets them.
 use Rattle.std.specs.Prelude.{ℕ, zero, suc, ◌+◌, Bool, ◌&&◌, not, nat_eq, nat_lt, if◌then◌else◌, List, slice_get, Option, None, Some}
-use Rattle.codegen_ir.specs.Numbers.{RunOutcome, Running, Returned, Stuck, further, computed, shifted, condition_holds, truth, put}
+use Rattle.codegen_machine.specs.Ir.Numbers.{RunOutcome, Running, Returned, Stuck, further, computed, shifted, condition_holds, truth, put}
 use Rattle.codegen_machine.specs.declared.Source.{Source}
 use Rattle.codegen_machine.specs.declared.Source.TheVariants.{Register, Slot, Number}
 use Rattle.codegen_machine.specs.declared.Instruction.{Instruction}

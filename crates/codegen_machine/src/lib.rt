@@ -4,7 +4,11 @@
 //! which the arguments are. `specs/Machine.antt` has what each instruction does, step by step.
 #![tactic(auto)]
 
-use codegen_ir::{Condition, Operator, ShiftOperator};
+use crate::ir::{Condition, Operator, ShiftOperator};
+
+pub mod ir;
+pub mod run;
+pub mod text;
 
 /// What stands in the place of a register where none can be named. The machine has no such register, and stops at it.
 pub const NO_REGISTER: usize = 16;

@@ -5,7 +5,7 @@
 //! can't be read or the answer can't be written.
 #![tactic(auto)]
 
-use compile_program::{Task, UNUSABLE, answer, refuse_words};
+use codegen::program::{Task, UNUSABLE, answer, refuse_words};
 use std::env::{self, Env};
 use std::fs::File;
 use std::io::{self, BufWriter};

@@ -10,8 +10,8 @@ ghost use Rattle.std.specs.Prelude.{◌≤◌, IfOk};
 mod convention;
 
 use convention::{Assembly, Convention, int, slot, xmm};
-use regalloc2_callmoves::{CallFrame, schedule};
 use regalloc2_names::{Allocation, PReg, PRegSet, RegClass};
+use regalloc2_parts::callmoves::{CallFrame, schedule};
 use std::alloc::{AllocError, Global};
 use std::io::{self, BufWriter, Write};
 

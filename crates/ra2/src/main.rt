@@ -16,14 +16,14 @@ fn words(rt: &(impl Env + AllocGlobal)) -> std::io::Result<Vec<String>> {
 
 fn main(rt: HostRuntime) -> ExitCode {
     let Ok(words) = words(&rt) else {
-        return ExitCode::from(ra2_program::refuse_words(&mut rt.stderr()));
+        return ExitCode::from(regalloc2_tool::ra2::refuse_words(&mut rt.stderr()));
     };
     let out = match BufWriter::new(rt.alloc(), rt.stdout()) {
         Ok(out) => out,
         // a buffer of no bytes takes no memory
         Err(_) => BufWriter::with_capacity(rt.alloc(), 0, rt.stdout()).unwrap(),
     };
-    let (status, _) = ra2_program::answer(
+    let (status, _) = regalloc2_tool::ra2::answer(
         rt.alloc(),
         rt.alloc(),
         words.as_slice(),

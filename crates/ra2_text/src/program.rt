@@ -3,9 +3,9 @@
 ghost use Rattle.std.specs.Prelude.{◌≤◌, IfOk};
 
 use super::task::{Action, Task};
-use regalloc2_calls::call::{CallError, answer as answer_call};
-use regalloc2_calls::reading::read_text;
 use regalloc2_text::{Text, TextError, write_json};
+use regalloc2_tool::calls::call::{CallError, answer as answer_call};
+use regalloc2_tool::calls::reading::read_text;
 use std::alloc::Global;
 use std::io::{self, Read, Write};
 

@@ -2,7 +2,7 @@
 
 use clap::error::ErrorKind;
 use clap::{Arg, ArgAction, Command, Error};
-use regalloc2_calls::call::Call;
+use regalloc2_tool::calls::call::Call;
 use std::alloc::Global;
 
 /// The words that name what is to be done.

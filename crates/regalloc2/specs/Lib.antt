@@ -36,12 +36,12 @@ pub use Rattle.regalloc2_function.specs.DebugPaths
 pub use Rattle.regalloc2_function.specs.Slots
 pub use Rattle.regalloc2_function.specs.Stored
 pub use Rattle.regalloc2_function.specs.Laws
-pub use Rattle.regalloc2_table.specs.Table
-pub use Rattle.regalloc2_table.specs.Draft
-pub use Rattle.regalloc2_table.specs.Built
+pub use Rattle.regalloc2_serialize.specs.TableFunction.Table
+pub use Rattle.regalloc2_serialize.specs.TableFunction.Draft
+pub use Rattle.regalloc2_serialize.specs.TableFunction.Built
 pub use Rattle.regalloc2_semantics.specs.Live
-pub use Rattle.regalloc2_validate.specs.Constraints
-pub use Rattle.regalloc2_validate.specs.Validated
+pub use Rattle.regalloc2_fastalloc_state.specs.Validate.Constraints
+pub use Rattle.regalloc2_fastalloc_state.specs.Validate.Validated
 pub use Rattle.regalloc2_fastalloc.specs.Promise
 pub use Rattle.regalloc2_fastalloc.specs.ErrorReason
 pub use Rattle.regalloc2_fastalloc.specs.Lending
@@ -51,12 +51,12 @@ pub use Rattle.regalloc2_checker.specs.ErrorsFound
 pub use Rattle.regalloc2_checker.specs.Prepared
 pub use Rattle.regalloc2_checker.specs.Report
 pub use Rattle.regalloc2_checker.specs.Text as FaultText
-pub use Rattle.regalloc2_cfg.specs.Definitions
-pub use Rattle.regalloc2_cfg.specs.Leaves
-pub use Rattle.regalloc2_cfg.specs.Listed as ListedBlocks
-pub use Rattle.regalloc2_cfg.specs.Numbers
-pub use Rattle.regalloc2_cfg.specs.Tables
-pub use Rattle.regalloc2_cfg.specs.Ways
+pub use Rattle.regalloc2_shape.specs.Definitions
+pub use Rattle.regalloc2_shape.specs.Leaves
+pub use Rattle.regalloc2_shape.specs.Listed as ListedBlocks
+pub use Rattle.regalloc2_shape.specs.Numbers
+pub use Rattle.regalloc2_shape.specs.Tables
+pub use Rattle.regalloc2_shape.specs.Ways
 pub use Rattle.regalloc2_parts.specs.Computed
 pub use Rattle.regalloc2_parts.specs.Giving
 pub use Rattle.regalloc2_parts.specs.LiveList
@@ -66,7 +66,7 @@ pub use Rattle.regalloc2_parts.specs.Picked
 pub use Rattle.regalloc2_parts.specs.Resolved
 pub use Rattle.regalloc2_parts.specs.Ring
 pub use Rattle.regalloc2_parts.specs.Tracking
-pub use Rattle.regalloc2_callmoves.specs.CallMoves
+pub use Rattle.regalloc2_parts.specs.Callmoves.CallMoves
 pub use Rattle.regalloc2_serialize.specs.Validity
 pub use Rattle.regalloc2_serialize.specs.Decoded
 pub use Rattle.regalloc2_serialize.specs.FromJson

@@ -15,7 +15,6 @@ mod tested;
 
 pub use checked::{CheckedRunError, run_checked};
 pub use laws::accepts_what_is_promised;
-pub use regalloc2_cfg::{cfg, indexset, postorder};
 pub use regalloc2_fastalloc::{Algorithm, Ctx, RegallocOptions, run, run_into_ctx, run_with_ctx};
 pub use regalloc2_function::{
     Edit, Function, InstOrEdit, MachineEnv, MachineMisfit, Output, OutputIter, StoredFault,
@@ -30,11 +29,12 @@ pub use regalloc2_names::{
     PReg, PRegSet, PRegSetIter, ProgPoint, RegAllocError, RegClass, SpillSlot, VReg,
 };
 pub use regalloc2_parts::moves;
+pub use regalloc2_shape::{cfg, indexset, postorder};
 pub use tested::{AllocateError, TestedRunError, allocate, allocate_without_checker, run_tested};
 
 /// The moves of one call.
 pub mod callmoves {
-    pub use regalloc2_callmoves::{CallFault, CallFrame, schedule};
+    pub use regalloc2_parts::callmoves::{CallFault, CallFrame, schedule};
 }
 
 /// The checker of allocations.
@@ -52,13 +52,13 @@ pub mod fastalloc {
 
 /// Tests of what a function defines and reads.
 pub mod ssa {
-    pub use regalloc2_cfg::ssa::{test_definitions, validate_ssa};
-    pub use regalloc2_liveness::reads_written;
+    pub use regalloc2_analysis::liveness::reads_written;
+    pub use regalloc2_shape::ssa::{test_definitions, validate_ssa};
 }
 
 /// A function that is kept in tables, and its builder, for clients that have no type of their own for one.
 pub mod table {
-    pub use regalloc2_table::{
+    pub use regalloc2_serialize::table_function::{
         BlockDraft, BuildError, SlotUnits, TableBlock, TableBuilder, TableFunction, TableInst,
     };
 }

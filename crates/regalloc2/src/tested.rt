@@ -11,10 +11,10 @@ ghost use Rattle.regalloc2_fastalloc.specs.ErrorReason.{PassesAllChecks};
 ghost use Rattle.regalloc2.specs.Allocated.{allocate_error, IsAllocateFault, IsAllocateReason, IsTestedReason, IsTestedRunReason};
 
 use super::checked::{CheckedRunError, run_checked};
+use regalloc2_analysis::liveness::reads_written;
 use regalloc2_checker::CheckerErrors;
 use regalloc2_fastalloc::{Algorithm, RegallocOptions, run};
 use regalloc2_function::{Function, MachineEnv, MachineMisfit, Output, test_machine};
-use regalloc2_liveness::reads_written;
 use regalloc2_names::RegAllocError;
 use std::alloc::{Allocator, Global};
 use std::error::Error;

@@ -10,7 +10,7 @@ use regalloc2::{
     Algorithm, Function, MachineEnv, Output, RegallocOptions, is_framed, machine_fits, run,
     run_tested,
 };
-use regalloc2_liveness::decided_by_tree;
+use regalloc2_analysis::liveness::decided_by_tree;
 use std::alloc::Global;
 
 /// What is done with a function that was allocated once.

@@ -20,7 +20,7 @@ use Rattle.regalloc2_function.specs.declared.serialize.StoredOutput.{StoredOutpu
 use Rattle.regalloc2_function.specs.declared.serialize.StoredFault.{StoredFault}
 use Rattle.regalloc2_function.specs.declared.serialize.StoredFault.TheVariants.{Lengths, Index, Bits, Limit, Memory, Shape}
 use Rattle.regalloc2_serialize.specs.declared.data.StoredFunction.{StoredFunction}
-use Rattle.regalloc2_flat.specs.Flat.{HasLongWord, output_words}
+use Rattle.regalloc2_serialize.specs.Flat.Flat.{HasLongWord, output_words}
 use Rattle.regalloc2_c.specs.Status.{allocate_failure, write_failure}
 use Rattle.regalloc2_c.specs.Outcome.{NumbersNameFunction, IsAllocatedOutput, IsAllocateFailure, IsRefused, IsAllocateOutcome}
 use Rattle.regalloc2_c.specs.Outcome.{IsHandedOut}

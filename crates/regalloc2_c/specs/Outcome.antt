@@ -19,7 +19,7 @@ use Rattle.regalloc2_serialize.specs.Decoded.{NamesFunction, NamesMachine}
 use Rattle.regalloc2_serialize.specs.JsonShape.{IsFunctionAt}
 use Rattle.regalloc2_serialize.specs.Validity.{IsSoundStored, IsFaultOf}
 use Rattle.regalloc2_serialize.specs.declared.data.StoredFunction.{StoredFunction}
-use Rattle.regalloc2_flat.specs.Flat.{HasLongWord, function_words, output_words}
+use Rattle.regalloc2_serialize.specs.Flat.Flat.{HasLongWord, function_words, output_words}
 use Rattle.regalloc2_c.specs.Status.{failure_number}
 use Rattle.regalloc2_c.specs.declared.failure.Failure.{Failure}
 use Rattle.regalloc2_c.specs.declared.failure.Failure.TheVariants.{Unreadable, BadMachine, NoRoom, Faults, NoMemory, NotFramed, BadOutput, BadFunction, Refused}

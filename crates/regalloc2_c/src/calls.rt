@@ -17,7 +17,7 @@ use super::reading::{stored_from_json, stored_from_words};
 use regalloc2::checker::{Checker, CheckerError, CheckerErrors};
 use regalloc2::serialize::{SerializableFunction, StoredFault, StoredFunction, StoredOutput};
 use regalloc2::{Output, allocate, is_framed};
-use regalloc2_flat::{value_of, words_of};
+use regalloc2_serialize::flat::{value_of, words_of};
 use std::alloc::Global;
 
 /// The words of the output that is allocated to a function.

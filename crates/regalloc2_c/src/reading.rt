@@ -5,7 +5,7 @@ ghost use Rattle.regalloc2_c.specs.Outcome.{AreWordsOf, IsJsonOf, IsUnread};
 
 use super::failure::{Failure, failure_to_read};
 use regalloc2::serialize::StoredFunction;
-use regalloc2_flat::value_of;
+use regalloc2_serialize::flat::value_of;
 use serde_json::Value;
 use std::alloc::Global;
 

@@ -9,7 +9,7 @@ mod case_file;
 mod program;
 
 use program::{Tally, run_file};
-use regalloc2_calls::call::CallError;
+use regalloc2_tool::calls::call::CallError;
 use std::env::{self, Env};
 use std::fs;
 use std::io::{BufWriter, Write};

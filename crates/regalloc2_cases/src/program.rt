@@ -1,9 +1,9 @@
 //! Cases that are run, and what comes of them.
 
 use super::case_file::{Case, Expectation, cases_of};
-use regalloc2_calls::call::{Call, CallError, answer};
-use regalloc2_calls::reading::read_text;
 use regalloc2_text::TextError;
+use regalloc2_tool::calls::call::{Call, CallError, answer};
+use regalloc2_tool::calls::reading::read_text;
 use std::alloc::Global;
 use std::fmt;
 use std::io::Write;

@@ -199,7 +199,7 @@ clobbers-named f s all p h =
     let inst : InstValue = inst_at f i.0 in
     contains-flat clobbered_places f.insts inst p (Contains-get_or f.insts i.0 no_inst i.1)
     (subst (λ (q : Place). Contains (clobbered_places inst) q) m.2
-        (contains-map InRegister (registers_of inst.clobbers) m.0 (is_listed inst.clobbers m.0 l.0 i.2)))
+    (contains-map InRegister (registers_of inst.clobbers) m.0 (is_listed inst.clobbers m.0 l.0 i.2)))
 
 named-clobbers : (f : FunctionValue) (s : PRegSet) → AreAllClobbers f s → (p : Place) → Contains (flat_map clobbered_places f.insts) p →
     Contains (map InRegister (registers_of s)) p
@@ -281,7 +281,7 @@ moves-listed f o places l h =
     All-map (λ (m : MoveValue). IsListed places m.to) (λ (e : ℕ × MoveValue). e.1) _ (All-filter _ (λ (e : ℕ × MoveValue). IsListed places e.1.to) o.edits
     (All-weaker (Contains o.edits) (λ (e : ℕ × MoveValue). IsListed places e.1.to)
     (λ e c. named-listed f o places e.1.to h (Contains-append_left (flat_map (λ x. places_of x.1) o.edits) (o.allocs ++ flat_map clobbered_places f.insts)
-        e.1.to
+    e.1.to
     (contains-flat (λ (x : ℕ × MoveValue). places_of x.1) o.edits e e.1.to c (1, omega arith, refl))))
     o.edits (All-contains_itself o.edits)))
 

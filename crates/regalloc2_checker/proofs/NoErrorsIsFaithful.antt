@@ -97,7 +97,7 @@ fault_fine env inst op count places p Has e (IsOperandFault.of_constraint _ n r 
 none_judged : {A : Type 0} (env : MachineValue) (inst : ℕ) (ops : List OperandValue) (places : List Place) (position : OperandPos)
     (Has : OperandPos → Place → VirtualRegister → Type 0) (r : Option (CheckerError A)) →
     ((k : ℕ) → k < length ops → IsFineAt env ops places (Has (operand_at ops k).position) k) → AreOperandsJudged env inst ops places position (Has position)
-        r → r ≡ None
+    r → r ≡ None
 none_judged env inst ops places position Has None h j = refl
 none_judged env inst ops places position Has (Some e) h (k, less, at, below, fault) =
     absurd (fault_fine env inst (operand_at ops k) (length ops) places (place_at places k) (Has position (place_at places k)) e fault

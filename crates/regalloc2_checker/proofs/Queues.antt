@@ -47,7 +47,7 @@ queue-pushed marks entries new x b is less p q = record {
   small = All-permutation (λ y. queued_block y < length (set marks b true)) (x ∷ entries) new p
       (All-cons (λ y. queued_block y < length (set marks b true)) x entries (omega (arith, is, less, length-set marks b true))
       (All-weaker (λ y. queued_block y < length marks) (λ y. queued_block y < length (set marks b true)) (λ y l. omega (arith, l, length-set marks b true))
-          entries
+      entries
       q.small));
 }
 

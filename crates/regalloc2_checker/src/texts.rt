@@ -46,9 +46,12 @@ impl<A: Allocator> fmt::Display for FaultLine<'_, A> {
             CheckerError::ConflictedValueInAllocation { inst, op, alloc } => {
                 write(f, 3, *inst, *op, *alloc)
             }
-            CheckerError::IncorrectValuesInAllocation { inst, op, alloc, .. } => {
-                write(f, 4, *inst, *op, *alloc)
-            }
+            CheckerError::IncorrectValuesInAllocation {
+                inst,
+                op,
+                alloc,
+                ..
+            } => { write(f, 4, *inst, *op, *alloc) }
             CheckerError::ConstraintViolated { inst, op, alloc } => {
                 write(f, 5, *inst, *op, *alloc)
             }
@@ -58,18 +61,24 @@ impl<A: Allocator> fmt::Display for FaultLine<'_, A> {
             CheckerError::AllocationIsNotFixedReg { inst, op, alloc } => {
                 write(f, 7, *inst, *op, *alloc)
             }
-            CheckerError::AllocationIsNotReuse { inst, op, alloc, .. } => {
-                write(f, 8, *inst, *op, *alloc)
-            }
+            CheckerError::AllocationIsNotReuse {
+                inst,
+                op,
+                alloc,
+                ..
+            } => { write(f, 8, *inst, *op, *alloc) }
             CheckerError::AllocationIsNotStack { inst, op, alloc } => {
                 write(f, 9, *inst, *op, *alloc)
             }
             CheckerError::StackToStackMove { into, from } => {
                 write!(f, "error 10 {from} -> {into}")
             }
-            CheckerError::AllocationOutsideLimit { inst, op, alloc, .. } => {
-                write(f, 11, *inst, *op, *alloc)
-            }
+            CheckerError::AllocationOutsideLimit {
+                inst,
+                op,
+                alloc,
+                ..
+            } => { write(f, 11, *inst, *op, *alloc) }
             CheckerError::MalformedOutput => write!(f, "error 12"),
             CheckerError::Memory => write!(f, "error 13"),
         }

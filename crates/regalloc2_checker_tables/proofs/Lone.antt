@@ -7,7 +7,7 @@ use Rattle.std.specs.Bool.{OnTrue, OnFalse}
 use Rattle.std.proofs.Math.ListN.{length-append}
 use Rattle.std.proofs.lemmas.Bool.{cases_eq, cases_lt, eqb-true, ne_eqb}
 use Rattle.std.proofs.lemmas.List.{get_or-append_right, get_or_append_left}
-use Rattle.regalloc2_cfg.specs.Numbers.{NumberSet, has_number}
+use Rattle.regalloc2_shape.specs.Numbers.{NumberSet, has_number}
 use Rattle.regalloc2_checker_tables.specs.EntrySets.{has_bits, is_member, IsSetOf, AreMore, AreEntrySets, IsGrown, IsLess}
 use Rattle.regalloc2_checker_tables.specs.declared.sets.Grown.{Grown}
 use Rattle.regalloc2_checker_tables.proofs.Bits.{changed-is, none-is, alone, added-is, added-more, bits-small}

@@ -3,7 +3,7 @@ use Rattle.std.proofs.Common.{inl, inr, ◌⊎◌, ℕ, ◌≡◌, ◌+◌, ◌<
 use Rattle.std.specs.Prelude.{◌&&◌}
 use Rattle.std.proofs.lemmas.Bool.{cases_eq, cases_lt}
 use Rattle.regalloc2_index.proofs.Bools.{and_second}
-use Rattle.regalloc2_cfg.specs.Numbers.{NumberSet}
+use Rattle.regalloc2_shape.specs.Numbers.{NumberSet}
 use Rattle.regalloc2_checker_tables.specs.SavedNumbers.{NumberCopies, saved_number, number_now}
 use Rattle.regalloc2_checker_tables.specs.EntrySets.{is_member, IsLess}
 use Rattle.regalloc2_checker_tables.specs.Holding.{held, AreBelow, AreStill, LosesSome, IsMetBelow}

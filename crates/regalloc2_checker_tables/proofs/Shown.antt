@@ -11,7 +11,7 @@ use Rattle.regalloc2_checker_tables.specs.Holding.{Holding, count_of, holds_now,
 use Rattle.regalloc2_checker_tables.specs.Showing.{Showing, showing, read_as, table_count, shows_now, shows_in, ListsPassed, IsReadApart, AreShown}
 use Rattle.regalloc2_checker_tables.specs.Showing.{AreTablesKept, ShowsNow}
 use Rattle.regalloc2_checker_tables.specs.declared.passing.Passed.{Passed}
-use Rattle.regalloc2_cfg.specs.Numbers.{times_listed}
+use Rattle.regalloc2_shape.specs.Numbers.{times_listed}
 use Rattle.regalloc2_checker_tables.proofs.Bits.{other-times, same-times}
 use Rattle.regalloc2_checker_tables.proofs.Times.{times-of, contains-of}
 use Rattle.regalloc2_checker_tables.proofs.Walked.{times-append, times-nil}

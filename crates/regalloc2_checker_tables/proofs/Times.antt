@@ -4,7 +4,7 @@ use Rattle.std.proofs.Common.{cond, nat_eq, eq-eqb, List, [], ◌∷◌, length,
 use Rattle.std.specs.Prelude.{Contains, ◌↔◌, if◌then◌else◌}
 use Rattle.regalloc2_checker_tables.specs.EntrySets.{ListsBits}
 use Rattle.std.proofs.lemmas.Bool.{cases_eq, ne_eqb}
-use Rattle.regalloc2_cfg.specs.Numbers.{times_listed}
+use Rattle.regalloc2_shape.specs.Numbers.{times_listed}
 
 to-times : (xs : List ℕ) (i y : ℕ) → i < length xs → get_or xs i y ≡ y → 0 < times_listed xs y
 unfolding times_listed

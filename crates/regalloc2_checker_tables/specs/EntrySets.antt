@@ -1,7 +1,7 @@
 -- Sets of bits, by number. Bits are words of 32 bits.
 use Rattle.std.specs.Prelude.{ℕ, ◌≡◌, ◌<◌, ◌≤◌, Bool, true, false, ◌&&◌, nat_eq, nat_lt, List, [], length, get_or, if◌then◌else◌}
 use Rattle.std.specs.Prelude.{Option, None, Some}
-use Rattle.regalloc2_cfg.specs.Numbers.{NumberSet, has_number, times_listed}
+use Rattle.regalloc2_shape.specs.Numbers.{NumberSet, has_number, times_listed}
 use Rattle.regalloc2_checker_tables.specs.declared.sets.Grown.{Grown}
 
 -- whether bits are a member

@@ -2,7 +2,7 @@
 use Rattle.std.specs.Prelude.{ℕ, ◌≡◌, ◌<◌, ◌≤◌, Bool, true, false, ◌&&◌, nat_eq, List, [], length, get_or}
 use Rattle.std.specs.List.{list_any}
 use Rattle.std.specs.List.Sorted.{IsStrictlyIncreasing}
-use Rattle.regalloc2_cfg.specs.Numbers.{NumberSet, has_number}
+use Rattle.regalloc2_shape.specs.Numbers.{NumberSet, has_number}
 use Rattle.regalloc2_checker_tables.specs.SavedNumbers.{NumberCopies, copy_count, saved_number, number_now}
 use Rattle.regalloc2_checker_tables.specs.EntrySets.{is_member, AreMore, IsSetOf}
 

@@ -2,10 +2,10 @@
 
 ghost use Rattle.std.specs.Prelude.{◌≡◌, ℕ, ◌<◌, ◌++◌, ◌∷◌, [], true, false, ◌&&◌, nat_eq, if◌then◌else◌, length, IfOk, OnErr};
 ghost use Rattle.std.specs.Bool.{OnTrue, OnFalse};
-ghost use Rattle.regalloc2_cfg.specs.Numbers.{has_number};
+ghost use Rattle.regalloc2_shape.specs.Numbers.{has_number};
 ghost use Rattle.regalloc2_checker_tables.specs.EntrySets.{has_bits, is_member, AreMore, IsSetOf, ListsBits, IsLess};
 
-use regalloc2_cfg::indexset::IndexSet;
+use regalloc2_shape::indexset::IndexSet;
 use std::alloc::{AllocError, Allocator};
 use std::marker::Model;
 
@@ -33,7 +33,7 @@ pub struct Grown {
 
 impl<A: Allocator> Model for Sets<A> {
     ghost use Rattle.std.specs.Prelude.{List};
-    ghost use Rattle.regalloc2_cfg.specs.Numbers.{NumberSet};
+    ghost use Rattle.regalloc2_shape.specs.Numbers.{NumberSet};
     ghost use Rattle.regalloc2_checker_tables.specs.EntrySets.{AreEntrySets, IsGrown};
 
     ghost Value = { List NumberSet };

@@ -7,7 +7,7 @@ ghost use Rattle.std.specs.Bool.{OnTrue, OnFalse};
 ghost use Rattle.std.specs.List.{position};
 ghost use Rattle.std.specs.List.Sorted.{IsStrictlyIncreasing};
 ghost use Rattle.regalloc2_names.specs.PlaceBits.{bits_of_place};
-ghost use Rattle.regalloc2_cfg.specs.Numbers.{has_number, times_listed};
+ghost use Rattle.regalloc2_shape.specs.Numbers.{has_number, times_listed};
 ghost use Rattle.regalloc2_checker_tables.specs.SavedNumbers.{copy_count, number_now, saved_number};
 ghost use Rattle.regalloc2_checker_tables.specs.EntrySets.{is_member, IsSetOf, IsLess};
 ghost use Rattle.regalloc2_checker_tables.specs.Holding.{count_of, held, holds_now, holds_in, AreBelow, AreStill, AreMoreHomes};
@@ -17,8 +17,8 @@ ghost use Rattle.regalloc2_checker_tables.specs.Holding.{LosesSome};
 use crate::entries::Entries;
 use crate::positions::Positions;
 use crate::sets::Sets;
-use regalloc2_cfg::indexset::IndexSet;
 use regalloc2_names::{Allocation, PReg, SpillSlot};
+use regalloc2_shape::indexset::IndexSet;
 use std::alloc::{AllocError, Allocator};
 use std::marker::Model;
 

@@ -10,6 +10,7 @@ mod explanation;
 mod operands;
 mod paths;
 mod pressure;
+pub mod report;
 mod source;
 mod stored;
 mod writes;

@@ -20,13 +20,13 @@ use Rattle.regalloc2_function.specs.WellFormed.{IsWellFormed}
 use Rattle.regalloc2_function.specs.FunctionValue.{op_at}
 use Rattle.regalloc2_semantics.proofs.SingleDef.{Made, made_small}
 use Rattle.regalloc2_fastalloc_state.specs.StateParts.{IsSlotOrNone, slot_name}
-use Rattle.regalloc2_live_ranges.specs.declared.InstOperand.{InstOperand}
-use Rattle.regalloc2_live_ranges.specs.declared.KeptLabel.{KeptLabel}
-use Rattle.regalloc2_live_ranges.specs.declared.LiveRange.{LiveRange}
-use Rattle.regalloc2_live_ranges.specs.LiveRanges.{IsKeptRange, IsShownBy}
-use Rattle.regalloc2_live_ranges.proofs.KeptLabels.{IsOneOf, kept_from, located_labels}
-use Rattle.regalloc2_live_ranges.proofs.FirstAndLastPoints.{shown_within}
-use Rattle.regalloc2_debug_proofs.specs.ShownPlace.{shown_place}
+use Rattle.regalloc2_analysis.specs.declared.live_ranges.InstOperand.{InstOperand}
+use Rattle.regalloc2_analysis.specs.declared.live_ranges.KeptLabel.{KeptLabel}
+use Rattle.regalloc2_analysis.specs.declared.live_ranges.LiveRange.{LiveRange}
+use Rattle.regalloc2_analysis.specs.LiveRanges.LiveRanges.{IsKeptRange, IsShownBy}
+use Rattle.regalloc2_analysis.proofs.LiveRangesLemmas.KeptLabels.{IsOneOf, kept_from, located_labels}
+use Rattle.regalloc2_analysis.proofs.LiveRangesLemmas.FirstAndLastPoints.{shown_within}
+use Rattle.regalloc2_fastalloc_proofs.specs.Debug.ShownPlace.{shown_place}
 use Rattle.regalloc2_fastalloc_proofs.specs.Safety.{MayBeLocatedAt}
 use Rattle.regalloc2_fastalloc_proofs.specs.InstSteps.{StateValue}
 use Rattle.regalloc2_fastalloc_proofs.specs.BlockSteps.{offset_of}

@@ -17,11 +17,11 @@ use Rattle.regalloc2_function.specs.DebugPoints.IsFirstPoint.{of_definition, of_
 use Rattle.regalloc2_function.specs.FunctionValue.{op_at}
 use Rattle.regalloc2_semantics.proofs.SingleDef.{Made}
 use Rattle.regalloc2_fastalloc_state.specs.StateParts.{SpillSlotsValue}
-use Rattle.regalloc2_live_ranges.specs.declared.InstOperand.{InstOperand}
-use Rattle.regalloc2_live_ranges.specs.declared.KeptLabel.{KeptLabel}
-use Rattle.regalloc2_live_ranges.specs.LiveRanges.{IsKeptRange, IsSSA, IsShownBy}
-use Rattle.regalloc2_live_ranges.proofs.UsesInSSA.{made_by_definition, made_by_parameter}
-use Rattle.regalloc2_live_ranges.proofs.FirstAndLastPoints.{shown_within}
+use Rattle.regalloc2_analysis.specs.declared.live_ranges.InstOperand.{InstOperand}
+use Rattle.regalloc2_analysis.specs.declared.live_ranges.KeptLabel.{KeptLabel}
+use Rattle.regalloc2_analysis.specs.LiveRanges.LiveRanges.{IsKeptRange, IsSSA, IsShownBy}
+use Rattle.regalloc2_analysis.proofs.LiveRangesLemmas.UsesInSSA.{made_by_definition, made_by_parameter}
+use Rattle.regalloc2_analysis.proofs.LiveRangesLemmas.FirstAndLastPoints.{shown_within}
 use Rattle.regalloc2_fastalloc_proofs.specs.BlockSteps.{DefinesBelow, offset_of}
 use Rattle.regalloc2_fastalloc_proofs.proofs.Safety.StateKept.{made_below}
 use Rattle.regalloc2_fastalloc.specs.DebugLocations.{HasPlace}

@@ -9,11 +9,11 @@ use Rattle.regalloc2_function.specs.Machine.{MachineValue}
 use Rattle.regalloc2_function.specs.Reasons.{HasShape, IsShapeFault, IsSound, IsSoundnessFault}
 use Rattle.regalloc2_function.specs.Reasons.IsShapeFault.{apart, critical, operands, outside, unlisted}
 use Rattle.regalloc2_function.specs.Reasons.IsSoundnessFault.{arguments, definitions, elsewhere, livein, open_end}
-use Rattle.regalloc2_validate.specs.Constraints.{IsFixedFault}
+use Rattle.regalloc2_fastalloc_state.specs.Validate.Constraints.{IsFixedFault}
 use Rattle.regalloc2_fastalloc_state.specs.OutOfResources.{Lacks, IsResourceError}
 use Rattle.regalloc2_fastalloc.specs.ErrorReason.{HasFewOperands, PassesAllChecks, IsReason, SomeDoesNotFit, units_at_most}
-use Rattle.regalloc2_validate.specs.Validated.{IsFunctionFault}
-use Rattle.regalloc2_validate.specs.Validated.IsFunctionFault.{memory, misshapen, unsound, clashing}
+use Rattle.regalloc2_fastalloc_state.specs.Validate.Validated.{IsFunctionFault}
+use Rattle.regalloc2_fastalloc_state.specs.Validate.Validated.IsFunctionFault.{memory, misshapen, unsound, clashing}
 
 shape_reason : (f : FunctionValue) (env : MachineValue) (asked : Bool) {e : RegAllocError} → HasFewOperands f → asked ≡ true → IsShapeFault f e →
     IsReason f env asked e

@@ -21,13 +21,13 @@ use Rattle.regalloc2_semantics.proofs.SingleDef.{Made}
 use Rattle.regalloc2_semantics.proofs.Soundness.{well_formed_are_sound}
 use Rattle.regalloc2_semantics.proofs.Paths.{blocks_agree_in_places_by_points}
 use Rattle.regalloc2_semantics.proofs.LiveIn.{live_is_used, live_stand_in_places}
-use Rattle.regalloc2_validate.specs.NoLimits.{AreTaken}
-use Rattle.regalloc2_validate.specs.Constraints.{BranchDefinesInPlace}
+use Rattle.regalloc2_fastalloc_state.specs.Validate.NoLimits.{AreTaken}
+use Rattle.regalloc2_fastalloc_state.specs.Validate.Constraints.{BranchDefinesInPlace}
 use Rattle.regalloc2_fastalloc_state.specs.StateParts.{SlotsHaveOneOwner, IsSlotOrNone, slot_name}
-use Rattle.regalloc2_live_ranges.specs.declared.LiveRange.{LiveRange}
-use Rattle.regalloc2_live_ranges.specs.LiveRanges.{IsKeptRange}
-use Rattle.regalloc2_debug_proofs.specs.ShownPlace.{shown_place}
-use Rattle.regalloc2_debug_proofs.proofs.DebugLocationsHoldValues.{label_shown}
+use Rattle.regalloc2_analysis.specs.declared.live_ranges.LiveRange.{LiveRange}
+use Rattle.regalloc2_analysis.specs.LiveRanges.LiveRanges.{IsKeptRange}
+use Rattle.regalloc2_fastalloc_proofs.specs.Debug.ShownPlace.{shown_place}
+use Rattle.regalloc2_fastalloc_proofs.proofs.Debug.DebugLocationsHoldValues.{label_shown}
 use Rattle.regalloc2_fastalloc.specs.Promise.{LiveInSlots, ArrivesAt, defined, given, in_slot}
 use Rattle.regalloc2_fastalloc_proofs.specs.InstSteps.{StateValue}
 use Rattle.regalloc2_fastalloc_proofs.specs.BlockSteps.{AllocsBlocks}

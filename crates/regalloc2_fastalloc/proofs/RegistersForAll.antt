@@ -11,7 +11,7 @@ use Rattle.regalloc2_function.specs.FunctionValue.{FunctionValue, InstValue, no_
 use Rattle.regalloc2_function.specs.Machine.{MachineValue, is_allocatable}
 use Rattle.regalloc2_fastalloc_state.proofs.CountingLaws.{count_le}
 use Rattle.regalloc2_function.specs.FunctionValue.{op_at}
-use Rattle.regalloc2_unspilled_proofs.specs.SpillFree.{FitInRegs, HasRegOperandsOnly}
+use Rattle.regalloc2_fastalloc_proofs.specs.Unspilled.SpillFree.{FitInRegs, HasRegOperandsOnly}
 use Rattle.regalloc2_fastalloc.specs.Promise.{HasRegistersForAll}
 
 -- the vregs that some instructions name

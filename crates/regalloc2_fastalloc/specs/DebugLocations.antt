@@ -1,5 +1,5 @@
 -- The debug locations of a function, by the places that the walk leaves.
--- The labels that are kept, and the operand whose place shows a virtual register, are those of regalloc2_live_ranges/specs/LiveRanges.antt.
+-- The labels that are kept, and the operand whose place shows a virtual register, are those of regalloc2_analysis/specs/LiveRanges/LiveRanges.antt.
 use Rattle.std.specs.Prelude.{ℕ, ◌≡◌, ◌+◌, ◌<◌, List, length, map, slice_index, slice_index_or, Option, None, Some, if◌then◌else◌, IsPermutation}
 use Rattle.std.specs.Ordering.{nat_cmp}
 use Rattle.std.specs.List.Sorted.{IsNonDecreasingBy, IsStableByKey}
@@ -7,10 +7,10 @@ use Rattle.regalloc2_names.specs.Place.{Place, NoPlace, is_no_place}
 use Rattle.regalloc2_function.specs.FunctionValue.{FunctionValue}
 use Rattle.regalloc2_function.specs.OutputValue.{DebugLocation}
 use Rattle.regalloc2_fastalloc_state.specs.StateParts.{SpillSlotsValue, slot_name}
-use Rattle.regalloc2_live_ranges.specs.declared.InstOperand.{InstOperand}
-use Rattle.regalloc2_live_ranges.specs.declared.LiveRange.{LiveRange}
-use Rattle.regalloc2_live_ranges.specs.declared.KeptLabel.{KeptLabel}
-use Rattle.regalloc2_live_ranges.specs.LiveRanges.{AreKeptLabels}
+use Rattle.regalloc2_analysis.specs.declared.live_ranges.InstOperand.{InstOperand}
+use Rattle.regalloc2_analysis.specs.declared.live_ranges.LiveRange.{LiveRange}
+use Rattle.regalloc2_analysis.specs.declared.live_ranges.KeptLabel.{KeptLabel}
+use Rattle.regalloc2_analysis.specs.LiveRanges.LiveRanges.{AreKeptLabels}
 
 -- the place of an operand, among those of all operands
 abbrev pub operand_place : List ℕ → List Place → InstOperand → Place

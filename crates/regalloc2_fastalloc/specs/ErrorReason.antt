@@ -1,4 +1,4 @@
--- Why `run` returns an error: the first test that fails, and the first place where it does. The tests are in regalloc2_validate/specs, by
+-- Why `run` returns an error: the first test that fails, and the first place where it does. The tests are in regalloc2_fastalloc_state/specs/Validate, by
 -- the definitions of regalloc2_function/specs.
 use Rattle.std.specs.Prelude.{ℕ, ◌≡◌, ◌+◌, ◌*◌, ◌<◌, ◌≤◌, ◌^◌, ◌⊎◌, max, Bool, true, length}
 use Rattle.regalloc2_names.specs.declared.RegAllocError.{RegAllocError}
@@ -9,8 +9,8 @@ use Rattle.regalloc2_function.specs.FunctionValue.{FunctionValue, inst_at, opera
 use Rattle.regalloc2_function.specs.Fitting.{Fits}
 use Rattle.regalloc2_function.specs.Machine.{MachineValue}
 use Rattle.regalloc2_function.specs.WellFormed.{IsWellFormed}
-use Rattle.regalloc2_validate.specs.Constraints.{AreUnlimited, BranchDefinesInPlace, IsUnsupported}
-use Rattle.regalloc2_validate.specs.Validated.{IsFunctionFault}
+use Rattle.regalloc2_fastalloc_state.specs.Validate.Constraints.{AreUnlimited, BranchDefinesInPlace, IsUnsupported}
+use Rattle.regalloc2_fastalloc_state.specs.Validate.Validated.{IsFunctionFault}
 
 -- The first test needs no memory: fewer than 2^32 operands.
 abbrev pub HasFewOperands : FunctionValue → Type 0

@@ -23,7 +23,7 @@ use Rattle.regalloc2_function.specs.Fitting.{IsProperPlace, PlacesAreProper, all
 use Rattle.regalloc2_function.specs.Slots.{Owner, OfVReg, OfBranch, IsSlotOf, AreSlotsOwned, StandsInSlot}
 use Rattle.regalloc2_function.specs.Values.{Meaning, SameNumbers, numbers, source_reads}
 use Rattle.regalloc2_function.specs.FunctionValue.{op_at}
-use Rattle.regalloc2_branch_defs.specs.BranchDefs.{DefinesNumber, IsEdgeInto}
+use Rattle.regalloc2_analysis.specs.BranchDefs.BranchDefs.{DefinesNumber, IsEdgeInto}
 use Rattle.regalloc2_names.specs.Register.{no_vreg}
 use Rattle.regalloc2_semantics.specs.Live.{IsLive, HasEntered, HoldsValueAt}
 use Rattle.regalloc2_fastalloc.specs.ErrorReason.{units_at_most}

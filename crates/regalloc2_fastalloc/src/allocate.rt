@@ -7,18 +7,18 @@ ghost use Rattle.regalloc2_function.specs.Stored.{location_of};
 ghost use Rattle.regalloc2_function.specs.Views.{edit_of, machine_of, output_of};
 ghost use Rattle.regalloc2_function.specs.WellFormed.{IsWellFormed};
 ghost use Rattle.regalloc2_function.specs.Fitting.{MachineFits};
-ghost use Rattle.regalloc2_validate.specs.Constraints.{BranchDefinesInPlace};
+ghost use Rattle.regalloc2_fastalloc_state.specs.Validate.Constraints.{BranchDefinesInPlace};
 ghost use Rattle.regalloc2_fastalloc_state.specs.OutOfResources.{Lacks};
 ghost use Rattle.regalloc2_fastalloc.specs.Promise.{IsAllocation};
 ghost use Rattle.regalloc2_fastalloc.specs.ErrorReason.{SomeDoesNotFit, units_at_most};
-ghost use Rattle.regalloc2_validate.specs.NoLimits.{AreTaken};
+ghost use Rattle.regalloc2_fastalloc_state.specs.Validate.NoLimits.{AreTaken};
 ghost use Rattle.regalloc2_fastalloc_proofs.specs.BlockSteps.{offset_of};
 
 use super::{allocs, debug};
-use regalloc2_cfg::table_length::table_length;
 use regalloc2_fastalloc_walk::state::State;
 use regalloc2_function::{Edit, Function, MachineEnv, Output, reads_the_same_numbers};
 use regalloc2_names::{Allocation, ProgPoint, RegAllocError};
+use regalloc2_shape::table_length::table_length;
 use std::alloc::Allocator;
 
 /// What an output has beside the places: how many units slots take, the moves as they are listed, and the debug locations.

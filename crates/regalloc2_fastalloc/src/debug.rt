@@ -3,13 +3,13 @@
 ghost use Rattle.std.specs.Prelude.{◌≡◌, ◌<◌, ℕ, All, IfErr, IfOk, length, map, slice_index};
 ghost use Rattle.regalloc2_function.specs.FunctionValue.{inst_at, operand_count};
 ghost use Rattle.regalloc2_function.specs.Stored.{location_of};
-ghost use Rattle.regalloc2_live_ranges.specs.LiveRanges.{IsSSA};
+ghost use Rattle.regalloc2_analysis.specs.LiveRanges.LiveRanges.{IsSSA};
 ghost use Rattle.regalloc2_fastalloc_proofs.specs.BlockSteps.{DefinesBelow, offset_of};
 ghost use Rattle.regalloc2_fastalloc.specs.DebugLocations.{AreLocated, HasPlace, location_shown, place_shown};
 
+use regalloc2_analysis::live_ranges::{KeptLabel, LiveRange, kept_labels};
 use regalloc2_fastalloc_state::spillslots::SpillSlots;
 use regalloc2_function::Function;
-use regalloc2_live_ranges::{KeptLabel, LiveRange, kept_labels};
 use regalloc2_names::{Allocation, ProgPoint, RegAllocError};
 use std::alloc::Allocator;
 

@@ -15,10 +15,10 @@ ghost use Rattle.regalloc2_fastalloc.specs.Promise.{IsAllocation};
 ghost use Rattle.regalloc2_fastalloc.specs.ErrorReason.{IsReason, PassesAllChecks};
 ghost use Rattle.regalloc2_fastalloc.specs.Lending.{LendsOutput};
 
+use regalloc2_fastalloc_state::validate::constraints::validate_operands;
+use regalloc2_fastalloc_state::validate::validate_function;
 use regalloc2_function::{Function, MachineEnv, Output, count_operands};
 use regalloc2_names::RegAllocError;
-use regalloc2_validate::constraints::validate_operands;
-use regalloc2_validate::validate_function;
 use std::alloc::{Allocator, Global};
 
 mod allocate;

@@ -12,7 +12,7 @@ use Rattle.regalloc2_function.specs.FunctionValue.{FunctionValue, block_at, inst
 use Rattle.regalloc2_function.specs.SourceRun.{arguments_at}
 use Rattle.regalloc2_function.specs.WellFormed.{last_of}
 use Rattle.regalloc2_semantics.specs.Blocks.{HasEdge, target_at}
-use Rattle.regalloc2_branch_defs.specs.BranchDefs.{DefinesNumber}
+use Rattle.regalloc2_analysis.specs.BranchDefs.BranchDefs.{DefinesNumber}
 use Rattle.regalloc2_parts.specs.AtOnce.{ends_of, own_names, in_turn, HasOneSourceEach}
 use Rattle.regalloc2_fastalloc_state.specs.declared.inst_regs.InstRegs.{InstRegs}
 use Rattle.regalloc2_parts.specs.declared.scratch_pool.ScratchPair.{ScratchPair}
@@ -177,7 +177,7 @@ pub data GathersMoves (f : FunctionValue) (b point : ℕ) (t : InstRegs) (old : 
   one_edge : (k : ℕ) (given more : List ClassMove) (u w : InstRegs) (m n : StateValue) → k < length (block_at f b).succs
       → GathersMoves f b point t old k u m given
       → GathersEdgeMoves (IsOwnDef f b) point (block_at f (target_at f b k)).params (arguments_at f b k) u m given
-          (length (block_at f (target_at f b k)).params)
+      (length (block_at f (target_at f b k)).params)
       w n more →
       GathersMoves f b point t old (k + 1) w n more
 

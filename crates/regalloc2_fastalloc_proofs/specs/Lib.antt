@@ -2,9 +2,12 @@
 -- Read first: `InstSteps` (`StateValue`, `AllocInst`), then `BranchSteps`, `BlockStart`, `BlockSteps`, `Safety`.
 -- Depends on the tables of regalloc2_fastalloc_state (`StateParts`, `InstRegs`) and on regalloc2_function.
 pub mod BlockStart
-pub mod StoreSteps
-pub mod BranchSteps
-pub mod SlotLayout
-pub mod Safety
-pub mod InstSteps
 pub mod BlockSteps
+pub mod BranchSteps
+pub mod Debug
+pub mod InstSteps
+pub mod Pressure
+pub mod Safety
+pub mod SlotLayout
+pub mod StoreSteps
+pub mod Unspilled

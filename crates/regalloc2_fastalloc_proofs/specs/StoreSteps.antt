@@ -12,7 +12,7 @@ use Rattle.regalloc2_function.specs.WellFormed.{last_of}
 use Rattle.regalloc2_semantics.specs.Blocks.{target_at}
 use Rattle.regalloc2_function.specs.FunctionValue.{op_at}
 use Rattle.regalloc2_semantics.specs.Stores.{Store, store_moves, IsOneOf, AreInOrder}
-use Rattle.regalloc2_branch_defs.specs.BranchDefs.{DefinesNumber, IsStoredOperand, IsEdgeInto, fixed_definition}
+use Rattle.regalloc2_analysis.specs.BranchDefs.BranchDefs.{DefinesNumber, IsStoredOperand, IsEdgeInto, fixed_definition}
 use Rattle.regalloc2_fastalloc_state.specs.StateParts.{SpillSlotsValue, GetsSpillSlot, NoneIsFrom, slot_name}
 use Rattle.regalloc2_fastalloc_proofs.specs.InstSteps.{StateValue, Outcome, next, no_register, SameMachine, MayHold}
 use Rattle.regalloc2_names.specs.Register.{no_vreg}

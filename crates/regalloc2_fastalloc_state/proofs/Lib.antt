@@ -5,18 +5,19 @@
 -- `SpillSlotUnits` (how many units they take), `SlotsAsPlaces`. Registers: `LrusOfMachine` and `LrusByClass`, over
 -- `ArraysByClass`, `ClassIsEmpty`, `SetMembers`, `SetOfList`, `SetDifference` and `CountingLaws`. Edits:
 -- `PointsDescend` (points never rise), `EditsPushed`.
+pub mod ArraysByClass
+pub mod ClassIsEmpty
 pub mod CountingLaws
-pub mod PointsDescend
-pub mod LrusOfMachine
-pub mod TakenOut
-pub mod VRegInPRegInverse
-pub mod SetMembers
-pub mod SetOfList
-pub mod SetDifference
 pub mod EditsPushed
 pub mod LrusByClass
-pub mod SpillSlotUnits
-pub mod ArraysByClass
-pub mod SlotsAsPlaces
-pub mod ClassIsEmpty
+pub mod LrusOfMachine
+pub mod PointsDescend
 pub mod RegistersOfVRegs
+pub mod SetDifference
+pub mod SetMembers
+pub mod SetOfList
+pub mod SlotsAsPlaces
+pub mod SpillSlotUnits
+pub mod TakenOut
+pub mod VRegInPRegInverse
+pub mod ValidateLemmas

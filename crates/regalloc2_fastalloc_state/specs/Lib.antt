@@ -2,8 +2,9 @@
 -- Read first: `StateParts`, then `InstRegs`; `chosen` in `Choice` is the register that the allocator takes.
 -- Depends on regalloc2_names, on `Machine` and `Fitting` of regalloc2_function, and on the LRU list of regalloc2_parts.
 pub mod Choice
+pub mod FilledRegs
+pub mod InstRegs
 pub mod OutOfResources
 pub mod ScratchPool
 pub mod StateParts
-pub mod InstRegs
-pub mod FilledRegs
+pub mod Validate

@@ -7,4 +7,5 @@ pub mod edits;
 pub mod inst_regs;
 pub mod request;
 pub mod spillslots;
+pub mod validate;
 pub mod vreg_allocs;

@@ -5,11 +5,11 @@ use Rattle.regalloc2_names.specs.Register.{VirtualRegister}
 use Rattle.regalloc2_function.specs.FunctionValue.{FunctionValue, block_at, inst_at}
 use Rattle.regalloc2_function.specs.WellFormed.{DefinedOnce, last_of}
 use Rattle.regalloc2_semantics.proofs.SingleDef.{one_operand}
-use Rattle.regalloc2_branch_defs.specs.BranchDefs.{DefinesNumber, IsSite}
-use Rattle.regalloc2_branch_defs.specs.Tables.{AreBranchDefsOf, site_of}
-use Rattle.regalloc2_branch_defs.specs.declared.BranchDefs.{BranchDefs}
-use Rattle.regalloc2_branch_defs.specs.declared.DefSite.{DefSite}
-use Rattle.regalloc2_branch_defs.proofs.BlockEnds.{site_defines}
+use Rattle.regalloc2_analysis.specs.BranchDefs.BranchDefs.{DefinesNumber, IsSite}
+use Rattle.regalloc2_analysis.specs.BranchDefs.Tables.{AreBranchDefsOf, site_of}
+use Rattle.regalloc2_analysis.specs.declared.branch_defs.BranchDefs.{BranchDefs}
+use Rattle.regalloc2_analysis.specs.declared.branch_defs.DefSite.{DefSite}
+use Rattle.regalloc2_analysis.proofs.BranchDefsLemmas.BlockEnds.{site_defines}
 use Rattle.regalloc2_fastalloc_state.specs.declared.inst_regs.InstRegs.{InstRegs}
 use Rattle.regalloc2_fastalloc_proofs.specs.InstSteps.{StateValue, no_register}
 use Rattle.regalloc2_fastalloc_proofs.specs.BranchSteps.{ClassMove, GathersEdgeMoves, none_gathered, one_gathered, own_argument, IsOwnDef}

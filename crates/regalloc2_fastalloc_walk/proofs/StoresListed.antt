@@ -18,12 +18,12 @@ use Rattle.regalloc2_semantics.specs.Blocks.{target_at}
 use Rattle.regalloc2_function.specs.FunctionValue.{op_at}
 use Rattle.regalloc2_semantics.proofs.SingleDef.{DefinesAt, TakesAt, one_operand, one_param as one_taken, not_both}
 use Rattle.regalloc2_semantics.proofs.Soundness.{well_formed_are_sound}
-use Rattle.regalloc2_branch_defs.specs.BranchDefs.{AreStoredOperands, DefinesNumber, IsEdgeInto, IsSite, IsStoredOperand}
-use Rattle.regalloc2_branch_defs.specs.Tables.{AreBranchDefsOf, site_of}
-use Rattle.regalloc2_branch_defs.specs.declared.BranchDefs.{BranchDefs}
-use Rattle.regalloc2_branch_defs.specs.declared.DefSite.{DefSite}
-use Rattle.regalloc2_branch_defs.proofs.BlockEnds.{last_within}
-use Rattle.regalloc2_branch_defs.proofs.EdgeNotes.{fixed_defines}
+use Rattle.regalloc2_analysis.specs.BranchDefs.BranchDefs.{AreStoredOperands, DefinesNumber, IsEdgeInto, IsSite, IsStoredOperand}
+use Rattle.regalloc2_analysis.specs.BranchDefs.Tables.{AreBranchDefsOf, site_of}
+use Rattle.regalloc2_analysis.specs.declared.branch_defs.BranchDefs.{BranchDefs}
+use Rattle.regalloc2_analysis.specs.declared.branch_defs.DefSite.{DefSite}
+use Rattle.regalloc2_analysis.proofs.BranchDefsLemmas.BlockEnds.{last_within}
+use Rattle.regalloc2_analysis.proofs.BranchDefsLemmas.EdgeNotes.{fixed_defines}
 use Rattle.regalloc2_fastalloc_state.specs.StateParts.{SpillSlotsValue, slot_name}
 use Rattle.regalloc2_names.specs.Register.{no_vreg}
 use Rattle.regalloc2_fastalloc_proofs.specs.BlockSteps.{MayBeAllocated}
@@ -90,7 +90,7 @@ module _ {A : Type 0} (defs : BranchDefs A) (branch : ℕ) (slots : SpillSlotsVa
       here : i ≡ h → ListsGiven defs branch slots (param_at h) (argument_at h) m n → Contains n S
       here e (listed x y at) =
           let mine : IsArgumentStored defs branch slots (param_at h) (argument_at h) j = subst (λ (p : ℕ). IsArgumentStored defs branch slots (param_at p)
-              (argument_at p) j)
+          (argument_at p) j)
           e is in
           let same : x ≡ j = ap index_of (sym y.0 ∙ mine.0) in
           let item : record { index = x; to = param_at h } ≡ S = ap (λ (p : ℕ). record { index = p; to = param_at h }) same

@@ -17,7 +17,7 @@ use Rattle.regalloc2_semantics.specs.Stores.{Store, moves_by, store_moves, IsOne
 use Rattle.regalloc2_semantics.specs.Stores.IsOneOf.{first, later}
 use Rattle.regalloc2_semantics.proofs.SingleDef.{DefinesAt, not_both, one_operand}
 use Rattle.regalloc2_semantics.proofs.Soundness.{well_formed_are_sound}
-use Rattle.regalloc2_branch_defs.specs.BranchDefs.{DefinesNumber, IsEdgeInto, fixed_definition}
+use Rattle.regalloc2_analysis.specs.BranchDefs.BranchDefs.{DefinesNumber, IsEdgeInto, fixed_definition}
 use Rattle.regalloc2_fastalloc_state.specs.StateParts.{SpillSlotsValue, GetsSpillSlot, NoneIsFrom, slot_name}
 use Rattle.regalloc2_fastalloc_proofs.specs.InstSteps.{StateValue, SameMachine, no_register}
 use Rattle.regalloc2_fastalloc_proofs.specs.BlockSteps.{MayBeAllocated}

@@ -7,9 +7,9 @@ use Rattle.regalloc2_names.specs.Place.{Place, NoPlace, InRegister, is_memory}
 use Rattle.regalloc2_function.specs.FunctionValue.{FunctionValue}
 use Rattle.regalloc2_function.specs.FunctionValue.{op_at}
 use Rattle.regalloc2_semantics.specs.Stores.{Store, moves_by, store_moves}
-use Rattle.regalloc2_branch_defs.specs.BranchDefs.{fixed_definition}
-use Rattle.regalloc2_branch_defs.specs.Tables.{site_of}
-use Rattle.regalloc2_branch_defs.specs.declared.BranchDefs.{BranchDefs}
+use Rattle.regalloc2_analysis.specs.BranchDefs.BranchDefs.{fixed_definition}
+use Rattle.regalloc2_analysis.specs.BranchDefs.Tables.{site_of}
+use Rattle.regalloc2_analysis.specs.declared.branch_defs.BranchDefs.{BranchDefs}
 use Rattle.regalloc2_fastalloc_state.specs.StateParts.{SpillSlotsValue, GetsSpillSlot, NoneIsFrom, slot_name}
 use Rattle.regalloc2_names.specs.Register.{no_vreg}
 use Rattle.regalloc2_fastalloc_proofs.specs.InstSteps.{StateValue, Outcome, next, no_register}

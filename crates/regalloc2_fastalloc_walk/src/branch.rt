@@ -15,7 +15,7 @@ ghost use Rattle.regalloc2_fastalloc_proofs.specs.BranchSteps.{ParametersDiffer,
 ghost use Rattle.regalloc2_fastalloc_state.specs.OutOfResources.{SlotsExhaustedWith, IsResourceError};
 ghost use Rattle.regalloc2_parts.specs.ScratchPool.{DoDiffer, IsOfScratchPair};
 ghost use Rattle.regalloc2_fastalloc_proofs.specs.InstSteps.{a_move, next, no_register};
-ghost use Rattle.regalloc2_branch_defs.specs.Tables.{AreBranchDefsOf};
+ghost use Rattle.regalloc2_analysis.specs.BranchDefs.Tables.{AreBranchDefsOf};
 ghost use Rattle.regalloc2_fastalloc_proofs.specs.BlockSteps.{MayBeAllocated};
 ghost use Rattle.regalloc2_fastalloc_walk.specs.OwnDefs.{IsOwnBy, GatherArgument};
 ghost use Rattle.regalloc2_fastalloc_walk.specs.StateView.{Between, IsBranchStepAt, IsStepAt, SameTables, tables_of, ComesTo, ComesToOne};
@@ -26,7 +26,7 @@ ghost use Rattle.regalloc2_fastalloc_state.specs.StateParts.{SlotsHaveOneOwner, 
 
 use super::state::State;
 use super::walk::FunctionCx;
-use regalloc2_branch_defs::BranchDefs;
+use regalloc2_analysis::branch_defs::BranchDefs;
 use regalloc2_fastalloc_state::inst_regs::{InstRegs, Positions};
 use regalloc2_function::Function;
 use regalloc2_index::{Block, Inst};

@@ -6,8 +6,8 @@ ghost use Rattle.regalloc2_names.specs.Point.{before};
 ghost use Rattle.regalloc2_function.specs.FunctionValue.{block_at};
 ghost use Rattle.regalloc2_function.specs.FunctionValue.{op_at};
 ghost use Rattle.regalloc2_semantics.specs.Stores.{Store, moves_by};
-ghost use Rattle.regalloc2_branch_defs.specs.BranchDefs.{IsEdgeInto};
-ghost use Rattle.regalloc2_branch_defs.specs.Tables.{AreBranchDefsOf, IsEdgeOf};
+ghost use Rattle.regalloc2_analysis.specs.BranchDefs.BranchDefs.{IsEdgeInto};
+ghost use Rattle.regalloc2_analysis.specs.BranchDefs.Tables.{AreBranchDefsOf, IsEdgeOf};
 ghost use Rattle.regalloc2_fastalloc_state.specs.StateParts.{AllAtOrAfter, NoneIsFrom};
 ghost use Rattle.regalloc2_fastalloc_proofs.specs.InstSteps.{MayHold};
 ghost use Rattle.regalloc2_fastalloc_proofs.specs.BlockSteps.{DefinesBelow, MayBeAllocated};
@@ -19,7 +19,7 @@ ghost use Rattle.regalloc2_fastalloc_walk.specs.StateView.{IsStepAt, MakesSlots,
 
 use super::operand::PlaceMove;
 use super::state::State;
-use regalloc2_branch_defs::{BranchDefs, EdgeInto, fixed_definition};
+use regalloc2_analysis::branch_defs::{BranchDefs, EdgeInto, fixed_definition};
 use regalloc2_function::Function;
 use regalloc2_index::Block;
 use regalloc2_names::{

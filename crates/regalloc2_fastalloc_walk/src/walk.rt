@@ -11,12 +11,12 @@ ghost use Rattle.std.specs.Prelude.{◌≡◌, ◌<◌, ◌≤◌, ◌+◌, ◌*
 ghost use Rattle.regalloc2_names.specs.Point.{before, after};
 ghost use Rattle.regalloc2_names.specs.Place.{NoPlace};
 ghost use Rattle.regalloc2_function.specs.FunctionValue.{block_at, inst_at, operand_count};
-ghost use Rattle.regalloc2_branch_defs.specs.Tables.{AreBranchDefsOf};
+ghost use Rattle.regalloc2_analysis.specs.BranchDefs.Tables.{AreBranchDefsOf};
 ghost use Rattle.regalloc2_fastalloc_state.specs.StateParts.{AllAtOrAfter, SpillSlotsValue, alloc_of};
 ghost use Rattle.regalloc2_fastalloc_proofs.specs.InstSteps.{ends_block};
 ghost use Rattle.regalloc2_fastalloc_proofs.specs.BranchSteps.{RegsAvoidStack, AddsTempSlotsAtMost};
 ghost use Rattle.regalloc2_fastalloc_state.specs.OutOfResources.{SlotsExhaustedWith, IsResourceError};
-ghost use Rattle.regalloc2_branch_defs.specs.BranchDefs.{IsEdgeInto};
+ghost use Rattle.regalloc2_analysis.specs.BranchDefs.BranchDefs.{IsEdgeInto};
 ghost use Rattle.regalloc2_fastalloc_proofs.specs.StoreSteps.{IsStoredFor};
 ghost use Rattle.regalloc2_fastalloc_walk.specs.StateView.{Between, IsBranchStepAt, IsStepAt, SameTables, tables_of, ComesTo};
 ghost use Rattle.regalloc2_fastalloc_proofs.specs.BlockSteps.{MayBeAllocated, temp_slots_at, AllocInstInBlock, AllocBlock, BeginBlock, AllocBlocks};
@@ -24,7 +24,7 @@ ghost use Rattle.regalloc2_fastalloc_proofs.specs.BlockSteps.{DefinesBelow, offs
 
 use super::inst::InstCx;
 use super::state::State;
-use regalloc2_branch_defs::BranchDefs;
+use regalloc2_analysis::branch_defs::BranchDefs;
 use regalloc2_fastalloc_state::inst_regs::InstRegs;
 use regalloc2_function::Function;
 use regalloc2_index::{Block, Inst};

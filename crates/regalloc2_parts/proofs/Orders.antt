@@ -55,7 +55,7 @@ done_after st k j r h =
 -- one more move is given out
 pub gives_one : (cut k : ℕ) (ms : List Ends) (st : List State) (given : List Ends) (m : Ends) → HasGiven cut ms st given → AreMovesApart ms → k < length ms →
     length st ≡ length ms → (state_at st k ≡ Done → ⊥) → ((j : ℕ) → j < length ms → to_at ms j ≡ source_but cut ms k → state_at st j ≡ Done) →
-        m.to ≡ to_at ms k →
+    m.to ≡ to_at ms k →
     m.from ≡ source_but cut ms k → HasGiven cut ms (set st k Done) (given ++ m ∷ [])
 gives_one cut k ms st given m had apart within same open_ next to_is from_is =
     let short : k < length st = omega arith in

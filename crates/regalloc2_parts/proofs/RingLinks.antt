@@ -111,7 +111,7 @@ head_kept h xs p d = let e : nat_eq p h ≡ false = differs p h (λ s. d (sym s)
 pub node_removed : (old new : List LruNode) (h p : ℕ) (d : LruNode) → IsNodeRing old h → Contains (ring_numbers old h) p → p ≢ h →
     lru_nexts new ≡ slice_set (lru_nexts old) (slice_index_or old p d).prev (slice_index_or old p d).next →
     lru_prevs new ≡ slice_set (lru_prevs old) (slice_index_or old p d).next (slice_index_or old p d).prev →
-        IsRingOfNumbers new h (without p (ring_numbers old h))
+    IsRingOfNumbers new h (without p (ring_numbers old h))
 node_removed old new h p d ring mem other e f =
     let fits = member_fits old h p ring mem in
     let less = IsRing-removed (lru_nexts old) (lru_prevs old) h (others old h) p (slice_index_or old p d).prev (slice_index_or old p d).next ring
@@ -177,9 +177,9 @@ pub changes_added : (old mid new : List LruNode) (m n : ℕ) → length mid ≡ 
     lru_changed_links mid new ≤ n → lru_changed_links old new ≤ m + n
 changes_added old mid new m n e f g h =
     let nx = changed-trans (lru_nexts old) (lru_nexts mid) (lru_nexts new)
-        (rw (length-map old (λ (n : LruNode). n.next), length-map mid (λ (n : LruNode). n.next)) (sym e))
+    (rw (length-map old (λ (n : LruNode). n.next), length-map mid (λ (n : LruNode). n.next)) (sym e))
     (rw (length-map mid (λ (n : LruNode). n.next), length-map new (λ (n : LruNode). n.next)) (sym f)) in
     let pv = changed-trans (lru_prevs old) (lru_prevs mid) (lru_prevs new)
-        (rw (length-map old (λ (n : LruNode). n.prev), length-map mid (λ (n : LruNode). n.prev)) (sym e))
+    (rw (length-map old (λ (n : LruNode). n.prev), length-map mid (λ (n : LruNode). n.prev)) (sym e))
     (rw (length-map mid (λ (n : LruNode). n.prev), length-map new (λ (n : LruNode). n.prev)) (sym f)) in
     omega arith

@@ -126,7 +126,7 @@ next_of_head nodes h d list = let last = list.last in get_or-map (λ (n : VRegNo
 pub first_fits : (nodes : List VRegNode) (h : ℕ) (d : VRegNode) → IsVRegList nodes h → (slice_index_or nodes h d).next < length nodes
 first_fits nodes h d list =
     rw (next_of_head nodes h d list, length-map nodes (λ (n : VRegNode). n.next)) at (head_links (nexts nodes) (prevs nodes) h (vreg_ring_numbers nodes h)
-        list.ring).0
+    list.ring).0
 
 -- each number of the list is a node's
 pub member_fits : (nodes : List VRegNode) (h p : ℕ) → IsVRegList nodes h → Contains (vreg_ring_numbers nodes h) p → p < length nodes
@@ -167,7 +167,7 @@ pub record AreLinkedTo (old new : List VRegNode) (from to : ℕ) : Type 0 where
 -- one more, behind the head
 pub node_inserted : (old written mid new : List VRegNode) (h k : ℕ) (vreg : VirtualRegister) (d : VRegNode) → IsVRegList old h → k ≡ vreg.number → k < h →
     All (λ n. n ≢ k) (vreg_ring_numbers old h) → IsWritten old written k vreg → AreLinkedTo written mid k (slice_index_or old h d).next →
-        AreLinkedTo mid new h k →
+    AreLinkedTo mid new h k →
     Lists new h (vreg ∷ members_of old h)
 node_inserted old written mid new h k vreg d list is low absent w to_first to_it =
     let r = (slice_index_or old h d).next in

@@ -142,7 +142,7 @@ made_by f v i point lt le (inl p) =
     MadeBefore.by_param p.0 p.3.0 (record { block = p.1; param = p.3.1; number = ap (λ (w : VirtualRegister). w.number) same }) same
 made_by f v i point lt le (inr o) =
     let same : slice_index_or (inst_at f o.0).operands o.1 o.2 ≡ op_at (inst_at f o.0).operands o.1 =
-        get_or_default (inst_at f o.0).operands o.1 o.2 no_operand
+    get_or_default (inst_at f o.0).operands o.1 o.2 no_operand
     o.4 in
     let is : (op_at (inst_at f o.0).operands o.1).vreg ≡ v = ap (λ (x : OperandValue). x.vreg) (sym same) ∙ o.6 in
     by_earlier o.0 o.1 (omega (arith, o.3, le)) (record {

@@ -144,9 +144,9 @@ module _ (f : FunctionValue) (once : DefinedOnce f) where
         eq-eqb (op_at (inst_at f i).operands j).vreg.number v.number (ap (λ (x : VirtualRegister). x.number) e),
       ) refl in
       let here : 1 ≤ count_by (defines_number v.number) (inst_at f i).operands = count_at (defines_number v.number) (inst_at f i).operands j no_operand lt
-          test in
+      test in
       let insts : count_by (defines_number v.number) (inst_at f i).operands ≤ in_insts v.number = total-at
-          (λ (x : InstValue). count_by (defines_number v.number) x.operands)
+      (λ (x : InstValue). count_by (defines_number v.number) x.operands)
       f.insts i no_inst within in
       let params : count_by (λ w. nat_eq w.number v.number) (block_at f b).params ≤ in_blocks v.number = total-at
       (λ (x : BlockValue). count_by (λ w. nat_eq w.number v.number) x.params) f.blocks b no_block (param_within f b v h) in

@@ -1,13 +1,14 @@
 -- What a listing carries for one vreg, and what each block owes for reads to agree on every path.
 -- Read first: `Carries` in `Carry`, over `Listing`; `BlocksAgree` in `Blocks`; `Progress` in `OperandsPlaced`.
 -- Depends on regalloc2_function: paths, both runs, well-formed functions. The allocator isn't mentioned.
-pub mod Listing
-pub mod Carry
 pub mod BlockByPoints
-pub mod Laws
-pub mod Stores
 pub mod Blocks
-pub mod Sound
+pub mod Carry
 pub mod Instruction
-pub mod OperandsPlaced
+pub mod Laws
+pub mod Listing
 pub mod Live
+pub mod OperandsPlaced
+pub mod Sound
+pub mod Stores
+pub mod Values

@@ -7,6 +7,8 @@ ghost use Rattle.regalloc2_semantics.specs.Laws.{AgreeingReadsFindEarlier, Reads
 
 use regalloc2_function::{agrees_where_numbers_do, finds_earlier_writes};
 
+pub mod values;
+
 /// A law: in a well-formed function each use that finds a write finds one of an earlier step, so both runs read numbers
 /// that a meaning gives; and where every use finds a write, reads agree on every path if both runs read the same numbers,
 /// whatever the instructions mean.

@@ -1,12 +1,14 @@
 -- Lemmas for decoding and encoding: stored numbers name one function, and an encoded function passes the tests.
 -- Read first: `function-named` in `SameNames`, `sound` in `Storable`, `kept-whole` in `Whole`.
 -- Depends on the specs. `Lists`, `FilledLists`, `EncodedLists`, `Indexes` and `Blocks` are loops over lists.
-pub mod Lists
+pub mod Blocks
+pub mod EncodedLists
+pub mod FilledLists
+pub mod FlatLemmas
 pub mod Given
 pub mod Indexes
-pub mod EncodedLists
-pub mod Blocks
-pub mod FilledLists
-pub mod Whole
+pub mod Lists
 pub mod SameNames
 pub mod Storable
+pub mod TableFunctionLemmas
+pub mod Whole

@@ -4,9 +4,11 @@
 mod data;
 mod decode;
 mod encode;
+pub mod flat;
 mod from_function;
 mod from_json;
 mod json_outputs;
+pub mod table_function;
 mod tables;
 mod validate;
 

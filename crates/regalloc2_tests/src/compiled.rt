@@ -1,6 +1,6 @@
 //! What `compile` answers to texts.
 
-use compile_program::{Action, Task, answer};
+use codegen::program::{Action, Task, answer};
 use std::alloc::Global;
 use std::io::{self, Write};
 use std::str;

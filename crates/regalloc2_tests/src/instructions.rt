@@ -7,7 +7,7 @@ use super::random::{FIRST_SLOT, Random, any_class, preg};
 use regalloc2::{
     Operand, OperandConstraint, OperandKind, OperandPos, PReg, PRegSet, RegClass, VReg,
 };
-use regalloc2_table::TableInst;
+use regalloc2_serialize::table_function::TableInst;
 use std::alloc::Global;
 
 /// The numbers of registers, which not every machine has, and of fixed stack slots.

@@ -4,7 +4,7 @@ use super::calls::run_fitting;
 use super::random::integer_machine;
 use super::rows::{def, read, vreg};
 use regalloc2::Operand;
-use regalloc2_table::{BuildError, TableBuilder, TableFunction};
+use regalloc2_serialize::table_function::{BuildError, TableBuilder, TableFunction};
 use std::alloc::Global;
 
 /// How many places and slots a function gets on so many registers.

@@ -19,10 +19,10 @@ mod random;
 mod refusing;
 mod rows;
 
-use compile_program::agrees_at_random;
+use codegen::program::agrees_at_random;
 use maker::Maker;
 use regalloc2::{allocate, is_framed, run_tested};
-use regalloc2_liveness::decided_by_tree;
+use regalloc2_analysis::liveness::decided_by_tree;
 use std::alloc::Global;
 use std::fmt::Debug;
 use std::io::{self, BufWriter, Write};

@@ -6,7 +6,7 @@ use super::graph::Graph;
 use super::instructions::Draft;
 use super::random::{CLASSES, Random, any_class, any_machine, preg};
 use regalloc2::{Block, MachineEnv, Operand, OperandKind, PRegSet, RegClass, VReg};
-use regalloc2_table::{SlotUnits, TableBuilder, TableFunction, TableInst};
+use regalloc2_serialize::table_function::{SlotUnits, TableBuilder, TableFunction, TableInst};
 use std::alloc::Global;
 
 /// A function that is being made, and its machine.

@@ -1,6 +1,6 @@
 //! What `ra2` answers to words and texts, and where a read or a write fails.
 
-use ra2_program::answer;
+use regalloc2_tool::ra2::answer;
 use std::alloc::{AllocError, Global};
 use std::io::{self, BufWriter, ErrorKind, Read, Write};
 

@@ -2,7 +2,7 @@
 
 ghost use Rattle.std.specs.Prelude.{◌≡◌};
 
-pub use compile_program::Random;
+pub use codegen::program::Random;
 use regalloc2::{MachineEnv, PReg, PRegSet, RegClass};
 use std::alloc::Global;
 

@@ -9,7 +9,7 @@ use regalloc2::cfg::CFGInfo;
 use regalloc2::checker::{Checker, CheckerErrors};
 use regalloc2::ssa::validate_ssa;
 use regalloc2::{Block, Ctx, Operand, Output, RegAllocError, RegClass, VReg, is_framed};
-use regalloc2_table::{BuildError, TableBuilder, TableFunction};
+use regalloc2_serialize::table_function::{BuildError, TableBuilder, TableFunction};
 use std::alloc::Global;
 
 /// An integer virtual register, whose number is taken below 2^20.

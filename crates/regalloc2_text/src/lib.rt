@@ -1,11 +1,13 @@
 //! Functions, machines and outputs as text.
 #![tactic(auto)]
 
+pub mod cursor;
 mod reading;
 mod same;
+pub mod writer;
 mod writing;
 
+pub use crate::cursor::{Expected, Fault, Found, TextError};
+pub use crate::writer::write_json;
 pub use reading::{Text, read};
-pub use regalloc2_text_cursor::{Expected, Fault, Found, TextError};
-pub use regalloc2_text_writer::write_json;
 pub use writing::{WriteError, write};

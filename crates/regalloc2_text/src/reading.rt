@@ -1,7 +1,7 @@
 //! A function, its machine and an output from a text.
 
 ghost use Rattle.std.specs.Prelude.{ℕ, ◌+◌, ◌≤◌, length, IfErr, IfOk};
-ghost use Rattle.regalloc2_text_cursor.specs.Lines.{IsOnLineBetween};
+ghost use Rattle.regalloc2_text.specs.Cursor.Lines.{IsOnLineBetween};
 
 mod blocks;
 mod draft;
@@ -12,10 +12,10 @@ mod output;
 mod settings;
 mod stored;
 
+use crate::cursor::{Expected, Flaw, Found, TextError, Token, split_line, tokenize};
 use draft::{Draft, LineEffect, is_numbered};
 use regalloc2_function::StoredOutput;
 use regalloc2_serialize::StoredFunction;
-use regalloc2_text_cursor::{Expected, Flaw, Found, TextError, Token, split_line, tokenize};
 use std::alloc::{Allocator, Global};
 
 /// A function with its machine, and an output where the text has one.

@@ -1,11 +1,11 @@
 //! Functions, machines and outputs written as text.
 
+use crate::cursor::TextError;
 use crate::reading::read;
 use crate::same::{same_function, same_outputs};
+use crate::writer::lay_out;
 use regalloc2_function::StoredOutput;
 use regalloc2_serialize::StoredFunction;
-use regalloc2_text_cursor::TextError;
-use regalloc2_text_writer::lay_out;
 use std::alloc::{AllocError, Allocator};
 use std::error::Error;
 use std::fmt;

@@ -2,6 +2,7 @@
 -- Read first: `listing_written` in `ListingLines`, over `OperandPieces` and `WrittenInParts`.
 -- Depends on `Listing` of the specs. `ListedInsts`: the instructions of a block's listing are the function's.
 pub mod ListedInsts
-pub mod WrittenInParts
 pub mod ListingLines
 pub mod OperandPieces
+pub mod Ra2Lemmas
+pub mod WrittenInParts

@@ -1,8 +1,8 @@
 //! Sets of registers, and sparse sets of numbers.
 
 use crate::report::Report;
-use regalloc2_cfg::indexset::{IndexSet, SetBitsIter};
 use regalloc2_names::{PReg, PRegSet, RegClass};
+use regalloc2_shape::indexset::{IndexSet, SetBitsIter};
 use regalloc2_test_alloc::Refusing;
 use std::alloc::{AllocError, Allocator, Global};
 

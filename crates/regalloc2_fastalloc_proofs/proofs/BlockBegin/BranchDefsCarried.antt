@@ -20,8 +20,8 @@ use Rattle.regalloc2_semantics.proofs.CarryRules.{carries_weaken}
 use Rattle.regalloc2_semantics.proofs.SingleDef.{DefinesAt, Made, one_made, one_operand, one_param, not_both}
 use Rattle.regalloc2_semantics.proofs.SingleDef.Made.{by_operand}
 use Rattle.regalloc2_semantics.proofs.StoresInFront.{carries_stores, in_order}
-use Rattle.regalloc2_branch_defs.specs.BranchDefs.{DefinesNumber, IsEdgeInto, IsUsedElsewhere, fixed_definition}
-use Rattle.regalloc2_branch_defs.proofs.EdgeNotes.{fixed_defines}
+use Rattle.regalloc2_analysis.specs.BranchDefs.BranchDefs.{DefinesNumber, IsEdgeInto, IsUsedElsewhere, fixed_definition}
+use Rattle.regalloc2_analysis.proofs.BranchDefsLemmas.EdgeNotes.{fixed_defines}
 use Rattle.regalloc2_fastalloc_state.specs.StateParts.{slot_name}
 use Rattle.regalloc2_fastalloc_proofs.specs.InstSteps.{StateValue}
 use Rattle.regalloc2_names.specs.Register.{no_vreg}

@@ -73,30 +73,30 @@ module _ (Known : VirtualRegister → Type 0) (ops : List OperandValue) (tame : 
       ((r : Register) → is_def (op_at ops j).kind ≡ true → alloc_of old.places (op_at ops j).vreg.number ≡ InRegister r → ⊥) → InNone D here → InNone E there
   processes_operand_none D E j here there t u old new (a_register q silent is written eu en) less back long away h k lk done def kind r at = elim
       (cases_eq k j) [
-    | inl e ↦ no_fixed (op_at ops k).constraint q kind (ap (λ (x : ℕ). (op_at ops x).constraint) e ∙ is)
-    | inr ne ↦ h k lk (back k done ne) def kind r (sym (get_or-set_other here j k (InRegister q) NoPlace ne) ∙ ap (λ l. at_place l k) (sym written) ∙ at)
-  ]
+        | inl e ↦ no_fixed (op_at ops k).constraint q kind (ap (λ (x : ℕ). (op_at ops x).constraint) e ∙ is)
+        | inr ne ↦ h k lk (back k done ne) def kind r (sym (get_or-set_other here j k (InRegister q) NoPlace ne) ∙ ap (λ l. at_place l k) (sym written) ∙ at)
+      ]
   processes_operand_none D E j here there t u old new (a_use p reads places written) less back long away h k lk done def kind r at = elim (cases_eq k j) [
     | inl e ↦ both_ways (is_def (op_at ops k).kind) (ap (λ (x : ℕ). is_def (op_at ops x).kind) e ∙ reads_use (op_at ops j) reads) def
     | inr ne ↦ h k lk (back k done ne) def kind r (sym (get_or-set_other here j k p NoPlace ne) ∙ ap (λ l. at_place l k) (sym written) ∙ at)
   ]
   processes_operand_none D E j here there t u old new (a_def p defines plain places written) less back long away h k lk done def kind r at = elim
       (cases_eq k j) [
-    | inl e ↦ placed_none j p t u old new less defines (λ q. away q defines) places (op_at ops j).constraint refl
-        (subst (λ (x : ℕ). IsAnyOrStack (op_at ops x).constraint) e kind) r
-        (sym (get_or-set_same here j p NoPlace (omega (arith, long, less))) ∙ ap (at_place (set here j p)) (sym e) ∙ ap (λ l. at_place l k) (sym written) ∙ at)
-    | inr ne ↦ h k lk (back k done ne) def kind r (sym (get_or-set_other here j k p NoPlace ne) ∙ ap (λ l. at_place l k) (sym written) ∙ at)
-  ]
+        | inl e ↦ placed_none j p t u old new less defines (λ q. away q defines) places (op_at ops j).constraint refl
+            (subst (λ (x : ℕ). IsAnyOrStack (op_at ops x).constraint) e kind) r
+            (sym (get_or-set_same here j p NoPlace (omega (arith, long, less))) ∙ ap (at_place (set here j p)) (sym e) ∙ ap (λ l. at_place l k) (sym written) ∙ at)
+        | inr ne ↦ h k lk (back k done ne) def kind r (sym (get_or-set_other here j k p NoPlace ne) ∙ ap (λ l. at_place l k) (sym written) ∙ at)
+      ]
   processes_operand_none D E j here there t u old new (a_reuse n p defines reuses places written) less back long away h k lk done def kind r at = elim
       (cases_eq k j) [
-    | inl e ↦ no_reuse (op_at ops k).constraint n kind (ap (λ (x : ℕ). (op_at ops x).constraint) e ∙ reuses)
-    | inr ne ↦ elim (cases_eq k n) [
-      | inl e ↦ both_ways (is_def (op_at ops k).kind) (ap (λ (x : ℕ). is_def (op_at ops x).kind) e
-          ∙ reads_use (op_at ops n) (tame.named j n less reuses).2) def
-      | inr other ↦ h k lk (back k done ne) def kind r (sym (get_or-set_other here j k p NoPlace ne) ∙ sym (get_or-set_other (set here j p) n k p NoPlace other)
-          ∙ ap (λ l. at_place l k) (sym written) ∙ at)
-    ]
-  ]
+        | inl e ↦ no_reuse (op_at ops k).constraint n kind (ap (λ (x : ℕ). (op_at ops x).constraint) e ∙ reuses)
+        | inr ne ↦ elim (cases_eq k n) [
+          | inl e ↦ both_ways (is_def (op_at ops k).kind) (ap (λ (x : ℕ). is_def (op_at ops x).kind) e
+              ∙ reads_use (op_at ops n) (tame.named j n less reuses).2) def
+          | inr other ↦ h k lk (back k done ne) def kind r (sym (get_or-set_other here j k p NoPlace ne) ∙ sym (get_or-set_other (set here j p) n k p NoPlace other)
+              ∙ ap (λ l. at_place l k) (sym written) ∙ at)
+        ]
+      ]
 
   late_none : (blank : List Place) (t : InstRegs) (old : StateValue) → Calm Known ops tame i is_ret ret true edits (LateDone ops 0) blank t old →
       (k : ℕ) (there : List Place) (u : InstRegs) (m : StateValue) → ProcessesOperandsAt i is_ret true ops blank t old k there u m → k ≤ length ops →

@@ -6,7 +6,7 @@ use Rattle.regalloc2_function.specs.Machine.{MachineValue}
 use Rattle.regalloc2_function.specs.WellFormed.{IsWellFormed, ways_into, last_of}
 use Rattle.regalloc2_semantics.specs.Blocks.{HasEdge, target_at}
 use Rattle.regalloc2_semantics.proofs.Soundness.{entered_once}
-use Rattle.regalloc2_branch_defs.specs.BranchDefs.{IsEdgeInto}
+use Rattle.regalloc2_analysis.specs.BranchDefs.BranchDefs.{IsEdgeInto}
 use Rattle.regalloc2_fastalloc_proofs.proofs.Branches.WellFormedBranch.{few_or_more}
 use Rattle.regalloc2_fastalloc_proofs.proofs.Branches.WellFormedMayBranch.{one_edge_each}
 

@@ -14,7 +14,7 @@ use Rattle.regalloc2_semantics.specs.Blocks.{target_at}
 use Rattle.regalloc2_fastalloc_state.specs.declared.inst_regs.InstRegs.{InstRegs}
 use Rattle.regalloc2_function.specs.FunctionValue.{op_at}
 use Rattle.regalloc2_fastalloc_proofs.specs.InstSteps.{StateValue, ends_block}
-use Rattle.regalloc2_branch_defs.specs.BranchDefs.{IsEdgeInto}
+use Rattle.regalloc2_analysis.specs.BranchDefs.BranchDefs.{IsEdgeInto}
 use Rattle.regalloc2_fastalloc_state.specs.StateParts.{SpillSlotsValue}
 use Rattle.regalloc2_names.specs.Register.{no_vreg}
 use Rattle.regalloc2_fastalloc_proofs.specs.StoreSteps.{IsConcerned, IsStoredFor}
@@ -114,7 +114,7 @@ module _ (rules : WalkRules) where
   branch_kept c b i lt ge less branch t u old new p h ht =
       let e : i + 1 ≡ (block_at f b).range.end = branches b i lt ge less branch in
       processes_branch_kept (rules_of env apart Known (WritesFrom f last c) (MayInBlocks f) (before i) (b, i, lt, ge, less, inl refl))
-          (WritesByBranch f (before i))
+      (WritesByBranch f (before i))
       (λ v is n. inl (inr is)) f
       b i refl
       (λ k j edge within. (params (target_at f b k) j (targets b k lt edge) within, (b, i, k, j, lt, e, branch, refl, edge, within, refl))) t u old new p h ht
@@ -183,7 +183,7 @@ module _ (rules : WalkRules) where
       (λ j k le less within. are_last j k (omega (arith, e, some, le)) less within
       ∙ later_blocks_same f b end before_it s B.range.first places u walks j k le less) in
       let second : WalkKept env Known f (MayInBlocks f) last (b + 1) B.range.first places u = allocs_block_insts_kept b lt before_it s
-          (outside (b + 1) before_it s prev)
+      (outside (b + 1) before_it s prev)
       first B.range.first places u walks (λ j k le less within. are_last j k (omega (arith, e, le)) less within) in
       let can : MayInBlocks f (before B.range.first) = (b, B.range.first, lt, omega arith, some, inl refl) in
       let k = reloads_at_begin_kept (rules_of env apart Known (WritesFrom f last (b + 1)) (MayInBlocks f) (before B.range.first) can)
@@ -206,5 +206,5 @@ module _ (rules : WalkRules) where
       let end : (block_at f b).range.end ≤ length f.insts = end_within f follow b lt in
       let up_to : i ≤ (block_at f b).range.end = walked_to f b p s i q u walk in
       allocs_block_insts_kept b lt p s (outside (b + 1) p s prev) (allocs_blocks_kept blank old h outside (b + 1) p s prev (block_at f b).range.end
-          (start_next f follow b lt)
+      (start_next f follow b lt)
       (λ j k le less inside. are_last j k (omega (arith, le, up_to)) less inside ∙ later_blocks_same f b end p s i q u walk j k le less)) i q u walk are_last

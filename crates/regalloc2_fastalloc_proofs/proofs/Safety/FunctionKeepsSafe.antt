@@ -17,7 +17,7 @@ use Rattle.regalloc2_function.specs.WellFormed.{IsWellFormed, BlocksFollow, last
 use Rattle.regalloc2_semantics.specs.Blocks.{target_at}
 use Rattle.regalloc2_semantics.proofs.SingleDef.{Made}
 use Rattle.regalloc2_semantics.proofs.Order.{ends_before}
-use Rattle.regalloc2_validate.specs.NoLimits.{AreTaken}
+use Rattle.regalloc2_fastalloc_state.specs.Validate.NoLimits.{AreTaken}
 use Rattle.regalloc2_fastalloc_state.specs.StateParts.{no_allocs, no_slots, units_of}
 use Rattle.regalloc2_fastalloc_proofs.specs.InstSteps.{StateValue, ends_block}
 use Rattle.regalloc2_fastalloc_proofs.specs.Safety.{HasMachine, IsSafe}

@@ -12,8 +12,8 @@ use Rattle.regalloc2_function.specs.OutputValue.{MoveValue}
 use Rattle.regalloc2_function.specs.FunctionValue.{op_at}
 use Rattle.regalloc2_semantics.specs.Stores.{Store, moves_by, store_moves, IsOneOf, AreInOrder}
 use Rattle.regalloc2_semantics.specs.Stores.IsOneOf.{first, later}
-use Rattle.regalloc2_branch_defs.specs.BranchDefs.{IsEdgeInto, DefinesNumber, fixed_definition}
-use Rattle.regalloc2_branch_defs.proofs.EdgeNotes.{fixed_defines}
+use Rattle.regalloc2_analysis.specs.BranchDefs.BranchDefs.{IsEdgeInto, DefinesNumber, fixed_definition}
+use Rattle.regalloc2_analysis.proofs.BranchDefsLemmas.EdgeNotes.{fixed_defines}
 use Rattle.regalloc2_fastalloc_state.specs.StateParts.{VRegAllocsValue, SpillSlotsValue, IsSlotOrNone, alloc_of, vreg_of_preg, slot_name}
 use Rattle.regalloc2_fastalloc_proofs.specs.InstSteps.{StateValue, MayHold}
 use Rattle.regalloc2_fastalloc_proofs.specs.StoreSteps.{branch_operands, fixed_or_slot, IsStoredFor, its_own, given, IsConcerned, GetsSlots, no_slot, one_slot}

@@ -5,7 +5,7 @@ use Rattle.regalloc2_function.specs.FunctionValue.{FunctionValue, IsLimited, ins
 use Rattle.regalloc2_function.specs.Machine.{MachineValue}
 use Rattle.regalloc2_function.specs.WellFormed.{IsWellFormed, ReusesAreSound}
 use Rattle.regalloc2_semantics.proofs.SingleDef.{Made}
-use Rattle.regalloc2_validate.specs.NoLimits.{IsTakenOperand, AreTaken}
+use Rattle.regalloc2_fastalloc_state.specs.Validate.NoLimits.{IsTakenOperand, AreTaken}
 use Rattle.regalloc2_function.specs.FunctionValue.{op_at}
 use Rattle.regalloc2_fastalloc_proofs.proofs.Operands.AllocsSoFar.{IsTame}
 use Rattle.regalloc2_fastalloc_proofs.proofs.Operands.WellFormedInsts.{orderly, knows}
@@ -17,7 +17,7 @@ pub tame_at : (env : MachineValue) (f : FunctionValue) → IsLimited f → IsWel
 tame_at env f limited ok taken i lt =
     let o = orderly env f limited ok i lt in
     let t : (k : ℕ) → k < length (inst_at f i).operands → IsTakenOperand (op_at (inst_at f i).operands k) = λ k less. All-get_or IsTakenOperand
-        (inst_at f i).operands k
+    (inst_at f i).operands k
     no_operand less (taken i lt) in
     tame_of env (Made f) (inst_at f i) (knows env f limited ok i lt) o.once o.allocated (All-get_or (ReusesAreSound env) f.insts i no_inst lt ok.reuses)
     (λ k less. (t k less).of_class) (λ k n less. (t k less).unlimited n)

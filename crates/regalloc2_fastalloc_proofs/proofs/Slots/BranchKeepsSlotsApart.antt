@@ -180,7 +180,7 @@ module _ (Known : VirtualRegister → Type 0) (same : (v w : VirtualRegister) �
     gathers_moves_classed f b alike t old h ht k u new given (one_edge j some more w x m n lt prev edge) =
         let p = gathers_moves_classed f b alike t old h ht j w m some prev in
         gathers_edge_moves_classed (block_at f (target_at f b j)).params (arguments_at f b j) (λ i less. alike j i lt less) w m some p.step.classed
-            p.step.inst_regs
+        p.step.inst_regs
         p.passed (length (block_at f (target_at f b j)).params) u new given edge
 
     -- a block's beginning

@@ -12,10 +12,10 @@ use Rattle.regalloc2_function.specs.Following.{end_within}
 use Rattle.regalloc2_function.specs.SourceRun.{arguments_at}
 use Rattle.regalloc2_function.specs.WellFormed.{IsWellFormed, BlocksFollow}
 use Rattle.regalloc2_semantics.specs.Blocks.{HasEdge, target_at}
-use Rattle.regalloc2_branch_defs.specs.BranchDefs.{IsEdgeInto}
+use Rattle.regalloc2_analysis.specs.BranchDefs.BranchDefs.{IsEdgeInto}
 use Rattle.regalloc2_semantics.proofs.SingleDef.{Made, one_made}
 use Rattle.regalloc2_fastalloc_state.specs.StateParts.{SpillSlotsValue, IsSlotOrNone, no_allocs, no_slots, slot_name, units_of}
-use Rattle.regalloc2_validate.specs.NoLimits.{AreTaken}
+use Rattle.regalloc2_fastalloc_state.specs.Validate.NoLimits.{AreTaken}
 use Rattle.regalloc2_fastalloc_proofs.specs.InstSteps.{StateValue}
 use Rattle.regalloc2_fastalloc_proofs.specs.Safety.{HasMachine}
 use Rattle.regalloc2_names.specs.Register.{no_vreg}
@@ -80,7 +80,7 @@ module _ (f : FunctionValue) (Known : VirtualRegister → Type 0) (same : (v w :
       let later = allocs_blocks_classed h prev (start_next f follow b lt) in
       let here : ClassedAt first u = allocs_block_insts_classed b lt before_it s later first places u walks in
       subst (λ (n : ℕ). ClassedAt n t) (sym (starts.block lt)) (stores_branch_defs_classed Known same named (BranchesFrom f first) f b (concerned b)
-          (of_class b)
+      (of_class b)
       begins.middle t begins.stores (reloads_at_begin_classed Known same named (BranchesFrom f first) (before first)
       (block_at f b).params (λ k less. params b k lt less) u begins.middle begins.reloads here))
 

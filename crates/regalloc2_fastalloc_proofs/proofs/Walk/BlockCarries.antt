@@ -22,7 +22,7 @@ use Rattle.regalloc2_function.specs.SourceRun.{arguments_at}
 use Rattle.regalloc2_names.specs.Operand.{OperandValue, is_def}
 use Rattle.regalloc2_names.specs.declared.OperandPos.{OperandPos}
 use Rattle.regalloc2_names.specs.declared.OperandPos.TheVariants.{Early, Late}
-use Rattle.regalloc2_branch_defs.specs.BranchDefs.{IsUsedElsewhere, IsEdgeInto}
+use Rattle.regalloc2_analysis.specs.BranchDefs.BranchDefs.{IsUsedElsewhere, IsEdgeInto}
 use Rattle.std.proofs.lemmas.List.{get_or_default, get_or_past, nil_from_length}
 use Rattle.std.proofs.lemmas.Bool.{cases_Bool, cases_lt}
 use Rattle.regalloc2_semantics.proofs.Order.{ends_within}

@@ -36,8 +36,8 @@ use Rattle.regalloc2_fastalloc_proofs.proofs.Branches.EdgesInto.{one_edge_into}
 use Rattle.regalloc2_fastalloc_proofs.proofs.Branches.BranchInWalk.{branches_carry}
 use Rattle.regalloc2_fastalloc_proofs.proofs.Safety.StoredDefs.{concerned_made, last_within}
 use Rattle.regalloc2_fastalloc_proofs.specs.Safety.{IsSafe}
-use Rattle.regalloc2_validate.specs.Constraints.{BranchDefinesInPlace}
-use Rattle.regalloc2_validate.specs.NoLimits.{AreTaken}
+use Rattle.regalloc2_fastalloc_state.specs.Validate.Constraints.{BranchDefinesInPlace}
+use Rattle.regalloc2_fastalloc_state.specs.Validate.NoLimits.{AreTaken}
 use Rattle.regalloc2_fastalloc_proofs.proofs.Slots.InstsLeaveSlots.{WritesSound, keeps_slots}
 use Rattle.regalloc2_fastalloc_proofs.proofs.Walk.AllBlocksCarry.{begin_between, first_edge, all_blocks_carry}
 use Rattle.regalloc2_fastalloc_proofs.proofs.Slots.LiveInHasSlot.{used_has_slot}

@@ -14,8 +14,8 @@ use Rattle.regalloc2_function.specs.WellFormed.{IsWellFormed, last_of}
 use Rattle.regalloc2_function.specs.FunctionValue.{op_at}
 use Rattle.regalloc2_semantics.proofs.Order.{ends_within}
 use Rattle.regalloc2_semantics.proofs.SingleDef.{Made}
-use Rattle.regalloc2_validate.specs.Constraints.{BranchDefinesInPlace, IsInPlace}
-use Rattle.regalloc2_validate.specs.NoLimits.{AreTaken}
+use Rattle.regalloc2_fastalloc_state.specs.Validate.Constraints.{BranchDefinesInPlace, IsInPlace}
+use Rattle.regalloc2_fastalloc_state.specs.Validate.NoLimits.{AreTaken}
 use Rattle.regalloc2_fastalloc_state.specs.InstRegs.{positions_of}
 use Rattle.regalloc2_fastalloc_proofs.specs.InstSteps.{StateValue, AllocsInst, NeedsFixedReg, ends_block}
 use Rattle.regalloc2_fastalloc_proofs.specs.StoreSteps.{branch_operands}

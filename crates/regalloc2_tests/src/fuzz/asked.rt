@@ -1,6 +1,6 @@
 //! What `ra2` answers to words and a text.
 
-use ra2_program::answer;
+use regalloc2_tool::ra2::answer;
 use std::alloc::{Allocator, Global};
 use std::io::BufWriter;
 use std::{fmt, str};

@@ -1,10 +1,10 @@
 //! The lines of blocks, and what functions keep of them.
 
 ghost use Rattle.std.specs.Prelude.{◌≡◌, ◌≤◌};
-ghost use Rattle.regalloc2_text_cursor.specs.Cursor.{tokens_left};
+ghost use Rattle.regalloc2_text.specs.Cursor.Cursor.{tokens_left};
 
 use super::stored::put;
-use regalloc2_text_cursor::{Cursor, Expected};
+use crate::cursor::{Cursor, Expected};
 use std::alloc::Allocator;
 
 /// What the lines so far say of a block.

@@ -5,7 +5,7 @@ use super::function::DraftFunction;
 use super::insts::opcode_named;
 use super::output::DraftOutput;
 use super::stored::StoredLists;
-use regalloc2_text_cursor::{Cursor, Expected, Flaw, Token};
+use crate::cursor::{Cursor, Expected, Flaw, Token};
 use std::alloc::Allocator;
 
 /// What a line leaves to the lines after it.

@@ -5,8 +5,8 @@ use super::insts::{DraftInst, read_opcode};
 use super::machine::{ByClass, DraftMachine};
 use super::output::{DraftOutput, TOO_MANY};
 use super::settings::{Flags, Settings};
+use crate::cursor::Cursor;
 use regalloc2_serialize::{StoredFunction, StoredInst};
-use regalloc2_text_cursor::Cursor;
 use std::alloc::Allocator;
 
 /// What the lines so far say of a function and its machine.

@@ -1,11 +1,11 @@
 //! The lines of instructions.
 
 ghost use Rattle.std.specs.Prelude.{◌≡◌, ◌≤◌};
-ghost use Rattle.regalloc2_text_cursor.specs.Cursor.{tokens_left};
+ghost use Rattle.regalloc2_text.specs.Cursor.Cursor.{tokens_left};
 
 use super::machine::read_registers;
+use crate::cursor::{Cursor, Expected};
 use regalloc2_serialize::{InstOpcode, StoredInst};
-use regalloc2_text_cursor::{Cursor, Expected};
 use std::alloc::Allocator;
 
 /// The opcode of that name.

@@ -1,11 +1,11 @@
 //! The registers of a machine, from the lines that name them.
 
 ghost use Rattle.std.specs.Prelude.{◌≡◌, ◌≤◌};
-ghost use Rattle.regalloc2_text_cursor.specs.Cursor.{tokens_left};
+ghost use Rattle.regalloc2_text.specs.Cursor.Cursor.{tokens_left};
 
+use crate::cursor::{Cursor, class_named};
 use regalloc2_names::{PReg, RegClass};
 use regalloc2_serialize::StoredMachine;
-use regalloc2_text_cursor::{Cursor, class_named};
 use std::alloc::Allocator;
 
 /// A value of each class.

@@ -1,11 +1,11 @@
 //! The places, moves, slots and debug locations of an output.
 
 ghost use Rattle.std.specs.Prelude.{◌≡◌, ◌≤◌};
-ghost use Rattle.regalloc2_text_cursor.specs.Cursor.{tokens_left};
+ghost use Rattle.regalloc2_text.specs.Cursor.Cursor.{tokens_left};
 
 use super::settings::first_of_kind;
+use crate::cursor::{Cursor, Expected, Flaw, Found};
 use regalloc2_function::StoredOutput;
-use regalloc2_text_cursor::{Cursor, Expected, Flaw, Found};
 use std::alloc::Allocator;
 
 /// What is said where numbers of 32 bits don't count that much.

@@ -1,10 +1,10 @@
 //! What a function has once: its entry, its count of virtual registers, sizes and flags.
 
 ghost use Rattle.std.specs.Prelude.{◌≡◌, ◌≤◌};
-ghost use Rattle.regalloc2_text_cursor.specs.Cursor.{tokens_left};
+ghost use Rattle.regalloc2_text.specs.Cursor.Cursor.{tokens_left};
 
 use super::machine::ByClass;
-use regalloc2_text_cursor::{Cursor, Expected, class_named};
+use crate::cursor::{Cursor, Expected, class_named};
 
 /// Whether what the flags name holds.
 #[derive(Clone, Copy)]

@@ -1,10 +1,10 @@
 //! Lists as numbers, each of which takes the place of what other lines say.
 
 ghost use Rattle.std.specs.Prelude.{◌≡◌, ◌≤◌};
-ghost use Rattle.regalloc2_text_cursor.specs.Cursor.{tokens_left};
+ghost use Rattle.regalloc2_text.specs.Cursor.Cursor.{tokens_left};
 
+use crate::cursor::{Cursor, Expected};
 use regalloc2_serialize::StoredFunction;
-use regalloc2_text_cursor::{Cursor, Expected};
 use std::alloc::Allocator;
 
 /// What is written as numbers and lists of them in brackets.

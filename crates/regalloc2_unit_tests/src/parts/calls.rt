@@ -4,8 +4,8 @@ ghost use Rattle.std.specs.Prelude.{◌≤◌, IfOk};
 
 use super::listed::{Pairs, SLOT, place, write_moves};
 use crate::report::Report;
-use regalloc2_callmoves::{CallFault, CallFrame, schedule};
 use regalloc2_names::{Allocation, PReg, PRegSet, RegClass};
+use regalloc2_parts::callmoves::{CallFault, CallFrame, schedule};
 use regalloc2_test_alloc::Refusing;
 use std::alloc::{AllocError, Global};
 

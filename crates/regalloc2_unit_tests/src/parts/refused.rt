@@ -3,13 +3,13 @@
 use super::listed::{SLOT, resolved};
 use super::structures::three_rings;
 use crate::report::Report;
-use regalloc2_cfg::indexset::IndexSet;
 use regalloc2_function::{MachineEnv, Output, StoredFault, StoredOutput, is_framed};
 use regalloc2_names::{PRegSet, RegAllocError};
 use regalloc2_parts::moves::MoveFault;
 use regalloc2_parts::moves::MoveVecWithScratch::{NoScratch, Scratch};
 use regalloc2_parts::vregset::VRegSet;
 use regalloc2_serialize::{FromValue, SerializableFunction, StoredFunction};
+use regalloc2_shape::indexset::IndexSet;
 use regalloc2_test_alloc::{Call, Refusing, is_each_told};
 use serde_json::Value;
 use std::alloc::{AllocError, Allocator, Global};

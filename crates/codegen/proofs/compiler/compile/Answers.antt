@@ -1,6 +1,6 @@
 use Rattle.std.proofs.Common.{sym, subst}
 use Rattle.regalloc2_function.specs.Views.{machine_of, output_of}
-use Rattle.codegen_ir.specs.Seen.{function_of_procedure}
+use Rattle.codegen_machine.specs.Ir.Seen.{function_of_procedure}
 use Rattle.codegen_machine.specs.Machine.{CodeValue}
 use Rattle.codegen.specs.Behaves.{BehavesAs}
 use Rattle.codegen.proofs.Behaving.{behaves}

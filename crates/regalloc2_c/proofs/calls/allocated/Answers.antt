@@ -2,7 +2,7 @@ use Rattle.std.proofs.Common.{subst, sym}
 use Rattle.regalloc2.specs.Views.{machine_of, output_of}
 use Rattle.regalloc2_serialize.specs.Decoded.{NamesMachine}
 use Rattle.regalloc2_serialize.specs.Tables.{function_of_serializable}
-use Rattle.regalloc2_flat.specs.Flat.{output_words}
+use Rattle.regalloc2_serialize.specs.Flat.Flat.{output_words}
 use Rattle.regalloc2_c.specs.Outcome.{NumbersNameFunction, IsAllocatedOutput, IsAllocateFailure}
 use Rattle.regalloc2_c.proofs.Outcomes.{allocated_words, refused_as, unlisted}
 use Rattle.regalloc2_c.proofs.calls.allocated.Goals as goal

@@ -31,9 +31,11 @@ returns-then-not-is_within_class-clause-fault g c =
     let within : c.loop-k.k < length c.args.output.now.edits.items = omega (arith, less, length-map c.args.output.now.edits.items edit_of) in
     let move = move_is c.args.output.now c.loop-k.k c.index-edit.result.now _ within c.index-edit.ensures in
     let from : c.places-from.result.0 ≡ (move_of_index out c.loop-k.k).from = c.places-from.ensures.from ∙ ap (λ (m : MoveValue). m.from) move in
-    let to : c.places-from.result.1 ≡ (move_of_index out c.loop-k.k).to = c.places-from.ensures.to ∙ ap (λ (m : MoveValue). m.to) move in
-    (less, λ h.
-        false_refutes c.is_within_class.result c.if-not-is_within_class.true c.is_within_class.ensures.1 (λ r s e d. h r s (sym from ∙ e) (sym to ∙ d)))
+    let to : c.places-from.result.1 ≡ (move_of_index out c.loop-k.k).to = c.places-from.ensures.to ∙ ap (λ (m : MoveValue). m.to) move in (
+      less,
+      λ h.
+          false_refutes c.is_within_class.result c.if-not-is_within_class.true c.is_within_class.ensures.1 (λ r s e d. h r s (sym from ∙ e) (sym to ∙ d)),
+    )
 
 pub loop-k-preserved : goal.loop-k-preserved
 loop-k-preserved g c =

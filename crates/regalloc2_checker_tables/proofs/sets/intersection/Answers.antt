@@ -1,5 +1,5 @@
 use Rattle.std.proofs.Common.{ℕ, List, arith, true, ap, sym, ◌∙◌, cond, nat_eq}
-use Rattle.regalloc2_cfg.specs.Numbers.{times_listed, has_number}
+use Rattle.regalloc2_shape.specs.Numbers.{times_listed, has_number}
 use Rattle.regalloc2_checker_tables.specs.EntrySets.{has_bits}
 use Rattle.regalloc2_checker_tables.proofs.Bits.{both-more, both-none, both-skip, both-all, bits-out}
 use Rattle.regalloc2_checker_tables.proofs.Walked.{walked-on}

@@ -1,5 +1,5 @@
 use Rattle.std.proofs.Common.{ℕ, ◌≡◌, ◌<◌, ◌++◌, true}
-use Rattle.regalloc2_cfg.specs.Numbers.{ListsMembers, times_listed}
+use Rattle.regalloc2_shape.specs.Numbers.{ListsMembers, times_listed}
 use Rattle.regalloc2_checker_tables.specs.EntrySets.{has_bits}
 use Rattle.regalloc2_checker_tables.proofs.sets.is_subset.Given as goal
 

@@ -1,5 +1,5 @@
 use Rattle.std.proofs.Common.{ℕ, List, [], ◌∷◌, ◌++◌, arith, ap, ◌∙◌}
-use Rattle.regalloc2_cfg.specs.Numbers.{times_listed}
+use Rattle.regalloc2_shape.specs.Numbers.{times_listed}
 use Rattle.regalloc2_checker_tables.proofs.Bits.{listed-none, listed-more, listed-skip, listed-all}
 use Rattle.regalloc2_checker_tables.proofs.Walked.{walked-on}
 use Rattle.regalloc2_checker_tables.proofs.sets.listed.Goals as goal

@@ -1,5 +1,5 @@
 use Rattle.std.proofs.Common.{ℕ, List, length, arith, ap, ◌∙◌}
-use Rattle.regalloc2_cfg.specs.Numbers.{times_listed}
+use Rattle.regalloc2_shape.specs.Numbers.{times_listed}
 use Rattle.regalloc2_checker_tables.specs.Holding.{held}
 use Rattle.regalloc2_checker_tables.proofs.Walked.{walked-on}
 use Rattle.regalloc2_checker_tables.proofs.Holders.{still-same, still-then, dropped-none, dropped-more}

@@ -1,6 +1,6 @@
 use Rattle.std.proofs.Common.{ℕ, ◌≡◌, ◌<◌, ◌++◌, false, nat_eq, nat_lt, length}
 use Rattle.std.specs.Prelude.{◌&&◌, if◌then◌else◌}
-use Rattle.regalloc2_cfg.specs.Numbers.{ListsMembers, times_listed}
+use Rattle.regalloc2_shape.specs.Numbers.{ListsMembers, times_listed}
 use Rattle.regalloc2_checker_tables.specs.Holding.{held, AreStill}
 use Rattle.regalloc2_checker_tables.proofs.tables.drop_everywhere.Given as goal
 

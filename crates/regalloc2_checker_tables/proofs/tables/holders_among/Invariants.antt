@@ -1,6 +1,6 @@
 use Rattle.std.proofs.Common.{ℕ, ◌≡◌, ◌++◌, nat_lt}
 use Rattle.std.specs.Prelude.{◌&&◌}
-use Rattle.regalloc2_cfg.specs.Numbers.{ListsMembers, times_listed}
+use Rattle.regalloc2_shape.specs.Numbers.{ListsMembers, times_listed}
 use Rattle.regalloc2_checker_tables.specs.Holding.{held, is_in}
 use Rattle.regalloc2_checker_tables.proofs.tables.holders_among.Given as goal
 

@@ -1,5 +1,5 @@
 use Rattle.std.proofs.Common.{ℕ, ◌<◌, take}
-use Rattle.regalloc2_cfg.specs.Numbers.{times_listed}
+use Rattle.regalloc2_shape.specs.Numbers.{times_listed}
 use Rattle.regalloc2_checker_tables.specs.Holding.{AreMoreHomes, IsHome}
 use Rattle.regalloc2_checker_tables.proofs.tables.note_all.Given as goal
 

@@ -1,6 +1,6 @@
 use Rattle.std.proofs.Common.{[], true, ap, sym, ◌∙◌, refl, cond, nat_eq}
 use Rattle.std.specs.Prelude.{slice_set}
-use Rattle.regalloc2_cfg.specs.Numbers.{NumberSet, has_number}
+use Rattle.regalloc2_shape.specs.Numbers.{NumberSet, has_number}
 use Rattle.regalloc2_checker_tables.specs.Holding.{AreMoreHomes}
 use Rattle.regalloc2_checker_tables.proofs.Bits.{read-is}
 use Rattle.regalloc2_checker_tables.proofs.Holders.{homes-same, homes-more, noted-here}

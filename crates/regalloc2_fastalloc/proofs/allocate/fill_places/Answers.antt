@@ -16,7 +16,7 @@ use Rattle.regalloc2_function.specs.Stored.{location_of}
 use Rattle.regalloc2_function.specs.Views.{edit_of, machine_of}
 use Rattle.regalloc2_semantics.proofs.SingleDef.{Made}
 use Rattle.regalloc2_semantics.proofs.Faithful.{faithful}
-use Rattle.regalloc2_live_ranges.proofs.UsesInSSA.{well_formed_ssa}
+use Rattle.regalloc2_analysis.proofs.LiveRangesLemmas.UsesInSSA.{well_formed_ssa}
 use Rattle.regalloc2_fastalloc_state.specs.OutOfResources.{Lacks, SlotsExhaustedWith}
 use Rattle.regalloc2_fastalloc.specs.Promise.{LiveInSlots, ShowsLabels, SlotsAreBounded, HasRegistersForAll}
 use Rattle.regalloc2_fastalloc.specs.ErrorReason.{SomeDoesNotFit, units_at_most}
@@ -39,7 +39,7 @@ use Rattle.regalloc2_fastalloc_proofs.proofs.Safety.MachineRegs.{fit_apart}
 use Rattle.regalloc2_fastalloc_proofs.proofs.Slots.WalkKeepsSlotsApart.{BranchesFrom, walk_classed}
 use Rattle.regalloc2_fastalloc_proofs.proofs.Slots.OutputOwnsSlots.{fits_keeps, made_slots_owned}
 use Rattle.regalloc2_fastalloc_proofs.proofs.Slots.ApartSlotsAreOwned.{OwnsSlots}
-use Rattle.regalloc2_pressure_proofs.proofs.OutOfRegs.{AreFresh, walk_stops}
+use Rattle.regalloc2_fastalloc_proofs.proofs.Pressure.OutOfRegs.{AreFresh, walk_stops}
 use Rattle.regalloc2_fastalloc.proofs.ErrorsHaveReasons.{lacks_where}
 use Rattle.regalloc2_fastalloc.proofs.UsesReadNumbers.{reads_numbers}
 use Rattle.regalloc2_fastalloc.proofs.UnitsNeeded.{sizes_of, sizes_agree, few_slots, full_needs}
@@ -49,8 +49,8 @@ use Rattle.regalloc2_fastalloc_proofs.proofs.Safety.BlocksKeepSafe.{MayInBlocks}
 use Rattle.regalloc2_fastalloc_proofs.proofs.Moves.ScratchRegTaken.{Fit}
 use Rattle.regalloc2_fastalloc_proofs.proofs.Safety.BranchArgsKeepState.{processes_branch_between}
 use Rattle.regalloc2_fastalloc_proofs.proofs.Safety.InstsKeepSafe.{WalkKept}
-use Rattle.regalloc2_unspilled_proofs.proofs.BlockSpillFree.{begins_uncrowded}
-use Rattle.regalloc2_unspilled_proofs.proofs.OneBlock.{unspilled}
+use Rattle.regalloc2_fastalloc_proofs.proofs.Unspilled.BlockSpillFree.{begins_uncrowded}
+use Rattle.regalloc2_fastalloc_proofs.proofs.Unspilled.OneBlock.{unspilled}
 use Rattle.regalloc2_fastalloc.proofs.RoomInTables.{has_room}
 use Rattle.regalloc2_fastalloc.proofs.RegistersForAll.{are_few, asks_for_registers, names_in}
 use Rattle.regalloc2_fastalloc.proofs.allocate.fill_places.Given.{Over}

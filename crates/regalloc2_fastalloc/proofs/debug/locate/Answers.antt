@@ -1,5 +1,5 @@
 use Rattle.std.proofs.Common.{sym, subst}
-use Rattle.regalloc2_live_ranges.specs.declared.KeptLabel.{KeptLabel}
+use Rattle.regalloc2_analysis.specs.declared.live_ranges.KeptLabel.{KeptLabel}
 use Rattle.regalloc2_fastalloc.specs.DebugLocations.{HasPlace}
 use Rattle.regalloc2_fastalloc.proofs.debug.locate.Goals as goal
 

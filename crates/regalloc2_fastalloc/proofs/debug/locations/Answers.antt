@@ -7,8 +7,8 @@ use Rattle.std.proofs.lemmas.List.Sorted.{IsNonDecreasingBy-from_sort, IsPermuta
 use Rattle.regalloc2_function.specs.FunctionValue.{FunctionValue}
 use Rattle.regalloc2_function.specs.OutputValue.{DebugLocation}
 use Rattle.regalloc2_function.specs.Stored.{location_of}
-use Rattle.regalloc2_live_ranges.specs.declared.KeptLabel.{KeptLabel}
-use Rattle.regalloc2_live_ranges.proofs.KeptLabels.{IsOneOf, kept_from}
+use Rattle.regalloc2_analysis.specs.declared.live_ranges.KeptLabel.{KeptLabel}
+use Rattle.regalloc2_analysis.proofs.LiveRangesLemmas.KeptLabels.{IsOneOf, kept_from}
 use Rattle.regalloc2_fastalloc.specs.DebugLocations.{HasPlace, location_shown}
 use Rattle.regalloc2_fastalloc.proofs.DebugLocationsFound.{Parts, has_place, rising_located, stable_located}
 use Rattle.regalloc2_fastalloc.proofs.debug.locations.Goals as goal

@@ -1,7 +1,7 @@
 use Rattle.std.proofs.Common.{refl, sym, ap, ◌∙◌}
 use Rattle.regalloc2_names.specs.Operand.{OperandValue}
 use Rattle.regalloc2_fastalloc_proofs.specs.InstSteps.{named}
-use Rattle.regalloc2_validate.proofs.OperandReads.{read_operand}
+use Rattle.regalloc2_fastalloc_state.proofs.ValidateLemmas.OperandReads.{read_operand}
 use Rattle.regalloc2_fastalloc_walk.proofs.reserve_regs.reserved_by.Goals as goal
 
 pub returns-in_ok-preg-in-Reuse-clause-some : goal.returns-in_ok-preg-in-Reuse-clause-some

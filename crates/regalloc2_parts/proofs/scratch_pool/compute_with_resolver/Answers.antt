@@ -62,4 +62,4 @@ pub returns-clause-plain : goal.returns-clause-plain
 returns-clause-plain g c = λ none apart.
     c.in-Err.ensures.computed.plain none
     (λ k d lt. stay_apart g.M.Fn c.args.resolver.is_stack_alloc c.args.pool.now.fixed_stack c.requires.tells (get_or (moves_listed c.args.moves) k d)
-        (apart k d lt))
+    (apart k d lt))

@@ -16,7 +16,7 @@ loop-inst-preserved g c =
     record {
       pairs = subst (λ zs. AllZip (λ s i. NamesInst s i) (take (c.loop-inst.inst-index + 1) c.args.stored.now) (map inst_of_serializable zs)) (sym e)
           (zip-more (λ s i. NamesInst s i) inst_of_serializable c.args.stored.now c.loop-inst.insts.items c.loop-inst.inst-index c.inst-item.result
-              c.in_ok-inst_from.field-0
+          c.in_ok-inst_from.field-0
           c.loop-inst-test.true c.inst-item.is c.loop-inst.invariant.pairs c.in_ok-inst_from.ensures);
       count = rw (e, length-append, c.loop-inst.invariant.count) refl;
     }

@@ -16,7 +16,7 @@ loop-block-preserved g c =
     record {
       same = subst (λ zs. map (λ v. map (λ k. map vreg_of_bits k.items) v.items) zs ≡ map (λ b. (block_of_serializable b).arguments) (take (i + 1) all)) (sym e)
           (map-more (λ v. map (λ k. map vreg_of_bits k.items) v.items) (λ b. (block_of_serializable b).arguments) done all i one c.block-item.result
-              c.loop-block-test.true
+          c.loop-block-test.true
           c.block-item.is (c.in_ok-words_of_lists.ensures.vregs ∙ ap (map (λ v. v.items)) c.as_slice.ensures.value) c.loop-block.invariant.same);
       names = subst (λ zs. All (λ v. All (λ k. All IsVRegBits k.items) v.items) zs) (sym e)
           (All-push (λ v. All (λ k. All IsVRegBits k.items) v.items) done one c.loop-block.invariant.names c.in_ok-words_of_lists.ensures.names);

@@ -1,6 +1,6 @@
 use Rattle.std.proofs.Common.{ℕ, List, [], ◌∷◌, ◌++◌, arith, ap, sym, ◌∙◌, refl, subst}
 use Rattle.std.specs.Prelude.{Option}
-use Rattle.regalloc2_cfg.specs.Numbers.{NumberSet}
+use Rattle.regalloc2_shape.specs.Numbers.{NumberSet}
 use Rattle.regalloc2_checker_tables.specs.EntrySets.{has_bits, AreEntrySets, IsGrown}
 use Rattle.regalloc2_checker_tables.proofs.Bits.{added-is, added-more, same-sets}
 use Rattle.regalloc2_checker_tables.proofs.Lone.{known-more}

@@ -1,5 +1,5 @@
 use Rattle.std.proofs.Common.{List, ap, sym, ◌∙◌}
-use Rattle.regalloc2_cfg.specs.Numbers.{NumberSet}
+use Rattle.regalloc2_shape.specs.Numbers.{NumberSet}
 use Rattle.regalloc2_checker_tables.specs.EntrySets.{is_member}
 use Rattle.regalloc2_checker_tables.proofs.sets.Sets.has.Goals as goal
 

@@ -1,5 +1,5 @@
 use Rattle.std.proofs.Common.{ℕ, ◌≡◌, List, false, sym, subst}
-use Rattle.regalloc2_cfg.specs.Numbers.{NumberSet}
+use Rattle.regalloc2_shape.specs.Numbers.{NumberSet}
 use Rattle.regalloc2_checker_tables.specs.EntrySets.{is_member}
 use Rattle.regalloc2_checker_tables.proofs.Bits.{ok-as}
 use Rattle.regalloc2_checker_tables.proofs.Lone.{with-same, set-is}

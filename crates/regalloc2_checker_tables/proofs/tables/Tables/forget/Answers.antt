@@ -1,6 +1,6 @@
 use Rattle.std.proofs.Common.{ℕ, ◌≡◌, ◌<◌, [], length, get_or, arith, true, false, ap, sym, ◌∙◌, refl, subst, nat_eq}
 use Rattle.std.specs.Prelude.{◌&&◌, if◌then◌else◌}
-use Rattle.regalloc2_cfg.specs.Numbers.{NumberSet, has_number}
+use Rattle.regalloc2_shape.specs.Numbers.{NumberSet, has_number}
 use Rattle.regalloc2_checker_tables.specs.Holding.{Holding, held, holds_now, AreKeptTables, HoldsNow}
 use Rattle.regalloc2_checker_tables.proofs.Bits.{read-is}
 use Rattle.regalloc2_checker_tables.proofs.Holders.{dropped-less}

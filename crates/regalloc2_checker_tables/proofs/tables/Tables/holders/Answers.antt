@@ -1,6 +1,6 @@
 use Rattle.std.proofs.Common.{◌<◌, [], length, get_or, arith, ap, sym, ◌∙◌, refl, subst, nat_lt}
 use Rattle.std.specs.Prelude.{◌&&◌}
-use Rattle.regalloc2_cfg.specs.Numbers.{NumberSet, has_number}
+use Rattle.regalloc2_shape.specs.Numbers.{NumberSet, has_number}
 use Rattle.regalloc2_checker_tables.specs.Holding.{Holding, held, holds_now}
 use Rattle.regalloc2_checker_tables.proofs.Bits.{read-is, ok-as}
 use Rattle.regalloc2_checker_tables.proofs.TableLaws.{holders-are}

@@ -5,7 +5,7 @@ use Rattle.regalloc2_function.specs.FunctionValue.{op_at}
 use Rattle.regalloc2_fastalloc_proofs.specs.InstSteps.{StateValue, EvictsOtherVRegs, EvictsFixed, none_cleared, not_fixed, of_fixed, of_reuse}
 use Rattle.regalloc2_fastalloc_proofs.proofs.Evictions.PushedAndRemoved.{same_then}
 use Rattle.regalloc2_fastalloc_walk.specs.StateView.{tables_of}
-use Rattle.regalloc2_validate.proofs.OperandReads.{read_operand, read_vreg}
+use Rattle.regalloc2_fastalloc_state.proofs.ValidateLemmas.OperandReads.{read_operand, read_vreg}
 use Rattle.std.proofs.lemmas.Result.{err_from_is_err_and}
 use Rattle.regalloc2_fastalloc_walk.proofs.RegsReserved.{evicts_none}
 use Rattle.regalloc2_fastalloc_walk.proofs.Steps.{stops_others}

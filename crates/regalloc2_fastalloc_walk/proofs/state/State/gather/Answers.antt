@@ -10,8 +10,8 @@ use Rattle.regalloc2_fastalloc_proofs.specs.BranchSteps.{GathersMoves, no_edge, 
 use Rattle.regalloc2_fastalloc_proofs.specs.InstSteps.{StateValue, no_register}
 use Rattle.std.proofs.lemmas.Result.{err_from_is_err_and}
 use Rattle.regalloc2_fastalloc_proofs.specs.BranchSteps.{GatherEdge}
-use Rattle.regalloc2_branch_defs.specs.Tables.{AreBranchDefsOf}
-use Rattle.regalloc2_branch_defs.specs.declared.BranchDefs.{BranchDefs}
+use Rattle.regalloc2_analysis.specs.BranchDefs.Tables.{AreBranchDefsOf}
+use Rattle.regalloc2_analysis.specs.declared.branch_defs.BranchDefs.{BranchDefs}
 use Rattle.regalloc2_fastalloc_proofs.specs.BlockSteps.{MayBeAllocated}
 use Rattle.regalloc2_fastalloc_walk.proofs.OwnDefs.{own_by, by_own, gathers_as, fails_as}
 use Rattle.regalloc2_fastalloc_walk.specs.OwnDefs.{IsOwnBy}

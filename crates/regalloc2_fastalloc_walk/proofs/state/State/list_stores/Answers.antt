@@ -8,7 +8,7 @@ use Rattle.regalloc2_function.specs.FunctionValue.{FunctionValue, block_at, inst
 use Rattle.regalloc2_function.specs.SourceRun.{arguments_at}
 use Rattle.regalloc2_semantics.specs.Blocks.{target_at}
 use Rattle.regalloc2_semantics.proofs.Soundness.{well_formed_are_sound}
-use Rattle.regalloc2_branch_defs.specs.BranchDefs.{AreStoredOperands}
+use Rattle.regalloc2_analysis.specs.BranchDefs.BranchDefs.{AreStoredOperands}
 use Rattle.regalloc2_fastalloc_proofs.specs.StoreSteps.{branch_operands}
 use Rattle.regalloc2_fastalloc_proofs.proofs.Safety.StateKept.{params_known}
 use Rattle.regalloc2_fastalloc_walk.specs.BranchStores.{ListsParams, own_store}

@@ -16,7 +16,7 @@ returns-clause-outcome g c =
     let S : RegClass → Bool → Place → Type 0 = λ k b q. AddsMoveIf c.args.point k b q c.args.place c.args.inst_regs.now c.add_move_if.new.inst_regs
     (tables_of c.args.self.now) (tables_of c.add_move_if.new.self) in
     let s1 : S c.args.operand.vreg.class c.are_places_different-is_moved.result c.current_alloc-current.result = subst
-        (λ (k : RegClass). S k c.are_places_different-is_moved.result
+    (λ (k : RegClass). S k c.are_places_different-is_moved.result
     c.current_alloc-current.result) c.class.ensures c.in_ok-add_move_if.ensures.outcome in
     let s2 = subst (λ (b : Bool). S c.args.operand.vreg.class b c.current_alloc-current.result) c.are_places_different-is_moved.ensures s1 in
     subst (λ (q : Place). S c.args.operand.vreg.class (not (is_place q c.args.place)) q) at s2
@@ -30,7 +30,7 @@ returns-in_err-add_move_if-clause-outcome g c =
     let e = err_from_is_err_and c.from_residual.result c.from_residual.ensures.1 in
     rw e.1 (λ lacks.
     let s1 : S c.args.operand.vreg.class c.are_places_different-is_moved.result c.current_alloc-current.result = subst
-        (λ (k : RegClass). S k c.are_places_different-is_moved.result
+    (λ (k : RegClass). S k c.are_places_different-is_moved.result
     c.current_alloc-current.result) c.class.ensures (c.in_err-add_move_if.ensures.outcome (sym e.2 ∙ lacks)) in
     let s2 = subst (λ (b : Bool). S c.args.operand.vreg.class b c.current_alloc-current.result) c.are_places_different-is_moved.ensures s1 in
     subst (λ (q : Place). S c.args.operand.vreg.class (not (is_place q c.args.place)) q) at s2)

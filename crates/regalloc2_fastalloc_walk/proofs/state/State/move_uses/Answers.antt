@@ -50,8 +50,11 @@ bounds-allocs-k g c =
     let ops : List OperandValue = c.args.operands.now in
     let h = c.loop-k.invariant.done in
     let met = use_next c.args.point ops c.args.allocs.now c.args.inst_regs.now (tables_of c.args.self.now) c.loop-k.inst_regs (tables_of c.loop-k.self) h.0
-    c.loop-k.k-iterator c.next.new.self (c.in-Some.k, c.in-Some.operand) h.1 h.2 c.in-Some.ensures.steps h.3 in omega (arith, met.inside,
-        c.requires.allocs_long)
+    c.loop-k.k-iterator c.next.new.self (c.in-Some.k, c.in-Some.operand) h.1 h.2 c.in-Some.ensures.steps h.3 in omega (
+      arith,
+      met.inside,
+      c.requires.allocs_long,
+    )
 
 pub offset_bounds-allocs-k : goal.offset_bounds-allocs-k
 offset_bounds-allocs-k g c = omega (arith, bounds-allocs-k g c)
@@ -111,7 +114,7 @@ pub returns-clause-outcome : goal.returns-clause-outcome
 returns-clause-outcome g c =
     let h = c.loop-k.invariant.done in
     uses_all c.args.point c.args.operands.now c.args.allocs.now c.args.inst_regs.now (tables_of c.args.self.now) c.loop-k.inst_regs (tables_of c.loop-k.self)
-        h.0
+    h.0
     c.loop-k.k-iterator h.1 h.2 c.in-None.ensures.steps.0 h.3
 
 -- a use can't be moved

@@ -10,7 +10,7 @@ use Rattle.std.proofs.lemmas.Result.{err_from_is_err_and}
 use Rattle.regalloc2_fastalloc_walk.proofs.OperandOutOfRegs.{stop_use, stop_def, stop_reuse}
 use Rattle.regalloc2_fastalloc_walk.proofs.Steps.{step_ok}
 use Rattle.regalloc2_fastalloc_walk.specs.StateView.{tables_of}
-use Rattle.regalloc2_validate.proofs.OperandReads.{read_operand}
+use Rattle.regalloc2_fastalloc_state.proofs.ValidateLemmas.OperandReads.{read_operand}
 use Rattle.regalloc2_fastalloc_proofs.proofs.Operands.OperandRules.{is_unmarked, op_in_tables, use_in_tables, processes_operand_register}
 use Rattle.regalloc2_fastalloc_proofs.proofs.Operands.OperandRules.{processes_operand_use, processes_operand_def, processes_operand_reuse}
 use Rattle.regalloc2_fastalloc_walk.proofs.state.State.process_operand.Goals as goal
@@ -49,7 +49,7 @@ returns-then-not-is_def-clause-outcome g c =
     let h : c.index-allocs-k.result ≡ slice_index_or c.args.allocs.now c.args.k NoPlace = get_or_read c.args.allocs.now c.args.k c.index-allocs-k.result
     (omega (arith, c.requires.inside, c.requires.allocs_long)) c.index-allocs-k.is NoPlace in
     processes_operand_use c.index-operands-k.result c.index-allocs-k.result o h c.use_request-request.ensures at not_it
-        (sym c.is_def.ensures ∙ c.if-not-is_def.true)
+    (sym c.is_def.ensures ∙ c.if-not-is_def.true)
     c.in_ok-allocs.ensures.outcome
 
 pub returns-then-not-is_def-clause-step : goal.returns-then-not-is_def-clause-step

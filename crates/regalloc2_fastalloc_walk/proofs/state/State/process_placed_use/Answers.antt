@@ -10,7 +10,7 @@ use Rattle.regalloc2_fastalloc_state.specs.declared.request.Requirement.{Require
 use Rattle.regalloc2_fastalloc_state.specs.declared.request.Requirement.TheVariants.{InPReg}
 use Rattle.regalloc2_fastalloc_state.specs.declared.request.OperandRequest.{OperandRequest}
 use Rattle.regalloc2_function.specs.FunctionValue.{op_at}
-use Rattle.regalloc2_validate.proofs.OperandReads.{read_operand}
+use Rattle.regalloc2_fastalloc_state.proofs.ValidateLemmas.OperandReads.{read_operand}
 use Rattle.regalloc2_fastalloc_proofs.specs.InstSteps.{AllocsUse, use_request, a_use}
 use Rattle.regalloc2_fastalloc_proofs.specs.InstSteps.{no_register, AllocUse, at_use}
 use Rattle.regalloc2_fastalloc_walk.specs.StateView.{tables_of}

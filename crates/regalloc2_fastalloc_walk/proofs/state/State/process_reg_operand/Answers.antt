@@ -10,7 +10,7 @@ use Rattle.std.proofs.lemmas.Result.{err_from_is_err_and}
 use Rattle.regalloc2_fastalloc_walk.proofs.OperandOutOfRegs.{stop_use, stop_def}
 use Rattle.regalloc2_fastalloc_walk.proofs.Steps.{step_ok}
 use Rattle.regalloc2_fastalloc_walk.specs.StateView.{tables_of}
-use Rattle.regalloc2_validate.proofs.OperandReads.{read_operand}
+use Rattle.regalloc2_fastalloc_state.proofs.ValidateLemmas.OperandReads.{read_operand}
 use Rattle.regalloc2_fastalloc_proofs.proofs.Operands.OperandRules.{op_in_tables, use_in_tables, processes_operand_use, processes_operand_def}
 use Rattle.regalloc2_fastalloc_walk.proofs.RegOperands.{reg_not_nonallocatable, reg_no_reuse}
 use Rattle.regalloc2_fastalloc_walk.proofs.state.State.process_reg_operand.Goals as goal

@@ -25,7 +25,7 @@ returns-clause-outcome g c =
     let S : RegClass → Bool → Place → Type 0 = λ k b p. AddsMoveIf c.args.point k b s p c.args.inst_regs.now c.add_move_if.new.inst_regs m
     (tables_of c.add_move_if.new.self) in
     let one : S c.args.param.class c.are_places_different-is_moved.result c.current_alloc-current.result = subst
-        (λ (k : RegClass). S k c.are_places_different-is_moved.result
+    (λ (k : RegClass). S k c.are_places_different-is_moved.result
     c.current_alloc-current.result) c.class.ensures c.in_ok-add_move_if.ensures.outcome in
     let two : S c.args.param.class (not (is_place s c.current_alloc-current.result))
     c.current_alloc-current.result = subst (λ (b : Bool). S c.args.param.class b c.current_alloc-current.result) c.are_places_different-is_moved.ensures one in
@@ -53,7 +53,7 @@ returns-in_err-add_move_if-clause-outcome g c =
     let e = err_from_is_err_and c.from_residual-in_err-add_move_if.result c.from_residual-in_err-add_move_if.ensures.1 in
     rw e.1 (λ lacks.
     let one : S c.args.param.class c.are_places_different-is_moved.result c.current_alloc-current.result = subst
-        (λ (k : RegClass). S k c.are_places_different-is_moved.result
+    (λ (k : RegClass). S k c.are_places_different-is_moved.result
     c.current_alloc-current.result) c.class.ensures (c.in_err-add_move_if.ensures.outcome (sym e.2 ∙ lacks)) in
     let two : S c.args.param.class (not (is_place s c.current_alloc-current.result))
     c.current_alloc-current.result = subst (λ (b : Bool). S c.args.param.class b c.current_alloc-current.result) c.are_places_different-is_moved.ensures one in

@@ -3,7 +3,7 @@ use Rattle.std.proofs.lemmas.Result.{err_from_is_err_and}
 use Rattle.regalloc2_fastalloc_walk.specs.StateView.{tables_of}
 use Rattle.regalloc2_fastalloc_walk.proofs.RegsReserved.{awaiting_none, awaiting_more, none_fixed_more, reserving_none, reserving_more, reserves_all}
 use Rattle.regalloc2_fastalloc_walk.proofs.RegsReserved.{reserve_fails_used, reserves_used, some_fixed_more, stops_reserve, used_then}
-use Rattle.regalloc2_validate.proofs.OperandReads.{read_operand}
+use Rattle.regalloc2_fastalloc_state.proofs.ValidateLemmas.OperandReads.{read_operand}
 use Rattle.regalloc2_fastalloc_walk.proofs.state.State.reserve.Goals as goal
 
 pub loop-k-init : goal.loop-k-init

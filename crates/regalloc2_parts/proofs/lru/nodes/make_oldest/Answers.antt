@@ -14,7 +14,7 @@ append_node-requires c = record {
 pub returns-clause-ring : goal.returns-clause-ring
 returns-clause-ring c =
     subst (λ (l : List ℕ). IsRingOfNumbers c.append_node.new.nodes c.args.head (l ++ c.args.number ∷ [])) c.take_out_node.ensures.ring.are
-        c.append_node.ensures.ring
+    c.append_node.ensures.ring
 
 pub returns-clause-few : goal.returns-clause-few
 returns-clause-few c =

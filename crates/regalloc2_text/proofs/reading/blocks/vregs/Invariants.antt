@@ -1,5 +1,5 @@
 use Rattle.std.proofs.Common.{◌≤◌}
-use Rattle.regalloc2_text_cursor.specs.Cursor.{tokens_left}
+use Rattle.regalloc2_text.specs.Cursor.Cursor.{tokens_left}
 use Rattle.regalloc2_text.proofs.reading.blocks.vregs.Given as goal
 
 abbrev pub invariant-vregs : goal.invariant-vregs

@@ -46,7 +46,7 @@ returns-then-not-has_stack_to_stack g c =
     (subst (λ f. AreSeenApart (λ p b. goal.IsStackAlloc-post g f p b) c.as_slice-list.result.now) c.in_ok-chosen.ensures.stack
     (c.if-not-has_stack_to_stack.ensures.none refl)) in
     let h = computes_at_once reg slots stack (InRegister self.borrowed_scratch_reg) (moves_listed c.args.moves) made (has_scratch c.args.moves)
-        self.find_free_reg
+    self.find_free_reg
     after.find_free_reg self.get_stackslot after.get_stackslot
     (chosen reg slots stack (InRegister self.borrowed_scratch_reg) c.args.moves made self.find_free_reg after.find_free_reg self.get_stackslot
     after.get_stackslot c.requires.owes c.requires.runnable c.in_ok-chosen.ensures.chosen)
@@ -81,12 +81,12 @@ returns-in_err-hand_out g c =
     let last = c.hand_out.new.self in
     let made = c.in_ok-chosen.chosen.items in
     let ch : Chosen reg slots stack (InRegister self.borrowed_scratch_reg) (moves_listed c.args.moves) (has_scratch c.args.moves) self.find_free_reg
-        mid.find_free_reg
+    mid.find_free_reg
     self.get_stackslot mid.get_stackslot made =
     chosen reg slots stack (InRegister self.borrowed_scratch_reg) c.args.moves made self.find_free_reg mid.find_free_reg self.get_stackslot mid.get_stackslot
     c.requires.owes c.requires.runnable c.in_ok-chosen.ensures.chosen in
     let h = computes_refused reg slots stack (InRegister self.borrowed_scratch_reg) (moves_listed c.args.moves) made (has_scratch c.args.moves)
-        self.find_free_reg
+    self.find_free_reg
     mid.find_free_reg last.find_free_reg self.get_stackslot mid.get_stackslot last.get_stackslot ch c.in_err-hand_out.ensures.none.1 in
     let p = err_from_is_err_and c.from_residual-in_err-hand_out.result c.from_residual-in_err-hand_out.ensures.1 in
     let some : AreApartInMemory stack made → ⊥ =
@@ -113,7 +113,7 @@ expand-requires g c =
     let last = c.hand_out.new.self in
     let made = c.in_ok-chosen.chosen.items in
     let ch : Chosen reg slots stack (InRegister self.borrowed_scratch_reg) (moves_listed c.args.moves) (has_scratch c.args.moves) self.find_free_reg
-        mid.find_free_reg
+    mid.find_free_reg
     self.get_stackslot mid.get_stackslot made =
     chosen reg slots stack (InRegister self.borrowed_scratch_reg) c.args.moves made self.find_free_reg mid.find_free_reg self.get_stackslot mid.get_stackslot
     c.requires.owes c.requires.runnable c.in_ok-chosen.ensures.chosen in
@@ -145,7 +145,7 @@ returns g c =
     let last = c.hand_out.new.self in
     let made = c.in_ok-chosen.chosen.items in
     let ch : Chosen reg slots stack (InRegister self.borrowed_scratch_reg) (moves_listed c.args.moves) (has_scratch c.args.moves) self.find_free_reg
-        mid.find_free_reg
+    mid.find_free_reg
     self.get_stackslot mid.get_stackslot made =
     chosen reg slots stack (InRegister self.borrowed_scratch_reg) c.args.moves made self.find_free_reg mid.find_free_reg self.get_stackslot mid.get_stackslot
     c.requires.owes c.requires.runnable c.in_ok-chosen.ensures.chosen in

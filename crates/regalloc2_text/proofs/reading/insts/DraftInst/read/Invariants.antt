@@ -1,4 +1,4 @@
-use Rattle.regalloc2_text_cursor.specs.Cursor.{tokens_left}
+use Rattle.regalloc2_text.specs.Cursor.Cursor.{tokens_left}
 use Rattle.regalloc2_text.proofs.reading.insts.DraftInst.read.Given as goal
 
 abbrev pub decreases-parts : goal.decreases-parts

@@ -1,5 +1,5 @@
 use Rattle.std.proofs.Common.{◌≤◌}
-use Rattle.regalloc2_text_cursor.specs.Cursor.{tokens_left}
+use Rattle.regalloc2_text.specs.Cursor.Cursor.{tokens_left}
 use Rattle.regalloc2_text.proofs.reading.insts.DraftInst.read_operands.Given as goal
 
 abbrev pub invariant-operands : goal.invariant-operands

@@ -1,4 +1,4 @@
-use Rattle.regalloc2_text_cursor.specs.Cursor.{tokens_left}
+use Rattle.regalloc2_text.specs.Cursor.Cursor.{tokens_left}
 use Rattle.regalloc2_text.proofs.reading.settings.Settings.read_sizes.Given as goal
 
 abbrev pub decreases-sizes : goal.decreases-sizes

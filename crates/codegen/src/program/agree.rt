@@ -1,0 +1,41 @@
+//! A function and its code, run beside one another.
+
+use super::random::random_program;
+use crate::compile;
+use codegen_machine::Code;
+use codegen_machine::ir::Procedure;
+use codegen_machine::run::{Standing, run_code, run_procedure};
+use codegen_machine::text::read_procedure;
+use std::alloc::{AllocError, Global};
+
+/// After how many steps a run of a function is given up.
+const STEPS: u64 = 1_000_000;
+
+/// After how many a run of its code is, which makes several for each.
+const CODE_STEPS: u64 = 100_000_000;
+
+/// How runs of a function and of its code stand after many steps.
+pub fn run_both(
+    alloc: Global,
+    procedure: &Procedure,
+    code: &Code,
+    arguments: &[u64],
+) -> Result<(Standing, Standing), AllocError> {
+    let source = run_procedure(alloc, procedure, arguments, STEPS)?;
+    let steps = if source == Standing::Running {
+        STEPS
+    } else {
+        CODE_STEPS
+    };
+    Ok((source, run_code(alloc, code, arguments, steps)?))
+}
+
+/// Whether the function of a seed is read and compiled, and it and its code return one number. Nothing if one of that fails.
+pub fn agrees_at_random(alloc: Global, seed: u64) -> Option<bool> {
+    let text = random_program(alloc, seed).ok()?;
+    let procedure = read_procedure(alloc, text.as_str(), 1).ok()?;
+    let code = compile(alloc, &procedure).ok()?;
+    let arguments = [seed, u64::MAX - seed, 1];
+    let (source, target) = run_both(alloc, &procedure, &code, &arguments).ok()?;
+    Some(source == target && matches!(source, Standing::Returned(_)))
+}

@@ -1,0 +1,73 @@
+-- How runs stand, once they are over and before.
+use Rattle.std.proofs.Common.{ℕ, zero, suc, ◌≡◌, ◌+◌, ◌-◌, ◌<◌, refl, ap, sym, ◌∙◌, arith}
+use Rattle.std.specs.Prelude.{List}
+use Rattle.regalloc2_function.specs.FunctionValue.{FunctionValue}
+use Rattle.codegen_machine.specs.Ir.Numbers.{RunOutcome, Running as runs, further}
+use Rattle.codegen_machine.specs.Ir.Meaning.{ProcedureState, procedure_run, procedure_step}
+use Rattle.codegen_machine.specs.declared.ir.operation.Operation.{Operation}
+use Rattle.codegen_machine.specs.Machine.{CodeValue, MachineState, machine_run, machine_step}
+use Rattle.codegen_machine.specs.Run.Runs.{standing_of, run_outcome}
+use Rattle.codegen_machine.specs.declared.run.standing.Standing.{Standing}
+use Rattle.codegen_machine.specs.declared.run.standing.Standing.TheVariants.{Running, Returned, Stuck}
+
+-- what is over stands as it did, however it would go on
+pub stopped : {S : Type 0} (r : Standing) (s : S) (go : S → RunOutcome S) → (r ≡ Running → ⊥) → r ≡ standing_of (further (run_outcome r s) go)
+stopped Running s go over = absurd (over refl)
+stopped (Returned n) s go over = refl
+stopped Stuck s go over = refl
+
+-- and is that outcome
+pub over_stays : {S : Type 0} (r : Standing) (s : S) (go : S → RunOutcome S) → (r ≡ Running → ⊥) → further (run_outcome r s) go ≡ run_outcome r s
+over_stays Running s go over = absurd (over refl)
+over_stays (Returned n) s go over = refl
+over_stays Stuck s go over = refl
+
+pub stands_so : {S : Type 0} (r : Standing) (s : S) → r ≡ standing_of (run_outcome r s)
+stands_so Running s = refl
+stands_so (Returned n) s = refl
+stands_so Stuck s = refl
+
+-- a run of a function that is over after so many steps is so after more
+run_stays : (f : FunctionValue) (os : List Operation) (args : ℕ → ℕ) (first : ProcedureState) (n k : ℕ) (r : Standing) (s : ProcedureState) →
+    (r ≡ Running → ⊥) → procedure_run f os args n first ≡ run_outcome r s → procedure_run f os args (n + k) first ≡ run_outcome r s
+unfolding procedure_run
+run_stays f os args first n zero r s over is = let e : n + 0 ≡ n = omega arith in rw e is
+run_stays f os args first n (suc k) r s over is =
+    let e : n + suc k ≡ suc (n + k) = omega arith in
+    rw e (ap (λ o. further o (procedure_step f os args)) (run_stays f os args first n k r s over is) ∙ over_stays r s _ over)
+
+-- a step more
+pub run_more : (f : FunctionValue) (os : List Operation) (args : ℕ → ℕ) (first : ProcedureState) (n : ℕ) (r : Standing) (s t : ProcedureState) →
+    procedure_run f os args n first ≡ runs s → procedure_step f os args s ≡ run_outcome r t → procedure_run f os args (n + 1) first ≡ run_outcome r t
+unfolding procedure_run
+run_more f os args first n r s t is step =
+    let e : n + 1 ≡ suc n = omega arith in
+    rw e (ap (λ o. further o (procedure_step f os args)) is ∙ step)
+
+-- and the last one
+pub run_ends : (f : FunctionValue) (os : List Operation) (args : ℕ → ℕ) (first : ProcedureState) (n steps : ℕ) (r : Standing) (s t : ProcedureState) →
+    n < steps → procedure_run f os args n first ≡ runs s → procedure_step f os args s ≡ run_outcome r t → (r ≡ Running → ⊥) →
+    r ≡ standing_of (procedure_run f os args steps first)
+run_ends f os args first n steps r s t less is step over =
+    let e : (n + 1) + (steps - (n + 1)) ≡ steps = omega arith in
+    let all = run_stays f os args first (n + 1) (steps - (n + 1)) r t over (run_more f os args first n r s t is step) in
+    stands_so r t ∙ ap standing_of (sym (rw e at all))
+
+-- no step
+pub run_none : (f : FunctionValue) (os : List Operation) (args : ℕ → ℕ) (first : ProcedureState) → procedure_run f os args 0 first ≡ runs first
+unfolding procedure_run
+run_none f os args first = refl
+
+-- a run of the machine from its first step on, where it has more steps to make
+pub machine_more : (code : CodeValue) (args : ℕ → ℕ) (n : ℕ) (r : Standing) (s t : MachineState) → 0 < n → machine_step code args s ≡ run_outcome r t →
+    machine_run code args n s ≡ further (run_outcome r t) (machine_run code args (n - 1))
+unfolding machine_run
+machine_more code args zero r s t some step = absurd (omega arith)
+machine_more code args (suc n) r s t some step =
+    let e : suc n - 1 ≡ n = omega arith in
+    rw e (ap (λ o. further o (machine_run code args n)) step)
+
+-- and where it has none
+pub machine_none : (code : CodeValue) (args : ℕ → ℕ) (s : MachineState) → machine_run code args 0 s ≡ runs s
+unfolding machine_run
+machine_none code args s = refl

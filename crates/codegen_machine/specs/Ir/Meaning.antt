@@ -1,0 +1,69 @@
+-- What a procedure does: an interpreter that makes a step for each line.
+use Rattle.std.specs.Prelude.{ℕ, zero, suc, ◌+◌, nat_eq, if◌then◌else◌, List, slice_get, Option, None, Some}
+use Rattle.regalloc2_names.specs.Register.{VirtualRegister}
+use Rattle.regalloc2_function.specs.FunctionValue.{FunctionValue, block_at}
+use Rattle.regalloc2_function.specs.Path.{Location, first_of}
+use Rattle.regalloc2_function.specs.SourceRun.{arguments_at}
+use Rattle.regalloc2_semantics.specs.Values.Interpreters.{number_set, passed_on}
+use Rattle.codegen_machine.specs.Ir.Numbers.{RunOutcome, Running, Returned, Stuck, further, computed, shifted, condition_holds, truth}
+use Rattle.codegen_machine.specs.declared.ir.operation.Operation.{Operation}
+use Rattle.codegen_machine.specs.declared.ir.operation.Operation.TheVariants.{Argument, Constant, Copy, Compute, Shift, Compare, Select, Jump, BranchIf, BranchIfHolds}
+use Rattle.codegen_machine.specs.declared.ir.operation.Operation.TheVariants.{Return}
+use Rattle.codegen_machine.specs.declared.ir.operation.Count.{Count}
+use Rattle.codegen_machine.specs.declared.ir.operation.Count.TheVariants.{VReg as CountIn, Number as CountOf}
+use Rattle.codegen_machine.specs.declared.ir.operation.Right.{Right}
+use Rattle.codegen_machine.specs.declared.ir.operation.Right.TheVariants.{VReg, Number}
+
+-- where a run is, and the numbers of the virtual registers
+pub record ProcedureState : Type 0 where
+  pub at : Location
+  pub numbers : VirtualRegister → ℕ
+
+-- the next line of the block, where a virtual register has been written
+abbrev pub onward : ProcedureState → VirtualRegister → ℕ → RunOutcome ProcedureState
+onward s v n = Running (record { at = record { block = s.at.block; inst = s.at.inst + 1 }; numbers = number_set s.numbers v n })
+
+-- the first line of the successor at a position, whose parameters take the arguments, all at once
+abbrev pub entered : FunctionValue → ProcedureState → ℕ → Option ℕ → RunOutcome ProcedureState
+entered f s k None = Stuck
+entered f s k (Some b) = Running (record {
+  at = first_of f b;
+  numbers = passed_on (block_at f b).params (arguments_at f s.at.block k) s.numbers s.numbers;
+})
+
+abbrev pub along : FunctionValue → ProcedureState → ℕ → RunOutcome ProcedureState
+along f s k = entered f s k (slice_get (block_at f s.at.block).succs k)
+
+-- a second number, where virtual registers have these
+abbrev pub right_number : (VirtualRegister → ℕ) → Right → ℕ
+right_number numbers (VReg v) = numbers v
+right_number numbers (Number n) = n
+
+-- and a count of places
+abbrev pub count_number : (VirtualRegister → ℕ) → Count → ℕ
+count_number numbers (CountIn v) = numbers v
+count_number numbers (CountOf n) = n
+
+-- what a line does; the arguments are given by their numbers
+abbrev pub done : FunctionValue → (ℕ → ℕ) → Option Operation → ProcedureState → RunOutcome ProcedureState
+done f args None s = Stuck
+done f args (Some (Argument to k)) s = onward s to (args k)
+done f args (Some (Constant to n)) s = onward s to n
+done f args (Some (Copy to from)) s = onward s to (s.numbers from)
+done f args (Some (Compute o to left right)) s = onward s to (computed o (s.numbers left) (right_number s.numbers right))
+done f args (Some (Shift o to left count)) s = onward s to (shifted o (s.numbers left) (count_number s.numbers count))
+done f args (Some (Compare c to left right)) s = onward s to (truth (condition_holds c (s.numbers left) (right_number s.numbers right)))
+done f args (Some (Select to c one other)) s = onward s to (if nat_eq (s.numbers c) 0 then s.numbers other else s.numbers one)
+done f args (Some Jump) s = along f s 0
+done f args (Some (BranchIf v)) s = along f s (if nat_eq (s.numbers v) 0 then 1 else 0)
+done f args (Some (BranchIfHolds c left right)) s = along f s (if condition_holds c (s.numbers left) (right_number s.numbers right) then 0 else 1)
+done f args (Some (Return v)) s = Returned (s.numbers v)
+
+-- one step: that of the line at which the run is
+abbrev pub procedure_step : FunctionValue → List Operation → (ℕ → ℕ) → ProcedureState → RunOutcome ProcedureState
+procedure_step f operations args s = done f args (slice_get operations s.at.inst) s
+
+-- so many steps
+unfoldable pub procedure_run : FunctionValue → List Operation → (ℕ → ℕ) → ℕ → ProcedureState → RunOutcome ProcedureState
+procedure_run f operations args zero s = Running s
+procedure_run f operations args (suc n) s = further (procedure_run f operations args n s) (procedure_step f operations args)

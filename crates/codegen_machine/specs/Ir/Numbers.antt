@@ -1,0 +1,61 @@
+-- Whole numbers of 64 bits: what operators compute of them, and which conditions hold.
+use Rattle.std.specs.Prelude.{ℕ, ◌+◌, ◌-◌, ◌*◌, ◌/◌, ◌%◌, ◌^◌, Bool, not, nat_eq, nat_lt, nat_le, if◌then◌else◌, bit_and, bit_or, bit_xor}
+use Rattle.codegen_machine.specs.declared.ir.operation.Operator.{Operator}
+use Rattle.codegen_machine.specs.declared.ir.operation.Operator.TheVariants.{Add, Sub, Mul, And, Or, Xor}
+use Rattle.codegen_machine.specs.declared.ir.operation.ShiftOperator.{ShiftOperator}
+use Rattle.codegen_machine.specs.declared.ir.operation.ShiftOperator.TheVariants.{Left, Right, SignedRight}
+use Rattle.codegen_machine.specs.declared.ir.operation.Condition.{Condition}
+use Rattle.codegen_machine.specs.declared.ir.operation.Condition.TheVariants.{Equal, NotEqual, Less, LessOrEqual, Greater, GreaterOrEqual}
+use Rattle.codegen_machine.specs.declared.ir.operation.Condition.TheVariants.{SignedLess, SignedLessOrEqual, SignedGreater, SignedGreaterOrEqual}
+
+-- what an operator computes, modulo 2^64
+abbrev pub computed : Operator → ℕ → ℕ → ℕ
+computed Add a b = (a + b) % 2 ^ 64
+computed Sub a b = (a + (2 ^ 64 - b)) % 2 ^ 64
+computed Mul a b = (a * b) % 2 ^ 64
+computed And a b = bit_and a b
+computed Or a b = bit_or a b
+computed Xor a b = bit_xor a b
+
+-- a number whose bits are moved by a count of places, modulo 64
+abbrev pub shifted : ShiftOperator → ℕ → ℕ → ℕ
+shifted Left a n = (a * 2 ^ (n % 64)) % 2 ^ 64
+shifted Right a n = a / 2 ^ (n % 64)
+shifted SignedRight a n = if nat_lt a (2 ^ 63) then a / 2 ^ (n % 64) else 2 ^ 64 - 1 - (2 ^ 64 - 1 - a) / 2 ^ (n % 64)
+
+-- a number's rank among those with sign: from 2^63 on they come first
+abbrev pub signed_rank : ℕ → ℕ
+signed_rank a = (a + 2 ^ 63) % 2 ^ 64
+
+-- whether a condition holds
+abbrev pub condition_holds : Condition → ℕ → ℕ → Bool
+condition_holds Equal a b = nat_eq a b
+condition_holds NotEqual a b = not (nat_eq a b)
+condition_holds Less a b = nat_lt a b
+condition_holds LessOrEqual a b = nat_le a b
+condition_holds Greater a b = nat_lt b a
+condition_holds GreaterOrEqual a b = nat_le b a
+condition_holds SignedLess a b = nat_lt (signed_rank a) (signed_rank b)
+condition_holds SignedLessOrEqual a b = nat_le (signed_rank a) (signed_rank b)
+condition_holds SignedGreater a b = nat_lt (signed_rank b) (signed_rank a)
+condition_holds SignedGreaterOrEqual a b = nat_le (signed_rank b) (signed_rank a)
+
+-- 1 for what holds, 0 for what doesn't
+abbrev pub truth : Bool → ℕ
+truth b = if b then 1 else 0
+
+-- numbers by number, with one changed
+abbrev pub put : (ℕ → ℕ) → ℕ → ℕ → ℕ → ℕ
+put m k n q = if nat_eq k q then n else m q
+
+-- how a run stands: it goes on in a state, it has ended with a number, or it can't go on
+pub data RunOutcome (S : Type 0) : Type 0 where
+  Running : S → RunOutcome S
+  Returned : ℕ → RunOutcome S
+  Stuck : RunOutcome S
+
+-- goes on where it still runs
+abbrev pub further : {S : Type 0} → RunOutcome S → (S → RunOutcome S) → RunOutcome S
+further (Running s) go = go s
+further (Returned n) go = Returned n
+further Stuck go = Stuck

@@ -1,0 +1,57 @@
+-- What an operation reads and writes, as the allocator is told.
+use Rattle.std.specs.Prelude.{Bool, true, false, List, [], ◌∷◌}
+use Rattle.regalloc2_names.specs.Register.{VirtualRegister}
+use Rattle.regalloc2_names.specs.Operand.{OperandValue}
+use Rattle.regalloc2_names.specs.declared.OperandConstraint.{OperandConstraint}
+use Rattle.regalloc2_names.specs.declared.OperandConstraint.TheVariants.{Any, Reg, FixedReg, Reuse}
+use Rattle.regalloc2_names.specs.declared.OperandKind.TheVariants.{Def, Use}
+use Rattle.regalloc2_names.specs.declared.OperandPos.TheVariants.{Early, Late}
+use Rattle.codegen_machine.specs.declared.ir.operation.Operation.{Operation}
+use Rattle.codegen_machine.specs.declared.ir.operation.Operation.TheVariants.{Argument, Constant, Copy, Compute, Shift, Compare, Select, Jump, BranchIf, BranchIfHolds}
+use Rattle.codegen_machine.specs.declared.ir.operation.Operation.TheVariants.{Return}
+use Rattle.codegen_machine.specs.declared.ir.operation.Count.{Count}
+use Rattle.codegen_machine.specs.declared.ir.operation.Count.TheVariants.{VReg as CountIn, Number as CountOf}
+use Rattle.codegen_machine.specs.declared.ir.operation.Right.{Right}
+use Rattle.codegen_machine.specs.declared.ir.operation.Right.TheVariants.{VReg, Number}
+
+-- a definition at the end of the instruction, and a use at its beginning
+abbrev pub def_in : OperandConstraint → VirtualRegister → OperandValue
+def_in c v = record { vreg = v; constraint = c; kind = Def; position = Late }
+
+abbrev pub use_in : OperandConstraint → VirtualRegister → OperandValue
+use_in c v = record { vreg = v; constraint = c; kind = Use; position = Early }
+
+-- a second number is read from anywhere, unless it is given
+abbrev pub right_in : Right → List OperandValue
+right_in (VReg v) = use_in Any v ∷ []
+right_in (Number n) = []
+
+-- a count of places is read from register 1, unless it is given
+abbrev pub count_in : Count → List OperandValue
+count_in (CountIn v) = use_in (FixedReg (record { number = 1; class = v.class })) v ∷ []
+count_in (CountOf n) = []
+
+abbrev pub operands_of : Operation → List OperandValue
+operands_of (Argument to k) = def_in Reg to ∷ []
+operands_of (Constant to n) = def_in Reg to ∷ []
+operands_of (Copy to from) = def_in Reg to ∷ use_in Any from ∷ []
+operands_of (Compute o to left right) = def_in (Reuse 1) to ∷ use_in Reg left ∷ right_in right
+operands_of (Shift o to left count) = def_in (Reuse 1) to ∷ use_in Reg left ∷ count_in count
+operands_of (Compare c to left right) = def_in Reg to ∷ use_in Reg left ∷ right_in right
+operands_of (Select to c one other) = def_in (Reuse 1) to ∷ use_in Reg one ∷ use_in Any other ∷ use_in Any c ∷ []
+operands_of Jump = []
+operands_of (BranchIf v) = use_in Any v ∷ []
+operands_of (BranchIfHolds c left right) = use_in Reg left ∷ right_in right
+operands_of (Return v) = use_in Any v ∷ []
+
+-- the operations that go on to a successor
+abbrev pub is_jump : Operation → Bool
+is_jump Jump = true
+is_jump (BranchIf v) = true
+is_jump (BranchIfHolds c left right) = true
+is_jump o = false
+
+-- the operation that returns
+abbrev pub is_return : Operation → Bool
+is_return (Return v) = true
+is_return o = false

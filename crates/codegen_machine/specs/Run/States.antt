@@ -1,0 +1,35 @@
+-- The states that the interpreters keep, as states of the specs.
+use Rattle.std.specs.Prelude.{ℕ, ◌≡◌, nat_eq, nat_lt, if◌then◌else◌, Option, None, Some, unwrap_or, slice_index, vec_len}
+use Rattle.std.specs.HashMap.{HashMap, get}
+use Rattle.regalloc2_names.specs.Register.{VirtualRegister}
+use Rattle.regalloc2_names.specs.RegisterBits.{bits_of_vreg}
+use Rattle.codegen_machine.specs.Ir.Meaning.{ProcedureState}
+use Rattle.codegen_machine.specs.Ir.Numbers.{RunOutcome}
+use Rattle.codegen_machine.specs.Machine.{MachineState, is_general}
+use Rattle.codegen_machine.specs.declared.Source.{Source}
+use Rattle.codegen_machine.specs.declared.Source.TheVariants.{Register, Slot, Number}
+use Rattle.codegen_machine.specs.Run.Runs.{run_outcome}
+use Rattle.codegen_machine.specs.declared.run.machine.Machine.{Machine}
+use Rattle.codegen_machine.specs.declared.run.procedure.State.{State}
+use Rattle.codegen_machine.specs.declared.run.standing.Standing.{Standing}
+use Rattle.codegen_machine.specs.declared.run.standing.Standing.TheVariants.{Stuck}
+
+abbrev pub machine_state : Machine → MachineState
+machine_state m = record { pc = m.pc; registers = λ r. slice_index m.registers r; frame = λ k. slice_index m.frame.items k; compared = m.compared }
+
+-- the number of a register for numbers, of a slot of a frame of so many, or the one that is given
+abbrev pub source_number : ℕ → MachineState → Source → Option ℕ
+source_number slots s (Register r) = if is_general r then Some (s.registers r) else None
+source_number slots s (Slot k) = if nat_lt k slots then Some (s.frame k) else None
+source_number slots s (Number n) = Some n
+
+-- what was made is that outcome, stuck where there is no answer, and the frame is as long as before
+abbrev pub MakesOutcome : RunOutcome MachineState → Machine → Machine → Option Standing → Type 0
+MakesOutcome outcome old new answer = (outcome ≡ run_outcome (unwrap_or answer Stuck) (machine_state new)) × (vec_len new.frame ≡ vec_len old.frame)
+
+-- the numbers of virtual registers, which are kept by their words; the others are 0
+abbrev pub numbers_by_vreg : {S : Type 0} → HashMap ℕ ℕ S → VirtualRegister → ℕ
+numbers_by_vreg m v = unwrap_or (get nat_eq m (bits_of_vreg v)) 0
+
+abbrev pub state_of : State → ProcedureState
+state_of s = record { at = record { block = s.block; inst = s.inst }; numbers = numbers_by_vreg s.numbers }

@@ -1,0 +1,120 @@
+-- Instructions as assembly for x86-64, in the syntax of AT&T, which names the source before the destination.
+use Rattle.std.specs.Prelude.{ℕ, ◌+◌, Bool, false, nat_eq, if◌then◌else◌, codes, List, [], ◌∷◌, ◌++◌, length, slice_index_or}
+use Rattle.std.specs.Fmt.{decimal}
+use Rattle.codegen_machine.specs.declared.ir.operation.Operator.{Operator}
+use Rattle.codegen_machine.specs.declared.ir.operation.Operator.TheVariants.{Add, Sub, Mul, And, Or, Xor}
+use Rattle.codegen_machine.specs.declared.ir.operation.ShiftOperator.{ShiftOperator}
+use Rattle.codegen_machine.specs.declared.ir.operation.ShiftOperator.TheVariants.{Left, Right, SignedRight}
+use Rattle.codegen_machine.specs.declared.ir.operation.Condition.{Condition}
+use Rattle.codegen_machine.specs.declared.ir.operation.Condition.TheVariants.{Equal, NotEqual, Less, LessOrEqual, Greater, GreaterOrEqual}
+use Rattle.codegen_machine.specs.declared.ir.operation.Condition.TheVariants.{SignedLess, SignedLessOrEqual, SignedGreater, SignedGreaterOrEqual}
+use Rattle.codegen_machine.specs.declared.Source.{Source}
+use Rattle.codegen_machine.specs.declared.Source.TheVariants.{Register, Slot, Number}
+use Rattle.codegen_machine.specs.declared.Instruction.{Instruction}
+use Rattle.codegen_machine.specs.declared.Instruction.TheVariants as variant
+use Rattle.codegen_machine.specs.declared.Code.{Code}
+
+-- the registers by number
+abbrev pub register_names : List (List ℕ)
+register_names = codes "%rax" ∷ codes "%rcx" ∷ codes "%rdx" ∷ codes "%rbx" ∷ codes "%rsp" ∷ codes "%rbp" ∷ codes "%rsi" ∷ codes "%rdi"
+    ∷ codes "%r8" ∷ codes "%r9" ∷ codes "%r10" ∷ codes "%r11" ∷ codes "%r12" ∷ codes "%r13" ∷ codes "%r14" ∷ codes "%r15" ∷ []
+
+-- their lowest bytes
+abbrev pub byte_names : List (List ℕ)
+byte_names = codes "%al" ∷ codes "%cl" ∷ codes "%dl" ∷ codes "%bl" ∷ codes "%spl" ∷ codes "%bpl" ∷ codes "%sil" ∷ codes "%dil"
+    ∷ codes "%r8b" ∷ codes "%r9b" ∷ codes "%r10b" ∷ codes "%r11b" ∷ codes "%r12b" ∷ codes "%r13b" ∷ codes "%r14b" ∷ codes "%r15b" ∷ []
+
+abbrev pub register_name : ℕ → List ℕ
+register_name r = slice_index_or register_names r (codes "%none")
+
+abbrev pub byte_name : ℕ → List ℕ
+byte_name r = slice_index_or byte_names r (codes "%none")
+
+abbrev pub operator_name : Operator → List ℕ
+operator_name Add = codes "addq"
+operator_name Sub = codes "subq"
+operator_name Mul = codes "imulq"
+operator_name And = codes "andq"
+operator_name Or = codes "orq"
+operator_name Xor = codes "xorq"
+
+abbrev pub shift_name : ShiftOperator → List ℕ
+shift_name Left = codes "shlq"
+shift_name Right = codes "shrq"
+shift_name SignedRight = codes "sarq"
+
+-- the conditions: above and below for numbers without sign, greater and less for those with sign
+abbrev pub condition_letters : Condition → List ℕ
+condition_letters Equal = codes "e"
+condition_letters NotEqual = codes "ne"
+condition_letters Less = codes "b"
+condition_letters LessOrEqual = codes "be"
+condition_letters Greater = codes "a"
+condition_letters GreaterOrEqual = codes "ae"
+condition_letters SignedLess = codes "l"
+condition_letters SignedLessOrEqual = codes "le"
+condition_letters SignedGreater = codes "g"
+condition_letters SignedGreaterOrEqual = codes "ge"
+
+-- eight bytes of memory at a register
+abbrev pub frame_slot_text : ℕ → List ℕ
+frame_slot_text k = codes "8*" ++ decimal k ++ codes "(%rsp)"
+
+abbrev pub source_text : Source → List ℕ
+source_text (Register r) = register_name r
+source_text (Slot k) = frame_slot_text k
+source_text (Number n) = codes "$" ++ decimal n
+
+-- an instruction, as addq %rcx, %rax
+abbrev pub instruction_text : Instruction → List ℕ
+instruction_text (variant.Constant to n) = codes "movabsq $" ++ decimal n ++ codes ", " ++ register_name to
+instruction_text (variant.Clear to) = codes "xorq " ++ register_name to ++ codes ", " ++ register_name to
+instruction_text (variant.Argument to k) = codes "movq 8*" ++ decimal k ++ codes "(%rdi), " ++ register_name to
+instruction_text (variant.Move to from) = codes "movq " ++ register_name from ++ codes ", " ++ register_name to
+instruction_text (variant.Load to k) = codes "movq " ++ frame_slot_text k ++ codes ", " ++ register_name to
+instruction_text (variant.Store k from) = codes "movq " ++ register_name from ++ codes ", " ++ frame_slot_text k
+instruction_text (variant.Compute o to from) = operator_name o ++ codes " " ++ source_text from ++ codes ", " ++ register_name to
+instruction_text (variant.Shift o to) = shift_name o ++ codes " %cl, " ++ register_name to
+instruction_text (variant.ShiftBy o to n) = shift_name o ++ codes " $" ++ decimal n ++ codes ", " ++ register_name to
+instruction_text (variant.Compare left right) = codes "cmpq " ++ source_text right ++ codes ", " ++ register_name left
+instruction_text (variant.Set to c) = codes "set" ++ condition_letters c ++ codes " " ++ byte_name to ++ codes "; movzbq " ++ byte_name to ++ codes ", "
+    ++ register_name to
+instruction_text (variant.MoveIf c to from) = codes "cmov" ++ condition_letters c ++ codes "q " ++ source_text from ++ codes ", " ++ register_name to
+instruction_text (variant.Test from) = codes "cmpq $0, " ++ source_text from
+instruction_text (variant.Jump target) = codes "jmp .L" ++ decimal target
+instruction_text (variant.JumpIf c target) = codes "j" ++ condition_letters c ++ codes " .L" ++ decimal target
+instruction_text variant.Return = codes "jmp .Lreturn"
+
+-- whether an instruction, the one of that number among so many, only goes on to the next line
+abbrev pub is_next : ℕ → ℕ → Instruction → Bool
+is_next count k (variant.Jump target) = nat_eq target (k + 1)
+is_next count k variant.Return = nat_eq (k + 1) count
+is_next count k i = false
+
+-- what is on a line behind its label
+abbrev pub line_rest : ℕ → ℕ → Instruction → List ℕ
+line_rest count k i = if is_next count k i then [] else codes " " ++ instruction_text i
+
+-- a line, with its label; what only goes on to the next line has nothing else
+abbrev pub line_text : ℕ → ℕ → Instruction → List ℕ
+line_text count k i = codes ".L" ++ (decimal k ++ (codes ":" ++ (line_rest count k i ++ 10 ∷ [])))
+
+-- instructions of so many, one on each line, with labels by number from k on
+unfoldable pub lines_text : ℕ → ℕ → List Instruction → List ℕ
+lines_text count k [] = []
+lines_text count k (i ∷ rest) = line_text count k i ++ lines_text count (k + 1) rest
+
+-- how a function begins: what its caller keeps in registers is put aside
+unfoldable pub entry_text : List ℕ
+entry_text = codes "  .globl compiled\ncompiled:\n"
+    ++ codes "  pushq %rbx\n  pushq %rbp\n  pushq %r12\n  pushq %r13\n  pushq %r14\n  pushq %r15\n"
+
+-- how it ends: that is taken back
+unfoldable pub exit_text : List ℕ
+exit_text = codes "  popq %r15\n  popq %r14\n  popq %r13\n  popq %r12\n  popq %rbp\n  popq %rbx\n  ret\n"
+    ++ codes "  .section .note.GNU-stack,\"\",@progbits\n"
+
+-- code as a function: its frame has room for the slots, and is given back before it ends
+abbrev pub assembly_text : Code → List ℕ
+assembly_text c = entry_text ++ (codes "  subq $8*" ++ (decimal c.slots ++ (codes ", %rsp\n" ++ (lines_text (length c.instructions.items) 0 c.instructions.items
+    ++ (codes ".Lreturn:\n  addq $8*" ++ (decimal c.slots ++ (codes ", %rsp\n" ++ exit_text)))))))

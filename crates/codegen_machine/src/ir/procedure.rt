@@ -1,0 +1,256 @@
+//! Functions: blocks of lines.
+
+ghost use Rattle.std.specs.Prelude.{◌≡◌, ◌⊎◌, ◌<◌, ◌^◌, ◌-◌, IfOk, IfErr, IsTrue, All, map, vec_len};
+ghost use Rattle.std.specs.List.{list_all};
+ghost use Rattle.codegen_machine.specs.Ir.Successors.{has_small_number, has_successors, knows_registers, operations_of, wanted_by, IsMalformed};
+
+use super::operation::{Line, Operation, Right};
+use regalloc2::{Block, Function, Inst, InstRange, Operand, PRegSet, RegClass, VReg};
+use std::error::Error;
+use std::fmt;
+
+/// A block of lines.
+#[derive(Drop)]
+pub struct Part {
+    /// Its lines, by their numbers.
+    pub range: InstRange,
+    /// The blocks that may follow.
+    pub succs: Vec<Block>,
+    /// The blocks that it may follow.
+    pub preds: Vec<Block>,
+    /// What takes the arguments with which it is entered.
+    pub params: Vec<VReg>,
+    /// The arguments for each block that may follow.
+    pub arguments: Vec<Vec<VReg>>,
+}
+
+/// A function over whole numbers. It starts at block 0.
+#[derive(Drop)]
+pub struct Procedure {
+    /// Its blocks.
+    pub parts: Vec<Part>,
+    /// Its lines.
+    pub lines: Vec<Line>,
+    /// A number above that of each virtual register.
+    pub num_vregs: usize,
+    pub ghost few_parts: { vec_len parts < 2 ^ 32 - 1 },
+    pub ghost few_lines: { vec_len lines < 2 ^ 30 },
+    pub ghost few_vregs: { num_vregs < 2 ^ 30 },
+    pub ghost known: { IsTrue (list_all (knows_registers num_vregs) lines.items) },
+    pub ghost small: { IsTrue (list_all has_small_number lines.items) },
+    pub ghost successors: { IsTrue (list_all (has_successors (operations_of lines.items)) parts.items) },
+}
+
+/// Why blocks and lines are no function.
+#[derive(Clone, Copy, Debug, PartialEq, Eq)]
+pub enum Malformed {
+    /// There are more than a million blocks, lines or virtual registers.
+    TooLarge,
+    /// A block ends with a branch to a successor that it doesn't have.
+    MissingSuccessor,
+    /// A line names a virtual register whose number isn't below the function's.
+    UnknownRegister,
+    /// A line has a second number of 2^31 or more.
+    LargeNumber,
+}
+
+impl fmt::Display for Malformed {
+    fn fmt<W: fmt::Write>(&self, f: &mut fmt::Formatter<W>) -> fmt::Result {
+        match self {
+            Malformed::TooLarge => write!(f, "the function is too large"),
+            Malformed::MissingSuccessor => write!(f, "a block has too few successors"),
+            Malformed::UnknownRegister => {
+                write!(
+                    f,
+                    "a line names a virtual register that the function doesn't have"
+                )
+            }
+            Malformed::LargeNumber => write!(f, "a line has a number of 2^31 or more"),
+        }
+    }
+}
+
+impl Error for Malformed {}
+
+/// How many successors an operation may go on to.
+fn successors_wanted(operation: Operation) -> usize
+    ensures { result ≡ wanted_by operation }
+{
+    match operation {
+        Operation::Jump => 1,
+        Operation::BranchIf { .. } | Operation::BranchIfHolds { .. } => 2,
+        _ => 0,
+    }
+}
+
+/// Whether a block has the successors that its last line may go on to.
+fn has_them(lines: &[Line], part: &Part) -> bool
+    ensures { result ≡ has_successors (operations_of lines.now) part.now }
+{
+    let end = part.range.end().index();
+    match lines.get(end.saturating_sub(1)) {
+        Some(line) => successors_wanted(line.operation) <= part.succs.len(),
+        None => true,
+    }
+}
+
+/// Whether each block has the successors that its last line may go on to.
+fn all_have_them(lines: &[Line], parts: &[Part]) -> bool
+    ensures { result ≡ list_all (has_successors (operations_of lines.now)) parts.now }
+{
+    parts.iter().all(|part| has_them(lines, part))
+}
+
+/// Whether a line's virtual registers have numbers below `num_vregs`.
+fn knows_registers(line: &Line, num_vregs: usize) -> bool
+    ensures { result ≡ knows_registers num_vregs line.now }
+{
+    line.operands
+        .iter()
+        .all(|operand| operand.vreg().vreg() < num_vregs)
+}
+
+/// Whether a line's second number is below 2^31, if it is given.
+fn has_small_number(line: &Line) -> bool
+    ensures { result ≡ has_small_number line.now }
+{
+    match line.operation {
+        Operation::Compute { right, .. }
+        | Operation::Compare { right, .. }
+        | Operation::BranchIfHolds { right, .. } => match right {
+            Right::VReg(_) => true,
+            Right::Number(number) => number < 1 << 31,
+        },
+        _ => true,
+    }
+}
+
+/// Whether each line's virtual registers have numbers below `num_vregs`.
+fn all_know_registers(lines: &[Line], num_vregs: usize) -> bool
+    ensures { result ≡ list_all (knows_registers num_vregs) lines.now }
+{
+    lines.iter().all(|line| knows_registers(line, num_vregs))
+}
+
+/// Whether each line's second number is below 2^31, if it is given.
+fn all_are_small(lines: &[Line]) -> bool
+    ensures { result ≡ list_all has_small_number lines.now }
+{
+    lines.iter().all(|line| has_small_number(line))
+}
+
+impl Procedure {
+    /// The function of these blocks and lines.
+    ///
+    /// # Errors
+    ///
+    /// The first that holds: `TooLarge`, `MissingSuccessor`, `UnknownRegister`, `LargeNumber`.
+    pub fn new(parts: Vec<Part>, lines: Vec<Line>, num_vregs: usize) -> Result<Procedure, Malformed>
+        ensures ok { IfOk result (λ p. (p.parts ≡ parts) × (p.lines ≡ lines) × (p.num_vregs ≡ num_vregs)) }
+        ensures err { IfErr result (IsMalformed parts.items lines.items num_vregs) }
+    {
+        const MOST: usize = 1_000_000;
+        if parts.len() > MOST || lines.len() > MOST || num_vregs > MOST {
+            return Err(Malformed::TooLarge);
+        }
+        if !all_have_them(&lines, &parts) {
+            return Err(Malformed::MissingSuccessor);
+        }
+        if !all_know_registers(&lines, num_vregs) {
+            return Err(Malformed::UnknownRegister);
+        }
+        if !all_are_small(&lines) {
+            return Err(Malformed::LargeNumber);
+        }
+        Ok(Procedure {
+            parts,
+            lines,
+            num_vregs,
+        })
+    }
+}
+
+impl Function for Procedure {
+    ghost use Rattle.codegen_machine.specs.Ir.Seen.{function_of_procedure, limited_procedure};
+
+    ghost function = { function_of_procedure };
+
+    fn num_insts(&self) -> usize {
+        self.lines.len()
+    }
+
+    fn num_blocks(&self) -> usize {
+        self.parts.len()
+    }
+
+    fn num_vregs(&self) -> usize {
+        self.num_vregs
+    }
+
+    fn entry_block(&self) -> Block {
+        Block::new(0)
+    }
+
+    fn block_insns(&self, block: Block) -> InstRange {
+        self.parts[block.index()].range
+    }
+
+    fn block_succs(&self, block: Block) -> &[Block] {
+        &self.parts[block.index()].succs
+    }
+
+    fn block_preds(&self, block: Block) -> &[Block] {
+        &self.parts[block.index()].preds
+    }
+
+    fn block_params(&self, block: Block) -> &[VReg] {
+        &self.parts[block.index()].params
+    }
+
+    fn is_ret(&self, inst: Inst) -> bool {
+        match self.lines[inst.index()].operation {
+            Operation::Return { .. } => true,
+            _ => false,
+        }
+    }
+
+    fn is_branch(&self, inst: Inst) -> bool {
+        match self.lines[inst.index()].operation {
+            Operation::Jump | Operation::BranchIf { .. } | Operation::BranchIfHolds { .. } => true,
+            _ => false,
+        }
+    }
+
+    fn branch_blockparams(&self, block: Block, _inst: Inst, succ_idx: usize) -> &[VReg] {
+        match self.parts[block.index()].arguments.get(succ_idx) {
+            Some(arguments) => arguments,
+            None => &[],
+        }
+    }
+
+    fn inst_operands(&self, inst: Inst) -> &[Operand] {
+        &self.lines[inst.index()].operands
+    }
+
+    fn inst_clobbers(&self, inst: Inst) -> PRegSet {
+        self.lines[inst.index()].clobbers
+    }
+
+    fn debug_value_labels(&self) -> &[(VReg, Inst, Inst, u32)] {
+        &[]
+    }
+
+    fn spillslot_size(&self, _regclass: RegClass) -> usize {
+        1
+    }
+
+    fn multi_spillslot_named_by_last_slot(&self) -> bool {
+        false
+    }
+
+    fn allow_multiple_vreg_defs(&self) -> bool {
+        false
+    }
+
+    ghost limited = { λ p. limited_procedure p };
+}

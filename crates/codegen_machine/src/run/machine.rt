@@ -1,0 +1,289 @@
+//! The machine, step by step.
+
+ghost use Rattle.std.specs.Prelude.{◌≡◌, ◌+◌, ◌<◌, ◌^◌, IfOk, nat_lt, if◌then◌else◌, replicate, vec_len};
+ghost use Rattle.codegen_machine.specs.Ir.Numbers.{computed, condition_holds, shifted, truth};
+ghost use Rattle.codegen_machine.specs.Machine.{code_of, compared_to, executed, is_general, jumped, machine_run, machine_step};
+ghost use Rattle.codegen_machine.specs.Machine.{frame_stored, with_compared, with_register, with_source, written};
+ghost use Rattle.codegen_machine.specs.Run.Runs.{arguments_of, first_machine, standing_of, run_outcome};
+ghost use Rattle.codegen_machine.specs.Run.States.{machine_state, source_number, MakesOutcome};
+
+use super::numbers::{argument, compute, does_hold, shift};
+use super::standing::Standing;
+use crate::ir::{Condition, Operator, ShiftOperator};
+use crate::{Code, Instruction, Source};
+use std::alloc::{AllocError, Global};
+
+/// Where the machine is, the numbers of its registers and slots, and those last compared, unless they are forgotten.
+#[derive(Drop)]
+pub struct Machine {
+    pc: usize,
+    registers: [u64; 16],
+    frame: Vec<u64>,
+    compared: Option<(u64, u64)>,
+}
+
+/// Whether a register is one for numbers.
+fn is_for_numbers(register: usize) -> bool
+    ensures { result ≡ is_general register }
+{
+    register < 16 && register != 4 && register != 7
+}
+
+impl Machine {
+    /// The number of a register for numbers.
+    fn register(&self, register: usize) -> Option<u64>
+        ensures { result ≡ (if is_general register then Some ((machine_state self.now).registers register) else None) }
+    {
+        if is_for_numbers(register) {
+            self.registers.get(register).copied()
+        } else {
+            None
+        }
+    }
+
+    /// The number of a slot.
+    fn slot(&self, slot: usize) -> Option<u64>
+        ensures { result ≡ (if nat_lt slot (vec_len self.now.frame) then Some ((machine_state self.now).frame slot) else None) }
+    {
+        self.frame.get(slot).copied()
+    }
+
+    /// The number that is read from there.
+    fn source(&self, source: Source) -> Option<u64>
+        ensures { result ≡ source_number (vec_len self.now.frame) (machine_state self.now) source }
+    {
+        match source {
+            Source::Register(register) => self.register(register),
+            Source::Slot(slot) => self.slot(slot),
+            Source::Number(number) => Some(u64::from(number)),
+        }
+    }
+
+    /// Goes on with a register written.
+    fn write(&mut self, to: usize, number: u64, compared: Option<(u64, u64)>) -> Option<Standing>
+        requires room { self.old.pc + 1 < 2 ^ 64 }
+        ensures { MakesOutcome (written (machine_state self.old) to number compared) self.old self.new result }
+    {
+        if !is_for_numbers(to) {
+            return None;
+        }
+        self.registers[to] = number;
+        self.compared = compared;
+        self.pc += 1;
+        Some(Standing::Running)
+    }
+
+    /// Puts the number of a register or a slot into a register.
+    fn fetch(&mut self, to: usize, from: Source) -> Option<Standing>
+        requires room { self.old.pc + 1 < 2 ^ 64 }
+        ensures { let s = machine_state self.old in
+            MakesOutcome (with_source (vec_len self.old.frame) s from (λ n. written s to n s.compared)) self.old self.new result }
+    {
+        let number = self.source(from)?;
+        let compared = self.compared;
+        self.write(to, number, compared)
+    }
+
+    /// Puts the number of a register into a slot.
+    fn store(&mut self, slot: usize, from: usize) -> Option<Standing>
+        requires room { self.old.pc + 1 < 2 ^ 64 }
+        ensures { let s = machine_state self.old in
+            MakesOutcome (with_register s from (λ n. frame_stored (vec_len self.old.frame) s slot n)) self.old self.new result }
+    {
+        let number = self.register(from)?;
+        if slot >= self.frame.len() {
+            return None;
+        }
+        self.frame[slot] = number;
+        self.pc += 1;
+        Some(Standing::Running)
+    }
+
+    /// Computes with a register.
+    fn compute(&mut self, operator: Operator, to: usize, from: Source) -> Option<Standing>
+        requires room { self.old.pc + 1 < 2 ^ 64 }
+        ensures { let s = machine_state self.old in MakesOutcome (with_register s to (λ a. with_source (vec_len self.old.frame) s from
+            (λ b. written s to (computed operator a b) None))) self.old self.new result }
+    {
+        let left = self.register(to)?;
+        let right = self.source(from)?;
+        self.write(to, compute(operator, left, right), None)
+    }
+
+    /// Moves a register's bits by as many places as a number says.
+    fn shift_by(&mut self, operator: ShiftOperator, to: usize, count: u64) -> Option<Standing>
+        requires room { self.old.pc + 1 < 2 ^ 64 }
+        ensures { let s = machine_state self.old in
+            MakesOutcome (with_register s to (λ a. written s to (shifted operator a count) None)) self.old self.new result }
+    {
+        let number = self.register(to)?;
+        self.write(to, shift(operator, number, count), None)
+    }
+
+    /// Moves a register's bits by as many places as the number of register 1.
+    fn shift(&mut self, operator: ShiftOperator, to: usize) -> Option<Standing>
+        requires room { self.old.pc + 1 < 2 ^ 64 }
+        ensures { let s = machine_state self.old in MakesOutcome (with_register s to (λ a. with_register s 1
+            (λ n. written s to (shifted operator a n) None))) self.old self.new result }
+    {
+        let number = self.register(to)?;
+        let count = self.register(1)?;
+        self.write(to, shift(operator, number, count), None)
+    }
+
+    /// Keeps the numbers that are compared.
+    fn compare(&mut self, left: u64, right: u64) -> Option<Standing>
+        requires room { self.old.pc + 1 < 2 ^ 64 }
+        ensures { MakesOutcome (compared_to (machine_state self.old) left right) self.old self.new result }
+    {
+        self.compared = Some((left, right));
+        self.pc += 1;
+        Some(Standing::Running)
+    }
+
+    /// Compares a register.
+    fn compare_to(&mut self, left: usize, right: Source) -> Option<Standing>
+        requires room { self.old.pc + 1 < 2 ^ 64 }
+        ensures { let s = machine_state self.old in MakesOutcome (with_register s left (λ a. with_source (vec_len self.old.frame) s right
+            (λ b. compared_to s a b))) self.old self.new result }
+    {
+        let left = self.register(left)?;
+        let right = self.source(right)?;
+        self.compare(left, right)
+    }
+
+    /// Puts whether a condition holds into a register.
+    fn set(&mut self, to: usize, condition: Condition) -> Option<Standing>
+        requires room { self.old.pc + 1 < 2 ^ 64 }
+        ensures { let s = machine_state self.old in MakesOutcome (with_compared s.compared
+            (λ a b. written s to (truth (condition_holds condition a b)) s.compared)) self.old self.new result }
+    {
+        let compared = self.compared;
+        let (left, right) = compared?;
+        let number = u64::from(does_hold(condition, left, right));
+        self.write(to, number, compared)
+    }
+
+    /// Puts a number into a register where a condition holds.
+    fn move_if(&mut self, condition: Condition, to: usize, from: Source) -> Option<Standing>
+        requires room { self.old.pc + 1 < 2 ^ 64 }
+        ensures { let s = machine_state self.old in MakesOutcome (with_compared s.compared (λ a b. with_register s to (λ x.
+            with_source (vec_len self.old.frame) s from (λ y. written s to (if condition_holds condition a b then y else x) s.compared))))
+            self.old self.new result }
+    {
+        let compared = self.compared;
+        let (left, right) = compared?;
+        let kept = self.register(to)?;
+        let taken = self.source(from)?;
+        let number = if does_hold(condition, left, right) {
+            taken
+        } else {
+            kept
+        };
+        self.write(to, number, compared)
+    }
+
+    /// Jumps where a condition holds.
+    fn jump_if(&mut self, condition: Condition, target: usize) -> Option<Standing>
+        requires room { self.old.pc + 1 < 2 ^ 64 }
+        ensures { let s = machine_state self.old in MakesOutcome (with_compared s.compared
+            (λ a b. jumped s (if condition_holds condition a b then target else s.pc + 1))) self.old self.new result }
+    {
+        let (left, right) = self.compared?;
+        if does_hold(condition, left, right) {
+            self.pc = target;
+        } else {
+            self.pc += 1;
+        }
+        Some(Standing::Running)
+    }
+
+    /// Executes an instruction; nothing where the machine is stuck at it.
+    fn execute(&mut self, arguments: &[u64], instruction: Instruction) -> Option<Standing>
+        requires room { self.old.pc + 1 < 2 ^ 64 }
+        ensures { MakesOutcome (executed (arguments_of arguments.now) (vec_len self.old.frame) (Some instruction) (machine_state self.old))
+            self.old self.new result }
+    {
+        let compared = self.compared;
+        match instruction {
+            Instruction::Constant { to, value } => self.write(to, value, compared),
+            Instruction::Clear { to } => self.write(to, 0, None),
+            Instruction::Argument { to, index } => {
+                self.write(to, argument(arguments, index), compared)
+            }
+            Instruction::Move { to, from } => self.fetch(to, Source::Register(from)),
+            Instruction::Load { to, slot } => self.fetch(to, Source::Slot(slot)),
+            Instruction::Store { slot, from } => self.store(slot, from),
+            Instruction::Compute { operator, to, from } => self.compute(operator, to, from),
+            Instruction::Shift { operator, to } => self.shift(operator, to),
+            Instruction::ShiftBy {
+                operator,
+                to,
+                count,
+            } => self.shift_by(operator, to, u64::from(count)),
+            Instruction::Compare { left, right } => self.compare_to(left, right),
+            Instruction::Set { to, condition } => self.set(to, condition),
+            Instruction::MoveIf {
+                condition,
+                to,
+                from,
+            } => self.move_if(condition, to, from),
+            Instruction::Test { from } => {
+                let number = self.source(from)?;
+                self.compare(number, 0)
+            }
+            Instruction::Jump { target } => {
+                self.pc = target;
+                Some(Standing::Running)
+            }
+            Instruction::JumpIf { condition, target } => self.jump_if(condition, target),
+            Instruction::Return => Some(Standing::Returned(self.registers[0])),
+        }
+    }
+
+    /// Makes a step.
+    fn step(&mut self, code: &Code, arguments: &[u64]) -> Standing
+        requires { vec_len self.old.frame ≡ code.now.slots }
+        ensures step { machine_step (code_of code.now) (arguments_of arguments.now) (machine_state self.old) ≡ run_outcome result (machine_state self.new) }
+        ensures frame { vec_len self.new.frame ≡ vec_len self.old.frame }
+    {
+        match code.instructions.get(self.pc) {
+            Some(instruction) => self
+                .execute(arguments, *instruction)
+                .unwrap_or(Standing::Stuck),
+            None => Standing::Stuck,
+        }
+    }
+}
+
+/// So many zeros.
+fn zeros(alloc: Global, count: usize) -> Result<Vec<u64>, AllocError>
+    ensures { IfOk result (λ v. v.items ≡ replicate count 0) }
+{
+    vec![in alloc; 0; count]
+}
+
+/// How a run of code stands after so many steps, which starts with 0 in all registers and slots. Arguments past the given ones are 0.
+pub fn run_code(
+    alloc: Global,
+    code: &Code,
+    arguments: &[u64],
+    steps: u64,
+) -> Result<Standing, AllocError>
+    ensures { IfOk result (λ r. r ≡ standing_of (machine_run (code_of code.now) (arguments_of arguments.now) steps first_machine)) }
+{
+    let mut machine = Machine {
+        pc: 0,
+        registers: [0; 16],
+        frame: zeros(alloc, code.slots)?,
+        compared: None,
+    };
+    for _step in 0..steps {
+        let standing = machine.step(code, arguments);
+        match standing {
+            Standing::Running => {}
+            _ => return Ok(standing),
+        }
+    }
+    Ok(Standing::Running)
+}

@@ -1,0 +1,273 @@
+//! A function, step by step.
+
+ghost use Rattle.std.specs.Prelude.{◌≡◌, ◌<◌, ◌^◌, ◌+◌, IfOk, OnOk, length, map};
+ghost use Rattle.regalloc2_semantics.specs.Values.Interpreters.{number_set, passed_on};
+ghost use Rattle.regalloc2_function.specs.FunctionValue.{block_at};
+ghost use Rattle.regalloc2_function.specs.Path.{first_of};
+ghost use Rattle.regalloc2_function.specs.SourceRun.{arguments_at};
+ghost use Rattle.codegen_machine.specs.Ir.Meaning.{along, count_number, onward, right_number, procedure_run, procedure_step};
+ghost use Rattle.codegen_machine.specs.Ir.Seen.{function_of_procedure, operations};
+ghost use Rattle.codegen_machine.specs.Run.Runs.{arguments_of, first_state, standing_of, run_outcome};
+ghost use Rattle.codegen_machine.specs.Run.States.{numbers_by_vreg, state_of};
+
+use super::numbers::{argument, compute, does_hold, shift};
+use super::standing::Standing;
+use crate::ir::{Count, Operation, Procedure, Right};
+use regalloc2::{Block, Function, VReg};
+use std::alloc::{AllocError, Global};
+use std::collections::HashMap;
+use std::hash::{BuildHasherDefault, FoldHasher};
+
+/// The numbers of the virtual registers that were written, by their words. The others are 0.
+type Numbers = HashMap<u32, u64, BuildHasherDefault<FoldHasher>>;
+
+/// Where a run is, and the numbers of the virtual registers.
+#[derive(Drop)]
+pub struct State {
+    block: usize,
+    inst: usize,
+    numbers: Numbers,
+}
+
+/// The number of a virtual register.
+fn number_of(numbers: &Numbers, vreg: VReg) -> u64
+    ensures { result ≡ numbers_by_vreg numbers.now vreg }
+{
+    numbers.get(&(vreg.bits() as u32)).copied().unwrap_or(0)
+}
+
+/// Puts a number into a virtual register.
+fn put(numbers: &mut Numbers, vreg: VReg, number: u64) -> Result<(), AllocError>
+    ensures { OnOk result (numbers_by_vreg numbers.new ≡ number_set (numbers_by_vreg numbers.old) vreg number) }
+{
+    numbers.insert(vreg.bits() as u32, number)?;
+    Ok(())
+}
+
+/// The numbers of virtual registers.
+fn numbers_at(alloc: Global, numbers: &Numbers, vregs: &[VReg]) -> Result<Vec<u64>, AllocError>
+    ensures { IfOk result (λ ns. ns.items ≡ map (numbers_by_vreg numbers.now) vregs.now) }
+{
+    vregs
+        .iter()
+        .map(|vreg| number_of(numbers, *vreg))
+        .collect(alloc)
+}
+
+/// The parameters take what the arguments have, all at once.
+fn pass(
+    alloc: Global,
+    numbers: &mut Numbers,
+    params: &[VReg],
+    arguments: &[VReg],
+) -> Result<(), AllocError>
+    ensures { OnOk result (numbers_by_vreg numbers.new
+        ≡ passed_on params.now arguments.now (numbers_by_vreg numbers.old) (numbers_by_vreg numbers.old)) }
+{
+    let values = numbers_at(alloc, numbers, arguments)?;
+    for at in 0..params.len().min(values.len()) {
+        put(numbers, params[at], values[at])?;
+    }
+    Ok(())
+}
+
+/// The arguments for the successor of a block at a position.
+fn arguments_for(procedure: &Procedure, block: Block, position: usize) -> &[VReg]
+    requires { block < length (function_of_procedure procedure.now).blocks }
+    ensures { result.now ≡ arguments_at (function_of_procedure procedure.now) block position }
+{
+    match procedure.parts[block.index()].arguments.get(position) {
+        Some(arguments) => arguments,
+        None => &[],
+    }
+}
+
+/// The parameters of a block.
+fn params_of(procedure: &Procedure, block: usize) -> &[VReg]
+    ensures { result.now ≡ (block_at (function_of_procedure procedure.now) block).params }
+{
+    if block < procedure.num_blocks() {
+        procedure.block_params(Block::new(block))
+    } else {
+        &[]
+    }
+}
+
+/// The number of a block's first line.
+fn first_line(procedure: &Procedure, block: usize) -> usize
+    ensures { result ≡ (first_of (function_of_procedure procedure.now) block).inst }
+{
+    if block >= procedure.num_blocks() {
+        return 0;
+    }
+    let range = procedure.block_insns(Block::new(block));
+    range.end().index() - range.len()
+}
+
+impl State {
+    /// The number of a virtual register.
+    fn number(&self, vreg: VReg) -> u64
+        ensures { result ≡ (state_of self.now).numbers vreg }
+    {
+        number_of(&self.numbers, vreg)
+    }
+
+    /// A second number.
+    fn right(&self, right: Right) -> u64
+        ensures { result ≡ right_number (numbers_by_vreg self.now.numbers) right }
+    {
+        match right {
+            Right::VReg(vreg) => self.number(vreg),
+            Right::Number(number) => u64::from(number),
+        }
+    }
+
+    /// A count of places.
+    fn count(&self, count: Count) -> u64
+        ensures { result ≡ count_number (numbers_by_vreg self.now.numbers) count }
+    {
+        match count {
+            Count::VReg(vreg) => self.number(vreg),
+            Count::Number(number) => u64::from(number),
+        }
+    }
+
+    /// Goes on with the next line of the block, where a virtual register has been written.
+    fn write(&mut self, to: VReg, number: u64) -> Result<Standing, AllocError>
+        requires room { self.old.inst + 1 < 2 ^ 64 }
+        ensures { IfOk result (λ r. onward (state_of self.old) to number ≡ run_outcome r (state_of self.new)) }
+    {
+        put(&mut self.numbers, to, number)?;
+        self.inst += 1;
+        Ok(Standing::Running)
+    }
+
+    /// Goes on with the successor at a position.
+    fn enter(
+        &mut self,
+        alloc: Global,
+        procedure: &Procedure,
+        position: usize,
+    ) -> Result<Standing, AllocError>
+        ensures { IfOk result (λ r. along (function_of_procedure procedure.now) (state_of self.old) position ≡ run_outcome r (state_of self.new)) }
+    {
+        if self.block >= procedure.num_blocks() {
+            return Ok(Standing::Stuck);
+        }
+        let block = Block::new(self.block);
+        let Some(succ) = procedure.block_succs(block).get(position) else {
+            return Ok(Standing::Stuck);
+        };
+        let succ = succ.index();
+        let arguments = arguments_for(procedure, block, position);
+        pass(
+            alloc,
+            &mut self.numbers,
+            params_of(procedure, succ),
+            arguments,
+        )?;
+        self.block = succ;
+        self.inst = first_line(procedure, succ);
+        Ok(Standing::Running)
+    }
+
+    /// Makes a step.
+    fn step(
+        &mut self,
+        alloc: Global,
+        procedure: &Procedure,
+        arguments: &[u64],
+    ) -> Result<Standing, AllocError>
+        ensures { IfOk result (λ r. procedure_step (function_of_procedure procedure.now) (operations procedure.now) (arguments_of arguments.now) (state_of self.old)
+            ≡ run_outcome r (state_of self.new)) }
+    {
+        let Some(line) = procedure.lines.get(self.inst) else {
+            return Ok(Standing::Stuck);
+        };
+        match line.operation {
+            Operation::Argument { to, index } => self.write(to, argument(arguments, index)),
+            Operation::Constant { to, value } => self.write(to, value),
+            Operation::Copy { to, from } => {
+                let number = self.number(from);
+                self.write(to, number)
+            }
+            Operation::Compute {
+                operator,
+                to,
+                left,
+                right,
+            } => {
+                let number = compute(operator, self.number(left), self.right(right));
+                self.write(to, number)
+            }
+            Operation::Shift {
+                operator,
+                to,
+                left,
+                count,
+            } => {
+                let number = shift(operator, self.number(left), self.count(count));
+                self.write(to, number)
+            }
+            Operation::Compare {
+                condition,
+                to,
+                left,
+                right,
+            } => {
+                let holds = does_hold(condition, self.number(left), self.right(right));
+                self.write(to, u64::from(holds))
+            }
+            Operation::Select {
+                to,
+                condition,
+                yes,
+                no,
+            } => {
+                let taken = if self.number(condition) == 0 { no } else { yes };
+                let number = self.number(taken);
+                self.write(to, number)
+            }
+            Operation::Jump => self.enter(alloc, procedure, 0),
+            Operation::BranchIf { value } => {
+                let position = usize::from(self.number(value) == 0);
+                self.enter(alloc, procedure, position)
+            }
+            Operation::BranchIfHolds {
+                condition,
+                left,
+                right,
+            } => {
+                let holds = does_hold(condition, self.number(left), self.right(right));
+                self.enter(alloc, procedure, usize::from(!holds))
+            }
+            Operation::Return { value } => Ok(Standing::Returned(self.number(value))),
+        }
+    }
+}
+
+/// How a run of a function stands after so many steps, which starts with 0 in all virtual registers. Arguments past the given
+/// ones are 0.
+pub fn run_procedure(
+    alloc: Global,
+    procedure: &Procedure,
+    arguments: &[u64],
+    steps: u64,
+) -> Result<Standing, AllocError>
+    ensures { IfOk result (λ r. r ≡ standing_of (procedure_run (function_of_procedure procedure.now) (operations procedure.now) (arguments_of arguments.now) steps
+        (first_state procedure.now))) }
+{
+    let mut state = State {
+        block: 0,
+        inst: first_line(procedure, 0),
+        numbers: HashMap::new(alloc),
+    };
+    for _step in 0..steps {
+        let standing = state.step(alloc, procedure, arguments)?;
+        match standing {
+            Standing::Running => {}
+            _ => return Ok(standing),
+        }
+    }
+    Ok(Standing::Running)
+}

@@ -1,0 +1,59 @@
+//! Functions over 64-bit integers from texts, and code as assembly for x86-64.
+//!
+//! A line of a text has an operation. Letters, words, numbers, signs, comments and errors are those of `docs/TEXT.md`.
+//! For example:
+//!
+//! ```text
+//! # the sum of the numbers from 1 to the argument
+//! block0:
+//!   v0 = argument 0
+//!   v1 = constant 0
+//!   jump block1(v0, v1)
+//! block1(v2, v3):
+//!   branch_if v2 block2(), block3()
+//! block2:
+//!   v4 = add v3, v2
+//!   v5 = sub v2, 1
+//!   jump block1(v5, v4)
+//! block3:
+//!   return v3
+//! ```
+//!
+//! ```ebnf
+//! text      = { line } ;
+//! line      = [ block | value | jump | branch | return ] ;
+//! block     = BLOCK [ vregs ] ":" ;
+//! vregs     = "(" [ vreg { "," vreg } ] ")" ;
+//! vreg      = "v" NUMBER ;                                        (* one word; the number is to 1073741823 *)
+//! value     = vreg "=" ( "argument" number | "constant" number | "copy" vreg | ( operator | condition ) pair
+//!           | shift vreg "," ( vreg | number ) | "select" vreg "," vreg "," vreg ) ;
+//! pair      = vreg "," ( vreg | number ) ;                        (* the number is to 2147483647 *)
+//! operator  = "add" | "sub" | "mul" | "and" | "or" | "xor" ;
+//! shift     = "shift_left" | "shift_right" | "signed_shift_right" ;   (* a number after it is to 63 *)
+//! condition = "equal" | "not_equal" | [ "signed_" ] ( "less" | "less_or_equal" | "greater" | "greater_or_equal" ) ;
+//! jump      = "jump" target ;
+//! branch    = "branch_if" ( vreg | condition pair ) target "," target ;
+//! return    = "return" vreg ;
+//! target    = BLOCK [ vregs ] ;
+//! ```
+//!
+//! Operators compute modulo 2^64. A condition is 1 if it holds, else 0; the signed conditions read two's complement. A
+//! shift moves bits by its second number modulo 64; `signed_shift_right` copies the highest bit. `select` is its second
+//! number if its first isn't 0, else its third. `branch_if` takes its first target if its number isn't 0 or its
+//! condition holds, else its second.
+//!
+//! Arguments are numbered from 0, below 2^28. A function has at most a million blocks, instructions and vregs, counted
+//! from v0; a larger function is an error at the end of the text. Blocks are numbered as they appear, the entry first.
+//! A block's last instruction is its only `jump`, `branch_if` or `return`: after it, a line that begins no block is an
+//! error of the text, as is an instruction before the first block. The allocator tests everything else, such as a block
+//! without that end, a missing block, arguments that don't match the parameters, or a vreg that is read before it is
+//! written.
+
+mod assembly;
+mod draft;
+mod operations;
+mod reading;
+
+pub use assembly::{AssemblyText, InstructionText};
+pub use reading::read_procedure;
+pub use regalloc2_text::cursor::{Expected, Fault, Found, TextError};

@@ -1,0 +1,324 @@
+//! Code as assembly for x86-64, in the syntax of AT&T.
+
+ghost use Rattle.std.specs.Prelude.{◌≡◌, ◌+◌, length, nat_eq, Some};
+ghost use Rattle.codegen_machine.specs.Text.Assembly.{byte_name, condition_letters, operator_name, register_name, shift_name};
+ghost use Rattle.codegen_machine.specs.Text.Assembly.{assembly_text, entry_text, exit_text, instruction_text, is_next, line_text, lines_text, source_text};
+
+use crate::ir::{Condition, Operator, ShiftOperator};
+use crate::{Code, Instruction, Source};
+use std::fmt;
+
+/// How the function begins: with what its caller keeps in registers, put aside.
+#[tactic(auto, unfolding(crate::text::specs::Assembly::entry_text))]
+fn entry_text() -> &'static str
+    ensures { result.now ≡ entry_text }
+{
+    "  .globl compiled
+compiled:
+  pushq %rbx
+  pushq %rbp
+  pushq %r12
+  pushq %r13
+  pushq %r14
+  pushq %r15
+"
+}
+
+/// How it ends.
+#[tactic(auto, unfolding(crate::text::specs::Assembly::exit_text))]
+fn exit_text() -> &'static str
+    ensures { result.now ≡ exit_text }
+{
+    "  popq %r15
+  popq %r14
+  popq %r13
+  popq %r12
+  popq %rbp
+  popq %rbx
+  ret
+  .section .note.GNU-stack,\"\",@progbits
+"
+}
+
+/// The name of a register.
+fn register_name(register: usize) -> &'static str
+    ensures { result.now ≡ register_name register }
+{
+    match register {
+        0 => "%rax",
+        1 => "%rcx",
+        2 => "%rdx",
+        3 => "%rbx",
+        4 => "%rsp",
+        5 => "%rbp",
+        6 => "%rsi",
+        7 => "%rdi",
+        8 => "%r8",
+        9 => "%r9",
+        10 => "%r10",
+        11 => "%r11",
+        12 => "%r12",
+        13 => "%r13",
+        14 => "%r14",
+        15 => "%r15",
+        _ => "%none",
+    }
+}
+
+/// The name of a register's lowest byte.
+fn byte_name(register: usize) -> &'static str
+    ensures { result.now ≡ byte_name register }
+{
+    match register {
+        0 => "%al",
+        1 => "%cl",
+        2 => "%dl",
+        3 => "%bl",
+        4 => "%spl",
+        5 => "%bpl",
+        6 => "%sil",
+        7 => "%dil",
+        8 => "%r8b",
+        9 => "%r9b",
+        10 => "%r10b",
+        11 => "%r11b",
+        12 => "%r12b",
+        13 => "%r13b",
+        14 => "%r14b",
+        15 => "%r15b",
+        _ => "%none",
+    }
+}
+
+/// The name of an operator's instruction.
+fn operator_name(operator: Operator) -> &'static str
+    ensures { result.now ≡ operator_name operator }
+{
+    match operator {
+        Operator::Add => "addq",
+        Operator::Sub => "subq",
+        Operator::Mul => "imulq",
+        Operator::And => "andq",
+        Operator::Or => "orq",
+        Operator::Xor => "xorq",
+    }
+}
+
+/// The name of a shift's instruction.
+fn shift_name(operator: ShiftOperator) -> &'static str
+    ensures { result.now ≡ shift_name operator }
+{
+    match operator {
+        ShiftOperator::Left => "shlq",
+        ShiftOperator::Right => "shrq",
+        ShiftOperator::SignedRight => "sarq",
+    }
+}
+
+/// How the names of instructions end that look whether a condition holds.
+fn condition_letters(condition: Condition) -> &'static str
+    ensures { result.now ≡ condition_letters condition }
+{
+    match condition {
+        Condition::Equal => "e",
+        Condition::NotEqual => "ne",
+        Condition::Less => "b",
+        Condition::LessOrEqual => "be",
+        Condition::Greater => "a",
+        Condition::GreaterOrEqual => "ae",
+        Condition::SignedLess => "l",
+        Condition::SignedLessOrEqual => "le",
+        Condition::SignedGreater => "g",
+        Condition::SignedGreaterOrEqual => "ge",
+    }
+}
+
+/// A register, eight bytes of the frame, or a number.
+#[derive(Clone, Copy)]
+struct SourceText(Source);
+
+impl fmt::Display for SourceText {
+    ghost output = { λ t. Some (source_text t.0) };
+
+    fn fmt<W: fmt::Write>(&self, f: &mut fmt::Formatter<W>) -> fmt::Result {
+        match self.0 {
+            Source::Register(register) => f.write_str(register_name(register)),
+            Source::Slot(slot) => write!(f, "8*{slot}(%rsp)"),
+            Source::Number(number) => write!(f, "${number}"),
+        }
+    }
+}
+
+/// An instruction as assembly: one for each but `Set`, which takes two.
+#[derive(Clone, Copy)]
+pub struct InstructionText(pub Instruction);
+
+impl fmt::Display for InstructionText {
+    ghost output = { λ t. Some (instruction_text t.0) };
+
+    fn fmt<W: fmt::Write>(&self, f: &mut fmt::Formatter<W>) -> fmt::Result {
+        match self.0 {
+            Instruction::Constant { to, value } => {
+                let to = register_name(to);
+                write!(f, "movabsq ${value}, {to}")
+            }
+            Instruction::Clear { to } => {
+                let to = register_name(to);
+                write!(f, "xorq {to}, {to}")
+            }
+            Instruction::Argument { to, index } => {
+                let to = register_name(to);
+                write!(f, "movq 8*{index}(%rdi), {to}")
+            }
+            Instruction::Move { to, from } => {
+                let (to, from) = (register_name(to), register_name(from));
+                write!(f, "movq {from}, {to}")
+            }
+            Instruction::Load { to, slot } => {
+                let to = register_name(to);
+                write!(f, "movq 8*{slot}(%rsp), {to}")
+            }
+            Instruction::Store { slot, from } => {
+                let from = register_name(from);
+                write!(f, "movq {from}, 8*{slot}(%rsp)")
+            }
+            Instruction::Compute { operator, to, from } => {
+                let (name, to, from) = (
+                    operator_name(operator),
+                    register_name(to),
+                    SourceText(from),
+                );
+                write!(f, "{name} {from}, {to}")
+            }
+            Instruction::Shift { operator, to } => {
+                let (name, to) = (shift_name(operator), register_name(to));
+                write!(f, "{name} %cl, {to}")
+            }
+            Instruction::ShiftBy {
+                operator,
+                to,
+                count,
+            } => {
+                let (name, to) = (shift_name(operator), register_name(to));
+                write!(f, "{name} ${count}, {to}")
+            }
+            Instruction::Compare { left, right } => {
+                let (left, right) = (register_name(left), SourceText(right));
+                write!(f, "cmpq {right}, {left}")
+            }
+            Instruction::Set { to, condition } => {
+                let (byte, to, letters) = (
+                    byte_name(to),
+                    register_name(to),
+                    condition_letters(condition),
+                );
+                write!(f, "set{letters} {byte}; movzbq {byte}, {to}")
+            }
+            Instruction::MoveIf {
+                condition,
+                to,
+                from,
+            } => {
+                let (letters, to, from) = (
+                    condition_letters(condition),
+                    register_name(to),
+                    SourceText(from),
+                );
+                write!(f, "cmov{letters}q {from}, {to}")
+            }
+            Instruction::Test { from } => {
+                let from = SourceText(from);
+                write!(f, "cmpq $0, {from}")
+            }
+            Instruction::Jump { target } => write!(f, "jmp .L{target}"),
+            Instruction::JumpIf { condition, target } => {
+                let letters = condition_letters(condition);
+                write!(f, "j{letters} .L{target}")
+            }
+            Instruction::Return => write!(f, "jmp .Lreturn"),
+        }
+    }
+}
+
+/// An instruction of that number, among so many, as a line with its label. What only goes on to the next line is left out.
+#[derive(Clone, Copy)]
+struct LineText {
+    count: usize,
+    at: usize,
+    instruction: Instruction,
+}
+
+/// Whether a line is the next one after line `at`.
+fn is_after(line: usize, at: usize) -> bool
+    ensures { result ≡ nat_eq line (at + 1) }
+{
+    line > at && line - at == 1
+}
+
+impl LineText {
+    /// Whether the instruction only goes on to the next line.
+    fn is_next(&self) -> bool
+        ensures { result ≡ is_next self.now.count self.now.at self.now.instruction }
+    {
+        match self.instruction {
+            Instruction::Jump { target } => is_after(target, self.at),
+            Instruction::Return => is_after(self.count, self.at),
+            _ => false,
+        }
+    }
+}
+
+impl fmt::Display for LineText {
+    ghost output = { λ l. Some (line_text l.count l.at l.instruction) };
+
+    fn fmt<W: fmt::Write>(&self, f: &mut fmt::Formatter<W>) -> fmt::Result {
+        let (at, text) = (self.at, InstructionText(self.instruction));
+        if self.is_next() {
+            writeln!(f, ".L{at}:")
+        } else {
+            writeln!(f, ".L{at}: {text}")
+        }
+    }
+}
+
+/// Instructions as assembly, one on each line, with labels by number.
+#[derive(Clone, Copy)]
+struct LinesText<'a>(&'a [Instruction]);
+
+impl fmt::Display for LinesText<'_> {
+    ghost output = { λ t. Some (lines_text (length t.0.now) 0 t.0.now) };
+
+    fn fmt<W: fmt::Write>(&self, f: &mut fmt::Formatter<W>) -> fmt::Result {
+        let LinesText(instructions) = *self;
+        let count = instructions.len();
+        for at in 0..count {
+            let line = LineText {
+                count,
+                at,
+                instruction: instructions[at],
+            };
+            write!(f, "{line}")?;
+        }
+        Ok(())
+    }
+}
+
+/// Code as a function `compiled`, which is called from C as `uint64_t compiled(const uint64_t *arguments)`.
+///
+/// It keeps the registers that its caller may use. Its frame has to fit the stack, and the assembler takes arguments with numbers
+/// below 2^28 alone.
+#[derive(Clone, Copy)]
+pub struct AssemblyText<'a>(pub &'a Code);
+
+impl fmt::Display for AssemblyText<'_> {
+    ghost output = { λ t. Some (assembly_text t.0.now) };
+
+    fn fmt<W: fmt::Write>(&self, f: &mut fmt::Formatter<W>) -> fmt::Result {
+        let (slots, lines) = (self.0.slots, LinesText(self.0.instructions.as_slice()));
+        let (entry, exit) = (entry_text(), exit_text());
+        write!(
+            f,
+            "{entry}  subq $8*{slots}, %rsp\n{lines}.Lreturn:\n  addq $8*{slots}, %rsp\n{exit}"
+        )
+    }
+}

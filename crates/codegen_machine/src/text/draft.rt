@@ -1,0 +1,245 @@
+//! What the lines of a text say, and the function that they make.
+
+use super::operations::{read_branch, read_value, read_vreg};
+use crate::ir::{Line, Malformed, Operation, Part, Procedure};
+use regalloc2::{Block, Inst, InstRange, VReg};
+use regalloc2_text::cursor::{Cursor, Expected, Flaw, Found, Token};
+use std::alloc::Global;
+
+/// What the lines so far say of a block.
+#[derive(Drop)]
+struct DraftBlock {
+    /// Its first line and the one past its last.
+    range: (u32, u32),
+    params: Vec<VReg>,
+    succs: Vec<Block>,
+    /// The arguments for each successor.
+    arguments: Vec<Vec<VReg>>,
+    /// Whether its last line is there.
+    is_ended: bool,
+}
+
+/// Virtual registers in brackets, or none.
+fn vregs(alloc: Global, cursor: &mut Cursor<'_, '_>) -> Vec<VReg> {
+    let mut vregs = Vec::new(alloc);
+    if !cursor.has("(") || cursor.has(")") {
+        return vregs;
+    }
+    'vregs: loop {
+        let vreg = read_vreg(cursor);
+        cursor.push(&mut vregs, vreg);
+        if !cursor.has(",") {
+            break;
+        }
+    }
+    cursor.want(")");
+    vregs
+}
+
+impl DraftBlock {
+    /// Reads a successor and its arguments.
+    fn read_target(&mut self, alloc: Global, cursor: &mut Cursor<'_, '_>) {
+        let succ = Block(cursor.named("block", "a block"));
+        let arguments = vregs(alloc, cursor);
+        cursor.push(&mut self.succs, succ);
+        cursor.push(&mut self.arguments, arguments);
+    }
+
+    /// Reads a line of the block.
+    fn read_operation(&mut self, alloc: Global, cursor: &mut Cursor<'_, '_>) -> Operation {
+        if self.is_ended {
+            cursor.misfit("a block, after the last instruction of one");
+        }
+        if cursor.begins("v") {
+            return read_value(cursor);
+        }
+        self.is_ended = true;
+        if cursor.has("jump") {
+            self.read_target(alloc, cursor);
+            return Operation::Jump;
+        }
+        if cursor.has("branch_if") {
+            let branch = read_branch(cursor);
+            self.read_target(alloc, cursor);
+            cursor.want(",");
+            self.read_target(alloc, cursor);
+            return branch;
+        }
+        if !cursor.has("return") {
+            cursor.misfit("a virtual register, `jump`, `branch_if`, `return` or a block");
+        }
+        let value = read_vreg(cursor);
+        Operation::Return { value }
+    }
+}
+
+/// What the lines so far say.
+#[derive(Drop)]
+pub struct Draft {
+    lines: Vec<Line>,
+    blocks: Vec<DraftBlock>,
+    /// One more than the greatest number of a virtual register that the lines show.
+    num_vregs: u64,
+}
+
+/// As many empty lists.
+fn empty_lists(alloc: Global, cursor: &mut Cursor<'_, '_>, count: usize) -> Vec<Vec<Block>> {
+    let mut lists = Vec::new(alloc);
+    for _ in 0..count {
+        cursor.push(&mut lists, Vec::new(alloc));
+    }
+    lists
+}
+
+/// The predecessors of each block.
+fn predecessors(
+    alloc: Global,
+    cursor: &mut Cursor<'_, '_>,
+    blocks: &[DraftBlock],
+) -> Vec<Vec<Block>> {
+    let mut preds = empty_lists(alloc, cursor, blocks.len());
+    let mut number = 0u32;
+    for block in blocks {
+        add_pred(cursor, &mut preds, Block(number), block.succs.as_slice());
+        number = number.saturating_add(1);
+    }
+    preds
+}
+
+/// Notes that a block is followed by its successors, as far as there are such blocks.
+fn add_pred(
+    cursor: &mut Cursor<'_, '_>,
+    preds: &mut Vec<Vec<Block>>,
+    block: Block,
+    succs: &[Block],
+) {
+    for succ in succs {
+        if let Some(list) = preds.get_mut(succ.index()) {
+            cursor.push(list, block);
+        }
+    }
+}
+
+impl Draft {
+    /// Nothing is said.
+    pub fn new(alloc: Global) -> Self {
+        Draft {
+            lines: Vec::new(alloc),
+            blocks: Vec::new(alloc),
+            num_vregs: 0,
+        }
+    }
+
+    /// The number of the next line; at 2^32 - 1 there are too many, as the function's size will say.
+    fn next_line(&self) -> u32 {
+        u32::try_from(self.lines.len()).unwrap_or(u32::MAX)
+    }
+
+    /// Reads a line of those tokens.
+    pub fn read_line<'t>(&mut self, alloc: Global, tokens: &[Token<'t>]) -> Result<(), Flaw<'t>> {
+        if tokens.is_empty() {
+            return Ok(());
+        }
+        let mut cursor = Cursor::new(tokens, self.num_vregs);
+        if cursor.begins("block") {
+            self.read_block(alloc, &mut cursor);
+        } else {
+            self.read_inst(alloc, &mut cursor);
+        }
+        self.num_vregs = cursor.num_vregs();
+        cursor.finish()
+    }
+
+    /// Reads the line of a block.
+    fn read_block(&mut self, alloc: Global, cursor: &mut Cursor<'_, '_>) {
+        let next = self.blocks.len();
+        if cursor.named("block", "a block") as usize != next {
+            cursor.fault_before(Expected::NextBlock(next));
+        }
+        let params = vregs(alloc, cursor);
+        cursor.want(":");
+        let line = self.next_line();
+        let block = DraftBlock {
+            range: (line, line),
+            params,
+            succs: Vec::new(alloc),
+            arguments: Vec::new(alloc),
+            is_ended: false,
+        };
+        cursor.push(&mut self.blocks, block);
+    }
+
+    /// Reads the line of an operation.
+    fn read_inst(&mut self, alloc: Global, cursor: &mut Cursor<'_, '_>) {
+        let Some(block) = self.blocks.last_mut() else {
+            cursor.fault(Expected::NextBlock(0));
+            return;
+        };
+        let operation = block.read_operation(alloc, cursor);
+        match Line::new(alloc, operation) {
+            Ok(line) => cursor.push(&mut self.lines, line),
+            Err(refused) => cursor.fail(refused.into()),
+        }
+        let end = self.next_line();
+        if let Some(block) = self.blocks.last_mut() {
+            block.range.1 = end;
+        }
+    }
+
+    /// The function of all lines.
+    pub fn finish<'t>(self, alloc: Global) -> Result<Procedure, Flaw<'t>> {
+        let Draft {
+            lines,
+            blocks,
+            num_vregs,
+        } = self;
+        let no_tokens: [Token<'t>; 0] = [];
+        let mut cursor = Cursor::new(&no_tokens, 0);
+        let preds = predecessors(alloc, &mut cursor, blocks.as_slice());
+        let parts = parts(alloc, &mut cursor, blocks, preds);
+        cursor.finish()?;
+        match Procedure::new(parts, lines, num_vregs as usize) {
+            Ok(procedure) => Ok(procedure),
+            Err(malformed) => Err(flaw_of(malformed)),
+        }
+    }
+}
+
+/// The blocks with their predecessors.
+fn parts(
+    alloc: Global,
+    cursor: &mut Cursor<'_, '_>,
+    blocks: Vec<DraftBlock>,
+    preds: Vec<Vec<Block>>,
+) -> Vec<Part> {
+    let mut parts = Vec::new(alloc);
+    for (block, preds) in blocks.into_iter().zip(preds) {
+        let DraftBlock {
+            range: (first, end),
+            params,
+            succs,
+            arguments,
+            is_ended: _,
+        } = block;
+        let part = Part {
+            range: InstRange::new(Inst(first), Inst(end.max(first))),
+            succs,
+            preds,
+            params,
+            arguments,
+        };
+        cursor.push(&mut parts, part);
+    }
+    parts
+}
+
+/// What is said of lines that are no function.
+fn flaw_of<'t>(malformed: Malformed) -> Flaw<'t> {
+    let expected = match malformed {
+        Malformed::TooLarge => "at most a million blocks, instructions and virtual registers",
+        Malformed::MissingSuccessor => "two successors of a `branch_if`, and one of a `jump`",
+        Malformed::UnknownRegister => "virtual registers of the function",
+        Malformed::LargeNumber => "second numbers up to 2147483647",
+    };
+    Flaw::new(1, Expected::Words(expected), Found::TextEnd)
+}

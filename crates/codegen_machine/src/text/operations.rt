@@ -1,0 +1,182 @@
+//! The lines of operations.
+
+ghost use Rattle.std.specs.Prelude.{◌≤◌};
+ghost use Rattle.regalloc2_text.specs.Cursor.Cursor.{tokens_left};
+
+use crate::ir::{Condition, Count, Operation, Operator, Right, ShiftOperator};
+use regalloc2::{RegClass, VReg};
+use regalloc2_text::cursor::Cursor;
+
+/// The greatest number of an argument, whose address an instruction of x86-64 can still name.
+const LAST_ARGUMENT: u64 = (1 << 28) - 1;
+
+/// The greatest second number that an instruction of x86-64 holds without a sign.
+const LAST_NUMBER: u64 = (1 << 31) - 1;
+
+/// The greatest count of places that is given as a number.
+const LAST_COUNT: u64 = 63;
+
+/// The operator of that name.
+fn operator_named(name: &str) -> Option<Operator> {
+    match name {
+        "add" => Some(Operator::Add),
+        "sub" => Some(Operator::Sub),
+        "mul" => Some(Operator::Mul),
+        "and" => Some(Operator::And),
+        "or" => Some(Operator::Or),
+        "xor" => Some(Operator::Xor),
+        _ => None,
+    }
+}
+
+/// The shift of that name.
+fn shift_named(name: &str) -> Option<ShiftOperator> {
+    match name {
+        "shift_left" => Some(ShiftOperator::Left),
+        "shift_right" => Some(ShiftOperator::Right),
+        "signed_shift_right" => Some(ShiftOperator::SignedRight),
+        _ => None,
+    }
+}
+
+/// The condition of that name.
+fn condition_named(name: &str) -> Option<Condition> {
+    match name {
+        "equal" => Some(Condition::Equal),
+        "not_equal" => Some(Condition::NotEqual),
+        "less" => Some(Condition::Less),
+        "less_or_equal" => Some(Condition::LessOrEqual),
+        "greater" => Some(Condition::Greater),
+        "greater_or_equal" => Some(Condition::GreaterOrEqual),
+        "signed_less" => Some(Condition::SignedLess),
+        "signed_less_or_equal" => Some(Condition::SignedLessOrEqual),
+        "signed_greater" => Some(Condition::SignedGreater),
+        "signed_greater_or_equal" => Some(Condition::SignedGreaterOrEqual),
+        _ => None,
+    }
+}
+
+/// A virtual register.
+pub fn read_vreg(cursor: &mut Cursor<'_, '_>) -> VReg
+    ensures { tokens_left cursor.new ≤ tokens_left cursor.old }
+{
+    let mut number = cursor.named("v", "a virtual register") as usize;
+    if number > VReg::MAX {
+        cursor.misfit_before("a virtual register with a number up to 1073741823");
+        number = 0;
+    }
+    cursor.show_vreg(number as u64);
+    VReg::new(number, RegClass::Int)
+}
+
+/// A second number: a virtual register, or a number up to 2147483647.
+fn read_right(cursor: &mut Cursor<'_, '_>) -> Right {
+    if cursor.begins("v") {
+        Right::VReg(read_vreg(cursor))
+    } else {
+        Right::Number(cursor.number(LAST_NUMBER) as u32)
+    }
+}
+
+/// A virtual register and a second number, with a comma between them.
+fn read_pair(cursor: &mut Cursor<'_, '_>) -> (VReg, Right) {
+    let left = read_vreg(cursor);
+    cursor.want(",");
+    (left, read_right(cursor))
+}
+
+/// A shift, from its number on: the number and the count, with a comma between them.
+fn read_shift(cursor: &mut Cursor<'_, '_>, operator: ShiftOperator, to: VReg) -> Operation {
+    let left = read_vreg(cursor);
+    cursor.want(",");
+    let count = if cursor.begins("v") {
+        Count::VReg(read_vreg(cursor))
+    } else {
+        Count::Number(cursor.number(LAST_COUNT) as u8)
+    };
+    Operation::Shift {
+        operator,
+        to,
+        left,
+        count,
+    }
+}
+
+/// A selection, from its condition on: the condition and the two numbers, with commas between them.
+fn read_select(cursor: &mut Cursor<'_, '_>, to: VReg) -> Operation {
+    let condition = read_vreg(cursor);
+    cursor.want(",");
+    let yes = read_vreg(cursor);
+    cursor.want(",");
+    let no = read_vreg(cursor);
+    Operation::Select {
+        to,
+        condition,
+        yes,
+        no,
+    }
+}
+
+/// A branch, after its name: the number that decides, or a condition and the two numbers that it is asked of.
+pub fn read_branch(cursor: &mut Cursor<'_, '_>) -> Operation {
+    let Some(condition) = condition_named(cursor.peek().unwrap_or("")) else {
+        let value = read_vreg(cursor);
+        return Operation::BranchIf { value };
+    };
+    cursor.advance();
+    let (left, right) = read_pair(cursor);
+    Operation::BranchIfHolds {
+        condition,
+        left,
+        right,
+    }
+}
+
+/// What computes the number of a virtual register, from the register on.
+pub fn read_value(cursor: &mut Cursor<'_, '_>) -> Operation {
+    let to = read_vreg(cursor);
+    cursor.want("=");
+    let name = cursor.peek().unwrap_or("");
+    if cursor.has("argument") {
+        let index = cursor.number(LAST_ARGUMENT) as u32;
+        return Operation::Argument { to, index };
+    }
+    if cursor.has("copy") {
+        let from = read_vreg(cursor);
+        return Operation::Copy { to, from };
+    }
+    if let Some(operator) = operator_named(name) {
+        cursor.advance();
+        let (left, right) = read_pair(cursor);
+        return Operation::Compute {
+            operator,
+            to,
+            left,
+            right,
+        };
+    }
+    if let Some(condition) = condition_named(name) {
+        cursor.advance();
+        let (left, right) = read_pair(cursor);
+        return Operation::Compare {
+            condition,
+            to,
+            left,
+            right,
+        };
+    }
+    if let Some(operator) = shift_named(name) {
+        cursor.advance();
+        return read_shift(cursor, operator, to);
+    }
+    if cursor.has("select") {
+        return read_select(cursor, to);
+    }
+    if !cursor.has("constant") {
+        cursor.misfit(
+            "an operation: `argument`, `constant`, `copy`, `select`, an operator as `add`, or a condition as `less`",
+        );
+    }
+    let value = cursor.number(u64::MAX);
+    Operation::Constant { to, value }
+}

@@ -1,0 +1,61 @@
+//! A function from a text.
+
+ghost use Rattle.std.specs.Prelude.{◌+◌, ◌≤◌, length, IfErr, IfOk};
+ghost use Rattle.regalloc2_text.specs.Cursor.Lines.{IsOnLineBetween};
+
+use super::draft::Draft;
+use crate::ir::Procedure;
+use regalloc2_text::cursor::{TextError, Token, split_line, tokenize};
+use std::alloc::Global;
+
+/// Reads the lines of a text, whose first line has the number `first_line`, into a draft. Answers the number of the last.
+fn read_lines<'t>(
+    alloc: Global,
+    draft: &mut Draft,
+    text: &'t str,
+    first_line: usize,
+) -> Result<usize, TextError<'t>>
+    ensures on_line { IfErr result (λ e. IsOnLineBetween first_line (first_line + length text.now) e) }
+    ensures from { IfOk result (λ line. first_line ≤ line) }
+    ensures until { IfOk result (λ line. line ≤ first_line + length text.now) }
+{
+    let mut tokens: Vec<Token<'t>> = Vec::new(alloc);
+    let mut rest = text;
+    let mut line = first_line;
+    'lines: loop {
+        let (content, after) = split_line(rest);
+        if let Err(flaw) = tokenize(content, &mut tokens) {
+            return Err(flaw.on_line(line));
+        }
+        if let Err(flaw) = draft.read_line(alloc, tokens.as_slice()) {
+            return Err(flaw.on_line(line));
+        }
+        let Some(after) = after else { break };
+        rest = after;
+        line = line.saturating_add(1);
+    }
+    Ok(line)
+}
+
+/// The function that a text says, whose first line has the number `first_line`.
+///
+/// The first line that can't be read is named in the error, or `Memory` is answered where a growth was refused.
+/// A fault stands on a line of the text and names a column from 1 on; the contract bounds its line by the text's length
+/// in bytes. Whether the function is well-formed is not looked at, nor does the contract say what is read: that is shown by tests.
+pub fn read_procedure<'t>(
+    alloc: Global,
+    text: &'t str,
+    first_line: usize,
+) -> Result<Procedure, TextError<'t>>
+    ensures { IfErr result (λ e. IsOnLineBetween first_line (first_line + length text.now) e) }
+{
+    let mut draft = Draft::new(alloc);
+    let line = match read_lines(alloc, &mut draft, text, first_line) {
+        Ok(line) => line,
+        Err(error) => return Err(error),
+    };
+    match draft.finish(alloc) {
+        Ok(procedure) => Ok(procedure),
+        Err(flaw) => Err(flaw.on_line(line)),
+    }
+}

@@ -1,0 +1,29 @@
+-- A table with room for what the function defines has an entry for each number that is made.
+use Rattle.std.proofs.Common.{ℕ, ◌<◌, ◌∙◌, inl, inr, refl, arith}
+use Rattle.std.proofs.lemmas.List.{get_or_default}
+use Rattle.regalloc2_names.specs.Operand.{OperandValue}
+use Rattle.regalloc2_names.specs.Point.{before, after}
+use Rattle.regalloc2_names.specs.Register.{VirtualRegister}
+use Rattle.regalloc2_function.specs.FunctionValue.{FunctionValue, block_at, inst_at, no_operand}
+use Rattle.regalloc2_function.specs.WellFormed.{DefinedOnce}
+use Rattle.regalloc2_shape.specs.TableLength.{HasRoom}
+use Rattle.regalloc2_function.specs.FunctionValue.{op_at}
+use Rattle.regalloc2_semantics.proofs.SingleDef.{DefinesAt, Made, made_small, no_vreg}
+use Rattle.regalloc2_semantics.proofs.SingleDef.Made.{by_operand}
+
+-- what is made has an entry
+pub made_room : (f : FunctionValue) → DefinedOnce f → (n : ℕ) → HasRoom f n → (v : VirtualRegister) → Made f v → v.number < n
+made_room f once n room v (by_operand i k x e) = room v (after i) (inr (i, k, no_operand, omega arith, x.operand, x.definition, e))
+    (made_small f once v (by_operand i k x e))
+made_room f once n room v (Made.by_param b k x e) = room v (before (block_at f b).range.first)
+    (inl (b, x.block, omega arith, (k, x.param, get_or_default (block_at f b).params k v no_vreg x.param ∙ e)))
+    (made_small f once v (Made.by_param b k x e))
+
+-- and so has what an operand defines
+pub defined_room : (f : FunctionValue) → DefinedOnce f → (n : ℕ) → HasRoom f n → (m i k : ℕ) → DefinesAt f m i k → m < n
+defined_room f once n room m i k x =
+    let o : OperandValue = op_at (inst_at f i).operands k in
+    let d : DefinesAt f o.vreg.number i k = record { inst = x.inst; operand = x.operand; definition = x.definition; number = refl } in
+    let lt = made_room f once n room o.vreg (by_operand i k d refl) in
+    let same = x.number in
+    omega (arith, lt, same)

@@ -1,0 +1,7 @@
+use Rattle.regalloc2_analysis.specs.BranchDefs.Notes.{PassesAmong}
+use Rattle.regalloc2_shape.specs.MarkedNumbers.{Marks}
+use Rattle.regalloc2_analysis.proofs.branch_defs.uses.note_arguments.Given as goal
+
+-- the arguments so far are marked, but for those that the instruction defines
+abbrev pub invariant-loop-j : goal.invariant-loop-j
+invariant-loop-j l = Marks (PassesAmong l.sites l.inst l.arguments l.j) l.initial.used l.used

@@ -1,0 +1,74 @@
+use Rattle.std.proofs.Common.{ℕ, ◌≡◌, ◌+◌, ◌-◌, ◌<◌, ◌∙◌, List, length, replicate, refl, sym, ap, subst, arith}
+use Rattle.std.specs.Prelude.{None, Option}
+use Rattle.regalloc2_function.specs.FunctionValue.{FunctionValue, block_at}
+use Rattle.regalloc2_analysis.specs.declared.live_ranges.LiveRange.{LiveRange}
+use Rattle.regalloc2_analysis.specs.declared.live_ranges.ends.RangeEnd.{RangeEnd}
+use Rattle.regalloc2_analysis.specs.LiveRanges.LiveRanges.{IsWanted}
+use Rattle.regalloc2_analysis.specs.LiveRanges.Slots.{spread}
+use Rattle.regalloc2_analysis.specs.LiveRanges.WalkInvariant.{AreRangesWalked, begin_of}
+use Rattle.regalloc2_analysis.proofs.LiveRangesLemmas.LiveRangeTable.{begins_at, begins_next, begins_past, walked_all, walked_block, walked_none}
+use Rattle.regalloc2_analysis.proofs.LiveRangesLemmas.Spread.{spread_length}
+use Rattle.regalloc2_analysis.proofs.live_ranges.walk.walk_blocks.Goals as goal
+
+pub loop-b-init : goal.loop-b-init
+loop-b-init g c =
+    let f : FunctionValue = g.F.Function.function c.args.f.now in
+    let slots : List ℕ = c.args.slots.now in
+    let W : ℕ → Type 0 = IsWanted c.args.wanted.now in
+    let count : c.num_blocks-b.result ≡ length f.blocks = c.num_blocks-b.ensures.count in
+    record {
+      within = omega (arith, count);
+      walked = rw (begins_past f c.num_blocks-b.result count, count)
+          (subst (λ (t : List (Option RangeEnd)). AreRangesWalked f W (length f.insts) (length f.blocks) (spread slots t) (spread slots c.args.ranges.now))
+          (sym c.requires.no_ends)
+          (subst (λ (t : List (Option LiveRange)). AreRangesWalked f W (length f.insts) (length f.blocks)
+          (spread slots (replicate (length c.args.ends.now) None))
+          (spread slots t))
+          (sym c.requires.no_ranges) (walked_none f c.requires.ssa W slots (length c.args.ends.now) c.requires.room)));
+    }
+
+pub walk_insts-requires-clause-walked : goal.walk_insts-requires-clause-walked
+walk_insts-requires-clause-walked g c =
+    let f : FunctionValue = g.F.Function.function c.args.f.now in
+    let slots : List ℕ = c.args.slots.now in
+    let W : ℕ → Type 0 = IsWanted c.args.wanted.now in
+    let b : ℕ = c.new-block.result in
+    let next : c.loop-b.b ≡ b + 1 = omega (arith, c.new-block.ensures, c.loop-b-test.true) in
+    let lt : b < length f.blocks = omega (arith, next, c.loop-b.invariant.within) in
+    let begin : begin_of f c.loop-b.b ≡ (block_at f b).range.end = ap (begin_of f) next ∙ begins_next f c.requires.ssa.follow b lt in
+    subst (λ (n : ℕ). AreRangesWalked f W (block_at f b).range.end n (spread slots c.loop-b.ends) (spread slots c.loop-b.ranges)) next
+    (subst (λ (n : ℕ). AreRangesWalked f W n c.loop-b.b (spread slots c.loop-b.ends) (spread slots c.loop-b.ranges)) begin c.loop-b.invariant.walked)
+
+pub loop-b-preserved : goal.loop-b-preserved
+loop-b-preserved g c =
+    let f : FunctionValue = g.F.Function.function c.args.f.now in
+    let slots : List ℕ = c.args.slots.now in
+    let W : ℕ → Type 0 = IsWanted c.args.wanted.now in
+    let b : ℕ = c.new-block.result in
+    let at : b ≡ c.loop-b.b - 1 = c.new-block.ensures in
+    let lt : b < length f.blocks = omega (arith, at, c.loop-b-test.true, c.loop-b.invariant.within) in
+    let walked : AreRangesWalked f W (block_at f b).range.first b (spread slots c.walk_insts.new.ends)
+    (spread slots c.begin_at_params.new.ranges) = walked_block f
+    W (block_at f b).range.first b
+    (spread slots c.walk_insts.new.ends) (spread slots c.walk_insts.new.ranges) (spread slots c.begin_at_params.new.ranges) c.walk_insts.ensures
+    (spread_length slots c.begin_at_params.new.ranges ∙ sym (spread_length slots c.walk_insts.new.ranges))
+    c.begin_at_params.ensures.right c.begin_at_params.ensures.stay c.begin_at_params.ensures.taken in
+    record {
+      within = omega (arith, c.loop-b.invariant.within);
+      walked = subst (λ (n : ℕ). AreRangesWalked f W (begin_of f n) n (spread slots c.walk_insts.new.ends) (spread slots c.begin_at_params.new.ranges)) at
+          (subst (λ (n : ℕ). AreRangesWalked f W n b (spread slots c.walk_insts.new.ends) (spread slots c.begin_at_params.new.ranges)) (sym (begins_at f b lt))
+          walked);
+    }
+
+pub returns : goal.returns
+returns g c =
+    let f : FunctionValue = g.F.Function.function c.args.f.now in
+    let slots : List ℕ = c.args.slots.now in
+    let W : ℕ → Type 0 = IsWanted c.args.wanted.now in
+    let none : c.loop-b.b ≡ 0 = omega (arith, c.loop-b-test.false) in
+    let first : begin_of f 0 ≡ 0 = begins_at f 0 c.requires.ssa.some ∙ (c.requires.ssa.follow 0 c.requires.ssa.some).1 refl in
+    let all : AreRangesWalked f W (begin_of f 0) 0 (spread slots c.loop-b.ends) (spread slots c.loop-b.ranges) = subst
+    (λ (n : ℕ). AreRangesWalked f W (begin_of f n) n (spread slots c.loop-b.ends) (spread slots c.loop-b.ranges)) none
+    c.loop-b.invariant.walked in
+    walked_all f c.requires.ssa W (spread slots c.loop-b.ends) (spread slots c.loop-b.ranges)
+    (subst (λ (n : ℕ). AreRangesWalked f W n 0 (spread slots c.loop-b.ends) (spread slots c.loop-b.ranges)) first all)

@@ -1,0 +1,41 @@
+-- What holds of both tables while the walk goes backward.
+use Rattle.std.specs.Prelude.{ℕ, ◌≡◌, ◌≢◌, ◌<◌, ◌≤◌, List, length, Contains, Option, None, Some, nat_eq, if◌then◌else◌}
+use Rattle.regalloc2_names.specs.Register.{VirtualRegister}
+use Rattle.regalloc2_function.specs.FunctionValue.{FunctionValue, block_at, inst_at}
+use Rattle.regalloc2_function.specs.DebugPoints.{DefinesAt, UsesAt}
+use Rattle.regalloc2_shape.specs.TableLength.{HasRoom}
+use Rattle.regalloc2_function.specs.FunctionValue.{op_at}
+use Rattle.regalloc2_analysis.specs.declared.live_ranges.ends.RangeEnd.{RangeEnd}
+use Rattle.regalloc2_analysis.specs.declared.live_ranges.LiveRange.{LiveRange}
+use Rattle.regalloc2_analysis.specs.LiveRanges.LiveRanges.{IsLiveRange, range_at}
+use Rattle.regalloc2_analysis.specs.LiveRanges.LastUses.{EndsFrom, end_at}
+
+-- each entry is the live range of a virtual register of its number
+abbrev pub AreRight : FunctionValue → List (Option LiveRange) → Type 0
+AreRight f t = (n : ℕ) (r : LiveRange) → range_at t n ≡ Some r → (r.vreg.number ≡ n) × IsLiveRange f r
+
+-- entries stay
+abbrev pub Stay : List (Option LiveRange) → List (Option LiveRange) → Type 0
+Stay old new = (n : ℕ) → range_at old n ≢ None → range_at new n ≢ None
+
+-- the last use from an instruction on is noted of each number that is asked for
+abbrev pub AreEndsFrom : FunctionValue → (ℕ → Type 0) → ℕ → List (Option RangeEnd) → Type 0
+AreEndsFrom f Asked i t = (n : ℕ) → n < length t → Asked n → EndsFrom f i n (end_at t n)
+
+-- the instructions from one on are walked, and the beginnings of the blocks from one on
+pub record AreRangesWalked (f : FunctionValue) (Asked : ℕ → Type 0) (i b : ℕ) (ends : List (Option RangeEnd)) (ranges : List (Option LiveRange)) : Type 0 where
+  pub ends_room : HasRoom f (length ends)
+  pub ranges_room : HasRoom f (length ranges)
+  pub noted : AreEndsFrom f Asked i ends
+  pub right : AreRight f ranges
+  pub defined : (v : VirtualRegister) (j : ℕ) → i ≤ j → Asked v.number → DefinesAt f v j → range_at ranges v.number ≢ None
+  pub taken : (v : VirtualRegister) (c j : ℕ) → b ≤ c → c < length f.blocks → Asked v.number → Contains (block_at f c).params v → UsesAt f v j →
+      range_at ranges v.number ≢ None
+
+-- no operand of an instruction names a number that is asked for
+abbrev pub NamesNoAsked : FunctionValue → (ℕ → Type 0) → ℕ → Type 0
+NamesNoAsked f Asked i = (k : ℕ) → k < length (inst_at f i).operands → Asked (op_at (inst_at f i).operands k).vreg.number → ⊥
+
+-- where a block begins, and past the last block where the instructions end
+abbrev pub begin_of : FunctionValue → ℕ → ℕ
+begin_of f b = if nat_eq b (length f.blocks) then length f.insts else (block_at f b).range.first

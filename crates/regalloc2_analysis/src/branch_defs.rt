@@ -1,0 +1,139 @@
+//! What the branches of a function define, and which blocks they lead to.
+//!
+//! The tables are made once, before a walk, which then looks up and never searches: by which branch a virtual register is
+//! defined, on which edge a block is entered whose predecessor's branch defines, and which of those definitions are stored. Where
+//! no branch defines they are empty. Upstream has nothing of the kind: it stores what a branch defines after the branch.
+
+mod edges;
+mod sites;
+mod uses;
+
+ghost use Rattle.std.specs.Prelude.{◌≡◌, ◌≤◌, ◌↔◌, ℕ, Some, length, IsTrue, IfOk, IfErr};
+ghost use Rattle.regalloc2_analysis.specs.BranchDefs.BranchDefs.{EndsInDefinitions, HasDefinitions, MayHaveTables};
+ghost use Rattle.regalloc2_analysis.specs.BranchDefs.BranchDefs.{fixed_definition as fixed_definition_of};
+ghost use Rattle.regalloc2_analysis.specs.BranchDefs.Tables.{AreBranchDefsOf, edge_of, site_of, stored_of};
+
+use edges::{edges_into, some_branch_defines};
+use regalloc2_function::Function;
+use regalloc2_index::{Block, Inst};
+use regalloc2_names::{Operand, OperandConstraint, PReg, PRegSet, RegAllocError, VReg};
+use regalloc2_shape::table_length::table_length;
+use sites::{branch_sites, site_in};
+use std::alloc::Allocator;
+use uses::used_elsewhere;
+
+/// An operand of a branch that defines.
+#[derive(Clone, Copy, Debug, PartialEq, Eq)]
+pub struct DefSite {
+    /// The branch.
+    pub branch: Inst,
+    /// The index among its operands.
+    pub index: usize,
+}
+
+/// The edge into a block from a branch that defines.
+#[derive(Clone, Copy)]
+pub struct EdgeInto {
+    /// The block that the branch ends.
+    pub from: Block,
+    /// The branch.
+    pub branch: Inst,
+    /// The position of the block among the successors.
+    pub position: usize,
+    /// The registers to which definitions of the branch are fixed.
+    pub held: PRegSet,
+    // where the branch's operands begin and end in the list of those that are stored
+    first: usize,
+    end: usize,
+}
+
+/// What branches define.
+#[derive(Drop)]
+pub struct BranchDefs<A: Allocator> {
+    // by vreg number: the operand of a branch that defines it
+    sites: Vec<Option<DefSite>, A>,
+    // by block
+    edges: Vec<Option<EdgeInto>, A>,
+    // the operands, by index and branch after branch, that are fixed and define what is used
+    stored: Vec<usize, A>,
+}
+
+/// The register to which a definition is fixed.
+pub fn fixed_definition(operand: Operand) -> Option<PReg>
+    ensures { result ≡ fixed_definition_of operand }
+{
+    if !operand.is_def() {
+        return None;
+    }
+    match operand.constraint() {
+        OperandConstraint::FixedReg(preg) => Some(preg),
+        _ => None,
+    }
+}
+
+impl<A: Allocator + Copy> BranchDefs<A> {
+    /// Those of a function.
+    ///
+    /// Linear in the function's instructions, operands and arguments. The refusal is `Memory`; where no branch defines, no memory
+    /// is asked for.
+    pub fn of<F: Function>(alloc: A, f: &F) -> Result<Self, RegAllocError>
+        requires well_formed { MayHaveTables (F.function f.now) }
+        ensures ok { IfOk result (λ t. AreBranchDefsOf (F.function f.now) t) }
+        ensures memory { IfErr result (λ e. e ≡ RegAllocError.Memory) }
+        ensures asked { IfErr result (λ e. HasDefinitions (F.function f.now)) }
+    {
+        if !some_branch_defines(f) {
+            return Ok(BranchDefs {
+                sites: Vec::new(alloc),
+                edges: Vec::new(alloc),
+                stored: Vec::new(alloc),
+            });
+        }
+        let vregs = table_length(f);
+        let sites = branch_sites(alloc, f, vregs)?;
+        let used = used_elsewhere(alloc, f, vregs, sites.as_slice())?;
+        let (edges, stored) = edges_into(alloc, f, used.as_slice())?;
+        Ok(BranchDefs {
+            sites,
+            edges,
+            stored,
+        })
+    }
+}
+
+impl<A: Allocator> BranchDefs<A> {
+    /// The operand of a branch that defines a vreg.
+    pub fn site(&self, vreg: VReg) -> Option<DefSite>
+        ensures { result ≡ site_of self.now vreg.number }
+    {
+        site_in(&self.sites, vreg)
+    }
+
+    /// Whether that branch defines a vreg.
+    pub fn is_defined_by(&self, vreg: VReg, branch: Inst) -> bool
+        ensures { IsTrue result ↔ ((k : ℕ) × (site_of self.now vreg.number ≡ Some (record { branch = branch; index = k }))) }
+    {
+        match self.site(vreg) {
+            Some(site) => site.branch == branch,
+            None => false,
+        }
+    }
+
+    /// The edge into a block from a branch that defines.
+    pub fn edge_into(&self, block: Block) -> Option<EdgeInto>
+        ensures { result ≡ edge_of self.now block }
+    {
+        if block.index() >= self.edges.len() {
+            return None;
+        }
+        self.edges[block.index()]
+    }
+
+    /// The operands of the branch of an edge, by index, that are fixed and define what another instruction reads or passes.
+    pub fn stored_on(&self, edge: &EdgeInto) -> &[usize]
+        requires within { (edge.now.first ≤ edge.now.end) × (edge.now.end ≤ length self.now.stored.items) }
+        ensures { result.now ≡ stored_of self.now edge.now }
+    {
+        &self.stored[edge.first..edge.end]
+    }
+}

@@ -1,0 +1,134 @@
+//! Which virtual registers another instruction uses than the one that defines them.
+
+ghost use Rattle.std.specs.Prelude.{◌≡◌, ◌<◌, ◌+◌, ◌↔◌, true, false, ℕ, [], length, slice_index_or, IfOk};
+ghost use Rattle.regalloc2_names.specs.Operand.{is_reading};
+ghost use Rattle.regalloc2_names.specs.Register.{VirtualRegister};
+ghost use Rattle.regalloc2_function.specs.FunctionValue.{block_at, inst_at};
+ghost use Rattle.regalloc2_function.specs.WellFormed.{last_of};
+ghost use Rattle.regalloc2_shape.specs.TableLength.{HasRoom};
+ghost use Rattle.regalloc2_shape.specs.MarkedNumbers.{Marks};
+ghost use Rattle.regalloc2_analysis.specs.BranchDefs.BranchDefs.{MayHaveTables};
+ghost use Rattle.regalloc2_analysis.specs.BranchDefs.Notes.{AreUsed, IsSiteAt, PassesAmong, PassesIn, PassesOut, ReadsAmong, ReadsIn};
+ghost use Rattle.regalloc2_analysis.specs.BranchDefs.Tables.{AreDefSites};
+
+use super::DefSite;
+use super::sites::is_site_at;
+use regalloc2_function::Function;
+use regalloc2_index::{Block, Inst};
+use regalloc2_names::{Operand, VReg};
+use std::alloc::{AllocError, Allocator};
+
+// A number is marked.
+fn mark(used: &mut [bool], number: usize)
+    ensures { Marks (λ n. number ≡ n) used.old used.new }
+{
+    if number < used.len() {
+        used[number] = true;
+    }
+}
+
+// What an operand reads is used.
+fn note_read(used: &mut [bool], operand: Operand)
+    ensures { Marks (λ n. (is_reading operand ≡ true) × (operand.vreg.number ≡ n)) used.old used.new }
+{
+    if operand.is_reading() {
+        mark(used, operand.vreg().vreg());
+    }
+}
+
+// What operands read is used.
+fn note_reads(used: &mut [bool], operands: &[Operand])
+    ensures { Marks (ReadsAmong operands.now (length operands.now)) used.old used.new }
+{
+    for k in 0..operands.len() {
+        note_read(used, operands[k]);
+    }
+}
+
+// What instructions read is used.
+fn note_all_reads<F: Function>(used: &mut [bool], f: &F)
+    ensures { Marks (ReadsIn (F.function f.now) (length (F.function f.now).insts)) used.old used.new }
+{
+    for i in 0..f.num_insts() {
+        note_reads(used, f.inst_operands(Inst::new(i)));
+    }
+}
+
+// An argument that an instruction passes and doesn't define is used.
+fn note_argument(used: &mut [bool], sites: &[Option<DefSite>], argument: VReg, inst: Inst)
+    ensures { Marks (λ n. (argument.number ≡ n) × (IsSiteAt sites.now n inst → ⊥)) used.old used.new }
+{
+    if !is_site_at(sites, argument, inst) {
+        mark(used, argument.vreg());
+    }
+}
+
+// What an instruction passes to one successor and doesn't define is used.
+fn note_arguments(used: &mut [bool], sites: &[Option<DefSite>], arguments: &[VReg], inst: Inst)
+    ensures { Marks (PassesAmong sites.now inst arguments.now (length arguments.now)) used.old used.new }
+{
+    for j in 0..arguments.len() {
+        note_argument(used, sites, arguments[j], inst);
+    }
+}
+
+// What a block passes to its successors, and its last instruction doesn't define, is used.
+fn note_passed<F: Function>(used: &mut [bool], sites: &[Option<DefSite>], f: &F, block: Block)
+    requires block { block < length (F.function f.now).blocks }
+    requires well_formed { MayHaveTables (F.function f.now) }
+    ensures { Marks (PassesOut (F.function f.now) sites.now block (length (block_at (F.function f.now) block).succs)) used.old used.new }
+{
+    let last = f.block_insns(block).last();
+    for k in 0..f.block_succs(block).len() {
+        note_arguments(used, sites, f.branch_blockparams(block, last, k), last);
+    }
+}
+
+// What blocks pass, and their last instructions don't define, is used.
+fn note_all_passed<F: Function>(used: &mut [bool], sites: &[Option<DefSite>], f: &F)
+    requires well_formed { MayHaveTables (F.function f.now) }
+    ensures { Marks (PassesIn (F.function f.now) sites.now (length (F.function f.now).blocks)) used.old used.new }
+{
+    for b in 0..f.num_blocks() {
+        note_passed(used, sites, f, Block::new(b));
+    }
+}
+
+// What is used elsewhere is used.
+fn note_uses<F: Function>(used: &mut [bool], sites: &[Option<DefSite>], f: &F)
+    requires well_formed { MayHaveTables (F.function f.now) }
+    requires sites { AreDefSites (F.function f.now) sites.now }
+    requires room { HasRoom (F.function f.now) (length used.old) }
+    requires none { (n : ℕ) → slice_index_or used.old n false ≡ false }
+    ensures { AreUsed (F.function f.now) used.new }
+{
+    note_all_reads(used, f);
+    note_all_passed(used, sites, f);
+}
+
+// No mark for each of so many numbers.
+fn no_marks<A: Allocator + Copy>(alloc: A, num: usize) -> Result<Vec<bool, A>, AllocError>
+    ensures len { IfOk result (λ v. length v.items ≡ num) }
+    ensures none { IfOk result (λ v. (n : ℕ) → slice_index_or v.items n false ≡ false) }
+{
+    let mut used = Vec::new(alloc);
+    used.resize(num, false)?;
+    Ok(used)
+}
+
+/// By vreg number, up to a bound, whether an instruction reads it, or passes it and doesn't define it.
+pub fn used_elsewhere<A: Allocator + Copy, F: Function>(
+    alloc: A,
+    f: &F,
+    vregs: usize,
+    sites: &[Option<DefSite>],
+) -> Result<Vec<bool, A>, AllocError>
+    requires well_formed { MayHaveTables (F.function f.now) }
+    requires room { HasRoom (F.function f.now) vregs }
+    requires sites { AreDefSites (F.function f.now) sites.now }
+    ensures { IfOk result (λ v. AreUsed (F.function f.now) v.items) }
+{
+    let mut used = no_marks(alloc, vregs)?;
+    note_uses(used.as_mut_slice(), sites, f);
+    Ok(used)
+}

@@ -1,0 +1,53 @@
+//! From where to where the value of each virtual register can be shown to a debugger, and which operand's place shows it.
+//!
+//! [`live_ranges`] finds that for each virtual register of which it is wanted, [`kept_labels`] for each label that a client put on one. Nothing here
+//! knows the allocator: its walk decides the places, and these calls say of which operands they are needed. Upstream keeps the
+//! same points in `vreg_to_live_inst_range` while it allocates.
+
+use regalloc2_index::Inst;
+use regalloc2_names::{ProgPoint, VReg};
+
+mod ends;
+mod labels;
+mod ranges;
+mod slots;
+mod walk;
+mod wanted;
+
+pub use labels::kept_labels;
+pub use walk::live_ranges;
+
+/// An operand of the function: its instruction, and its index among the operands of that.
+#[derive(Clone, Copy, Debug, PartialEq, Eq)]
+pub struct InstOperand {
+    /// The instruction.
+    pub inst: Inst,
+    /// The index among the instruction's operands, from 0.
+    pub index: usize,
+}
+
+/// From where to where the value of a virtual register can be shown.
+#[derive(Clone, Copy, Debug, PartialEq, Eq)]
+pub struct LiveRange {
+    /// The virtual register.
+    pub vreg: VReg,
+    /// The point after its definition, or before the block of which it is a parameter.
+    pub first: ProgPoint,
+    /// The point at which its last use ends: before the next instruction for a late use, after the instruction for an early
+    /// one, before it for an argument that it passes. Where nothing uses it, but for the branch that defines and passes it,
+    /// the point before the instruction that follows its definition.
+    pub last: ProgPoint,
+    /// The operand whose place shows the value up to the last point: the first of the last use's instruction that reads it
+    /// late, or where none does the first that reads it early. None where that instruction passes it as an argument
+    /// and doesn't read it. Where nothing uses it, the operand that defines it.
+    pub by: Option<InstOperand>,
+}
+
+/// A label that is kept, with the live range of its virtual register.
+#[derive(Clone, Copy, Debug, PartialEq, Eq)]
+pub struct KeptLabel {
+    /// The client's label.
+    pub label: u32,
+    /// From where to where its virtual register's value can be shown.
+    pub range: LiveRange,
+}

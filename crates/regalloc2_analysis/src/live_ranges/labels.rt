@@ -1,0 +1,89 @@
+//! The labels that lie within the live ranges of their virtual registers.
+
+ghost use Rattle.std.specs.Prelude.{◌≡◌, ℕ, [], IfErr, IfOk, IsOk, MatchOption};
+ghost use Rattle.regalloc2_function.specs.FunctionValue.{label_of};
+ghost use Rattle.regalloc2_function.specs.DebugPoints.{IsKept};
+ghost use Rattle.regalloc2_analysis.specs.LiveRanges.LiveRanges.{AreKeptLabels, AreLiveRanges, IsKeptRange, IsLabelled, IsSSA};
+ghost use Rattle.regalloc2_analysis.specs.LiveRanges.Slots.{spread};
+
+use super::slots::entry;
+use super::walk::few_ranges;
+use super::wanted::labelled;
+use super::{KeptLabel, LiveRange};
+use regalloc2_function::Function;
+use regalloc2_index::Inst;
+use regalloc2_names::{RegAllocError, VReg};
+use std::alloc::Allocator;
+
+// The live range of a label's vreg, if the label is kept: it starts at or after the instruction of the first point, and ends at
+// most one past that of the last.
+fn kept_range<F: Function>(
+    f: &F,
+    slots: &[u32],
+    ranges: &[Option<LiveRange>],
+    label: (VReg, Inst, Inst, u32),
+) -> Option<LiveRange>
+    requires ssa { IsSSA (F.function f.now) }
+    requires ranges { AreLiveRanges (F.function f.now) (IsLabelled (F.function f.now)) (spread slots.now ranges.now) }
+    requires labelled { IsLabelled (F.function f.now) (label_of label).vreg.number }
+    ensures { MatchOption result ((start end : ℕ) → IsKept (F.function f.now) (label_of label) start end → ⊥)
+        (IsKeptRange (F.function f.now) (label_of label)) }
+{
+    let (vreg, start, end, _) = label;
+    let range = entry(ranges, slots, vreg.vreg())?;
+    let first = range.first.inst().index();
+    let last = range.last.inst().index();
+    if range.vreg == vreg && first <= start.index() && end.index() <= last + 1 {
+        Some(range)
+    } else {
+        None
+    }
+}
+
+// The labels of a function that are kept, as listed.
+fn keep_labels<A: Allocator + Copy, F: Function>(
+    alloc: A,
+    f: &F,
+    slots: &[u32],
+    ranges: &[Option<LiveRange>],
+) -> Result<Vec<KeptLabel, A>, RegAllocError>
+    requires ssa { IsSSA (F.function f.now) }
+    requires ranges { AreLiveRanges (F.function f.now) (IsLabelled (F.function f.now)) (spread slots.now ranges.now) }
+    ensures ok { IfOk result (λ ks. AreKeptLabels (F.function f.now) (F.function f.now).labels ks.items) }
+    ensures err { IfErr result (λ e. e ≡ RegAllocError.Memory) }
+{
+    let mut kept = Vec::new(alloc);
+    for label in f.debug_value_labels() {
+        if let Some(range) = kept_range(f, slots, ranges, *label) {
+            let (_, _, _, label) = *label;
+            kept.push(KeptLabel { label, range })?;
+        }
+    }
+    Ok(kept)
+}
+
+/// The debug labels of a function that are kept, as listed, each with the live range of its virtual register.
+///
+/// A label is kept where its virtual register has a first and a last point, and the label starts at or after the first one's
+/// instruction and ends at most one past the last one's, as upstream's `build_debug_info` has it. Where the virtual register has
+/// a spill slot in the end, that shows the value; else the place of the operand that `range.by` names does. It names none only
+/// where an argument is the last use, and arguments are passed in slots. Conditions are those of [`live_ranges`].
+///
+/// Live ranges are found only where there are labels, and only of what these name: for a function without them no memory is asked
+/// for. The only error is `Memory`.
+pub fn kept_labels<A: Allocator + Copy, F: Function>(
+    alloc: A,
+    f: &F,
+) -> Result<Vec<KeptLabel, A>, RegAllocError>
+    requires { IsSSA (F.function f.now) }
+    ensures ok { IfOk result (λ ks. AreKeptLabels (F.function f.now) (F.function f.now).labels ks.items) }
+    ensures none { (F.function f.now).labels ≡ [] → IsOk result }
+    ensures err { IfErr result (λ e. e ≡ RegAllocError.Memory) }
+{
+    if f.debug_value_labels().is_empty() {
+        return Ok(Vec::new(alloc));
+    }
+    let wanted = labelled(alloc, f)?;
+    let few = few_ranges(alloc, f, wanted.as_slice())?;
+    keep_labels(alloc, f, few.slots.as_slice(), few.entries.as_slice())
+}

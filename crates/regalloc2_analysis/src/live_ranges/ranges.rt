@@ -1,0 +1,130 @@
+//! Live ranges, completed where the walk meets their beginning: a definition, or a block's parameter.
+
+ghost use Rattle.std.specs.Prelude.{◌≡◌, ◌≢◌, ◌+◌, ◌<◌, ◌≤◌, ◌&&◌, ℕ, false, length, slice_index_or, Contains, IfSome, IfNone, None, Some};
+ghost use Rattle.regalloc2_names.specs.Register.{VirtualRegister};
+ghost use Rattle.regalloc2_function.specs.FunctionValue.{block_at};
+ghost use Rattle.regalloc2_names.specs.Operand.{is_def};
+ghost use Rattle.regalloc2_function.specs.DebugPoints.{DefinesAt, UsesAt};
+ghost use Rattle.regalloc2_shape.specs.TableLength.{HasRoom};
+ghost use Rattle.regalloc2_analysis.specs.LiveRanges.LastUses.{end_at, end_behind};
+ghost use Rattle.regalloc2_analysis.specs.LiveRanges.LiveRanges.{IsSSA, IsWanted, range_at};
+ghost use Rattle.regalloc2_analysis.specs.LiveRanges.Slots.{AreSlots, spread};
+ghost use Rattle.regalloc2_analysis.specs.LiveRanges.WalkInvariant.{AreEndsFrom, AreRight, Stay};
+
+use super::ends::RangeEnd;
+use super::slots::{entry, set_entry};
+use super::wanted::is_wanted;
+use super::{InstOperand, LiveRange};
+use regalloc2_function::Function;
+use regalloc2_index::{Block, Inst};
+use regalloc2_names::{Operand, ProgPoint, VReg};
+
+// The end of what an instruction defines, of which the uses from the instruction on are noted. One right before it is an argument that
+// it passes itself, which doesn't count.
+fn end_of_defined(noted: Option<RangeEnd>, inst: Inst, unused: RangeEnd) -> RangeEnd
+    requires { inst < 1073741824 }
+    ensures { result ≡ end_behind inst noted unused }
+{
+    let own = ProgPoint::before(inst);
+    match noted {
+        Some(end) if end.last != own => end,
+        _ => unused,
+    }
+}
+
+// Whether an operand defines a vreg that is wanted.
+fn defines_wanted(wanted: &[bool], operand: Operand) -> bool
+    ensures { result ≡ is_def operand.kind && slice_index_or wanted.now operand.vreg.number false }
+{
+    operand.is_def() && is_wanted(wanted, operand.vreg())
+}
+
+/// Completes the live ranges of what an instruction defines that is wanted. Where nothing uses it, its definition is its last point's.
+pub fn begin_at_defs<F: Function>(
+    ranges: &mut [Option<LiveRange>],
+    ends: &[Option<RangeEnd>],
+    slots: &[u32],
+    f: &F,
+    wanted: &[bool],
+    inst: Inst,
+)
+    requires ssa { IsSSA (F.function f.now) }
+    requires inst { inst < length (F.function f.now).insts }
+    requires room { HasRoom (F.function f.now) (length slots.now) }
+    requires ends { AreEndsFrom (F.function f.now) (IsWanted wanted.now) inst (spread slots.now ends.now) }
+    requires slots { AreSlots wanted.now slots.now (length ranges.old) }
+    requires right { AreRight (F.function f.now) (spread slots.now ranges.old) }
+    ensures right { AreRight (F.function f.now) (spread slots.now ranges.new) }
+    ensures stay { Stay (spread slots.now ranges.old) (spread slots.now ranges.new) }
+    ensures defined { (v : VirtualRegister) → IsWanted wanted.now v.number → DefinesAt (F.function f.now) v inst →
+        range_at (spread slots.now ranges.new) v.number ≢ None }
+{
+    for (index, operand) in f.inst_operands(inst).iter().enumerate() {
+        if defines_wanted(wanted, *operand) {
+            let vreg = operand.vreg();
+            let unused = RangeEnd {
+                last: ProgPoint::before(inst.next()),
+                by: Some(InstOperand { inst, index }),
+            };
+            let end = end_of_defined(entry(ends, slots, vreg.vreg()), inst, unused);
+            let range = LiveRange {
+                vreg,
+                first: ProgPoint::after(inst),
+                last: end.last,
+                by: end.by,
+            };
+            set_entry(ranges, slots, vreg.vreg(), range);
+        }
+    }
+}
+
+// The end that is noted of a vreg, if that is wanted.
+fn wanted_end(
+    wanted: &[bool],
+    ends: &[Option<RangeEnd>],
+    slots: &[u32],
+    vreg: VReg,
+) -> Option<RangeEnd>
+    ensures some { IfSome result (λ e. IsWanted wanted.now vreg.number × (end_at (spread slots.now ends.now) vreg.number ≡ Some e)) }
+    ensures none { IfNone result (IsWanted wanted.now vreg.number → end_at (spread slots.now ends.now) vreg.number ≡ None) }
+{
+    if is_wanted(wanted, vreg) {
+        entry(ends, slots, vreg.vreg())
+    } else {
+        None
+    }
+}
+
+/// Completes the live ranges of a block's parameters that are wanted. One that nothing uses has none.
+pub fn begin_at_params<F: Function>(
+    ranges: &mut [Option<LiveRange>],
+    ends: &[Option<RangeEnd>],
+    slots: &[u32],
+    f: &F,
+    wanted: &[bool],
+    block: Block,
+)
+    requires ssa { IsSSA (F.function f.now) }
+    requires block { block < length (F.function f.now).blocks }
+    requires room { HasRoom (F.function f.now) (length slots.now) }
+    requires ends { AreEndsFrom (F.function f.now) (IsWanted wanted.now) (block_at (F.function f.now) block).range.first (spread slots.now ends.now) }
+    requires slots { AreSlots wanted.now slots.now (length ranges.old) }
+    requires right { AreRight (F.function f.now) (spread slots.now ranges.old) }
+    ensures right { AreRight (F.function f.now) (spread slots.now ranges.new) }
+    ensures stay { Stay (spread slots.now ranges.old) (spread slots.now ranges.new) }
+    ensures taken { (v : VirtualRegister) (j : ℕ) → IsWanted wanted.now v.number → Contains (block_at (F.function f.now) block).params v →
+        UsesAt (F.function f.now) v j → range_at (spread slots.now ranges.new) v.number ≢ None }
+{
+    let first = ProgPoint::before(f.block_insns(block).first());
+    for param in f.block_params(block) {
+        if let Some(end) = wanted_end(wanted, ends, slots, *param) {
+            let range = LiveRange {
+                vreg: *param,
+                first,
+                last: end.last,
+                by: end.by,
+            };
+            set_entry(ranges, slots, param.vreg(), range);
+        }
+    }
+}

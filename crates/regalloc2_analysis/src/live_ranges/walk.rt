@@ -1,0 +1,143 @@
+//! The walk over all blocks and instructions, from the last to the first.
+
+ghost use Rattle.std.specs.Prelude.{◌≡◌, ◌+◌, ◌<◌, ◌≤◌, length, replicate, IfErr, IfOk, None};
+ghost use Rattle.regalloc2_function.specs.FunctionValue.{block_at};
+ghost use Rattle.regalloc2_shape.specs.TableLength.{HasRoom};
+ghost use Rattle.regalloc2_analysis.specs.LiveRanges.LiveRanges.{AreLiveRanges, IsSSA, IsWanted};
+ghost use Rattle.regalloc2_analysis.specs.LiveRanges.Slots.{AreSlots, spread};
+ghost use Rattle.regalloc2_analysis.specs.LiveRanges.WalkInvariant.{AreRangesWalked};
+
+use super::LiveRange;
+use super::ends::{RangeEnd, note_uses};
+use super::ranges::{begin_at_defs, begin_at_params};
+use super::slots::{entry, slots_of};
+use super::wanted::is_passed_over;
+use regalloc2_function::Function;
+use regalloc2_index::{Block, Inst};
+use regalloc2_names::RegAllocError;
+use regalloc2_shape::table_length::table_length;
+use std::alloc::{AllocError, Allocator};
+
+/// Live ranges of what is wanted, and by number which of them is whose: the index of its entry, past the end where it has none.
+#[derive(Drop)]
+pub struct FewRanges<A: Allocator> {
+    pub slots: Vec<u32, A>,
+    pub entries: Vec<Option<LiveRange>, A>,
+}
+
+// Walks the instructions of a block, but for those that it passes over.
+fn walk_insts<F: Function>(
+    ends: &mut [Option<RangeEnd>],
+    ranges: &mut [Option<LiveRange>],
+    slots: &[u32],
+    f: &F,
+    wanted: &[bool],
+    block: Block,
+)
+    requires ssa { IsSSA (F.function f.now) }
+    requires block { block < length (F.function f.now).blocks }
+    requires ends_slots { AreSlots wanted.now slots.now (length ends.old) }
+    requires ranges_slots { AreSlots wanted.now slots.now (length ranges.old) }
+    requires walked { AreRangesWalked (F.function f.now) (IsWanted wanted.now) (block_at (F.function f.now) block).range.end (block + 1)
+        (spread slots.now ends.old) (spread slots.now ranges.old) }
+    ensures { AreRangesWalked (F.function f.now) (IsWanted wanted.now) (block_at (F.function f.now) block).range.first (block + 1)
+        (spread slots.now ends.new) (spread slots.now ranges.new) }
+{
+    let range = f.block_insns(block);
+    let first = range.first().index();
+    let end = range.end();
+    let mut i = end.index();
+    while i > first {
+        i -= 1;
+        let inst = Inst::new(i);
+        if !is_passed_over(f, wanted, end, inst) {
+            note_uses(ends, slots, f, block, inst);
+            begin_at_defs(ranges, ends, slots, f, wanted, inst);
+        }
+    }
+}
+
+// Walks all blocks: the instructions of each, then its parameters.
+fn walk_blocks<F: Function>(
+    ends: &mut [Option<RangeEnd>],
+    ranges: &mut [Option<LiveRange>],
+    slots: &[u32],
+    f: &F,
+    wanted: &[bool],
+)
+    requires ssa { IsSSA (F.function f.now) }
+    requires room { HasRoom (F.function f.now) (length slots.now) }
+    requires slots { AreSlots wanted.now slots.now (length ends.old) }
+    requires no_ends { ends.old ≡ replicate (length ends.old) None }
+    requires no_ranges { ranges.old ≡ replicate (length ends.old) None }
+    ensures { AreLiveRanges (F.function f.now) (IsWanted wanted.now) (spread slots.now ranges.new) }
+{
+    let mut b = f.num_blocks();
+    while b > 0 {
+        b -= 1;
+        let block = Block::new(b);
+        walk_insts(ends, ranges, slots, f, wanted, block);
+        begin_at_params(ranges, ends, slots, f, wanted, block);
+    }
+}
+
+/// The live ranges of the virtual registers that are wanted, in tables that are as long as there are such.
+pub fn few_ranges<A: Allocator + Copy, F: Function>(
+    alloc: A,
+    f: &F,
+    wanted: &[bool],
+) -> Result<FewRanges<A>, AllocError>
+    requires { IsSSA (F.function f.now) }
+    ensures ok { IfOk result (λ r. AreLiveRanges (F.function f.now) (IsWanted wanted.now) (spread r.slots.items r.entries.items)) }
+    ensures few { IfOk result (λ r. length r.slots.items ≤ (F.function f.now).num_vregs) }
+{
+    let (slots, count) = slots_of(alloc, wanted, table_length(f))?;
+    let mut ends: Vec<Option<RangeEnd>, A> = Vec::new(alloc);
+    ends.resize(count, None)?;
+    let mut entries = Vec::new(alloc);
+    entries.resize(count, None)?;
+    walk_blocks(
+        ends.as_mut_slice(),
+        entries.as_mut_slice(),
+        slots.as_slice(),
+        f,
+        wanted,
+    );
+    Ok(FewRanges { slots, entries })
+}
+
+// The same table by number.
+fn spread_out<A: Allocator + Copy>(
+    alloc: A,
+    slots: &[u32],
+    entries: &[Option<LiveRange>],
+) -> Result<Vec<Option<LiveRange>, A>, AllocError>
+    ensures { IfOk result (λ t. t.items ≡ spread slots.now entries.now) }
+{
+    let mut ranges = Vec::with_capacity(alloc, slots.len())?;
+    for number in 0..slots.len() {
+        ranges.push(entry(entries, slots, number))?;
+    }
+    Ok(ranges)
+}
+
+/// The live ranges of the virtual registers that are wanted, by number: none for a number that isn't defined, or that is a parameter's and
+/// never used. Where all are wanted, each is there.
+///
+/// Each is that of upstream's `vreg_to_live_inst_range`. Of the function is asked what each well-formed one has (`IsSSA`): its
+/// blocks follow one another, each number is defined once, and each use comes after its definition. The time is linear in the
+/// operands, the arguments, the parameters and what `table_length` returns. The only error is `Memory`, where memory for
+/// two tables of that length, or for two of what is wanted, ran out.
+pub fn live_ranges<A: Allocator + Copy, F: Function>(
+    alloc: A,
+    f: &F,
+    wanted: &[bool],
+) -> Result<Vec<Option<LiveRange>, A>, RegAllocError>
+    requires { IsSSA (F.function f.now) }
+    ensures ok { IfOk result (λ t. AreLiveRanges (F.function f.now) (IsWanted wanted.now) t.items) }
+    ensures few { IfOk result (λ t. length t.items ≤ (F.function f.now).num_vregs) }
+    ensures err { IfErr result (λ e. e ≡ RegAllocError.Memory) }
+{
+    let few = few_ranges(alloc, f, wanted)?;
+    Ok(spread_out(alloc, few.slots.as_slice(), few.entries.as_slice())?)
+}

@@ -1,0 +1,218 @@
+//! Whether a path from the entry comes to a block that reads or passes a vreg, without a write of that vreg before.
+
+ghost use Rattle.std.specs.Prelude.{◌≡◌, ◌<◌, ◌↔◌, ℕ, All, Any, length, true, Contains, IfOk, IfSome, IsTrue, OnOk};
+ghost use Rattle.regalloc2_function.specs.FunctionValue.{FunctionValue, block_at};
+ghost use Rattle.regalloc2_function.specs.Path.{first_of};
+ghost use Rattle.regalloc2_function.specs.SourceRun.{arguments_at};
+ghost use Rattle.regalloc2_function.specs.WellFormed.{IsFramed};
+ghost use Rattle.regalloc2_names.specs.Operand.{is_def, reads_at};
+ghost use Rattle.regalloc2_names.specs.Register.{VirtualRegister};
+ghost use Rattle.regalloc2_semantics.specs.Blocks.{IsUnwritten};
+ghost use Rattle.regalloc2_analysis.specs.Liveness.LiveIn.{IsNeeded};
+ghost use Rattle.regalloc2_analysis.specs.Liveness.Search.{LeadsBack};
+
+use crate::liveness::chain::is_on;
+use regalloc2_function::Function;
+use regalloc2_index::{Block, Inst};
+use regalloc2_names::{Operand, OperandPos, VReg};
+use std::alloc::{AllocError, Allocator};
+
+/// Whether an operand reads a vreg at a position.
+fn reads(operand: Operand, pos: OperandPos, vreg: VReg) -> bool
+    ensures { IsTrue result ↔ ((reads_at pos operand ≡ true) × (operand.vreg ≡ vreg)) }
+{
+    operand.reads_at(pos) && operand.vreg() == vreg
+}
+
+/// Whether an operand defines a vreg.
+fn defines(operand: Operand, vreg: VReg) -> bool
+    ensures { IsTrue result ↔ ((is_def operand.kind ≡ true) × (operand.vreg ≡ vreg)) }
+{
+    operand.is_def() && operand.vreg() == vreg
+}
+
+/// Whether some operand reads a vreg at a position.
+fn is_read(operands: &[Operand], pos: OperandPos, vreg: VReg) -> bool
+    ensures { result ≡ true → Any (λ o. (reads_at pos o ≡ true) × (o.vreg ≡ vreg)) operands.now }
+{
+    for operand in operands {
+        if reads(*operand, pos, vreg) {
+            return true;
+        }
+    }
+    false
+}
+
+/// Whether some operand defines a vreg.
+fn is_defined(operands: &[Operand], vreg: VReg) -> bool
+    ensures { IsTrue result ↔ Any (λ o. (is_def o.kind ≡ true) × (o.vreg ≡ vreg)) operands.now }
+{
+    operands.iter().any(|operand| defines(*operand, vreg))
+}
+
+/// Whether a list names a vreg.
+fn is_named(vregs: &[VReg], vreg: VReg) -> bool
+    ensures { IsTrue result ↔ Contains vregs.now vreg }
+{
+    vregs.contains(&vreg)
+}
+
+/// Whether no instruction of a block defines a vreg.
+fn is_unwritten<F: Function>(f: &F, block: Block, vreg: VReg) -> bool
+    requires framed { IsFramed (F.function f.now) }
+    requires block { block < length (F.function f.now).blocks }
+    ensures { result ≡ true → IsUnwritten (F.function f.now) block vreg }
+{
+    let range = f.block_insns(block);
+    for i in range.first().index()..range.end().index() {
+        if is_defined(f.inst_operands(Inst::new(i)), vreg) {
+            return false;
+        }
+    }
+    true
+}
+
+/// Whether a block passes a vreg on an edge.
+fn is_passed<F: Function>(f: &F, block: Block, vreg: VReg) -> bool
+    requires framed { IsFramed (F.function f.now) }
+    requires block { block < length (F.function f.now).blocks }
+    ensures { result ≡ true → (k : ℕ) × (k < length (block_at (F.function f.now) block).succs) × Contains (arguments_at (F.function f.now) block k) vreg }
+{
+    let last = f.block_insns(block).last();
+    for k in 0..f.block_succs(block).len() {
+        if is_named(f.branch_blockparams(block, last, k), vreg) {
+            return true;
+        }
+    }
+    false
+}
+
+/// Whether a block reads or passes a vreg without a definition before.
+fn is_asked<F: Function>(f: &F, block: Block, vreg: VReg) -> bool
+    requires framed { IsFramed (F.function f.now) }
+    requires block { block < length (F.function f.now).blocks }
+    ensures { result ≡ true → IsNeeded (F.function f.now) vreg (first_of (F.function f.now) block) }
+{
+    let range = f.block_insns(block);
+    for i in range.first().index()..range.end().index() {
+        let operands = f.inst_operands(Inst::new(i));
+        if is_read(operands, OperandPos::Early, vreg) {
+            return true;
+        }
+        if is_defined(operands, vreg) {
+            return false;
+        }
+        if is_read(operands, OperandPos::Late, vreg) {
+            return true;
+        }
+    }
+    is_passed(f, block, vreg)
+}
+
+/// Marks a block.
+fn mark(marked: &mut [bool], block: Block) {
+    if block.index() < marked.len() {
+        marked[block.index()] = true;
+    }
+}
+
+/// Marks the unmarked successors of a block and adds them to the work, but those that have the vreg as a parameter. Those
+/// numbered up to the block looked for are near, the others far. Returns whether the block looked for is among them, and stops there.
+fn add_succs<A: Allocator, F: Function>(
+    f: &F,
+    block: Block,
+    vreg: VReg,
+    sought: Block,
+    marked: &mut [bool],
+    near: &mut Vec<Block, A>,
+    far: &mut Vec<Block, A>,
+) -> Result<bool, AllocError>
+    requires framed { IsFramed (F.function f.now) }
+    requires block { block < length (F.function f.now).blocks }
+    requires unwritten { IsUnwritten (F.function f.now) block vreg }
+    requires here { LeadsBack (F.function f.now) vreg block }
+    requires near { All (LeadsBack (F.function f.now) vreg) near.old.items }
+    requires far { All (LeadsBack (F.function f.now) vreg) far.old.items }
+    ensures near { OnOk result (All (LeadsBack (F.function f.now) vreg) near.new.items) }
+    ensures far { OnOk result (All (LeadsBack (F.function f.now) vreg) far.new.items) }
+    ensures found { IfOk result (λ b. b ≡ true → LeadsBack (F.function f.now) vreg sought) }
+{
+    for succ in f.block_succs(block) {
+        if is_on(marked, succ.index()) || is_named(f.block_params(*succ), vreg) {
+            continue;
+        }
+        if *succ == sought {
+            return Ok(true);
+        }
+        mark(marked, *succ);
+        if succ.index() < sought.index() {
+            near.push(*succ)?;
+        } else {
+            far.push(*succ)?;
+        }
+    }
+    Ok(false)
+}
+
+/// Takes a block from the work, a near one if there is one.
+fn take<A: Allocator>(near: &mut Vec<Block, A>, far: &mut Vec<Block, A>) -> Option<Block>
+    ensures { (f : FunctionValue) (v : VirtualRegister) → All (LeadsBack f v) near.old.items → All (LeadsBack f v) far.old.items →
+        All (LeadsBack f v) near.new.items × All (LeadsBack f v) far.new.items × IfSome result (LeadsBack f v) }
+{
+    match near.pop() {
+        Some(block) => Some(block),
+        None => far.pop(),
+    }
+}
+
+/// Whether a block reads or passes a vreg without a definition before, and a path from the entry comes there over blocks
+/// that don't define the vreg and edges that don't give it a value.
+///
+/// The search visits a block numbered above the one looked for only where no other waits: in the usual order of blocks, a
+/// path comes there without any.
+///
+/// Linear in the blocks, instructions, operands, parameters, arguments and edges. Takes a byte for each block, and a word
+/// for each block that waits for its turn.
+pub fn reads_early<A: Allocator + Copy, F: Function>(
+    alloc: A,
+    f: &F,
+    block: Block,
+    vreg: VReg,
+) -> Result<bool, AllocError>
+    requires { IsFramed (F.function f.now) }
+    ensures { IfOk result (λ b. b ≡ true → IsNeeded (F.function f.now) vreg (first_of (F.function f.now) (F.function f.now).entry)) }
+{
+    if block.index() >= f.num_blocks() || !is_asked(f, block, vreg) {
+        return Ok(false);
+    }
+    let entry = f.entry_block();
+    if block == entry {
+        return Ok(true);
+    }
+    let mut marked: Vec<bool, A> = Vec::new(alloc);
+    marked.resize(f.num_blocks(), false)?;
+    let mut near: Vec<Block, A> = Vec::new(alloc);
+    let mut far: Vec<Block, A> = Vec::new(alloc);
+    mark(marked.as_mut_slice(), entry);
+    near.push(entry)?;
+    for _ in 0..f.num_blocks() {
+        let Some(at) = take(&mut near, &mut far) else {
+            return Ok(false);
+        };
+        if !is_unwritten(f, at, vreg) {
+            continue;
+        }
+        if add_succs(
+            f,
+            at,
+            vreg,
+            block,
+            marked.as_mut_slice(),
+            &mut near,
+            &mut far,
+        )? {
+            return Ok(true);
+        }
+    }
+    Ok(false)
+}

@@ -1,6 +1,0 @@
-use Rattle.regalloc2_branch_defs.specs.Notes.{ListsStored}
-use Rattle.regalloc2_branch_defs.proofs.edges.list_stored.Given as goal
-
--- the operands so far are listed
-abbrev pub invariant-loop-k : goal.invariant-loop-k
-invariant-loop-k g l = ListsStored l.used l.operands l.k l.initial.stored.items l.stored.items

@@ -1,8 +1,0 @@
-use Rattle.std.proofs.Common.{◌≡◌, length, sym, subst, arith}
-use Rattle.regalloc2_cfg.specs.TableLength.{HasRoom}
-use Rattle.regalloc2_branch_defs.proofs.uses.used_elsewhere.Goals as goal
-
-pub note_uses-requires-clause-room : goal.note_uses-requires-clause-room
-note_uses-requires-clause-room g c =
-    let same : length c.as_mut_slice.result.now ≡ c.args.vregs = omega (arith, c.as_mut_slice.ensures.len, c.in_ok-used.ensures.len) in
-    subst (HasRoom (g.F.Function.function c.args.f.now)) (sym same) c.requires.room

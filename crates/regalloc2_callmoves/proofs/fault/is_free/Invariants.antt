@@ -1,6 +1,0 @@
-use Rattle.std.proofs.Common.{◌≢◌, ℕ, ◌<◌}
-use Rattle.regalloc2_callmoves.specs.CallMoves.{free_at}
-use Rattle.regalloc2_callmoves.proofs.fault.is_free.Given as goal
-
-abbrev pub invariant-loop-at : goal.invariant-loop-at
-invariant-loop-at g l = (k : ℕ) → k < l.at → free_at l.frame k ≢ l.fn.preg

@@ -1,6 +1,0 @@
-use Rattle.std.proofs.Common.{◌≡◌, take}
-use Rattle.regalloc2_callmoves.specs.CallMoves.{with_units}
-use Rattle.regalloc2_callmoves.proofs.in_parallel.Given as goal
-
-abbrev pub invariant-loop-m : goal.invariant-loop-m
-invariant-loop-m g l = l.parallel ≡ with_units (take l.m-index l.moves)

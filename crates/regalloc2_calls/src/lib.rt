@@ -1,5 +1,0 @@
-//! What a person asks about a function in a text: the text, read, and calls with their answers.
-#![tactic(auto)]
-
-pub mod call;
-pub mod reading;

@@ -1,0 +1,10 @@
+//! What a back end's developer asks about an allocation: counts, differences, and the form in which upstream prints it.
+
+mod diff;
+mod dump;
+mod places;
+mod stats;
+
+pub use diff::write_diff;
+pub use dump::write_dump;
+pub use stats::{Stats, StatsJson};

@@ -1,0 +1,145 @@
+//! Counts of an allocated function.
+
+use crate::report::places::{is_memory, operand_of};
+use regalloc2_function::StoredOutput;
+use regalloc2_names::OperandConstraint;
+use regalloc2_serialize::{StoredFunction, StoredMachine};
+use std::fmt;
+
+/// Counts of an allocated function: as a table when it is displayed, as JSON through [`StatsJson`].
+#[derive(Clone, Copy)]
+pub struct Stats {
+    /// The instructions.
+    pub insts: usize,
+    /// The blocks.
+    pub blocks: usize,
+    /// The count of virtual registers that the function gives.
+    pub vregs: u64,
+    /// The operands by constraint: `any`, `reg`, `stack`, `fixed`, `reuse` and `limit`.
+    pub operands: [u64; 6],
+    /// The moves from register to register.
+    pub register_moves: u64,
+    /// The moves from the stack to a register.
+    pub loads: u64,
+    /// The moves from a register to the stack.
+    pub stores: u64,
+    /// The units of spill slots.
+    pub slots: u64,
+}
+
+/// The names of constraints, in the order of [`Stats::operands`].
+const CONSTRAINTS: [&str; 6] = ["any", "reg", "stack", "fixed", "reuse", "limit"];
+
+/// The index of a constraint's count.
+fn index_of(constraint: OperandConstraint) -> usize {
+    match constraint {
+        OperandConstraint::Any => 0,
+        OperandConstraint::Reg => 1,
+        OperandConstraint::Stack => 2,
+        OperandConstraint::FixedReg(_) => 3,
+        OperandConstraint::Reuse(_) => 4,
+        OperandConstraint::Limit(_) => 5,
+    }
+}
+
+impl Stats {
+    /// The counts of a function with its output. A move from stack to stack, which no faithful output has, counts as a store. Linear in them.
+    pub fn of(function: &StoredFunction, output: &StoredOutput) -> Stats {
+        let mut stats = Stats {
+            insts: function.insts.len(),
+            blocks: function.blocks.len(),
+            vregs: function.num_vregs,
+            operands: [0; 6],
+            register_moves: 0,
+            loads: 0,
+            stores: 0,
+            slots: output.num_spillslots,
+        };
+        for inst in &function.insts {
+            stats.count_operands(inst.operands.as_slice());
+        }
+        for (_, from, to) in &output.edits {
+            stats.count_move(&function.machine_env, *from, *to);
+        }
+        stats
+    }
+
+    /// Counts operands.
+    fn count_operands(&mut self, operands: &[u64]) {
+        for bits in operands {
+            if let Some(operand) = operand_of(*bits) {
+                if let Some(count) = self.operands.get_mut(index_of(operand.constraint())) {
+                    *count = count.saturating_add(1);
+                }
+            }
+        }
+    }
+
+    /// Counts a move.
+    fn count_move(&mut self, machine: &StoredMachine, from: u32, to: u32) {
+        if is_memory(machine, to) {
+            self.stores = self.stores.saturating_add(1);
+        } else if is_memory(machine, from) {
+            self.loads = self.loads.saturating_add(1);
+        } else {
+            self.register_moves = self.register_moves.saturating_add(1);
+        }
+    }
+}
+
+/// A table: a line for each count, with the name first.
+impl fmt::Display for Stats {
+    fn fmt<W: fmt::Write>(&self, f: &mut fmt::Formatter<W>) -> fmt::Result {
+        let Stats {
+            insts,
+            blocks,
+            vregs,
+            operands,
+            register_moves,
+            loads,
+            stores,
+            slots,
+        } = self;
+        writeln!(f, "instructions       {insts}")?;
+        writeln!(f, "blocks             {blocks}")?;
+        writeln!(f, "virtual registers  {vregs}")?;
+        for (name, count) in CONSTRAINTS.iter().zip(operands.iter()) {
+            writeln!(f, "operands {name:<9} {count}")?;
+        }
+        writeln!(f, "moves              {register_moves}")?;
+        writeln!(f, "loads              {loads}")?;
+        writeln!(f, "stores             {stores}")?;
+        writeln!(f, "units of slots     {slots}")
+    }
+}
+
+/// Counts as a JSON object on one line.
+#[derive(Clone, Copy)]
+pub struct StatsJson(pub Stats);
+
+impl fmt::Display for StatsJson {
+    fn fmt<W: fmt::Write>(&self, f: &mut fmt::Formatter<W>) -> fmt::Result {
+        let Stats {
+            insts,
+            blocks,
+            vregs,
+            operands,
+            register_moves,
+            loads,
+            stores,
+            slots,
+        } = self.0;
+        write!(
+            f,
+            "{{\"instructions\": {insts}, \"blocks\": {blocks}, \"vregs\": {vregs}, \"operands\": {{"
+        )?;
+        for (k, (name, count)) in CONSTRAINTS.iter().zip(operands.iter()).enumerate() {
+            let before = if k == 0 { "" } else { ", " };
+            write!(f, "{before}\"{name}\": {count}")?;
+        }
+        writeln!(
+            f,
+            "}}, \"moves\": {{\"register\": {register_moves}, \"load\": {loads}, \"store\": {stores}}}, \"slots\": {slots}}}"
+        )
+    }
+}

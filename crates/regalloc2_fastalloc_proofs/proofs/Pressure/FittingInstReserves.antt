@@ -1,0 +1,143 @@
+-- An instruction that fits claims its registers: each is the machine's, and no two are one where they share a position.
+use Rattle.std.proofs.Common.{ℕ, ◌≡◌, ◌≢◌, ◌<◌, Bool, true, false, List, length, refl, sym, ap, ◌∙◌, inl, inr, ◌⊎◌, arith}
+use Rattle.std.specs.Prelude.{not, ◌&&◌, ◌||◌}
+use Rattle.std.proofs.lemmas.Bool.{cases_eq, or_from, both_ways, or_left, or_right, cases_lt}
+use Rattle.regalloc2_names.specs.declared.OperandConstraint.TheVariants.{FixedReg, Reuse}
+use Rattle.regalloc2_names.specs.Register.{Register, VirtualRegister}
+use Rattle.regalloc2_names.specs.RegisterSet.{has_register}
+use Rattle.regalloc2_names.specs.Operand.{OperandValue, is_def, is_late, is_fixed_nonallocatable}
+use Rattle.regalloc2_function.specs.FunctionValue.{FunctionValue, InstValue, no_operand}
+use Rattle.regalloc2_function.specs.Machine.{MachineValue, is_allocatable, IsFixedStackSlot}
+use Rattle.regalloc2_function.specs.Fitting.{Fits, HoldsEarly, HoldsLate, is_reuse}
+use Rattle.regalloc2_semantics.proofs.Operands.{reads_use}
+use Rattle.regalloc2_function.specs.FunctionValue.{op_at}
+use Rattle.regalloc2_fastalloc_state.specs.declared.inst_regs.Positions.{Positions}
+use Rattle.regalloc2_fastalloc_state.specs.InstRegs.{positions_of}
+use Rattle.regalloc2_fastalloc_proofs.specs.InstSteps.{StateValue, NeedsFixedReg, own, named}
+use Rattle.regalloc2_fastalloc_proofs.specs.InstSteps.{RegsAreNotReserved, unknown, shared}
+use Rattle.regalloc2_fastalloc_proofs.proofs.Operands.AllocsSoFar.{IsTame, reads_allocated}
+use Rattle.regalloc2_fastalloc_proofs.proofs.BlockEnd.NoMoveInPasses.{overlap_cases}
+use Rattle.regalloc2_fastalloc_proofs.proofs.Pressure.StepsKeepMachine.{HasAll}
+
+-- an operand that claims its register early holds the early part, and one that claims it late the late part
+holds_early : (o : OperandValue) → (positions_of o).early ≡ true → HoldsEarly o
+holds_early o h = by_test (is_def o.kind) (is_late o.position) (not (is_reuse o.constraint)) h
+  where
+    by_test : (a b c : Bool) → (not a || not b) ≡ true → (a && b && c) ≡ false
+    by_test true true c h = absurd cc
+    by_test true false c h = refl
+    by_test false b c h = refl
+
+holds_late : (i : InstValue) (k : ℕ) (o : OperandValue) → (positions_of o).late ≡ true → HoldsLate i k o
+holds_late i k o h e = absurd (by_test (is_def o.kind) (is_late o.position) h e)
+  where
+    by_test : (a b : Bool) → (a || b) ≡ true → (not a && not b) ≡ true → ⊥
+    by_test true b h e = cc
+    by_test false true h e = cc
+    by_test false false h e = cc
+
+either_false : (a b : Bool) → (a ≡ true) ⊎ (b ≡ true) → (a || b) ≡ false → ⊥
+either_false a b (inl e) h = both_ways (a || b) h (or_left a b e)
+either_false a b (inr e) h = both_ways (a || b) h (or_right a b e)
+
+module _ (f : FunctionValue) (env : MachineValue) (inst : InstValue) (fits : Fits f env inst) (Known : VirtualRegister → Type 0)
+    (tame : IsTame Known inst.operands) where
+  abbrev ops : List OperandValue
+  ops = inst.operands
+
+  -- an operand that is fixed to a register, and holds it at positions
+  record ClaimAt (m : ℕ) (r : Register) (p : Positions) : Type 0 where
+    within : m < length ops
+    allocated : is_fixed_nonallocatable (op_at ops m) ≡ false
+    is_fixed : (op_at ops m).constraint ≡ FixedReg r
+    early : p.early ≡ true → HoldsEarly (op_at ops m)
+    late : p.late ≡ true → HoldsLate inst m (op_at ops m)
+
+  own_at : (k : ℕ) (r : Register) (p : Positions) → k < length ops → is_fixed_nonallocatable (op_at ops k) ≡ false → (op_at ops k).constraint ≡ FixedReg r →
+      p ≡ positions_of (op_at ops k) → ClaimAt k r p
+  own_at k r p lt allocated is at = record {
+    within = lt;
+    allocated = allocated;
+    is_fixed = is;
+    early = λ e. holds_early (op_at ops k) (ap (λ (q : Positions). q.early) (sym at) ∙ e);
+    late = λ e. holds_late inst k (op_at ops k) (ap (λ (q : Positions). q.late) (sym at) ∙ e);
+  }
+
+  -- a reuse claims the late part of the register of the use that it names
+  named_at : (k n : ℕ) (r : Register) (p : Positions) → k < length ops → (op_at ops k).constraint ≡ Reuse n → n < length ops →
+      (op_at ops n).constraint ≡ FixedReg r → p ≡ record { early = false; late = true } → ClaimAt n r p
+  named_at k n r p lt reuses within is at = record {
+    within = within;
+    allocated = reads_allocated (op_at ops n) (tame.named k n lt reuses).2;
+    is_fixed = is;
+    early = λ e. (let x : false ≡ true = ap (λ (q : Positions). q.early) (sym at) ∙ e in absurd cc);
+    late = λ e x. (k, no_operand, lt, reuses);
+  }
+
+  -- each is the machine's
+  claim_known : (m : ℕ) (r : Register) (p : Positions) → ClaimAt m r p → (is_allocatable env r.class r ≡ true) ⊎ IsFixedStackSlot env r
+  claim_known m r p c = fits.fixed m no_operand c.within c.allocated r c.is_fixed
+
+  known : (k : ℕ) (r : Register) (p : Positions) → k < length ops → NeedsFixedReg ops k r p → (is_allocatable env r.class r ≡ true) ⊎ IsFixedStackSlot env r
+  known k r p lt (own allocated is at) = claim_known k r p (own_at k r p lt allocated is at)
+  known k r p lt (named n reuses within is at) = claim_known n r p (named_at k n r p lt reuses within is at)
+
+  -- no two are one
+  apart_in_order : (m n : ℕ) (r : Register) (p q : Positions) → m < n → ClaimAt m r p → ClaimAt n r q → ((p.early ≡ true) × (q.early ≡ true))
+      ⊎ ((p.late ≡ true) × (q.late ≡ true)) → ⊥
+  apart_in_order m n r p q less a b both = (let x = fits.apart m n no_operand no_operand r less b.within a.allocated b.allocated a.is_fixed b.is_fixed in
+      elim both [
+        | inl e ↦ x.0 (a.early e.0, b.early e.1)
+        | inr l ↦ x.1 (a.late l.0, b.late l.1)
+      ])
+
+  swapped : (p q : Positions) → ((p.early ≡ true) × (q.early ≡ true)) ⊎ ((p.late ≡ true) × (q.late ≡ true)) → ((q.early ≡ true) × (p.early ≡ true))
+      ⊎ ((q.late ≡ true) × (p.late ≡ true))
+  swapped p q (inl e) = inl (e.1, e.0)
+  swapped p q (inr l) = inr (l.1, l.0)
+
+  apart_claims : (m n : ℕ) (r : Register) (p q : Positions) → m ≢ n → ClaimAt m r p → ClaimAt n r q → ((p.early ≡ true) × (q.early ≡ true))
+      ⊎ ((p.late ≡ true) × (q.late ≡ true)) → ⊥
+  apart_claims m n r p q ne a b both = elim (cases_lt m n) [
+    | inl less ↦ apart_in_order m n r p q less a b both
+    | inr le ↦ apart_in_order n m r q p (omega (arith, le, ne)) b a (swapped p q both)
+  ]
+
+  -- an early use has nothing late
+  early_use : (k n : ℕ) → k < length ops → (op_at ops k).constraint ≡ Reuse n → (positions_of (op_at ops n)).late ≡ true → ⊥
+  early_use k n lt reuses h = both_ways (positions_of (op_at ops n)).late (or_from (is_def (op_at ops n).kind) (is_late (op_at ops n).position)
+      (reads_use (op_at ops n) (tame.named k n lt reuses).2) (tame.named k n lt reuses).1) h
+
+  -- a reuse shares the late position alone
+  late_alone : (p q : Positions) → q ≡ record { early = false; late = true } → ((p.early ≡ true) × (q.early ≡ true)) ⊎ ((p.late ≡ true) × (q.late ≡ true)) →
+      p.late ≡ true
+  late_alone p q e (inl x) = (let y : false ≡ true = ap (λ (z : Positions). z.early) (sym e) ∙ x.1 in absurd cc)
+  late_alone p q e (inr x) = x.0
+
+  never_shared : (j k : ℕ) (r : Register) (p q : Positions) → j < k → k < length ops → NeedsFixedReg ops j r p → NeedsFixedReg ops k r q →
+      ((p.early ≡ true) × (q.early ≡ true)) ⊎ ((p.late ≡ true) × (q.late ≡ true)) → ⊥
+  never_shared j k r p q less lt (own a is at) (own b it there) both = apart_claims j k r p q (λ e. omega (arith, e, less))
+      (own_at j r p (omega (arith, less, lt)) a is at) (own_at k r q lt b it there) both
+  never_shared j k r p q less lt (own a is at) (named n reuses within it there) both = elim (cases_eq j n) [
+    | inl e ↦ early_use k n lt reuses (ap (λ (m : ℕ). (positions_of (op_at ops m)).late) (sym e) ∙ ap (λ (z : Positions). z.late) (sym at)
+        ∙ late_alone p q there both)
+    | inr ne ↦ apart_claims j n r p q ne (own_at j r p (omega (arith, less, lt)) a is at) (named_at k n r q lt reuses within it there) both
+  ]
+  never_shared j k r p q less lt (named m reuses within is at) (own b it there) both = elim (cases_eq k m) [
+    | inl e ↦ early_use j m (omega (arith, less, lt)) reuses (ap (λ (x : ℕ). (positions_of (op_at ops x)).late) (sym e)
+        ∙ ap (λ (z : Positions). z.late) (sym there) ∙ late_alone q p at (swapped p q both))
+    | inr ne ↦ apart_claims m k r p q (λ e. ne (sym e)) (named_at j m r p (omega (arith, less, lt)) reuses within is at) (own_at k r q lt b it there) both
+  ]
+  never_shared j k r p q less lt (named m reuses within is at) (named n too inside it there) both = elim (cases_eq m n) [
+    | inl e ↦ (let same : j ≡ k = tame.apart j k n (omega (arith, less, lt)) lt (reuses ∙ ap Reuse e) too in omega (arith, same, less))
+    | inr ne ↦ apart_claims m n r p q ne (named_at j m r p (omega (arith, less, lt)) reuses within is at) (named_at k n r q lt too inside it there) both
+  ]
+
+  -- an instruction that fits the machine reserves its registers: each is the machine's, and none is shared at a position
+  pub never_reserve_regs : (old : StateValue) → HasAll env old → RegsAreNotReserved ops old → ⊥
+  never_reserve_regs old all (unknown k r p lt claims none) = either_false (has_register old.allocatable r) (has_register old.fixed_stack r)
+      (elim (known k r p lt claims) [
+        | inl a ↦ inl (all.allocatable r a)
+        | inr s ↦ inr (all.machine.memory r s)
+      ]) none
+  never_reserve_regs old all (shared j k r p q less lt a b both) = never_shared j k r p q less lt a b (overlap_cases p q both)

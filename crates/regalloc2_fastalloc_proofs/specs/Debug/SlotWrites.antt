@@ -1,0 +1,39 @@
+-- Which moves write the slot of a virtual register, said of the output alone.
+use Rattle.std.specs.Prelude.{ℕ, ◌≡◌, ◌<◌, ◌+◌, true, false, All, length, List, ◌∷◌}
+use Rattle.regalloc2_names.specs.Register.{VirtualRegister}
+use Rattle.regalloc2_names.specs.Place.{Place, InSlot}
+use Rattle.regalloc2_names.specs.Point.{before, after}
+use Rattle.regalloc2_function.specs.FunctionValue.{FunctionValue, block_at, inst_at}
+use Rattle.regalloc2_function.specs.OutputValue.{OutputValue}
+use Rattle.regalloc2_function.specs.Path.{Way, Onward, end_of, IsPath}
+use Rattle.regalloc2_function.specs.DebugPoints.{DefinesAt}
+use Rattle.regalloc2_function.specs.Slots.{StandsInSlot}
+use Rattle.regalloc2_semantics.specs.Carry.{Undefined}
+use Rattle.regalloc2_semantics.specs.Live.{IsLive, HasEntered}
+use Rattle.regalloc2_function.specs.FunctionValue.{op_at}
+use Rattle.regalloc2_names.specs.Operand.{is_def}
+use Rattle.regalloc2_fastalloc_proofs.proofs.Safety.InstsKeepSafe.{IsStoredAt}
+use Rattle.regalloc2_fastalloc_proofs.specs.Debug.SlotHoldsValue.{ReadsInPlace, ShowsAt}
+
+-- where a move may write the place that is v's: behind an instruction that defines v, before one that reads v there, before a branch, or at the beginning of
+-- a block for which the branch into it defines v, or gives v what it defines
+pub data MayWrite (f : FunctionValue) (out : OutputValue) (v : VirtualRegister) (p : Place) : ℕ → Type 0 where
+  after_definition : (i k : ℕ) → k < length (inst_at f i).operands → is_def (op_at (inst_at f i).operands k).kind ≡ true →
+      (op_at (inst_at f i).operands k).vreg ≡ v → MayWrite f out v p (after i)
+  before_read : (i k : ℕ) → ReadsInPlace f out v p i k → MayWrite f out v p (before i)
+  before_branch : (i : ℕ) → (inst_at f i).is_branch ≡ true → MayWrite f out v p (before i)
+  at_begin : (b : ℕ) → b < length f.blocks → IsStoredAt f b v → MayWrite f out v p (before (block_at f b).range.first)
+
+-- What the walk leaves of v's slot:
+--     entered   where a path comes to a block at which v is live, once the moves before its first instruction have run, the slot holds its value, if
+--               that is no branch and doesn't define v
+--     defined   behind a definition of v, once the moves before the next instruction have run, the slot holds its value, if v is live there and it is no branch
+--     moves     each move that writes the slot is where it may
+--     own       no operand of another virtual register is located in it
+pub record IsSlotOfValue (f : FunctionValue) (out : OutputValue) (v : VirtualRegister) (n : ℕ) : Type 0 where
+  pub entered : (ws : List Way) → IsPath f ws → HasEntered f ws → IsLive f v (end_of f ws) → Undefined (inst_at f (end_of f ws).inst).operands v →
+      (inst_at f (end_of f ws).inst).is_branch ≡ false → ShowsAt f out v (InSlot n) ws
+  pub defined : (ws : List Way) → IsPath f (Onward ∷ ws) → DefinesAt f v (end_of f ws).inst → IsLive f v (end_of f (Onward ∷ ws)) →
+      (inst_at f ((end_of f ws).inst + 1)).is_branch ≡ false → ShowsAt f out v (InSlot n) (Onward ∷ ws)
+  pub moves : All (λ e. e.1.to ≡ InSlot n → MayWrite f out v (InSlot n) e.0) out.edits
+  pub own : (w : VirtualRegister) → StandsInSlot f out w n → w ≡ v

@@ -1,0 +1,48 @@
+-- A function that passes the tests is well-formed, and each refusal by them has its reason.
+use Rattle.std.proofs.Common.{ℕ, ◌≡◌, ◌<◌, ◌⊎◌, length, inl, inr, Ok, Err}
+use Rattle.std.specs.Prelude.{OnOk, Result}
+use Rattle.std.proofs.lemmas.List.Elements.{All-from_get_or}
+use Rattle.regalloc2_names.specs.declared.RegAllocError.{RegAllocError}
+use Rattle.regalloc2_names.specs.declared.RegAllocError.TheVariants.{Memory}
+use Rattle.regalloc2_function.specs.FunctionValue.{FunctionValue, inst_at, no_inst}
+use Rattle.regalloc2_function.specs.Machine.{MachineValue}
+use Rattle.regalloc2_function.specs.Reasons.{HasShape, IsShapeFault, IsSound, IsSoundnessFault}
+use Rattle.regalloc2_function.specs.WellFormed.{ReusesAreSound, FixedAvoidClobbers, IsWellFormed}
+use Rattle.regalloc2_fastalloc_state.specs.Validate.Validated.{IsFunctionFault}
+use Rattle.regalloc2_fastalloc_state.specs.Validate.Validated.IsFunctionFault.{memory, misshapen, unsound}
+
+-- what the tests test is what a well-formed function has
+pub tested_well_formed : (f : FunctionValue) (env : MachineValue) → HasShape f → IsSound f → ((i : ℕ) → i < length f.insts → ReusesAreSound env (inst_at f i)) →
+    ((i : ℕ) → i < length f.insts → FixedAvoidClobbers (inst_at f i)) → IsWellFormed env f
+tested_well_formed f env shape sound reuses fixed = record {
+  successors = shape.successors;
+  follow = shape.follow;
+  predecessors = shape.predecessors;
+  no_critical_edge = shape.no_critical_edge;
+  no_operands_into_joins = shape.no_operands_into_joins;
+  entry = sound.entry;
+  end = sound.end;
+  counted = sound.counted;
+  classes = sound.classes;
+  defined_once = sound.defined_once;
+  uses_defined = sound.uses_defined;
+  reuses = All-from_get_or (ReusesAreSound env) f.insts no_inst reuses;
+  fixed = All-from_get_or FixedAvoidClobbers f.insts no_inst fixed;
+}
+
+-- the same where the last of the tests answers for the instructions
+pub tested_on_ok : {T E : Type 0} (f : FunctionValue) (env : MachineValue) (r : Result T E) → HasShape f → IsSound f →
+    OnOk r ((i : ℕ) → i < length f.insts → ReusesAreSound env (inst_at f i))
+    → OnOk r ((i : ℕ) → i < length f.insts → FixedAvoidClobbers (inst_at f i)) → OnOk r (IsWellFormed env f)
+tested_on_ok f env (Ok x) shape sound reuses fixed = tested_well_formed f env shape sound reuses fixed
+tested_on_ok f env (Err e) shape sound reuses fixed = tt
+
+-- out of memory or an error of the first tests is an error of the whole validation
+pub shape_fault : (f : FunctionValue) (env : MachineValue) (e : RegAllocError) → (e ≡ Memory) ⊎ IsShapeFault f e → IsFunctionFault f env e
+shape_fault f env e (inl m) = rw m memory
+shape_fault f env e (inr h) = misshapen h
+
+-- where the shape is right, out of memory or an error of the second tests is an error of the whole validation
+pub soundness_fault : (f : FunctionValue) (env : MachineValue) (e : RegAllocError) → HasShape f → (e ≡ Memory) ⊎ IsSoundnessFault f e → IsFunctionFault f env e
+soundness_fault f env e shape (inl m) = rw m memory
+soundness_fault f env e shape (inr h) = unsound shape h

@@ -1,0 +1,33 @@
+//! The tests that the allocator makes before it walks: that a function is well-formed, and that it takes the function's operands.
+
+ghost use Rattle.std.specs.Prelude.{IfErr, OnOk};
+ghost use Rattle.regalloc2_function.specs.Views.{machine_of};
+ghost use Rattle.regalloc2_function.specs.WellFormed.{IsWellFormed};
+ghost use Rattle.regalloc2_fastalloc_state.specs.Validate.Validated.{IsFunctionFault};
+
+use regalloc2_function::{Function, MachineEnv};
+use regalloc2_names::RegAllocError;
+use regalloc2_shape::ssa::test_soundness;
+use regalloc2_shape::test_shape;
+use std::alloc::Allocator;
+
+pub mod constraints;
+
+use constraints::validate_fixed;
+
+/// Tests that a function is well-formed: as [`test_shape`] says, then as [`test_soundness`], then as [`validate_fixed`].
+///
+/// These are the tests of `CFGInfo::new` and `validate_ssa`, without the tables that the former makes, which no test reads. The first
+/// test that fails decides. `Memory` comes where memory ran out.
+pub fn validate_function<A: Allocator + Copy, F: Function, B: Allocator>(
+    alloc: A,
+    f: &F,
+    env: &MachineEnv<B>,
+) -> Result<(), RegAllocError>
+    ensures ok { OnOk result (IsWellFormed (machine_of env.now) (F.function f.now)) }
+    ensures refused { IfErr result (IsFunctionFault (F.function f.now) (machine_of env.now)) }
+{
+    test_shape(alloc, f)?;
+    test_soundness(alloc, f)?;
+    validate_fixed(f, env)
+}

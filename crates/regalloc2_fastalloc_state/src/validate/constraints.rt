@@ -1,0 +1,415 @@
+//! The tests of operands' constraints: reuses, fixed registers beside clobbers, limits, and definitions on branches.
+
+ghost use Rattle.std.specs.Prelude.{ℕ, ◌≡◌, ◌<◌, ◌⊎◌, ◌↔◌, All, length, true, false, IsTrue, IsFalse, IsOk, OnOk, IfSome, IfNone, IfErr, slice_index_or};
+ghost use Rattle.regalloc2_function.specs.FunctionValue.{inst_at, op_at};
+ghost use Rattle.regalloc2_function.specs.Views.{machine_of};
+ghost use Rattle.regalloc2_function.specs.WellFormed.{MayBeReused, ReusesAreSound, FixedAvoidClobbers};
+ghost use Rattle.regalloc2_names.specs.Packing.{IsConstraintOf};
+ghost use Rattle.regalloc2_names.specs.Register.{Register};
+ghost use Rattle.regalloc2_names.specs.RegisterSet.{has_register};
+ghost use Rattle.regalloc2_fastalloc_state.specs.Validate.NoLimits.{IsTakenOperand, AreTaken};
+ghost use Rattle.regalloc2_fastalloc_state.specs.Validate.Constraints.{IsNoReuse, IsReusedOperand, IsReuseTarget, IsSoundReuse, AreReusesApart, AvoidsClobbers, OperandAvoidsClobbers, IsUnlimited};
+ghost use Rattle.regalloc2_fastalloc_state.specs.Validate.Constraints.{AreUnlimited, BranchDefinesInPlace, DefinesInPlace, IsFirstFailing, IsFixedFault, IsUnsupported};
+
+use crate::allocatable::allocatable_of;
+use regalloc2_function::{Function, MachineEnv};
+use regalloc2_index::Inst;
+use regalloc2_names::{
+    Operand, OperandConstraint, OperandKind, OperandPos, PRegSet, RegAllocError, RegClass,
+};
+use std::alloc::Allocator;
+
+/// Which operand a reuse names. The index fits five bits.
+fn reused_index(operand: Operand) -> Option<usize>
+    ensures some { IfSome result (λ n. operand.constraint ≡ OperandConstraint.Reuse n) }
+    ensures small { IfSome result (λ n. n < 32) }
+    ensures none { IfNone result ((n : ℕ) → operand.constraint ≡ OperandConstraint.Reuse n → ⊥) }
+{
+    match operand.constraint() {
+        OperandConstraint::Reuse(index) => Some(index),
+        _ => None,
+    }
+}
+
+/// Whether an operand under that constraint may be reused by a definition of the class: it is in any register, or in an
+/// allocatable one.
+fn may_be_reused<B: Allocator>(
+    env: &MachineEnv<B>,
+    class: RegClass,
+    constraint: OperandConstraint,
+) -> bool
+    ensures { IsTrue result ↔ MayBeReused (machine_of env.now) class constraint }
+{
+    match constraint {
+        OperandConstraint::Reg => true,
+        OperandConstraint::FixedReg(preg) => allocatable_of(env, class).contains(preg),
+        _ => false,
+    }
+}
+
+/// Whether an operand may be reused by a definition of the class: an early use that reads a vreg of the class, under such a
+/// constraint.
+fn is_target<B: Allocator>(env: &MachineEnv<B>, class: RegClass, operand: Operand) -> bool
+    ensures { IsTrue result ↔ IsReuseTarget (machine_of env.now) class operand }
+{
+    if operand.kind() != OperandKind::Use || operand.pos() != OperandPos::Early {
+        return false;
+    }
+    if operand.as_fixed_nonallocatable().is_some() || operand.class() != class {
+        return false;
+    }
+    may_be_reused(env, class, operand.constraint())
+}
+
+/// Whether an operand is a late definition, and that index is one of an operand that it may reuse.
+fn names_target<B: Allocator>(
+    env: &MachineEnv<B>,
+    operands: &[Operand],
+    operand: Operand,
+    index: usize,
+) -> bool
+    ensures { IsTrue result ↔ ((operand.kind ≡ OperandKind.Def) × (operand.position ≡ OperandPos.Late) × (index < length operands.now)
+        × IsReuseTarget (machine_of env.now) operand.vreg.class (op_at operands.now index)) }
+{
+    let is_late_def = operand.kind() == OperandKind::Def && operand.pos() == OperandPos::Late;
+    is_late_def && index < operands.len() && is_target(env, operand.class(), operands[index])
+}
+
+/// Whether an operand is no reuse, or a late definition that names such an operand.
+fn is_valid_reuse<B: Allocator>(env: &MachineEnv<B>, operands: &[Operand], operand: Operand) -> bool
+    ensures { IsTrue result ↔ IsSoundReuse (machine_of env.now) operands.now operand }
+{
+    match reused_index(operand) {
+        Some(index) => names_target(env, operands, operand, index),
+        None => true,
+    }
+}
+
+/// Whether all reuses are valid.
+fn are_valid_reuses<B: Allocator>(env: &MachineEnv<B>, operands: &[Operand]) -> bool
+    ensures { IsTrue result ↔ ((k : ℕ) → k < length operands.now → IsSoundReuse (machine_of env.now) operands.now (op_at operands.now k)) }
+{
+    for k in 0..operands.len() {
+        if !is_valid_reuse(env, operands, operands[k]) {
+            return false;
+        }
+    }
+    true
+}
+
+/// Whether an operand is no reuse.
+fn is_no_reuse(operand: Operand) -> bool
+    ensures { IsTrue result ↔ IsNoReuse operand }
+{
+    !matches!(operand.constraint(), OperandConstraint::Reuse(_))
+}
+
+/// Whether no operand is a reuse.
+fn are_no_reuses(operands: &[Operand]) -> bool
+    ensures { IsTrue result ↔ ((k : ℕ) → k < length operands.now → IsNoReuse (op_at operands.now k)) }
+{
+    for k in 0..operands.len() {
+        if !is_no_reuse(operands[k]) {
+            return false;
+        }
+    }
+    true
+}
+
+/// Which operands reuses name, by index.
+fn named_by_reuses(operands: &[Operand]) -> [bool; 32]
+    ensures { (k : ℕ) → IsTrue (slice_index_or result k false) ↔ IsReusedOperand operands.now k }
+{
+    let mut named = [false; 32];
+    for k in 0..operands.len() {
+        if let Some(index) = reused_index(operands[k]) {
+            named[index] = true;
+        }
+    }
+    named
+}
+
+/// Whether the operand k is among those; past the end none is.
+fn is_named(named: &[bool], k: usize) -> bool
+    ensures { result ≡ slice_index_or named.now k false }
+{
+    if k < named.len() { named[k] } else { false }
+}
+
+/// Whether no two reuses name one operand.
+fn are_apart(operands: &[Operand]) -> bool
+    ensures { IsTrue result ↔ AreReusesApart operands.now (length operands.now) }
+{
+    let mut named = [false; 32];
+    for k in 0..operands.len() {
+        if let Some(index) = reused_index(operands[k]) {
+            if named[index] {
+                return false;
+            }
+            named[index] = true;
+        }
+    }
+    true
+}
+
+/// Whether an instruction's reuses are late definitions of early uses, each of its own.
+fn has_valid_reuses<F: Function, B: Allocator>(f: &F, env: &MachineEnv<B>, inst: Inst) -> bool
+    requires { inst < length (F.function f.now).insts }
+    ensures { IsTrue result ↔ ReusesAreSound (machine_of env.now) (inst_at (F.function f.now) inst) }
+{
+    let operands = f.inst_operands(inst);
+    are_valid_reuses(env, operands) && are_apart(operands)
+}
+
+/// Whether an instruction has no reuses, or valid ones.
+fn passes_reuse_test<F: Function, B: Allocator>(f: &F, env: &MachineEnv<B>, inst: Inst) -> bool
+    requires { inst < length (F.function f.now).insts }
+    ensures { IsTrue result ↔ ReusesAreSound (machine_of env.now) (inst_at (F.function f.now) inst) }
+{
+    are_no_reuses(f.inst_operands(inst)) || has_valid_reuses(f, env, inst)
+}
+
+/// Whether an operand is fixed to no clobber, if it is a definition, a late use or reused.
+fn avoids_clobbers(clobbers: PRegSet, operand: Operand, is_reused: bool) -> bool
+    ensures { IsTrue result ↔ AvoidsClobbers clobbers operand is_reused }
+{
+    let OperandConstraint::FixedReg(preg) = operand.constraint() else {
+        return true;
+    };
+    let is_early_use = operand.kind() == OperandKind::Use && operand.pos() == OperandPos::Early;
+    if is_early_use && !is_reused {
+        return true;
+    }
+    !clobbers.contains(preg)
+}
+
+/// Whether no definition, late use or reused operand is fixed to a clobber.
+fn avoid_clobbers(operands: &[Operand], clobbers: PRegSet) -> bool
+    ensures { IsTrue result ↔ ((k : ℕ) → k < length operands.now → OperandAvoidsClobbers clobbers operands.now k) }
+{
+    let named = named_by_reuses(operands);
+    for k in 0..operands.len() {
+        let is_reused = is_named(&named, k);
+        if !avoids_clobbers(clobbers, operands[k], is_reused) {
+            return false;
+        }
+    }
+    true
+}
+
+/// Whether no definition, late use or reused operand of an instruction is fixed to a clobber.
+fn has_no_clash<F: Function>(f: &F, inst: Inst) -> bool
+    requires { inst < length (F.function f.now).insts }
+    ensures { IsTrue result ↔ FixedAvoidClobbers (inst_at (F.function f.now) inst) }
+{
+    avoid_clobbers(f.inst_operands(inst), f.inst_clobbers(inst))
+}
+
+/// Whether a set has no register.
+fn is_empty(set: PRegSet) -> bool
+    ensures { IsTrue result ↔ ((r : Register) → has_register set r ≡ false) }
+{
+    set.max_preg().is_none()
+}
+
+/// Whether an instruction has no clobbers, or none that an operand is fixed to.
+fn passes_clobber_test<F: Function>(f: &F, inst: Inst) -> bool
+    requires { inst < length (F.function f.now).insts }
+    ensures { IsTrue result ↔ FixedAvoidClobbers (inst_at (F.function f.now) inst) }
+{
+    is_empty(f.inst_clobbers(inst)) || has_no_clash(f, inst)
+}
+
+/// Whether an operand has no `Limit`.
+fn is_unlimited(operand: Operand) -> bool
+    ensures unlimited { IsTrue result ↔ IsUnlimited operand }
+    ensures of_class { IsConstraintOf operand.vreg.class operand.constraint }
+{
+    !matches!(operand.constraint(), OperandConstraint::Limit(_))
+}
+
+/// Whether no operand has `Limit`.
+fn are_unlimited(operands: &[Operand]) -> bool
+    ensures unlimited { IsTrue result ↔ ((k : ℕ) → k < length operands.now → IsUnlimited (op_at operands.now k)) }
+    ensures taken { IsTrue result → (k : ℕ) → k < length operands.now → IsTakenOperand (op_at operands.now k) }
+{
+    for k in 0..operands.len() {
+        if !is_unlimited(operands[k]) {
+            return false;
+        }
+    }
+    true
+}
+
+/// Whether no operand of an instruction has `Limit`.
+fn has_no_limit<F: Function>(f: &F, inst: Inst) -> bool
+    requires { inst < length (F.function f.now).insts }
+    ensures unlimited { IsTrue result ↔ AreUnlimited (inst_at (F.function f.now) inst) }
+    ensures taken { IsTrue result → All IsTakenOperand (inst_at (F.function f.now) inst).operands }
+{
+    are_unlimited(f.inst_operands(inst))
+}
+
+/// Tests reuses. Else the error is `Unsupported` with the first instruction at fault.
+fn validate_reuses<F: Function, B: Allocator>(
+    f: &F,
+    env: &MachineEnv<B>,
+) -> Result<(), RegAllocError>
+    ensures ok { IsOk result ↔ ((i : ℕ) → i < length (F.function f.now).insts → ReusesAreSound (machine_of env.now) (inst_at (F.function f.now) i)) }
+    ensures first { IfErr result (λ e. (i : ℕ) × (e ≡ RegAllocError.Unsupported i) × IsFirstFailing (F.function f.now) (ReusesAreSound (machine_of env.now)) i) }
+{
+    for i in 0..f.num_insts() {
+        let inst = Inst::new(i);
+        if !passes_reuse_test(f, env, inst) {
+            return Err(RegAllocError::Unsupported(inst));
+        }
+    }
+    Ok(())
+}
+
+/// Tests fixed registers beside clobbers. Else the error is `Unsupported` with the first instruction at fault.
+fn validate_clobbers<F: Function>(f: &F) -> Result<(), RegAllocError>
+    ensures ok { IsOk result ↔ ((i : ℕ) → i < length (F.function f.now).insts → FixedAvoidClobbers (inst_at (F.function f.now) i)) }
+    ensures first { IfErr result (λ e. (i : ℕ) × (e ≡ RegAllocError.Unsupported i) × IsFirstFailing (F.function f.now) (FixedAvoidClobbers) i) }
+{
+    for i in 0..f.num_insts() {
+        let inst = Inst::new(i);
+        if !passes_clobber_test(f, inst) {
+            return Err(RegAllocError::Unsupported(inst));
+        }
+    }
+    Ok(())
+}
+
+/// Tests reuses, and then fixed registers beside clobbers.
+///
+/// A reuse is a late definition; it names an early use that reads a vreg of its class, in any register or fixed to an
+/// allocatable one; and no two reuses name one operand. No definition, late use or reused operand is fixed to a clobber of its
+/// instruction. Else the error is `Unsupported` with the first instruction that breaks the first rule, or where there is none
+/// the second. Upstream takes both for granted.
+pub fn validate_fixed<F: Function, B: Allocator>(
+    f: &F,
+    env: &MachineEnv<B>,
+) -> Result<(), RegAllocError>
+    ensures reuses { OnOk result ((i : ℕ) → i < length (F.function f.now).insts → ReusesAreSound (machine_of env.now) (inst_at (F.function f.now) i)) }
+    ensures fixed { OnOk result ((i : ℕ) → i < length (F.function f.now).insts → FixedAvoidClobbers (inst_at (F.function f.now) i)) }
+    ensures refused { IfErr result (IsFixedFault (F.function f.now) (machine_of env.now)) }
+{
+    validate_reuses(f, env)?;
+    validate_clobbers(f)?;
+    Ok(())
+}
+
+/// Tests that no operand has `Limit`. Else the error is `Unsupported` with the first instruction that has one.
+///
+/// Upstream's fast allocator stops the program there.
+pub fn validate_limits<F: Function>(f: &F) -> Result<(), RegAllocError>
+    ensures ok { IsOk result ↔ ((i : ℕ) → i < length (F.function f.now).insts → AreUnlimited (inst_at (F.function f.now) i)) }
+    ensures taken { OnOk result (AreTaken (F.function f.now)) }
+    ensures first { IfErr result (λ e. (i : ℕ) × (e ≡ RegAllocError.Unsupported i) × IsFirstFailing (F.function f.now) (AreUnlimited) i) }
+{
+    for i in 0..f.num_insts() {
+        let inst = Inst::new(i);
+        if !has_no_limit(f, inst) {
+            return Err(RegAllocError::Unsupported(inst));
+        }
+    }
+    Ok(())
+}
+
+/// Whether an operand defines nothing, or in a register that it names or in memory where need be.
+fn defines_in_place(operand: Operand) -> bool
+    ensures { IsTrue result ↔ DefinesInPlace operand }
+{
+    if !operand.is_def() {
+        return true;
+    }
+    match operand.constraint() {
+        OperandConstraint::Reg | OperandConstraint::Reuse(_) => false,
+        _ => true,
+    }
+}
+
+/// Whether each operand does.
+fn define_in_place(operands: &[Operand]) -> bool
+    ensures { IsTrue result ↔ ((k : ℕ) → k < length operands.now → DefinesInPlace (op_at operands.now k)) }
+{
+    for k in 0..operands.len() {
+        if !defines_in_place(operands[k]) {
+            return false;
+        }
+    }
+    true
+}
+
+/// Whether an instruction is no branch, or defines in registers that it names and in memory alone.
+fn is_sound_branch<F: Function>(f: &F, inst: Inst) -> bool
+    requires { inst < length (F.function f.now).insts }
+    ensures { IsTrue result ↔ BranchDefinesInPlace (inst_at (F.function f.now) inst) }
+{
+    !f.is_branch(inst) || define_in_place(f.inst_operands(inst))
+}
+
+/// Tests that no branch has a definition in any register or in the place of another operand. Else the first one that has is
+/// refused by `Unsupported`.
+///
+/// What a branch defines is stored behind it, at the beginning of each block that it leads to, and blocks are walked before
+/// those that lead to them: so the place has to be known before the branch is allocated. Upstream's fast allocator stops the
+/// program there.
+pub fn validate_branches<F: Function>(f: &F) -> Result<(), RegAllocError>
+    ensures ok { IsOk result ↔ ((i : ℕ) → i < length (F.function f.now).insts → BranchDefinesInPlace (inst_at (F.function f.now) i)) }
+    ensures first { IfErr result (λ e. (i : ℕ) × (e ≡ RegAllocError.Unsupported i) × IsFirstFailing (F.function f.now) (BranchDefinesInPlace) i) }
+{
+    for i in 0..f.num_insts() {
+        let inst = Inst::new(i);
+        if !is_sound_branch(f, inst) {
+            return Err(RegAllocError::Unsupported(inst));
+        }
+    }
+    Ok(())
+}
+
+/// Whether an instruction has no operand under `Limit`, and is no branch with a definition in any register or by a reuse.
+fn passes_operand_tests<F: Function>(f: &F, inst: Inst) -> bool
+    requires { inst < length (F.function f.now).insts }
+    ensures passed { IsTrue result → AreUnlimited (inst_at (F.function f.now) inst) × BranchDefinesInPlace (inst_at (F.function f.now) inst) }
+    ensures failed { IsFalse result → AreUnlimited (inst_at (F.function f.now) inst) → BranchDefinesInPlace (inst_at (F.function f.now) inst) → ⊥ }
+    ensures taken { IsTrue result → All IsTakenOperand (inst_at (F.function f.now) inst).operands }
+{
+    has_no_limit(f, inst) && is_sound_branch(f, inst)
+}
+
+/// Whether all instructions pass both tests.
+fn all_pass_operand_tests<F: Function>(f: &F) -> bool
+    ensures unlimited { IsTrue result → (i : ℕ) → i < length (F.function f.now).insts → AreUnlimited (inst_at (F.function f.now) i) }
+    ensures branches { IsTrue result → (i : ℕ) → i < length (F.function f.now).insts → BranchDefinesInPlace (inst_at (F.function f.now) i) }
+    ensures failed { IsFalse result → (i : ℕ) × (i < length (F.function f.now).insts)
+        × (AreUnlimited (inst_at (F.function f.now) i) → BranchDefinesInPlace (inst_at (F.function f.now) i) → ⊥) }
+    ensures taken { IsTrue result → AreTaken (F.function f.now) }
+{
+    for i in 0..f.num_insts() {
+        if !passes_operand_tests(f, Inst::new(i)) {
+            return false;
+        }
+    }
+    true
+}
+
+/// Tests that no operand has `Limit`, and then that no branch has a definition in any register or in the place of another
+/// operand, as [`validate_limits`] and [`validate_branches`] do.
+///
+/// One pass makes both tests, and nearly every function passes it. Only where an instruction fails one are they made one after
+/// the other, for the error that comes first.
+pub fn validate_operands<F: Function>(f: &F) -> Result<(), RegAllocError>
+    ensures unlimited { OnOk result ((i : ℕ) → i < length (F.function f.now).insts → AreUnlimited (inst_at (F.function f.now) i)) }
+    ensures taken { OnOk result (AreTaken (F.function f.now)) }
+    ensures branches { OnOk result ((i : ℕ) → i < length (F.function f.now).insts → BranchDefinesInPlace (inst_at (F.function f.now) i)) }
+    ensures refused { IfErr result (λ e. (i : ℕ) × (e ≡ RegAllocError.Unsupported i) × IsUnsupported (F.function f.now) i) }
+{
+    if all_pass_operand_tests(f) {
+        return Ok(());
+    }
+    validate_limits(f)?;
+    validate_branches(f)?;
+    Ok(())
+}

@@ -1,9 +1,0 @@
-use Rattle.std.proofs.Common.{ℕ, length}
-use Rattle.regalloc2_live_ranges.specs.LastUses.{NotesReads, end_at}
-use Rattle.regalloc2_live_ranges.specs.Slots.{HasSlot, spread}
-use Rattle.regalloc2_live_ranges.proofs.ends.note_reads.Given as goal
-
--- the operands so far are noted
-abbrev pub invariant-loop-index : goal.invariant-loop-index
-invariant-loop-index l = (n : ℕ) → HasSlot l.slots n (length l.ends) → NotesReads l.pos l.inst l.operands l.index n (end_at (spread l.slots l.fn.ends) n)
-    (end_at (spread l.slots l.ends) n)

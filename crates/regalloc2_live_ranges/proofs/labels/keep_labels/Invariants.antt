@@ -1,8 +1,0 @@
-use Rattle.std.proofs.Common.{take, map}
-use Rattle.regalloc2_function.specs.FunctionValue.{label_of}
-use Rattle.regalloc2_live_ranges.specs.LiveRanges.{AreKeptLabels}
-use Rattle.regalloc2_live_ranges.proofs.labels.keep_labels.Given as goal
-
--- the labels so far that are kept
-abbrev pub invariant-loop-label : goal.invariant-loop-label
-invariant-loop-label g l = AreKeptLabels (g.F.Function.function l.f) (map label_of (take l.label-index l.label-items)) l.kept.items

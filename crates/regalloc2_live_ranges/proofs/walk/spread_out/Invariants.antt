@@ -1,7 +1,0 @@
-use Rattle.std.proofs.Common.{◌≡◌, take}
-use Rattle.regalloc2_live_ranges.specs.Slots.{spread}
-use Rattle.regalloc2_live_ranges.proofs.walk.spread_out.Given as goal
-
--- the entries of the numbers so far
-abbrev pub invariant-loop-number : goal.invariant-loop-number
-invariant-loop-number g l = l.ranges.items ≡ take l.number (spread l.slots l.entries)

@@ -1,7 +1,0 @@
-use Rattle.std.proofs.Common.{ℕ, ◌≡◌, [], length}
-use Rattle.regalloc2_liveness.specs.Edges.{blocks_of}
-use Rattle.regalloc2_liveness.proofs.edges.no_edges.Given as goal
-
--- the lists so far are empty
-abbrev pub invariant-loop : goal.invariant-loop
-invariant-loop g l = record { long : length l.edges.items ≡ l.counter; none : (n : ℕ) → blocks_of l.edges.items n ≡ [] }

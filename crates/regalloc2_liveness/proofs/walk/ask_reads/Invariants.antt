@@ -1,9 +1,0 @@
-use Rattle.std.proofs.Common.{take}
-use Rattle.std.specs.Prelude.{◌&&◌, not}
-use Rattle.regalloc2_liveness.specs.BlockVRegPairs.{Grows, holds}
-use Rattle.regalloc2_liveness.specs.BlockWalk.{reads}
-use Rattle.regalloc2_liveness.proofs.walk.ask_reads.Given as goal
-
--- what the operands so far read is asked for
-abbrev pub invariant-loop-operand : goal.invariant-loop-operand
-invariant-loop-operand g l = Grows l.block (λ v. reads l.pos v (take l.operand-index l.operands) && not (holds l.written (l.block, v))) l.fn.needs l.needs

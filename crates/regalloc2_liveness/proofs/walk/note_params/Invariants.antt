@@ -1,8 +1,0 @@
-use Rattle.std.proofs.Common.{take}
-use Rattle.regalloc2_semantics.specs.Blocks.{names}
-use Rattle.regalloc2_liveness.specs.BlockVRegPairs.{Gains, holds}
-use Rattle.regalloc2_liveness.proofs.walk.note_params.Given as goal
-
--- the parameters so far are noted
-abbrev pub invariant-loop-param : goal.invariant-loop-param
-invariant-loop-param g l = Gains l.block (λ v. names v (take l.param-index l.params)) (holds l.fn.noted) (holds l.noted)

@@ -1,8 +1,0 @@
-use Rattle.std.proofs.Common.{take}
-use Rattle.regalloc2_semantics.specs.Listing.{defines}
-use Rattle.regalloc2_liveness.specs.BlockVRegPairs.{Gains, holds}
-use Rattle.regalloc2_liveness.proofs.walk.write_definitions.Given as goal
-
--- what the operands so far define is noted
-abbrev pub invariant-loop-operand : goal.invariant-loop-operand
-invariant-loop-operand g l = Gains l.block (λ v. defines v (take l.operand-index l.operands)) (holds l.fn.written) (holds l.written)

@@ -1,0 +1,11 @@
+use Rattle.std.proofs.Common.{◌≡◌, false, true, below_more, arith, sym, ◌∙◌}
+use Rattle.regalloc2_parts.proofs.callmoves.fault.is_free.Goals as goal
+
+pub loop-at-init : goal.loop-at-init
+loop-at-init g c = λ k lt e. absurd (omega arith)
+
+pub loop-at-preserved : goal.loop-at-preserved
+loop-at-preserved g c = below_more _ _ c.loop-at.invariant (λ e. let no : false ≡ true = sym c.if-is_same.false ∙ c.is_same.ensures.same.1 (cc) in absurd cc)
+
+pub returns-clause-no : goal.returns-clause-no
+returns-clause-no g c = λ e x. c.loop-at.invariant x.0 (omega (arith, x.1)) x.2

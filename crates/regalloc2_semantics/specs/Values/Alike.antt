@@ -1,0 +1,49 @@
+-- Both interpreters run alike.
+use Rattle.std.specs.Prelude.{ℕ, ◌≡◌, List, Option, None, Some}
+use Rattle.regalloc2_names.specs.Register.{VirtualRegister}
+use Rattle.regalloc2_names.specs.Place.{Place}
+use Rattle.regalloc2_function.specs.FunctionValue.{FunctionValue, inst_at}
+use Rattle.regalloc2_function.specs.Machine.{MachineValue}
+use Rattle.regalloc2_function.specs.OutputValue.{OutputValue, allocs_of, place_at}
+use Rattle.regalloc2_function.specs.Path.{Way, IsPath}
+use Rattle.regalloc2_function.specs.SourceRun.{UsesFindEarlier}
+use Rattle.regalloc2_function.specs.Faithful.{IsFaithful}
+use Rattle.regalloc2_function.specs.WellFormed.{IsWellFormed}
+use Rattle.regalloc2_semantics.specs.Values.Interpreters.{History, InstMeaning, State, read_by, is_late_use, vreg_reads, vreg_written, source_run}
+use Rattle.regalloc2_semantics.specs.Values.Interpreters.{place_reads, place_written, place_run}
+
+module _ (f : FunctionValue) (out : OutputValue) (meaning : InstMeaning) (noise : History → Place → ℕ) where
+  -- Both are at one instruction, and have read the same numbers up to it; they read the same ones there. What a late use reads
+  -- still has that number, and so has its place, once the instruction has defined.
+  pub record AreAlike (c : State VirtualRegister) (d : State Place) : Type 0 where
+    pub at : d.at ≡ c.at
+    pub history : d.history ≡ c.history
+    pub reads : place_reads f out meaning noise d ≡ vreg_reads f meaning c
+    pub late : read_by is_late_use (λ k o. place_written f out meaning noise d (place_at (allocs_of out d.at.inst) k)) 0 (inst_at f d.at.inst).operands
+        ≡ read_by is_late_use (λ k o. vreg_written f meaning c o.vreg) 0 (inst_at f c.at.inst).operands
+    pub still : read_by is_late_use (λ k o. vreg_written f meaning c o.vreg) 0 (inst_at f c.at.inst).operands
+        ≡ read_by is_late_use (λ k o. c.numbers o.vreg) 0 (inst_at f c.at.inst).operands
+
+  -- and both end together
+  abbrev pub HaveRunAlike : Option (State VirtualRegister) → Option (State Place) → Type 0
+  HaveRunAlike None None = Unit {0}
+  HaveRunAlike None (Some d) = ⊥
+  HaveRunAlike (Some c) None = ⊥
+  HaveRunAlike (Some c) (Some d) = AreAlike c d
+
+-- whatever the instructions mean, whatever noise there is, and whatever numbers are there at first, both run alike, however many steps they make
+abbrev pub RunAlike : FunctionValue → OutputValue → Type 0
+RunAlike f out = (meaning : InstMeaning) (noise : History → Place → ℕ) (virtual : VirtualRegister → ℕ) (places : Place → ℕ) (n : ℕ) →
+    HaveRunAlike f out meaning noise (source_run f meaning virtual n) (place_run f out meaning noise places n)
+
+-- no use reads what its own instruction writes
+abbrev pub ReadsEarlier : FunctionValue → Type 0
+ReadsEarlier f = (ws : List Way) → IsPath f ws → UsesFindEarlier f ws
+
+-- so they do, of a faithful output
+abbrev pub FaithfulRunAlike : Type 0
+FaithfulRunAlike = (f : FunctionValue) (env : MachineValue) (out : OutputValue) → ReadsEarlier f → IsFaithful f env out → RunAlike f out
+
+-- and of a faithful output of a well-formed function, on which there is no other condition
+abbrev pub WellFormedRunAlike : Type 0
+WellFormedRunAlike = (f : FunctionValue) (env : MachineValue) (out : OutputValue) → IsWellFormed env f → IsFaithful f env out → RunAlike f out

@@ -1,0 +1,11 @@
+use Rattle.std.proofs.lemmas.Result.{err_from_is_err_and}
+use Rattle.regalloc2_serialize.proofs.FlatLemmas.NoValue.{no_list}
+use Rattle.std.proofs.Common.{◌<◌, length, arith}
+use Rattle.regalloc2_serialize.proofs.flat.read.VecFlat.read.Goals as goal
+
+pub returns-in_err-read-clause-shape : goal.returns-in_err-read-clause-shape
+returns-in_err-read-clause-shape g c =
+    let p = err_from_is_err_and c.from_residual-in_err-read.result c.from_residual-in_err-read.ensures.1 in
+    let less : length c.loop-index.items.items < c.in_ok-count.count = omega arith in
+    rw (p.1, p.2) (λ e x rest h. no_list g.T.Flat.words g.met.T.Flat.one_rest c.loop-index.items.items c.args.from.now.rest.now c.loop-index.from.rest.now
+    c.in_ok-count.count c.loop-index.invariant.read less (c.in_err-read.ensures.shape e) x.items rest h)

@@ -1,0 +1,139 @@
+//! Small functions by hand.
+
+ghost use Rattle.std.specs.Prelude.{◌≡◌, ◌<◌, ◌≤◌, ◌^◌, ◌-◌, ◌++◌, ◌∷◌, [], false, true, IfOk, IsTrue, map, vec_len};
+ghost use Rattle.std.specs.Int.{is_power_of_two};
+ghost use Rattle.regalloc2_names.specs.Register.{Register};
+ghost use Rattle.regalloc2_names.specs.RegisterSet.{has_register};
+ghost use Rattle.regalloc2_serialize.specs.TableFunction.Table.{function_of_table, inst_of_table, block_of_table, sizes_of_table};
+
+use super::table::{SlotUnits, TableBlock, TableFunction, TableInst};
+use regalloc2_index::{Block, Inst, InstRange};
+use regalloc2_names::{Operand, PRegSet, VReg};
+use std::alloc::{AllocError, Allocator};
+
+/// An instruction with these operands and no clobbers.
+fn inst<A: Allocator + Copy>(
+    alloc: A,
+    operands: &[Operand],
+    is_branch: bool,
+    is_ret: bool,
+) -> Result<TableInst<A>, AllocError>
+    ensures operands { IfOk result (λ i. i.operands.items ≡ operands.now) }
+    ensures clobbers { IfOk result (λ i. (r : Register) → has_register i.clobbers r ≡ false) }
+    ensures is_branch { IfOk result (λ i. i.is_branch ≡ is_branch) }
+    ensures is_ret { IfOk result (λ i. i.is_ret ≡ is_ret) }
+{
+    Ok(TableInst {
+        operands: operands.to_vec(alloc)?,
+        clobbers: PRegSet::empty(),
+        is_branch,
+        is_ret,
+    })
+}
+
+/// An instruction that goes on to the next one, with these operands.
+pub fn op<A: Allocator + Copy>(alloc: A, operands: &[Operand]) -> Result<TableInst<A>, AllocError>
+    ensures operands { IfOk result (λ i. i.operands.items ≡ operands.now) }
+    ensures clobbers { IfOk result (λ i. (r : Register) → has_register i.clobbers r ≡ false) }
+    ensures is_branch { IfOk result (λ i. i.is_branch ≡ false) }
+    ensures is_ret { IfOk result (λ i. i.is_ret ≡ false) }
+{
+    inst(alloc, operands, false, false)
+}
+
+/// An instruction that goes on to a successor of its block, with these operands.
+pub fn branch<A: Allocator + Copy>(
+    alloc: A,
+    operands: &[Operand],
+) -> Result<TableInst<A>, AllocError>
+    ensures operands { IfOk result (λ i. i.operands.items ≡ operands.now) }
+    ensures clobbers { IfOk result (λ i. (r : Register) → has_register i.clobbers r ≡ false) }
+    ensures is_branch { IfOk result (λ i. i.is_branch ≡ true) }
+    ensures is_ret { IfOk result (λ i. i.is_ret ≡ false) }
+{
+    inst(alloc, operands, true, false)
+}
+
+/// A return with these operands.
+pub fn ret<A: Allocator + Copy>(alloc: A, operands: &[Operand]) -> Result<TableInst<A>, AllocError>
+    ensures operands { IfOk result (λ i. i.operands.items ≡ operands.now) }
+    ensures clobbers { IfOk result (λ i. (r : Register) → has_register i.clobbers r ≡ false) }
+    ensures is_branch { IfOk result (λ i. i.is_branch ≡ false) }
+    ensures is_ret { IfOk result (λ i. i.is_ret ≡ true) }
+{
+    inst(alloc, operands, false, true)
+}
+
+impl<A: Allocator + Copy> TableBlock<A> {
+    /// A block of these instructions that no block follows or precedes, without parameters.
+    pub fn alone(alloc: A, range: InstRange) -> TableBlock<A>
+        ensures { block_of_table result ≡ record { range = range; succs = []; preds = []; params = []; arguments = [] } }
+    {
+        TableBlock {
+            range,
+            succs: Vec::new(alloc),
+            preds: Vec::new(alloc),
+            params: Vec::new(alloc),
+            arguments: Vec::new(alloc),
+        }
+    }
+}
+
+impl SlotUnits {
+    /// A size, which is a power of two from 1 to 2^24.
+    pub fn new(units: usize) -> SlotUnits
+        requires positive { 1 ≤ units }
+        requires at_most { units ≤ 2 ^ 24 }
+        requires power_of_two { IsTrue (is_power_of_two units) }
+        ensures { result.units ≡ units }
+    {
+        SlotUnits { units }
+    }
+
+    /// One unit.
+    pub fn one() -> SlotUnits
+        ensures { result.units ≡ 1 }
+    {
+        SlotUnits::new(1)
+    }
+
+    /// Two units.
+    pub fn two() -> SlotUnits
+        ensures { result.units ≡ 2 }
+    {
+        SlotUnits::new(2)
+    }
+}
+
+impl<A: Allocator> TableFunction<A> {
+    /// The function of these blocks and instructions that starts at block 0, with slots of those sizes for integers,
+    /// floating-point numbers and vectors, named by their first units, and virtual registers below `num_vregs`.
+    pub fn of_blocks(
+        num_vregs: usize,
+        slots: (SlotUnits, SlotUnits, SlotUnits),
+        blocks: Vec<TableBlock<A>, A>,
+        insts: Vec<TableInst<A>, A>,
+    ) -> TableFunction<A>
+        requires blocks { vec_len blocks < 2 ^ 32 - 1 }
+        requires insts { vec_len insts < 2 ^ 30 }
+        requires vregs { num_vregs < 2 ^ 30 }
+        ensures blocks { (function_of_table result).blocks ≡ map block_of_table blocks.items }
+        ensures insts { (function_of_table result).insts ≡ map inst_of_table insts.items }
+        ensures entry { (function_of_table result).entry ≡ 0 }
+        ensures vregs { (function_of_table result).num_vregs ≡ num_vregs }
+        ensures slots { (function_of_table result).slot_sizes ≡ sizes_of_table slots.0 slots.1 slots.2 }
+        ensures named { (function_of_table result).named_by_last_slot ≡ false }
+    {
+        let (int_slot, float_slot, vector_slot) = slots;
+        TableFunction {
+            blocks,
+            insts,
+            entry: Block::new(0),
+            num_vregs,
+            int_slot,
+            float_slot,
+            vector_slot,
+            named_by_last_slot: false,
+        }
+    }
+}

@@ -1,0 +1,326 @@
+//! Builds a function: blocks are declared, then filled in any order.
+
+ghost use Rattle.std.specs.Prelude.{◌≡◌, ℕ, ◌<◌, ◌≤◌, ◌^◌, ◌-◌, ◌+◌, ◌++◌, ◌∷◌, [], false, true, All, OnOk, OnErr, IfOk, IfErr, map, length, vec_len};
+ghost use Rattle.regalloc2_serialize.specs.TableFunction.Table.{function_of_table, inst_of_table, block_of_table};
+ghost use Rattle.regalloc2_serialize.specs.TableFunction.Draft.{draft_of, drafts_of, declared_with, with_inst, with_succ, IsChanged, HasMore, IsUndeclared, IsUnadded};
+ghost use Rattle.regalloc2_serialize.specs.TableFunction.Built.{placed_block, blocks_from, insts_of, edges_to, preds_from, IsBuilt, IsUnbuilt};
+ghost use Rattle.regalloc2_serialize.specs.TableFunction.Steps.{HasPreds, one_edge, succs_at, IsUnplaced, IsUnlinked, AreUnlinked};
+
+use super::build::{branch, op, ret};
+use super::table::{SlotUnits, TableBlock, TableFunction, TableInst};
+use regalloc2_index::{Block, Inst, InstRange};
+use regalloc2_names::{Operand, PRegSet, VReg};
+use std::alloc::{AllocError, AllocFailed, Allocator, Global};
+use std::error::Error;
+use std::fmt;
+
+/// A function has fewer instructions, and fewer virtual registers.
+const LIMIT: usize = 1 << 30;
+
+/// A function has fewer blocks.
+const BLOCK_LIMIT: usize = 0xffff_ffff;
+
+/// Why a builder returns an error.
+#[derive(Clone, Copy, Debug, PartialEq, Eq)]
+pub enum BuildError {
+    /// Memory ran out.
+    Memory,
+    /// This block wasn't declared.
+    NoBlock(Block),
+    /// There are 2^32 - 1 blocks or more.
+    TooManyBlocks,
+    /// There are 2^30 instructions or more.
+    TooManyInsts,
+    /// There are 2^30 virtual registers or more.
+    TooManyVRegs,
+}
+
+/// As `block3 isn't declared`.
+impl fmt::Display for BuildError {
+    fn fmt<W: fmt::Write>(&self, f: &mut fmt::Formatter<W>) -> fmt::Result {
+        match *self {
+            Self::Memory => write!(f, "out of memory"),
+            Self::NoBlock(block) => write!(f, "block{} isn't declared", block.index()),
+            Self::TooManyBlocks => write!(f, "there are 2^32 - 1 blocks or more"),
+            Self::TooManyInsts => write!(f, "there are 2^30 instructions or more"),
+            Self::TooManyVRegs => write!(f, "there are 2^30 virtual registers or more"),
+        }
+    }
+}
+
+impl Error for BuildError {}
+
+impl From<AllocError> for BuildError {
+    ghost use Rattle.std.specs.Prelude.{◌≡◌};
+    ghost use Rattle.regalloc2_serialize.specs.declared.table_function.builder.BuildError.TheVariants.{Memory};
+
+    ghost from_gives = { λ _ e. e ≡ Memory };
+
+    fn from(_refused: AllocError) -> BuildError {
+        BuildError::Memory
+    }
+}
+
+impl<T: Drop> From<AllocFailed<T>> for BuildError {
+    ghost use Rattle.std.specs.Prelude.{◌≡◌};
+    ghost use Rattle.regalloc2_serialize.specs.declared.table_function.builder.BuildError.TheVariants.{Memory};
+
+    ghost from_gives = { λ _ e. e ≡ Memory };
+
+    fn from(_refused: AllocFailed<T>) -> BuildError {
+        BuildError::Memory
+    }
+}
+
+/// A block that is being built.
+#[derive(Drop)]
+pub struct BlockDraft<A: Allocator = Global> {
+    /// What takes the arguments.
+    pub params: Vec<VReg, A>,
+    /// Its instructions.
+    pub insts: Vec<TableInst<A>, A>,
+    /// The blocks that may follow.
+    pub succs: Vec<Block, A>,
+    /// The arguments for each successor.
+    pub arguments: Vec<Vec<VReg, A>, A>,
+}
+
+/// Builds a function whose blocks are declared one by one, and filled in any order. It starts at block 0. A call that is refused leaves
+/// all as it was.
+#[derive(Drop)]
+pub struct TableBuilder<A: Allocator = Global> {
+    /// What is built in.
+    alloc: A,
+    /// The blocks so far, by number.
+    pub blocks: Vec<BlockDraft<A>, A>,
+}
+
+impl<A: Allocator + Copy> TableBuilder<A> {
+    /// No block yet.
+    pub fn new(alloc: A) -> TableBuilder<A>
+        ensures { drafts_of result ≡ [] }
+    {
+        TableBuilder {
+            alloc,
+            blocks: Vec::new(alloc),
+        }
+    }
+
+    /// Declares the next block, which takes these parameters.
+    pub fn block(&mut self, params: &[VReg]) -> Result<Block, BuildError>
+        ensures number { IfOk result (λ b. b ≡ length (drafts_of self.old)) }
+        ensures ok { OnOk result (drafts_of self.new ≡ drafts_of self.old ++ declared_with params.now ∷ []) }
+        ensures err { IfErr result (λ e. IsUndeclared (drafts_of self.old) e) }
+        ensures unchanged { OnErr result (drafts_of self.new ≡ drafts_of self.old) }
+    {
+        let number = self.blocks.len();
+        if number + 1 >= BLOCK_LIMIT {
+            return Err(BuildError::TooManyBlocks);
+        }
+        self.blocks.push(BlockDraft {
+            params: params.to_vec(self.alloc)?,
+            insts: Vec::new(self.alloc),
+            succs: Vec::new(self.alloc),
+            arguments: Vec::new(self.alloc),
+        })?;
+        Ok(Block::new(number))
+    }
+
+    /// Adds an instruction to a block.
+    pub fn inst(&mut self, block: Block, inst: TableInst<A>) -> Result<(), BuildError>
+        ensures ok { OnOk result (IsChanged (drafts_of self.old) block (with_inst (inst_of_table inst)) (drafts_of self.new)) }
+        ensures err { IfErr result (λ e. IsUnadded (length (drafts_of self.old)) block e) }
+        ensures unchanged { OnErr result (drafts_of self.new ≡ drafts_of self.old) }
+    {
+        if block.index() >= self.blocks.len() {
+            return Err(BuildError::NoBlock(block));
+        }
+        self.blocks[block.index()].insts.push(inst)?;
+        Ok(())
+    }
+
+    /// Adds an instruction with these operands, after which the next one comes.
+    pub fn op(&mut self, block: Block, operands: &[Operand]) -> Result<(), BuildError>
+        ensures ok { OnOk result (HasMore (drafts_of self.old) block operands.now false false (drafts_of self.new)) }
+        ensures err { IfErr result (λ e. IsUnadded (length (drafts_of self.old)) block e) }
+        ensures unchanged { OnErr result (drafts_of self.new ≡ drafts_of self.old) }
+    {
+        let inst = op(self.alloc, operands)?;
+        self.inst(block, inst)
+    }
+
+    /// Adds an instruction with these operands that overwrites these registers besides.
+    pub fn op_with_clobbers(
+        &mut self,
+        block: Block,
+        operands: &[Operand],
+        clobbers: PRegSet,
+    ) -> Result<(), BuildError>
+        ensures ok { OnOk result (IsChanged (drafts_of self.old) block (with_inst
+            (record { operands = operands.now; clobbers = clobbers; is_branch = false; is_ret = false })) (drafts_of self.new)) }
+        ensures err { IfErr result (λ e. IsUnadded (length (drafts_of self.old)) block e) }
+        ensures unchanged { OnErr result (drafts_of self.new ≡ drafts_of self.old) }
+    {
+        let mut inst = op(self.alloc, operands)?;
+        inst.clobbers = clobbers;
+        self.inst(block, inst)
+    }
+
+    /// Adds a branch with these operands: the last instruction of a block that goes on to its successors.
+    pub fn branch(&mut self, block: Block, operands: &[Operand]) -> Result<(), BuildError>
+        ensures ok { OnOk result (HasMore (drafts_of self.old) block operands.now true false (drafts_of self.new)) }
+        ensures err { IfErr result (λ e. IsUnadded (length (drafts_of self.old)) block e) }
+        ensures unchanged { OnErr result (drafts_of self.new ≡ drafts_of self.old) }
+    {
+        let inst = branch(self.alloc, operands)?;
+        self.inst(block, inst)
+    }
+
+    /// Adds a return with these operands: the last instruction of a block without successors.
+    pub fn ret(&mut self, block: Block, operands: &[Operand]) -> Result<(), BuildError>
+        ensures ok { OnOk result (HasMore (drafts_of self.old) block operands.now false true (drafts_of self.new)) }
+        ensures err { IfErr result (λ e. IsUnadded (length (drafts_of self.old)) block e) }
+        ensures unchanged { OnErr result (drafts_of self.new ≡ drafts_of self.old) }
+    {
+        let inst = ret(self.alloc, operands)?;
+        self.inst(block, inst)
+    }
+
+    /// Gives a block its next successor, to which it passes these arguments.
+    pub fn succ(&mut self, block: Block, to: Block, arguments: &[VReg]) -> Result<(), BuildError>
+        ensures ok { OnOk result (IsChanged (drafts_of self.old) block (with_succ to arguments.now) (drafts_of self.new)) }
+        ensures err { IfErr result (λ e. IsUnadded (length (drafts_of self.old)) block e) }
+        ensures unchanged { OnErr result (drafts_of self.new ≡ drafts_of self.old) }
+    {
+        if block.index() >= self.blocks.len() {
+            return Err(BuildError::NoBlock(block));
+        }
+        let arguments = arguments.to_vec(self.alloc)?;
+        let draft = &mut self.blocks[block.index()];
+        draft.succs.push(to)?;
+        if let Err(_) = draft.arguments.push(arguments) {
+            draft.succs.pop();
+            return Err(BuildError::Memory);
+        }
+        Ok(())
+    }
+
+    /// The function, with slots of one unit and virtual registers below `num_vregs`: the blocks' ranges follow one another, and each
+    /// block has as predecessors those that go on to it, each once for each time, by their numbers.
+    pub fn finish(self, num_vregs: usize) -> Result<TableFunction<A>, BuildError>
+        ensures ok { IfOk result (λ f. IsBuilt (drafts_of self) num_vregs (function_of_table f)) }
+        ensures err { IfErr result (λ e. IsUnbuilt (drafts_of self) num_vregs e) }
+    {
+        let TableBuilder { alloc, blocks } = self;
+        if blocks.len() >= BLOCK_LIMIT {
+            return Err(BuildError::TooManyBlocks);
+        }
+        if num_vregs >= LIMIT {
+            return Err(BuildError::TooManyVRegs);
+        }
+        let (mut blocks, insts) = lay_out(alloc, blocks)?;
+        link(&mut blocks)?;
+        let slots = (SlotUnits::one(), SlotUnits::one(), SlotUnits::one());
+        Ok(TableFunction::of_blocks(num_vregs, slots, blocks, insts))
+    }
+}
+
+/// Adds a block, and its instructions to those of the blocks before it.
+fn place<A: Allocator + Copy>(
+    alloc: A,
+    blocks: &mut Vec<TableBlock<A>, A>,
+    insts: &mut Vec<TableInst<A>, A>,
+    draft: BlockDraft<A>,
+) -> Result<(), BuildError>
+    requires { vec_len insts.old < 2 ^ 30 }
+    ensures blocks { OnOk result (map block_of_table blocks.new.items ≡ map block_of_table blocks.old.items ++ placed_block (length insts.old.items) (draft_of draft) ∷ []) }
+    ensures insts { OnOk result (map inst_of_table insts.new.items ≡ map inst_of_table insts.old.items ++ (draft_of draft).insts) }
+    ensures few { OnOk result (vec_len insts.new < 2 ^ 30) }
+    ensures err { IfErr result (λ e. IsUnplaced (length insts.old.items + length (draft_of draft).insts) e) }
+{
+    let BlockDraft {
+        params,
+        insts: added,
+        succs,
+        arguments,
+    } = draft;
+    let first = Inst::new(insts.len());
+    insts.extend(added)?;
+    if insts.len() >= LIMIT {
+        return Err(BuildError::TooManyInsts);
+    }
+    blocks.push(TableBlock {
+        range: InstRange::new(first, Inst::new(insts.len())),
+        succs,
+        preds: Vec::new(alloc),
+        params,
+        arguments,
+    })?;
+    Ok(())
+}
+
+/// The blocks and the instructions one after another. The blocks have no predecessors yet.
+fn lay_out<A: Allocator + Copy>(
+    alloc: A,
+    drafts: Vec<BlockDraft<A>, A>,
+) -> Result<(Vec<TableBlock<A>, A>, Vec<TableInst<A>, A>), BuildError>
+    ensures blocks { IfOk result (λ r. map block_of_table r.0.items ≡ blocks_from 0 (map draft_of drafts.items)) }
+    ensures insts { IfOk result (λ r. map inst_of_table r.1.items ≡ insts_of (map draft_of drafts.items)) }
+    ensures few { IfOk result (λ r. vec_len r.1 < 2 ^ 30) }
+    ensures err { IfErr result (λ e. IsUnplaced (length (insts_of (map draft_of drafts.items))) e) }
+{
+    let (mut blocks, mut insts) = (Vec::new(alloc), Vec::new(alloc));
+    for draft in drafts {
+        place(alloc, &mut blocks, &mut insts, draft)?;
+    }
+    Ok((blocks, insts))
+}
+
+/// Gives a block one more predecessor.
+fn add_pred<A: Allocator + Copy>(
+    blocks: &mut Vec<TableBlock<A>, A>,
+    to: Block,
+    pred: Block,
+) -> Result<(), BuildError>
+    ensures ok { OnOk result (HasPreds (map block_of_table blocks.old.items) (one_edge to pred) (map block_of_table blocks.new.items)) }
+    ensures within { OnOk result (to < length blocks.old.items) }
+    ensures err { IfErr result (λ e. IsUnadded (length blocks.old.items) to e) }
+{
+    if to.index() >= blocks.len() {
+        return Err(BuildError::NoBlock(to));
+    }
+    blocks[to.index()].preds.push(pred)?;
+    Ok(())
+}
+
+/// Makes a block a predecessor of its successors.
+fn link_one<A: Allocator + Copy>(
+    blocks: &mut Vec<TableBlock<A>, A>,
+    pred: Block,
+) -> Result<(), BuildError>
+    requires { pred < vec_len blocks.old }
+    ensures ok { let succs = succs_at (map block_of_table blocks.old.items) pred in
+        OnOk result (HasPreds (map block_of_table blocks.old.items) (λ b. edges_to b pred succs) (map block_of_table blocks.new.items)) }
+    ensures within { OnOk result (All (λ s. s < length blocks.old.items) (succs_at (map block_of_table blocks.old.items) pred)) }
+    ensures err { IfErr result (λ e. IsUnlinked (succs_at (map block_of_table blocks.old.items) pred) (length blocks.old.items) e) }
+{
+    for k in 0..blocks[pred.index()].succs.len() {
+        let to = blocks[pred.index()].succs[k];
+        add_pred(blocks, to, pred)?;
+    }
+    Ok(())
+}
+
+/// Gives each block its predecessors.
+fn link<A: Allocator + Copy>(blocks: &mut Vec<TableBlock<A>, A>) -> Result<(), BuildError>
+    requires { vec_len blocks.old < 2 ^ 32 - 1 }
+    ensures ok { let succs = map (λ b. b.succs) (map block_of_table blocks.old.items) in
+        OnOk result (HasPreds (map block_of_table blocks.old.items) (λ b. preds_from b 0 succs) (map block_of_table blocks.new.items)) }
+    ensures within { OnOk result ((b : ℕ) → b < length blocks.old.items → All (λ s. s < length blocks.old.items) (succs_at (map block_of_table blocks.old.items) b)) }
+    ensures err { IfErr result (λ e. AreUnlinked (map block_of_table blocks.old.items) e) }
+{
+    for number in 0..blocks.len() {
+        link_one(blocks, Block::new(number))?;
+    }
+    Ok(())
+}

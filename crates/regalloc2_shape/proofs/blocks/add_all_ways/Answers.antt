@@ -1,0 +1,25 @@
+use Rattle.std.proofs.Common.{◌≡◌, ◌+◌, arith}
+use Rattle.std.specs.Prelude.{if◌then◌else◌, nat_eq}
+use Rattle.regalloc2_function.specs.FunctionValue.{FunctionValue, block_at}
+use Rattle.regalloc2_function.specs.WellFormed.{times_in}
+use Rattle.regalloc2_shape.specs.Ways.{listed_of}
+use Rattle.regalloc2_shape.proofs.PredsListed.{all_ways_end, all_ways_more}
+use Rattle.regalloc2_shape.proofs.blocks.add_all_ways.Goals as goal
+
+pub loop-b-preserved : goal.loop-b-preserved
+loop-b-preserved g c =
+    let f : FunctionValue = g.F.Function.function c.args.f.now in
+    record {
+      whole = c.loop-b.invariant.whole;
+      so_far = λ n p. let h : times_in p (listed_of c.add_ways.new.ways n) ≡ times_in p
+          (listed_of c.loop-b.ways n) + (if nat_eq c.loop-b.b p then times_in n (block_at f c.loop-b.b).succs else 0) =
+          rw (c.block_succs.ensures, c.new-block.ensures) at (c.in_ok-add_ways.ensures n p) in
+          all_ways_more f c.loop-b.b n p (times_in p (listed_of c.loop-b.ways n)) (times_in p (listed_of c.add_ways.new.ways n)) h
+          (c.loop-b.invariant.so_far n p).0 (c.loop-b.invariant.so_far n p).1;
+    }
+
+pub returns : goal.returns
+returns g c n p =
+    let f : FunctionValue = g.F.Function.function c.args.f.now in
+    all_ways_end f c.loop-b.b n p (times_in p (listed_of c.loop-b.ways n)) (omega (arith, c.loop-b.invariant.whole)) (c.loop-b.invariant.so_far n p).0
+    (c.loop-b.invariant.so_far n p).1

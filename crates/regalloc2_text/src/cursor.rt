@@ -1,0 +1,12 @@
+//! Lines of a text: their words, numbers and signs, a place among them, what the registers, operands, places and points there are, and why
+//! a text can't be read.
+
+mod cursor;
+mod error;
+mod items;
+mod token;
+
+pub use cursor::Cursor;
+pub use error::{Expected, Fault, Flaw, Found, Misfit, TextError};
+pub use items::{Named, class_named};
+pub use token::{Token, TokenKind, split_line, tokenize};

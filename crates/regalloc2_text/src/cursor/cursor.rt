@@ -1,0 +1,244 @@
+//! A place among the tokens of a line.
+
+ghost use Rattle.std.specs.Prelude.{◌≡◌, ◌<◌, ◌≤◌, length, IsTrue, IfSome};
+ghost use Rattle.regalloc2_text.specs.Cursor.Cursor.{tokens_left};
+
+use super::error::{Expected, Flaw, Found};
+use super::token::{Token, TokenKind};
+use std::alloc::Allocator;
+
+/// A place among the tokens of a line. What is read is passed, and no method goes back.
+///
+/// The cursor keeps the first flaw that is found, and no token is left after it: what is read from then on is zeros and
+/// empty lists, for `finish` to refuse.
+#[derive(Drop)]
+pub struct Cursor<'a, 't> {
+    /// The tokens of the line.
+    tokens: &'a [Token<'t>],
+    /// How many of them are read.
+    at: usize,
+    /// One more than the greatest number of a virtual register that was read.
+    num_vregs: u64,
+    /// Why the line can't be read, where a flaw was found.
+    flaw: Option<Flaw<'t>>,
+}
+
+impl<'a, 't> Cursor<'a, 't> {
+    /// The place before a line's tokens, where the virtual registers so far are below `num_vregs`.
+    pub fn new(tokens: &'a [Token<'t>], num_vregs: u64) -> Self {
+        Cursor {
+            tokens,
+            at: 0,
+            num_vregs,
+            flaw: None,
+        }
+    }
+
+    /// One more than the greatest number of a virtual register that was read.
+    pub fn num_vregs(&self) -> u64 {
+        self.num_vregs
+    }
+
+    /// Notes that a virtual register of that number was read.
+    pub fn show_vreg(&mut self, number: u64)
+        ensures { tokens_left self.new ≤ tokens_left self.old }
+    {
+        self.num_vregs = self.num_vregs.max(number.saturating_add(1));
+    }
+
+    /// The next token, where there is one.
+    fn next(&self) -> Option<Token<'t>>
+        ensures { IfSome result (λ _. self.now.at < length self.now.tokens.now) }
+    {
+        self.tokens.get(self.at).copied()
+    }
+
+    /// The text of the next token, where there is one.
+    pub fn peek(&self) -> Option<&'t str> {
+        match self.next() {
+            Some(token) => Some(token.text),
+            None => None,
+        }
+    }
+
+    /// Whether the next token begins so.
+    pub fn begins(&self, start: &str) -> bool {
+        match self.peek() {
+            Some(text) => text.starts_with(start),
+            None => false,
+        }
+    }
+
+    /// The token before the next one, where there is one.
+    fn previous(&self) -> Option<Token<'t>> {
+        self.tokens.get(self.at.wrapping_sub(1)).copied()
+    }
+
+    /// Notes that flaw, unless there is one already.
+    pub fn fail(&mut self, flaw: Flaw<'t>)
+        ensures { tokens_left self.new ≤ tokens_left self.old }
+    {
+        self.flaw = self.flaw.or(Some(flaw));
+        self.at = self.tokens.len();
+    }
+
+    /// Notes that the next token doesn't fit.
+    pub fn fault(&mut self, expected: Expected)
+        ensures { tokens_left self.new ≤ tokens_left self.old }
+    {
+        let (column, found) = match (self.next(), self.previous()) {
+            (Some(token), _) => (token.column, Found::Token(token.text)),
+            (None, Some(last)) => (last.column.saturating_add(last.text.len()), Found::LineEnd),
+            (None, None) => (1, Found::LineEnd),
+        };
+        self.fail(Flaw::new(column, expected, found));
+    }
+
+    /// Notes that the next token doesn't fit, in whose place these words say what could stand.
+    pub fn misfit(&mut self, expected: &'static str)
+        ensures { tokens_left self.new ≤ tokens_left self.old }
+    {
+        self.fault(Expected::Words(expected));
+    }
+
+    /// Notes that the token before the next one doesn't fit.
+    pub fn fault_before(&mut self, expected: Expected)
+        ensures { tokens_left self.new ≤ tokens_left self.old }
+    {
+        match self.previous() {
+            Some(token) => {
+                self.fail(Flaw::new(token.column, expected, Found::Token(token.text)));
+            }
+            None => self.fault(expected),
+        }
+    }
+
+    /// Notes that the token before the next one doesn't fit, in whose place these words say what could stand.
+    pub fn misfit_before(&mut self, expected: &'static str)
+        ensures { tokens_left self.new ≤ tokens_left self.old }
+    {
+        self.fault_before(Expected::Words(expected));
+    }
+
+    /// Adds an item to a list, or notes that memory is out.
+    pub fn push<T: Drop, A: Allocator>(&mut self, list: &mut Vec<T, A>, item: T)
+        ensures { tokens_left self.new ≤ tokens_left self.old }
+    {
+        if let Err(refused) = list.push(item) {
+            self.fail(refused.into());
+        }
+    }
+
+    /// Adds copies of items to a list, or notes that memory is out.
+    pub fn extend<A: Allocator>(&mut self, list: &mut Vec<u32, A>, items: &[u32])
+        ensures { tokens_left self.new ≤ tokens_left self.old }
+    {
+        if let Err(refused) = list.extend_from_slice(items) {
+            self.fail(refused.into());
+        }
+    }
+
+    /// Passes the next token, where there is one.
+    pub fn advance(&mut self)
+        ensures { tokens_left self.new ≤ tokens_left self.old }
+    {
+        if self.at < self.tokens.len() {
+            self.at += 1;
+        }
+    }
+
+    /// Passes the next token, where it is that one, and says whether it is.
+    pub fn has(&mut self, text: &str) -> bool
+        ensures left { tokens_left self.new ≤ tokens_left self.old }
+        ensures passed { IsTrue result → tokens_left self.new < tokens_left self.old }
+    {
+        match self.next() {
+            Some(token) if token.text == text => {
+                self.at += 1;
+                true
+            }
+            _ => false,
+        }
+    }
+
+    /// Passes the next token, which is that one.
+    pub fn want(&mut self, text: &'static str)
+        ensures { tokens_left self.new ≤ tokens_left self.old }
+    {
+        if !self.has(text) {
+            self.fault(Expected::Token(text));
+        }
+    }
+
+    /// The line ends here, and no flaw was found in it.
+    pub fn finish(mut self) -> Result<(), Flaw<'t>> {
+        if self.next().is_some() {
+            self.misfit("the end of the line");
+        }
+        match self.flaw {
+            Some(flaw) => Err(flaw),
+            None => Ok(()),
+        }
+    }
+
+    /// A number up to `max`, as a token of its own.
+    pub fn number(&mut self, max: u64) -> u64
+        ensures left { tokens_left self.new ≤ tokens_left self.old }
+        ensures up_to { result ≤ max }
+    {
+        let digits = match self.next() {
+            Some(token) if token.kind == TokenKind::Number => token.text,
+            _ => {
+                self.misfit("a number");
+                return 0;
+            }
+        };
+        match digits.parse::<u64>() {
+            Ok(number) if number <= max => {
+                self.advance();
+                number
+            }
+            _ => {
+                self.fault(Expected::NumberUpTo(max));
+                0
+            }
+        }
+    }
+
+    /// A number of 32 bits, as a token of its own.
+    pub fn word(&mut self) -> u32
+        ensures { tokens_left self.new ≤ tokens_left self.old }
+    {
+        self.number(u64::from(u32::MAX)) as u32
+    }
+
+    /// The number of 32 bits in a word that is made of `name` and a number, as `inst3`; `expected` says what it names.
+    pub fn named(&mut self, name: &str, expected: &'static str) -> u32
+        ensures { tokens_left self.new ≤ tokens_left self.old }
+    {
+        let digits = self.peek().and_then(|text| text.strip_prefix(name));
+        let Some(digits) = digits.filter(|digits| is_numeral(digits)) else {
+            self.misfit(expected);
+            return 0;
+        };
+        match digits.parse::<u32>() {
+            Ok(number) => {
+                self.advance();
+                number
+            }
+            Err(_) => {
+                self.fault(Expected::NumberUpTo(u64::from(u32::MAX)));
+                0
+            }
+        }
+    }
+}
+
+/// Whether a text is a number without leading zeros.
+pub(crate) fn is_numeral(text: &str) -> bool {
+    match text.as_bytes() {
+        [b'0'] => true,
+        [b'1'..=b'9', digits @ ..] => digits.iter().all(|byte| byte.is_ascii_digit()),
+        _ => false,
+    }
+}

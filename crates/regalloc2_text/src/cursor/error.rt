@@ -1,0 +1,201 @@
+//! Why a text can't be read.
+
+ghost use Rattle.std.specs.Prelude.{◌≡◌, ℕ, ◌≤◌};
+
+use std::alloc::{AllocError, AllocFailed};
+use std::error::Error;
+use std::fmt;
+
+/// What a text needs where it has something else.
+#[derive(Clone, Copy, Debug)]
+pub enum Expected {
+    /// What these words say.
+    Words(&'static str),
+    /// That word or sign.
+    Token(&'static str),
+    /// A number up to this one.
+    NumberUpTo(u64),
+    /// The block of this number.
+    NextBlock(usize),
+    /// The instruction of this number.
+    NextInst(usize),
+    /// No second line of this kind.
+    NoSecond(&'static str),
+    /// The first word of a line, and the one that was meant, where a caller knows it: `read` leaves that out.
+    LineBeginning(Option<&'static str>),
+}
+
+impl fmt::Display for Expected {
+    fn fmt<W: fmt::Write>(&self, f: &mut fmt::Formatter<W>) -> fmt::Result {
+        match self {
+            Expected::Words(words) => f.write_str(words),
+            Expected::Token(text) => write!(f, "`{text}`"),
+            Expected::NumberUpTo(u64::MAX) => f.write_str("a number below 18446744073709551616"),
+            Expected::NumberUpTo(max) => {
+                let bound = max.saturating_add(1);
+                write!(f, "a number below {bound}")
+            }
+            Expected::NextBlock(number) => write!(f, "`block{number}`, the next number"),
+            Expected::NextInst(number) => write!(f, "`inst{number}`, the next number"),
+            Expected::NoSecond(name) => write!(f, "no second `{name}` line"),
+            Expected::LineBeginning(None) => f.write_str("the beginning of a line"),
+            Expected::LineBeginning(Some(near)) => write!(f, "the beginning of a line (`{near}`?)"),
+        }
+    }
+}
+
+/// What stands where a text can't be read.
+#[derive(Clone, Copy, Debug)]
+pub enum Found<'t> {
+    /// A word, a number or a sign.
+    Token(&'t str),
+    /// A character that begins none of these.
+    Character(char),
+    /// The line ends.
+    LineEnd,
+    /// The text ends.
+    TextEnd,
+    /// No instruction.
+    Nothing,
+}
+
+impl fmt::Display for Found<'_> {
+    fn fmt<W: fmt::Write>(&self, f: &mut fmt::Formatter<W>) -> fmt::Result {
+        match self {
+            Found::Token(text) => write!(f, "`{text}`"),
+            Found::Character(c) => write!(f, "{c:?}"),
+            Found::LineEnd => f.write_str("the end of the line"),
+            Found::TextEnd => f.write_str("the end of the text"),
+            Found::Nothing => f.write_str("none"),
+        }
+    }
+}
+
+/// The first place at which a text can't be read.
+#[derive(Clone, Copy, Debug)]
+pub struct Fault<'t> {
+    /// The line, counted from the number that the caller gives the first one.
+    pub line: usize,
+    /// The column in bytes, counted from 1.
+    pub column: usize,
+    /// What the text needs there.
+    pub expected: Expected,
+    /// What stands there.
+    pub found: Found<'t>,
+    pub ghost from_one: { 1 ≤ column },
+}
+
+impl fmt::Display for Fault<'_> {
+    fn fmt<W: fmt::Write>(&self, f: &mut fmt::Formatter<W>) -> fmt::Result {
+        let Fault {
+            line,
+            column,
+            expected,
+            found,
+        } = self;
+        write!(f, "{line}:{column}: expected {expected}, found {found}")
+    }
+}
+
+impl Error for Fault<'_> {}
+
+/// Why a text is not read.
+#[derive(Clone, Copy, Debug)]
+pub enum TextError<'t> {
+    /// A line can't be read.
+    Fault(Fault<'t>),
+    /// Out of memory.
+    Memory,
+}
+
+impl fmt::Display for TextError<'_> {
+    fn fmt<W: fmt::Write>(&self, f: &mut fmt::Formatter<W>) -> fmt::Result {
+        match self {
+            TextError::Fault(fault) => write!(f, "{fault}"),
+            TextError::Memory => f.write_str("out of memory"),
+        }
+    }
+}
+
+impl Error for TextError<'_> {}
+
+impl From<AllocError> for TextError<'_> {
+    fn from(_refused: AllocError) -> Self {
+        TextError::Memory
+    }
+}
+
+impl<T: Drop> From<AllocFailed<T>> for TextError<'_> {
+    fn from(_refused: AllocFailed<T>) -> Self {
+        TextError::Memory
+    }
+}
+
+/// Why a line can't be read.
+#[derive(Clone, Copy, Debug)]
+pub enum Flaw<'t> {
+    /// A token doesn't fit.
+    Misfit(Misfit<'t>),
+    /// Out of memory.
+    Memory,
+}
+
+/// The first token of a line that doesn't fit.
+#[derive(Clone, Copy, Debug)]
+pub struct Misfit<'t> {
+    /// The column in bytes, counted from 1.
+    pub column: usize,
+    /// What the line needs there.
+    pub expected: Expected,
+    /// What stands there.
+    pub found: Found<'t>,
+    pub ghost from_one: { 1 ≤ column },
+}
+
+impl<'t> Flaw<'t> {
+    ghost use Rattle.regalloc2_text.specs.Cursor.Lines.{IsOnLineBetween};
+
+    /// What doesn't fit, at a column that is at least 1.
+    pub fn new(column: usize, expected: Expected, found: Found<'t>) -> Self
+        requires { 1 ≤ column }
+    {
+        Flaw::Misfit(Misfit {
+            column,
+            expected,
+            found,
+        })
+    }
+
+    /// The error of a text in whose line of that number this is.
+    pub fn on_line(self, line: usize) -> TextError<'t>
+        ensures { (first : ℕ) → (last : ℕ) → first ≤ line → line ≤ last → IsOnLineBetween first last result }
+    {
+        match self {
+            Flaw::Misfit(
+                Misfit {
+                    column,
+                    expected,
+                    found,
+                },
+            ) => TextError::Fault(Fault {
+                line,
+                column,
+                expected,
+                found,
+            }),
+            Flaw::Memory => TextError::Memory,
+        }
+    }
+}
+
+impl From<AllocError> for Flaw<'_> {
+    fn from(_refused: AllocError) -> Self {
+        Flaw::Memory
+    }
+}
+
+impl<T: Drop> From<AllocFailed<T>> for Flaw<'_> {
+    fn from(_refused: AllocFailed<T>) -> Self {
+        Flaw::Memory
+    }
+}

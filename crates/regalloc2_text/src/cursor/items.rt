@@ -1,0 +1,398 @@
+//! Registers, virtual registers, operands, places and points from tokens.
+
+ghost use Rattle.std.specs.Prelude.{◌≡◌, ◌<◌, ◌≤◌, IfOk, IfSome};
+ghost use Rattle.regalloc2_names.specs.Packing.{IsConstraintOf};
+ghost use Rattle.regalloc2_text.specs.Cursor.Cursor.{tokens_left};
+
+use super::cursor::{Cursor, is_numeral};
+use regalloc2_index::Inst;
+use regalloc2_names::{
+    Allocation, InstPosition, Operand, OperandConstraint, OperandKind, OperandPos, PReg, ProgPoint,
+    RegClass, SpillSlot, VReg,
+};
+
+/// A register or a virtual register: one word of a letter, a number and the class's letter.
+#[derive(Clone, Copy)]
+pub struct Named {
+    /// Its number.
+    pub number: usize,
+    /// Its class.
+    pub class: RegClass,
+}
+
+/// What is said of a word that is no such name.
+#[derive(Clone, Copy)]
+struct Misnamed {
+    /// It is made otherwise.
+    other: &'static str,
+    /// It has no class.
+    no_class: &'static str,
+    /// Its number is too great.
+    too_great: &'static str,
+}
+
+const NO_REGISTER: Misnamed = Misnamed {
+    other: "a register",
+    no_class: "a register with its class letter i, f or v",
+    too_great: "a register with a number up to 63",
+};
+
+const NO_VREG: Misnamed = Misnamed {
+    other: "a virtual register",
+    no_class: "a virtual register with its class letter i, f or v",
+    too_great: "a virtual register with a number up to 1073741823",
+};
+
+/// The class of that letter.
+fn class_of_letter(letter: char) -> Option<RegClass> {
+    match letter {
+        'i' => Some(RegClass::Int),
+        'f' => Some(RegClass::Float),
+        'v' => Some(RegClass::Vector),
+        _ => None,
+    }
+}
+
+/// The class of that name.
+pub fn class_named(name: &str) -> Option<RegClass> {
+    match name {
+        "int" => Some(RegClass::Int),
+        "float" => Some(RegClass::Float),
+        "vector" => Some(RegClass::Vector),
+        _ => None,
+    }
+}
+
+/// The kind and the position of that name.
+fn kind_named(name: &str) -> Option<(OperandKind, OperandPos)> {
+    match name {
+        "Def" => Some((OperandKind::Def, OperandPos::Late)),
+        "Def@Early" => Some((OperandKind::Def, OperandPos::Early)),
+        "Use" => Some((OperandKind::Use, OperandPos::Early)),
+        "Use@Late" => Some((OperandKind::Use, OperandPos::Late)),
+        _ => None,
+    }
+}
+
+/// A word without the small letter at its end, and that letter.
+fn split_letter(word: &str) -> (&str, Option<char>) {
+    let Some(last) = word.chars().next_back() else {
+        return (word, None);
+    };
+    if !last.is_ascii_lowercase() {
+        return (word, None);
+    }
+    match word.strip_suffix(last) {
+        Some(front) => (front, Some(last)),
+        None => (word, None),
+    }
+}
+
+/// Whether the text of an operand is `Fixed: ` and its register, so that it shows no virtual register.
+fn is_fixed_alone(operand: Operand) -> bool {
+    match operand.as_fixed_nonallocatable() {
+        Some(register) => operand == Operand::fixed_nonallocatable(register),
+        None => false,
+    }
+}
+
+/// The name of that letter, with a number up to `max`, that a word is, or what is said of the word.
+fn name_in(word: &str, letter: char, max: usize, misnamed: &Misnamed) -> Result<Named, &'static str>
+    ensures { IfOk result (λ named. named.number ≤ max) }
+{
+    let (digits, last) = split_letter(word.strip_prefix(letter).unwrap_or(""));
+    if !is_numeral(digits) {
+        return Err(misnamed.other);
+    }
+    let Some(class) = last.and_then(class_of_letter) else {
+        return Err(misnamed.no_class);
+    };
+    match digits.parse::<usize>() {
+        Ok(number) if number <= max => Ok(Named { number, class }),
+        _ => Err(misnamed.too_great),
+    }
+}
+
+impl Cursor<'_, '_> {
+    /// The number in `bits(N)` up to `max`, where that is next; the bracket after it is not passed.
+    fn bits(&mut self, max: u64) -> Option<u64>
+        ensures left { tokens_left self.new ≤ tokens_left self.old }
+        ensures up_to { IfSome result (λ n. n ≤ max) }
+    {
+        if !self.has("bits") {
+            return None;
+        }
+        self.want("(");
+        Some(self.number(max))
+    }
+
+    /// The bracket after a number in `bits(N)`, which is not that of a name.
+    fn bits_end(&mut self, is_named: bool)
+        ensures { tokens_left self.new ≤ tokens_left self.old }
+    {
+        if is_named {
+            self.misfit_before("a word that names nothing (this one has a name)");
+        }
+        self.want(")");
+    }
+
+    /// A name of that letter whose number is up to `max`.
+    fn letter_named(&mut self, letter: char, max: usize, misnamed: &Misnamed) -> Named
+        ensures left { tokens_left self.new ≤ tokens_left self.old }
+        ensures up_to { result.number ≤ max }
+    {
+        match name_in(self.peek().unwrap_or(""), letter, max, misnamed) {
+            Ok(named) => {
+                self.advance();
+                named
+            }
+            Err(expected) => {
+                self.misfit(expected);
+                Named {
+                    number: 0,
+                    class: RegClass::Int,
+                }
+            }
+        }
+    }
+
+    /// A register.
+    pub fn register(&mut self) -> Named
+        ensures left { tokens_left self.new ≤ tokens_left self.old }
+        ensures up_to { result.number ≤ PReg.MAX }
+    {
+        self.letter_named('p', PReg::MAX, &NO_REGISTER)
+    }
+
+    /// The index of a register, or one that is of none.
+    pub fn register_bits(&mut self) -> u8
+        ensures { tokens_left self.new ≤ tokens_left self.old }
+    {
+        match self.bits(255) {
+            Some(bits) => {
+                self.bits_end(PReg::is_index(bits as usize));
+                bits as u8
+            }
+            None => {
+                let named = self.register();
+                PReg::new(named.number, named.class).index() as u8
+            }
+        }
+    }
+
+    /// A virtual register.
+    fn vreg(&mut self) -> Named
+        ensures left { tokens_left self.new ≤ tokens_left self.old }
+        ensures up_to { result.number ≤ VReg.MAX }
+    {
+        self.letter_named('v', VReg::MAX, &NO_VREG)
+    }
+
+    /// The word of a virtual register, or one that is of none.
+    pub fn vreg_bits(&mut self) -> u32
+        ensures { tokens_left self.new ≤ tokens_left self.old }
+    {
+        match self.bits(u64::from(u32::MAX)) {
+            Some(bits) => {
+                let bits = bits as u32;
+                self.bits_end(VReg::is_bits(bits));
+                bits
+            }
+            None => {
+                let named = self.vreg();
+                self.show_vreg(named.number as u64);
+                VReg::new(named.number, named.class).bits() as u32
+            }
+        }
+    }
+
+    /// The word of an operand, or one that is of none.
+    pub fn operand_bits(&mut self) -> u64
+        ensures { tokens_left self.new ≤ tokens_left self.old }
+    {
+        if let Some(bits) = self.bits(u64::MAX) {
+            self.bits_end(Operand::is_bits(bits));
+            return bits;
+        }
+        if self.has("Fixed") {
+            self.want(":");
+            let named = self.register();
+            let register = PReg::new(named.number, named.class);
+            return Operand::fixed_nonallocatable(register).bits();
+        }
+        let Some((kind, pos)) = self.peek().and_then(kind_named) else {
+            self.misfit("an operand: `Def`, `Def@Early`, `Use`, `Use@Late` or `Fixed`");
+            return 0;
+        };
+        self.advance();
+        self.want(":");
+        self.operand(kind, pos)
+    }
+
+    /// The word of an operand of that kind and position, from what follows its colon.
+    fn operand(&mut self, kind: OperandKind, pos: OperandPos) -> u64
+        ensures { tokens_left self.new ≤ tokens_left self.old }
+    {
+        let named = self.vreg();
+        let constraint = self.constraint(named.class);
+        let vreg = VReg::new(named.number, named.class);
+        let operand = Operand::new(vreg, constraint, kind, pos);
+        if !is_fixed_alone(operand) {
+            self.show_vreg(named.number as u64);
+        }
+        operand.bits()
+    }
+
+    /// The constraint of an operand whose virtual register is of that class.
+    fn constraint(&mut self, class: RegClass) -> OperandConstraint
+        ensures left { tokens_left self.new ≤ tokens_left self.old }
+        ensures of_class { IsConstraintOf class result }
+    {
+        if self.has("any") {
+            OperandConstraint::Any
+        } else if self.has("reg") {
+            OperandConstraint::Reg
+        } else if self.has("stack") {
+            OperandConstraint::Stack
+        } else if self.has("fixed") {
+            self.fixed(class)
+        } else if self.has("reuse") {
+            self.reuse()
+        } else if self.has("limit") {
+            self.limit()
+        } else {
+            self.misfit(
+                "a constraint: `any`, `reg`, `stack`, `fixed(..)`, `reuse(..)` or `limit(0..=..)`",
+            );
+            OperandConstraint::Any
+        }
+    }
+
+    /// What follows `fixed`: a register of that class.
+    fn fixed(&mut self, class: RegClass) -> OperandConstraint
+        ensures left { tokens_left self.new ≤ tokens_left self.old }
+        ensures of_class { IsConstraintOf class result }
+    {
+        self.want("(");
+        let named = self.register();
+        if named.class != class {
+            self.misfit_before("a register of the virtual register's class");
+        }
+        self.want(")");
+        OperandConstraint::FixedReg(PReg::new(named.number, class))
+    }
+
+    /// What follows `reuse`: the index of an operand.
+    fn reuse(&mut self) -> OperandConstraint
+        ensures left { tokens_left self.new ≤ tokens_left self.old }
+        ensures of_class { (class : RegClass) → IsConstraintOf class result }
+    {
+        self.want("(");
+        let index = self.number(31);
+        self.want(")");
+        OperandConstraint::Reuse(index as usize)
+    }
+
+    /// What follows `limit`: the range of the hardware numbers.
+    fn limit(&mut self) -> OperandConstraint
+        ensures left { tokens_left self.new ≤ tokens_left self.old }
+        ensures of_class { (class : RegClass) → IsConstraintOf class result }
+    {
+        self.want("(");
+        self.want("0");
+        self.want("..=");
+        let bound = match self.number(63) {
+            0 => 1,
+            1 => 2,
+            3 => 4,
+            7 => 8,
+            15 => 16,
+            31 => 32,
+            63 => 64,
+            _ => {
+                self.misfit_before("0, 1, 3, 7, 15, 31 or 63");
+                1
+            }
+        };
+        self.want(")");
+        OperandConstraint::Limit(bound)
+    }
+
+    /// The word of a place, or one that is of none.
+    pub fn place_bits(&mut self) -> u32
+        ensures { tokens_left self.new ≤ tokens_left self.old }
+    {
+        if let Some(bits) = self.bits(u64::from(u32::MAX)) {
+            let bits = bits as u32;
+            self.bits_end(Allocation::is_bits(bits));
+            bits
+        } else if self.has("none") {
+            Allocation::none().bits()
+        } else if self.begins("stack") {
+            Allocation::stack(SpillSlot::new(self.slot())).bits()
+        } else if self.begins("p") {
+            let named = self.register();
+            Allocation::reg(PReg::new(named.number, named.class)).bits()
+        } else {
+            self.misfit("a place: a register, a slot or `none`");
+            0
+        }
+    }
+
+    /// The number of a spill slot.
+    fn slot(&mut self) -> usize
+        ensures left { tokens_left self.new ≤ tokens_left self.old }
+        ensures valid { result ≤ SpillSlot.MAX }
+    {
+        let number = self.named("stack", "a place") as usize;
+        if number > SpillSlot::MAX {
+            self.misfit_before("a slot with a number up to 16777215");
+            return 0;
+        }
+        number
+    }
+
+    /// The number of a point, or one that is of none.
+    pub fn point_bits(&mut self) -> u32
+        ensures { tokens_left self.new ≤ tokens_left self.old }
+    {
+        if let Some(bits) = self.bits(u64::from(u32::MAX)) {
+            let bits = bits as u32;
+            self.bits_end(ProgPoint::is_index(bits));
+            return bits;
+        }
+        let inst = Inst(self.named("inst", "a point"));
+        if inst != Inst::invalid() && inst.index() >= 1 << 30 {
+            self.misfit_before("an instruction below 1073741824");
+            return 0;
+        }
+        self.want("-");
+        let pos = self.position();
+        ProgPoint::new(inst, pos).to_index()
+    }
+
+    /// Whether a point is before or after its instruction.
+    fn position(&mut self) -> InstPosition
+        ensures { tokens_left self.new ≤ tokens_left self.old }
+    {
+        if self.has("pre") {
+            InstPosition::Before
+        } else if self.has("post") {
+            InstPosition::After
+        } else {
+            self.misfit("`pre` or `post`");
+            InstPosition::Before
+        }
+    }
+
+    /// The numbers of the first instruction of a range and of the one past its last.
+    pub fn range(&mut self) -> (u32, u32)
+        ensures { tokens_left self.new ≤ tokens_left self.old }
+    {
+        self.want("from");
+        let from = self.named("inst", "an instruction");
+        self.want("until");
+        let until = self.named("inst", "an instruction");
+        (from, until)
+    }
+}

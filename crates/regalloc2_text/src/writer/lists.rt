@@ -1,0 +1,89 @@
+//! Stored lists as they stand in JSON, which a `stored` line shares.
+
+use crate::writer::page::Page;
+use regalloc2_serialize::InstOpcode;
+use std::alloc::Allocator;
+use std::fmt;
+
+/// What is written as a JSON value: numbers, `null`, truth values, and lists in brackets.
+pub(crate) trait JsonText {
+    /// Writes the value.
+    fn write_json<W: fmt::Write>(&self, to: &mut Page<'_, W>);
+}
+
+impl JsonText for u8 {
+    fn write_json<W: fmt::Write>(&self, to: &mut Page<'_, W>) {
+        to.put(self);
+    }
+}
+
+impl JsonText for u32 {
+    fn write_json<W: fmt::Write>(&self, to: &mut Page<'_, W>) {
+        to.put(self);
+    }
+}
+
+impl JsonText for u64 {
+    fn write_json<W: fmt::Write>(&self, to: &mut Page<'_, W>) {
+        to.put(self);
+    }
+}
+
+impl JsonText for bool {
+    fn write_json<W: fmt::Write>(&self, to: &mut Page<'_, W>) {
+        to.put(self);
+    }
+}
+
+impl JsonText for InstOpcode {
+    fn write_json<W: fmt::Write>(&self, to: &mut Page<'_, W>) {
+        match self {
+            InstOpcode::Op => to.words("\"Op\""),
+            InstOpcode::Ret => to.words("\"Ret\""),
+            InstOpcode::Branch => to.words("\"Branch\""),
+        }
+    }
+}
+
+impl<T: JsonText> JsonText for Option<T> {
+    fn write_json<W: fmt::Write>(&self, to: &mut Page<'_, W>) {
+        match self {
+            Some(value) => value.write_json(to),
+            None => to.words("null"),
+        }
+    }
+}
+
+impl JsonText for (u32, u32) {
+    fn write_json<W: fmt::Write>(&self, to: &mut Page<'_, W>) {
+        let (first, second) = *self;
+        to.put(&format_args!("[{first}, {second}]"));
+    }
+}
+
+impl JsonText for (u32, u32, u32) {
+    fn write_json<W: fmt::Write>(&self, to: &mut Page<'_, W>) {
+        let (first, second, third) = *self;
+        to.put(&format_args!("[{first}, {second}, {third}]"));
+    }
+}
+
+impl JsonText for (u32, u32, u32, u32) {
+    fn write_json<W: fmt::Write>(&self, to: &mut Page<'_, W>) {
+        let (first, second, third, fourth) = *self;
+        to.put(&format_args!("[{first}, {second}, {third}, {fourth}]"));
+    }
+}
+
+impl<T: JsonText, A: Allocator> JsonText for Vec<T, A> {
+    fn write_json<W: fmt::Write>(&self, to: &mut Page<'_, W>) {
+        to.words("[");
+        for (k, item) in self.as_slice().iter().enumerate() {
+            if k > 0 {
+                to.words(", ");
+            }
+            item.write_json(to);
+        }
+        to.words("]");
+    }
+}

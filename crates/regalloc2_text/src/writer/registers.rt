@@ -1,0 +1,91 @@
+//! Lists in a line, and registers in spans.
+
+ghost use Rattle.std.specs.Prelude.{◌<◌, ◌≤◌, length};
+
+use crate::writer::page::Page;
+use crate::writer::spell::RegisterText;
+use regalloc2_names::PReg;
+use std::fmt;
+
+/// What stands before an item of a list.
+pub(crate) fn separator(index: usize) -> &'static str {
+    if index == 0 { "" } else { ", " }
+}
+
+/// Writes items as `show` shows them, with commas between.
+pub(crate) fn write_list<T: Copy, D: fmt::Display + Drop, F: Fn(T) -> D + Drop, W: fmt::Write>(
+    items: &[T],
+    show: F,
+    to: &mut Page<'_, W>,
+)
+    requires { F.IsAlwaysCallable show }
+{
+    for (k, item) in items.iter().enumerate() {
+        let before = separator(k);
+        let text = show(*item);
+        to.put(&format_args!("{before}{text}"));
+    }
+}
+
+/// Writes the name of a class and a space, where a register isn't of it.
+pub(crate) fn write_class<W: fmt::Write>(class: usize, registers: &[u8], to: &mut Page<'_, W>) {
+    if registers
+        .iter()
+        .all(|register| usize::from(*register >> 6) == class)
+    {
+        return;
+    }
+    match class {
+        0 => to.words("int "),
+        1 => to.words("float "),
+        _ => to.words("vector "),
+    }
+}
+
+/// Whether the second is the register of the next number, in the same class.
+fn is_neighbour(register: u8, next: u8) -> bool {
+    register.checked_add(1) == Some(next)
+        && PReg::is_index(usize::from(next))
+        && register >> 6 == next >> 6
+}
+
+/// Where the neighbours that follow a register end: the index of the last one.
+fn last_neighbour(registers: &[u8], first: usize) -> usize
+    requires { first < length registers.now }
+    ensures from { first ≤ result }
+    ensures within { result < length registers.now }
+{
+    let mut last = first;
+    while last + 1 < registers.len() && is_neighbour(registers[last], registers[last + 1]) {
+        last += 1;
+    }
+    last
+}
+
+/// Where a span that begins with a register ends: three neighbours or more are one.
+fn span_end(registers: &[u8], first: usize) -> usize
+    requires { first < length registers.now }
+    ensures from { first ≤ result }
+    ensures within { result < length registers.now }
+{
+    let last = last_neighbour(registers, first);
+    if last - first < 2 { first } else { last }
+}
+
+/// Writes registers, three neighbours or more as a span, or `none`.
+pub(crate) fn write_registers<W: fmt::Write>(registers: &[u8], to: &mut Page<'_, W>) {
+    if registers.is_empty() {
+        to.words("none");
+        return;
+    }
+    let mut first = 0;
+    while first < registers.len() {
+        let last = span_end(registers, first);
+        let before = separator(first);
+        to.put(&format_args!("{before}{}", RegisterText(registers[first])));
+        if first < last {
+            to.put(&format_args!("..{}", RegisterText(registers[last])));
+        }
+        first = last + 1;
+    }
+}

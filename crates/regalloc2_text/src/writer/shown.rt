@@ -1,0 +1,182 @@
+//! What of a function is shown line by line.
+
+use super::preds::{Following, follow};
+use crate::writer::spell::{OperandText, VRegText};
+use regalloc2_serialize::{StoredFunction, StoredInst};
+use std::alloc::{AllocError, Allocator};
+
+/// A function with what of it is shown line by line. A list by block whose length isn't that of the blocks is shown as
+/// nothing here, and stands as numbers behind the lines.
+#[derive(Drop)]
+pub(crate) struct Shown<'a, A: Allocator> {
+    pub function: &'a StoredFunction<A>,
+    /// The successors by block.
+    pub succs: &'a [Vec<u32, A>],
+    /// The arguments by block and successor, as many as the successors.
+    pub params_out: &'a [Vec<Vec<u32, A>, A>],
+    /// The parameters by block.
+    pub params_in: &'a [Vec<u32, A>],
+    /// The predecessors by block.
+    pub preds: &'a [Vec<u32, A>],
+    /// How far the predecessors follow from the successors.
+    pub following: Vec<Following, A>,
+    /// Whether each block begins where the one before ends, from the first instruction to the last.
+    pub is_in_line: bool,
+}
+
+/// Whether each block has as many lists of arguments as successors, so far as both lists go.
+fn agree<A: Allocator>(succs: &[Vec<u32, A>], params_out: &[Vec<Vec<u32, A>, A>]) -> bool {
+    succs
+        .iter()
+        .zip(params_out.iter())
+        .all(|(targets, lists)| targets.len() == lists.len())
+}
+
+/// Whether successors and arguments, of which at least one has an item for each block, can't be shown together.
+pub(crate) fn targets_disagree<A: Allocator>(function: &StoredFunction<A>) -> bool {
+    let blocks = function.blocks.len();
+    let succs = function.block_succs.as_slice();
+    let params_out = function.block_params_out.as_slice();
+    match (succs.len() == blocks, params_out.len() == blocks) {
+        (true, true) => !agree(succs, params_out),
+        (true, false) => succs.iter().any(|targets| !targets.is_empty()),
+        (false, true) => params_out.iter().any(|lists| !lists.is_empty()),
+        (false, false) => false,
+    }
+}
+
+/// Whether each block begins where the one before ends, from the first instruction to the last.
+fn blocks_follow(blocks: &[(u32, u32)], insts: usize) -> bool {
+    let mut end = 0;
+    for (first, past) in blocks {
+        if *first != end || *past < *first {
+            return false;
+        }
+        end = *past;
+    }
+    !blocks.is_empty() && end as usize == insts
+}
+
+/// The list, where it has an item for each block, else an empty one.
+fn by_block<T>(list: &[T], blocks: usize) -> &[T] {
+    if list.len() == blocks {
+        list
+    } else {
+        &list[..0]
+    }
+}
+
+/// The list at an index, or an empty one where there is none.
+pub(crate) fn list_at<T, A: Allocator>(lists: &[Vec<T, A>], index: usize) -> &[T] {
+    match lists.get(index) {
+        Some(list) => list.as_slice(),
+        None => &[],
+    }
+}
+
+impl<'a, A: Allocator + Copy> Shown<'a, A> {
+    /// What of a function is shown line by line. Linear in the function.
+    ///
+    /// An error means out of memory.
+    pub(crate) fn of(
+        alloc: A,
+        function: &'a StoredFunction<A>,
+    ) -> Result<Shown<'a, A>, AllocError> {
+        let blocks = function.blocks.len();
+        let mut succs = by_block(function.block_succs.as_slice(), blocks);
+        let mut params_out = by_block(function.block_params_out.as_slice(), blocks);
+        if succs.len() != params_out.len() || !agree(succs, params_out) {
+            succs = &succs[..0];
+            params_out = &params_out[..0];
+        }
+        let preds = by_block(function.block_preds.as_slice(), blocks);
+        Ok(Shown {
+            function,
+            succs,
+            params_out,
+            params_in: by_block(function.block_params_in.as_slice(), blocks),
+            preds,
+            following: follow(alloc, preds, succs)?,
+            is_in_line: blocks_follow(function.blocks.as_slice(), function.insts.len()),
+        })
+    }
+
+    /// The successors of a block, and the arguments for each.
+    pub(crate) fn targets(&self, block: usize) -> (&'a [u32], &'a [Vec<u32, A>]) {
+        (list_at(self.succs, block), list_at(self.params_out, block))
+    }
+
+    /// The predecessors of a block, where they don't follow from the successors.
+    pub(crate) fn odd_preds(&self, block: usize) -> Option<&'a [u32]> {
+        let preds = self.preds.get(block)?.as_slice();
+        match self.following.get(block) {
+            Some(following) if following.is_all(preds) => None,
+            _ => Some(preds),
+        }
+    }
+
+    /// One more than the greatest number of a virtual register that the text shows, 0 where it shows none.
+    pub(crate) fn count_vregs(&self) -> u64 {
+        let insts = count_in_insts(self.function.insts.as_slice());
+        let labels = count_in_labels(self.function.debug_value_labels.as_slice());
+        let params = count_in_lists(self.params_in);
+        insts
+            .max(labels)
+            .max(params)
+            .max(count_in_arguments(self.params_out))
+    }
+}
+
+/// One more than the greatest number that the words show, 0 where they show none.
+fn count_in_words(words: &[u32]) -> u64 {
+    let mut count = 0;
+    for bits in words {
+        count = count.max(VRegText(*bits).vregs());
+    }
+    count
+}
+
+/// The same of lists of words.
+fn count_in_lists<A: Allocator>(lists: &[Vec<u32, A>]) -> u64 {
+    let mut count = 0;
+    for words in lists {
+        count = count.max(count_in_words(words.as_slice()));
+    }
+    count
+}
+
+/// The same of the arguments of all blocks.
+fn count_in_arguments<A: Allocator>(params_out: &[Vec<Vec<u32, A>, A>]) -> u64 {
+    let mut count = 0;
+    for lists in params_out {
+        count = count.max(count_in_lists(lists.as_slice()));
+    }
+    count
+}
+
+/// The same of labels.
+fn count_in_labels(labels: &[(u32, u32, u32, u32)]) -> u64 {
+    let mut count = 0;
+    for label in labels {
+        count = count.max(VRegText(label.0).vregs());
+    }
+    count
+}
+
+/// The same of operands.
+fn count_in_operands(operands: &[u64]) -> u64 {
+    let mut count = 0;
+    for bits in operands {
+        count = count.max(OperandText(*bits).vregs());
+    }
+    count
+}
+
+/// The same of the operands of all instructions.
+fn count_in_insts<A: Allocator>(insts: &[StoredInst<A>]) -> u64 {
+    let mut count = 0;
+    for inst in insts {
+        count = count.max(count_in_operands(inst.operands.as_slice()));
+    }
+    count
+}

@@ -1,5 +1,0 @@
-use Rattle.std.proofs.Common.{length}
-use Rattle.regalloc2_text_writer.proofs.moves.Moves.write_before.Given as goal
-
-abbrev pub decreases-loop-from : goal.decreases-loop-from
-decreases-loop-from g l = length l.self.rest.now

@@ -1,0 +1,133 @@
+//! The function, the machine and the output that the program is given.
+
+ghost use Rattle.std.specs.Prelude.{Some, IfOk, IfErr, IfSome};
+ghost use Rattle.regalloc2_function.specs.Views.{machine_of, output_of};
+ghost use Rattle.regalloc2_serialize.specs.Tables.{function_of_serializable};
+ghost use Rattle.regalloc2_tool.specs.Ra2.Input.{AreGiven, IsTextOf, IsTextOfPair, TextNamesFitting, IsInputFault, IsPairFault};
+ghost use Rattle.regalloc2_tool.specs.Ra2.Text.{input_text};
+
+use crate::stored_fault::number_of;
+use regalloc2::serialize::{
+    FromValue, SerializableFunction, StoredFault, StoredFunction, StoredOutput,
+};
+use regalloc2::{Output, is_framed, machine_fits};
+use serde_json::Value;
+use std::alloc::{Allocator, Global};
+use std::fmt;
+use std::io::{self, Read};
+
+/// Why there is nothing to allocate or to judge.
+#[derive(Drop)]
+pub enum InputError {
+    /// The input can't be read, or is no JSON text of a stored function.
+    Unreadable,
+    /// The numbers name no function.
+    BadFunction(StoredFault),
+    /// The machine doesn't suit the function.
+    BadMachine,
+    /// The numbers name no output.
+    BadOutput(StoredFault),
+    /// The function isn't framed, so that no output of it can be judged.
+    NotFramed,
+}
+
+/// As `input unreadable`, `bad function 2`, `bad machine`, `bad output 3` or `not framed`.
+impl fmt::Display for InputError {
+    ghost output = { λ e. Some (input_text e) };
+
+    fn fmt<W: fmt::Write>(&self, f: &mut fmt::Formatter<W>) -> fmt::Result {
+        match self {
+            InputError::Unreadable => write!(f, "input unreadable"),
+            InputError::BadFunction(fault) => {
+                let number = number_of(*fault);
+                write!(f, "bad function {number}")
+            }
+            InputError::BadMachine => write!(f, "bad machine"),
+            InputError::BadOutput(fault) => {
+                let number = number_of(*fault);
+                write!(f, "bad output {number}")
+            }
+            InputError::NotFramed => write!(f, "not framed"),
+        }
+    }
+}
+
+/// The stored function whose JSON text the reader gives.
+fn stored_from<A: Allocator + Copy, R: Read + Drop>(
+    global: Global,
+    alloc: A,
+    input: R,
+) -> Option<StoredFunction<A>>
+    ensures { IfSome result (IsTextOf (R.remaining input)) }
+{
+    let text = io::read_to_string(alloc, input).ok()?;
+    let value = Value::from_str(global, &text).ok()?;
+    StoredFunction::from_value(alloc, &value).ok()
+}
+
+/// The function whose JSON text the reader gives, with its machine, which suits it.
+pub fn function_from<A: Allocator + Copy, R: Read + Drop>(
+    global: Global,
+    alloc: A,
+    input: R,
+) -> Result<SerializableFunction<A>, InputError>
+    ensures ok { IfOk result (λ f. TextNamesFitting A (R.remaining input) (function_of_serializable f) (machine_of f.machine)) }
+    ensures err { IfErr result (IsInputFault A (R.remaining input)) }
+{
+    let Some(stored) = stored_from(global, alloc, input) else {
+        return Err(InputError::Unreadable);
+    };
+    let f = match SerializableFunction::from_stored(alloc, &stored) {
+        Ok(f) => f,
+        Err(fault) => return Err(InputError::BadFunction(fault)),
+    };
+    if !machine_fits(&f, f.machine_env()) {
+        return Err(InputError::BadMachine);
+    }
+    Ok(f)
+}
+
+/// The stored function and output whose JSON texts the reader gives, in an array of just these two.
+fn stored_pair_from<A: Allocator + Copy, R: Read + Drop>(
+    global: Global,
+    alloc: A,
+    input: R,
+) -> Option<(StoredFunction<A>, StoredOutput<A>)>
+    ensures { IfSome result (λ pair. IsTextOfPair (R.remaining input) pair.0 pair.1) }
+{
+    let text = io::read_to_string(alloc, input).ok()?;
+    let value = Value::from_str(global, &text).ok()?;
+    if value.get(2).is_some() {
+        return None;
+    }
+    let output = StoredOutput::from_value(alloc, value.get(1)?).ok()?;
+    let function = StoredFunction::from_value(alloc, value.get(0)?).ok()?;
+    Some((function, output))
+}
+
+/// The function, with its machine, and the output whose JSON texts the reader gives. The function is framed, so that the
+/// output can be judged.
+pub fn replay_from<A: Allocator + Copy, R: Read + Drop>(
+    global: Global,
+    alloc: A,
+    input: R,
+) -> Result<(SerializableFunction<A>, Output<A>), InputError>
+    ensures ok { IfOk result (λ pair. AreGiven A (R.remaining input) (function_of_serializable pair.0) (machine_of pair.0.machine) (output_of pair.1)) }
+    ensures err { IfErr result (IsPairFault A (R.remaining input)) }
+{
+    let Some((stored, stored_output)) = stored_pair_from(global, alloc, input) else {
+        return Err(InputError::Unreadable);
+    };
+    let f = match SerializableFunction::from_stored(alloc, &stored) {
+        Ok(f) => f,
+        Err(fault) => return Err(InputError::BadFunction(fault)),
+    };
+    let output = match Output::from_stored(alloc, &stored_output) {
+        Ok(output) => output,
+        Err(fault) => return Err(InputError::BadOutput(fault)),
+    };
+    if !is_framed(&f) {
+        return Err(InputError::NotFramed);
+    }
+    Ok((f, output))
+}

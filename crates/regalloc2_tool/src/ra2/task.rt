@@ -1,0 +1,39 @@
+//! What the program is asked to do.
+
+ghost use Rattle.std.specs.Prelude.{◌≡◌};
+ghost use Rattle.regalloc2_tool.specs.Ra2.Words.{command_of};
+
+/// What is done with a function.
+#[derive(Clone, Copy)]
+pub enum Task {
+    /// To allocate registers.
+    Run,
+    /// To allocate registers, and to judge the output.
+    Check,
+}
+
+/// What the words ask for.
+#[derive(Clone, Copy)]
+pub enum Command {
+    /// A task with a stored function.
+    Allocate(Task),
+    /// To judge a stored output of a stored function.
+    Replay,
+}
+
+impl Command {
+    /// The command that the words name: one word, `run`, `check` or `replay`. Any others are bad.
+    pub fn of(words: &[String]) -> Option<Command>
+        ensures { result ≡ command_of words.now }
+    {
+        let [word] = words else {
+            return None;
+        };
+        match word.as_str() {
+            "run" => Some(Command::Allocate(Task::Run)),
+            "check" => Some(Command::Allocate(Task::Check)),
+            "replay" => Some(Command::Replay),
+            _ => None,
+        }
+    }
+}

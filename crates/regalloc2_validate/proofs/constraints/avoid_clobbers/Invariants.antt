@@ -1,6 +1,0 @@
-use Rattle.std.proofs.Common.{ℕ, ◌<◌}
-use Rattle.regalloc2_validate.specs.Constraints.{OperandAvoidsClobbers}
-use Rattle.regalloc2_validate.proofs.constraints.avoid_clobbers.Given as goal
-
-abbrev pub invariant-loop-k : goal.invariant-loop-k
-invariant-loop-k l = record { so_far : (n : ℕ) → n < l.k → OperandAvoidsClobbers l.fn.clobbers l.operands n }
