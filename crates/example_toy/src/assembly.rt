@@ -65,7 +65,7 @@ fn write_line<W: Write>(
     }
 }
 
-/// Writes an allocated program as a function `toy` of one number. No move goes from a place in memory to another, so each is one
+/// Writes an allocated program as a function `toy` of one number. No move goes from a stack place to another, so each is one
 /// instruction.
 pub fn write_assembly<W: Write>(code: &Code, output: &Output, w: &mut W) -> io::Result<()>
     requires in_order { IsInOrder (function_of code.now) (output_of output.now) }

@@ -56,7 +56,7 @@ pub struct Code {
     pub parts: Vec<Part>,
     /// Its lines.
     pub lines: Vec<Line>,
-    /// A number above that of each virtual register.
+    /// A number above that of each vreg.
     pub num_vregs: usize,
     pub ghost few_parts: { vec_len parts < 2 ^ 32 - 1 },
     pub ghost few_lines: { vec_len lines < 2 ^ 30 },

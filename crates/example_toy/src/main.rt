@@ -25,7 +25,7 @@ fn register(number: usize) -> PReg
     PReg::new(number, RegClass::Int)
 }
 
-/// The register of a number in the class of a virtual register.
+/// The register of a number in the class of a vreg.
 fn register_for(vreg: VReg, number: usize) -> PReg
     requires { number ≤ 63 }
     ensures { result.class ≡ vreg.class }
@@ -33,7 +33,7 @@ fn register_for(vreg: VReg, number: usize) -> PReg
     PReg::new(number, vreg.class())
 }
 
-/// An integer virtual register.
+/// An integer vreg.
 fn value(number: usize) -> VReg
     requires { number < 100 }
     ensures { result ≡ record { number = number; class = RegClass.Int } }

@@ -1,4 +1,4 @@
--- Why `allocate` gives no output. That the machine suits the function is tested first; what follows is a checked run's.
+-- Why `allocate` gives no output. That the machine fits the function is tested first; what follows is a checked run's.
 use Rattle.std.specs.Prelude.{true}
 use Rattle.regalloc2_function.specs.FunctionValue.{FunctionValue}
 use Rattle.regalloc2_function.specs.Machine.{MachineValue}
@@ -42,7 +42,7 @@ IsTestedReason f env (Faults es) = ⊥
 IsTestedReason f env Unjudged = ⊥
 
 -- why a run that tests everything gives no output: where no condition of a fitting machine fails, what a run says of the function, and last
--- that some path reads or passes a virtual register before writing it
+-- that some path reads or passes a vreg before writing it
 abbrev pub IsTestedRunReason : FunctionValue → MachineValue → TestedRunError → Type 0
 IsTestedRunReason f env (RunMisfit m) = IsMisfit f env m × (MachineFits f env → ⊥)
 IsTestedRunReason f env (TestRefused r) = MachineFits f env × IsReason f env true r

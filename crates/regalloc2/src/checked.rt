@@ -86,7 +86,7 @@ fn judge<A: Allocator + Copy, F: Function, B: Allocator>(
 /// Allocates registers to a function as [`run`] does, and gives the output only where the checker accepts it.
 ///
 /// The conditions are those of `run`, and so is all that is said of the output; besides, it is faithful, whether or not a path
-/// reads a virtual register before writing it. If none does, the checker finds no fault, so the only error that it adds is
+/// reads a vreg before writing it. If none does, the checker finds no fault, so the only error that it adds is
 /// `Unjudged`. The faults of an error are those of an output of which `run` promises what it always does.
 pub fn run_checked<A: Allocator + Copy, F: Function, B: Allocator>(
     alloc: A,

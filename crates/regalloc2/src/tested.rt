@@ -57,7 +57,7 @@ pub enum TestedRunError {
     Misfit(MachineMisfit),
     /// A test of the function failed, or registers, slots or memory ran out.
     Refused(RegAllocError),
-    /// Some path from the entry reads or passes a virtual register before writing it.
+    /// Some path from the entry reads or passes a vreg before writing it.
     ReadBeforeWritten,
 }
 
@@ -96,13 +96,13 @@ fn error_from<A: Allocator>(error: CheckedRunError<A>) -> AllocateError<A>
 
 /// Allocates registers to any function for any machine, and gives an output that the checker accepts.
 ///
-/// This is the call to start with: it has no conditions. It tests that the machine suits the function, as [`test_machine`]
+/// This is the call to start with: it has no conditions. It tests that the machine fits the function, as [`test_machine`]
 /// does, and then makes a [`run_checked`] with all tests of the function. The output is faithful: along every path each use
-/// reads the function's own value, every constraint is met, and no move goes from a place in memory to another; and it has
+/// reads the function's own value, every constraint is met, and no move goes from a stack place to another; and it has
 /// all that [`run`] promises.
 ///
 /// An error is the first condition of a fitting machine that fails, the first test of the function that fails, or says that
-/// registers, slots or memory ran out. If no path from the entry reads a virtual register before writing it, it is never `Faults`.
+/// registers, slots or memory ran out. If no path from the entry reads a vreg before writing it, it is never `Faults`.
 ///
 /// The checker takes several times as long as the allocation. [`allocate_without_checker`] does without it.
 pub fn allocate<A: Allocator + Copy, F: Function, B: Allocator>(
@@ -130,7 +130,7 @@ pub fn allocate<A: Allocator + Copy, F: Function, B: Allocator>(
 /// Allocates registers to any function for any machine, as [`allocate`] does, and leaves the checker out.
 ///
 /// Tests and errors are those of [`allocate`], but never `Faults` or `Unjudged`. The output has all that [`run`] promises:
-/// it is faithful if no path from the entry reads a virtual register before writing it.
+/// it is faithful if no path from the entry reads a vreg before writing it.
 pub fn allocate_without_checker<A: Allocator + Copy, F: Function, B: Allocator>(
     alloc: A,
     f: &F,
@@ -153,10 +153,10 @@ pub fn allocate_without_checker<A: Allocator + Copy, F: Function, B: Allocator>(
 
 /// Allocates registers to any function for any machine, and tests all that the promise of [`run`] rests on.
 ///
-/// It tests that the machine suits the function, as [`test_machine`] does, makes a `run` with all tests of the function, and
-/// asks [`reads_written`] whether some path from the entry reads or passes a virtual register before writing it. So nothing is
+/// It tests that the machine fits the function, as [`test_machine`] does, makes a `run` with all tests of the function, and
+/// asks [`reads_written`] whether some path from the entry reads or passes a vreg before writing it. So nothing is
 /// left to assume: the output runs as the function does, along every path and whatever the instructions mean, and where a
-/// path comes to a block, the slot of each virtual register that is live there holds its value, or the place where the branch into the
+/// path comes to a block, the slot of each vreg that is live there holds its value, or the place where the branch into the
 /// block left it.
 ///
 /// An error is the first condition of a fitting machine that fails, else what `run` says of the function, else

@@ -1,6 +1,6 @@
 //! What the branches of a function define, and which blocks they lead to.
 //!
-//! The tables are made once, before a walk, which then looks up and never searches: by which branch a virtual register is
+//! The tables are made once, before a walk, which then looks up and never searches: by which branch a vreg is
 //! defined, on which edge a block is entered whose predecessor's branch defines, and which of those definitions are stored. Where
 //! no branch defines they are empty. Upstream has nothing of the kind: it stores what a branch defines after the branch.
 

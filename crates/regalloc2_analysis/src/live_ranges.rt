@@ -1,6 +1,6 @@
-//! From where to where the value of each virtual register can be shown to a debugger, and which operand's place shows it.
+//! From where to where the value of each vreg can be shown to a debugger, and which operand's place shows it.
 //!
-//! [`live_ranges`] finds that for each virtual register of which it is wanted, [`kept_labels`] for each label that a client put on one. Nothing here
+//! [`live_ranges`] finds that for each vreg of which it is wanted, [`kept_labels`] for each label that a client put on one. Nothing here
 //! knows the allocator: its walk decides the places, and these calls say of which operands they are needed. Upstream keeps the
 //! same points in `vreg_to_live_inst_range` while it allocates.
 
@@ -26,10 +26,10 @@ pub struct InstOperand {
     pub index: usize,
 }
 
-/// From where to where the value of a virtual register can be shown.
+/// From where to where the value of a vreg can be shown.
 #[derive(Clone, Copy, Debug, PartialEq, Eq)]
 pub struct LiveRange {
-    /// The virtual register.
+    /// The vreg.
     pub vreg: VReg,
     /// The point after its definition, or before the block of which it is a parameter.
     pub first: ProgPoint,
@@ -43,11 +43,11 @@ pub struct LiveRange {
     pub by: Option<InstOperand>,
 }
 
-/// A label that is kept, with the live range of its virtual register.
+/// A label that is kept, with the live range of its vreg.
 #[derive(Clone, Copy, Debug, PartialEq, Eq)]
 pub struct KeptLabel {
     /// The client's label.
     pub label: u32,
-    /// From where to where its virtual register's value can be shown.
+    /// From where to where its vreg's value can be shown.
     pub range: LiveRange,
 }

@@ -1,4 +1,4 @@
-//! Whether a function reads or passes a virtual register on some path before it writes it.
+//! Whether a function reads or passes a vreg on some path before it writes it.
 
 mod chain;
 mod edges;

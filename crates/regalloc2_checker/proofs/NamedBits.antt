@@ -29,7 +29,7 @@ members-pushed xs ys x e n =
     back (inl h) = Contains-append_left xs (x ∷ []) n h
     back (inr h) = subst (λ (m : ℕ). Contains (xs ++ (x ∷ [])) m) (sym h) (Contains-push xs x)
 
--- virtual registers that are listed stay listed as the list grows
+-- vregs that are listed stay listed as the list grows
 pub all-vregs-more : (xs ys : List ℕ) (vs : List VirtualRegister) → IsMore xs ys → All (IsListedVReg xs) vs → All (IsListedVReg ys) vs
 all-vregs-more xs ys vs m h = λ k d less. m _ (h k d less)
 

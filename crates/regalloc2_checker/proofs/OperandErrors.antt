@@ -143,14 +143,14 @@ moves_one es k e less is = ap (λ (xs : List Edit). map move_of xs) (take_one es
     mapped [] = refl
     mapped (x ∷ xs) = ap (λ (ys : List MoveValue). move_of x ∷ ys) (mapped xs)
 
--- checking one move more that is not between two places in memory adds no error
+-- checking one move more that is not between two stack places adds no error
 pub added_fine : {A : Type 0} (env : MachineValue) (es : List Edit) (k : ℕ) (e : Edit) (old new : List (CheckerError A)) → k < length es → e ≡ get_or es k e →
     (IsStackToStack env (move_of e) → ⊥) →
     AreAdded env (map move_of (take k es)) old new → AreAdded env (map move_of (take (k + 1) es)) old new
 added_fine env es k e old new less is other h = rw (moves_one es k e less is)
     (record { added = h.added; all = h.all; faults = fine_more_moves env (map move_of (take k es)) h.added (move_of e) other h.faults })
 
--- checking one move more that is between two places in memory appends its error
+-- checking one move more that is between two stack places appends its error
 pub added_fault : {A : Type 0} (env : MachineValue) (es : List Edit) (k : ℕ) (e : Edit) (old new newer : List (CheckerError A)) → k < length es →
     e ≡ get_or es k e → IsStackToStack env (move_of e) →
     newer ≡ new ++ (StackToStackMove (move_of e).to (move_of e).from ∷ []) → AreAdded env (map move_of (take k es)) old new →

@@ -71,7 +71,7 @@ pub defs_done : (places : List Place) (os : List OperandValue) (k : ℕ) (F : Fa
 unfolding facts_after_defs
 defs_done places os k F l = let e : drop k os ≡ [] = drop_all k os l in rw e refl
 
--- so many parameters took what their arguments had: what each virtual register has now one had before, but those that are still to take theirs
+-- so many parameters took what their arguments had: what each vreg has now one had before, but those that are still to take theirs
 pub record AreRenamedTo (params arguments : List VirtualRegister) (k : ℕ) (F G : Facts) : Type 0 where
   pub before : VirtualRegister → VirtualRegister
   pub same : (p : Place) (v : VirtualRegister) → (G p v ≡ F p (before v)) ⊎ TakesArgument (drop k params) (drop k arguments) v
@@ -81,7 +81,7 @@ pub record AreRenamedTo (params arguments : List VirtualRegister) (k : ℕ) (F G
 pub renamed_none : (params arguments : List VirtualRegister) (F G : Facts) → AreOthersKept params arguments F G → AreRenamedTo params arguments 0 F G
 renamed_none params arguments F G h = record { before = λ u. u; same = h; rest = λ v. refl }
 
--- a virtual register is renamed as what it would be otherwise says
+-- a vreg is renamed as what it would be otherwise says
 renaming-at : (ps as' : List VirtualRegister) (r s : VirtualRegister → VirtualRegister) (v : VirtualRegister) → r v ≡ s v →
     renaming ps as' r v ≡ renaming ps as' s v
 unfolding renaming
@@ -170,7 +170,7 @@ unfolding renaming
 renaming_done ps as' k r v (inl h) = let e : drop k ps ≡ [] = drop_all k ps h in rw e refl
 renaming_done ps as' k r v (inr h) = let e : drop k as' ≡ [] = drop_all k as' h in rw e (renaming_none (drop k ps) r v)
 
--- no virtual register takes an argument where none is left
+-- no vreg takes an argument where none is left
 takes-none : (ps as' : List VirtualRegister) (k : ℕ) (v : VirtualRegister) → (length ps ≤ k) ⊎ (length as' ≤ k) → TakesArgument (drop k ps) (drop k as') v → ⊥
 takes-none ps as' k v short t =
     let next : VirtualRegister = record { number = v.number + 1; class = v.class } in
@@ -303,7 +303,7 @@ place-listed places ps k h = elim (cases_lt k (length ps)) [
     past (q ∷ qs) zero l = absurd (omega arith)
     past (q ∷ qs) (suc n) l = past qs n (omega arith)
 
--- the holders of so many virtual registers, and of one more
+-- the holders of so many vregs, and of one more
 pub record HoldersSoFar {A : Type 0} (places : List ℕ) (has : ℕ → ℕ → Bool) (vs : List VirtualRegister) (had : List (Vec ℕ A)) (k : ℕ) : Type 0 where
   pub long : length had ≡ k
   pub holders : AreHoldersOf places has vs had

@@ -105,7 +105,7 @@ not-found xs x e (k, less, at) =
     by_test true h g = absurd cc
     by_test false h g = absurd cc
 
--- bits of virtual registers tell them apart
+-- bits of vregs tell them apart
 pub vreg-bits : (u v : VirtualRegister) → nat_eq (bits_of_vreg v) (bits_of_vreg u) ≡ is_vreg u v
 vreg-bits u v = equal_tests _ _
     (λ h. let e : bits_of_vreg v ≡ bits_of_vreg u = eqb-true _ _ h in
@@ -233,7 +233,7 @@ kept-false : (b x : Bool) → x ≡ false → cond b false x ≡ false
 kept-false true x e = refl
 kept-false false x e = e
 
--- a virtual register is in no place any more
+-- a vreg is in no place any more
 forgotten-in : (places : List ℕ) (has have : ℕ → ℕ → Bool) (u : VirtualRegister) → ((j y : ℕ) → have j y ≡ cond (nat_eq y (bits_of_vreg u)) false (has j y)) →
     facts_in places have ≡ (λ q v. cond (is_vreg u v) false (facts_in places has q v))
 forgotten-in places has have u h = one-facts _ _ (λ q v. by_position q v (place_in places q) refl)
@@ -253,11 +253,11 @@ forgotten-in places has have u h = one-facts _ _ (λ q v. by_position q v (place
         (h j (bits_of_vreg v) ∙ ap (λ b. cond b false (has j (bits_of_vreg v))) (vreg-bits u v)))
         ∙ sym (ap (λ b. cond (is_vreg u v) false b) (facts-at places has q v (Some j) e))
 
--- the bits at a virtual register's position
+-- the bits at a vreg's position
 pub bits-at : (vregs : List ℕ) (v : VirtualRegister) (j : ℕ) → vreg_in vregs v ≡ Some j → get_or vregs j 0 ≡ bits_of_vreg v
 bits-at vregs v j e = (at-position vregs (bits_of_vreg v) j e).1
 
--- a virtual register is forgotten
+-- a vreg is forgotten
 pub forgotten-is : (t u : Showing) (v : VirtualRegister) (j : ℕ) → vreg_in t.vregs v ≡ Some j → u.places ≡ t.places →
     ShowsNow u (λ i y. cond (nat_eq y (get_or t.vregs j 0)) false (shows_now t i y)) → facts_now u ≡ (λ q w. cond (is_vreg v w) false (facts_now t q w))
 forgotten-is t u v j at e h =
@@ -276,7 +276,7 @@ own-bits u v n e packed = by_test (is_vreg u v) refl
         sym (ap (λ b. b && nat_eq (bits_of_vreg v) n) p ∙ there)
     by_test false h = h ∙ sym (ap (λ b. is_packed_vreg v && b) (there ∙ h) ∙ and-false (is_packed_vreg v))
 
--- a virtual register is written to a place
+-- a vreg is written to a place
 pub defined-is : (t u : Showing) (p : Place) (v : VirtualRegister) (i j : ℕ) → IsMissingUnlisted t.places → place_in t.places p ≡ Some i → is_packed p ≡ true →
     vreg_in t.vregs v ≡ Some j → is_packed_vreg v ≡ true → u.places ≡ t.places →
     ShowsNow u (λ k y. cond (nat_eq k i) (nat_eq y (get_or t.vregs j 0)) (cond (nat_eq y (get_or t.vregs j 0)) false (shows_now t k y))) →
@@ -327,7 +327,7 @@ given-in places has have v positions packed h = one-facts _ _ (λ q w. by_positi
         (h i (bits_of_vreg w) ∙ ap (λ b. cond b (is_in positions i) (has i (bits_of_vreg w))) (vreg-bits v w ∙ k))
         ∙ sym (ap (λ b. cond b (stands_in places positions q) (facts_in places has q w)) k ∙ facts-at places has q w (Some i) e)
 
--- a virtual register gets other places
+-- a vreg gets other places
 pub given-is : (t u : Showing) (v : VirtualRegister) (j : ℕ) (positions : List ℕ) → vreg_in t.vregs v ≡ Some j → is_packed_vreg v ≡ true →
     u.places ≡ t.places →
     ShowsNow u (λ i y. cond (nat_eq y (get_or t.vregs j 0)) (is_in positions i) (shows_now t i y)) →
@@ -338,7 +338,7 @@ given-is t u v j positions at pv e h =
     ∙ given-in t.places (shows_now t) has v positions pv
     (λ i y. ap (λ n. cond (nat_eq y n) (is_in positions i) (shows_now t i y)) (bits-at t.vregs v j at))
 
--- the positions that hold a virtual register are those of the places that do
+-- the positions that hold a vreg are those of the places that do
 pub holders-are : (t : Showing) (v : VirtualRegister) (j : ℕ) (positions : List ℕ) → vreg_in t.vregs v ≡ Some j → is_packed_vreg v ≡ true →
     ((i : ℕ) → is_in positions i ≡ (nat_lt i (length t.places) && shows_now t i (get_or t.vregs j 0))) →
     HoldersAre t.places (shows_now t) v positions
@@ -366,7 +366,7 @@ holders-are t v j positions at pv h = record {
         ∙ ap (λ n. shows_now t i n) (bits-at t.vregs v j at))
         ∙ sym (facts-at t.places (shows_now t) p v (Some i) e ∙ ap (λ b. is_packed p && (b && shows_now t i (bits_of_vreg v))) pv)
 
--- the same, where the positions are those of a virtual register's holders before
+-- the same, where the positions are those of a vreg's holders before
 pub given-renamed : (before ps : List ℕ) (has : ℕ → ℕ → Bool) (p a : VirtualRegister) (positions : List ℕ) (G H : Facts) → ps ≡ before →
     HoldersAre before has a positions → H ≡ given_to p ps positions G → (q : Place) (v : VirtualRegister) →
     H q v ≡ cond (is_vreg p v) (facts_in before has q a) (G q v)

@@ -1,4 +1,4 @@
--- The virtual registers that a place holds, as they are found.
+-- The vregs that a place holds, as they are found.
 use Rattle.std.proofs.Common.{ℕ, zero, suc, ◌≡◌, ◌≢◌, ◌+◌, ◌-◌, ◌<◌, ◌≤◌, inl, inr, arith, Bool}
 use Rattle.std.proofs.Common.{true, false, List, [], ◌∷◌, ◌++◌, length, get_or, map, refl, sym, ap, ◌∙◌, subst}
 use Rattle.std.specs.Prelude.{◌⊎◌, ◌↔◌, ◌&&◌, Contains, None, Some}
@@ -22,7 +22,7 @@ use Rattle.regalloc2_checker.proofs.TableSteps.{facts-at, unlisted-holds}
 abbrev pub IsAmong : List ℕ → ℕ → ℕ → Type 0
 IsAmong members k y = (i : ℕ) × (i < k) × (get_or members i 0 ≡ y)
 
--- the virtual registers of so many bits of a list are found
+-- the vregs of so many bits of a list are found
 pub record AreFound (members : List ℕ) (k : ℕ) (found : List VirtualRegister) : Type 0 where
   pub members_are : (v : VirtualRegister) → Contains found v ↔ IsAmong members k (bits_of_vreg v)
   pub found_rise : IsStrictlyIncreasing (map bits_of_vreg found)
@@ -38,7 +38,7 @@ found_none members found e = subst (λ (vs : List VirtualRegister). AreFound mem
   packed = λ v c. absurd (omega (arith, c.1));
 })
 
--- bits that are those of no virtual register
+-- bits that are those of no vreg
 pub found_skip : (members : List ℕ) (k y : ℕ) (found : List VirtualRegister) → k < length members → y ≡ get_or members k y →
     ((v : VirtualRegister) → bits_of_vreg v ≢ y) →
     AreFound members k found → AreFound members (k + 1) found
@@ -58,7 +58,7 @@ found_skip members k y found less was other h = let is : y ≡ get_or members k 
   packed = h.packed;
 }
 
--- a virtual register with small bits has a packed name
+-- a vreg with small bits has a packed name
 packed_small : (v : VirtualRegister) → bits_of_vreg v < 4294967296 → is_packed_vreg v ≡ true
 packed_small v small = lt-ltb v.number 1073741824 (omega (arith, small))
 

@@ -21,7 +21,7 @@ move_of_index out k = (slice_index_or out.edits k (0, record { from = NoPlace; t
 abbrev pub location_of_index : OutputValue → ℕ → Place
 location_of_index out k = (slice_index_or out.debug_locations k (record { label = 0; start = 0; end = 0; place = NoPlace })).place
 
--- an operand is where its class may be, or in the register that it names in place of a virtual register
+-- an operand is where its class may be, or in the register that it names in place of a vreg
 pub record IsOperandCell (env : MachineValue) (out : OutputValue) (o : OperandValue) (p : Place) : Type 0 where
   pub proper : is_fixed_nonallocatable o ≡ false → IsProperPlace env out o.vreg.class p
   pub nonallocatable : (r : Register) → nonallocatable_register o ≡ Some r → p ≡ InRegister r

@@ -12,7 +12,7 @@ use Rattle.regalloc2_function.specs.Path.{Location}
 use Rattle.regalloc2_function.specs.Held.{Holds}
 use Rattle.regalloc2_checker.specs.Facts.{Facts, facts_for}
 
--- a set of the registers that stand for places in memory
+-- a set of the registers that stand for stack places
 abbrev pub AreStackSlots : MachineValue → PRegSet → Type 0
 AreStackSlots env slots = (r : Register) → (has_register slots r ≡ true) ↔ IsFixedStackSlot env r
 

@@ -15,23 +15,23 @@ facts_renamed params arguments F = λ p v. F p (renaming params arguments (λ u.
 abbrev pub stands_in : List ℕ → List ℕ → Place → Bool
 stands_in places positions p = is_packed p && held_at (place_in places p) (λ i y. is_in positions i) 0
 
--- positions are those of the places that hold a virtual register
+-- positions are those of the places that hold a vreg
 pub record HoldersAre (places : List ℕ) (has : ℕ → ℕ → Bool) (v : VirtualRegister) (positions : List ℕ) : Type 0 where
   pub within : (i : ℕ) → is_in positions i ≡ true → i < length places
   pub holders : (p : Place) → stands_in places positions p ≡ facts_in places has p v
 
--- and lists have those that hold each of some virtual registers
+-- and lists have those that hold each of some vregs
 abbrev pub AreHoldersOf : {A : Type 0} → List ℕ → (ℕ → ℕ → Bool) → List VirtualRegister → List (Vec ℕ A) → Type 0
 AreHoldersOf places has vs had = (k : ℕ) (d : Vec ℕ _) (u : VirtualRegister) → k < length had → HoldersAre places has (get_or vs k u) (get_or had k d).items
 
--- a virtual register is held by the places at just these positions
+-- a vreg is held by the places at just these positions
 abbrev pub given_to : VirtualRegister → List ℕ → List ℕ → Facts → Facts
 given_to v places positions F = λ p u. if is_vreg v u then stands_in places positions p else F p u
 
--- a virtual register is a parameter that takes an argument: what it is renamed to doesn't depend on what it would be otherwise
+-- a vreg is a parameter that takes an argument: what it is renamed to doesn't depend on what it would be otherwise
 abbrev pub TakesArgument : List VirtualRegister → List VirtualRegister → VirtualRegister → Type 0
 TakesArgument params arguments v = (r s : VirtualRegister → VirtualRegister) → renaming params arguments r v ≡ renaming params arguments s v
 
--- the facts of all virtual registers but such parameters stay
+-- the facts of all vregs but such parameters stay
 abbrev pub AreOthersKept : List VirtualRegister → List VirtualRegister → Facts → Facts → Type 0
 AreOthersKept params arguments F G = (p : Place) (v : VirtualRegister) → (G p v ≡ F p v) ⊎ TakesArgument params arguments v

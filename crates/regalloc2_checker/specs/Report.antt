@@ -37,12 +37,12 @@ invalid_operand = record { vreg = invalid_vreg; constraint = Any; kind = Use; po
 abbrev pub operand_at : List OperandValue → ℕ → OperandValue
 operand_at operands k = slice_index_or operands k invalid_operand
 
--- the virtual registers that pass a test, by rising bits
+-- the vregs that pass a test, by rising bits
 pub record AreVRegsInValue (Has : VirtualRegister → Type 0) (vs : List VirtualRegister) : Type 0 where
   pub members : (v : VirtualRegister) → Contains vs v ↔ Has v
   pub rising : IsStrictlyIncreasing (map bits_of_vreg vs)
 
--- what a use that reads finds wrong with what its place holds: no virtual register's value, or those of others and not its own
+-- what a use that reads finds wrong with what its place holds: no vreg's value, or those of others and not its own
 pub data IsValueFault {A : Type 0} (inst : ℕ) (op : OperandValue) (p : Place) (Has : VirtualRegister → Type 0) : CheckerError A → Type 0 where
   unknown : ((v : VirtualRegister) → Has v → ⊥) → IsValueFault inst op p Has (UnknownValueInAllocation inst op p)
   incorrect : (Has op.vreg → ⊥) → (v : VirtualRegister) → Has v → (actual : Vec VirtualRegister A) → AreVRegsInValue Has actual.items →
@@ -70,7 +70,7 @@ pub data IsOperandFault {A : Type 0} (env : MachineValue) (inst : ℕ) (op : Ope
   of_constraint : (e : CheckerError A) → p ≢ NoPlace → (is_reading op ≡ true → Has op.vreg) → IsConstraintFault env inst op count places p op.constraint e →
       IsOperandFault env inst op count places p Has e
 
--- an operand without a fault: a use that reads finds its virtual register's value, and the constraint is met, which no missing place does
+-- an operand without a fault: a use that reads finds its vreg's value, and the constraint is met, which no missing place does
 pub record IsFine (env : MachineValue) (op : OperandValue) (count : ℕ) (places : List Place) (p : Place) (Has : VirtualRegister → Type 0) : Type 0 where
   pub value : is_reading op ≡ true → Has op.vreg
   pub constraint : Meets env count places op.constraint p
@@ -95,7 +95,7 @@ AreOperandsJudged env inst operands places position Has (Some e) = (k : ℕ) × 
     × AreFineBelow env operands places position Has k
     × IsFaultAt env inst operands places Has k e
 
--- the faults of moves, as listed: those between two places in memory
+-- the faults of moves, as listed: those between two stack places
 pub data AreMoveFaults {A : Type 0} (env : MachineValue) : List MoveValue → List (CheckerError A) → Type 0 where
   none : AreMoveFaults env [] []
   fault : (m : MoveValue) (ms : List MoveValue) (es : List (CheckerError A)) → IsStackToStack env m → AreMoveFaults env ms es →

@@ -1,4 +1,4 @@
--- Facts that tables keep: places and virtual registers are looked up by their bits.
+-- Facts that tables keep: places and vregs are looked up by their bits.
 use Rattle.std.specs.Prelude.{ℕ, ◌≢◌, ◌<◌, ◌↔◌, Bool, false, ◌&&◌, nat_eq, nat_lt, List, All, Contains, Option, None, Some, length}
 use Rattle.std.specs.List.{position, flat_map}
 use Rattle.std.specs.List.Sorted.{IsStrictlyIncreasing}
@@ -17,7 +17,7 @@ use Rattle.regalloc2_checker.specs.NamedPlaces.{named_places, bits_unless_missin
 abbrev pub is_packed : Place → Bool
 is_packed p = is_place (place_of_bits (bits_of_place p)) p
 
--- a virtual register that a packed name can have
+-- a vreg that a packed name can have
 abbrev pub is_packed_vreg : VirtualRegister → Bool
 is_packed_vreg v = nat_lt v.number 1073741824
 
@@ -25,7 +25,7 @@ is_packed_vreg v = nat_lt v.number 1073741824
 abbrev pub place_in : List ℕ → Place → Option ℕ
 place_in places p = position (λ n. nat_eq n (bits_of_place p)) places
 
--- where a virtual register is listed
+-- where a vreg is listed
 abbrev pub vreg_in : List ℕ → VirtualRegister → Option ℕ
 vreg_in vregs v = position (λ n. nat_eq n (bits_of_vreg v)) vregs
 
@@ -53,7 +53,7 @@ IsMissingUnlisted places = Contains places 0 → ⊥
 abbrev pub IsListed : List ℕ → Place → Type 0
 IsListed places p = p ≢ NoPlace → Contains places (bits_of_place p)
 
--- a virtual register is listed
+-- a vreg is listed
 abbrev pub IsListedVReg : List ℕ → VirtualRegister → Type 0
 IsListedVReg vregs v = Contains vregs (bits_of_vreg v)
 
@@ -62,7 +62,7 @@ pub record AreNamedPlaces (f : FunctionValue) (o : OutputValue) (places : List �
   pub rising : IsStrictlyIncreasing places
   pub members : (n : ℕ) → Contains places n ↔ Contains (flat_map bits_unless_missing (named_places f o)) n
 
--- a list names the virtual registers of a function's operands, parameters and arguments
+-- a list names the vregs of a function's operands, parameters and arguments
 pub record AreNamedVRegs (f : FunctionValue) (vregs : List ℕ) : Type 0 where
   pub operands : (i : ℕ) → i < length f.insts → All (λ op. IsListedVReg vregs op.vreg) (inst_at f i).operands
   pub params : (b : ℕ) → b < length f.blocks → All (IsListedVReg vregs) (block_at f b).params

@@ -34,7 +34,7 @@ fault_text (AllocationOutsideLimit inst op p range) = operand_fault_text 11 inst
 fault_text MalformedOutput = codes "error 12"
 fault_text Memory = codes "error 13"
 
--- a virtual register behind another one, as , v3f
+-- a vreg behind another one, as , v3f
 abbrev pub next_vreg_text : VirtualRegister → List ℕ
 next_vreg_text v = codes ", " ++ class_vreg_text v
 

@@ -30,7 +30,7 @@ use std::fmt;
 #[derive(Clone, Copy, Debug, PartialEq, Eq)]
 pub enum CellFault {
     /// The operand of that index in the instruction is in no register for its class, in no slot of the frame, or in another register than the one
-    /// that it names in place of a virtual register.
+    /// that it names in place of a vreg.
     Operand(Inst, usize),
     /// An end of the move of that index in the list is no place of the machine's, and no slot of the frame.
     MoveEnd(usize),
@@ -99,7 +99,7 @@ fn is_class(a: RegClass, b: RegClass) -> bool
     a as usize == b as usize
 }
 
-/// The registers that may be allocated to virtual registers of a class.
+/// The registers that may be allocated to vregs of a class.
 fn allocatable<B: Allocator>(env: &MachineEnv<B>, class: RegClass) -> PRegSet
     ensures { (r : Register) → has_register result r ≡ is_allocatable (machine_of env.now) class r }
 {
@@ -469,7 +469,7 @@ fn named_slots<F: Function, A: Allocator, B: Allocator, C: Allocator>(
 /// Tests that the places which an output names are cells of their own, and says where that fails.
 ///
 /// - Each operand is in a register that may be allocated to its class, in a fixed stack slot of its class, or in a slot below the
-///   count; one that names a register in place of a virtual register is in that register. Each end of a move is such a place of some class,
+///   count; one that names a register in place of a vreg is in that register. Each end of a move is such a place of some class,
 ///   or the scratch register of some class; each debug location is such a place of some class.
 /// - A move from a register to another one stays within a class.
 /// - Each slot is within the frame with all units that it takes: as many as the class of each operand that is there and the class of

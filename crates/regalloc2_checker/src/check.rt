@@ -132,7 +132,7 @@ fn check_position<A: Allocator + Copy>(
     Ok(None)
 }
 
-/// The fault of a move: it goes from a place in memory to another.
+/// The fault of a move: it goes from a stack place to another.
 fn move_fault<A: Allocator>(slots: PRegSet, edit: Edit) -> Option<CheckerError<A>>
     ensures { (env : MachineValue) → AreStackSlots env slots → MatchOption result (IsStackToStack env (move_of edit) → ⊥)
         (λ e. IsStackToStack env (move_of edit) × (e ≡ CheckerError.StackToStackMove (move_of edit).to (move_of edit).from)) }

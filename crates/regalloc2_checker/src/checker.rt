@@ -84,8 +84,8 @@ impl<'a, F: Function, A: Allocator + Copy, B: Allocator> Checker<'a, F, A, B> {
         }
     }
 
-    /// Checks the prepared output: whether on every path each use reads what its virtual register has in the function's
-    /// own run, every constraint is met, and no move goes from one place in memory to another.
+    /// Checks the prepared output: whether on every path each use reads what its vreg has in the function's
+    /// own run, every constraint is met, and no move goes from one stack place to another.
     ///
     /// The faults come by rising block and instruction, a move's where the move is listed, at most one for each of an
     /// instruction's two positions. Where no output is prepared they are `MalformedOutput` alone, and where a growth was

@@ -26,14 +26,14 @@ pub fn stack_slots<B: Allocator>(env: &MachineEnv<B>) -> PRegSet
     slots
 }
 
-/// Whether a place is in memory.
+/// Whether a place is on the stack.
 pub fn is_stack(slots: PRegSet, place: Allocation) -> bool
     ensures { (env : MachineValue) → AreStackSlots env slots → IsTrue result ↔ IsStackPlace env place }
 {
     place.is_memory(slots)
 }
 
-/// Whether a place is a register that isn't in memory.
+/// Whether a place is a register that isn't on the stack.
 fn is_plain_reg(slots: PRegSet, place: Allocation) -> bool
     ensures { (env : MachineValue) → AreStackSlots env slots → IsTrue result ↔ IsPlainRegister env place }
 {

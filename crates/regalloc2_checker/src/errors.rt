@@ -20,7 +20,7 @@ pub enum CheckerError<A: Allocator = Global> {
         /// The operand.
         op: Operand,
     },
-    /// A use reads a place that holds no virtual register's value on every path.
+    /// A use reads a place that holds no vreg's value on every path.
     UnknownValueInAllocation {
         /// The instruction.
         inst: Inst,
@@ -38,7 +38,7 @@ pub enum CheckerError<A: Allocator = Global> {
         /// Its place.
         alloc: Allocation,
     },
-    /// A use reads a place that holds values of other virtual registers on every path, and not of its own.
+    /// A use reads a place that holds values of other vregs on every path, and not of its own.
     IncorrectValuesInAllocation {
         /// The instruction.
         inst: Inst,
@@ -46,7 +46,7 @@ pub enum CheckerError<A: Allocator = Global> {
         op: Operand,
         /// Its place.
         alloc: Allocation,
-        /// The virtual registers whose values the place holds, by rising bits.
+        /// The vregs whose values the place holds, by rising bits.
         actual: Vec<VReg, A>,
     },
     /// A reuse names no operand of its instruction.
@@ -96,7 +96,7 @@ pub enum CheckerError<A: Allocator = Global> {
         /// Its place.
         alloc: Allocation,
     },
-    /// A move goes from one place in memory to another.
+    /// A move goes from one stack place to another.
     StackToStackMove {
         /// The place that is written.
         into: Allocation,

@@ -1,4 +1,4 @@
-//! The places and virtual registers that a walk over an output may fill or write.
+//! The places and vregs that a walk over an output may fill or write.
 
 ghost use Rattle.std.specs.Prelude.{◌≡◌, ◌<◌, ◌↔◌, ◌∷◌, [], true, ℕ, OnOk, IfOk, All, map, length};
 ghost use Rattle.std.specs.List.{flat_map};
@@ -95,7 +95,7 @@ pub fn named_places<F: Function, A: Allocator + Copy, B: Allocator>(
     Ok(Positions::of(bits.into_numbers()))
 }
 
-/// Lists a virtual register.
+/// Lists a vreg.
 fn list_vreg<A: Allocator>(bits: &mut NumberList<A>, vreg: VReg) -> Result<(), AllocError>
     ensures more { OnOk result (IsMore bits.old bits.new) }
     ensures listed { OnOk result (IsListedVReg bits.new vreg) }
@@ -104,7 +104,7 @@ fn list_vreg<A: Allocator>(bits: &mut NumberList<A>, vreg: VReg) -> Result<(), A
     Ok(())
 }
 
-/// Lists the virtual registers of operands.
+/// Lists the vregs of operands.
 fn list_operands<A: Allocator>(
     bits: &mut NumberList<A>,
     operands: &[Operand],
@@ -118,7 +118,7 @@ fn list_operands<A: Allocator>(
     Ok(())
 }
 
-/// Lists virtual registers.
+/// Lists vregs.
 fn list_vregs<A: Allocator>(bits: &mut NumberList<A>, vregs: &[VReg]) -> Result<(), AllocError>
     ensures more { OnOk result (IsMore bits.old bits.new) }
     ensures listed { OnOk result (All (IsListedVReg bits.new) vregs.now) }
@@ -129,7 +129,7 @@ fn list_vregs<A: Allocator>(bits: &mut NumberList<A>, vregs: &[VReg]) -> Result<
     Ok(())
 }
 
-/// Lists the virtual registers of all operands.
+/// Lists the vregs of all operands.
 fn list_inst_vregs<F: Function, A: Allocator>(
     bits: &mut NumberList<A>,
     f: &F,
@@ -199,7 +199,7 @@ fn list_all_blocks<F: Function, A: Allocator>(
     Ok(())
 }
 
-/// The virtual registers of a function's operands, parameters and arguments.
+/// The vregs of a function's operands, parameters and arguments.
 pub fn named_vregs<F: Function, A: Allocator + Copy>(
     alloc: A,
     f: &F,
@@ -207,7 +207,7 @@ pub fn named_vregs<F: Function, A: Allocator + Copy>(
     requires { IsFramed (F.function f.now) }
     ensures { IfOk result (λ r. AreNamedVRegs (F.function f.now) r) }
 {
-    // Instructions may name few of a function's virtual registers.
+    // Instructions may name few of a function's vregs.
     let expected = f.num_vregs().min(f.num_insts().saturating_mul(4));
     let mut bits = NumberList::new(alloc, expected)?;
     list_inst_vregs(&mut bits, f)?;

@@ -85,7 +85,7 @@ impl<A: Allocator> fmt::Display for FaultLine<'_, A> {
     }
 }
 
-/// Virtual registers behind others, as `, v0i, v3f`.
+/// Vregs behind others, as `, v0i, v3f`.
 #[derive(Clone, Copy)]
 struct NextVRegs<'a>(&'a [VReg]);
 
@@ -101,7 +101,7 @@ impl fmt::Display for NextVRegs<'_> {
     }
 }
 
-/// Virtual registers with their class letters, as `v0i, v3f`.
+/// Vregs with their class letters, as `v0i, v3f`.
 #[derive(Clone, Copy)]
 struct VRegs<'a>(&'a [VReg]);
 
@@ -148,7 +148,7 @@ fn words_for<A: Allocator>(error: &CheckerError<A>) -> &'static str
     }
 }
 
-/// The names behind the words: virtual registers, an operand's index or a place.
+/// The names behind the words: vregs, an operand's index or a place.
 #[derive(Drop)]
 struct Detail<'a, A: Allocator>(&'a CheckerError<A>);
 

@@ -40,7 +40,7 @@ pub fn position<A: Allocator + Copy>(values: &PassingTables<A>, place: Allocatio
     values.place(place)
 }
 
-/// Where a virtual register is listed.
+/// Where a vreg is listed.
 fn vreg_position<A: Allocator + Copy>(values: &PassingTables<A>, vreg: VReg) -> Option<usize>
     ensures position { result ≡ vreg_in values.now.vregs vreg }
     ensures packed { is_packed_vreg vreg ≡ true }
@@ -133,7 +133,7 @@ fn clear_early_defs<A: Allocator + Copy>(
     }
 }
 
-/// Writes a virtual register to a place.
+/// Writes a vreg to a place.
 fn write_one<A: Allocator + Copy>(
     values: &mut PassingTables<A>,
     place: Allocation,
@@ -242,7 +242,7 @@ pub fn go_to_late<A: Allocator + Copy>(
     Ok(())
 }
 
-/// The places that hold a virtual register.
+/// The places that hold a vreg.
 fn holders<A: Allocator + Copy>(
     alloc: A,
     values: &PassingTables<A>,
@@ -258,7 +258,7 @@ fn holders<A: Allocator + Copy>(
     Ok(found)
 }
 
-/// The places that hold each of some virtual registers.
+/// The places that hold each of some vregs.
 fn holders_of_all<A: Allocator + Copy>(
     alloc: A,
     values: &PassingTables<A>,
@@ -293,7 +293,7 @@ fn give<A: Allocator + Copy>(
     Ok(())
 }
 
-/// Takes a virtual register out of every place.
+/// Takes a vreg out of every place.
 fn forget<A: Allocator + Copy>(values: &mut PassingTables<A>, vreg: VReg) -> Result<(), AllocError>
     requires { IsListedVReg values.old.vregs vreg }
     ensures kept { OnOk result (AreTablesKept values.old values.new) }

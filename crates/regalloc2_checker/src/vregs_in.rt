@@ -1,4 +1,4 @@
-//! Which virtual registers' values a place holds.
+//! Which vregs' values a place holds.
 
 ghost use Rattle.std.specs.Prelude.{◌≡◌, ◌≢◌, ◌<◌, true, IfOk, MatchOption};
 ghost use Rattle.regalloc2_names.specs.Register.{VirtualRegister};
@@ -11,7 +11,7 @@ use regalloc2_checker_tables::PassingTables;
 use regalloc2_names::{Allocation, VReg};
 use std::alloc::{AllocError, Allocator};
 
-/// The bits of a virtual register.
+/// The bits of a vreg.
 fn bits_of(vreg: VReg) -> u32
     ensures bits { result ≡ bits_of_vreg vreg }
     ensures packed { is_packed_vreg vreg ≡ true }
@@ -19,7 +19,7 @@ fn bits_of(vreg: VReg) -> u32
     vreg.bits() as u32
 }
 
-/// Whether a place holds what a virtual register has.
+/// Whether a place holds what a vreg has.
 pub fn holds<A: Allocator + Copy>(values: &PassingTables<A>, place: Allocation, vreg: VReg) -> bool
     ensures { result ≡ facts_now values.now place vreg }
 {
@@ -29,7 +29,7 @@ pub fn holds<A: Allocator + Copy>(values: &PassingTables<A>, place: Allocation, 
     values.has(position, bits_of(vreg))
 }
 
-/// The virtual register of bits, if they are those of one.
+/// The vreg of bits, if they are those of one.
 fn vreg_of(bits: u32) -> Option<VReg>
     ensures vreg { MatchOption result ((v : VirtualRegister) → bits_of_vreg v ≢ bits) (λ v. bits_of_vreg v ≡ bits) }
     ensures small { bits < 4294967296 }
@@ -40,7 +40,7 @@ fn vreg_of(bits: u32) -> Option<VReg>
     Some(VReg::from_bits(bits))
 }
 
-/// The virtual registers whose values a place holds, by rising bits.
+/// The vregs whose values a place holds, by rising bits.
 pub fn vregs_in<A: Allocator + Copy>(
     alloc: A,
     values: &PassingTables<A>,

@@ -1,4 +1,4 @@
--- Steps of walks over the places where a virtual register may be.
+-- Steps of walks over the places where a vreg may be.
 use Rattle.std.proofs.Common.{inl, inr, ℕ, ◌≡◌, ◌+◌, ◌<◌, arith, Bool, true, false, cond}
 use Rattle.std.proofs.Common.{nat_eq, nat_lt, eq-eqb, List, [], ◌∷◌, ◌++◌, length, get_or, take, refl, sym, ap, ◌∙◌, subst}
 use Rattle.std.specs.Prelude.{◌&&◌, ◌||◌, if◌then◌else◌, slice_set}
@@ -131,7 +131,7 @@ pub holders-none : (has : ℕ → Bool) (bound : ℕ) (holders : List ℕ) → h
 unfolding times_listed
 holders-none has bound holders e i = ap (λ (l : List ℕ). is_in l i) e ∙ sym (and-false (nat_lt i bound))
 
--- homes: one virtual register gets a place
+-- homes: one vreg gets a place
 pub homes-more : (homes : List NumberSet) (j place : ℕ) (set : NumberSet) → j < length homes →
     ((i : ℕ) → has_number set i ≡ cond (nat_eq i place) true (has_number (get_or homes j []) i)) → AreMoreHomes homes (slice_set homes j set)
 homes-more homes j place set less h = record {

@@ -465,7 +465,7 @@ none-apart vs o n e y = ap (λ (q : Option Passed). nat_eq (read_as vs q y) n) e
 pub shown-same : (v : Showing) → AreTablesKept v v
 shown-same v = record { places = refl; vregs = refl; count = refl; tables = λ k i y l. refl }
 
--- with a virtual register taken out of what is shown
+-- with a vreg taken out of what is shown
 pub forgotten-shown : (v : Showing) (t u : Holding) (p : Option Passed) (s : List (Option Passed)) (n m : ℕ) → IsSeen v t p m → AreKeptTables t u → n ≡ m →
     HoldsNow u (λ i y. if nat_eq y n then false else holds_now t i y) → ShowsNow (showing u p s) (λ i y. if nat_eq y m then false else shows_now v i y)
 forgotten-shown v t u p s n m b k d h i y l =

@@ -146,7 +146,7 @@ clear-all t place f a less e =
     no : (y : ℕ) → is_member t.sets 0 y ≡ true → ⊥
     no y is = true-false (is_member t.sets 0 y) is (a.empty.members y)
 
--- a virtual register is dropped, in part or in all places
+-- a vreg is dropped, in part or in all places
 pub drop-all : (t : Holding) (s : List NumberSet) (f : NumberCopies) → IsSoundHolding t → AreStill t.sets t.entries s f →
     ((i y : ℕ) → i < length t.entries.cells → held s f i y ≡ true → holds_now t i y ≡ true) → IsSoundHolding (record t { entries = f; sets = s })
 drop-all t s f a k less =
@@ -357,7 +357,7 @@ define-members b c place vreg set k s y is =
     or_left (nat_eq y (get_or c.vregs vreg 0)) (holds_now c place y)
     (ap (λ (vs : List ℕ). nat_eq y (get_or vs vreg 0)) k.vregs ∙ sym (s.members y) ∙ is)
 
--- one virtual register more in a place
+-- one vreg more in a place
 pub add-now : (a b d : Holding) (place vreg set : ℕ) → AreKeptTables a b → AreKeptTables b d → HoldsNow b (holds_now a) →
     IsSetOf b.sets set (λ y. if nat_eq y (get_or a.vregs vreg 0) then true else holds_now a place y) →
     HoldsNow d (λ i y. if nat_eq i place then is_member b.sets set y else holds_now b i y) →
@@ -389,7 +389,7 @@ add-members a b place vreg set less k hb s y is =
     by true q e = refl
     by false q e = e
 
--- places that get a virtual register, one by one
+-- places that get a vreg, one by one
 pub give-none : (b : Holding) (has : ℕ → ℕ → Bool) (v : ℕ) → HoldsNow b (λ i y. if nat_eq y v then false else has i y) →
     HoldsNow b (λ i y. if nat_eq y v then is_in [] i else has i y)
 give-none b has v h i y l = h i y l

@@ -1,4 +1,4 @@
--- Which virtual registers places hold, in tables by number and in the one that is worked on. Places are named by their positions.
+-- Which vregs places hold, in tables by number and in the one that is worked on. Places are named by their positions.
 use Rattle.std.specs.Prelude.{ℕ, ◌≡◌, ◌<◌, ◌≤◌, Bool, true, false, ◌&&◌, nat_eq, List, [], length, get_or}
 use Rattle.std.specs.List.{list_any}
 use Rattle.std.specs.List.Sorted.{IsStrictlyIncreasing}
@@ -6,7 +6,7 @@ use Rattle.regalloc2_shape.specs.Numbers.{NumberSet, has_number}
 use Rattle.regalloc2_checker_tables.specs.SavedNumbers.{NumberCopies, copy_count, saved_number, number_now}
 use Rattle.regalloc2_checker_tables.specs.EntrySets.{is_member, AreMore, IsSetOf}
 
--- the listed places and virtual registers, by their bits; the numbers of the sets that tables have; the sets; and the places where each virtual register may be
+-- the listed places and vregs, by their bits; the numbers of the sets that tables have; the sets; and the places where each vreg may be
 pub record Holding : Type 0 where
   pub places : List ℕ
   pub vregs : List ℕ
@@ -22,7 +22,7 @@ count_of t = copy_count t.entries
 abbrev pub held : List NumberSet → NumberCopies → ℕ → ℕ → Bool
 held sets e i y = is_member sets (number_now e i) y
 
--- whether the place at a position holds the virtual register with bits, in the table that is worked on
+-- whether the place at a position holds the vreg with bits, in the table that is worked on
 abbrev pub holds_now : Holding → ℕ → ℕ → Bool
 holds_now t i y = held t.sets t.entries i y
 
@@ -30,7 +30,7 @@ holds_now t i y = held t.sets t.entries i y
 abbrev pub holds_in : Holding → ℕ → ℕ → ℕ → Bool
 holds_in t k i y = is_member t.sets (saved_number t.entries k i) y
 
--- a place is one where the virtual register with bits may be
+-- a place is one where the vreg with bits may be
 abbrev pub IsHome : List ℕ → List NumberSet → ℕ → ℕ → Type 0
 IsHome vregs homes i y = (j : ℕ) → j < length vregs → get_or vregs j 0 ≡ y → has_number (get_or homes j []) i ≡ true
 
@@ -82,7 +82,7 @@ pub record AreKeptTables (old new : Holding) : Type 0 where
 abbrev pub HoldsNow : Holding → (ℕ → ℕ → Bool) → Type 0
 HoldsNow t has = (i y : ℕ) → i < length t.places → holds_now t i y ≡ has i y
 
--- some place holds a virtual register in one way and not in another
+-- some place holds a vreg in one way and not in another
 pub record LosesSome (size : ℕ) (has other : ℕ → ℕ → Bool) : Type 0 where
   pub place : ℕ
   pub bits : ℕ

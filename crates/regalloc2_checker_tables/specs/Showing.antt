@@ -1,4 +1,4 @@
--- What tables show in which one virtual register may stand for a second, whose places aren't noted yet: a parameter that was passed for its argument.
+-- What tables show in which one vreg may stand for a second, whose places aren't noted yet: a parameter that was passed for its argument.
 use Rattle.std.specs.Prelude.{ℕ, ◌≡◌, ◌+◌, ◌<◌, Bool, ◌&&◌, nat_eq, nat_lt, if◌then◌else◌, List, length, get_or, Option, None, Some}
 use Rattle.regalloc2_shape.specs.Numbers.{NumberSet}
 use Rattle.regalloc2_checker_tables.specs.SavedNumbers.{NumberCopies}
@@ -31,7 +31,7 @@ showing t passed saved = record {
 abbrev pub bare : Showing → Holding
 bare t = record { places = t.places; vregs = t.vregs; entries = t.entries; sets = t.sets; homes = t.homes }
 
--- the bits under which a virtual register is held: a parameter that was passed is held under its argument's
+-- the bits under which a vreg is held: a parameter that was passed is held under its argument's
 unfoldable pub read_as : List ℕ → Option Passed → ℕ → ℕ
 read_as vregs None y = y
 read_as vregs (Some p) y = if nat_eq y (get_or vregs p.parameter 0) then get_or vregs p.argument 0 else y
@@ -40,7 +40,7 @@ read_as vregs (Some p) y = if nat_eq y (get_or vregs p.parameter 0) then get_or 
 abbrev pub table_count : Showing → ℕ
 table_count t = length t.saved
 
--- whether the place at a position shows the virtual register with bits, in the table that is worked on
+-- whether the place at a position shows the vreg with bits, in the table that is worked on
 abbrev pub shows_now : Showing → ℕ → ℕ → Bool
 shows_now t i y = holds_now (bare t) i (read_as t.vregs t.passed y)
 
@@ -52,7 +52,7 @@ shows_in t k i y = nat_lt k (table_count t) && holds_in (bare t) k i (read_as t.
 abbrev pub ListsPassed : List ℕ → Option Passed → Type 0
 ListsPassed vregs o = (p : Passed) → o ≡ Some p → (p.parameter < length vregs) × (p.argument < length vregs)
 
--- no other virtual register is held under some bits, nor do they stand for others
+-- no other vreg is held under some bits, nor do they stand for others
 abbrev pub IsReadApart : List ℕ → Option Passed → ℕ → Type 0
 IsReadApart vregs o n = (y : ℕ) → nat_eq (read_as vregs o y) n ≡ nat_eq y n
 

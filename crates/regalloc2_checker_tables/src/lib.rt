@@ -1,4 +1,4 @@
-//! Tables of which virtual registers places hold, which share what they have in common.
+//! Tables of which vregs places hold, which share what they have in common.
 #![tactic(auto)]
 
 mod entries;

@@ -1,6 +1,6 @@
 //! Tables in which a parameter may be passed without a walk over the places of its argument.
 //!
-//! A branch to many blocks may pass one virtual register to a parameter of each, which many places hold. A block that is
+//! A branch to many blocks may pass one vreg to a parameter of each, which many places hold. A block that is
 //! entered over one edge alone needn't have its parameter noted at each of them: it is enough that what is asked of the
 //! parameter is answered by its argument, until one of the two is written, or another way comes in.
 
@@ -126,7 +126,7 @@ fn with_or_without<A: Allocator + Copy>(
 }
 
 impl<A: Allocator + Copy> PassingTables<A> {
-    /// Tables without a member, over listed places and virtual registers. Past 2^38 places memory is refused.
+    /// Tables without a member, over listed places and vregs. Past 2^38 places memory is refused.
     pub fn new(
         alloc: A,
         count: usize,
@@ -162,14 +162,14 @@ impl<A: Allocator + Copy> PassingTables<A> {
         self.tables.place(place)
     }
 
-    /// The position of a virtual register, by its bits.
+    /// The position of a vreg, by its bits.
     pub fn vreg(&self, bits: u32) -> Option<usize>
         ensures { result ≡ position (λ n. n == bits) self.now.vregs }
     {
         self.tables.vreg(bits)
     }
 
-    /// The bits under which a virtual register is held.
+    /// The bits under which a vreg is held.
     fn read(&self, bits: u32) -> u32
         ensures { result ≡ read_as self.now.vregs self.now.passed bits }
     {
@@ -183,7 +183,7 @@ impl<A: Allocator + Copy> PassingTables<A> {
         bits
     }
 
-    /// Whether a place holds a virtual register.
+    /// Whether a place holds a vreg.
     pub fn has(&self, place: usize, bits: u32) -> bool
         requires { place < length self.now.places }
         ensures { result ≡ shows_now self.now place bits }
@@ -191,7 +191,7 @@ impl<A: Allocator + Copy> PassingTables<A> {
         self.tables.has(place, self.read(bits))
     }
 
-    /// The virtual registers that a place holds, by rising bits.
+    /// The vregs that a place holds, by rising bits.
     pub fn members(&self, place: usize) -> Result<Vec<u32, A>, AllocError>
         requires { place < length self.now.places }
         ensures rising { IfOk result (λ members. IsStrictlyIncreasing members.items) }
@@ -238,7 +238,7 @@ impl<A: Allocator + Copy> PassingTables<A> {
         Ok(())
     }
 
-    /// Notes the parameter that was passed at the places of its argument, if one of the two is a virtual register.
+    /// Notes the parameter that was passed at the places of its argument, if one of the two is a vreg.
     fn settle_for(&mut self, vreg: usize) -> Result<(), AllocError>
         requires { vreg < length self.old.vregs }
         ensures kept { AreTablesKept self.old self.new }
@@ -260,7 +260,7 @@ impl<A: Allocator + Copy> PassingTables<A> {
         Ok(())
     }
 
-    /// Takes a virtual register out of every place.
+    /// Takes a vreg out of every place.
     pub fn forget(&mut self, vreg: usize) -> Result<(), AllocError>
         requires { vreg < length self.old.vregs }
         ensures kept { AreTablesKept self.old self.new }
@@ -270,7 +270,7 @@ impl<A: Allocator + Copy> PassingTables<A> {
         self.tables.forget(vreg)
     }
 
-    /// Gives a place one virtual register alone, which no other place holds any more.
+    /// Gives a place one vreg alone, which no other place holds any more.
     pub fn define(&mut self, place: usize, vreg: usize) -> Result<(), AllocError>
         requires place { place < length self.old.places }
         requires vreg { vreg < length self.old.vregs }
@@ -282,7 +282,7 @@ impl<A: Allocator + Copy> PassingTables<A> {
         self.tables.define(place, vreg)
     }
 
-    /// The places that hold a virtual register.
+    /// The places that hold a vreg.
     pub fn holders(&self, alloc: A, vreg: usize) -> Result<Vec<usize, A>, AllocError>
         requires { vreg < length self.now.vregs }
         ensures { IfOk result (λ holders. (i : ℕ) → is_in holders.items i
@@ -299,7 +299,7 @@ impl<A: Allocator + Copy> PassingTables<A> {
         self.tables.holders(alloc, vreg)
     }
 
-    /// Gives a virtual register other places, which hold it beside what they hold.
+    /// Gives a vreg other places, which hold it beside what they hold.
     pub fn give(&mut self, vreg: usize, places: &[usize]) -> Result<(), AllocError>
         requires vreg { vreg < length self.old.vregs }
         requires places { (i : ℕ) → is_in places.now i ≡ true → i < length self.old.places }

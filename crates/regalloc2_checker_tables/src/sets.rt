@@ -1,4 +1,4 @@
-//! Sets of the bits of virtual registers, which are never changed once they are made.
+//! Sets of the bits of vregs, which are never changed once they are made.
 
 ghost use Rattle.std.specs.Prelude.{◌≡◌, ℕ, ◌<◌, ◌++◌, ◌∷◌, [], true, false, ◌&&◌, nat_eq, if◌then◌else◌, length, IfOk, OnErr};
 ghost use Rattle.std.specs.Bool.{OnTrue, OnFalse};

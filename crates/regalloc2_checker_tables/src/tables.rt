@@ -1,4 +1,4 @@
-//! Tables of which virtual registers places hold.
+//! Tables of which vregs places hold.
 
 ghost use Rattle.std.specs.Prelude.{◌≡◌, ◌≢◌, ◌⊎◌, None, Some, ℕ, ◌<◌, ◌≤◌, ◌^◌, ◌==◌, true, false, ◌&&◌, ◌||◌};
 ghost use Rattle.std.specs.Prelude.{[], nat_eq, nat_lt, if◌then◌else◌, length, get_or};
@@ -22,10 +22,10 @@ use regalloc2_shape::indexset::IndexSet;
 use std::alloc::{AllocError, Allocator};
 use std::marker::Model;
 
-/// Tables of which virtual registers places hold, by number, and one that is worked on.
+/// Tables of which vregs places hold, by number, and one that is worked on.
 ///
-/// Places and virtual registers are listed once, and named by their positions there. Each table has one set of the bits of
-/// virtual registers for each place. Tables share what they have in common.
+/// Places and vregs are listed once, and named by their positions there. Each table has one set of the bits of
+/// vregs for each place. Tables share what they have in common.
 #[derive(Drop)]
 pub struct Tables<A: Allocator> {
     places: Positions<A>,
@@ -105,7 +105,7 @@ impl<A: Allocator + Copy> Hints<A> {
     }
 }
 
-/// Takes a virtual register out of one place.
+/// Takes a vreg out of one place.
 fn drop_at<A: Allocator + Copy>(
     entries: &mut Entries<A>,
     sets: &mut Sets<A>,
@@ -127,7 +127,7 @@ fn drop_at<A: Allocator + Copy>(
     Ok(())
 }
 
-/// Takes a virtual register out of the places where it may be.
+/// Takes a vreg out of the places where it may be.
 fn drop_everywhere<A: Allocator + Copy>(
     entries: &mut Entries<A>,
     sets: &mut Sets<A>,
@@ -146,7 +146,7 @@ fn drop_everywhere<A: Allocator + Copy>(
     Ok(())
 }
 
-/// The places below a bound where a virtual register may be and is.
+/// The places below a bound where a vreg may be and is.
 fn holders_among<A: Allocator + Copy>(
     alloc: A,
     entries: &Entries<A>,
@@ -173,7 +173,7 @@ fn holders_among<A: Allocator + Copy>(
     Ok(holders)
 }
 
-/// Notes that the virtual register with a number may be at a place.
+/// Notes that the vreg with a number may be at a place.
 fn note_at<A: Allocator + Copy>(
     homes: &mut Vec<IndexSet<A>, A>,
     vreg: usize,
@@ -191,7 +191,7 @@ fn note_at<A: Allocator + Copy>(
     home.set(place, true)
 }
 
-/// Notes that a virtual register may be at a place, if it is listed.
+/// Notes that a vreg may be at a place, if it is listed.
 fn note<A: Allocator + Copy>(
     vregs: &Positions<A>,
     homes: &mut Vec<IndexSet<A>, A>,
@@ -210,7 +210,7 @@ fn note<A: Allocator + Copy>(
     note_at(homes, vreg, place)
 }
 
-/// Notes that listed virtual registers may be at a place.
+/// Notes that listed vregs may be at a place.
 fn note_all<A: Allocator + Copy>(
     vregs: &Positions<A>,
     homes: &mut Vec<IndexSet<A>, A>,
@@ -229,7 +229,7 @@ fn note_all<A: Allocator + Copy>(
     Ok(())
 }
 
-/// Notes that the listed virtual registers of a set may be at a place.
+/// Notes that the listed vregs of a set may be at a place.
 fn note_set<A: Allocator + Copy>(
     vregs: &Positions<A>,
     sets: &Sets<A>,
@@ -356,7 +356,7 @@ fn empty_homes<A: Allocator + Copy>(
 }
 
 impl<A: Allocator + Copy> Tables<A> {
-    /// Tables without a member, over listed places and virtual registers. Past 2^38 places memory is refused.
+    /// Tables without a member, over listed places and vregs. Past 2^38 places memory is refused.
     pub fn new(
         alloc: A,
         count: usize,
@@ -395,14 +395,14 @@ impl<A: Allocator + Copy> Tables<A> {
         self.places.find(place.bits(), self.hints.position(place))
     }
 
-    /// The position of a virtual register, by its bits.
+    /// The position of a vreg, by its bits.
     pub fn vreg(&self, bits: u32) -> Option<usize>
         ensures { result ≡ position (λ n. n == bits) self.now.vregs }
     {
         self.vregs.find(bits, bits as usize / 4)
     }
 
-    /// The bits of the virtual register at a position.
+    /// The bits of the vreg at a position.
     pub fn bits(&self, vreg: usize) -> u32
         requires { vreg < length self.now.vregs }
         ensures { result ≡ get_or self.now.vregs vreg 0 }
@@ -410,7 +410,7 @@ impl<A: Allocator + Copy> Tables<A> {
         self.vregs.number(vreg)
     }
 
-    /// Whether a place holds a virtual register.
+    /// Whether a place holds a vreg.
     pub fn has(&self, place: usize, bits: u32) -> bool
         requires { place < length self.now.places }
         ensures { result ≡ holds_now self.now place bits }
@@ -418,7 +418,7 @@ impl<A: Allocator + Copy> Tables<A> {
         self.sets.has(self.entries.get(place), bits)
     }
 
-    /// The virtual registers that a place holds, by rising bits.
+    /// The vregs that a place holds, by rising bits.
     pub fn members(&self, place: usize) -> Result<Vec<u32, A>, AllocError>
         requires { place < length self.now.places }
         ensures rising { IfOk result (λ members. IsStrictlyIncreasing members.items) }
@@ -450,7 +450,7 @@ impl<A: Allocator + Copy> Tables<A> {
         Ok(())
     }
 
-    /// Takes a virtual register out of every place.
+    /// Takes a vreg out of every place.
     pub fn forget(&mut self, vreg: usize) -> Result<(), AllocError>
         requires { vreg < length self.old.vregs }
         ensures kept { AreKeptTables self.old self.new }
@@ -475,7 +475,7 @@ impl<A: Allocator + Copy> Tables<A> {
         Ok(())
     }
 
-    /// A set of one virtual register alone.
+    /// A set of one vreg alone.
     fn single(&mut self, vreg: usize) -> Result<u32, AllocError>
         requires { vreg < length self.old.vregs }
         ensures kept { AreKeptTables self.old self.new }
@@ -485,7 +485,7 @@ impl<A: Allocator + Copy> Tables<A> {
         self.sets.single(self.vregs.number(vreg))
     }
 
-    /// Gives a place one virtual register alone, which no other place holds any more.
+    /// Gives a place one vreg alone, which no other place holds any more.
     pub fn define(&mut self, place: usize, vreg: usize) -> Result<(), AllocError>
         requires place { place < length self.old.places }
         requires vreg { vreg < length self.old.vregs }
@@ -498,7 +498,7 @@ impl<A: Allocator + Copy> Tables<A> {
         self.put(place, vreg, set)
     }
 
-    /// The places that hold a virtual register.
+    /// The places that hold a vreg.
     pub fn holders(&self, alloc: A, vreg: usize) -> Result<Vec<usize, A>, AllocError>
         requires { vreg < length self.now.vregs }
         ensures { IfOk result (λ holders. (i : ℕ) → is_in holders.items i
@@ -514,7 +514,7 @@ impl<A: Allocator + Copy> Tables<A> {
         )
     }
 
-    /// What a place holds, and a virtual register.
+    /// What a place holds, and a vreg.
     fn with(&mut self, place: usize, vreg: usize) -> Result<u32, AllocError>
         requires place { place < length self.old.places }
         requires vreg { vreg < length self.old.vregs }
@@ -527,7 +527,7 @@ impl<A: Allocator + Copy> Tables<A> {
             .with(self.entries.get(place), self.vregs.number(vreg))
     }
 
-    /// Adds a virtual register to what a place holds.
+    /// Adds a vreg to what a place holds.
     fn add_at(&mut self, place: usize, vreg: usize) -> Result<(), AllocError>
         requires place { place < length self.old.places }
         requires vreg { vreg < length self.old.vregs }
@@ -539,7 +539,7 @@ impl<A: Allocator + Copy> Tables<A> {
         self.put(place, vreg, set)
     }
 
-    /// Gives a virtual register other places, which hold it beside what they hold.
+    /// Gives a vreg other places, which hold it beside what they hold.
     pub fn give(&mut self, vreg: usize, places: &[usize]) -> Result<(), AllocError>
         requires vreg { vreg < length self.old.vregs }
         requires places { (i : ℕ) → is_in places.now i ≡ true → i < length self.old.places }

@@ -295,7 +295,7 @@ fn write_of_ends<W: fmt::Write>(
     Ok(true)
 }
 
-/// The words of causes that lie in virtual registers; false if it is another cause.
+/// The words of causes that lie in vregs; false if it is another cause.
 fn write_of_vregs<W: fmt::Write>(
     cause: &Cause,
     f: &mut fmt::Formatter<W>,

@@ -1,4 +1,4 @@
-//! A path on which a virtual register is read before it is written.
+//! A path on which a vreg is read before it is written.
 
 use crate::cause::Site;
 use crate::stored::{arguments_of, list_of, operand_of, operands_at, range_of, vreg_of};
@@ -8,10 +8,10 @@ use std::alloc::{AllocError, Global};
 use std::collections::BTreeSet;
 use std::fmt;
 
-/// A read of a virtual register that comes before each write on a path from the entry.
+/// A read of a vreg that comes before each write on a path from the entry.
 #[derive(Drop)]
 pub struct UnwrittenRead {
-    /// The virtual register.
+    /// The vreg.
     pub vreg: VReg,
     /// What reads it: an operand, or the instruction that passes it as an argument.
     pub site: Site,
@@ -32,18 +32,18 @@ impl fmt::Display for UnwrittenRead {
     }
 }
 
-/// A virtual register that a block reads before it writes it, itself or in a block behind it.
+/// A vreg that a block reads before it writes it, itself or in a block behind it.
 #[derive(Clone, Copy)]
 struct Need {
     block: u32,
-    /// The word of the virtual register.
+    /// The word of the vreg.
     vreg: u32,
     site: Site,
     /// The need of the block behind from which this one came.
     behind: Option<usize>,
 }
 
-/// Needs in the order in which they are found, each block and virtual register once.
+/// Needs in the order in which they are found, each block and vreg once.
 #[derive(Drop)]
 struct Search {
     needs: Vec<Need>,
@@ -53,7 +53,7 @@ struct Search {
 }
 
 impl Search {
-    /// Adds a need, if the block's need of that virtual register is new.
+    /// Adds a need, if the block's need of that vreg is new.
     fn add(&mut self, need: Need) -> Result<(), AllocError> {
         let pair = (need.block, need.vreg);
         if self.known.contains(&pair) {
@@ -64,7 +64,7 @@ impl Search {
         Ok(())
     }
 
-    /// Adds a need of a read, unless the block writes the virtual register before.
+    /// Adds a need of a read, unless the block writes the vreg before.
     fn read(&mut self, block: u32, vreg: u32, site: Site) -> Result<(), AllocError> {
         if self.written.contains(&(block, vreg)) {
             return Ok(());
@@ -169,7 +169,7 @@ impl Search {
         Ok(())
     }
 
-    /// Passes a need on to the blocks that lead to its block, unless they write the virtual register.
+    /// Passes a need on to the blocks that lead to its block, unless they write the vreg.
     fn pass(&mut self, index: usize, need: Need, preds: &[u32]) -> Result<(), AllocError> {
         for pred in preds {
             if !self.written.contains(&(*pred, need.vreg)) {
@@ -252,7 +252,7 @@ fn edges_into(alloc: Global, function: &StoredFunction) -> Result<Vec<Vec<u32>>,
 
 /// A read that comes before each write on a path from the entry, on a path of as few blocks as there is one. Nothing if there is no such read.
 ///
-/// Each pair of a block and a virtual register that it needs at its beginning is handled once for each edge into the block. The error is
+/// Each pair of a block and a vreg that it needs at its beginning is handled once for each edge into the block. The error is
 /// that memory ran out.
 pub fn find_unwritten_read(
     alloc: Global,

@@ -1,4 +1,4 @@
--- The places of debug locations: each is one where its label's virtual register may be, and so they are as `run` promises them.
+-- The places of debug locations: each is one where its label's vreg may be, and so they are as `run` promises them.
 use Rattle.std.proofs.Common.{if◌then◌else◌, ℕ, ◌≡◌, ◌≢◌, ◌+◌, ◌<◌, false, inl, inr, List, length, map, nat_eq, refl, sym, ap, ◌∙◌}
 use Rattle.std.proofs.Common.{subst, arith, slice_index, slice_index_or}
 use Rattle.std.specs.Prelude.{All, None, Option, Some}
@@ -73,7 +73,7 @@ module _ (env : MachineValue) (f : FunctionValue) (limited : IsLimited f) (ok : 
       shown_stands l.vreg (pointed_made f l.vreg range.kept.0) (slot_name t.slots k.range.vreg.number)
       (ap (λ (v : VirtualRegister). slot_name t.slots v.number) (sym range.vreg)) k.range.by range.by
 
-  -- each debug location is a label's, and is where its virtual register may
+  -- each debug location is a label's, and is where its vreg may
   pub locations_stand : (ds : List DebugLocation) → AreLocated f t.slots offsets allocs ds → All (IsOfLabel f env (Made f) t.slots) ds
   locations_stand ds a =
       All-permutation (IsOfLabel f env (Made f) t.slots) (map (location_shown t.slots offsets allocs) a.kept) ds a.same

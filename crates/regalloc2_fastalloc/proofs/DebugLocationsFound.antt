@@ -69,7 +69,7 @@ pub pointed_made : (f : FunctionValue) (v : VirtualRegister) {p : ℕ} → IsFir
 pointed_made f v (of_definition i d) = made_by_definition f v i d
 pointed_made f v (of_parameter b lt h) = made_by_parameter f v b lt h
 
--- the operand that shows a virtual register is one of the function's
+-- the operand that shows a vreg is one of the function's
 pub operand_within : (f : FunctionValue) (v : VirtualRegister) (by : Option InstOperand) → IsShownBy f v by → (o : InstOperand) → by ≡ Some o →
     (o.inst < length f.insts) × (o.index < length (inst_at f o.inst).operands) × ((op_at (inst_at f o.inst).operands o.index).vreg ≡ v)
 operand_within f v by shown o is =

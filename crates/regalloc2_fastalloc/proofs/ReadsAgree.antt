@@ -149,7 +149,7 @@ module _ (walk : WholeWalk) (taken : AreTaken walk.f) (in_place : (i : ℕ) → 
           subst (λ r. HoldsValueAt f out ws r v) (is_numbered last.slots.count q (whole.below v.number) there)
           (made_live_stand written ws path entered v q live (at ∙ opt_some q there))
 
-  -- the place by which a label's virtual register is shown holds its value
+  -- the place by which a label's vreg is shown holds its value
   pub made_label_shown : MachineFits f env → SlotsHaveOneOwner last.slots → ((i : ℕ) → i < length f.insts → IsTame (Made f) (inst_at f i).operands) →
       IsWrittenFirst f → (l : Label) (r : LiveRange) → IsKeptRange f l r →
       ShowsValue f out l.vreg (shown_place out (slot_name last.slots r.vreg.number) r.by)

@@ -1,4 +1,4 @@
--- Functions with registers for all virtual registers: what they name, as a list.
+-- Functions with registers for all vregs: what they name, as a list.
 use Rattle.std.proofs.Common.{ℕ, zero, suc, ◌≡◌, ◌<◌, ◌≤◌, inl, inr, List, [], ◌∷◌, ◌++◌, true, length, refl, arith}
 use Rattle.std.specs.Prelude.{Contains, map, slice_index_or}
 use Rattle.std.proofs.lemmas.List.Elements.{Contains-append_cases, Contains-append_left, Contains-append_right}

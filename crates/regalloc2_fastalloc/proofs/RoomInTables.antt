@@ -1,4 +1,4 @@
--- The tables of the walk have an entry for each virtual register that a well-formed function defines.
+-- The tables of the walk have an entry for each vreg that a well-formed function defines.
 use Rattle.std.proofs.Common.{ℕ, ◌≡◌, ◌<◌, ◌∙◌, length, sym, ap, inl, inr, arith}
 use Rattle.std.specs.Prelude.{slice_index_or}
 use Rattle.std.proofs.lemmas.List.{get_or_default, get_or_past}

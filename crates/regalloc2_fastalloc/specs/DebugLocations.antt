@@ -1,5 +1,5 @@
 -- The debug locations of a function, by the places that the walk leaves.
--- The labels that are kept, and the operand whose place shows a virtual register, are those of regalloc2_analysis/specs/LiveRanges/LiveRanges.antt.
+-- The labels that are kept, and the operand whose place shows a vreg, are those of regalloc2_analysis/specs/LiveRanges/LiveRanges.antt.
 use Rattle.std.specs.Prelude.{ℕ, ◌≡◌, ◌+◌, ◌<◌, List, length, map, slice_index, slice_index_or, Option, None, Some, if◌then◌else◌, IsPermutation}
 use Rattle.std.specs.Ordering.{nat_cmp}
 use Rattle.std.specs.List.Sorted.{IsNonDecreasingBy, IsStableByKey}
@@ -21,7 +21,7 @@ abbrev pub place_by : List ℕ → List Place → Option InstOperand → Place
 place_by offsets allocs None = NoPlace
 place_by offsets allocs (Some o) = operand_place offsets allocs o
 
--- The place that shows a live range's virtual register: its slot where it has one, else that of the operand which the range names.
+-- The place that shows a live range's vreg: its slot where it has one, else that of the operand which the range names.
 abbrev pub place_shown : SpillSlotsValue → List ℕ → List Place → LiveRange → Place
 place_shown slots offsets allocs r = if is_no_place (slot_name slots r.vreg.number) then place_by offsets allocs r.by else slot_name slots r.vreg.number
 
@@ -37,7 +37,7 @@ pub record AreLocated (f : FunctionValue) (slots : SpillSlotsValue) (offsets : L
   pub rising : IsNonDecreasingBy (λ d. d.label) ds
   pub stable : IsStableByKey (λ d. d.label) nat_cmp (map (location_shown slots offsets allocs) kept) ds
 
--- what the place of a live range is found by: its virtual register is one of the table, and the operand that it names has a place
+-- what the place of a live range is found by: its vreg is one of the table, and the operand that it names has a place
 pub record HasPlace (slots : SpillSlotsValue) (offsets : List ℕ) (allocs : List Place) (r : LiveRange) : Type 0 where
   pub vreg : r.vreg.number < length slots.vreg_spillslots
   pub inst : (o : InstOperand) → r.by ≡ Some o → o.inst < length offsets

@@ -33,7 +33,7 @@ abbrev pub ReadsNumbers : FunctionValue → Type 0
 ReadsNumbers f = (meaning : Meaning) (ws : List Way) → IsPath f ws → All (All IsSome) (numbers f meaning (source_reads f) ws).history
 
 -- The allocated program runs as the function does, along every path from the entry: at each step each use finds in its place the function's
--- own write, each place meets its constraint, and no move goes from a place in memory to another; and so each use reads the function's own
+-- own write, each place meets its constraint, and no move goes from a stack place to another; and so each use reads the function's own
 -- number, whatever the instructions mean.
 pub record RunsAsTheFunction (f : FunctionValue) (env : MachineValue) (out : OutputValue) : Type 0 where
   pub faithful : IsFaithful f env out
@@ -59,7 +59,7 @@ pub data ArrivesAt (f : FunctionValue) (out : OutputValue) (slot : VirtualRegist
       ((e k n j : ℕ) → IsEdgeInto f b e k → n < length (block_at f b).params → slice_index_or (block_at f b).params n no_vreg ≡ v →
       DefinesNumber (last_operands f e) (argument_for f e k n).number j → ⊥) → ArrivesAt f out slot b v (InSlot (slot v))
 
--- Between blocks values are in memory, but for what the branch between them defines: each virtual register has one slot, and on every path, where it comes to a
+-- Between blocks values are on the stack, but for what the branch between them defines: each vreg has one slot, and on every path, where it comes to a
 -- block, the place of each that is live there holds its value, also those of the block's parameters.
 pub record LiveInSlots (f : FunctionValue) (out : OutputValue) : Type 0 where
   pub slot : VirtualRegister → ℕ
@@ -83,30 +83,30 @@ pub record ServesBranch (out : OutputValue) (n i time : ℕ) : Type 0 where
 abbrev pub BranchSlotsServe : FunctionValue → OutputValue → (ℕ → Owner) → Type 0
 BranchSlotsServe f out owner = (n i : ℕ) (class : RegClass) (time : ℕ) → IsSlotOf f out n → owner n ≡ OfBranch i class time → ServesBranch out n i time
 
--- an operand that names the virtual register has the place
+-- an operand that names the vreg has the place
 abbrev pub IsPlaceOfOperand : FunctionValue → OutputValue → VirtualRegister → Place → Type 0
 IsPlaceOfOperand f out v p = (i k : ℕ) × (d : OperandValue) × (i < length f.insts) × (k < length (inst_at f i).operands)
     × ((slice_index_or (inst_at f i).operands k d).vreg ≡ v) × (place_at (allocs_of out i) k ≡ p)
 
--- A place of a virtual register: an operand that names it is there, or it is the slot that it owns.
+-- A place of a vreg: an operand that names it is there, or it is the slot that it owns.
 abbrev pub IsPlaceOf : FunctionValue → OutputValue → (ℕ → Owner) → VirtualRegister → Place → Type 0
 IsPlaceOf f out owner v p = IsPlaceOfOperand f out v p ⊎ ((n : ℕ) × (p ≡ InSlot n) × (owner n ≡ OfVReg v))
 
--- The debug locations are those of the labels that are kept, each from its virtual register's first point to its last one, by rising label,
--- and as listed where labels are equal. Each place is proper, and one of that virtual register; and where no path from the entry reads a
--- virtual register before writing it, it holds that one's value.
+-- The debug locations are those of the labels that are kept, each from its vreg's first point to its last one, by rising label,
+-- and as listed where labels are equal. Each place is proper, and one of that vreg; and where no path from the entry reads a
+-- vreg before writing it, it holds that one's value.
 abbrev pub ShowsLabels : FunctionValue → MachineValue → OutputValue → (ℕ → Owner) → Type 0
 ShowsLabels f env out owner = AreDebugLocations f (λ l d. IsProperPlace env out l.vreg.class d.place × IsPlaceOf f out owner l.vreg d.place
     × (IsWrittenFirst f → ShowsValue f out l.vreg d.place)) out
 
--- an operand of the function names the virtual register
+-- an operand of the function names the vreg
 abbrev pub IsNamed : FunctionValue → VirtualRegister → Type 0
 IsNamed f v = (i k : ℕ) × (i < length f.insts) × (k < length (inst_at f i).operands) × ((op_at (inst_at f i).operands k).vreg ≡ v)
 
 abbrev pub have_same_number : VirtualRegister → VirtualRegister → Bool
 have_same_number v w = nat_eq v.number w.number
 
--- A function of one block, all of whose operands are under `Reg`, without clobbers, which names no more virtual registers of a class than
+-- A function of one block, all of whose operands are under `Reg`, without clobbers, which names no more vregs of a class than
 -- registers of it may be allocated.
 pub record HasRegistersForAll (f : FunctionValue) (env : MachineValue) : Type 0 where
   pub one_block : length f.blocks ≡ 1
@@ -116,19 +116,19 @@ pub record HasRegistersForAll (f : FunctionValue) (env : MachineValue) : Type 0 
       length vs ≤ allocatable_count env class
 
 -- The whole promise about an output. Only `faithful`, `live` and the last part of `labels` have a premise: that no path from the entry
--- reads a virtual register before writing it.
+-- reads a vreg before writing it.
 --     in_order            offsets and moves are in order, and no move names a missing place
 --     constraints         each operand's place meets its constraint, whether a path reaches it or not
 --     proper              each operand's place, and each end of a move, is one of the machine's or a slot below the count
---     no_stack_to_stack   no move goes from a place in memory to another
+--     no_stack_to_stack   no move goes from a stack place to another
 --     listed              each move is listed, none after the last instruction of a block
 --     faithful            the output runs as the function does
 --     live                values that are live between blocks are in their slots, or where the branch between them defined them
 --     slots               slots take few units
---     unspilled           where each virtual register can have a register of its own, there are no moves and no slots
---     owners              slots are memory: each that is named has one owner, a virtual register or a branch, and units of its own, of its owner's class
+--     unspilled           where each vreg can have a register of its own, there are no moves and no slots
+--     owners              slots are memory: each that is named has one owner, a vreg or a branch, and units of its own, of its owner's class
 --     branch_slots        a branch owns two slots for a class at most, and only moves at the point before it name them
---     labels              debug locations are those of the labels that are kept, and name places of their virtual registers, which hold their values
+--     labels              debug locations are those of the labels that are kept, and name places of their vregs, which hold their values
 pub record IsAllocation (f : FunctionValue) (env : MachineValue) (out : OutputValue) : Type 0 where
   pub in_order : IsInOrder f out
   pub constraints : (i : ℕ) → i < length f.insts → ConstraintsMet f env out i

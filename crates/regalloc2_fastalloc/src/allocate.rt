@@ -58,7 +58,7 @@ fn fill_places<A: Allocator + Copy, F: Function, B: Allocator>(
     let vregs = table_length(f);
     let mut state = State::new(&alloc, f, env, vregs)?;
     state.alloc_blocks(&alloc, f, offsets, allocs)?;
-    // what only the walk needs is let go first: to locate labels takes tables by virtual register, too
+    // what only the walk needs is let go first: to locate labels takes tables by vreg, too
     drop(state.places);
     drop(state.registers);
     let debug_locations = debug::locations(alloc, f, &state.slots, offsets, allocs)?;

@@ -1,4 +1,4 @@
-//! The debug locations of an output: where the values of labelled virtual registers are located.
+//! The debug locations of an output: where the values of labelled vregs are located.
 
 ghost use Rattle.std.specs.Prelude.{◌≡◌, ◌<◌, ℕ, All, IfErr, IfOk, length, map, slice_index};
 ghost use Rattle.regalloc2_function.specs.FunctionValue.{inst_at, operand_count};

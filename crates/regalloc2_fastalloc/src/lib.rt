@@ -1,5 +1,5 @@
 //! The fast allocator: one walk from the last instruction to the first, which gives a register to each operand as it meets
-//! it, and moves virtual registers to spill slots where registers run out.
+//! it, and moves vregs to spill slots where registers run out.
 //!
 //! [`run`] allocates a function: it makes the tests, walks by `regalloc2_fastalloc_walk`, and assembles the output. Upstream's module
 //! `fastalloc` does the same, reached by its crate's `run`.
@@ -28,7 +28,7 @@ mod debug;
 /// An algorithm of register allocation. Upstream has a second one, `Ion`, which is left out.
 #[derive(Clone, Copy, Debug, Default, PartialEq, Eq)]
 pub enum Algorithm {
-    /// The fast allocator: one backward walk, and a spill slot for each virtual register that needs one.
+    /// The fast allocator: one backward walk, and a spill slot for each vreg that needs one.
     #[default]
     Fastalloc,
 }
@@ -91,19 +91,19 @@ impl<A: Allocator + Copy> Ctx<A> {
 ///
 /// The machine suits the function (`machine_fits` tests that). Where `options.validate_ssa` is false the function is
 /// well-formed; else that is tested. The output is in order; each operand's place is proper and meets its constraint, also in
-/// instructions that no path reaches; each end of a move is proper, and no move goes from a place in memory to another; and
+/// instructions that no path reaches; each end of a move is proper, and no move goes from a stack place to another; and
 /// each move is listed, none after the last instruction of a block. Slots are memory: each that the output names belongs to
-/// one virtual register, and is where its operands stand that are in slots, or to one branch. A branch owns at most two slots for each
+/// one vreg, and is where its operands stand that are in slots, or to one branch. A branch owns at most two slots for each
 /// class, and only moves at the point before the branch name them. Each slot takes as many units as its owner's class wants, aligned to
 /// that number, below the count, and no other slot has one of them; and both ends of a move are of one class. The debug locations are
-/// those of the labels that are kept, by rising label. Each is from the first point of its virtual register to the last one, in a proper
-/// place: that of an operand of the virtual register, or the slot that it owns. All that is promised of an output is one record,
+/// those of the labels that are kept, by rising label. Each is from the first point of its vreg to the last one, in a proper
+/// place: that of an operand of the vreg, or the slot that it owns. All that is promised of an output is one record,
 /// `IsAllocation`, in `specs/Promise.antt`.
 ///
-/// If no path from the entry reads a virtual register before writing it, the output runs as the function does: along every
+/// If no path from the entry reads a vreg before writing it, the output runs as the function does: along every
 /// path, and whatever the instructions mean, each use reads the function's own value. Where a path comes to a block, the slot of
-/// each virtual register that is live there holds its value; but what the branch into the block defines is still in the place of the
-/// branch's operand, and so is each parameter that is given it. And the place of each debug location holds its virtual register's
+/// each vreg that is live there holds its value; but what the branch into the block defines is still in the place of the
+/// branch's operand, and so is each parameter that is given it. And the place of each debug location holds its vreg's
 /// value, from where that is given up to each step that uses it, at all steps but branches. That premise isn't tested here.
 ///
 /// Errors come in this order: 2^32 operands or more, by `TooManyOperands`; where `options.validate_ssa` is true, first
@@ -114,18 +114,18 @@ impl<A: Allocator + Copy> Ctx<A> {
 /// found for an operand or a move: that happens only where some instruction doesn't fit, by `Fits`: it asks for more
 /// registers of a class than there are, or for a fixed one that the machine lacks or another operand holds. Or
 /// `TooManySpillSlots`, when a slot would end past 2^24: that happens only where `units_at_most` passes 2^24, which is twice
-/// the size of the greatest slot, for each virtual register and six times for each block. Slots take no more units than
+/// the size of the greatest slot, for each vreg and six times for each block. Slots take no more units than
 /// that, and at most 2^24. `Memory` comes when memory runs out, never from the first test, which asks for none.
 ///
 /// Not promised: that `TooManyLiveRegs` comes wherever an instruction doesn't fit, nor that `Memory` comes only where memory ran
 /// out, of which the contract says that the first test passes.
 ///
-/// A reuse is sound where it is a late definition that names an early use, which no other one names, of a virtual register of
+/// A reuse is sound where it is a late definition that names an early use, which no other one names, of a vreg of
 /// its class, in any register or fixed to an allocatable one. No definition, late use or reused operand may be fixed to a
 /// clobber of its instruction.
 ///
 /// The contract doesn't say which registers are chosen, nor how many moves are made, but for one kind of function: where there is
-/// one block, all operands are under `Reg`, nothing is clobbered and each virtual register can have a register of its own, there
+/// one block, all operands are under `Reg`, nothing is clobbered and each vreg can have a register of its own, there
 /// are no moves and no slots. Upstream's `run` makes the same tests in another order, and takes reuses and fixed registers for
 /// granted.
 pub fn run<A: Allocator + Copy, F: Function, B: Allocator>(

@@ -52,7 +52,7 @@ temp_slots_at f i = if (inst_at f i).is_branch then 6 else 0
 abbrev pub MayBeAllocated : FunctionValue → Type 0
 MayBeAllocated f = (env : MachineValue) × IsWellFormed env f
 
--- each virtual register that the function defines has a number below n
+-- each vreg that the function defines has a number below n
 abbrev pub DefinesBelow : FunctionValue → ℕ → Type 0
 DefinesBelow f n = (v : VirtualRegister) (point : ℕ) → IsDefinedBy f v point → v.number < n
 

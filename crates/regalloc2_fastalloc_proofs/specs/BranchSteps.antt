@@ -39,7 +39,7 @@ MayBeScratch inst_regs t class r = (slice_index_or t.dedicated_scratch (class_co
 abbrev pub IsScratchRegFor : InstRegs → StateValue → RegClass → Place → Type 0
 IsScratchRegFor inst_regs t class p = (r : Register) × (p ≡ InRegister r) × MayBeScratch inst_regs t class r
 
--- no allocatable register, and none that is kept for moves, is in memory
+-- no allocatable register, and none that is kept for moves, is on the stack
 pub record RegsAvoidStack (t : StateValue) : Type 0 where
   pub allocatable : (r : Register) → has_register t.allocatable r ≡ true → has_register t.fixed_stack r ≡ false
   pub dedicated_scratch : (class : RegClass) (r : Register) → slice_index_or t.dedicated_scratch (class_code class) None ≡ Some r

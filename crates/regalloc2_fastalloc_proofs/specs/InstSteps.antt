@@ -80,7 +80,7 @@ SameButOrder old new = new ≡ record old { lrus = new.lrus }
 abbrev pub a_move : ℕ → Place → Place → ℕ × MoveValue
 a_move point from to = (point, record { from = from; to = to })
 
--- a place in memory
+-- a stack place
 abbrev pub is_stack_in : StateValue → Place → Bool
 is_stack_in t p = is_memory t.fixed_stack p
 
@@ -127,7 +127,7 @@ abbrev pub AllocScratchReg : ℕ → RegClass → InstRegs → StateValue → Ou
 AllocScratchReg point class t old (next (by, u) new) = AllocsScratchReg point class t u by old new
 AllocScratchReg point class t old no_register = LacksScratchReg class t old
 
--- one more move, listed before all others, by way of a register where both ends are places in memory
+-- one more move, listed before all others, by way of a register where both ends are stack places
 pub data AddMove (point : ℕ) (class : RegClass) (from to : Place) (t : InstRegs) (old : StateValue) : Outcome InstRegs → Type 0 where
   direct : {u : InstRegs} {new : StateValue} → (is_stack_in old from && is_stack_in old to) ≡ false → u ≡ t →
       new ≡ record old { edits = old.edits ++ a_move point from to ∷ [] } → AddMove point class from to t old (next u new)

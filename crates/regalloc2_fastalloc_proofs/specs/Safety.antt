@@ -60,7 +60,7 @@ pub record IsArgMove (env : MachineValue) (Known : VirtualRegister → Type 0) (
   pub written : (n : ℕ) → e.1.to ≡ InSlot n → ((v : VirtualRegister) × Known v × (slot_name slots v.number ≡ InSlot n) × Writes e.0 v n)
       ⊎ ((v : VirtualRegister) → Known v → slot_name slots v.number ≢ InSlot n)
 
--- a move of either kind, not from a place in memory to another, at a point where moves may be
+-- a move of either kind, not from a stack place to another, at a point where moves may be
 pub record IsSafeEdit (env : MachineValue) (Known : VirtualRegister → Type 0) (Writes : ℕ → VirtualRegister → ℕ → Type 0) (slots : SpillSlotsValue)
     (May : ℕ → Type 0) (e : ℕ × MoveValue) : Type 0 where
   pub moves : IsMoveOfValue env Known Writes slots e ⊎ IsArgMove env Known Writes slots e

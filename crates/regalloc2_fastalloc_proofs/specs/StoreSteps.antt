@@ -49,7 +49,7 @@ abbrev pub IsConcerned : FunctionValue → ℕ → ℕ → VirtualRegister → T
 IsConcerned f e k v = ((j : ℕ) × DefinesNumber (branch_operands f e) v.number j × ((op_at (branch_operands f e) j).vreg ≡ v))
     ⊎ ((n : ℕ) × (n < length (block_at f (target_at f e k)).params) × (slice_index_or (block_at f (target_at f e k)).params n no_vreg ≡ v))
 
--- a store from memory goes by way of a register: the machine's own for moves of the class, or an allocatable one
+-- a store from the stack goes by way of a register: the machine's own for moves of the class, or an allocatable one
 pub record IsByWay (t : StateValue) (class : RegClass) (s : Store) : Type 0 where
   pub direct : s.by ≡ None → is_memory t.fixed_stack s.from ≡ false
   pub through : (q : Place) → s.by ≡ Some q → (r : Register) × (q ≡ InRegister r)
@@ -86,7 +86,7 @@ pub data StoresBranchDefs (f : FunctionValue) (b : ℕ) (old new : StateValue) :
   none_stored : ((e k : ℕ) → IsEdgeInto f b e k → ⊥) → new ≡ old → StoresBranchDefs f b old new
   all_stored : (e k : ℕ) → IsEdgeInto f b e k → StoresOn f e k (before (block_at f b).range.first) old new → StoresBranchDefs f b old new
 
--- a store goes from memory to memory, and its class has no allocatable register
+-- a store goes from stack to stack, and its class has no allocatable register
 pub record StoreHasNoRegister (f : FunctionValue) (b : ℕ) (old : StateValue) : Type 0 where
   pub from : ℕ
   pub position : ℕ

@@ -144,7 +144,7 @@ impl<A: Allocator> AllocatableRegs<A> {
         self.of_class(class).max_preg()
     }
 
-    /// Whether the place is in memory: a spill slot or a fixed stack slot.
+    /// Whether the place is on the stack: a spill slot or a fixed stack slot.
     pub fn is_stack(&self, place: Allocation) -> bool
         ensures { result ≡ is_memory self.now.fixed_stack place }
     {

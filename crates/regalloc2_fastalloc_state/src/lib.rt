@@ -1,4 +1,4 @@
-//! The parts of the fast allocator's state: locations of virtual registers, their spill slots, the registers that may be allocated,
+//! The parts of the fast allocator's state: locations of vregs, their spill slots, the registers that may be allocated,
 //! the moves that are added, and the registers of one instruction. They know nothing of instructions.
 #![tactic(auto)]
 

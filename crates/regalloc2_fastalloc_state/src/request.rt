@@ -10,7 +10,7 @@ pub enum Requirement {
     AnyPlace,
     /// A register that is no fixed stack slot.
     AnyReg,
-    /// A place in memory.
+    /// A stack place.
     InMemory,
     /// That register, or fixed stack slot.
     InPReg(PReg),
@@ -19,7 +19,7 @@ pub enum Requirement {
 /// An operand that is to be allocated.
 #[derive(Clone, Copy)]
 pub struct OperandRequest {
-    /// The virtual register that it names.
+    /// The vreg that it names.
     pub vreg: VReg,
     /// What it asks of its place.
     pub requirement: Requirement,

@@ -1,4 +1,4 @@
--- What a block's beginning stores: the values that are listed, moved as they are found and pushed, the ones from memory first, are the stores on the edge.
+-- What a block's beginning stores: the values that are listed, moved as they are found and pushed, the ones from the stack first, are the stores on the edge.
 use Rattle.std.proofs.Common.{ℕ, zero, suc, ◌≡◌, ◌≢◌, ◌+◌, ◌<◌, ◌≤◌, ◌⊎◌, Bool, true, false, List, [], ◌∷◌, ◌++◌, length, inl, inr, refl, sym, ap, ◌∙◌}
 use Rattle.std.proofs.Common.{subst, arith, eq-eqb}
 use Rattle.std.specs.Prelude.{Option, None, Some, IsSome, not, sum_by, slice_index_or, if◌then◌else◌}
@@ -246,7 +246,7 @@ module _ (t : StateValue) (apart : RegsAvoidStack t) where
   unfolding AreInOrder
   empty_order = tt
 
-  -- where moves go to memory and don't meet, what is made of them is in order, with more behind it
+  -- where moves go to the stack and don't meet, what is made of them is in order, with more behind it
   in_order : (fm : Bool) (ms : List PlaceMove) (ss : List Store) → AreMadeOf t fm ms ss → ((i : ℕ) → i < length ms → Memory (move_at ms i).to ≡ true) →
       ((i j : ℕ) → i < length ms → j < length ms → i ≢ j → Separate (move_at ms i) (move_at ms j)) → (rest : List Store) → AreInOrder Memory rest →
       ((x : Store) → IsOneOf x rest → (fm ≡ false) × ((i : ℕ) → i < length ms → Memory (move_at ms i).from ≡ fm →
@@ -285,7 +285,7 @@ module _ (t : StateValue) (apart : RegsAvoidStack t) where
         (λ x one. ((behind x one).0, λ i lt from. (behind x one).1 (suc i) (omega (arith, lt)) from)),
   )
     where
-      -- one that goes by way of a register is from memory
+      -- one that goes by way of a register is from the stack
       by_memory : (q : Place) → s.by ≡ Some q → fm ≡ true
       by_memory q by = elim (cases_Bool (Memory m.from)) [
         | inl yes_memory ↦ sym is ∙ yes_memory
@@ -437,7 +437,7 @@ module _ (at_edge : EdgeStores) where
       by_list (x ∷ xs) is = absurd (none (store_at ds 0).index (store_at ds 0).to (lists.each 0 no_store (let l = ap length is in omega (arith, l))))
       by_list [] is = no_slots_made f e t ds (length ds) ms s finds (ap length is)
 
-  -- Pushed, the ones from memory first, they are the stores on the edge.
+  -- Pushed, the ones from the stack first, they are the stores on the edge.
   pub stores_on : {point : ℕ} → SameMachine t (record t { slots = s }) → {u w : StateValue} → PushesStores point true ms (record t { slots = s }) u →
       PushesStores point false ms u w → StoresOn f e k point t w
   stores_on {point} machine {u} {w} p q = record {

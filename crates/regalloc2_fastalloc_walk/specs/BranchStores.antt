@@ -74,14 +74,14 @@ pub data FindsStores (operands : List OperandValue) (stores : List StoredDef) (o
       FindsStore (op_at operands (slice_index_or stores k no_store).index) (slice_index_or stores k no_store).to m s t
       → FindsStores operands stores old (k + 1) (ms ++ m ∷ []) t
 
--- a move, as it is made: by way of a register where it is from memory
+-- a move, as it is made: by way of a register where it is from the stack
 pub record IsMadeOf (t : StateValue) (m : PlaceMove) (s : Store) : Type 0 where
   pub from : s.from ≡ m.from
   pub to : s.to ≡ m.to
   pub direct : is_memory t.fixed_stack m.from ≡ false → s.by ≡ None
   pub by_way : IsByWay t m.class s
 
--- those from memory, or those that aren't, in their order
+-- those from the stack, or those that aren't, in their order
 pub data AreMadeOf (t : StateValue) (from_memory : Bool) : List PlaceMove → List Store → Type 0 where
   none_made : AreMadeOf t from_memory [] []
   passed_over : (m : PlaceMove) (ms : List PlaceMove) (ss : List Store) → is_memory t.fixed_stack m.from ≡ not from_memory → AreMadeOf t from_memory ms ss →
@@ -104,7 +104,7 @@ abbrev pub PushStores : ℕ → Bool → List PlaceMove → StateValue → Outco
 PushStores point from_memory ms old (next x new) = PushesStores point from_memory ms old new
 PushStores point from_memory ms old no_register = LacksStoreReg old ms
 
--- a store, by way of a register where it is from memory
+-- a store, by way of a register where it is from the stack
 abbrev pub PushStore : ℕ → PlaceMove → StateValue → Outcome (Unit {0}) → Type 0
 PushStore point m old (next x new) = (s : Store) × IsMadeOf old m s × (new ≡ record old { edits = old.edits ++ pushed_moves point (moves_by s.from s.by s.to) })
 PushStore point m old no_register = NoneIsFrom old.allocatable m.class 0

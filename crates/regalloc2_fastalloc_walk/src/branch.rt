@@ -268,7 +268,7 @@ impl<'a, A: Allocator> State<'a, A> {
     }
 
     /// Pushes one move from slot to slot, made by way of a register: the last one pushed is listed first. `push_some` would push just
-    /// these two, since both ends are in memory and the register is the first that it would take. Left out is what needs more than one
+    /// these two, since both ends are on the stack and the register is the first that it would take. Left out is what needs more than one
     /// move: putting them in order, a second register and temporary slots.
     #[inline(never)]
     fn push_one(

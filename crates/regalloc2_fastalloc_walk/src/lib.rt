@@ -1,5 +1,5 @@
 //! The fast allocator's walk: from the last instruction to the first it gives a place to each operand as it meets it, and
-//! moves virtual registers to spill slots where registers run out.
+//! moves vregs to spill slots where registers run out.
 //!
 //! [`state::State::alloc_blocks`] is the whole walk. Its contract, and those of its parts, say what is done to the
 //! state by the relations of `regalloc2_fastalloc_proofs`. What an output then promises is said by `regalloc2_fastalloc`.

@@ -194,7 +194,7 @@ impl<'a, A: Allocator> State<'a, A> {
         }
     }
 
-    /// Pushes a store, by way of a register where it is from memory.
+    /// Pushes a store, by way of a register where it is from the stack.
     fn push_store(
         &mut self,
         point: ProgPoint,
@@ -215,7 +215,7 @@ impl<'a, A: Allocator> State<'a, A> {
         Ok(())
     }
 
-    /// Pushes the stores from memory, or those from registers, the last one first.
+    /// Pushes the stores from the stack, or those from registers, the last one first.
     fn push_stores(
         &mut self,
         point: ProgPoint,

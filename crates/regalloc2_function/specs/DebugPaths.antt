@@ -1,6 +1,6 @@
--- Where the value of a labelled virtual register stands along a path.
+-- Where the value of a labelled vreg stands along a path.
 -- Upstream's locations say from where to where; that the value really stands there is this project's own definition.
--- `run` promises it of each debug location, where no path reads a virtual register before writing it (`ShowsLabels`).
+-- `run` promises it of each debug location, where no path reads a vreg before writing it (`ShowsLabels`).
 use Rattle.std.specs.Prelude.{ℕ, ◌≡◌, ◌⊎◌, false, List, ◌∷◌, Contains, slice_index, Some}
 use Rattle.regalloc2_names.specs.Register.{VirtualRegister}
 use Rattle.regalloc2_names.specs.Place.{Place}

@@ -1,6 +1,6 @@
--- From where to where a virtual register's value can be shown, and the debug locations that an output has to give.
+-- From where to where a vreg's value can be shown, and the debug locations that an output has to give.
 -- The points are those of upstream's `vreg_to_live_inst_range`.
--- `run` promises `AreDebugLocations`, with proper places of the labels' virtual registers that hold their values (`ShowsLabels`).
+-- `run` promises `AreDebugLocations`, with proper places of the labels' vregs that hold their values (`ShowsLabels`).
 use Rattle.std.specs.Prelude.{ℕ, ◌≡◌, ◌+◌, ◌/◌, ◌<◌, ◌≤◌, ◌⊎◌, true, List, [], ◌∷◌, Contains, length, IsPermutation, slice_index_or}
 use Rattle.std.specs.Ordering.{nat_cmp}
 use Rattle.std.specs.List.Sorted.{IsNonDecreasingBy, IsStableByKey}
@@ -46,7 +46,7 @@ pub data IsLastPoint (f : FunctionValue) (v : VirtualRegister) : ℕ → Type 0 
   of_argument : (i : ℕ) → IsLastUse f v i → (ReadsAt f v Late i → ⊥) → (ReadsAt f v Early i → ⊥) → IsLastPoint f v (before i)
   of_definition : (i : ℕ) → DefinesAt f v i → ((j : ℕ) → UsesAt f v j → ⊥) → IsLastPoint f v (before (i + 1))
 
--- a label is kept with its virtual register's points where it starts at or after the first one's instruction and ends at most one past the last one's
+-- a label is kept with its vreg's points where it starts at or after the first one's instruction and ends at most one past the last one's
 abbrev pub IsKept : FunctionValue → Label → ℕ → ℕ → Type 0
 IsKept f l start end = IsFirstPoint f l.vreg start × IsLastPoint f l.vreg end × (start / 2 ≤ l.start) × (l.end ≤ end / 2 + 1)
 

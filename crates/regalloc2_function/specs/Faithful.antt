@@ -13,7 +13,7 @@ use Rattle.regalloc2_function.specs.Path.{Way, end_of, last_inst, IsPath}
 use Rattle.regalloc2_function.specs.SourceRun.{source_read}
 use Rattle.regalloc2_function.specs.AllocatedRun.{allocated_read, moves_at}
 
--- at the last step of a path each reading use finds in its place the write that its virtual register has, and there is one
+-- at the last step of a path each reading use finds in its place the write that its vreg has, and there is one
 abbrev pub ReadsAgree : FunctionValue → OutputValue → List Way → Type 0
 ReadsAgree f out ws = (k : ℕ) (d : OperandValue) → k < length (last_inst f ws).operands →
     let o : OperandValue = slice_index_or (last_inst f ws).operands k d in
@@ -44,7 +44,7 @@ abbrev pub ConstraintsMet : FunctionValue → MachineValue → OutputValue → �
 ConstraintsMet f env out i = (k : ℕ) (d : OperandValue) → k < length (inst_at f i).operands →
     Meets env (length (inst_at f i).operands) (allocs_of out i) (slice_index_or (inst_at f i).operands k d).constraint (place_at (allocs_of out i) k)
 
--- a move between two places in memory
+-- a move between two stack places
 abbrev pub IsStackToStack : MachineValue → MoveValue → Type 0
 IsStackToStack env m = IsStackPlace env m.from × IsStackPlace env m.to
 
@@ -58,7 +58,7 @@ pub record StepIsFaithful (f : FunctionValue) (env : MachineValue) (out : Output
 abbrev pub IsFaithful : FunctionValue → MachineValue → OutputValue → Type 0
 IsFaithful f env out = (ws : List Way) → IsPath f ws → StepIsFaithful f env out ws
 
--- no move at all goes from a place in memory to another, on a path or not
+-- no move at all goes from a stack place to another, on a path or not
 abbrev pub HasNoStackToStack : MachineValue → OutputValue → Type 0
 HasNoStackToStack env out = All (λ e. IsStackToStack env e.1 → ⊥) out.edits
 

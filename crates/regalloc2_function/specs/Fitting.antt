@@ -15,20 +15,20 @@ use Rattle.regalloc2_function.specs.OutputValue.{OutputValue, allocs_of, place_a
 use Rattle.regalloc2_function.specs.WellFormed.{EachOperand}
 use Rattle.regalloc2_function.specs.DebugPoints.{IsKept}
 
--- the arguments of a block that is nonempty and within the instructions name a virtual register of the class
+-- the arguments of a block that is nonempty and within the instructions name a vreg of the class
 abbrev pub NamesByArgument : FunctionValue → ℕ → RegClass → Type 0
 NamesByArgument f b class =
     (k : ℕ) × ((block_at f b).range.first < (block_at f b).range.end) × ((block_at f b).range.end ≤ length f.insts)
     × (k < length (block_at f b).succs) × SomeIn (λ v. v.class ≡ class) (slice_index_or (block_at f b).arguments k [])
 
--- an operand, a parameter or an argument names a virtual register of the class
+-- an operand, a parameter or an argument names a vreg of the class
 abbrev pub NamesClass : FunctionValue → RegClass → Type 0
 NamesClass f class =
     ((i : ℕ) × (i < length f.insts) × SomeIn (λ o. (is_fixed_nonallocatable o ≡ false) × (o.vreg.class ≡ class)) (inst_at f i).operands)
     ⊎ ((b : ℕ) × (b < length f.blocks) × (SomeIn (λ v. v.class ≡ class) (block_at f b).params ⊎ NamesByArgument f b class))
 
 -- For a class: its registers, preferred, non-preferred and scratch, are valid, of that class and apart; no fixed stack slot is one of them
--- or invalid; and there is a register to allocate if the function names a virtual register of the class.
+-- or invalid; and there is a register to allocate if the function names a vreg of the class.
 pub record ClassFits (f : FunctionValue) (env : MachineValue) (class : RegClass) : Type 0 where
   pub of_class : (r : Register) → is_allocatable env class r ≡ true → r.class ≡ class
   pub preferred_apart : (r : Register) → is_preferred env class r ≡ true → is_non_preferred env class r ≡ false
@@ -37,7 +37,7 @@ pub record ClassFits (f : FunctionValue) (env : MachineValue) (class : RegClass)
   pub slots_apart : All (λ r. (is_allocatable env class r ≡ false) × (scratch_of env class ≢ Some r) × (r ≢ invalid_register)) env.fixed_stack_slots
   pub has_a_register : NamesClass f class → (r : Register) × (is_allocatable env class r ≡ true)
 
--- the machine suits the function
+-- the machine fits the function
 abbrev pub MachineFits : FunctionValue → MachineValue → Type 0
 MachineFits f env = (class : RegClass) → ClassFits f env class
 
@@ -52,7 +52,7 @@ abbrev pub IsMoveEnd : MachineValue → OutputValue → Place → Type 0
 IsMoveEnd env out p = (c : RegClass) × (IsProperPlace env out c p ⊎ ((r : Register) × (scratch_of env c ≡ Some r) × (p ≡ InRegister r)))
 
 -- the places of all operands, moves and debug locations are proper; a debug location's is of the class of its own label, which has its
--- number, and whose virtual register has its points
+-- number, and whose vreg has its points
 pub record PlacesAreProper (f : FunctionValue) (env : MachineValue) (out : OutputValue) : Type 0 where
   pub operands : (i : ℕ) → i < length f.insts → EachOperand (inst_at f i) (λ k o.
       is_fixed_nonallocatable o ≡ false → IsProperPlace env out o.vreg.class (place_at (allocs_of out i) k))

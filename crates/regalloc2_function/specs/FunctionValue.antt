@@ -39,7 +39,7 @@ slot_size s Int = s.int
 slot_size s Float = s.float
 slot_size s Vector = s.vector
 
--- a label of a virtual register, from an instruction up to another
+-- a label of a vreg, from an instruction up to another
 pub record Label : Type 0 where
   pub vreg : VirtualRegister
   pub start : ℕ

@@ -1,5 +1,5 @@
 -- What places hold on every path.
--- This project's own: upstream's checker keeps a set of virtual registers for each place, and differs from it where a place is known to hold nothing.
+-- This project's own: upstream's checker keeps a set of vregs for each place, and differs from it where a place is known to hold nothing.
 use Rattle.std.specs.Prelude.{◌≡◌, List, length, Option, IsSome}
 use Rattle.regalloc2_names.specs.declared.OperandPos.{OperandPos}
 use Rattle.regalloc2_names.specs.Place.{Place}
@@ -20,7 +20,7 @@ cell_at f o ws position p =
 abbrev pub IsReached : FunctionValue → Location → Type 0
 IsReached f l = (ws : List Way) × IsPath f ws × (end_of f ws ≡ l)
 
--- on every path that reaches the position, the place holds the write that the virtual register has
+-- on every path that reaches the position, the place holds the write that the vreg has
 abbrev pub Holds : FunctionValue → OutputValue → Location → OperandPos → Place → VirtualRegister → Type 0
 Holds f o l position p v = (ws : List Way) → IsPath f ws → end_of f ws ≡ l →
     IsSome (cell_at f o ws position p) × (cell_at f o ws position p ≡ read_of position (source_before f ws v) (source_after f ws v))

@@ -17,14 +17,14 @@ pub record MachineValue : Type 0 where
   pub scratch : List (Option Register)
   pub fixed_stack_slots : List Register
 
--- whether a register is among those that are taken first for virtual registers of a class, or among those that are taken then
+-- whether a register is among those that are taken first for vregs of a class, or among those that are taken then
 abbrev pub is_preferred : MachineValue → RegClass → Register → Bool
 is_preferred env class r = has_register (slice_index_or env.preferred (class_code class) empty_set) r
 
 abbrev pub is_non_preferred : MachineValue → RegClass → Register → Bool
 is_non_preferred env class r = has_register (slice_index_or env.non_preferred (class_code class) empty_set) r
 
--- whether a register may be allocated to virtual registers of a class
+-- whether a register may be allocated to vregs of a class
 abbrev pub is_allocatable : MachineValue → RegClass → Register → Bool
 is_allocatable env class r = is_preferred env class r || is_non_preferred env class r
 
@@ -32,17 +32,17 @@ is_allocatable env class r = is_preferred env class r || is_non_preferred env cl
 abbrev pub scratch_of : MachineValue → RegClass → Option Register
 scratch_of env class = slice_index_or env.scratch (class_code class) None
 
--- whether a register stands for a place in memory
+-- whether a register stands for a stack place
 abbrev pub IsFixedStackSlot : MachineValue → Register → Type 0
 IsFixedStackSlot env r = Contains env.fixed_stack_slots r
 
--- a place in memory
+-- a stack place
 abbrev pub IsStackPlace : MachineValue → Place → Type 0
 IsStackPlace env NoPlace = ⊥
 IsStackPlace env (InRegister r) = IsFixedStackSlot env r
 IsStackPlace env (InSlot n) = Unit {0}
 
--- a register that is no place in memory
+-- a register that is no stack place
 abbrev pub IsPlainRegister : MachineValue → Place → Type 0
 IsPlainRegister env NoPlace = ⊥
 IsPlainRegister env (InRegister r) = IsFixedStackSlot env r → ⊥

@@ -25,7 +25,7 @@ pub record IsFirstIn {X : Type 0} (P : X → Type 0) (xs : List X) (x : X) : Typ
 abbrev pub no_instruction : ℕ
 no_instruction = 4294967295
 
--- a definition of a virtual register: the instruction that makes it, none for a parameter, and the point from which on it may be used
+-- a definition of a vreg: the instruction that makes it, none for a parameter, and the point from which on it may be used
 pub record DefinitionSite : Type 0 where
   pub vreg : VirtualRegister
   pub inst : ℕ
@@ -51,7 +51,7 @@ block_definitions f b = map (param_definition b.range.first) b.params ++ flat_ma
 abbrev pub definitions_in : FunctionValue → List DefinitionSite
 definitions_in f = flat_map (block_definitions f) f.blocks
 
--- how many of these define a virtual register of that number
+-- how many of these define a vreg of that number
 abbrev pub definitions_among : List DefinitionSite → ℕ → ℕ
 definitions_among ds n = count_by (λ d. nat_eq d.vreg.number n) ds
 
@@ -70,7 +70,7 @@ pub record IsFirstRepeat (f : FunctionValue) (v : VirtualRegister) (i : ℕ) : T
   pub single : AreSingle f.num_vregs earlier
   pub fails : AreSingle f.num_vregs (earlier ++ site ∷ []) → ⊥
 
--- an instruction that reads or passes a virtual register, and the point by which that has to be defined: before the instruction if it is read, after
+-- an instruction that reads or passes a vreg, and the point by which that has to be defined: before the instruction if it is read, after
 -- it if it is passed
 pub record UseSite : Type 0 where
   pub vreg : VirtualRegister

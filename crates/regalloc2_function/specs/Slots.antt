@@ -9,7 +9,7 @@ use Rattle.regalloc2_function.specs.FunctionValue.{FunctionValue, inst_at, slot_
 use Rattle.regalloc2_function.specs.OutputValue.{OutputValue, allocs_of, place_at}
 use Rattle.regalloc2_function.specs.WellFormed.{EachOperand}
 
--- whose values a slot takes: those of a virtual register, or what a branch's moves of arguments put aside, the first or a later time for a class
+-- whose values a slot takes: those of a vreg, or what a branch's moves of arguments put aside, the first or a later time for a class
 pub data Owner : Type 0 where
   OfVReg : VirtualRegister → Owner
   OfBranch : (branch : ℕ) (class : RegClass) (time : ℕ) → Owner
@@ -36,8 +36,8 @@ IsOfClass owner NoPlace class = ⊥
 IsOfClass owner (InRegister r) class = r.class ≡ class
 IsOfClass owner (InSlot n) class = class_of_owner (owner n) ≡ class
 
--- Each slot has an owner of its own, a virtual register or a branch; it stands for as many units as its owner's class takes, aligned to
--- that number and below the count; the units of two slots are apart; operands stand in their own virtual register's slot; and both ends of
+-- Each slot has an owner of its own, a vreg or a branch; it stands for as many units as its owner's class takes, aligned to
+-- that number and below the count; the units of two slots are apart; operands stand in their own vreg's slot; and both ends of
 -- a move are of one class.
 pub record AreSlotsOwned (f : FunctionValue) (out : OutputValue) : Type 0 where
   pub owner : ℕ → Owner
@@ -53,7 +53,7 @@ pub record AreSlotsOwned (f : FunctionValue) (out : OutputValue) : Type 0 where
       ⊎ (first_unit f (owner n) n + units_of_owner f (owner n) ≤ first_unit f (owner m) m)
   pub moves : All (λ e. (class : RegClass) × IsOfClass owner e.1.from class × IsOfClass owner e.1.to class) out.edits
 
--- an operand names the virtual register, and its place is the slot
+-- an operand names the vreg, and its place is the slot
 abbrev pub StandsInSlot : FunctionValue → OutputValue → VirtualRegister → ℕ → Type 0
 StandsInSlot f out v n =
     (i k : ℕ) × (d : OperandValue) × (i < length f.insts) × (k < length (inst_at f i).operands) × ((slice_index_or (inst_at f i).operands k d).vreg ≡ v)

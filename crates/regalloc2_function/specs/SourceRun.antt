@@ -1,4 +1,4 @@
--- The run of the function itself: who wrote each virtual register last.
+-- The run of the function itself: who wrote each vreg last.
 -- Operands are read and written as upstream's `OperandKind` and `OperandPos` say, and parameters take arguments as its
 -- `Function::branch_blockparams` says. The names of writes are this project's own.
 use Rattle.std.specs.Prelude.{ℕ, ◌≡◌, ◌+◌, ◌<◌, true, if◌then◌else◌, List, [], ◌∷◌, length, slice_index_or, slice_index, Option, None, Some, IsSome}
@@ -14,11 +14,11 @@ pub record Stamp : Type 0 where
   pub step : ℕ
   pub operand : ℕ
 
--- who wrote each virtual register last, if anyone
+-- who wrote each vreg last, if anyone
 abbrev pub Source : Type 0
 Source = VirtualRegister → Option Stamp
 
--- the map with one virtual register changed
+-- the map with one vreg changed
 abbrev pub assigned : Source → VirtualRegister → Option Stamp → Source
 assigned m v s q = if is_vreg v q then s else m q
 
@@ -76,6 +76,6 @@ abbrev pub ArgumentsWritten : FunctionValue → List Way → Type 0
 ArgumentsWritten f ws = (k j : ℕ) (d : VirtualRegister) → HasWay f (end_of f ws) (ToSuccessor k) → j < length (arguments_at f (end_of f ws).block k) →
     IsSome (source_after f ws (slice_index_or (arguments_at f (end_of f ws).block k) j d))
 
--- no path reads or passes a virtual register before writing it
+-- no path reads or passes a vreg before writing it
 abbrev pub IsWrittenFirst : FunctionValue → Type 0
 IsWrittenFirst f = (ws : List Way) → IsPath f ws → UsesWritten f ws × ArgumentsWritten f ws

@@ -107,7 +107,7 @@ ArgumentsFit f = EachBlock f (ArgumentsFitAt f)
 abbrev pub defines_number : ℕ → OperandValue → Bool
 defines_number n o = is_def o.kind && nat_eq o.vreg.number n
 
--- how often a virtual register's number is defined: as a parameter and by instructions
+-- how often a vreg's number is defined: as a parameter and by instructions
 abbrev pub definitions_of : FunctionValue → ℕ → ℕ
 definitions_of f n = sum_of (map (λ b. count_by (λ v. nat_eq v.number n) b.params) f.blocks) + sum_of
     (map (λ i. count_by (defines_number n) i.operands) f.insts)
@@ -120,7 +120,7 @@ definitions_of f n = sum_of (map (λ b. count_by (λ v. nat_eq v.number n) b.par
 abbrev pub DefinedOnce : FunctionValue → Type 0
 DefinedOnce f = (n : ℕ) → (definitions_of f n ≤ 1) × (0 < definitions_of f n → n < f.num_vregs)
 
--- A virtual register is defined by a point: as a parameter, just before its block's first instruction, or by an operand, after its instruction.
+-- A vreg is defined by a point: as a parameter, just before its block's first instruction, or by an operand, after its instruction.
 -- Points are in the order of instruction numbers.
 abbrev pub IsDefinedBy : FunctionValue → VirtualRegister → ℕ → Type 0
 IsDefinedBy f v point =
@@ -128,7 +128,7 @@ IsDefinedBy f v point =
     ⊎ ((j k : ℕ) × (d : OperandValue) × (after j ≤ point) × (k < length (inst_at f j).operands)
     × (is_def (slice_index_or (inst_at f j).operands k d).kind ≡ true) × ((slice_index_or (inst_at f j).operands k d).vreg ≡ v))
 
--- each virtual register that is read is defined before its instruction, and each that is passed is defined before the branch, or by the branch itself
+-- each vreg that is read is defined before its instruction, and each that is passed is defined before the branch, or by the branch itself
 abbrev pub UsesAreDefined : FunctionValue → Type 0
 UsesAreDefined f = EachBlock f (λ n b.
     EachInst f b (λ i inst. EachOperand inst (λ k o. is_reading o ≡ true → IsDefinedBy f o.vreg (before i)))

@@ -25,11 +25,11 @@ pub use misfit::MachineMisfit;
 pub use serialize::{StoredFault, StoredOutput};
 
 /// A function as a client of the allocator describes it: blocks of instructions, and what each instruction does with
-/// virtual registers.
+/// vregs.
 ///
 /// All calls agree with one function value, and an implementation proves that it keeps the limits of `IsLimited`: fewer
-/// than 2^30 instructions, fewer than 2^32 - 1 blocks, at most 2^30 - 1 virtual registers, slot sizes that are powers of
-/// two from 1 to 2^24, and labels of virtual registers below `num_vregs`. Nothing else is owed: whether the blocks follow
+/// than 2^30 instructions, fewer than 2^32 - 1 blocks, at most 2^30 - 1 vregs, slot sizes that are powers of
+/// two from 1 to 2^24, and labels of vregs below `num_vregs`. Nothing else is owed: whether the blocks follow
 /// one another, or the uses are defined, is tested by the calls that want it.
 ///
 /// Names and arguments are those of upstream's trait `Function`.
@@ -47,7 +47,7 @@ pub trait Function {
         ensures count { result ≡ length (function self.now).blocks }
         ensures limit { result < 2 ^ 32 - 1 };
 
-    /// A number above that of each virtual register that is defined.
+    /// A number above that of each vreg that is defined.
     fn num_vregs(&self) -> usize
         ensures count { result ≡ (function self.now).num_vregs }
         ensures limit { result < 2 ^ 30 };
@@ -71,7 +71,7 @@ pub trait Function {
         requires { block < length (function self.now).blocks }
         ensures { result.now ≡ (block_at (function self.now) block).preds };
 
-    /// The virtual registers that take the arguments with which a block is entered.
+    /// The vregs that take the arguments with which a block is entered.
     fn block_params(&self, block: Block) -> &[VReg]
         requires { block < length (function self.now).blocks }
         ensures { result.now ≡ (block_at (function self.now) block).params };
@@ -94,7 +94,7 @@ pub trait Function {
         requires position { succ_idx < length (block_at (function self.now) block).succs }
         ensures { result.now ≡ slice_index_or (block_at (function self.now) block).arguments succ_idx [] };
 
-    /// What an instruction does with virtual registers.
+    /// What an instruction does with vregs.
     fn inst_operands(&self, inst: Inst) -> &[Operand]
         requires { inst < length (function self.now).insts }
         ensures { result.now ≡ (inst_at (function self.now) inst).operands };
@@ -104,7 +104,7 @@ pub trait Function {
         requires { inst < length (function self.now).insts }
         ensures { result ≡ (inst_at (function self.now) inst).clobbers };
 
-    /// The ranges of instructions over which a client wants to be told where a virtual register stands, each from its
+    /// The ranges of instructions over which a client wants to be told where a vreg stands, each from its
     /// first instruction up to its end, with a label of the client's own.
     ///
     /// Upstream's default, no labels, can't be given here: see `docs/DECISIONS.md`.
@@ -122,7 +122,7 @@ pub trait Function {
     fn multi_spillslot_named_by_last_slot(&self) -> bool
         ensures { result ≡ (function self.now).named_by_last_slot };
 
-    /// Whether a virtual register may have several definitions. The allocator wants single definitions all the same.
+    /// Whether a vreg may have several definitions. The allocator wants single definitions all the same.
     ///
     /// Upstream's default is false.
     fn allow_multiple_vreg_defs(&self) -> bool

@@ -31,7 +31,7 @@ pub struct MachineEnv<A: Allocator = Global> {
     pub non_preferred_regs_by_class: [PRegSet; 3],
     /// A register of each class through which moves may go, if one is set aside for that.
     pub scratch_by_class: [Option<PReg>; 3],
-    /// Names of registers that stand for places in memory, such as arguments on the stack.
+    /// Names of registers that stand for stack places, such as arguments on the stack.
     pub fixed_stack_slots: Vec<PReg, A>,
 }
 
@@ -70,7 +70,7 @@ fn is_other(a: PReg, b: PReg) -> bool
 }
 
 impl<A: Allocator> MachineEnv<A> {
-    /// The registers that may be allocated to virtual registers of a class.
+    /// The registers that may be allocated to vregs of a class.
     fn allocatable(&self, class: RegClass) -> PRegSet
         ensures { (r : Register) → has_register result r ≡ is_allocatable (machine_of self.now) class r }
     {
@@ -178,14 +178,14 @@ impl<A: Allocator> From<&MachineEnv<A>> for PRegSet {
     }
 }
 
-/// Whether an operand names a virtual register of a class.
+/// Whether an operand names a vreg of a class.
 fn operand_names(operand: Operand, class: RegClass) -> bool
     ensures { IsTrue result ↔ ((is_fixed_nonallocatable operand ≡ false) × (operand.vreg.class ≡ class)) }
 {
     operand.as_fixed_nonallocatable().is_none() && is_class(operand.class(), class)
 }
 
-/// Whether an instruction's operands name a virtual register of a class.
+/// Whether an instruction's operands name a vreg of a class.
 fn inst_names<F: Function>(f: &F, inst: Inst, class: RegClass) -> bool
     requires { inst < length (F.function f.now).insts }
     ensures { IsTrue result ↔ Any (λ o. (is_fixed_nonallocatable o ≡ false) × (o.vreg.class ≡ class)) (inst_at (F.function f.now) inst).operands }
@@ -195,7 +195,7 @@ fn inst_names<F: Function>(f: &F, inst: Inst, class: RegClass) -> bool
         .any(|operand| operand_names(*operand, class))
 }
 
-/// Whether some instruction's operands name a virtual register of a class.
+/// Whether some instruction's operands name a vreg of a class.
 fn insts_name<F: Function>(f: &F, class: RegClass) -> bool
     ensures { IsTrue result ↔ ((i : ℕ) × (i < length (F.function f.now).insts)
         × Any (λ o. (is_fixed_nonallocatable o ≡ false) × (o.vreg.class ≡ class)) (inst_at (F.function f.now) i).operands) }
@@ -208,14 +208,14 @@ fn insts_name<F: Function>(f: &F, class: RegClass) -> bool
     false
 }
 
-/// Whether one of these virtual registers is of a class.
+/// Whether one of these vregs is of a class.
 fn vregs_name(vregs: &[VReg], class: RegClass) -> bool
     ensures { IsTrue result ↔ Any (λ v. v.class ≡ class) vregs.now }
 {
     vregs.iter().any(|vreg| is_class(vreg.class(), class))
 }
 
-/// Whether a block's arguments name a virtual register of a class. Those of a block that is empty or not within the
+/// Whether a block's arguments name a vreg of a class. Those of a block that is empty or not within the
 /// instructions don't count, since nothing says what they are.
 fn arguments_name<F: Function>(f: &F, block: Block, class: RegClass) -> bool
     requires { block < length (F.function f.now).blocks }
@@ -233,7 +233,7 @@ fn arguments_name<F: Function>(f: &F, block: Block, class: RegClass) -> bool
     false
 }
 
-/// Whether some block's parameters or arguments name a virtual register of a class.
+/// Whether some block's parameters or arguments name a vreg of a class.
 fn blocks_name<F: Function>(f: &F, class: RegClass) -> bool
     ensures { IsTrue result ↔ ((b : ℕ) × (b < length (F.function f.now).blocks)
         × (Any (λ v. v.class ≡ class) (block_at (F.function f.now) b).params ⊎ NamesByArgument (F.function f.now) b class)) }
@@ -247,7 +247,7 @@ fn blocks_name<F: Function>(f: &F, class: RegClass) -> bool
     false
 }
 
-/// Whether the function names a virtual register of a class.
+/// Whether the function names a vreg of a class.
 fn names_class<F: Function>(f: &F, class: RegClass) -> bool
     ensures { IsTrue result ↔ NamesClass (F.function f.now) class }
 {
@@ -278,7 +278,7 @@ fn test_class<F: Function, A: Allocator>(
 ///
 /// Each class's registers, its scratch register too, are of that class; preferred, non-preferred and scratch registers
 /// and fixed stack slots are apart, and none is `PReg::invalid()`; and each class of which an operand, a parameter or an
-/// argument names a virtual register has a register to allocate. The same slot may stand twice among the fixed stack
+/// argument names a vreg has a register to allocate. The same slot may stand twice among the fixed stack
 /// slots. Arguments of a block that is empty or not within the instructions don't count, nor do operands that name a
 /// register which is not allocated.
 ///

@@ -25,7 +25,7 @@ pub enum MachineMisfit {
     SlotAllocatable(RegClass, PReg),
     /// A fixed stack slot is the scratch register of a class.
     SlotIsScratch(RegClass, PReg),
-    /// A class has no register to allocate, and the function names a virtual register of it.
+    /// A class has no register to allocate, and the function names a vreg of it.
     NoRegister(RegClass),
 }
 

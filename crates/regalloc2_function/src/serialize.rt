@@ -17,7 +17,7 @@ use std::fmt;
 pub enum StoredFault {
     /// Lists that should be of one length are not.
     Lengths,
-    /// A block, an instruction or a labelled virtual register is out of range.
+    /// A block, an instruction or a labelled vreg is out of range.
     Index,
     /// A number is that of no name.
     Bits,

@@ -195,7 +195,7 @@ module _ {F G T : Type 0} (registers : F → Option Place → F → Type 0) (slo
   chosen (Scratch ms) made f f' g g' owes run (inr (Register s, e, h, m)) = chosen_register ms.items made f f' g g' s owes run h.0 h.1 m
   chosen (Scratch ms) made f f' g g' owes run (inr (Slot s, e, h, m)) = chosen_slot ms.items made f f' g g' s owes run h.0 h.1 m
 
-  -- no move goes from memory to memory, and so the moves stay
+  -- no move goes from stack to stack, and so the moves stay
   computed_at_once : (given made : List (Place × Place × T)) (scratch : Bool) (f f' : F) (g g' : G) (c : Chosen given scratch f f' g g' made) →
       AreSeenApart stack made → IsComputed stack borrowed (IsAnswer c.rs c.ss) scratch given made
   computed_at_once given made scratch f f' g g' c apart = record {
@@ -289,7 +289,7 @@ module _ {F G T : Type 0} (registers : F → Option Place → F → Type 0) (slo
   computes_at_once given made scratch f f' g g' c apart =
       (asked_registers given made scratch f f' g g' c, asked_slots given made scratch f f' g g' c, computed_at_once given made scratch f f' g g' c apart)
 
-  -- no place was left for moves from memory to memory
+  -- no place was left for moves from stack to stack
   pub computes_refused : (given made : List (Place × Place × T)) (scratch : Bool) (f f' f'' : F) (g g' g'' : G) → Chosen given scratch f f' g g' made →
       IsRefusing registers slots f' f'' g' g'' → (a : Asked registers f f'') × (b : Asked slots g g'') × Contains b.answers None
   computes_refused given made scratch f f' f'' g g' g'' c h =

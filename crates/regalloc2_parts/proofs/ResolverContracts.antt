@@ -97,16 +97,16 @@ module _ {F : Type 0} (g : Mut F (Unit {0}) (Option Place)) (f : F) (pair : Scra
         (split_head a (b ∷ []) (Some p) c)
     was_taken (a ∷ b ∷ x ∷ rest) f' f'' few calls after p c = absurd (omega arith)
 
--- a slot is in memory
+-- a slot is on the stack
 memory_slot : (fixed_stack : PRegSet) (q : Place) (k : ℕ) → q ≡ InSlot k → is_memory fixed_stack q ≡ true
 memory_slot fixed_stack q k e = ap (is_memory fixed_stack) e
 
--- ends that aren't both in memory aren't both said to be
+-- ends that aren't both on the stack aren't both said to be
 pub stay_apart : {H : Type 0} (m : Shared H (Place × Unit {0}) Bool) (h : H) (fixed_stack : PRegSet) → DecidesStack m h fixed_stack →
     (mv : Place × Place × Unit {0}) → AreNotBothInMemory fixed_stack mv.0 mv.1 → m.post h (mv.0, tt) true → m.post h (mv.1, tt) true → ⊥
 stay_apart m h fixed_stack tells mv apart a b = apart (tells mv.0 true a) (tells mv.1 true b)
 
--- closures yield a pool's registers and slots in order and tell what is in memory, and the pool serves the moves
+-- closures yield a pool's registers and slots in order and tell what is on the stack, and the pool serves the moves
 pub record LendPool {F G H : Type 0} (r : Mut F (Unit {0}) (Option Place)) (s : Mut G (Unit {0}) (Option Place)) (m : Shared H (Place × Unit {0}) Bool) (f : F)
     (g : G) (h : H) (l : ScratchPool) (given : Moves) : Type 0 where
   pub registers : YieldsInOrder r f l.registers
@@ -150,7 +150,7 @@ module _ {F G H : Type 0} {r : Mut F (Unit {0}) (Option Place)} {s : Mut G (Unit
   module _ (may_tell : MayDecideStack m h l.fixed_stack) {taken : ℕ} (have : HaveTaken r s f g l.slots taken) where
     open have use {registers_left, slots_left, asked, slots_asked, next, last, after, counts}
 
-    -- what the closure says isn't in memory, or can't say otherwise of, is none
+    -- what the closure says isn't on the stack, or can't say otherwise of, is none
     away : (p : Place) → IsAway (λ q b. m.post h (q, tt) b) p → true ≡ is_memory l.fixed_stack p → ⊥
     away p (inl n) so = let no : false ≡ true = tells p false n ∙ sym so in cc
     away p (inr n) so = n (subst (λ t. m.post h (p, tt) t) (sym so) (may_tell p))

@@ -1,4 +1,4 @@
--- Nodes of a list of virtual registers whose links were changed.
+-- Nodes of a list of vregs whose links were changed.
 use Rattle.std.proofs.Common.{ℕ, zero, suc, ◌≡◌, ◌≢◌, ◌+◌, ◌<◌, ◌≤◌, ◌∙◌, refl, arith, sym, ap}
 use Rattle.std.proofs.Common.{subst, List, [], ◌∷◌, Bool, true, false, not, cond, nat_eq, eqb-true, eq-eqb, length}
 use Rattle.std.specs.Prelude.{All, Any, Contains, filter, map, replicate, slice_index, slice_index_or, slice_set}
@@ -18,7 +18,7 @@ use Rattle.regalloc2_parts.proofs.Linked.{next_of_member, prev_of_member}
 use Rattle.regalloc2_parts.proofs.LinkRings.{IsRing-inserted, IsRing-removed, around, head_links, ring_walked, step, walked-end}
 use Rattle.regalloc2_parts.proofs.LinksChanged.{changed-set, changed-trans}
 
--- the virtual register of a node
+-- the vreg of a node
 abbrev vreg_at : List VRegNode → ℕ → VirtualRegister
 vreg_at nodes n = slice_index_or (vregs nodes) n invalid_vreg
 
@@ -84,7 +84,7 @@ prevs-linked nodes a b d e =
     map-set (λ (n : VRegNode). n.prev) first b (record { prev = a; next = y.next; vreg = y.vreg })
     ∙ ap (λ l. slice_set l b a) (map-set_same (λ (n : VRegNode). n.prev) nodes a (record { prev = x.prev; next = b; vreg = x.vreg }) d refl)
 
--- and leaves the virtual registers as they are
+-- and leaves the vregs as they are
 pub vregs-linked : (nodes : List VRegNode) (a b : ℕ) (d e : VRegNode) → vregs (linked nodes a b d e) ≡ vregs nodes
 vregs-linked nodes a b d e =
     let x : VRegNode = slice_index_or nodes a d in
@@ -93,13 +93,13 @@ vregs-linked nodes a b d e =
     map-set_same (λ (n : VRegNode). n.vreg) first b (record { prev = a; next = y.next; vreg = y.vreg }) e refl
     ∙ map-set_same (λ (n : VRegNode). n.vreg) nodes a (record { prev = x.prev; next = b; vreg = x.vreg }) d refl
 
--- a node whose virtual register was written
+-- a node whose vreg was written
 pub record IsWritten (old new : List VRegNode) (v : ℕ) (vreg : VirtualRegister) : Type 0 where
   pub nexts_same : nexts new ≡ nexts old
   pub prevs_same : prevs new ≡ prevs old
   pub vregs_set : vregs new ≡ slice_set (vregs old) v vreg
 
--- writing a node's virtual register leaves all links as they are
+-- writing a node's vreg leaves all links as they are
 pub written : (nodes : List VRegNode) (v : ℕ) (vreg : VirtualRegister) (d : VRegNode) →
     IsWritten nodes (slice_set nodes v (record { prev = (slice_index_or nodes v d).prev; next = (slice_index_or nodes v d).next; vreg = vreg })) v vreg
 written nodes v vreg d =
@@ -191,7 +191,7 @@ node_inserted old written mid new h k vreg d list is low absent w to_first to_it
     (ap (λ (w : VirtualRegister). w.number) here ∙ sym is, named_kept old new k vreg xs vregs_are lk list.named)
     (rw (here, vregs_kept old new k vreg xs vregs_are lk) refl)
 
--- writing a virtual register changes no link
+-- writing a vreg changes no link
 pub changes_written : (old written new : List VRegNode) (k : ℕ) (vreg : VirtualRegister) (m : ℕ) → IsWritten old written k vreg →
     vreg_changed_links written new ≤ m →
     vreg_changed_links old new ≤ m

@@ -84,33 +84,33 @@ IsChoice registers slots f f' g g' moves made =
 abbrev pub IsAnswer : List (Option Place) → List (Option Place) → Place → Type 0
 IsAnswer registers slots p = Contains registers (Some p) ⊎ Contains slots (Some p)
 
--- the place isn't in memory: a call of the closure said so, or none can say that it is
+-- the place isn't on the stack: a call of the closure said so, or none can say that it is
 abbrev pub IsAway : (Place → Bool → Type 0) → Place → Type 0
 IsAway stack p = stack p false ⊎ (stack p true → ⊥)
 
--- one of two places isn't in memory
+-- one of two places isn't on the stack
 abbrev pub IsEitherAway : (Place → Bool → Type 0) → Place → Place → Type 0
 IsEitherAway stack p q = IsAway stack p ⊎ IsAway stack q
 
 -- A move of those that were made of the given ones.
 pub record IsComputedMove {T : Type 0} (are_apart : Place → Place → Type 0) (lent : Place → Type 0) (given : List (Place × Place × T))
     (m : Place × Place × T) : Type 0 where
-  -- it is from a place to a place, one of them no place in memory
+  -- it is from a place to a place, one of them no stack place
   pub apart : are_apart m.0 m.1
   pub between : (m.0 ≢ NoPlace) × (m.1 ≢ NoPlace)
   -- its ends are those of given moves, or what was lent; where it ends as a given move does, it carries that one's value
   pub source : lent m.0 ⊎ ((n : Place × Place × T) × Contains given n × (m.0 ≡ n.0))
   pub target : lent m.1 ⊎ ((n : Place × Place × T) × Contains given n × (m.1 ≡ n.1) × (m.2 ≡ n.2))
 
--- none of the moves goes from memory to memory
+-- none of the moves goes from stack to stack
 abbrev pub AreApartInMemory : {T : Type 0} → (Place → Bool → Type 0) → List (Place × Place × T) → Type 0
 AreApartInMemory stack ms = All (λ m. stack m.0 true → stack m.1 true → ⊥) ms
 
--- of one end of each move a call of the closure said that it isn't in memory
+-- of one end of each move a call of the closure said that it isn't on the stack
 abbrev pub AreSeenApart : {T : Type 0} → (Place → Bool → Type 0) → List (Place × Place × T) → Type 0
 AreSeenApart stack ms = All (λ m. stack m.0 false ⊎ stack m.1 false) ms
 
--- The moves `made`, one after another, do what the given ones do, without going from memory to memory.
+-- The moves `made`, one after another, do what the given ones do, without going from stack to stack.
 pub record IsComputed {T : Type 0} (stack : Place → Bool → Type 0) (borrowed : Place) (handed : Place → Type 0) (scratch : Bool)
     (given made : List (Place × Place × T)) : Type 0 where
   -- each place but those that were handed out ends as the given moves leave it, the borrowed register too

@@ -1,4 +1,4 @@
--- The list of live virtual registers, as contracts see it.
+-- The list of live vregs, as contracts see it.
 use Rattle.std.specs.Prelude.{ℕ, ◌<◌, List, All, map, nat_eq}
 use Rattle.std.specs.List.{IsDistinct}
 use Rattle.regalloc2_names.specs.Register.{VirtualRegister}

@@ -15,7 +15,7 @@ abbrev pub is_def_kind : OperandKind → Bool
 is_def_kind kinds.Def = true
 is_def_kind kinds.Use = false
 
--- it writes its virtual register
+-- it writes its vreg
 abbrev pub is_def_operand : OperandValue → Bool
 is_def_operand o = is_def_kind o.kind
 
@@ -23,7 +23,7 @@ abbrev pub is_use_kind : OperandKind → Bool
 is_use_kind kinds.Def = false
 is_use_kind kinds.Use = true
 
--- it reads its virtual register
+-- it reads its vreg
 abbrev pub is_use_operand : OperandValue → Bool
 is_use_operand o = is_use_kind o.kind
 

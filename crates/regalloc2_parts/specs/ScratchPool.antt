@@ -38,18 +38,18 @@ YieldsInOrder {F} g f pair =
     × ((b : Option Place) (f2 : F) → Called g f1 tt b f2 → (b ≡ pair.second)
     × ((d : Option Place) (f3 : F) → Called g f2 tt d f3 → d ≡ None))
 
--- a call answers whether a place is in memory, and may answer that
+-- a call answers whether a place is on the stack, and may answer that
 abbrev pub DecidesStack : {H : Type 0} → Shared H (Place × Unit {0}) Bool → H → PRegSet → Type 0
 DecidesStack g f fixed_stack = (p : Place) (b : Bool) → g.post f (p, tt) b → b ≡ is_memory fixed_stack p
 
 abbrev pub MayDecideStack : {H : Type 0} → Shared H (Place × Unit {0}) Bool → H → PRegSet → Type 0
 MayDecideStack g f fixed_stack = (p : Place) → g.post f (p, tt) (is_memory fixed_stack p)
 
--- not both places are in memory
+-- not both places are on the stack
 abbrev pub AreNotBothInMemory : PRegSet → Place → Place → Type 0
 AreNotBothInMemory fixed_stack p q = true ≡ is_memory fixed_stack p → true ≡ is_memory fixed_stack q → ⊥
 
--- registers and slots that serve the moves: no move names them, they differ, and of registers none is in memory
+-- registers and slots that serve the moves: no move names them, they differ, and of registers none is on the stack
 pub record IsUsableFor (l : ScratchPool) (ms : Moves) : Type 0 where
   pub free : (p : Place) → IsOfScratchPair l.registers p → (p ≢ NoPlace) × IsUnnamed p ms × (is_memory l.fixed_stack p ≡ false)
   pub unused : (n : Place) → IsOfScratchPair l.slots n → IsUnnamed n ms × ((k : ℕ) × (n ≡ InSlot k))

@@ -65,7 +65,7 @@ pub record IsMade {T : Type 0} (stack : Place → Bool → Type 0) (register sav
   pub source : IsEither register save m.0 ⊎ ((n : Place × Place × T) × Contains ms n × (m.0 ≡ n.0))
   pub target : IsEither register save m.1 ⊎ ((n : Place × Place × T) × Contains ms n × (m.1 ≡ n.1) × (m.2 ≡ n.2))
 
--- the moves can be made by way of the register, which the closure never takes for a place in memory, and the slot, which no move names
+-- the moves can be made by way of the register, which the closure never takes for a stack place, and the slot, which no move names
 pub record CanExpand {T : Type 0} (stack : Place → Bool → Type 0) (register save : Place) (held : Held) (ms : List (Place × Place × T)) : Type 0 where
   pub no_memory : stack register true → ⊥
   pub first : IsUnused held
@@ -80,7 +80,7 @@ pub record CanExpandBy {H T : Type 0} (is_callable : H → Type 0) (answers : H 
   pub callable : is_callable closure
   pub can : CanExpand (answers closure) via.register via.save held ms
 
--- The moves `made` do what the moves ms do, but for the slot, and none of them goes from memory to memory.
+-- The moves `made` do what the moves ms do, but for the slot, and none of them goes from stack to stack.
 pub record IsExpanded {T : Type 0} (stack : Place → Bool → Type 0) (register save : Place) (ms made : List (Place × Place × T)) : Type 0 where
   pub same : (q : Place) → q ≢ save → in_turn (ends_of made) own_names q ≡ in_turn (ends_of ms) own_names q
   pub each : All (IsMade stack register save ms) made

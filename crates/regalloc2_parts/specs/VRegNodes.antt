@@ -1,4 +1,4 @@
--- The nodes of the list of live virtual registers, and the list that their links stand for.
+-- The nodes of the list of live vregs, and the list that their links stand for.
 use Rattle.std.specs.Prelude.{ℕ, ◌≡◌, ◌+◌, ◌≤◌, List, length, map, slice_index, slice_index_or}
 use Rattle.std.specs.List.{AllByRecursion}
 use Rattle.regalloc2_names.specs.Register.{VirtualRegister, invalid_vreg}
@@ -18,7 +18,7 @@ vregs nodes = map (λ n. n.vreg) nodes
 abbrev pub vreg_ring_numbers : List VRegNode → ℕ → List ℕ
 vreg_ring_numbers nodes head = walked_links (nexts nodes) head (slice_index (nexts nodes) head)
 
--- the virtual registers of some nodes
+-- the vregs of some nodes
 abbrev pub vregs_at : List VRegNode → List ℕ → List VirtualRegister
 vregs_at nodes ns = map (λ n. slice_index_or (vregs nodes) n invalid_vreg) ns
 
@@ -26,7 +26,7 @@ vregs_at nodes ns = map (λ n. slice_index_or (vregs nodes) n invalid_vreg) ns
 abbrev pub members_of : List VRegNode → ℕ → List VirtualRegister
 members_of nodes head = vregs_at nodes (vreg_ring_numbers nodes head)
 
--- the virtual registers from one number on, up to the head
+-- the vregs from one number on, up to the head
 abbrev pub rest_from : List VRegNode → ℕ → ℕ → List VirtualRegister
 rest_from nodes head at = vregs_at nodes (walked_links (nexts nodes) head at)
 

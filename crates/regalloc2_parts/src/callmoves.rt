@@ -24,7 +24,7 @@ pub struct CallFrame<A: Allocator = Global> {
     pub free_regs: Vec<PReg, A>,
     /// A register that is used where none is free, and restored.
     pub borrowed: PReg,
-    /// The registers that stand for places in memory: no move goes from memory to memory.
+    /// The registers that stand for stack places: no move goes from stack to stack.
     pub stack_pregs: PRegSet,
     /// Slots whose values are not needed. They are handed out from the start.
     pub slots: Range<usize>,
@@ -38,7 +38,7 @@ pub enum CallFault {
     /// The destination of the first move whose destination an earlier move has, with another source.
     TwoSources(Allocation),
     /// The first place in use that should be free: a free register that a move names, that stands earlier in the list or that stands
-    /// for a place in memory; the borrowed register, where it is free or stands for a place in memory; the lowest slot of the range
+    /// for a stack place; the borrowed register, where it is free or stands for a stack place; the lowest slot of the range
     /// that a move names.
     InUse(Allocation),
     /// A slot was needed, and the range had none left.
@@ -111,7 +111,7 @@ fn schedule_proper<A: Allocator + Copy, B: Allocator>(
 
 /// The moves of a call, put in an order in which they can be made one after another as if they were made at once.
 ///
-/// A cycle goes through a free register, or else through a slot of the range; a move from memory to memory through a free register, or
+/// A cycle goes through a free register, or else through a slot of the range; a move from stack to stack through a free register, or
 /// else through the borrowed one, which is saved in a slot and restored. The range ends at most at 2^24.
 ///
 /// The list comes from `alloc`, and so do the tables that it is made with. A fault of moves or frame is told also where memory runs out.

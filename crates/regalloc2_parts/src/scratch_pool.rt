@@ -27,7 +27,7 @@ pub struct ScratchPool {
     pub registers: ScratchPair,
     /// Slots that no move names.
     pub slots: ScratchPair,
-    /// The registers that stand for places in memory.
+    /// The registers that stand for stack places.
     pub fixed_stack: PRegSet,
     /// A register that is borrowed where there is no scratch register, and restored.
     pub borrowed: PReg,

@@ -1,4 +1,4 @@
-//! The list of live virtual registers.
+//! The list of live vregs.
 
 ghost use Rattle.std.specs.Prelude.{ℕ, ◌≡◌, ◌≢◌, ◌∷◌, [], ◌<◌, ◌≤◌, ◌==◌, IfOk, IfErr, All, Any, Contains, length, not, filter, nat_eq, slice_set};
 ghost use Rattle.std.specs.Iterator.{YieldsFirst, item_count};
@@ -9,7 +9,7 @@ use regalloc2_names::{RegAllocError, VReg};
 use std::alloc::{Allocator, Global};
 use std::marker::Model;
 
-/// A virtual register with its neighbours in the list, by number.
+/// A vreg with its neighbours in the list, by number.
 #[derive(Clone, Copy, Debug)]
 struct VRegNode {
     prev: u32,
@@ -31,7 +31,7 @@ fn link(nodes: &mut [VRegNode], prev: u32, next: u32)
     nodes[next as usize].prev = prev;
 }
 
-/// Puts a virtual register behind the head: four links and its node's vreg change.
+/// Puts a vreg behind the head: four links and its node's vreg change.
 fn insert_node(nodes: &mut [VRegNode], head: u32, vreg: VReg)
     requires list { IsVRegList nodes.old head }
     requires below { vreg.number < head }
@@ -61,7 +61,7 @@ fn remove_node(nodes: &mut [VRegNode], head: u32, number: u32)
     link(nodes, node.prev, node.next);
 }
 
-/// Virtual registers with different numbers below a capacity, seen as their list, the newest first.
+/// Vregs with different numbers below a capacity, seen as their list, the newest first.
 #[derive(Debug, Drop)]
 pub struct VRegSet<A: Allocator = Global> {
     /// A node for each number below the capacity, and the head, which stands before the newest and after the oldest.

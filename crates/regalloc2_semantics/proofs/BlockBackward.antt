@@ -1,4 +1,4 @@
--- A block that is walked from its end: what its listing carries for one virtual register, from what each instruction carries by itself.
+-- A block that is walked from its end: what its listing carries for one vreg, from what each instruction carries by itself.
 use Rattle.std.proofs.Common.{◌≡◌, Bool, true, false, ◌⊎◌, inl, inr, List, ◌++◌, refl, sym, ◌∙◌}
 use Rattle.std.specs.Prelude.{Option, None, Some, ◌||◌}
 use Rattle.regalloc2_names.specs.Register.{VirtualRegister}

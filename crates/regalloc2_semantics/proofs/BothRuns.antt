@@ -32,7 +32,7 @@ written_here : (b : Bool) (c : Cells) (q p : Place) (x : Option Stamp) → b ≡
 written_here true c q p x d e n = subst (λ u. stored c q x u ≡ x) e (stored-same c q x (λ z. n (sym e ∙ z)))
 written_here false c q p x d e n = absurd cc
 
--- a virtual register that no operand defines
+-- a vreg that no operand defines
 pub after_defs-other : (ops : List OperandValue) (t k : ℕ) (s : Source) (v : VirtualRegister) → Undefined ops v → after_defs t k ops s v ≡ s v
 unfolding after_defs
 after_defs-other [] t k s v h = refl

@@ -1,4 +1,4 @@
--- The rules by which a listing carries what a virtual register has: it grows at its front.
+-- The rules by which a listing carries what a vreg has: it grows at its front.
 use Rattle.std.proofs.Common.{ℕ, zero, suc, ◌≡◌, ◌<◌, Bool, true, false, List, [], ◌∷◌, ◌++◌, length, refl, arith, sym, ◌∙◌, inl, inr, ◌⊎◌, subst}
 use Rattle.std.specs.Prelude.{◌&&◌}
 use Rattle.std.proofs.lemmas.Bool.{or_parts}
@@ -46,7 +46,7 @@ carries_move v m L P R E there moved kept g = λ s c n holds.
       | inr ne ↦ stored-other c m.to p (c m.from) ne ∙ holds p (kept p ne w)
     ])
 
--- a move by way of a place that the virtual register does not need
+-- a move by way of a place that the vreg does not need
 pub carries_through : (v : VirtualRegister) (from by to : Place) (L : List Item) (P R E : Place → Type 0) → (by ≡ NoPlace → ⊥) → (to ≡ NoPlace → ⊥) →
     (P by → ⊥) → (P to → R from) → ((p : Place) → (p ≡ to → ⊥) → P p → R p) →
     Carries v L P E → Carries v (Move (record { from = from; to = by }) ∷ (Move (record { from = by; to = to }) ∷ L)) R E

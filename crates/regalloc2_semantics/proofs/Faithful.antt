@@ -27,7 +27,7 @@ moves_before-All P out first i h =
     All-map P (λ (e : ℕ × MoveValue). e.1) (filter (λ e. is_listed_at first i e.0) out.edits)
     (All-filter (λ (e : ℕ × MoveValue). is_listed_at first i e.0) (λ e. P e.1) out.edits h)
 
--- an output is faithful if constraints are met everywhere, no move is from memory to memory, and reads agree on every path
+-- an output is faithful if constraints are met everywhere, no move is from stack to stack, and reads agree on every path
 pub faithful : FaithfulWhereReadsAgree
 faithful f env out constraints moves reads ws p = record {
   reads = reads ws p;

@@ -1,4 +1,4 @@
--- Listings in which nothing reads a virtual register.
+-- Listings in which nothing reads a vreg.
 use Rattle.std.proofs.Common.{ℕ, zero, suc, ◌≡◌, ◌+◌, ◌<◌, ◌≤◌, true, List, [], ◌∷◌, ◌++◌, length, arith}
 use Rattle.regalloc2_names.specs.Register.{VirtualRegister}
 use Rattle.regalloc2_names.specs.Operand.{OperandValue, is_reading}

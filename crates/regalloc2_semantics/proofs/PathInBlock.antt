@@ -35,7 +35,7 @@ onwards-path f (suc n) ws p lt =
     (onwards-block f n ws) in
     (onwards-path f n ws p (omega arith), omega arith)
 
--- a virtual register that those instructions do not write
+-- a vreg that those instructions do not write
 pub onwards-source : (f : FunctionValue) (n : ℕ) (ws : List Way) (v : VirtualRegister) →
     ((i : ℕ) → (end_of f ws).inst ≤ i → i < (end_of f ws).inst + n → Undefined (inst_at f i).operands v) →
     source_before f (onwards n ws) v ≡ source_before f ws v

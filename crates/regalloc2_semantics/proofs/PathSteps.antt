@@ -47,7 +47,7 @@ read_same Late a b x y early late = late refl
 pub op_at-any : (ops : List OperandValue) (k : ℕ) (d : OperandValue) → k < length ops → slice_index_or ops k d ≡ op_at ops k
 op_at-any ops k d lt = get_or_default ops k d no_operand lt
 
--- where each use finds what its virtual register has, and that is something, reads agree
+-- where each use finds what its vreg has, and that is something, reads agree
 pub reads_agree : (f : FunctionValue) (out : OutputValue) (ws : List Way) → UsesWritten f ws →
     ((v : VirtualRegister) → Finds v false (last_inst f ws).operands (allocs_of out (end_of f ws).inst) (source_before f ws v)
     (cells_early f out (end_of f ws) (cells_before f out ws))) →

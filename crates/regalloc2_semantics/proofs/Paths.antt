@@ -160,7 +160,7 @@ module _ (f : FunctionValue) (ok : HasSoundBlocks f) (written : IsWrittenFirst f
   kept_on k vs v h = passed-other (block_at f (target_at f (end_of f vs).block k)).params (arguments_at f (end_of f vs).block k) (source_after f vs)
       (source_after f vs) v h
 
-  -- a live virtual register has something
+  -- a live vreg has something
   live_written : (v : VirtualRegister) (b : ℕ) (ws : List Way) → b < length f.blocks → Entered f b ws → Live f v b → source_before f ws v ≡ None → ⊥
   live_written v b ws block e (read u (i, j, le, lt, j_lt, reads, is)) none =
       let t = through f b i ws e le lt in
@@ -253,7 +253,7 @@ module _ (f : FunctionValue) (ok : HasSoundBlocks f) (written : IsWrittenFirst f
 
   module _ (out : OutputValue) (stand : ℕ → VirtualRegister → Option Place) (carries : (b : ℕ) → IsReached f (first_of f b) →
       BlockCarriesOn f stand b (block_items f out b)) where
-    -- what is known at a path's last step: what is left of the block's listing carries each virtual register that is live at the block's
+    -- what is known at a path's last step: what is left of the block's listing carries each vreg that is live at the block's
     -- beginning or written in the block
     record Rest (ws : List Way) : Type 0 where
       start : List Way
@@ -267,7 +267,7 @@ module _ (f : FunctionValue) (ok : HasSoundBlocks f) (written : IsWrittenFirst f
     reached : (b : ℕ) (ws : List Way) → Entered f b ws → IsReached f (first_of f b)
     reached b ws e = (ws, e.path, locations (end_of f ws).block (end_of f ws).inst b (block_at f b).range.first e.block_is e.first_is)
 
-    -- at a block's beginning, where each live virtual register is in its places
+    -- at a block's beginning, where each live vreg is in its places
     at_beginning : (b : ℕ) (ws : List Way) → b < length f.blocks → Entered f b ws →
         ((v : VirtualRegister) (p : Place) → Live f v b → stand b v ≡ Some p → cells_before f out ws p ≡ source_before f ws v) →
         (v : VirtualRegister) → IsUsed f v → (IsUnwritten f b v → Live f v b) →
@@ -394,7 +394,7 @@ module _ (f : FunctionValue) (ok : HasSoundBlocks f) (written : IsWrittenFirst f
         (λ v j lt reads early is. (s v (inl ((end_of f ws).block, reading v j lt reads is)) (λ n. read n (reading v j lt reads is))).early j lt reads early is)
         (λ v j lt reads late is. (s v (inl ((end_of f ws).block, reading v j lt reads is)) (λ n. read n (reading v j lt reads is))).late j lt reads late is)
 
-    -- where a path comes to a block, the places of each virtual register that is live there hold what it has
+    -- where a path comes to a block, the places of each vreg that is live there hold what it has
     pub holds_live : (ws : List Way) → IsPath f ws → HasEntered f ws → (v : VirtualRegister) (p : Place) → Live f v (end_of f ws).block →
         stand (end_of f ws).block v ≡ Some p → HoldsValueAt f out ws p v
     unfolding source_before cells_before

@@ -125,12 +125,12 @@ module _ (f : FunctionValue) (once : DefinedOnce f) where
       let ps = total-one (λ (x : BlockValue). count_by (λ v. nat_eq v.number n) x.params) f.blocks b no_block y.block in
       (once n).1 (omega (arith, p, ps))
 
--- what makes a virtual register
+-- what makes a vreg
 pub data Made (f : FunctionValue) (v : VirtualRegister) : Type 0 where
   by_operand : (i k : ℕ) → DefinesAt f v.number i k → (op_at (inst_at f i).operands k).vreg ≡ v → Made f v
   by_param : (b k : ℕ) → TakesAt f v.number b k → slice_index_or (block_at f b).params k no_vreg ≡ v → Made f v
 
--- a virtual register that is defined before an instruction is made by a parameter, or by an earlier instruction
+-- a vreg that is defined before an instruction is made by a parameter, or by an earlier instruction
 pub data MadeBefore (f : FunctionValue) (v : VirtualRegister) (i : ℕ) : Type 0 where
   by_earlier : (j k : ℕ) → j < i → DefinesAt f v.number j k → (op_at (inst_at f j).operands k).vreg ≡ v → MadeBefore f v i
   by_param : (b k : ℕ) → TakesAt f v.number b k → slice_index_or (block_at f b).params k no_vreg ≡ v → MadeBefore f v i
@@ -160,7 +160,7 @@ made_before f v i lt h = made_by f v i (before i) (omega (arith, lt)) (omega ari
 pub made_behind : (f : FunctionValue) (v : VirtualRegister) (i : ℕ) → i < length f.insts → IsDefinedBy f v (after i) → MadeBefore f v (i + 1)
 made_behind f v i lt h = made_by f v (i + 1) (after i) (omega (arith, lt)) (omega arith) h
 
--- a number has one virtual register that is made
+-- a number has one vreg that is made
 pub one_made : (f : FunctionValue) → DefinedOnce f → (v w : VirtualRegister) → Made f v → Made f w → v.number ≡ w.number → v ≡ w
 one_made f once v w (by_operand i k x a) (by_operand j l y b) e =
     let at = one_operand f once v.number i j k l x (subst (λ n. DefinesAt f n j l) (sym e) y) in

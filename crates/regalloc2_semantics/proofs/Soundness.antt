@@ -153,7 +153,7 @@ module _ (f : FunctionValue) (once : DefinedOnce f) where
       let x = names_count v (block_at f b).params h in
       let z = at_most_one v.number in absurd (omega arith)
 
-  -- a virtual register that one instruction defines, and another one
+  -- a vreg that one instruction defines, and another one
   pub no_second : (i j : ℕ) (v : VirtualRegister) → j ≢ i → i < length f.insts → j < length f.insts → (k : ℕ) (d : OperandValue) →
       k < length (inst_at f j).operands →
       is_def (slice_index_or (inst_at f j).operands k d).kind ≡ true → (slice_index_or (inst_at f j).operands k d).vreg ≡ v → Undefined (inst_at f i).operands v

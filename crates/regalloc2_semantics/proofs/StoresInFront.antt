@@ -75,7 +75,7 @@ carries_stores v ss L P R E are brought carries = carries_moves v (store_moves s
 apart : (M : Place → Bool) (p q : Place) → M p ≡ true → M q ≡ false → p ≢ q
 apart M p q is not same = (let x : true ≡ false = sym is ∙ ap M same ∙ not in cc)
 
--- the places by way of which stores go aren't in memory
+-- the places by way of which stores go aren't on the stack
 ways : (M : Place → Bool) (ss : List Store) → AreInOrder M ss → (t : Store) → IsOneOf t ss → (q : Place) → t.by ≡ Some q → M q ≡ false
 unfolding AreInOrder
 ways M [] h t m q by = elim m [ ]

@@ -1,4 +1,4 @@
--- Places that hold what a virtual register has all through: those that nothing writes, and those that are written for its own uses.
+-- Places that hold what a vreg has all through: those that nothing writes, and those that are written for its own uses.
 use Rattle.std.proofs.Common.{ℕ, zero, suc, ◌≡◌, ◌+◌, ◌<◌, ◌≤◌, Bool, true, false, List, [], ◌∷◌, length, refl, arith, sym, ◌∙◌, inl, inr, ◌⊎◌, subst}
 use Rattle.std.specs.Prelude.{◌&&◌}
 use Rattle.std.proofs.lemmas.Bool.{cases_Bool}

@@ -12,7 +12,7 @@ use Rattle.regalloc2_semantics.specs.Carry.{Carries, Undefined}
 use Rattle.regalloc2_semantics.specs.BlockByPoints.{block_walked, Rising, EndsQuiet}
 use Rattle.regalloc2_semantics.specs.Laws.{ReadsAgreeOnPaths}
 
--- whether a list names a virtual register
+-- whether a list names a vreg
 unfoldable pub names : VirtualRegister → List VirtualRegister → Bool
 names v [] = false
 names v (p ∷ ps) = is_vreg p v || names v ps
@@ -88,7 +88,7 @@ module _ (f : FunctionValue) (slot : VirtualRegister → Option Place) where
       (((k : ℕ) → HasEdge f b k → names v (block_at f (target_at f b k)).params ≡ false) × IsWantedBehind f b v × (slot v ≡ Some p))
       ⊎ ((k : ℕ) × (u : VirtualRegister) × HasEdge f b k × Passes u v (block_at f (target_at f b k)).params (arguments_at f b k) × (slot u ≡ Some p))
 
--- The same for values that aren't in one slot wherever a block begins: stand says where virtual registers are at each block's beginning.
+-- The same for values that aren't in one slot wherever a block begins: stand says where vregs are at each block's beginning.
 module _ (f : FunctionValue) (stand : ℕ → VirtualRegister → Option Place) where
   -- where v may be relied on at the block's beginning: where it is there, unless the block writes it
   abbrev pub ComesIn : ℕ → VirtualRegister → Place → Type 0
@@ -103,7 +103,7 @@ module _ (f : FunctionValue) (stand : ℕ → VirtualRegister → Option Place) 
       ⊎ ((k : ℕ) × (u : VirtualRegister) × HasEdge f b k × Passes u v (block_at f (target_at f b k)).params (arguments_at f b k)
       × (stand (target_at f b k) u ≡ Some p))
 
-  -- what a block owes, for each virtual register that is used somewhere
+  -- what a block owes, for each vreg that is used somewhere
   abbrev pub BlockCarriesOn : ℕ → List Item → Type 0
   BlockCarriesOn b items = ExcusedAreSilent f b → (v : VirtualRegister) → IsUsed f v → (IsExcused f b v → ⊥) → Carries v items (ComesIn b v) (GoesOut b v)
 

@@ -1,4 +1,4 @@
--- What a listing carries for one virtual register.
+-- What a listing carries for one vreg.
 use Rattle.std.specs.Prelude.{ℕ, suc, ◌≡◌, ◌<◌, Bool, true, false, List, [], ◌∷◌, length, Option}
 use Rattle.regalloc2_names.specs.declared.sets.PRegSet.{PRegSet}
 use Rattle.regalloc2_names.specs.Register.{VirtualRegister}
@@ -50,7 +50,7 @@ pub record Spares (operands : List OperandValue) (places : List Place) (clobbers
   pub no_definition : (j : ℕ) → j < length operands → is_def (op_at operands j).kind ≡ true → place_at places j ≡ p → ⊥
   pub no_clobber : is_clobbered clobbers p ≡ false
 
--- and the virtual register
+-- and the vreg
 abbrev pub Undefined : List OperandValue → VirtualRegister → Type 0
 Undefined operands v = (j : ℕ) → j < length operands → is_def (op_at operands j).kind ≡ true → (op_at operands j).vreg ≡ v → ⊥
 

@@ -13,7 +13,7 @@ use Rattle.regalloc2_function.specs.WellFormed.{IsWellFormed}
 abbrev pub ReadsAgreeOnPaths : FunctionValue → OutputValue → Type 0
 ReadsAgreeOnPaths f out = (ws : List Way) → IsPath f ws → ReadsAgree f out ws
 
--- with the constraints of every instruction met, and no move between two places in memory, the output is faithful
+-- with the constraints of every instruction met, and no move between two stack places, the output is faithful
 abbrev pub FaithfulWhereReadsAgree : Type 0
 FaithfulWhereReadsAgree = (f : FunctionValue) (env : MachineValue) (out : OutputValue) →
     ((i : ℕ) → i < length f.insts → ConstraintsMet f env out i) → All (λ e. IsStackToStack env e.1 → ⊥) out.edits → ReadsAgreeOnPaths f out →

@@ -34,7 +34,7 @@ items_from f out first i count = items_by (inst_at f) (moves_before out first) (
 abbrev pub block_items : FunctionValue → OutputValue → ℕ → List Item
 block_items f out b = items_from f out (block_at f b).range.first (block_at f b).range.first ((block_at f b).range.end - (block_at f b).range.first)
 
--- whether operands, or a items_by, write a virtual register
+-- whether operands, or a items_by, write a vreg
 unfoldable pub defines : VirtualRegister → List OperandValue → Bool
 defines v [] = false
 defines v (o ∷ os) = (is_def o.kind && is_vreg o.vreg v) || defines v os

@@ -38,7 +38,7 @@ HasEntered f ws = (end_of f ws).inst ≡ (block_at f (end_of f ws).block).range.
 abbrev pub HoldsValueAt : FunctionValue → OutputValue → List Way → Place → VirtualRegister → Type 0
 HoldsValueAt f out ws p v = IsSome (source_before f ws v) × (cells_before f out ws p ≡ source_before f ws v)
 
--- on every path, where it comes to a block, the place where a virtual register is that is live there holds its value
+-- on every path, where it comes to a block, the place where a vreg is that is live there holds its value
 abbrev pub LiveStandInPlaces : FunctionValue → OutputValue → (ℕ → VirtualRegister → Option Place) → Type 0
 LiveStandInPlaces f out stand = (ws : List Way) → IsPath f ws → HasEntered f ws → (v : VirtualRegister) (p : Place) → IsLive f v (end_of f ws) →
     stand (end_of f ws).block v ≡ Some p → HoldsValueAt f out ws p v

@@ -1,5 +1,5 @@
 -- One instruction with operands of every kind, as a backward walk allocates it: which operands have their places so far, and which places
--- the virtual registers need, by number.
+-- the vregs need, by number.
 use Rattle.std.specs.Prelude.{◌≡◌, ◌≢◌, ℕ, ◌<◌, ◌≤◌, Bool, true, false, Option, Some, None, List, length, ◌⊎◌}
 use Rattle.regalloc2_names.specs.Operand.{OperandValue, is_def, is_late, is_reading}
 use Rattle.regalloc2_names.specs.Place.{Place, NoPlace}
@@ -17,7 +17,7 @@ pub record What : Type 0 where
 abbrev pub what_of : List OperandValue → ℕ → What
 what_of operands j = record { number = (op_at operands j).vreg.number; is_def = is_def (op_at operands j).kind; is_late = is_late (op_at operands j).position }
 
--- two operands may be in one place: as uses of one virtual register, or as an early use and a late definition
+-- two operands may be in one place: as uses of one vreg, or as an early use and a late definition
 pub data Share (a b : What) : Type 0 where
   uses : a.is_def ≡ false → b.is_def ≡ false → a.number ≡ b.number → Share a b
   read_first : a.is_def ≡ false → a.is_late ≡ false → b.is_def ≡ true → b.is_late ≡ true → Share a b
@@ -36,7 +36,7 @@ pub data Pending (what : ℕ → What) (here : ℕ → Place) (done out : ℕ �
   slotted : out n ≡ false → S n ≡ Some p → Pending what here done out T S k n p
   used : (j : ℕ) → k ≤ j → done j ≡ true → (what j).is_def ≡ false → (what j).number ≡ n → here j ≡ p → Pending what here done out T S k n p
 
--- the operands that count: those that define or read a virtual register
+-- the operands that count: those that define or read a vreg
 abbrev pub Counts : List OperandValue → ℕ → Type 0
 Counts operands j = (j < length operands) × ((is_def (op_at operands j).kind ≡ true) ⊎ (is_reading (op_at operands j) ≡ true))
 

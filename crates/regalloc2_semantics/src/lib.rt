@@ -1,4 +1,4 @@
-//! What a listing carries for one virtual register, and from blocks to paths.
+//! What a listing carries for one vreg, and from blocks to paths.
 //!
 //! A crate of definitions and lemmas, and of one law, which is what its function ensures.
 #![tactic(auto)]

@@ -31,7 +31,7 @@ pub record HasLengths {A : Type 0} (s : StoredFunction A) : Type 0 where
 abbrev pub IsRangeWithin : ℕ → (ℕ × ℕ) → Type 0
 IsRangeWithin count r = (r.0 ≤ r.1) × (r.1 ≤ count)
 
--- blocks, instructions and labelled virtual registers are in range
+-- blocks, instructions and labelled vregs are in range
 pub record AreNumbersWithin {A : Type 0} (s : StoredFunction A) : Type 0 where
   pub entry : s.entry_block < length s.blocks.items
   pub preds : All (λ l. All (λ b. b < length s.blocks.items) l.items) s.block_preds.items
@@ -51,7 +51,7 @@ pub record NamesRegisters {A : Type 0} (m : StoredMachine A) : Type 0 where
   pub scratch : All (λ o. IfSome o IsRegisterIndex) m.scratch_by_class.items
   pub fixed_stack_slots : All IsRegisterIndex m.fixed_stack_slots.items
 
--- the numbers of parameters, arguments and labels are those of virtual registers
+-- the numbers of parameters, arguments and labels are those of vregs
 pub record NamesVRegs {A : Type 0} (s : StoredFunction A) : Type 0 where
   pub params : All (λ l. All IsVRegBits l.items) s.block_params_in.items
   pub arguments : All (λ l. All (λ k. All IsVRegBits k.items) l.items) s.block_params_out.items

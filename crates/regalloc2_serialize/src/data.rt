@@ -13,7 +13,7 @@ pub struct StoredMachine<A: Allocator = Global> {
     pub non_preferred_regs_by_class: Vec<Vec<u8, A>, A>,
     /// A register of each class through which moves may go, if one is set aside for that.
     pub scratch_by_class: Vec<Option<u8>, A>,
-    /// Names of registers that stand for places in memory.
+    /// Names of registers that stand for stack places.
     pub fixed_stack_slots: Vec<u8, A>,
 }
 
@@ -54,18 +54,18 @@ pub struct StoredFunction<A: Allocator = Global> {
     pub block_preds: Vec<Vec<u32, A>, A>,
     /// For each block those that may follow.
     pub block_succs: Vec<Vec<u32, A>, A>,
-    /// For each block the words of the virtual registers that take the arguments.
+    /// For each block the words of the vregs that take the arguments.
     pub block_params_in: Vec<Vec<u32, A>, A>,
     /// For each block and each of its successors the words of the arguments.
     pub block_params_out: Vec<Vec<Vec<u32, A>, A>, A>,
-    /// A number above that of each virtual register that is defined.
+    /// A number above that of each vreg that is defined.
     pub num_vregs: u64,
-    /// Labels: a virtual register's word, the first instruction, the end, and the label.
+    /// Labels: a vreg's word, the first instruction, the end, and the label.
     pub debug_value_labels: Vec<(u32, u32, u32, u32), A>,
     /// How many units a spill slot for a value of each class takes.
     pub spillslot_size: Vec<u64, A>,
     /// Whether a slot of several units is named by its last unit.
     pub multi_spillslot_named_by_last_slot: bool,
-    /// Whether a virtual register may have several definitions.
+    /// Whether a vreg may have several definitions.
     pub allow_multiple_vreg_defs: bool,
 }

@@ -52,7 +52,7 @@ fn register_from(index: Option<u8>) -> Option<PReg>
     }
 }
 
-/// The virtual registers of these words.
+/// The vregs of these words.
 fn vregs_from<A: Allocator>(alloc: A, words: &[u32]) -> Result<Vec<VReg, A>, AllocError>
     requires { All IsVRegBits words.now }
     ensures { IfOk result (λ vregs. vregs.items ≡ map vreg_of_bits words.now) }
@@ -87,7 +87,7 @@ fn blocks_from<A: Allocator>(alloc: A, words: &[u32]) -> Result<Vec<Block, A>, A
     Ok(blocks)
 }
 
-/// The virtual registers of these lists of words.
+/// The vregs of these lists of words.
 fn lists_of_vregs_from<A: Allocator + Copy, B: Allocator>(
     alloc: A,
     lists: &[Vec<u32, B>],

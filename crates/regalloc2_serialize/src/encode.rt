@@ -88,7 +88,7 @@ fn indexes_of_scratch<A: Allocator>(
     Ok(indexes)
 }
 
-/// The words of virtual registers.
+/// The words of vregs.
 fn words_of_vregs<A: Allocator>(alloc: A, vregs: &[VReg]) -> Result<Vec<u32, A>, AllocError>
     ensures vregs { IfOk result (λ words. map vreg_of_bits words.items ≡ vregs.now) }
     ensures names { IfOk result (λ words. All IsVRegBits words.items) }
@@ -100,7 +100,7 @@ fn words_of_vregs<A: Allocator>(alloc: A, vregs: &[VReg]) -> Result<Vec<u32, A>,
     Ok(words)
 }
 
-/// The words of lists of virtual registers.
+/// The words of lists of vregs.
 fn words_of_lists<A: Allocator, B: Allocator + Copy>(
     alloc: B,
     lists: &[Vec<VReg, A>],

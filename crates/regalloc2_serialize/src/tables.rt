@@ -12,7 +12,7 @@ use std::alloc::{Allocator, Global};
 /// An instruction.
 #[derive(Debug, Drop)]
 pub struct InstTable<A: Allocator = Global> {
-    /// What it does with virtual registers.
+    /// What it does with vregs.
     pub operands: Vec<Operand, A>,
     /// The registers that it overwrites besides.
     pub clobbers: PRegSet,

@@ -55,7 +55,7 @@ impl<A: Allocator> StoredFunction<A> {
             && self.spillslot_size.len() == 3
     }
 
-    /// Whether blocks, instructions and labelled virtual registers are in range.
+    /// Whether blocks, instructions and labelled vregs are in range.
     pub(crate) fn is_within(&self) -> bool
         ensures { IsTrue result ↔ AreNumbersWithin self.now }
     {
@@ -67,7 +67,7 @@ impl<A: Allocator> StoredFunction<A> {
             && are_labels_below(self.debug_value_labels.as_slice(), self.num_vregs)
     }
 
-    /// Whether the numbers of parameters, arguments and labels are those of virtual registers.
+    /// Whether the numbers of parameters, arguments and labels are those of vregs.
     fn names_vregs(&self) -> bool
         ensures { IsTrue result ↔ NamesVRegs self.now }
     {
@@ -76,7 +76,7 @@ impl<A: Allocator> StoredFunction<A> {
             && are_labels(self.debug_value_labels.as_slice())
     }
 
-    /// Whether each number is that of a name: registers, virtual registers and operands.
+    /// Whether each number is that of a name: registers, vregs and operands.
     pub(crate) fn names_all(&self) -> bool
         ensures { IsTrue result ↔ NamesAll self.now }
     {
@@ -138,7 +138,7 @@ fn are_ranges(ranges: &[(u32, u32)], count: usize) -> bool
         .all(|range| range.0 <= range.1 && range.1 as usize <= count)
 }
 
-/// Whether all labels are of virtual registers with a number below that one.
+/// Whether all labels are of vregs with a number below that one.
 fn are_labels_below(labels: &[(u32, u32, u32, u32)], num_vregs: u64) -> bool
     ensures { IsTrue result ↔ All (λ l. l.0 / 4 < num_vregs) labels.now }
 {
@@ -208,28 +208,28 @@ fn are_insts<A: Allocator>(insts: &[StoredInst<A>]) -> bool
     true
 }
 
-/// Whether all are words of virtual registers.
+/// Whether all are words of vregs.
 fn are_vregs(words: &[u32]) -> bool
     ensures { IsTrue result ↔ All IsVRegBits words.now }
 {
     words.iter().all(|word| VReg::is_bits(*word))
 }
 
-/// Whether all lists are of words of virtual registers.
+/// Whether all lists are of words of vregs.
 fn are_lists_of_vregs<A: Allocator>(lists: &[Vec<u32, A>]) -> bool
     ensures { IsTrue result ↔ All (λ l. All IsVRegBits l.items) lists.now }
 {
     lists.iter().all(|list| are_vregs(list.as_slice()))
 }
 
-/// Whether all lists of lists are of words of virtual registers.
+/// Whether all lists of lists are of words of vregs.
 fn are_arguments<A: Allocator>(lists: &[Vec<Vec<u32, A>, A>]) -> bool
     ensures { IsTrue result ↔ All (λ l. All (λ k. All IsVRegBits k.items) l.items) lists.now }
 {
     lists.iter().all(|list| are_lists_of_vregs(list.as_slice()))
 }
 
-/// Whether all labels are of virtual registers.
+/// Whether all labels are of vregs.
 fn are_labels(labels: &[(u32, u32, u32, u32)]) -> bool
     ensures { IsTrue result ↔ All (λ l. IsVRegBits l.0) labels.now }
 {

@@ -42,7 +42,7 @@ pub record IsFirstNumberTaken (before : Table) (ds : List DefinitionSite) (d : D
 abbrev pub NamesTaken : Table → List DefinitionSite → RegAllocError → Type 0
 NamesTaken before ds e = (d : DefinitionSite) × (e ≡ SSA d.vreg d.inst) × IsFirstNumberTaken before ds d
 
--- by the table, the virtual register is defined in number and class, by that point
+-- by the table, the vreg is defined in number and class, by that point
 abbrev pub IsDefinedInTable : Table → VirtualRegister → ℕ → Type 0
 IsDefinedInTable t v point = (e : Definition) × (entry_of t v.number ≡ Some e) × (e.class ≡ v.class) × (e.usable ≤ point)
 

@@ -1,4 +1,4 @@
-//! How long a table by virtual register's number has to be.
+//! How long a table by vreg's number has to be.
 
 ghost use Rattle.std.specs.Prelude.{◌≡◌, ◌+◌, ◌<◌, ◌≤◌, ◌⊎◌, ℕ, All, length, true};
 ghost use Rattle.regalloc2_names.specs.Operand.{is_def};
@@ -83,7 +83,7 @@ fn above_insts<F: Function>(f: &F, bound: usize) -> usize
     above
 }
 
-/// How long a table by virtual register's number has to be, to have an entry for each number that the function defines. It
+/// How long a table by vreg's number has to be, to have an entry for each number that the function defines. It
 /// is at most `num_vregs`; and where that is more than four times the instructions, one above the greatest number that an
 /// operand or a parameter defines, so that a number that only `num_vregs` names takes no memory.
 pub fn table_length<F: Function>(f: &F) -> usize

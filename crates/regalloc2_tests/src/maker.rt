@@ -19,7 +19,7 @@ pub struct Maker {
     usable: PRegSet,
     /// How many registers of each class an instruction may ask for.
     most: [usize; 3],
-    /// How many virtual registers are named.
+    /// How many vregs are named.
     named: usize,
     /// Those that may be read.
     known: Vec<VReg>,
@@ -49,14 +49,14 @@ impl Maker {
         })
     }
 
-    /// A number above that of each virtual register.
+    /// A number above that of each vreg.
     fn num_vregs(&self) -> usize
         ensures { result < 1000000 }
     {
         self.named % 1_000_000
     }
 
-    /// A virtual register of the class that wasn't named yet.
+    /// A vreg of the class that wasn't named yet.
     fn fresh(&mut self, class: RegClass) -> VReg
         ensures { result.class ≡ class }
     {
@@ -65,13 +65,13 @@ impl Maker {
         vreg
     }
 
-    /// Adds a use of one of the first virtual registers that may be read.
+    /// Adds a use of one of the first vregs that may be read.
     fn add_use(&mut self, draft: &mut Draft, defined: usize) -> Option<()> {
         let vreg = *self.known.get(self.random.below(defined.max(1)))?;
         draft.add(&mut self.random, vreg, OperandKind::Use)
     }
 
-    /// Adds uses of the first virtual registers that may be read, as long as registers are left for them.
+    /// Adds uses of the first vregs that may be read, as long as registers are left for them.
     fn fill_up(&mut self, draft: &mut Draft, defined: usize) -> Option<()> {
         for _ in 0..32 {
             let vreg = *self.known.get(self.random.below(defined.max(1)))?;
@@ -80,7 +80,7 @@ impl Maker {
         Some(())
     }
 
-    /// Adds a definition of a virtual register that wasn't named yet.
+    /// Adds a definition of a vreg that wasn't named yet.
     fn add_def(&mut self, draft: &mut Draft) -> Option<()> {
         let class = any_class(&mut self.random);
         let vreg = self.fresh(class);
@@ -124,7 +124,7 @@ impl Maker {
         Some(draft.finish(&mut self.random, is_branch, is_ret))
     }
 
-    /// Adds an instruction that defines the first virtual register of each class.
+    /// Adds an instruction that defines the first vreg of each class.
     fn add_bases(&mut self, f: &mut TableBuilder) -> Option<()> {
         let bases = CLASSES.map(|class| self.fresh(class));
         self.known.extend_from_slice(&bases).ok()?;
@@ -144,7 +144,7 @@ impl Maker {
         Some(())
     }
 
-    /// An argument of a class: a virtual register that may be read.
+    /// An argument of a class: a vreg that may be read.
     fn argument(&mut self, class: RegClass) -> Option<VReg> {
         for _ in 0..12 {
             let vreg = *self.known.get(self.random.below(self.known.len().max(1)))?;

@@ -4,7 +4,7 @@ use regalloc2_tool::ra2::answer;
 use std::alloc::{AllocError, Global};
 use std::io::{self, BufWriter, ErrorKind, Read, Write};
 
-/// A definition of a virtual register, and a return that reads it, for a machine of ten registers.
+/// A definition of a vreg, and a return that reads it, for a machine of ten registers.
 const TEXT: &str = "{\"machine_env\":{\"preferred_regs_by_class\":[[0,1,2,3,4,5,6,7,8,9],[],[]],\
     \"non_preferred_regs_by_class\":[[],[],[]],\"scratch_by_class\":[null,null,null],\
     \"fixed_stack_slots\":[]},\"entry_block\":0,\"insts\":[\

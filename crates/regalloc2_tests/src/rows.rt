@@ -12,19 +12,19 @@ use regalloc2::{Block, Ctx, Operand, Output, RegAllocError, RegClass, VReg, is_f
 use regalloc2_serialize::table_function::{BuildError, TableBuilder, TableFunction};
 use std::alloc::Global;
 
-/// An integer virtual register, whose number is taken below 2^20.
+/// An integer vreg, whose number is taken below 2^20.
 pub fn vreg(number: usize) -> VReg
     ensures { result.class ≡ RegClass.Int }
 {
     VReg::new(number % 1_048_576, RegClass::Int)
 }
 
-/// A definition of an integer virtual register in a register.
+/// A definition of an integer vreg in a register.
 pub fn def(number: usize) -> Operand {
     Operand::reg_def(vreg(number))
 }
 
-/// A use of an integer virtual register in a register.
+/// A use of an integer vreg in a register.
 pub fn read(number: usize) -> Operand {
     Operand::reg_use(vreg(number))
 }

@@ -25,7 +25,7 @@ pub register_ended : (n : ℕ) (end rest : List ℕ) (c : RegClass) (r : Registe
     codes "p" ++ (decimal n ++ end) ≡ register_text r ++ rest
 register_ended n end rest c r e q f = simp (f, q, e, append_assoc)
 
--- what precedes a virtual register's number is written with the letter before it
+-- what precedes a vreg's number is written with the letter before it
 pub head_ended : (k n : ℕ) (head : List ℕ) (kind : OperandKind) (pos : OperandPos) (o : OperandValue) → n ≡ o.vreg.number → kind ≡ o.kind →
     pos ≡ o.position → head ≡ separator_text k ++ kind_text kind pos ++ codes ": " ++ codes "v" →
     head ++ decimal n ≡ separator_text k ++ kind_text o.kind o.position ++ codes ": " ++ vreg_text o.vreg
@@ -49,7 +49,7 @@ register_place NoPlace r e = absurd cc
 register_place (InRegister q) r e = let same : r ≡ q = cc in ap register_text same
 register_place (InSlot n) r e = absurd cc
 
--- an operand that names a virtual register is written in three parts
+-- an operand that names a vreg is written in three parts
 pub named_written : {X E : Type 0} (r : Result X E) (a b c d : Option (List ℕ)) (k : ℕ) (o : OperandValue) (p : Place) (class : RegClass)
     (constraint : OperandConstraint) → nonallocatable_register o ≡ None → class ≡ o.vreg.class → constraint ≡ o.constraint →
     Appends a b (separator_text k ++ kind_text o.kind o.position ++ codes ": " ++ vreg_text o.vreg) →

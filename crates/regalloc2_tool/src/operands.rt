@@ -22,7 +22,7 @@ fn separator(k: usize) -> &'static str
     if k == 0 { ": " } else { ", " }
 }
 
-/// What stands before the number of the first operand's virtual register.
+/// What stands before the number of the first operand's vreg.
 fn first_head(kind: OperandKind, pos: OperandPos) -> &'static str
     ensures { result.now ≡ codes ": " ++ kind_text kind pos ++ codes ": " ++ codes "v" }
 {
@@ -34,7 +34,7 @@ fn first_head(kind: OperandKind, pos: OperandPos) -> &'static str
     }
 }
 
-/// What stands before the number of a further operand's virtual register.
+/// What stands before the number of a further operand's vreg.
 fn next_head(kind: OperandKind, pos: OperandPos) -> &'static str
     ensures { result.now ≡ codes ", " ++ kind_text kind pos ++ codes ": " ++ codes "v" }
 {
@@ -46,7 +46,7 @@ fn next_head(kind: OperandKind, pos: OperandPos) -> &'static str
     }
 }
 
-/// What stands before the number of an operand's virtual register, as `, Use: v`.
+/// What stands before the number of an operand's vreg, as `, Use: v`.
 fn head_of(k: usize, kind: OperandKind, pos: OperandPos) -> &'static str
     ensures { result.now ≡ separator_text k ++ kind_text kind pos ++ codes ": " ++ codes "v" }
 {
@@ -68,7 +68,7 @@ fn letter_of(class: RegClass) -> &'static str
     }
 }
 
-/// What stands between a virtual register's number and the place under `Any`.
+/// What stands between a vreg's number and the place under `Any`.
 fn any_of(class: RegClass) -> &'static str
     ensures { result.now ≡ class_letter class ++ codes " " ++ codes "any" ++ codes " [" }
 {
@@ -79,7 +79,7 @@ fn any_of(class: RegClass) -> &'static str
     }
 }
 
-/// What stands between a virtual register's number and the place under `Reg`.
+/// What stands between a vreg's number and the place under `Reg`.
 fn reg_of(class: RegClass) -> &'static str
     ensures { result.now ≡ class_letter class ++ codes " " ++ codes "reg" ++ codes " [" }
 {
@@ -90,7 +90,7 @@ fn reg_of(class: RegClass) -> &'static str
     }
 }
 
-/// What stands between a virtual register's number and the place under `Stack`.
+/// What stands between a vreg's number and the place under `Stack`.
 fn stack_of(class: RegClass) -> &'static str
     ensures { result.now ≡ class_letter class ++ codes " " ++ codes "stack" ++ codes " [" }
 {
@@ -101,7 +101,7 @@ fn stack_of(class: RegClass) -> &'static str
     }
 }
 
-/// What stands between a virtual register's number and that of its fixed register.
+/// What stands between a vreg's number and that of its fixed register.
 fn fixed_of(class: RegClass) -> &'static str
     ensures { result.now ≡ class_letter class ++ codes " " ++ codes "fixed(" ++ codes "p" }
 {
@@ -123,7 +123,7 @@ fn end_of_fixed(class: RegClass) -> &'static str
     }
 }
 
-/// What stands between a virtual register's number and the index of a reuse.
+/// What stands between a vreg's number and the index of a reuse.
 fn reuse_of(class: RegClass) -> &'static str
     ensures { result.now ≡ class_letter class ++ codes " " ++ codes "reuse(" }
 {
@@ -145,7 +145,7 @@ fn end_of_register(class: RegClass) -> &'static str
     }
 }
 
-/// Writes a separator, and an operand's kind and virtual register without its class.
+/// Writes a separator, and an operand's kind and vreg without its class.
 fn write_head<W: Write>(k: usize, operand: Operand, writer: &mut W) -> io::Result<()>
     ensures { OnOk result (Appends (W.contents writer.old) (W.contents writer.new)
         (separator_text k ++ kind_text operand.kind operand.position ++ codes ": " ++ vreg_text operand.vreg)) }
@@ -226,7 +226,7 @@ fn write_place<W: Write>(place: Allocation, writer: &mut W) -> io::Result<()>
     }
 }
 
-/// Writes an operand that names a virtual register.
+/// Writes an operand that names a vreg.
 fn write_named<W: Write>(
     k: usize,
     operand: Operand,

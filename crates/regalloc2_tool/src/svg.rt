@@ -1,4 +1,4 @@
-//! A picture, as SVG, of where each virtual register stands in an allocated function.
+//! A picture, as SVG, of where each vreg stands in an allocated function.
 
 mod head;
 mod lanes;

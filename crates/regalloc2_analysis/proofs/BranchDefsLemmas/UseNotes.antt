@@ -85,7 +85,7 @@ reads_here f i k lt few reads =
     let o : OperandValue = op_at (inst_at f i).operands k in
     used_at f o.vreg i o.position (lt, (k, o, few, get_or_default (inst_at f i).operands k o no_operand few, reads, refl, refl))
 
--- a definition of a number at an instruction, as one of a virtual register
+-- a definition of a number at an instruction, as one of a vreg
 defines_there : (f : FunctionValue) (v : VirtualRegister) (i : ℕ) (d : DefinesAt f v i) → DefinesNumber (inst_at f i).operands v.number d.1.0
 defines_there f v i d =
     let is : op_at (inst_at f i).operands d.1.0 ≡ d.1.1 = get_or_default (inst_at f i).operands d.1.0 no_operand d.1.1 d.1.2 ∙ d.1.3 in

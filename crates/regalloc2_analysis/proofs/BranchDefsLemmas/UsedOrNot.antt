@@ -1,4 +1,4 @@
--- A virtual register is used elsewhere, or it isn't.
+-- A vreg is used elsewhere, or it isn't.
 use Rattle.std.proofs.Common.{ℕ, zero, suc, ◌≡◌, ◌<◌, ◌⊎◌, inl, inr, Bool, true, false, [], length, refl, sym, ap, ◌∙◌, subst, arith}
 use Rattle.std.specs.Prelude.{slice_index_or}
 use Rattle.std.proofs.lemmas.Bool.{cases_eq, cases_lt}
@@ -148,7 +148,7 @@ some_use f v i (inr (inr p)) = inr (
   ),
 )
 
--- a virtual register is used elsewhere, or it isn't
+-- a vreg is used elsewhere, or it isn't
 pub used_or_not : (f : FunctionValue) (v : VirtualRegister) → IsUsedElsewhere f v ⊎ (IsUsedElsewhere f v → ⊥)
 used_or_not f v = elim (below (SomeReads f v) (some_reads f v) (length f.insts)) [
   | inl r ↦ inl (by_read f v r)

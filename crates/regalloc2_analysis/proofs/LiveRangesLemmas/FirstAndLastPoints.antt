@@ -1,4 +1,4 @@
--- First and last points: a virtual register has one of each, and the walk finds them.
+-- First and last points: a vreg has one of each, and the walk finds them.
 use Rattle.std.proofs.Common.{ℕ, ◌≡◌, ◌+◌, ◌<◌, ◌≤◌, ◌⊎◌, inl, inr, true, false, length, refl, sym, ap, subst, eq-eqb, arith}
 use Rattle.std.proofs.lemmas.Bool.{cases_Bool, cases_lt}
 use Rattle.std.proofs.lemmas.Bool.Decides.{Decides-eqb}
@@ -25,7 +25,7 @@ use Rattle.regalloc2_analysis.proofs.LiveRangesLemmas.UsesInSSA.{read_number, re
 one_last : (f : FunctionValue) (v : VirtualRegister) (i j : ℕ) → IsLastUse f v i → IsLastUse f v j → i ≡ j
 one_last f v i j a b = let x : i ≤ j = b.1 i a.0 in let y : j ≤ i = a.1 j b.0 in omega (arith, x, y)
 
--- the operand whose place shows a virtual register is one of the function's; where there is none, the virtual register is passed
+-- the operand whose place shows a vreg is one of the function's; where there is none, the vreg is passed
 pub shown_within : (f : FunctionValue) (v : VirtualRegister) {by : Option InstOperand} → IsShownBy f v by →
     MatchOption by ((i : ℕ) × PassesAt f v i) (λ o. (o.inst < length f.insts) × (o.index < length (inst_at f o.inst).operands)
     × ((op_at (inst_at f o.inst).operands o.index).vreg ≡ v))
@@ -35,14 +35,14 @@ shown_within f v (by_argument i last never nor) = (i, elim last.0 [ inl r ↦ ab
 shown_within f v (by_definition o never definer) = (definer.inst, definer.index, definer.vreg)
 
 module _ (f : FunctionValue) (ssa : IsSSA f) where
-  -- one instruction defines a virtual register
+  -- one instruction defines a vreg
   one_definition : (v : VirtualRegister) (i j : ℕ) → DefinesAt f v i → DefinesAt f v j → i ≡ j
   one_definition v i j a b = (one_operand f ssa.once v.number i j a.1.0 b.1.0 (defines_number f v i a) (defines_number f v j b)).0
 
   no_both : (v : VirtualRegister) (i b : ℕ) → DefinesAt f v i → b < length f.blocks → Contains (block_at f b).params v → ⊥
   no_both v i b d lt h = not_both f ssa.once v.number i d.1.0 b h.0 (defines_number f v i d) (takes_number f v b lt h)
 
-  -- a virtual register has one first point
+  -- a vreg has one first point
   pub one_first_point : (v : VirtualRegister) {p q : ℕ} → IsFirstPoint f v p → IsFirstPoint f v q → p ≡ q
   one_first_point v (begins_at_definition i a) (begins_at_definition j b) = ap after (one_definition v i j a b)
   one_first_point v (begins_at_definition i a) (of_parameter b lt h) = absurd (no_both v i b a lt h)
@@ -69,7 +69,7 @@ module _ (f : FunctionValue) (ssa : IsSSA f) where
   one_last_point v (ends_at_definition i d never) (of_argument j b none m) = absurd (never j b.0)
   one_last_point v (ends_at_definition i d never) (ends_at_definition j e none) = ap (λ (n : ℕ). before (n + 1)) (one_definition v i j d e)
 
-  -- the first operand that reads the number is the first that reads its virtual register
+  -- the first operand that reads the number is the first that reads its vreg
   first_reader : (v : VirtualRegister) → Made f v → (at : OperandPos) (i k : ℕ) → i < length f.insts → ReadsFirst (inst_at f i).operands v.number at k →
       IsFirstReader f v at (record { inst = i; index = k })
   first_reader v made at i k lt r = record {

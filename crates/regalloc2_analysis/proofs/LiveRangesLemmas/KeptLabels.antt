@@ -109,7 +109,7 @@ module _ (f : FunctionValue) (limited : IsLimited f) (ssa : IsSSA f) (t : List (
       let q : end ≡ r.last = one_last_point f ssa l.vreg k.1 (subst (λ (v : VirtualRegister). IsLastPoint f v r.last) same live.last) in
       (same, rw (first, ← p) k.2, rw (last, ← q) k.3)
 
--- virtual registers of one number and one word are the same
+-- vregs of one number and one word are the same
 pub same_word : (a b : VirtualRegister) → a.number ≡ b.number → nat_eq (a.number * 4 + class_code a.class) (b.number * 4 + class_code b.class) ≡ true → a ≡ b
 same_word a b number word =
     let words = (Decides-eqb (a.number * 4 + class_code a.class) (b.number * 4 + class_code b.class)).0 word in

@@ -117,7 +117,7 @@ taken_same Asked vs m ends t v less is none h k lt within asked some = elim (bel
       some (ap (λ (w : VirtualRegister). end_at ends w.number) at ∙ none (subst (λ (w : VirtualRegister). Asked w.number) at asked)))
 ]
 
--- the table of ends has an entry for each virtual register, and the uses from an instruction on are noted there
+-- the table of ends has an entry for each vreg, and the uses from an instruction on are noted there
 pub record AreNoted (f : FunctionValue) (Asked : ℕ → Type 0) (i : ℕ) (ends : List (Option RangeEnd)) : Type 0 where
   pub room : HasRoom f (length ends)
   pub noted : AreEndsFrom f Asked i ends
@@ -256,12 +256,12 @@ pub param_within : (f : FunctionValue) (b : ℕ) (vs : List VirtualRegister) (k 
     v ≡ slice_index_or vs k v → Contains (block_at f b).params v
 param_within f b vs k v same lt is = subst (λ (ws : List VirtualRegister). Contains ws v) same (k, lt, sym is)
 
--- the entry of the table of ends that was read at the number of a virtual register
+-- the entry of the table of ends that was read at the number of a vreg
 pub record IsRead (ends : List (Option RangeEnd)) (v : VirtualRegister) (n : ℕ) (o : Option RangeEnd) : Type 0 where
   pub number : n ≡ v.number
   pub entry : o ≡ slice_index_or ends n None
 
--- a range of a virtual register a from p to d that is made where the operand k of the instruction i defines v; q is the point behind the instruction
+-- a range of a vreg a from p to d that is made where the operand k of the instruction i defines v; q is the point behind the instruction
 pub record IsMade (i k : ℕ) (v a : VirtualRegister) (p q : ℕ) (o : Option RangeEnd) (d : RangeEnd) : Type 0 where
   pub same : a ≡ v
   pub first : p ≡ after i

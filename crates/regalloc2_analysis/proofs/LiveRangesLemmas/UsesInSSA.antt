@@ -1,4 +1,4 @@
--- What a number's uses say of the virtual register that has it, in a function in SSA form.
+-- What a number's uses say of the vreg that has it, in a function in SSA form.
 use Rattle.std.proofs.Common.{ℕ, ◌≡◌, ◌+◌, ◌<◌, ◌≤◌, inl, inr, true, List, [], length, refl, sym, ap, ◌∙◌, subst, arith}
 use Rattle.std.specs.Prelude.{Contains, slice_index_or}
 use Rattle.std.proofs.lemmas.Bool.{cases_lt}
@@ -138,7 +138,7 @@ module _ (f : FunctionValue) (ssa : IsSSA f) where
   parameter_small n room v b lt h = room v (before (block_at f b).range.first) (inl (b, lt, omega arith, h))
       (made_small f ssa.once v (made_by_parameter f v b lt h))
 
-  -- who reads a number that is made reads its virtual register
+  -- who reads a number that is made reads its vreg
   pub is_reader : (v : VirtualRegister) → Made f v → (at : OperandPos) (i k : ℕ) → i < length f.insts → ReadsNumber (inst_at f i).operands v.number at k →
       IsReader f v at (record { inst = i; index = k })
   is_reader v made at i k lt r =

@@ -1,4 +1,4 @@
--- Blocks, each with a virtual register, and how lists of them grow.
+-- Blocks, each with a vreg, and how lists of them grow.
 use Rattle.std.proofs.Common.{ℕ, ◌≡◌, Bool, true, false, cond, List, [], ◌∷◌, ◌++◌, refl, sym, ap, ◌∙◌, subst, nat_eq, eqb-true, append_assoc}
 use Rattle.std.proofs.Common.{append-nil, inl, inr}
 use Rattle.std.specs.Prelude.{◌&&◌, ◌||◌, not}

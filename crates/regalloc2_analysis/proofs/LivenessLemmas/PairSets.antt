@@ -1,4 +1,4 @@
--- Sets of virtual registers for blocks, by their words.
+-- Sets of vregs for blocks, by their words.
 use Rattle.std.proofs.Common.{ℕ, zero, suc, ◌≡◌, ◌≢◌, ◌+◌, ◌*◌, ◌/◌, ◌%◌, ◌<◌, ◌≤◌, Bool, true, false, cond, List, [], ◌∷◌, ◌++◌, length, get_or, set}
 use Rattle.std.proofs.Common.{refl, sym, ap, ◌∙◌, subst, arith, inl, inr, nat_eq, eqb-true, eq-eqb}
 use Rattle.std.specs.Prelude.{◌&&◌, ◌||◌, map}
@@ -33,7 +33,7 @@ vreg_back v =
     vregs ((v.number * 4 + class_code v.class) / 4) v.number (class_of_code ((v.number * 4 + class_code v.class) % 4)) v.class (omega arith)
     (ap class_of_code code ∙ class_back v.class)
 
--- words tell virtual registers apart
+-- words tell vregs apart
 same_bits : (u v : VirtualRegister) → nat_eq (bits_of_vreg u) (bits_of_vreg v) ≡ is_vreg v u
 same_bits u v = equal_tests _ _
     (λ h. let e : bits_of_vreg u ≡ bits_of_vreg v = eqb-true _ _ h in
@@ -95,7 +95,7 @@ or_no true false c e = refl
 or_no false false c e = refl
 or_no a true c e = absurd cc
 
--- a virtual register more in a block's set
+-- a vreg more in a block's set
 pub gains_one : (old sets : BlockSets) (b : ℕ) (s t : NumberSet) (u : VirtualRegister) → b < length sets → s ≡ get_or sets b s →
     ((i : ℕ) → has_number t i ≡ cond (nat_eq i (bits_of_vreg u)) true (has_number s i)) →
     ((p : Pair) → holds sets p ≡ holds old p) → Gains b (is_vreg u) (holds old) (holds (set sets b t))

@@ -1,4 +1,4 @@
--- The live ranges of virtual registers as a debugger can be shown them, and the labels that are kept.
+-- The live ranges of vregs as a debugger can be shown them, and the labels that are kept.
 -- The points are those of regalloc2_function/specs/DebugPoints.antt; here is which operand's place shows the value.
 use Rattle.std.specs.Prelude.{ℕ, ◌≡◌, ◌<◌, List, [], ◌∷◌, length, slice_index_or, Bool, true, false, Option, None, Some}
 use Rattle.std.specs.List.{Any}
@@ -51,7 +51,7 @@ pub data IsShownBy (f : FunctionValue) (v : VirtualRegister) : Option InstOperan
   by_argument : (i : ℕ) → IsLastUse f v i → (ReadsAt f v Late i → ⊥) → (ReadsAt f v Early i → ⊥) → IsShownBy f v None
   by_definition : (o : InstOperand) → ((j : ℕ) → UsesAt f v j → ⊥) → IsDefiner f v o → IsShownBy f v (Some o)
 
--- the live range of its virtual register
+-- the live range of its vreg
 pub record IsLiveRange (f : FunctionValue) (r : LiveRange) : Type 0 where
   pub first : IsFirstPoint f r.vreg r.first
   pub last : IsLastPoint f r.vreg r.last
@@ -65,12 +65,12 @@ range_at t n = slice_index_or t n None
 abbrev pub IsWanted : List Bool → ℕ → Type 0
 IsWanted wanted n = slice_index_or wanted n false ≡ true
 
--- a label names a virtual register of the number
+-- a label names a vreg of the number
 abbrev pub IsLabelled : FunctionValue → ℕ → Type 0
 IsLabelled f n = Any (λ l. l.vreg.number ≡ n) f.labels
 
 -- A table by number of live ranges, of all numbers that are asked for: there is room for all that the function defines, each entry is that of a
--- virtual register of the number, and each virtual register of such a number with a first and a last point has its entry.
+-- vreg of the number, and each vreg of such a number with a first and a last point has its entry.
 pub record AreLiveRanges (f : FunctionValue) (Asked : ℕ → Type 0) (t : List (Option LiveRange)) : Type 0 where
   pub room : HasRoom f (length t)
   pub found : (n : ℕ) (r : LiveRange) → range_at t n ≡ Some r → (r.vreg.number ≡ n) × IsLiveRange f r

@@ -10,7 +10,7 @@ use Rattle.regalloc2_analysis.specs.declared.live_ranges.LiveRange.{LiveRange}
 use Rattle.regalloc2_analysis.specs.LiveRanges.LiveRanges.{IsLiveRange, range_at}
 use Rattle.regalloc2_analysis.specs.LiveRanges.LastUses.{EndsFrom, end_at}
 
--- each entry is the live range of a virtual register of its number
+-- each entry is the live range of a vreg of its number
 abbrev pub AreRight : FunctionValue → List (Option LiveRange) → Type 0
 AreRight f t = (n : ℕ) (r : LiveRange) → range_at t n ≡ Some r → (r.vreg.number ≡ n) × IsLiveRange f r
 

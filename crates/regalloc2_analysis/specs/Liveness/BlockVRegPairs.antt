@@ -1,11 +1,11 @@
--- Blocks, each paired with a virtual register: in lists, and in sets for each block.
+-- Blocks, each paired with a vreg: in lists, and in sets for each block.
 use Rattle.std.specs.Prelude.{ℕ, ◌≡◌, Bool, false, ◌&&◌, ◌||◌, nat_eq, List, ◌++◌, map, slice_index_or}
 use Rattle.std.specs.List.{list_any}
 use Rattle.regalloc2_names.specs.Register.{VirtualRegister, is_vreg}
 use Rattle.regalloc2_names.specs.RegisterBits.{bits_of_vreg}
 use Rattle.regalloc2_shape.specs.Numbers.{NumberSet, has_number}
 
--- a block and a virtual register
+-- a block and a vreg
 abbrev pub Pair : Type 0
 Pair = ℕ × VirtualRegister
 
@@ -13,15 +13,15 @@ Pair = ℕ × VirtualRegister
 unfoldable pub lists : List Pair → Pair → Bool
 lists ps p = list_any (λ q. nat_eq q.0 p.0 && is_vreg q.1 p.1) ps
 
--- sets of virtual registers, one for each of the first blocks, as sets of their words
+-- sets of vregs, one for each of the first blocks, as sets of their words
 abbrev pub BlockSets : Type 0
 BlockSets = List NumberSet
 
--- whether a block's set has a virtual register; a block past the last set has none
+-- whether a block's set has a vreg; a block past the last set has none
 unfoldable pub holds : BlockSets → Pair → Bool
 holds sets p = slice_index_or (map (λ s. has_number s (bits_of_vreg p.1)) sets) p.0 false
 
--- the new pairs are the old ones, and beside them a block's virtual registers that pass a test
+-- the new pairs are the old ones, and beside them a block's vregs that pass a test
 abbrev pub Gains : ℕ → (VirtualRegister → Bool) → (Pair → Bool) → (Pair → Bool) → Type 0
 Gains b test old new = (p : Pair) → new p ≡ (old p || (nat_eq b p.0 && test p.1))
 

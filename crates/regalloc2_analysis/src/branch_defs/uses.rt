@@ -1,4 +1,4 @@
-//! Which virtual registers another instruction uses than the one that defines them.
+//! Which vregs another instruction uses than the one that defines them.
 
 ghost use Rattle.std.specs.Prelude.{◌≡◌, ◌<◌, ◌+◌, ◌↔◌, true, false, ℕ, [], length, slice_index_or, IfOk};
 ghost use Rattle.regalloc2_names.specs.Operand.{is_reading};

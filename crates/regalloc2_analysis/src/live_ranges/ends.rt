@@ -1,4 +1,4 @@
-//! Where live ranges end: at the last use of each virtual register, which a backward walk meets first.
+//! Where live ranges end: at the last use of each vreg, which a backward walk meets first.
 
 ghost use Rattle.std.specs.Prelude.{◌≡◌, ◌≢◌, ◌+◌, ◌<◌, ◌≤◌, ℕ, [], length, slice_index_or, ◌&&◌, Some};
 ghost use Rattle.std.specs.Option.{option_or};

@@ -1,4 +1,4 @@
-//! The labels that lie within the live ranges of their virtual registers.
+//! The labels that lie within the live ranges of their vregs.
 
 ghost use Rattle.std.specs.Prelude.{◌≡◌, ℕ, [], IfErr, IfOk, IsOk, MatchOption};
 ghost use Rattle.regalloc2_function.specs.FunctionValue.{label_of};
@@ -62,10 +62,10 @@ fn keep_labels<A: Allocator + Copy, F: Function>(
     Ok(kept)
 }
 
-/// The debug labels of a function that are kept, as listed, each with the live range of its virtual register.
+/// The debug labels of a function that are kept, as listed, each with the live range of its vreg.
 ///
-/// A label is kept where its virtual register has a first and a last point, and the label starts at or after the first one's
-/// instruction and ends at most one past the last one's, as upstream's `build_debug_info` has it. Where the virtual register has
+/// A label is kept where its vreg has a first and a last point, and the label starts at or after the first one's
+/// instruction and ends at most one past the last one's, as upstream's `build_debug_info` has it. Where the vreg has
 /// a spill slot in the end, that shows the value; else the place of the operand that `range.by` names does. It names none only
 /// where an argument is the last use, and arguments are passed in slots. Conditions are those of [`live_ranges`].
 ///

@@ -1,4 +1,4 @@
-//! Tables with an entry for each wanted virtual register alone, since few are wanted and entries are long. A list by number says where each
+//! Tables with an entry for each wanted vreg alone, since few are wanted and entries are long. A list by number says where each
 //! one's entry is: its slot.
 
 ghost use Rattle.std.specs.Prelude.{ℕ, ◌≡◌, ◌≢◌, ◌<◌, ◌^◌, length, set, slice_index_or, IfOk, None, Some};

@@ -81,7 +81,7 @@ fn walk_blocks<F: Function>(
     }
 }
 
-/// The live ranges of the virtual registers that are wanted, in tables that are as long as there are such.
+/// The live ranges of the vregs that are wanted, in tables that are as long as there are such.
 pub fn few_ranges<A: Allocator + Copy, F: Function>(
     alloc: A,
     f: &F,
@@ -121,7 +121,7 @@ fn spread_out<A: Allocator + Copy>(
     Ok(ranges)
 }
 
-/// The live ranges of the virtual registers that are wanted, by number: none for a number that isn't defined, or that is a parameter's and
+/// The live ranges of the vregs that are wanted, by number: none for a number that isn't defined, or that is a parameter's and
 /// never used. Where all are wanted, each is there.
 ///
 /// Each is that of upstream's `vreg_to_live_inst_range`. Of the function is asked what each well-formed one has (`IsSSA`): its

@@ -1,4 +1,4 @@
-//! Of which virtual registers live ranges are wanted: those that labels name. Most functions label few, and the walk passes over
+//! Of which vregs live ranges are wanted: those that labels name. Most functions label few, and the walk passes over
 //! instructions that name none of them.
 
 ghost use Rattle.std.specs.Prelude.{ℕ, ◌≡◌, ◌≢◌, ◌<◌, ◌+◌, ◌↔◌, false, length, slice_index_or, IsTrue, IfOk};

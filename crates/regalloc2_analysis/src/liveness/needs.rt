@@ -10,7 +10,7 @@ use regalloc2_names::VReg;
 use std::alloc::{AllocError, Allocator};
 use std::marker::Model;
 
-/// The virtual registers that blocks are found to need at their beginnings: pairs in the order in which they were found,
+/// The vregs that blocks are found to need at their beginnings: pairs in the order in which they were found,
 /// each once.
 #[derive(Drop)]
 pub struct Needs<A: Allocator> {

@@ -1,4 +1,4 @@
-//! Sets of virtual registers, one for each block.
+//! Sets of vregs, one for each block.
 
 ghost use Rattle.std.specs.Prelude.{◌≡◌, ◌+◌, ◌<◌, [], length, OnErr, OnOk};
 ghost use Rattle.regalloc2_names.specs.Register.{is_vreg};
@@ -10,7 +10,7 @@ use regalloc2_shape::indexset::IndexSet;
 use std::alloc::{AllocError, Allocator};
 use std::marker::Model;
 
-/// A set of virtual registers for each block, by their words. Sets are made as blocks come.
+/// A set of vregs for each block, by their words. Sets are made as blocks come.
 #[derive(Drop)]
 pub struct BlockVRegs<A: Allocator> {
     sets: Vec<IndexSet<A>, A>,
@@ -26,7 +26,7 @@ impl<A: Allocator> Model for BlockVRegs<A> {
 }
 
 impl<A: Allocator + Copy> BlockVRegs<A> {
-    /// No virtual register for any block.
+    /// No vreg for any block.
     pub fn new(alloc: A) -> Self
         ensures { result ≡ [] }
     {
@@ -36,7 +36,7 @@ impl<A: Allocator + Copy> BlockVRegs<A> {
         }
     }
 
-    /// Whether a block's set has a virtual register.
+    /// Whether a block's set has a vreg.
     pub fn has(&self, block: Block, vreg: VReg) -> bool
         ensures { result ≡ holds self.now (block, vreg) }
     {
@@ -57,7 +57,7 @@ impl<A: Allocator + Copy> BlockVRegs<A> {
         Ok(())
     }
 
-    /// Adds a virtual register to a block's set. Out of memory, no set gains or loses one.
+    /// Adds a vreg to a block's set. Out of memory, no set gains or loses one.
     pub fn add(&mut self, block: Block, vreg: VReg) -> Result<(), AllocError>
         ensures ok { OnOk result (Gains block (is_vreg vreg) (holds self.old) (holds self.new)) }
         ensures err { OnErr result ((p : Pair) → holds self.new p ≡ holds self.old p) }

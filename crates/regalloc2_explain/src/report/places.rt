@@ -14,7 +14,7 @@ pub(crate) fn operand_of(bits: u64) -> Option<Operand> {
     }
 }
 
-/// Whether the place of a word is in memory: a spill slot, or a register that is a fixed stack slot.
+/// Whether the place of a word is on the stack: a spill slot, or a register that is a fixed stack slot.
 pub(crate) fn is_memory(machine: &StoredMachine, bits: u32) -> bool {
     if !Allocation::is_bits(bits) {
         return false;

@@ -13,7 +13,7 @@ pub struct Stats {
     pub insts: usize,
     /// The blocks.
     pub blocks: usize,
-    /// The count of virtual registers that the function gives.
+    /// The count of vregs that the function gives.
     pub vregs: u64,
     /// The operands by constraint: `any`, `reg`, `stack`, `fixed`, `reuse` and `limit`.
     pub operands: [u64; 6],

@@ -1,4 +1,4 @@
--- The debug location of each label that is kept names a proper place that holds its virtual register's value.
+-- The debug location of each label that is kept names a proper place that holds its vreg's value.
 use Rattle.std.proofs.Common.{ℕ, ◌≡◌, ◌<◌, inl, inr, false, length, refl, sym, ap, subst}
 use Rattle.std.specs.Prelude.{Option}
 use Rattle.regalloc2_names.specs.Register.{VirtualRegister}
@@ -49,7 +49,7 @@ module _ (env : MachineValue) (f : FunctionValue) (limited : IsLimited f) (ok : 
 module _ (walk : WholeWalk) (m : IsMade walk.f walk.env (Made walk.f) (MayInBlocks walk.f) walk.last walk.out) where
   open walk use {env, f, limited, ok, blank, begin, last, out, empty, fit, walks}
 
-  -- an operand's place is proper for its virtual register
+  -- an operand's place is proper for its vreg
   operand_proper : (v : VirtualRegister) (o : InstOperand) → o.inst < length f.insts → o.index < length (inst_at f o.inst).operands →
       is_fixed_nonallocatable (op_at (inst_at f o.inst).operands o.index) ≡ false → (op_at (inst_at f o.inst).operands o.index).vreg ≡ v →
       IsProperPlace env out v.class (place_at (allocs_of out o.inst) o.index)

@@ -1,4 +1,4 @@
--- An instruction that defines a virtual register leaves what it writes in its slot, once the moves behind it have run.
+-- An instruction that defines a vreg leaves what it writes in its slot, once the moves behind it have run.
 -- The fold in `Changes` of regalloc2_fastalloc_proofs doesn't fit: an operand's place is handed from its selection to the steps that follow.
 use Rattle.std.proofs.Common.{ℕ, ◌≡◌, ◌≢◌, ◌+◌, ◌<◌, ◌≤◌, inl, inr, Bool, true, false, List, length, refl, sym, ap, ◌∙◌, subst, arith}
 use Rattle.std.specs.Prelude.{slice_index_or, slice_set}

@@ -1,4 +1,4 @@
--- An instruction that defines a virtual register, with the moves around it: what it wrote is in the slot behind it.
+-- An instruction that defines a vreg, with the moves around it: what it wrote is in the slot behind it.
 use Rattle.std.proofs.Common.{ℕ, ◌≡◌, ◌+◌, ◌*◌, ◌<◌, inl, inr, Bool, true, false, List, [], length, refl, sym, ap, ◌∙◌, subst, arith, suc}
 use Rattle.std.specs.Prelude.{None, Some, slice_index_or}
 use Rattle.std.proofs.lemmas.Bool.{cases_Bool}

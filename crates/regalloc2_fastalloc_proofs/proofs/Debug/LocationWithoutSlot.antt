@@ -1,4 +1,4 @@
--- Where a virtual register without a slot is along the walk: nowhere behind its last use, and from there to its definition in the place of
+-- Where a vreg without a slot is along the walk: nowhere behind its last use, and from there to its definition in the place of
 -- the operand that reads it last.
 use Rattle.std.proofs.Common.{ℕ, ◌≡◌, ◌≢◌, ◌+◌, ◌<◌, ◌≤◌, inl, inr, true, List, length, sym, ◌∙◌, subst, arith}
 use Rattle.std.specs.Prelude.{slice_index_or}

@@ -1,4 +1,4 @@
--- The moves before an instruction leave a virtual register's slot alone, or the instruction reads it there.
+-- The moves before an instruction leave a vreg's slot alone, or the instruction reads it there.
 use Rattle.std.proofs.Common.{ℕ, suc, ◌≡◌, ◌≢◌, ◌+◌, ◌<◌, ◌≤◌, Bool, true, false, List, [], ◌∷◌, length, map, nat_eq, nat_lt, refl, sym, ap, ◌∙◌, ◌⊎◌, inl, inr}
 use Rattle.std.proofs.Common.{subst, arith, eqb-true}
 use Rattle.std.specs.Prelude.{All, filter, ◌&&◌}

@@ -1,4 +1,4 @@
--- Where a virtual register has no slot, the place of the operand that reads it last shows its value on every path from its definition to each use.
+-- Where a vreg has no slot, the place of the operand that reads it last shows its value on every path from its definition to each use.
 use Rattle.std.proofs.Common.{ℕ, ◌≡◌, ◌<◌, ◌≤◌, inl, inr, true, false, List, ◌∷◌, length, refl, sym, ap, ◌∙◌, subst, arith}
 use Rattle.std.specs.Prelude.{None, Some}
 use Rattle.std.proofs.lemmas.Bool.{cases_lt}

@@ -1,4 +1,4 @@
--- A place where a virtual register is located before an instruction, and that is no slot, keeps its value over the moves before the instruction.
+-- A place where a vreg is located before an instruction, and that is no slot, keeps its value over the moves before the instruction.
 use Rattle.std.proofs.Common.{ℕ, zero, suc, ◌≡◌, ◌≢◌, ◌+◌, ◌<◌, inl, inr, true, false, List, [], ◌∷◌, length, refl, sym, ap, ◌∙◌, subst, arith}
 use Rattle.std.specs.Prelude.{None, Some}
 use Rattle.regalloc2_names.specs.declared.OperandConstraint.TheVariants.{Any}
@@ -51,7 +51,7 @@ nothing_carried : (v : VirtualRegister) (ms : List MoveValue) (L : List Item) �
 nothing_carried v ms L e = carries_moves v ms L (λ p. ⊥) (λ p. ⊥) (λ p. ⊥) (λ s c holds p h. absurd h)
     (subst (λ l. Carries v l (λ p. ⊥) (λ p. ⊥)) (sym e) (carries_nil v (λ p. ⊥) (λ p. ⊥) (λ p h. h)))
 
--- a virtual register that is located in the place p, and has no slot
+-- a vreg that is located in the place p, and has no slot
 pub record IsUnslottedAt (Known : VirtualRegister → Type 0) (t : StateValue) (v : VirtualRegister) (p : Place) : Type 0 where
   pub known : Known v
   pub real : p ≢ NoPlace

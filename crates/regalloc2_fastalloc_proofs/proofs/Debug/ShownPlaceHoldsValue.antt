@@ -1,4 +1,4 @@
--- The place by which a virtual register is shown holds its value: its slot, or that of the operand which reads it last.
+-- The place by which a vreg is shown holds its value: its slot, or that of the operand which reads it last.
 use Rattle.std.proofs.Common.{ℕ, ◌≡◌, ◌<◌, ◌≤◌, inl, inr, true, false, List, length, refl, sym, ap, subst, arith}
 use Rattle.std.specs.Prelude.{Option, Contains, slice_index_or}
 use Rattle.std.proofs.lemmas.List.{get_or_default}

@@ -1,4 +1,4 @@
--- What the walk leaves of a virtual register's slot: who is in it, and which moves write it.
+-- What the walk leaves of a vreg's slot: who is in it, and which moves write it.
 use Rattle.regalloc2_parts.proofs.Resolving.{All-reversed}
 use Rattle.std.proofs.Common.{ℕ, ◌≡◌, ◌+◌, ◌<◌, length, sym, ap, ◌∙◌, inl, inr, subst}
 use Rattle.std.specs.Prelude.{All, false, List, ◌∷◌, slice_index_or}
@@ -74,7 +74,7 @@ abbrev pub EnteredShows : FunctionValue → OutputValue → VirtualRegister → 
 EnteredShows f out v n = (ws : List Way) → IsPath f ws → HasEntered f ws → IsLive f v (end_of f ws) → Undefined (inst_at f (end_of f ws).inst).operands v →
     (inst_at f (end_of f ws).inst).is_branch ≡ false → ShowsAt f out v (InSlot n) ws
 
--- so the slot that a virtual register has at the walk's end shows its value, where it does behind each definition, and at each block's beginning
+-- so the slot that a vreg has at the walk's end shows its value, where it does behind each definition, and at each block's beginning
 pub left_slot_shows : (env : MachineValue) (f : FunctionValue) → IsWellFormed env f → IsWrittenFirst f → (t : StateValue) (out : OutputValue) →
     IsMade f env (Made f) (MayInBlocks f) t out → SlotsHaveOneOwner t.slots → ((i : ℕ) → i < length f.insts → IsTame (Made f) (inst_at f i).operands) →
     ReadsAgreeOnPaths f out → (v : VirtualRegister) → Made f v → (n : ℕ) → slot_name t.slots v.number ≡ InSlot n →

@@ -1,4 +1,4 @@
--- Where a path comes to a block: once the moves before its first instruction have run, the slot of a virtual register that is live there shows its value.
+-- Where a path comes to a block: once the moves before its first instruction have run, the slot of a vreg that is live there shows its value.
 use Rattle.regalloc2_parts.proofs.Resolving.{All-reversed}
 use Rattle.std.proofs.Common.{ℕ, ◌≡◌, ◌≢◌, ◌+◌, ◌<◌, ◌⊎◌, inl, inr, true, false, List, length, refl, sym, ap, ◌∙◌, subst, arith}
 use Rattle.std.specs.Prelude.{All, Option, Some, slice_index_or}
@@ -70,7 +70,7 @@ use Rattle.regalloc2_fastalloc_proofs.proofs.Walk.WholeWalk.{WholeWalk}
 use Rattle.regalloc2_fastalloc_proofs.proofs.Walk.FunctionLaws.{laws_of}
 use Rattle.regalloc2_fastalloc_proofs.proofs.Walk.FunctionLaws.{code_of}
 
--- What is known where blocks begin: where the values of virtual registers are then, on every path, and that the tables are safe all along the walk.
+-- What is known where blocks begin: where the values of vregs are then, on every path, and that the tables are safe all along the walk.
 pub record AreAtBegin (env : MachineValue) (f : FunctionValue) (blank : List Place) (begin last : StateValue) (out : OutputValue)
     (stand : ℕ → VirtualRegister → Option Place) : Type 0 where
   pub arrive : Arrive f (allocs_of out) (slots_at last) stand

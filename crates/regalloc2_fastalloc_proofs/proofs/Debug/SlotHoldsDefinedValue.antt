@@ -1,4 +1,4 @@
--- Behind a definition, the slot that its virtual register has at the walk's end shows its value.
+-- Behind a definition, the slot that its vreg has at the walk's end shows its value.
 use Rattle.std.proofs.Common.{ℕ, ◌≡◌, ◌+◌, ◌<◌, inl, inr, true, false, List, [], ◌∷◌, ◌++◌, length, refl, sym, ap, ◌∙◌, subst, arith}
 use Rattle.std.specs.Prelude.{slice_index_or}
 use Rattle.std.proofs.lemmas.List.{get_or_default}
@@ -182,7 +182,7 @@ module _ (walk : WholeWalk) (m : IsMade walk.f walk.env (Made walk.f) (MayInBloc
       w.behind
       (allocated i w plain)
 
-  -- an instruction that defines a virtual register stores it in its slot
+  -- an instruction that defines a vreg stores it in its slot
   pub stored : (i d n : ℕ) → i < length f.insts → (inst_at f i).is_branch ≡ false → (inst_at f i).is_ret ≡ false → d < length (inst_at f i).operands →
       is_def (op_at (inst_at f i).operands d).kind ≡ true →
       slot_in last (op_at (inst_at f i).operands d).vreg.number ≡ InSlot n →

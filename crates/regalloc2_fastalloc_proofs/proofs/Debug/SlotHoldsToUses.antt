@@ -1,4 +1,4 @@
--- A virtual register's slot shows its value at every step from its definition to each later use: step by step along the path.
+-- A vreg's slot shows its value at every step from its definition to each later use: step by step along the path.
 use Rattle.std.proofs.Common.{◌≡◌, false, List, ◌∷◌, refl, sym, ◌∙◌, inl, inr}
 use Rattle.regalloc2_names.specs.Register.{VirtualRegister}
 use Rattle.regalloc2_names.specs.Place.{Place}

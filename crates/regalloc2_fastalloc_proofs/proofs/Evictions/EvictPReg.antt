@@ -1,4 +1,4 @@
--- A register or fixed stack slot is emptied, by way of a scratch register where both ends of the reload are in memory.
+-- A register or fixed stack slot is emptied, by way of a scratch register where both ends of the reload are on the stack.
 -- The fold in `Changes` doesn't fit: what the listing carries, or the operands' record, differs from step to step.
 use Rattle.std.proofs.Common.{ℕ, ◌≡◌, ◌≢◌, true, false, List, [], ◌∷◌, ◌++◌, refl, sym, ap, ◌∙◌, subst, inl, inr}
 use Rattle.std.specs.Prelude.{Option, None, Some}

@@ -1,4 +1,4 @@
--- A move after the instruction from a place to another one, by way of a scratch register where both are in memory.
+-- A move after the instruction from a place to another one, by way of a scratch register where both are on the stack.
 -- The fold in `Changes` doesn't fit: what the listing carries, or the operands' record, differs from step to step.
 use Rattle.std.proofs.Common.{ℕ, ◌≡◌, ◌≢◌, ◌<◌, Bool, true, false, List, [], ◌∷◌, ◌++◌, refl, sym, ap, ◌∙◌, subst, inl, inr, ◌⊎◌}
 use Rattle.std.specs.Prelude.{Option, None, Some}

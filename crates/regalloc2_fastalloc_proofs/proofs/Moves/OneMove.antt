@@ -40,7 +40,7 @@ only_one x y (suc k, lt, e) = absurd (omega (arith, lt))
 
 module _ (inst_regs : InstRegs) (class : RegClass) (t : StateValue) (from to : Place) (by : Register) (above : IsSlotBelow t.slots.count from)
     (below : IsSlotBelow t.slots.count to) (apart : RegsAvoidStack t) (scratch : MayBeScratch inst_regs t class by) where
-  -- the scratch register isn't in memory
+  -- the scratch register isn't on the stack
   plain : has_register t.fixed_stack by ≡ false
   plain = ⊎_elim (λ own. apart.dedicated_scratch class by own) (λ free. apart.allocatable by free.0.allocatable) scratch
 

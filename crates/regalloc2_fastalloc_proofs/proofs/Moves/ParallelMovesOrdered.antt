@@ -330,7 +330,7 @@ pub record MadeMoves (moves : GivenMoves) : Type 0 where
 module _ (moves : GivenMoves) where
   open moves use {inst_regs, class, old, l, given, apart, between, scratch_reserve, differ, next, fixed, borrowed}
 
-  -- a scratch register isn't in memory
+  -- a scratch register isn't on the stack
   pair_plain : (r : Register) → MayBeScratch inst_regs old class r → has_register old.fixed_stack r ≡ false
   pair_plain r (inl own) = apart.dedicated_scratch class r own
   pair_plain r (inr free) = apart.allocatable r free.0.allocatable
@@ -394,7 +394,7 @@ module _ (moves : GivenMoves) where
     kept_all q real other none =
         at_q q real other ∙ is.at_once.kept q real (λ m c e. let x = ends_from given m c in none x.0 x.1 (ap (λ (y : Ends). y.to) x.2 ∙ e))
 
-    -- each ordered move is between places, not both in memory, of which each is a scratch place or an end of a given move
+    -- each ordered move is between places, not both on the stack, of which each is a scratch place or an end of a given move
     pub each_ordered : All (IsOrdered inst_regs class given old new) made
     each_ordered k d lt =
         let x = made_so.each k d lt in

@@ -21,7 +21,7 @@ pub meets_requirement_anywhere : (t : StateValue) (w : Requirement) (p : Place) 
 unfolding MeetsRequirement
 meets_requirement_anywhere t w p e there = rw e (λ h. there, λ s. refl)
 
--- a place that is there meets the requirement of any register exactly where it isn't in memory
+-- a place that is there meets the requirement of any register exactly where it isn't on the stack
 pub meets_requirement_any : (t : StateValue) (w : Requirement) (p : Place) (b : Bool) → w ≡ AnyReg → p ≢ NoPlace → b ≡ is_stack_in t p →
     (IsTrue (not b) → MeetsRequirement t w p) × (MeetsRequirement t w p → IsTrue (not b))
 unfolding MeetsRequirement
@@ -34,7 +34,7 @@ meets_requirement_any t w p b e there same = rw e (by_place p b there same)
     by_place (InRegister r) b there same = (λ h. (r, refl, sym same ∙ not-true b h), λ s. ap not (same ∙ s.2))
     by_place (InSlot n) b there same = (λ h. absurd (let f = not-true b h in cc), λ s. absurd (let f = s.1 in cc))
 
--- a place meets the requirement of memory exactly where it is in memory
+-- a place meets the requirement of memory exactly where it is on the stack
 pub meets_requirement_memory : (t : StateValue) (w : Requirement) (p : Place) (b : Bool) → w ≡ InMemory → b ≡ is_stack_in t p →
     (IsTrue b → MeetsRequirement t w p)
     × (MeetsRequirement t w p → IsTrue b)

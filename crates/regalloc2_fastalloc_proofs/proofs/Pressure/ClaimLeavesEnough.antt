@@ -37,7 +37,7 @@ use Rattle.regalloc2_fastalloc_proofs.proofs.Safety.StepsKeepSafe.{rules_of}
 use Rattle.regalloc2_fastalloc_proofs.proofs.Pressure.StepsLeaveEnough.{demand_of}
 use Rattle.regalloc2_fastalloc_proofs.proofs.Changes.OneChange.{uses_rest}
 
--- a register that isn't in memory is emptied without a scratch register
+-- a register that isn't on the stack is emptied without a scratch register
 plain_evicts_preg : (point : ℕ) (r : Register) (t u : InstRegs) (old new : StateValue) → EvictsPReg point r t u old new → has_register old.fixed_stack r ≡ false
     → u ≡ t
 plain_evicts_preg point r t u old new (empty none eu en) plain = eu

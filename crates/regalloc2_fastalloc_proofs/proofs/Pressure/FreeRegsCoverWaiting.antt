@@ -125,7 +125,7 @@ pays_awaited ops here there v w t u old (memory wants same) counted less c =
 pays_awaited ops here there v w t u old (at_one r wants unfree same) counted less c =
     ap (λ (l : List ℕ). slice_index l (class_code c)) (less ∙ ap (λ (x : Requirement). awaited_less x v.class t.awaited) wants) ∙ counted c ∙ sym (same c)
 
--- a register that is free isn't in memory
+-- a register that is free isn't on the stack
 memory_unfree : (env : MachineValue) (t : StateValue) (u : InstRegs) (p : Place) (r : Register) → HasAll env t → IsStackPlace env p → p ≡ InRegister r →
     is_free t.allocatable u r ≡ true → ⊥
 memory_unfree env t u p r all stack is free =

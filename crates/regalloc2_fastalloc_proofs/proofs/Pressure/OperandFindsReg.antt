@@ -26,7 +26,7 @@ use Rattle.regalloc2_fastalloc_proofs.specs.Pressure.EnoughRegs.{waits, waiting,
 use Rattle.regalloc2_fastalloc_proofs.proofs.Pressure.WaitingOperands.{waits_no_more, waits_as_before, waits_not, waits_elsewhere, waits_placed, waits_here, some_wait}
 use Rattle.regalloc2_fastalloc_proofs.proofs.Pressure.FreeRegsCoverWaiting.{Paying, Pays, waited, anywhere, memory, at_one}
 
--- a register that isn't in memory
+-- a register that isn't on the stack
 plain_at : (env : MachineValue) (p : Place) → IsPlainRegister env p → (r : Register) × (p ≡ InRegister r)
 plain_at env NoPlace h = absurd h
 plain_at env (InRegister r) h = (r, refl)

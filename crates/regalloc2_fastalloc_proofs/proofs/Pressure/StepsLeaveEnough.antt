@@ -85,7 +85,7 @@ module _ (Named : RegClass → Type 0) (needed : RegClass → ℕ) (point : ℕ)
       let b = (and_parts (has_register old.allocatable (register_number class r.0)) _ r.2).1 in
       s.none_free (register_number class r.0) (record { of_class = refl; small = r.1; allocatable = a }) b
 
-  -- a move, where the class has fixed stack slots if both ends are in memory
+  -- a move, where the class has fixed stack slots if both ends are on the stack
   pub ample_add_move : {class : RegClass} {from to : Place} {t : InstRegs} {old : StateValue} {o : Outcome InstRegs} → AddMove point class from to t old o
       → Named class → length t.scratch ≡ 3
       → ((is_stack_in old from && is_stack_in old to) ≡ true → HasStack old.fixed_stack class) → HasEnoughRegs Named needed t old →

@@ -43,7 +43,7 @@ machine_apart f env fits = record {
     at_slot c r is = All-contains (λ (q : Register). (is_allocatable env c q ≡ false) × (scratch_of env c ≢ Some q) × (q ≢ invalid_register))
         env.fixed_stack_slots r (fits c).slots_apart is
 
--- a debug location is that of a label that is kept, and is where the label's virtual register may
+-- a debug location is that of a label that is kept, and is where the label's vreg may
 abbrev pub IsOfLabel : FunctionValue → MachineValue → (VirtualRegister → Type 0) → SpillSlotsValue → DebugLocation → Type 0
 IsOfLabel f env Known slots d = SomeIn (λ l. (l.label ≡ d.label) × IsKept f l d.start d.end × Known l.vreg × MayBeLocatedAt env slots l.vreg d.place) f.labels
 
@@ -194,7 +194,7 @@ pub slots_below : (f : FunctionValue) (env : MachineValue) (Known : VirtualRegis
     IsMade f env Known May t o → AreBelow t.slots o.num_spillslots
 slots_below f env Known May t o m = subst (AreBelow t.slots) (sym m.count) m.kept.safe.slots
 
--- the register of an operand that names no virtual register
+-- the register of an operand that names no vreg
 names_register : (b : Bool) (c : OperandConstraint) (r : Register) → cond b (fixed_register c) None ≡ Some r → c ≡ FixedReg r
 names_register true (FixedReg q) r e = (let same : q ≡ r = cc in ap FixedReg same)
 names_register b c r e = absurd cc
@@ -227,7 +227,7 @@ made_proper f env Known May t o m = record {
       (h.0, h.1, h.2, h.3, (h.4.0, h.4.1, proper_place env o t.slots h.1.vreg _ (slots_below f env Known May t o m) h.4.3));
 }
 
--- no move of an output made of the final state goes from a place in memory to another
+-- no move of an output made of the final state goes from a stack place to another
 pub made_in_registers : (f : FunctionValue) (env : MachineValue) (Known : VirtualRegister → Type 0) (May : ℕ → Type 0) (t : StateValue) (o : OutputValue) →
     IsMade f env Known May t o → HasNoStackToStack env o
 made_in_registers f env Known May t o m = each_edit f env Known May t o (λ e. IsStackToStack env e.1 → ⊥) m (λ e s. s.not_both)

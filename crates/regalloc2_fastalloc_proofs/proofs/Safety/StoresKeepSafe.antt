@@ -76,7 +76,7 @@ module _ (env : MachineValue) (Known : VirtualRegister → Type 0) (Writes : ℕ
       All-push (IsSafeEdit env Known Writes slots May) (pushed_moves point ms) (point, m)
       (pushed_safe slots point ms (λ k d lt. h (suc k) d (omega (arith, lt)))) (h 0 m (omega arith))
 
--- ends of stores that are in order: they go to memory, by way of registers that aren't
+-- ends of stores that are in order: they go to the stack, by way of registers that aren't
 pub order_each : (M : Place → Bool) (ss : List Store) → AreInOrder M ss → (x : Store) → IsOneOf x ss → (M x.to ≡ true)
     × ((q : Place) → x.by ≡ Some q → M q ≡ false)
 unfolding AreInOrder
@@ -115,7 +115,7 @@ stack_memory env t h (InRegister r) s = h.memory r s
 stack_memory env t h (InSlot n) s = refl
 
 -- A store x at a point, into the slot of the known vreg v, of what the operand j of the branch of the block e defines; old and new: the tables before it and
--- behind it. The operand's vreg is known, and alike; it goes to memory, and by way of a register.
+-- behind it. The operand's vreg is known, and alike; it goes to the stack, and by way of a register.
 pub record OneStore (env : MachineValue) (Known : VirtualRegister → Type 0) (Writes : ℕ → VirtualRegister → ℕ → Type 0) (May : ℕ → Type 0) : Type 0 where
   pub f : FunctionValue
   pub e : ℕ

@@ -78,7 +78,7 @@ module _ (f : FunctionValue) (env : MachineValue) (Known : VirtualRegister → T
       let point : ℕ = (slice_index_or o.edits j d).0 in
       (e.0, whole_end h.made point e.0 _ there.0 e.1, whole_end h.made point e.0 _ there.1 e.2)
 
-  -- a debug location in a slot is its virtual register's
+  -- a debug location in a slot is its vreg's
   locations_own : All (λ d. (n : ℕ) → d.place ≡ InSlot n → IsSlotOfKnown Known t.slots n) o.debug_locations
   locations_own k d lt n at =
       let l = m.debug k d lt in

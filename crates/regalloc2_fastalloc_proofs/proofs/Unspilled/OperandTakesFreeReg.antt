@@ -310,7 +310,7 @@ comes_there names gone o r p t u old new h is nowhere are_few named there unused
     here first = subst (λ (c : RegClass). Taken names gone o.vreg.number r c (order_of new c) old u) (sym in_ring.0)
         (by_class (subst (λ (c : RegClass). order_of new c ≡ r ∷ but r (order_of old c)) in_ring.0 first))
 
--- a place that meets `AnyReg` is a register that isn't in memory
+-- a place that meets `AnyReg` is a register that isn't on the stack
 meets_requirement_register : (t : StateValue) (p : Place) → MeetsRequirement t AnyReg p → (r : Register) × (p ≡ InRegister r) × (is_stack_in t p ≡ false)
 unfolding MeetsRequirement
 meets_requirement_register t p s = s

@@ -1,4 +1,4 @@
--- The place by which a virtual register is shown.
+-- The place by which a vreg is shown.
 use Rattle.std.specs.Prelude.{Option, None, Some}
 use Rattle.regalloc2_names.specs.Place.{Place, NoPlace, InRegister, InSlot}
 use Rattle.regalloc2_function.specs.OutputValue.{OutputValue, allocs_of, place_at}
@@ -9,7 +9,7 @@ abbrev pub place_of_operand : OutputValue → Option InstOperand → Place
 place_of_operand out None = NoPlace
 place_of_operand out (Some o) = place_at (allocs_of out o.inst) o.index
 
--- a virtual register's slot where it has one, else the place of the operand by which it is shown
+-- a vreg's slot where it has one, else the place of the operand by which it is shown
 abbrev pub shown_place : OutputValue → Place → Option InstOperand → Place
 shown_place out NoPlace by = place_of_operand out by
 shown_place out (InRegister r) by = InRegister r

@@ -1,4 +1,4 @@
--- What an output does with the slot of one virtual register, from which it follows that the slot shows its value.
+-- What an output does with the slot of one vreg, from which it follows that the slot shows its value.
 use Rattle.std.specs.Prelude.{ℕ, ◌≡◌, ◌+◌, ◌<◌, ◌⊎◌, false, true, List, ◌∷◌, length}
 use Rattle.regalloc2_names.specs.Register.{VirtualRegister}
 use Rattle.regalloc2_names.specs.Place.{Place}

@@ -1,4 +1,4 @@
--- Which moves write the slot of a virtual register, said of the output alone.
+-- Which moves write the slot of a vreg, said of the output alone.
 use Rattle.std.specs.Prelude.{ℕ, ◌≡◌, ◌<◌, ◌+◌, true, false, All, length, List, ◌∷◌}
 use Rattle.regalloc2_names.specs.Register.{VirtualRegister}
 use Rattle.regalloc2_names.specs.Place.{Place, InSlot}
@@ -29,7 +29,7 @@ pub data MayWrite (f : FunctionValue) (out : OutputValue) (v : VirtualRegister) 
 --               that is no branch and doesn't define v
 --     defined   behind a definition of v, once the moves before the next instruction have run, the slot holds its value, if v is live there and it is no branch
 --     moves     each move that writes the slot is where it may
---     own       no operand of another virtual register is located in it
+--     own       no operand of another vreg is located in it
 pub record IsSlotOfValue (f : FunctionValue) (out : OutputValue) (v : VirtualRegister) (n : ℕ) : Type 0 where
   pub entered : (ws : List Way) → IsPath f ws → HasEntered f ws → IsLive f v (end_of f ws) → Undefined (inst_at f (end_of f ws).inst).operands v →
       (inst_at f (end_of f ws).inst).is_branch ≡ false → ShowsAt f out v (InSlot n) ws

@@ -58,7 +58,7 @@ MovesName ms p = (k : ℕ) × (k < length ms) × ((source ms k ≡ p) ⊎ (targe
 abbrev pub free_at : {A : Type 0} → CallFrame A → ℕ → Register
 free_at f k = slice_index_or f.free_regs.items k invalid_register
 
--- a register that isn't free: a move names it, it stands earlier in the list, or it stands for a place in memory
+-- a register that isn't free: a move names it, it stands earlier in the list, or it stands for a stack place
 abbrev pub IsNotFree : {A : Type 0} → CallMoves → CallFrame A → ℕ → Type 0
 IsNotFree ms f k =
     MovesName ms (InRegister (free_at f k))
@@ -69,7 +69,7 @@ IsNotFree ms f k =
 abbrev pub IsFreeRegister : {A : Type 0} → CallFrame A → Register → Type 0
 IsFreeRegister f r = (k : ℕ) × (k < length f.free_regs.items) × (free_at f k ≡ r)
 
--- the borrowed register is one of the free ones, or stands for a place in memory
+-- the borrowed register is one of the free ones, or stands for a stack place
 abbrev pub IsBorrowedTaken : {A : Type 0} → CallFrame A → Type 0
 IsBorrowedTaken f = IsFreeRegister f f.borrowed ⊎ (has_register f.stack_pregs f.borrowed ≡ true)
 
@@ -149,7 +149,7 @@ pub record IsPoolOf {A : Type 0} (f : CallFrame A) (l : ScratchPool) : Type 0 wh
   pub fixed_stack : l.fixed_stack ≡ f.stack_pregs
   pub borrowed : l.borrowed ≡ f.borrowed
 
--- a move between places that are not both in memory
+-- a move between places that are not both on the stack
 pub record IsMove (stack_pregs : PRegSet) (from to : Place) : Type 0 where
   pub apart : is_memory stack_pregs from ≡ true → is_memory stack_pregs to ≡ true → ⊥
   pub between : (from ≢ NoPlace) × (to ≢ NoPlace)

@@ -182,7 +182,7 @@ fn is_free<A: Allocator>(frame: &CallFrame<A>, preg: PReg) -> bool
     false
 }
 
-/// Whether the borrowed register is free or stands for a place in memory.
+/// Whether the borrowed register is free or stands for a stack place.
 fn is_borrowed_taken<A: Allocator>(frame: &CallFrame<A>) -> bool
     ensures yes { result ≡ true → IsBorrowedTaken frame.now }
     ensures no { result ≡ false → IsBorrowedTaken frame.now → ⊥ }

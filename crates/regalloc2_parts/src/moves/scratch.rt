@@ -27,7 +27,7 @@ where
     pub find_free_reg: GetReg,
     /// Answers a spill slot that is free for the moves, another one at each call, or none.
     pub get_stackslot: GetStackSlot,
-    /// Whether a place is in memory, so that no move may go from it to another such.
+    /// Whether a place is on the stack, so that no move may go from it to another such.
     pub is_stack_alloc: IsStackAlloc,
     /// The register that is used where none is free. What the moves leave in it is restored.
     pub borrowed_scratch_reg: PReg,
@@ -90,7 +90,7 @@ where
         }
     }
 
-    /// Whether a move goes from memory to memory.
+    /// Whether a move goes from stack to stack.
     fn is_stack_to_stack(&self, from: Allocation, to: Allocation) -> bool
         requires callable { IsStackAlloc.IsAlwaysCallable self.now.is_stack_alloc }
         ensures both { result ≡ true → IsStackAlloc.post self.now.is_stack_alloc from true × IsStackAlloc.post self.now.is_stack_alloc to true }
@@ -99,7 +99,7 @@ where
         (self.is_stack_alloc)(from) && (self.is_stack_alloc)(to)
     }
 
-    /// Whether one of the moves goes from memory to memory.
+    /// Whether one of the moves goes from stack to stack.
     fn has_stack_to_stack<T: Copy + Default>(&self, moves: &[(Allocation, Allocation, T)]) -> bool
         requires callable { IsStackAlloc.IsAlwaysCallable self.now.is_stack_alloc }
         ensures none { result ≡ false → AreSeenApart (λ p b. IsStackAlloc.post self.now.is_stack_alloc p b) moves.now }
@@ -136,7 +136,7 @@ where
         }
     }
 
-    /// The moves, each of those from memory to memory made by way of a register.
+    /// The moves, each of those from stack to stack made by way of a register.
     fn expand<T: Copy + Default, A: Allocator + Copy>(
         &self,
         alloc: A,
@@ -181,13 +181,13 @@ where
         self.expand(*chosen.allocator(), list, &via, first)
     }
 
-    /// The moves with the scratch places that they need, none of them from memory to memory. A cycle goes through a free
-    /// register, or else through a slot; a move from memory to memory goes through a free register, or else through the
+    /// The moves with the scratch places that they need, none of them from stack to stack. A cycle goes through a free
+    /// register, or else through a slot; a move from stack to stack goes through a free register, or else through the
     /// borrowed one, which is saved in a slot and restored.
     ///
     /// `moves` are to be as `ParallelMoves::resolve` gives them: without `Allocation::none()`, or with it written before it is
     /// read. The closures owe registers and slots that no move names and that all differ; no register, the borrowed one
-    /// neither, is in memory.
+    /// neither, is on the stack.
     ///
     /// `find_free_reg` and `get_stackslot` need only bear two calls each, and so are asked at most twice. They are dropped as
     /// these calls left them, in the resolver that `computed` calls `after`; `compute_by_ref` keeps it.

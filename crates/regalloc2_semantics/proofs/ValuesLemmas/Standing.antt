@@ -1,4 +1,4 @@
--- What places and virtual registers hold by name is there as a number.
+-- What places and vregs hold by name is there as a number.
 use Rattle.std.proofs.Common.{ℕ, zero, suc, ◌≡◌, ◌+◌, ◌<◌, Bool, true, false, cond, None, Some, List, [], ◌∷◌, refl, sym, ap, arith, nat_eq, eq-eqb, subst, ◌∙◌}
 use Rattle.std.specs.Prelude.{Option, ◌&&◌, not}
 use Rattle.regalloc2_names.specs.Register.{VirtualRegister, is_vreg}
@@ -22,7 +22,7 @@ Value = Stamp → ℕ → Type 0
 abbrev pub Stands : Value → Cells → (Place → ℕ) → Type 0
 Stands R c m = (p : Place) (s : Stamp) → c p ≡ Some s → R s (m p)
 
--- and each virtual register
+-- and each vreg
 abbrev pub Holds : Value → Source → (VirtualRegister → ℕ) → Type 0
 Holds R c m = (v : VirtualRegister) (s : Stamp) → c v ≡ Some s → R s (m v)
 
@@ -84,7 +84,7 @@ clobbers_stand R set noise c m h (InRegister r) s e = chosen R (has_register set
     (nothing R _) (h (InRegister r)) e
 clobbers_stand R set noise c m h (InSlot n) s e = h (InSlot n) s e
 
--- a virtual register takes a write and its number
+-- a vreg takes a write and its number
 assigned_hold : (R : Value) (c : Source) (m : VirtualRegister → ℕ) (v : VirtualRegister) (x : Option Stamp) (n : ℕ) → Holds R c m →
     ((t : Stamp) → x ≡ Some t → R t n) → Holds R (assigned c v x) (number_set m v n)
 assigned_hold R c m v x n h g q s e = chosen R (is_vreg v q) x (c q) n (m q) s g (h q) e

@@ -1,4 +1,4 @@
--- Two plain interpreters of a function: one keeps a number for each virtual register, the other a number for each place.
+-- Two plain interpreters of a function: one keeps a number for each vreg, the other a number for each place.
 -- This project's own: what instructions compute and where branches go is left open.
 use Rattle.std.specs.Prelude.{ℕ, zero, suc, ◌+◌, ◌&&◌, not, nat_eq, nat_lt, if◌then◌else◌, Bool, List, [], ◌∷◌, length, slice_index}
 use Rattle.std.specs.Prelude.{Option, None, Some, option_map, option_and_then}
@@ -48,7 +48,7 @@ way_on f l taken =
     if nat_lt (l.inst + 1) (block_at f l.block).range.end then Some Onward
     else if nat_eq (l.inst + 1) (block_at f l.block).range.end then edge_to (length (block_at f l.block).succs) taken else None
 
--- the numbers with one virtual register's changed
+-- the numbers with one vreg's changed
 abbrev pub number_set : (VirtualRegister → ℕ) → VirtualRegister → ℕ → VirtualRegister → ℕ
 number_set m v n q = if is_vreg v q then n else m q
 
@@ -96,7 +96,7 @@ numbers_clobbered set noise m NoPlace = m NoPlace
 numbers_clobbered set noise m (InRegister r) = if has_register set r then noise (InRegister r) else m (InRegister r)
 numbers_clobbered set noise m (InSlot n) = m (InSlot n)
 
--- The interpreter over virtual registers.
+-- The interpreter over vregs.
 module _ (f : FunctionValue) (meaning : InstMeaning) where
   -- what an instruction reads, and what has been read then
   abbrev pub vreg_reads : State VirtualRegister → List ℕ
@@ -114,7 +114,7 @@ module _ (f : FunctionValue) (meaning : InstMeaning) where
   source_step c = option_map (λ w. record { at = next_of f c.at w; history = source_told c; numbers = passed_over f c.at w (vreg_written c) })
       (way_on f c.at (meaning.takes (source_told c)))
 
-  -- so many steps from the entry, with any numbers in the virtual registers; nothing once it has ended
+  -- so many steps from the entry, with any numbers in the vregs; nothing once it has ended
   unfoldable pub source_run : (VirtualRegister → ℕ) → ℕ → Option (State VirtualRegister)
   source_run start zero = Some (record { at = first_of f f.entry; history = []; numbers = start })
   source_run start (suc n) = option_and_then source_step (source_run start n)

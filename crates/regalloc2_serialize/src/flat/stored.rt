@@ -83,7 +83,7 @@ type Edges = (
     Vec<Vec<Vec<u32>>>,
 );
 
-/// How many virtual registers there are, their labels, and the sizes of slots.
+/// How many vregs there are, their labels, and the sizes of slots.
 type VRegs = (u64, Vec<(u32, u32, u32, u32)>, Vec<u64>);
 
 impl Flat for StoredFunction {

@@ -107,7 +107,7 @@ impl SlotUnits {
 
 impl<A: Allocator> TableFunction<A> {
     /// The function of these blocks and instructions that starts at block 0, with slots of those sizes for integers,
-    /// floating-point numbers and vectors, named by their first units, and virtual registers below `num_vregs`.
+    /// floating-point numbers and vectors, named by their first units, and vregs below `num_vregs`.
     pub fn of_blocks(
         num_vregs: usize,
         slots: (SlotUnits, SlotUnits, SlotUnits),

@@ -14,7 +14,7 @@ use std::alloc::{AllocError, AllocFailed, Allocator, Global};
 use std::error::Error;
 use std::fmt;
 
-/// A function has fewer instructions, and fewer virtual registers.
+/// A function has fewer instructions, and fewer vregs.
 const LIMIT: usize = 1 << 30;
 
 /// A function has fewer blocks.
@@ -31,7 +31,7 @@ pub enum BuildError {
     TooManyBlocks,
     /// There are 2^30 instructions or more.
     TooManyInsts,
-    /// There are 2^30 virtual registers or more.
+    /// There are 2^30 vregs or more.
     TooManyVRegs,
 }
 
@@ -205,7 +205,7 @@ impl<A: Allocator + Copy> TableBuilder<A> {
         Ok(())
     }
 
-    /// The function, with slots of one unit and virtual registers below `num_vregs`: the blocks' ranges follow one another, and each
+    /// The function, with slots of one unit and vregs below `num_vregs`: the blocks' ranges follow one another, and each
     /// block has as predecessors those that go on to it, each once for each time, by their numbers.
     pub fn finish(self, num_vregs: usize) -> Result<TableFunction<A>, BuildError>
         ensures ok { IfOk result (λ f. IsBuilt (drafts_of self) num_vregs (function_of_table f)) }

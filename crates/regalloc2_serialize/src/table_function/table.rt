@@ -11,7 +11,7 @@ use std::alloc::{Allocator, Global};
 /// An instruction.
 #[derive(Drop)]
 pub struct TableInst<A: Allocator = Global> {
-    /// What it does with virtual registers.
+    /// What it does with vregs.
     pub operands: Vec<Operand, A>,
     /// The registers that it overwrites besides.
     pub clobbers: PRegSet,
@@ -46,7 +46,7 @@ pub struct SlotUnits {
     pub ghost power_of_two: { IsTrue (is_power_of_two units) },
 }
 
-/// A function: its blocks and instructions by number. It has no labels, and its virtual registers have one definition.
+/// A function: its blocks and instructions by number. It has no labels, and its vregs have one definition.
 #[derive(Drop)]
 pub struct TableFunction<A: Allocator = Global> {
     /// The blocks.
@@ -55,7 +55,7 @@ pub struct TableFunction<A: Allocator = Global> {
     pub insts: Vec<TableInst<A>, A>,
     /// The block at which the function starts.
     pub entry: Block,
-    /// A number above that of each virtual register that is defined.
+    /// A number above that of each vreg that is defined.
     pub num_vregs: usize,
     /// The size of a slot for an integer.
     pub int_slot: SlotUnits,

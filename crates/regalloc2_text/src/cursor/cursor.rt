@@ -17,14 +17,14 @@ pub struct Cursor<'a, 't> {
     tokens: &'a [Token<'t>],
     /// How many of them are read.
     at: usize,
-    /// One more than the greatest number of a virtual register that was read.
+    /// One more than the greatest number of a vreg that was read.
     num_vregs: u64,
     /// Why the line can't be read, where a flaw was found.
     flaw: Option<Flaw<'t>>,
 }
 
 impl<'a, 't> Cursor<'a, 't> {
-    /// The place before a line's tokens, where the virtual registers so far are below `num_vregs`.
+    /// The place before a line's tokens, where the vregs so far are below `num_vregs`.
     pub fn new(tokens: &'a [Token<'t>], num_vregs: u64) -> Self {
         Cursor {
             tokens,
@@ -34,12 +34,12 @@ impl<'a, 't> Cursor<'a, 't> {
         }
     }
 
-    /// One more than the greatest number of a virtual register that was read.
+    /// One more than the greatest number of a vreg that was read.
     pub fn num_vregs(&self) -> u64 {
         self.num_vregs
     }
 
-    /// Notes that a virtual register of that number was read.
+    /// Notes that a vreg of that number was read.
     pub fn show_vreg(&mut self, number: u64)
         ensures { tokens_left self.new ≤ tokens_left self.old }
     {

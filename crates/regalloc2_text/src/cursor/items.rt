@@ -1,4 +1,4 @@
-//! Registers, virtual registers, operands, places and points from tokens.
+//! Registers, vregs, operands, places and points from tokens.
 
 ghost use Rattle.std.specs.Prelude.{◌≡◌, ◌<◌, ◌≤◌, IfOk, IfSome};
 ghost use Rattle.regalloc2_names.specs.Packing.{IsConstraintOf};
@@ -11,7 +11,7 @@ use regalloc2_names::{
     RegClass, SpillSlot, VReg,
 };
 
-/// A register or a virtual register: one word of a letter, a number and the class's letter.
+/// A register or a vreg: one word of a letter, a number and the class's letter.
 #[derive(Clone, Copy)]
 pub struct Named {
     /// Its number.
@@ -88,7 +88,7 @@ fn split_letter(word: &str) -> (&str, Option<char>) {
     }
 }
 
-/// Whether the text of an operand is `Fixed: ` and its register, so that it shows no virtual register.
+/// Whether the text of an operand is `Fixed: ` and its register, so that it shows no vreg.
 fn is_fixed_alone(operand: Operand) -> bool {
     match operand.as_fixed_nonallocatable() {
         Some(register) => operand == Operand::fixed_nonallocatable(register),
@@ -180,7 +180,7 @@ impl Cursor<'_, '_> {
         }
     }
 
-    /// A virtual register.
+    /// A vreg.
     fn vreg(&mut self) -> Named
         ensures left { tokens_left self.new ≤ tokens_left self.old }
         ensures up_to { result.number ≤ VReg.MAX }
@@ -188,7 +188,7 @@ impl Cursor<'_, '_> {
         self.letter_named('v', VReg::MAX, &NO_VREG)
     }
 
-    /// The word of a virtual register, or one that is of none.
+    /// The word of a vreg, or one that is of none.
     pub fn vreg_bits(&mut self) -> u32
         ensures { tokens_left self.new ≤ tokens_left self.old }
     {
@@ -243,7 +243,7 @@ impl Cursor<'_, '_> {
         operand.bits()
     }
 
-    /// The constraint of an operand whose virtual register is of that class.
+    /// The constraint of an operand whose vreg is of that class.
     fn constraint(&mut self, class: RegClass) -> OperandConstraint
         ensures left { tokens_left self.new ≤ tokens_left self.old }
         ensures of_class { IsConstraintOf class result }

@@ -25,7 +25,7 @@ pub(super) struct DraftBlock<A: Allocator> {
     args: Vec<Vec<u32, A>, A>,
 }
 
-/// Virtual registers in brackets, or none.
+/// Vregs in brackets, or none.
 fn vregs<A: Allocator>(alloc: A, cursor: &mut Cursor<'_, '_>) -> Vec<u32, A>
     ensures { tokens_left cursor.new ≤ tokens_left cursor.old }
 {

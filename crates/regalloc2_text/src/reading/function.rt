@@ -14,7 +14,7 @@ use std::alloc::Allocator;
 pub(super) struct DraftFunction<A: Allocator> {
     pub(super) machine: DraftMachine<A>,
     pub(super) settings: Settings,
-    /// One more than the greatest number of a virtual register that the lines show.
+    /// One more than the greatest number of a vreg that the lines show.
     pub(super) num_vregs: u64,
     insts: Vec<StoredInst<A>, A>,
     blocks: Vec<DraftBlock<A>, A>,

@@ -1,4 +1,4 @@
-//! What a function has once: its entry, its count of virtual registers, sizes and flags.
+//! What a function has once: its entry, its count of vregs, sizes and flags.
 
 ghost use Rattle.std.specs.Prelude.{◌≡◌, ◌≤◌};
 ghost use Rattle.regalloc2_text.specs.Cursor.Cursor.{tokens_left};

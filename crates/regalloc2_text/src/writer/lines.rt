@@ -11,7 +11,7 @@ use regalloc2_serialize::StoredFunction;
 use std::alloc::{AllocError, Allocator};
 use std::fmt;
 
-/// Writes the sizes of spill slots, the flags, the entry and the count of virtual registers, each only where it isn't what
+/// Writes the sizes of spill slots, the flags, the entry and the count of vregs, each only where it isn't what
 /// is read without its line.
 fn write_settings<A: Allocator + Copy, W: fmt::Write>(shown: &Shown<'_, A>, to: &mut Page<'_, W>) {
     let function = shown.function;

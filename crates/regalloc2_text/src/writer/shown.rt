@@ -115,7 +115,7 @@ impl<'a, A: Allocator + Copy> Shown<'a, A> {
         }
     }
 
-    /// One more than the greatest number of a virtual register that the text shows, 0 where it shows none.
+    /// One more than the greatest number of a vreg that the text shows, 0 where it shows none.
     pub(crate) fn count_vregs(&self) -> u64 {
         let insts = count_in_insts(self.function.insts.as_slice());
         let labels = count_in_labels(self.function.debug_value_labels.as_slice());

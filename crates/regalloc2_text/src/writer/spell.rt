@@ -29,7 +29,7 @@ fn class_letter(class: RegClass) -> &'static str {
     }
 }
 
-/// A virtual register's word, with the letter of the class: `v7i`.
+/// A vreg's word, with the letter of the class: `v7i`.
 #[derive(Clone, Copy)]
 pub(crate) struct VRegText(pub u32);
 
@@ -57,7 +57,7 @@ impl VRegText {
 
 /// An operand's word, as `Use: v0i reg`.
 ///
-/// `Operand` writes `Fixed: p3i` for each operand of the greatest virtual register number under a fixed register. Here it
+/// `Operand` writes `Fixed: p3i` for each operand of the greatest vreg number under a fixed register. Here it
 /// stands for the early use alone; the other three are written out, so that no two words have one text.
 #[derive(Clone, Copy)]
 pub(crate) struct OperandText(pub u64);
@@ -67,7 +67,7 @@ fn is_early_use(operand: Operand) -> bool {
     operand.kind() == OperandKind::Use && operand.pos() == OperandPos::Early
 }
 
-/// An operand under a fixed register, with its virtual register.
+/// An operand under a fixed register, with its vreg.
 fn write_fixed<W: fmt::Write>(
     operand: Operand,
     register: PReg,
@@ -99,7 +99,7 @@ impl fmt::Display for OperandText {
 }
 
 impl OperandText {
-    /// One more than the number of the virtual register that the text shows, or 0 where it shows none.
+    /// One more than the number of the vreg that the text shows, or 0 where it shows none.
     pub(crate) fn vregs(self) -> u64 {
         if !Operand::is_bits(self.0) {
             return 0;

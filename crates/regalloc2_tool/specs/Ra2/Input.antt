@@ -50,7 +50,7 @@ pub record TextNamesFunction (A : Type 0) (bytes : Option (List ℕ)) (f : Funct
   pub function : NamesFunction stored f
   pub machine : NamesMachine stored.machine_env env
 
--- and the machine suits the function
+-- and the machine fits the function
 pub record TextNamesFitting (A : Type 0) (bytes : Option (List ℕ)) (f : FunctionValue) (env : MachineValue) : Type 0 where
   pub named : TextNamesFunction A bytes f env
   pub fits : MachineFits f env

@@ -43,7 +43,7 @@ pub enum Call {
     Replay,
     /// To allocate registers; the answer is the text of the function with its output.
     Text,
-    /// To allocate registers; the answer is a picture, as SVG, of where each virtual register stands.
+    /// To allocate registers; the answer is a picture, as SVG, of where each vreg stands.
     Svg,
     /// To say whether each read and each argument comes after a write, on every path.
     Reads,

@@ -14,7 +14,7 @@ pub(crate) struct Head<'a, F: Function> {
     pub(crate) block: Block,
 }
 
-/// Virtual registers in brackets.
+/// Vregs in brackets.
 #[derive(Clone, Copy)]
 struct InBrackets<'a>(&'a [VReg]);
 

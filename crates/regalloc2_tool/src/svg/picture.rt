@@ -23,7 +23,7 @@ const INST_ROWS: usize = 2;
 struct Span {
     first: usize,
     last: usize,
-    /// The number of the virtual register whose value that is, if an operand has said it.
+    /// The number of the vreg whose value that is, if an operand has said it.
     vreg: Option<usize>,
 }
 
@@ -98,7 +98,7 @@ impl<A: Allocator> Picture<A> {
         Ok(())
     }
 
-    /// Notes that a place is read in a row, by an operand of the virtual register of that number, or by a move. If it isn't written in its block before,
+    /// Notes that a place is read in a row, by an operand of the vreg of that number, or by a move. If it isn't written in its block before,
     /// it has held the value since the block's first row. Answers whose value it is, where it is known.
     fn note_read(
         &mut self,

@@ -50,7 +50,7 @@ impl Sheet {
     }
 }
 
-/// The colour of the virtual register of a number, or of one that isn't known.
+/// The colour of the vreg of a number, or of one that isn't known.
 #[derive(Clone, Copy)]
 struct Colour(Option<usize>);
 
@@ -182,7 +182,7 @@ fn bar_part<W: Write>(
     )
 }
 
-/// Writes the bar along a lane over the rows for which its place holds a value, that of a virtual register where it is known.
+/// Writes the bar along a lane over the rows for which its place holds a value, that of a vreg where it is known.
 pub(crate) fn bar<W: Write>(
     sheet: Sheet,
     lane: usize,
@@ -199,7 +199,7 @@ pub(crate) fn bar<W: Write>(
     Ok(())
 }
 
-/// Writes a box on a lane with the virtual register that is read or, with a thicker frame, written there.
+/// Writes a box on a lane with the vreg that is read or, with a thicker frame, written there.
 pub(crate) fn cell<W: Write>(
     sheet: Sheet,
     lane: usize,

@@ -12,7 +12,7 @@ use std::alloc::{AllocError, Global};
 /// A number that stands for no place.
 const NONE: usize = 512;
 
-/// A register that stands for a place in memory.
+/// A register that stands for a stack place.
 const IN_MEMORY: usize = 20;
 
 /// Two slots that are swapped.

@@ -1,4 +1,4 @@
-//! Rings of registers, lists of live virtual registers, and operands picked from a list.
+//! Rings of registers, lists of live vregs, and operands picked from a list.
 
 ghost use Rattle.std.specs.Iterator.{IsFinite};
 ghost use Rattle.std.specs.Prelude.{◌≡◌, ◌≤◌};

@@ -261,7 +261,7 @@ slots_owned_are g c =
     (tame_at env f limited c.requires.well_formed c.requires.taken) f.named_by_last_slot (BranchesFrom f 0) classed
     (sizes_agree f last.slots (sizes_kept f begin last n f.named_by_last_slot _ e.slots c.alloc_blocks.ensures.machine)) refl (λ i class m. (m.1, m.2))
 
--- and debug locations name places of their virtual registers, which hold their values
+-- and debug locations name places of their vregs, which hold their values
 labels_are : (g : Over) (c : goal.After-reads_the_same_numbers g) → ShowsLabels (g.F.Function.function c.args.f.now) (machine_of c.args.env.now) (out_of g c)
     (slots_owned_are g c).owned.owner
 labels_are g c =
@@ -293,7 +293,7 @@ slots_are g c =
     (vregs_few f begin last n f.named_by_last_slot _ slots machine c.table_length-vregs.ensures.few)
     (few_lent f begin last n f.named_by_last_slot _ slots machine) c.num_units-num_spillslots.ensures.owned
 
--- where registers suffice for all virtual registers, the walk makes no move and no slot
+-- where registers suffice for all vregs, the walk makes no move and no slot
 unspilled_is : (g : Over) (c : goal.After-reads_the_same_numbers g) → HasRegistersForAll (g.F.Function.function c.args.f.now) (machine_of c.args.env.now) →
     ((out_of g c).edits ≡ []) × ((out_of g c).num_spillslots ≡ 0)
 unspilled_is g c = λ h.
