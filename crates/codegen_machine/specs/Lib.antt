@@ -1,6 +1,6 @@
--- The target machine: its state, and an interpreter that executes one instruction a step.
--- Read first: `Machine`: `machine_step` is one step, `machine_run` a run.
--- Depends on `Numbers`, the arithmetic of 64-bit integers, and on no crate of the allocator.
+-- Procedures over 64-bit integers (`Ir`), the target machine (`Machine`), interpreters of both (`Run`), and their texts.
+-- Read first: `Machine`: `machine_step` is one step, `machine_run` a run; then `Ir/Meaning`, the steps of a procedure.
+-- Depends on `Ir/Numbers`, the arithmetic of 64-bit integers, and on regalloc2_function for what a procedure shows.
 pub mod Ir
 pub mod Machine
 pub mod Run

@@ -1,6 +1,6 @@
 //! Why a function is refused, or what a finding of the checker comes from: the instruction or block as it is written, and the cause with numbers.
 //!
-//! All calls take stored functions, also ill-formed ones, whose numbers may name nothing.
+//! All calls take stored functions, also ill-formed ones, whose numbers may name nothing. [`report`] counts and compares allocations.
 #![tactic(auto)]
 
 mod blocks;

@@ -1,4 +1,4 @@
--- Lemmas for the parts of the walk's state, each of which keeps its invariant; docs/ARCHITECTURE.md lists their users.
+-- Lemmas for the parts of the walk's state, each of which keeps its invariant.
 -- Read first: `inverse_marked` in `VRegInPRegInverse`: the two tables of locations stay inverse.
 -- Depends on the specs, and on `Cells` and `Plain` of regalloc2_semantics for maps that change at one place.
 -- Locations: `inverse_marked` in `VRegInPRegInverse`, the two tables stay inverse; `RegistersOfVRegs`. Slots:

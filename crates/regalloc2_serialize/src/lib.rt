@@ -1,4 +1,5 @@
-//! Functions as plain data: stored numbers, the function that they name, and the JSON value that they are read from.
+//! Functions as plain data: stored numbers, the function that they name, and the JSON value that they are read from;
+//! the same as words for C ([`flat`]), and a function kept in tables, with its builder ([`table_function`]).
 #![tactic(auto)]
 
 mod data;

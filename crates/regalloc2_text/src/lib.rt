@@ -1,4 +1,4 @@
-//! Functions, machines and outputs as text.
+//! Functions, machines and outputs as text: read by a [`cursor`] over lines, laid out by [`writer`].
 #![tactic(auto)]
 
 pub mod cursor;

@@ -1,5 +1,5 @@
 -- Lemmas for writing a listing piece by piece.
--- Read first: `listing_written` in `ListingLines`, over `OperandPieces` and `WrittenInParts`.
+-- Read first: `listing_written` in `ListingLines`, over `OperandPieces` and `WrittenInParts`. `Ra2Lemmas` is apart.
 -- Depends on `Listing` of the specs. `ListedInsts`: the instructions of a block's listing are the function's.
 pub mod ListedInsts
 pub mod ListingLines

@@ -1,4 +1,6 @@
-//! What the command-line programs share: the listing of an allocated function, and the words for what is refused or found.
+//! What the command-line programs share: the listing of an allocated function, and the words for what is rejected or found.
+//!
+//! [`ra2`] is what the program of that name does, [`calls`] what `ra2_text` answers, [`svg`] the picture of an allocated function.
 #![tactic(auto)]
 
 pub mod calls;
