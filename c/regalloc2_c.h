@@ -32,7 +32,7 @@ extern "C" {
 enum {
     RA2_OK = 0,
     RA2_UNREADABLE = 1,   /* the words, or the bytes, lay out no function or no output */
-    RA2_BAD_MACHINE = 2,  /* the machine doesn't suit the function */
+    RA2_BAD_MACHINE = 2,  /* the machine doesn't fit the function */
     RA2_NO_ROOM = 3,      /* the output takes more words than there is room for */
     RA2_FAULTS = 4,       /* the checker found faults */
     RA2_NO_MEMORY = 5,    /* memory was refused */

@@ -102,7 +102,7 @@ impl Output {
 /// Why there is no output.
 #[derive(Clone, Copy, Debug, PartialEq, Eq)]
 pub enum RegAllocError {
-    /// The machine doesn't suit the function.
+    /// The machine doesn't fit the function.
     Machine,
     /// The function was refused: a number from 1 to 11, in the order in which upstream's errors are listed, and last memory.
     Refused(u32),

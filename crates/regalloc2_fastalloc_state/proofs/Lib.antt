@@ -5,6 +5,8 @@
 -- `SpillSlotUnits` (how many units they take), `SlotsAsPlaces`. Registers: `LrusOfMachine` and `LrusByClass`, over
 -- `ArraysByClass`, `ClassIsEmpty`, `SetMembers`, `SetOfList`, `SetDifference` and `CountingLaws`. Edits:
 -- `PointsDescend` (points never rise), `EditsPushed`.
+-- Other crates cite `ArraysByClass`, `CountingLaws`, `PointsDescend`, `SetDifference`, `SetMembers`, `SlotsAsPlaces`,
+-- `SpillSlotUnits` and `TakenOut`.
 pub mod ArraysByClass
 pub mod ClassIsEmpty
 pub mod CountingLaws
