@@ -30,3 +30,4 @@ mod AddedSlots
 mod SweptSlots
 mod OutputItems
 mod JudgedCells
+pub mod NextVRegs

@@ -93,9 +93,10 @@ impl fmt::Display for NextVRegs<'_> {
     ghost output = { λ t. Some (flat_map next_vreg_text t.0.now) };
 
     fn fmt<W: fmt::Write>(&self, f: &mut fmt::Formatter<W>) -> fmt::Result {
-        for vreg in self.0 {
-            let vreg = VRegText(*vreg);
-            write!(f, ", {vreg}")?;
+        let NextVRegs(vregs) = *self;
+        for vreg in vregs {
+            let text = VRegText(*vreg);
+            write!(f, ", {text}")?;
         }
         Ok(())
     }
