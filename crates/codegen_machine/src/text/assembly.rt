@@ -9,7 +9,7 @@ use crate::{Code, Instruction, Source};
 use std::fmt;
 
 /// How the function begins: with what its caller keeps in registers, put aside.
-#[tactic(auto, unfolding(crate::text::specs::Assembly::entry_text))]
+#[tactic(auto, unfolding(crate::specs::Text::Assembly::entry_text))]
 fn entry_text() -> &'static str
     ensures { result.now ≡ entry_text }
 {
@@ -25,7 +25,7 @@ compiled:
 }
 
 /// How it ends.
-#[tactic(auto, unfolding(crate::text::specs::Assembly::exit_text))]
+#[tactic(auto, unfolding(crate::specs::Text::Assembly::exit_text))]
 fn exit_text() -> &'static str
     ensures { result.now ≡ exit_text }
 {
