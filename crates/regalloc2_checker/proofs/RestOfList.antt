@@ -1,11 +1,11 @@
 -- What is left of a list of moves, operands or parameters after one more.
-use Rattle.std.proofs.Common.{◌≡◌, ℕ, suc, ◌+◌, ◌-◌, ◌<◌, ◌≤◌, List, [], ◌∷◌, ◌++◌, Bool, length, get_or, drop, map, refl, sym, ap}
+use Rattle.std.proofs.Common.{◌≡◌, ℕ, suc, ◌+◌, ◌-◌, ◌<◌, ◌≤◌, List, [], ◌∷◌, ◌++◌, Bool, length, get_or, take, drop, map, refl, sym, ap}
 use Rattle.std.proofs.Common.{◌∙◌, subst, arith, cond, true, false, inl, inr, zero}
 use Rattle.std.specs.Prelude.{◌&&◌, ◌⊎◌, not, min, Contains, All}
 use Rattle.std.specs.declared.vec.Vec.{Vec}
 use Rattle.std.proofs.Math.Seq.{drop-cons}
 use Rattle.std.proofs.Math.ListN.{length-append}
-use Rattle.std.proofs.lemmas.List.{drop_all, get_or_default, get_or_append_left, get_or-append_right}
+use Rattle.std.proofs.lemmas.List.{drop_all, get_or_default, get_or_append_left, get_or-append_right, take_more}
 use Rattle.std.proofs.lemmas.Bool.{cases_lt}
 use Rattle.regalloc2_names.specs.Register.{VirtualRegister, Register, is_vreg}
 use Rattle.regalloc2_names.specs.RegisterSet.{has_register}
@@ -17,7 +17,7 @@ use Rattle.regalloc2_function.specs.declared.listing.Edit.{Edit}
 use Rattle.regalloc2_function.specs.Views.{move_of}
 use Rattle.regalloc2_function.specs.OutputValue.{MoveValue, place_at}
 use Rattle.regalloc2_checker.specs.Facts.{Facts, placed, defined, facts_after_moves, facts_after_early_defs, facts_after_defs, facts_after_clobbers, renaming}
-use Rattle.regalloc2_checker.specs.Renamed.{facts_renamed, HoldersAre, AreHoldersOf, TakesArgument, AreOthersKept}
+use Rattle.regalloc2_checker.specs.Renamed.{facts_renamed, HoldersAre, AreHoldersOf, TakesArgument, AreOthersKept, facts_forgotten, facts_without}
 use Rattle.regalloc2_checker.specs.TableFacts.{IsListed, IsListedVReg}
 use Rattle.regalloc2_names.specs.Same.{is_register-true, is_register-same}
 use Rattle.regalloc2_checker.proofs.TableSteps.{one-facts}
@@ -76,6 +76,25 @@ pub record AreRenamedTo (params arguments : List VirtualRegister) (k : ℕ) (F G
   pub before : VirtualRegister → VirtualRegister
   pub same : (p : Place) (v : VirtualRegister) → (G p v ≡ F p (before v)) ⊎ TakesArgument (drop k params) (drop k arguments) v
   pub rest : (v : VirtualRegister) → renaming (drop k params) (drop k arguments) before v ≡ renaming params arguments (λ u. u) v
+
+-- one more vreg is taken out
+pub forgotten-more : (us : List VirtualRegister) (u : VirtualRegister) (F : Facts) →
+    facts_without (us ++ u ∷ []) F ≡ facts_forgotten u (facts_without us F)
+unfolding facts_without
+forgotten-more [] u F = refl
+forgotten-more (w ∷ us) u F = forgotten-more us u (facts_forgotten w F)
+
+-- none is taken out
+pub without-none : (ps : List VirtualRegister) (F : Facts) → F ≡ facts_without (take 0 ps) F
+unfolding facts_without
+without-none ps F = refl
+
+-- one more member of a list is taken out
+pub without-more : (ps : List VirtualRegister) (k : ℕ) (x : VirtualRegister) (F G H : Facts) → k < length ps → x ≡ get_or ps k x →
+    G ≡ facts_without (take k ps) F → H ≡ facts_forgotten x G → H ≡ facts_without (take (k + 1) ps) F
+without-more ps k x F G H l is g h =
+    let one : take k ps ++ x ∷ [] ≡ take (k + 1) ps = ap (λ y. take k ps ++ y ∷ []) is ∙ sym (take_more ps k x l) in
+    h ∙ ap (facts_forgotten x) g ∙ sym (forgotten-more (take k ps) x F) ∙ ap (λ (us : List VirtualRegister). facts_without us F) one
 
 -- none did
 pub renamed_none : (params arguments : List VirtualRegister) (F G : Facts) → AreOthersKept params arguments F G → AreRenamedTo params arguments 0 F G

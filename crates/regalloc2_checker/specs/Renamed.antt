@@ -1,5 +1,5 @@
 -- What parameters hold after they took their arguments.
-use Rattle.std.specs.Prelude.{ℕ, ◌≡◌, ◌<◌, ◌⊎◌, Bool, true, ◌&&◌, if◌then◌else◌, List, length, get_or}
+use Rattle.std.specs.Prelude.{ℕ, ◌≡◌, ◌<◌, ◌⊎◌, Bool, true, false, ◌&&◌, if◌then◌else◌, List, [], ◌∷◌, length, get_or}
 use Rattle.std.specs.declared.vec.Vec.{Vec}
 use Rattle.regalloc2_names.specs.Register.{VirtualRegister, is_vreg}
 use Rattle.regalloc2_names.specs.Place.{Place}
@@ -31,6 +31,15 @@ given_to v places positions F = λ p u. if is_vreg v u then stands_in places pos
 -- a vreg is a parameter that takes an argument: what it is renamed to doesn't depend on what it would be otherwise
 abbrev pub TakesArgument : List VirtualRegister → List VirtualRegister → VirtualRegister → Type 0
 TakesArgument params arguments v = (r s : VirtualRegister → VirtualRegister) → renaming params arguments r v ≡ renaming params arguments s v
+
+-- facts, once a vreg is taken out of every place
+abbrev pub facts_forgotten : VirtualRegister → Facts → Facts
+facts_forgotten u F = λ p v. if is_vreg u v then false else F p v
+
+-- facts, once vregs are taken out of every place, one after another
+unfoldable pub facts_without : List VirtualRegister → Facts → Facts
+facts_without [] F = F
+facts_without (u ∷ us) F = facts_without us (facts_forgotten u F)
 
 -- the facts of all vregs but such parameters stay
 abbrev pub AreOthersKept : List VirtualRegister → List VirtualRegister → Facts → Facts → Type 0

@@ -1,6 +1,6 @@
 //! One instruction, as the function's run and the allocated run make it.
 
-ghost use Rattle.std.specs.Prelude.{◌≡◌, ◌<◌, ◌↔◌, ◌∷◌, [], ℕ, OnOk, IfOk, All, true, false, map, not, nat_lt, ◌&&◌, if◌then◌else◌, length};
+ghost use Rattle.std.specs.Prelude.{◌≡◌, ◌<◌, ◌↔◌, ◌∷◌, [], ℕ, OnOk, IfOk, All, true, false, map, not, nat_lt, ◌&&◌, if◌then◌else◌, length, min, take, ◌≤◌};
 ghost use Rattle.regalloc2_names.specs.Operand.{is_def, is_late};
 ghost use Rattle.regalloc2_names.specs.Place.{Place};
 ghost use Rattle.regalloc2_names.specs.Register.{VirtualRegister, is_vreg};
@@ -11,7 +11,7 @@ ghost use Rattle.regalloc2_checker_tables.specs.Holding.{is_in};
 ghost use Rattle.regalloc2_checker_tables.specs.Showing.{shows_now, AreTablesKept};
 ghost use Rattle.regalloc2_checker.specs.Facts.{placed, defined, facts_after_moves, facts_after_early_defs, facts_after_defs, facts_after_clobbers};
 ghost use Rattle.regalloc2_checker.specs.TableFacts.{is_packed, is_packed_vreg, place_in, vreg_in, facts_now, IsMissingUnlisted, IsListed, IsListedVReg};
-ghost use Rattle.regalloc2_checker.specs.Renamed.{facts_renamed, HoldersAre, AreHoldersOf, AreOthersKept, given_to};
+ghost use Rattle.regalloc2_checker.specs.Renamed.{facts_renamed, HoldersAre, AreHoldersOf, AreOthersKept, given_to, facts_forgotten, facts_without};
 
 use regalloc2_checker_tables::PassingTables;
 use regalloc2_function::Edit;
@@ -297,7 +297,7 @@ fn give<A: Allocator + Copy>(
 fn forget<A: Allocator + Copy>(values: &mut PassingTables<A>, vreg: VReg) -> Result<(), AllocError>
     requires { IsListedVReg values.old.vregs vreg }
     ensures kept { OnOk result (AreTablesKept values.old values.new) }
-    ensures now { OnOk result ((p : Place) (v : VirtualRegister) → is_vreg vreg v ≡ false → facts_now values.new p v ≡ facts_now values.old p v) }
+    ensures now { OnOk result (facts_now values.new ≡ facts_forgotten vreg (facts_now values.old)) }
 {
     let Some(vreg) = vreg_position(values, vreg) else {
         return Ok(());
@@ -316,6 +316,8 @@ fn forget_params<A: Allocator + Copy>(
     requires { All (IsListedVReg values.old.vregs) params.now }
     ensures kept { OnOk result (AreTablesKept values.old values.new) }
     ensures others { OnOk result (AreOthersKept params.now arguments.now (facts_now values.old) (facts_now values.new)) }
+    ensures few { OnOk result (min (length params.now) (length arguments.now) ≤ 8 → facts_now values.new ≡ facts_now values.old) }
+    ensures many { OnOk result (8 < min (length params.now) (length arguments.now) → facts_now values.new ≡ facts_without (take (min (length params.now) (length arguments.now)) params.now) (facts_now values.old)) }
 {
     let count = params.len().min(arguments.len());
     if count <= FEW_PARAMS {

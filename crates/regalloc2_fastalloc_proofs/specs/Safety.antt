@@ -11,6 +11,16 @@ use Rattle.regalloc2_fastalloc_state.specs.declared.inst_regs.InstRegs.{InstRegs
 use Rattle.regalloc2_fastalloc_state.specs.StateParts.{SpillSlotsValue, alloc_of, vreg_of_preg, slot_name, units_of, IsSlotOrNone}
 use Rattle.regalloc2_fastalloc_proofs.specs.InstSteps.{StateValue}
 
+-- the tables are inverses, and slots are the vregs' own
+pub record IsWhole (t : StateValue) : Type 0 where
+  pub holds : (r : Register) (v : VirtualRegister) → r.number < 64 → vreg_of_preg t.places r ≡ Some v → alloc_of t.places v.number ≡ InRegister r
+  pub stands_in : (n : ℕ) (r : Register) → alloc_of t.places n ≡ InRegister r → (r.number < 64)
+      × ((v : VirtualRegister) × (v.number ≡ n) × (vreg_of_preg t.places r ≡ Some v))
+  pub own_slot : (n k : ℕ) → alloc_of t.places n ≡ InSlot k → slot_name t.slots n ≡ InSlot k
+  pub below : (n : ℕ) → IsSlotOrNone t.slots.count (slot_name t.slots n)
+  pub own : (m n k : ℕ) → slot_name t.slots m ≡ InSlot k → slot_name t.slots n ≡ InSlot k → m ≡ n
+  pub units : (c : RegClass) → 0 < units_of t.slots c
+
 -- a register where values may be: an allocatable one, or a fixed stack slot
 abbrev pub IsOfMachine : MachineValue → Register → Type 0
 IsOfMachine env r = (is_allocatable env r.class r ≡ true) ⊎ IsFixedStackSlot env r

@@ -49,6 +49,10 @@ abbrev pub IsConcerned : FunctionValue → ℕ → ℕ → VirtualRegister → T
 IsConcerned f e k v = ((j : ℕ) × DefinesNumber (branch_operands f e) v.number j × ((op_at (branch_operands f e) j).vreg ≡ v))
     ⊎ ((n : ℕ) × (n < length (block_at f (target_at f e k)).params) × (slice_index_or (block_at f (target_at f e k)).params n no_vreg ≡ v))
 
+-- the value of a branch's operand is stored at the beginning of the block b for v: v is what it defines, or a parameter that is given it
+abbrev pub IsStoredAt : FunctionValue → ℕ → VirtualRegister → Type 0
+IsStoredAt f b v = (e k : ℕ) × IsEdgeInto f b e k × IsConcerned f e k v
+
 -- a store from the stack goes by way of a register: the machine's own for moves of the class, or an allocatable one
 pub record IsByWay (t : StateValue) (class : RegClass) (s : Store) : Type 0 where
   pub direct : s.by ≡ None → is_memory t.fixed_stack s.from ≡ false

@@ -15,7 +15,8 @@ use Rattle.regalloc2_semantics.proofs.Cells.{is_vreg-same}
 use Rattle.regalloc2_semantics.proofs.Slots.{PassedTo}
 use Rattle.regalloc2_semantics.proofs.BlockBackward.{Relied}
 use Rattle.regalloc2_fastalloc_proofs.specs.BranchSteps.{IsScratchRegFor, ClassMove, of_class, IsOwnDef}
-use Rattle.regalloc2_fastalloc_proofs.proofs.Safety.StepsKeepState.{place_in, IsWhole}
+use Rattle.regalloc2_fastalloc_proofs.specs.Safety.{IsWhole}
+use Rattle.regalloc2_fastalloc_proofs.proofs.Safety.StepsKeepState.{place_in}
 use Rattle.regalloc2_fastalloc_proofs.proofs.Operands.RecordOverState.{opt, opt_from, stands_at, slots_at}
 use Rattle.regalloc2_fastalloc_proofs.proofs.Branches.ArgMovesByClass.{IsNoTarget, all_moves, all_kept, all_above, all_moved}
 use Rattle.regalloc2_fastalloc_proofs.proofs.Branches.EdgeArgsGathered.{of_class-has, of_class-from, passes_at, argument_at, IsArgued, params_on}

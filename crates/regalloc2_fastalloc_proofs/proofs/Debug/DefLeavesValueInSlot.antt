@@ -24,7 +24,8 @@ use Rattle.regalloc2_fastalloc_state.specs.declared.inst_regs.InstRegs.{InstRegs
 use Rattle.regalloc2_function.specs.FunctionValue.{op_at}
 use Rattle.regalloc2_fastalloc_proofs.specs.InstSteps.{StateValue, FreesAlloc, ProcessesOperand, a_register, a_use, a_def, a_reuse, ProcessesOperandsAt}
 use Rattle.regalloc2_fastalloc_proofs.specs.InstSteps.{none_placed, of_other, one_placed}
-use Rattle.regalloc2_fastalloc_proofs.proofs.Safety.StepsKeepState.{IsWhole, place_in, slot_in}
+use Rattle.regalloc2_fastalloc_proofs.specs.Safety.{IsWhole}
+use Rattle.regalloc2_fastalloc_proofs.proofs.Safety.StepsKeepState.{place_in, slot_in}
 use Rattle.regalloc2_fastalloc_proofs.proofs.Operands.RecordOverState.{stands_at, slots_at, opt_none}
 use Rattle.regalloc2_fastalloc_proofs.proofs.Operands.RecordOfInst.{Orderly, Turned}
 use Rattle.regalloc2_fastalloc_proofs.proofs.Operands.UsesAndPlainDefs.{laid_pass}

@@ -22,7 +22,8 @@ use Rattle.regalloc2_fastalloc_state.specs.declared.request.OperandRequest.{Oper
 use Rattle.regalloc2_fastalloc_proofs.specs.InstSteps.{StateValue, a_move, AddsMove, direct, through}
 use Rattle.regalloc2_fastalloc_proofs.specs.InstSteps.{AllocsOperand, AddsMoveIf, sent, unsent, is_another}
 use Rattle.regalloc2_fastalloc_proofs.specs.InstSteps.{FreesAlloc, LocatesUse, EvictsFixed, EvictsEach}
-use Rattle.regalloc2_fastalloc_proofs.proofs.Safety.StepsKeepState.{IsWhole, place_in, slot_in}
+use Rattle.regalloc2_fastalloc_proofs.specs.Safety.{IsWhole}
+use Rattle.regalloc2_fastalloc_proofs.proofs.Safety.StepsKeepState.{place_in, slot_in}
 use Rattle.regalloc2_fastalloc_proofs.proofs.Safety.BranchArgsKeepState.{changes_steady}
 use Rattle.regalloc2_fastalloc_proofs.proofs.Operands.DefRecord.{another_is}
 use Rattle.regalloc2_fastalloc_proofs.proofs.Moves.StepsAppendEdits.{Pushes, none_pushed, one_pushed, changes_push}

@@ -11,7 +11,8 @@ use Rattle.regalloc2_function.specs.OutputValue.{MoveValue}
 use Rattle.regalloc2_semantics.specs.OperandsPlaced.{What, Progress}
 use Rattle.regalloc2_fastalloc_state.specs.declared.inst_regs.InstRegs.{InstRegs}
 use Rattle.regalloc2_fastalloc_proofs.specs.InstSteps.{StateValue, SameMachine, EvictsVReg, nobody, moved}
-use Rattle.regalloc2_fastalloc_proofs.proofs.Safety.StepsKeepState.{place_in, slot_in, IsWhole}
+use Rattle.regalloc2_fastalloc_proofs.specs.Safety.{IsWhole}
+use Rattle.regalloc2_fastalloc_proofs.proofs.Safety.StepsKeepState.{place_in, slot_in}
 use Rattle.regalloc2_fastalloc_proofs.proofs.Operands.RecordOverState.{stands_at, slots_at, opt_from, Located, Owes, Shifts, shifts, shift_whole, shift_stands}
 use Rattle.regalloc2_fastalloc_proofs.proofs.Operands.RecordOverState.{shift_owes}
 use Rattle.regalloc2_fastalloc_proofs.proofs.Operands.BlockTail.{BlockTail}

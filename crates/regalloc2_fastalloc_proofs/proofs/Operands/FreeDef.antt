@@ -8,7 +8,8 @@ use Rattle.regalloc2_semantics.specs.OperandsPlaced.{What, Progress, Placed, Onc
 use Rattle.regalloc2_semantics.proofs.RecordSteps.{step_def}
 use Rattle.regalloc2_fastalloc_state.specs.StateParts.{SpillSlotsValue, slot_name, units_of, IsSlotOrNone, SetsAlloc}
 use Rattle.regalloc2_fastalloc_proofs.specs.InstSteps.{StateValue}
-use Rattle.regalloc2_fastalloc_proofs.proofs.Safety.StepsKeepState.{place_in, IsWhole, away_holds, away_stands}
+use Rattle.regalloc2_fastalloc_proofs.specs.Safety.{IsWhole}
+use Rattle.regalloc2_fastalloc_proofs.proofs.Safety.StepsKeepState.{place_in, away_holds, away_stands}
 use Rattle.regalloc2_fastalloc_proofs.proofs.Operands.RecordOverState.{opt, stands_at, slots_at, Located}
 
 -- the tables stay whole where a vreg leaves

@@ -17,7 +17,8 @@ use Rattle.regalloc2_semantics.proofs.NeedsAcrossMoves.{need_evict, need_slot}
 use Rattle.regalloc2_fastalloc_state.specs.StateParts.{VRegAllocsValue, SpillSlotsValue, alloc_of, vreg_of_preg, slot_name, IsSlotOrNone, SetsAlloc}
 use Rattle.regalloc2_fastalloc_state.specs.StateParts.{GetsSpillSlot}
 use Rattle.regalloc2_fastalloc_proofs.specs.InstSteps.{StateValue, a_move}
-use Rattle.regalloc2_fastalloc_proofs.proofs.Safety.StepsKeepState.{place_in, slot_in, IsWhole, whole_tidy, away_holds, away_stands, given, given_own}
+use Rattle.regalloc2_fastalloc_proofs.specs.Safety.{IsWhole}
+use Rattle.regalloc2_fastalloc_proofs.proofs.Safety.StepsKeepState.{place_in, slot_in, whole_tidy, away_holds, away_stands, given, given_own}
 use Rattle.regalloc2_fastalloc_proofs.proofs.Safety.StepsKeepState.{given_below, given_units, slot_no_register}
 use Rattle.regalloc2_fastalloc_proofs.proofs.Operands.BlockTail.{BlockTail}
 use Rattle.regalloc2_fastalloc_proofs.proofs.Slots.StepsKeepSlots.{Grown, changes_grow}

@@ -23,7 +23,7 @@ use Rattle.regalloc2_fastalloc_proofs.specs.BranchSteps.{none_gathered, one_gath
 use Rattle.regalloc2_fastalloc_proofs.specs.BranchSteps.{SpillArgument, GatherEdge, GatherMoves, ProcessBranch, in_gather, in_order}
 use Rattle.regalloc2_fastalloc_proofs.specs.Safety.{AreSafeRegs}
 use Rattle.regalloc2_fastalloc_proofs.proofs.Safety.StepsKeepSafe.{IsApart, StepKept}
-use Rattle.regalloc2_fastalloc_proofs.proofs.Safety.BranchKeepsSafe.{AreGiven, gathers_edge_moves_kept, gathers_moves_kept}
+use Rattle.regalloc2_fastalloc_proofs.proofs.Safety.BranchKeepsSafe.{AreGiven, gathers_edge_moves_kept as edge_kept_safe, gathers_moves_kept}
 use Rattle.regalloc2_fastalloc_proofs.specs.Pressure.EnoughRegs.{HasEnoughRegs, AllWrite, AllMay, AreSafe}
 use Rattle.regalloc2_fastalloc_proofs.proofs.Safety.StepsKeepMachine.{keeps_of, machine_stays}
 use Rattle.regalloc2_fastalloc_proofs.proofs.Pressure.StepsKeepMachine.{HasAll, all_kept}
@@ -87,7 +87,7 @@ module _ (demand : Demand) where
     gathers_edge_moves_kept : (k : ℕ) (u : InstRegs) (m : StateValue) (given : List ClassMove) → GathersEdgeMoves Own point params arguments t old before_it
         k u m given →
         StepKept env Known AllWrite AllMay u m
-    gathers_edge_moves_kept k u m given edge = (gathers_edge_moves_kept (rules_of env apart Known AllWrite AllMay point tt) AnyPasses (every_write point)
+    gathers_edge_moves_kept k u m given edge = (edge_kept_safe (rules_of env apart Known AllWrite AllMay point tt) AnyPasses (every_write point)
         known h ht given_before
         edge).0
 

@@ -14,7 +14,7 @@ use Rattle.regalloc2_fastalloc_proofs.proofs.Safety.StepsKeepSafe.{StepKept, evi
 use Rattle.regalloc2_fastalloc_proofs.proofs.Slots.SlotsGrow.{end_grows, changes_stay}
 use Rattle.regalloc2_fastalloc_proofs.proofs.Slots.LocatedStaysLocated.{changes_last}
 use Rattle.regalloc2_fastalloc_proofs.proofs.Operands.AllocsSoFar.{at_place, IsTame, reads_allocated}
-use Rattle.regalloc2_fastalloc_proofs.proofs.Safety.InstKeepsSafe.{moves_uses_kept}
+use Rattle.regalloc2_fastalloc_proofs.proofs.Safety.InstKeepsSafe.{moves_uses_kept as all_kept_safe}
 use Rattle.regalloc2_fastalloc_proofs.specs.Pressure.EnoughRegs.{HasEnoughRegs, AllWrite, AllMay, AreSafe}
 use Rattle.regalloc2_fastalloc_proofs.proofs.Safety.StepsKeepMachine.{machine_stays}
 use Rattle.regalloc2_fastalloc_proofs.proofs.Changes.InstChanges.{moves_uses_changes}
@@ -71,7 +71,7 @@ module _ (demand : Demand) where
       (found : (j : ℕ) → j < length ops → is_reading (op_at ops j) ≡ true → alloc_of old.places (op_at ops j).vreg.number ≢ NoPlace)
       (a : HasEnoughRegs Named needed t old) where
     moves_uses_kept : (k : ℕ) (u : InstRegs) (m : StateValue) → MovesUses point ops here t old k u m → k ≤ length ops → StepKept env Known AllWrite AllMay u m
-    moves_uses_kept k u m moves le = moves_uses_kept apart tt tame h ht (λ j n less reads e. tt) good found moves le
+    moves_uses_kept k u m moves le = all_kept_safe apart tt tame h ht (λ j n less reads e. tt) good found moves le
 
     -- the ends of a use's move
     ends : (j k : ℕ) (m : StateValue) (u : InstRegs) → MovesUses point ops here t old k u m → k ≤ length ops → j < length ops →

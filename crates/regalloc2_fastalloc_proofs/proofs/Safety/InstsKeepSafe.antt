@@ -14,7 +14,7 @@ use Rattle.regalloc2_semantics.specs.Blocks.{target_at}
 use Rattle.regalloc2_fastalloc_state.specs.StateParts.{SpillSlotsValue}
 use Rattle.regalloc2_analysis.specs.BranchDefs.BranchDefs.{IsEdgeInto}
 use Rattle.regalloc2_names.specs.Register.{no_vreg}
-use Rattle.regalloc2_fastalloc_proofs.specs.StoreSteps.{IsConcerned}
+use Rattle.regalloc2_fastalloc_proofs.specs.StoreSteps.{IsStoredAt}
 use Rattle.regalloc2_function.specs.FunctionValue.{op_at}
 use Rattle.regalloc2_fastalloc_proofs.specs.InstSteps.{StateValue}
 use Rattle.regalloc2_fastalloc_proofs.specs.Safety.{IsSafe}
@@ -58,10 +58,6 @@ WritesByBranch f point v =
 -- the output may write a vreg's value to a slot at a point: for an operand there, or for a parameter of a branch's successor
 abbrev pub WritesAt : FunctionValue → List Place → ℕ → VirtualRegister → ℕ → Type 0
 WritesAt f places point v n = WritesByOperand f places point v n ⊎ WritesByBranch f point v
-
--- the value of a branch's operand is stored at the beginning of the block b for v: v is what it defines, or a parameter that is given it
-abbrev pub IsStoredAt : FunctionValue → ℕ → VirtualRegister → Type 0
-IsStoredAt f b v = (e k : ℕ) × IsEdgeInto f b e k × IsConcerned f e k v
 
 -- at the beginnings of the blocks from c on what branches define
 abbrev pub WritesByStore : FunctionValue → ℕ → ℕ → VirtualRegister → Type 0

@@ -9,6 +9,7 @@ use Rattle.regalloc2_names.specs.Place.{Place, NoPlace, InRegister, InSlot, is_p
 use Rattle.regalloc2_fastalloc_state.specs.StateParts.{VRegAllocsValue, SpillSlotsValue, alloc_of, vreg_of_preg, slot_name, units_of, slot_end, new_slot}
 use Rattle.regalloc2_fastalloc_state.specs.StateParts.{IsSlotOrNone, SetsAlloc, GetsSpillSlot}
 use Rattle.regalloc2_fastalloc_proofs.specs.InstSteps.{StateValue}
+use Rattle.regalloc2_fastalloc_proofs.specs.Safety.{IsWhole}
 use Rattle.regalloc2_semantics.specs.Instruction.{IsTidy}
 use Rattle.regalloc2_semantics.proofs.Cells.{is_place-true, is_place-same, is_place-other}
 use Rattle.std.proofs.Common.{List}
@@ -20,16 +21,6 @@ place_in t n = alloc_of t.places n
 -- the spill slot of the vreg of a number, or none
 abbrev pub slot_in : StateValue → ℕ → Place
 slot_in t n = slot_name t.slots n
-
--- the tables are inverses, and slots are the vregs' own
-pub record IsWhole (t : StateValue) : Type 0 where
-  pub holds : (r : Register) (v : VirtualRegister) → r.number < 64 → vreg_of_preg t.places r ≡ Some v → place_in t v.number ≡ InRegister r
-  pub stands_in : (n : ℕ) (r : Register) → place_in t n ≡ InRegister r → (r.number < 64)
-      × ((v : VirtualRegister) × (v.number ≡ n) × (vreg_of_preg t.places r ≡ Some v))
-  pub own_slot : (n k : ℕ) → place_in t n ≡ InSlot k → slot_in t n ≡ InSlot k
-  pub below : (n : ℕ) → IsSlotOrNone t.slots.count (slot_in t n)
-  pub own : (m n k : ℕ) → slot_in t m ≡ InSlot k → slot_in t n ≡ InSlot k → m ≡ n
-  pub units : (c : RegClass) → 0 < units_of t.slots c
 
 -- whatever registers were used
 pub whole_used : (t : StateValue) (order : List (List Register)) → IsWhole t → IsWhole (record t { lrus = order })

@@ -38,7 +38,7 @@ use Rattle.regalloc2_fastalloc_proofs.specs.InstSteps.{IsFresh, PreparesRegs}
 use Rattle.regalloc2_fastalloc_proofs.specs.StoreSteps.{IsStoredFor, branch_operands, given as given_param, its_own}
 use Rattle.regalloc2_fastalloc_proofs.proofs.Unspilled.OperandsSpillFree.{operands_placed, unsent_same}
 use Rattle.regalloc2_fastalloc_proofs.specs.Unspilled.SpillFree.{ArePlaced, ArePlain, FitInRegs, HasRegOperandsOnly, IsDefinedByOperand, IsSpillFree, IsSpillFreeFrom}
-use Rattle.regalloc2_fastalloc_proofs.proofs.Safety.StepsKeepState.{IsWhole}
+use Rattle.regalloc2_fastalloc_proofs.specs.Safety.{IsWhole}
 use Rattle.regalloc2_fastalloc_proofs.proofs.Slots.StepsKeepSlots.{cases_none}
 use Rattle.regalloc2_fastalloc_proofs.specs.Unspilled.SpillFree.{IsSpillFreeIn, LeavesSpillFree, is_same_number}
 

@@ -23,7 +23,7 @@ use Rattle.regalloc2_fastalloc_proofs.specs.StoreSteps.{StoresBranchDefs, none_s
 use Rattle.regalloc2_fastalloc_proofs.specs.BlockSteps.{AllocsInstInBlock, AllocsBlockInsts, at_end, one_in, AllocsBlocks, all_left, one_block}
 use Rattle.regalloc2_fastalloc_proofs.proofs.Changes.WalkChanges.{free_inst, allocs_block_insts_changes}
 use Rattle.regalloc2_fastalloc_proofs.proofs.Safety.StepsKeepMachine.{machine_stays}
-use Rattle.regalloc2_fastalloc_proofs.proofs.Safety.StepsKeepState.{IsWhole}
+use Rattle.regalloc2_fastalloc_proofs.specs.Safety.{IsWhole}
 use Rattle.regalloc2_fastalloc_proofs.proofs.Unspilled.BlockSpillFree.{edge_block, from_next, gathers_moves_none, inst_spill_free, no_params, nobody_left}
 use Rattle.regalloc2_fastalloc_proofs.proofs.Unspilled.BlockSpillFree.{none_begun_none}
 use Rattle.regalloc2_fastalloc_proofs.proofs.Unspilled.BlockSpillFree.{none_is_stored, of_none, plain_at}

@@ -29,7 +29,8 @@ use Rattle.regalloc2_fastalloc_state.specs.StateParts.{SetsAlloc}
 use Rattle.regalloc2_fastalloc_proofs.proofs.Evictions.PushedAndRemoved.{same_then}
 use Rattle.regalloc2_fastalloc_proofs.proofs.Operands.FreeDef.{leave_whole}
 use Rattle.regalloc2_fastalloc_proofs.proofs.Inst.AcrossInst.{arrive_register}
-use Rattle.regalloc2_fastalloc_proofs.proofs.Safety.StepsKeepState.{whole_used, IsWhole}
+use Rattle.regalloc2_fastalloc_proofs.specs.Safety.{IsWhole}
+use Rattle.regalloc2_fastalloc_proofs.proofs.Safety.StepsKeepState.{whole_used}
 use Rattle.regalloc2_fastalloc_proofs.specs.InstSteps.{SameButOrder, order_of, ProcessesOperandsAt, none_placed, of_other, one_placed}
 
 -- the vreg of a register that was taken is there from now on, or its definition was met and it has no location

@@ -31,7 +31,8 @@ use Rattle.regalloc2_names.specs.Register.{no_vreg}
 use Rattle.regalloc2_fastalloc_proofs.specs.BranchSteps.{IsOwnDef}
 use Rattle.regalloc2_fastalloc_proofs.specs.StoreSteps.{branch_operands, IsConcerned, StoresBranchDefs, none_stored, all_stored}
 use Rattle.regalloc2_fastalloc_proofs.specs.BlockSteps.{AllocsInstInBlock, AllocsBlockInsts, AllocsBlocks}
-use Rattle.regalloc2_fastalloc_proofs.proofs.Safety.StepsKeepState.{place_in, slot_in, IsWhole, slot_no_register}
+use Rattle.regalloc2_fastalloc_proofs.specs.Safety.{IsWhole}
+use Rattle.regalloc2_fastalloc_proofs.proofs.Safety.StepsKeepState.{place_in, slot_in, slot_no_register}
 use Rattle.regalloc2_fastalloc_proofs.proofs.Operands.RecordOverState.{stands_at, slots_at, opt_from, opt_real, grown_slots}
 use Rattle.regalloc2_fastalloc_proofs.proofs.Walk.InstsCarry.{AreListed}
 use Rattle.regalloc2_fastalloc_proofs.proofs.Slots.StepsKeepSlots.{Grown, grown_then, changes_grow, AnyPlace}

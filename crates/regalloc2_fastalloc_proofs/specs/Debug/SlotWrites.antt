@@ -12,7 +12,7 @@ use Rattle.regalloc2_semantics.specs.Carry.{Undefined}
 use Rattle.regalloc2_semantics.specs.Live.{IsLive, HasEntered}
 use Rattle.regalloc2_function.specs.FunctionValue.{op_at}
 use Rattle.regalloc2_names.specs.Operand.{is_def}
-use Rattle.regalloc2_fastalloc_proofs.proofs.Safety.InstsKeepSafe.{IsStoredAt}
+use Rattle.regalloc2_fastalloc_proofs.specs.StoreSteps.{IsStoredAt}
 use Rattle.regalloc2_fastalloc_proofs.specs.Debug.SlotHoldsValue.{ReadsInPlace, ShowsAt}
 
 -- where a move may write the place that is v's: behind an instruction that defines v, before one that reads v there, before a branch, or at the beginning of

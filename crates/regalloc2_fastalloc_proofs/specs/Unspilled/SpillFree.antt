@@ -16,7 +16,7 @@ use Rattle.regalloc2_fastalloc_state.specs.InstRegs.{is_free_throughout}
 use Rattle.regalloc2_function.specs.FunctionValue.{op_at}
 use Rattle.regalloc2_fastalloc_proofs.specs.BranchSteps.{RegsAvoidStack}
 use Rattle.regalloc2_fastalloc_proofs.specs.InstSteps.{StateValue, order_of}
-use Rattle.regalloc2_fastalloc_proofs.proofs.Safety.StepsKeepState.{IsWhole}
+use Rattle.regalloc2_fastalloc_proofs.specs.Safety.{IsWhole}
 
 -- two vregs with one number
 abbrev pub is_same_number : VirtualRegister → VirtualRegister → Bool
