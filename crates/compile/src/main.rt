@@ -1,48 +1,78 @@
 //! `compile`: writes a function that stands in a text as assembly for x86-64, or runs it and its code.
 //!
-//! The words are `FILE`, `run FILE NUMBER..` or `random SEED`, where FILE may be `-` for standard input. The status is 0; or 1 where the
-//! function is refused, or it and its code don't return alike within the steps of a run; or 2 where words or text are bad, the file
-//! can't be read or the answer can't be written.
+//! The words are `FILE`, `run FILE NUMBER..` or `random SEED`, where FILE may be `-` for standard input; `--help` says the same. The status is
+//! 0; or 1 where the function is refused, or it and its code don't return alike within the steps of a run; or 2 where words or text are bad,
+//! the file can't be read or the answer can't be written.
 #![tactic(auto)]
 
-use codegen::program::{Task, UNUSABLE, answer, refuse_words};
+mod command;
+
+use codegen::program::{Task, UNUSABLE, answer};
+use command::Request;
 use std::env::{self, Env};
 use std::fs::File;
-use std::io::{self, BufWriter};
+use std::io::{self, BufWriter, Write};
 use std::process::ExitCode;
 
-/// The words after the program's name.
+/// The program's words, its name the first.
 fn words(rt: &(impl Env + AllocGlobal)) -> io::Result<Vec<String>> {
-    Ok(env::args(rt)?.skip(1).collect(rt.alloc())?)
+    Ok(env::args(rt)?.collect(rt.alloc())?)
 }
 
-/// Does a task, and answers the status.
-fn perform(rt: &HostRuntime, task: &Task<'_>) -> io::Result<u8> {
-    let mut out = BufWriter::new(rt.alloc(), rt.stdout())?;
-    let status = match task {
+/// Does a task with its input, and answers the status.
+fn perform<O: Write, E: Write>(
+    rt: &HostRuntime,
+    task: &Task<'_>,
+    out: &mut O,
+    err: &mut E,
+) -> io::Result<u8> {
+    match task {
         Task::Read(path, _) if *path != "-" => {
             let input = File::open(rt, *path)?;
-            answer(rt.alloc(), task, input, &mut out, &mut rt.stderr())
+            Ok(answer(rt.alloc(), task, input, out, err))
         }
-        _ => answer(rt.alloc(), task, rt.stdin(), &mut out, &mut rt.stderr()),
-    };
-    // a buffer that is dropped would write once more what a failed write left in it
+        _ => Ok(answer(rt.alloc(), task, rt.stdin(), out, err)),
+    }
+}
+
+/// Does what is asked for, with its output, and answers the status.
+fn perform_all(rt: &HostRuntime, request: &Request<'_>) -> io::Result<u8> {
+    let task = &request.task;
+    if request.is_quiet {
+        return perform(rt, task, &mut io::sink(), &mut io::sink());
+    }
+    if let Some(path) = request.output {
+        let mut out = BufWriter::new(rt.alloc(), File::create(rt, path)?)?;
+        let status = perform(rt, task, &mut out, &mut rt.stderr());
+        // a buffer that is dropped would write once more what a failed write left in it
+        let _ = out.into_parts();
+        return status;
+    }
+    let mut out = BufWriter::new(rt.alloc(), rt.stdout())?;
+    let status = perform(rt, task, &mut out, &mut rt.stderr());
     let _ = out.into_parts();
-    Ok(status)
+    status
 }
 
 fn main(rt: HostRuntime) -> ExitCode {
     let Ok(words) = words(&rt) else {
         return ExitCode::from(UNUSABLE);
     };
-    let Ok(Some(task)) = Task::of(rt.alloc(), words.as_slice()) else {
-        refuse_words(&mut rt.stderr());
-        return ExitCode::from(UNUSABLE);
+    let request = match Request::of(rt.alloc(), words.as_slice()) {
+        Ok(request) => request,
+        Err(error) => {
+            let is_shown = error.print(&rt).is_ok();
+            let is_asked_for = is_shown && !error.use_stderr();
+            return ExitCode::from(if is_asked_for { 0 } else { UNUSABLE });
+        }
     };
-    match perform(&rt, &task) {
+    match perform_all(&rt, &request) {
         Ok(status) => ExitCode::from(status),
         Err(error) => {
-            let _ = eprintln!(rt; "compile: {error}");
+            let _ = match &request.task {
+                Task::Read(path, _) => eprintln!(rt; "compile: {path}: {error}"),
+                Task::Random(_) => eprintln!(rt; "compile: {error}"),
+            };
             ExitCode::from(UNUSABLE)
         }
     }

@@ -1,32 +1,67 @@
-//! `ra2_text`: allocates registers to a function that stands in a file as a text, for people.
+//! `ra2_text`: allocates registers to a function that is given as a text or as JSON, for people, and explains what is rejected.
 //!
-//! `ra2_text --help` names the calls. The status is 0, or 1 where the function is refused or a fault is found, or 2 where the
-//! words or the text are bad, the file can't be read or the output can't be written.
+//! `ra2_text --help` names the subcommands. The status is 0; or 1 where the function is rejected or something is found; or 2 where words or
+//! input are bad or the output can't be written.
 #![tactic(auto)]
 
-mod program;
-mod task;
-
+use ra2_text_program::{Task, UNUSABLE, answer};
 use std::env::{self, Env};
 use std::fs::File;
-use std::io::{self, BufWriter};
+use std::io::{self, BufWriter, Read, Write};
 use std::process::ExitCode;
-use task::Task;
-
-/// The status of bad words, of a bad text and of output that can't be written.
-const UNUSABLE: u8 = 2;
 
 /// The program's words, its name the first.
 fn words(rt: &(impl Env + AllocGlobal)) -> io::Result<Vec<String>> {
     Ok(env::args(rt)?.collect(rt.alloc())?)
 }
 
-/// Does a task, and answers the status.
-fn perform(rt: &HostRuntime, task: Task<'_>) -> io::Result<u8> {
-    let input = File::open(rt, task.path)?;
+/// The bytes of a file; `-` is standard input.
+fn bytes_of(rt: &HostRuntime, path: &str) -> io::Result<Vec<u8>> {
+    let mut bytes = Vec::new(rt.alloc());
+    if path == "-" {
+        rt.stdin().read_to_end(&mut bytes)?;
+    } else {
+        File::open(rt, path)?.read_to_end(&mut bytes)?;
+    }
+    Ok(bytes)
+}
+
+/// Does a task with its input, and answers the status; that a file can't be read is a line on standard error.
+fn perform<O: Write>(rt: &HostRuntime, task: Task<'_>, out: &mut O) -> u8 {
+    let alloc = rt.alloc();
+    let bytes = match bytes_of(rt, task.path) {
+        Ok(bytes) => bytes,
+        Err(error) => return refuse_file(rt, task.path, error),
+    };
+    let Some(path) = task.other else {
+        return answer(alloc, task, bytes.as_slice(), None, out, &mut rt.stderr());
+    };
+    match bytes_of(rt, path) {
+        Ok(other) => {
+            let other = Some((path, other.as_slice()));
+            answer(alloc, task, bytes.as_slice(), other, out, &mut rt.stderr())
+        }
+        Err(error) => refuse_file(rt, path, error),
+    }
+}
+
+/// Says that a file can't be read or written, and answers the status.
+fn refuse_file(rt: &HostRuntime, path: &str, error: io::Error) -> u8 {
+    let _ = eprintln!(rt; "ra2_text: {path}: {error}");
+    UNUSABLE
+}
+
+/// Does a task with its input and its output, and answers the status.
+fn perform_all(rt: &HostRuntime, task: Task<'_>) -> io::Result<u8> {
+    if let Some(path) = task.output {
+        let mut out = BufWriter::new(rt.alloc(), File::create(rt, path)?)?;
+        let status = perform(rt, task, &mut out);
+        // a buffer that is dropped would write once more what a failed write left in it
+        let _ = out.into_parts();
+        return Ok(status);
+    }
     let mut out = BufWriter::new(rt.alloc(), rt.stdout())?;
-    let status = program::answer(rt.alloc(), task, input, &mut out, &mut rt.stderr());
-    // a buffer that is dropped would write once more what a failed write left in it
+    let status = perform(rt, task, &mut out);
     let _ = out.into_parts();
     Ok(status)
 }
@@ -43,12 +78,11 @@ fn main(rt: HostRuntime) -> ExitCode {
             return ExitCode::from(if is_asked_for { 0 } else { UNUSABLE });
         }
     };
-    match perform(&rt, task) {
+    match perform_all(&rt, task) {
         Ok(status) => ExitCode::from(status),
         Err(error) => {
-            let path = task.path;
-            let _ = eprintln!(rt; "ra2_text: {path}: {error}");
-            ExitCode::from(UNUSABLE)
+            let path = task.output.unwrap_or("standard output");
+            ExitCode::from(refuse_file(&rt, path, error))
         }
     }
 }

@@ -1,8 +1,9 @@
 //! Cases that are run, and what comes of them.
 
 use super::case_file::{Case, Expectation, cases_of};
+use regalloc2_explain::Source;
 use regalloc2_text::TextError;
-use regalloc2_tool::calls::call::{Call, CallError, answer};
+use regalloc2_tool::calls::call::{Call, CallError, Given, answer};
 use regalloc2_tool::calls::reading::read_text;
 use std::alloc::Global;
 use std::fmt;
@@ -58,16 +59,35 @@ impl fmt::Display for Shown<'_> {
     }
 }
 
-/// The answer to a call of a case.
+/// The answer to a call of a case: what is written, and behind that what turns the text down. A name may end in ` why`: then what is
+/// refused or found is explained.
 fn answer_of(alloc: Global, case: &Case<'_>, name: &str) -> Result<Vec<u8>, CallError> {
     let mut to = Vec::new(alloc);
-    let Some(call) = Call::named(name) else {
+    let mut err = Vec::new(alloc);
+    let (word, source) = match name.strip_suffix(" why") {
+        Some(word) => {
+            let source = Source {
+                name: Some(""),
+                text: case.text.as_str(),
+                first_line: case.first_line,
+            };
+            (word, Some(source))
+        }
+        None => (name, None),
+    };
+    let Some(call) = Call::named(word) else {
         writeln!(&mut to, "no such call")?;
         return Ok(to);
     };
     match read_text(alloc, case.text.as_str(), case.first_line) {
         Ok(text) => {
-            answer(alloc, call, &text.function, text.output.as_ref(), &mut to)?;
+            let given = Given {
+                function: &text.function,
+                output: text.output.as_ref(),
+                source,
+            };
+            answer(alloc, call, &given, &mut to, &mut err)?;
+            to.extend_from_slice(err.as_slice())?;
         }
         Err(TextError::Fault(fault)) => writeln!(&mut to, "bad text {fault}")?,
         Err(TextError::Memory) => return Err(CallError::Memory),

@@ -9,16 +9,19 @@ ghost use Rattle.regalloc2_function.specs.Views.{machine_of, output_of};
 ghost use Rattle.regalloc2_function.specs.WellFormed.{IsFramed};
 
 use crate::listing::write_listing;
-use crate::refusal::RefusalText;
+use crate::refusal::{RefusalText, number_of};
 use crate::stored_fault::FaultText;
 use crate::svg::Picture;
 use regalloc2_analysis::liveness::reads_written;
 use regalloc2_checker::{CellFault, Checker, CheckerError, test_cells};
+use regalloc2_explain::report::{Stats, StatsJson, write_diff, write_dump};
+use regalloc2_explain::{Site, Source, explain, find_unwritten_read, last_write, misfit_at};
 use regalloc2_fastalloc::{Algorithm, RegallocOptions, run};
 use regalloc2_function::{
-    Function, MachineEnv, Output, StoredFault, StoredOutput, is_framed, machine_fits,
+    Function, MachineEnv, Output, StoredFault, StoredOutput, is_framed, machine_fits, test_machine,
 };
-use regalloc2_names::RegAllocError;
+use regalloc2_index::Inst;
+use regalloc2_names::{Allocation, Operand, RegAllocError};
 use regalloc2_serialize::{SerializableFunction, StoredFunction};
 use regalloc2_text::{WriteError, write};
 use std::alloc::{AllocError, AllocFailed, Global};
@@ -42,23 +45,39 @@ pub enum Call {
     /// To judge the output that is given with the function.
     Replay,
     /// To allocate registers; the answer is the text of the function with its output.
+    Allocated,
+    /// To allocate nothing; the answer is the text of the function and of the output that is given with it, in its one form.
     Text,
     /// To allocate registers; the answer is a picture, as SVG, of where each vreg stands.
     Svg,
     /// To say whether each read and each argument comes after a write, on every path.
     Reads,
+    /// To count what the output that is given has or, if none is, the one that the allocator gives; the answer is a table.
+    Stats,
+    /// The same, as JSON.
+    StatsJson,
+    /// To write such an output as upstream does.
+    Dump,
+    /// To compare the output that is given with the one that the allocator gives.
+    Diff,
 }
 
 impl Call {
-    /// The call that a word names: `run`, `check`, `replay`, `text`, `svg` or `reads`.
+    /// The call that a word names: `run`, `check`, `replay`, `allocated`, `text`, `svg`, `reads`, `stats`, `stats_json`,
+    /// `dump` or `diff`.
     pub fn named(word: &str) -> Option<Call> {
         match word {
             "run" => Some(Call::Run),
             "check" => Some(Call::Check),
             "replay" => Some(Call::Replay),
+            "allocated" => Some(Call::Allocated),
             "text" => Some(Call::Text),
             "svg" => Some(Call::Svg),
             "reads" => Some(Call::Reads),
+            "stats" => Some(Call::Stats),
+            "stats_json" => Some(Call::StatsJson),
+            "dump" => Some(Call::Dump),
+            "diff" => Some(Call::Diff),
             _ => None,
         }
     }
@@ -114,13 +133,148 @@ impl From<io::Error> for CallError {
     }
 }
 
-/// Writes a line for each fault, unless it is that memory was refused.
-fn write_findings<W: Write>(errors: &[CheckerError], to: &mut W) -> Result<(), CallError> {
-    for error in errors {
+/// What a call is about.
+#[derive(Clone, Copy)]
+pub struct Given<'g, 'o, 's> {
+    /// The function and its machine.
+    pub function: &'g StoredFunction,
+    /// The output that is given with it.
+    pub output: Option<&'o StoredOutput>,
+    /// The text in which what is refused or found is shown. Without one, a refusal and a finding are a line each.
+    pub source: Option<Source<'s>>,
+}
+
+/// How a call ends, when it has an answer.
+#[derive(Clone, Copy, Debug, PartialEq, Eq)]
+pub enum Verdict {
+    /// Nothing is refused or found.
+    Accepted,
+    /// The allocator refuses the function, or something is found.
+    Rejected,
+    /// The numbers name no function or no output, the machine doesn't fit the function, or the function isn't framed.
+    Unusable,
+}
+
+impl Verdict {
+    /// That nothing is found, or that something is.
+    fn of(is_accepted: bool) -> Verdict {
+        if is_accepted {
+            Verdict::Accepted
+        } else {
+            Verdict::Rejected
+        }
+    }
+}
+
+/// How many findings are explained; of further ones there is a line each, so that many findings take no more time than the text.
+const EXPLAINED: usize = 10;
+
+/// What stands before a refusal's cause.
+#[derive(Clone, Copy)]
+struct RefusalHead(RegAllocError);
+
+impl fmt::Display for RefusalHead {
+    fn fmt<W: fmt::Write>(&self, f: &mut fmt::Formatter<W>) -> fmt::Result {
+        let number = number_of(self.0);
+        write!(f, "refused {number}: ")
+    }
+}
+
+/// Writes why the allocator refuses a function.
+fn write_refusal<E: Write>(
+    error: RegAllocError,
+    given: &Given<'_, '_, '_>,
+    err: &mut E,
+) -> Result<(), CallError> {
+    match &given.source {
+        Some(source) => {
+            let explanation = explain(given.function, &error);
+            explanation.write(&RefusalHead(error), given.function, source, err)?;
+        }
+        None => {
+            let refusal = RefusalText(error);
+            writeln!(err, "{refusal}")?;
+        }
+    }
+    Ok(())
+}
+
+/// Writes the line of the text where something is, if it has one.
+fn write_site<W: Write>(site: Site, source: &Source<'_>, to: &mut W) -> Result<(), CallError> {
+    if let Some(line) = source.find(site) {
+        writeln!(to, "  {line}")?;
+    }
+    Ok(())
+}
+
+/// The instruction, operand and place of a finding, if it is of one.
+fn place_found(error: &CheckerError) -> Option<(Inst, Operand, Option<Allocation>)> {
+    match error {
+        CheckerError::MissingAllocation { inst, op } => Some((*inst, *op, None)),
+        CheckerError::UnknownValueInAllocation { inst, op, alloc }
+        | CheckerError::ConflictedValueInAllocation { inst, op, alloc }
+        | CheckerError::IncorrectValuesInAllocation {
+            inst,
+            op,
+            alloc,
+            ..
+        } => Some((*inst, *op, Some(*alloc))),
+        CheckerError::ConstraintViolated { inst, op, .. }
+        | CheckerError::AllocationIsNotReg { inst, op, .. }
+        | CheckerError::AllocationIsNotFixedReg { inst, op, .. }
+        | CheckerError::AllocationIsNotReuse { inst, op, .. }
+        | CheckerError::AllocationIsNotStack { inst, op, .. }
+        | CheckerError::AllocationOutsideLimit { inst, op, .. } => Some((*inst, *op, None)),
+        _ => None,
+    }
+}
+
+/// The index of the first operand of an instruction that is this one.
+fn operand_index(function: &StoredFunction, inst: Inst, operand: Operand) -> Option<usize> {
+    let data = function.insts.get(inst.index())?;
+    let bits = operand.bits();
+    data.operands.iter().position(|other| *other == bits)
+}
+
+/// Writes the line of the operand that a finding names and, where it reads another value, where its place was written last.
+fn explain_finding<W: Write>(
+    error: &CheckerError,
+    given: &Given<'_, '_, '_>,
+    source: &Source<'_>,
+    to: &mut W,
+) -> Result<(), CallError> {
+    let Some((inst, operand, place)) = place_found(error) else {
+        return Ok(());
+    };
+    let number = inst.index();
+    let site = match operand_index(given.function, inst, operand) {
+        Some(index) => Site::Operand(number, index),
+        None => Site::Inst(number),
+    };
+    write_site(site, source, to)?;
+    let (Some(place), Some(output)) = (place, given.output) else {
+        return Ok(());
+    };
+    if let Some(written) = last_write(given.function, output, number, place) {
+        writeln!(to, "  {place} is {written}")?;
+    }
+    Ok(())
+}
+
+/// Writes a line for each fault, unless it is that memory was refused, and explains the first ones where there is a text.
+fn write_findings<W: Write>(
+    errors: &[CheckerError],
+    given: &Given<'_, '_, '_>,
+    to: &mut W,
+) -> Result<(), CallError> {
+    for (k, error) in errors.iter().enumerate() {
         if let CheckerError::Memory = error {
             return Err(CallError::Memory);
         }
         writeln!(to, "{error}")?;
+        if let (Some(source), true) = (&given.source, k < EXPLAINED) {
+            explain_finding(error, given, source, to)?;
+        }
     }
     Ok(())
 }
@@ -132,6 +286,7 @@ fn judge<F: Function, W: Write>(
     f: &F,
     env: &MachineEnv,
     output: &Output,
+    given: &Given<'_, '_, '_>,
     to: &mut W,
 ) -> Result<bool, CallError>
     requires framed { IsFramed (F.function f.now) }
@@ -143,7 +298,7 @@ fn judge<F: Function, W: Write>(
         return Err(CallError::Memory);
     };
     if let Err(error) = checker.prepare(output) {
-        write_findings(&[error], to)?;
+        write_findings(&[error], given, to)?;
         return Ok(false);
     }
     match checker.run() {
@@ -159,136 +314,298 @@ fn judge<F: Function, W: Write>(
             }
         },
         Err(errors) => {
-            write_findings(errors.errors(), to)?;
+            write_findings(errors.errors(), given, to)?;
             Ok(false)
         }
     }
 }
 
-/// Judges an output that is given. Whether it is accepted.
-fn replay<F: Function, W: Write>(
+/// Judges the output that is given.
+fn replay<F: Function, W: Write, E: Write>(
     alloc: Global,
     f: &F,
     env: &MachineEnv,
-    stored: Option<&StoredOutput>,
+    given: &Given<'_, '_, '_>,
     to: &mut W,
-) -> Result<bool, CallError> {
-    let Some(stored) = stored else {
-        writeln!(to, "bad text: no allocation")?;
-        return Ok(false);
+    err: &mut E,
+) -> Result<Verdict, CallError> {
+    let Some(stored) = given.output else {
+        writeln!(err, "bad text: no allocation")?;
+        return Ok(Verdict::Unusable);
     };
     let output = match Output::from_stored(alloc, stored) {
         Ok(output) => output,
         Err(StoredFault::Memory) => return Err(CallError::Memory),
         Err(fault) => {
             let fault = FaultText(fault);
-            writeln!(to, "bad output {fault}")?;
-            return Ok(false);
+            writeln!(err, "bad output {fault}")?;
+            return Ok(Verdict::Unusable);
         }
     };
     if !is_framed(f) {
-        writeln!(to, "not framed")?;
-        return Ok(false);
+        writeln!(err, "not framed")?;
+        return Ok(Verdict::Unusable);
     }
-    judge(alloc, f, env, &output, to)
+    let is_accepted = judge(alloc, f, env, &output, given, to)?;
+    Ok(Verdict::of(is_accepted))
 }
 
-/// Writes whether each read and each argument comes after a write, on every path. Whether so.
-fn judge_reads<F: Function, W: Write>(alloc: Global, f: &F, to: &mut W) -> Result<bool, CallError>
+/// Writes a path on which a vreg is read before it is written.
+fn write_path<W: Write>(
+    alloc: Global,
+    function: &StoredFunction,
+    source: &Source<'_>,
+    to: &mut W,
+) -> Result<(), CallError> {
+    let Some(read) = find_unwritten_read(alloc, function)? else {
+        return Ok(());
+    };
+    writeln!(to, "  {read}")?;
+    write_site(read.site, source, to)
+}
+
+/// Writes whether each read and each argument comes after a write, on every path, and else a path on which one doesn't. Whether so.
+fn judge_reads<F: Function, W: Write>(
+    alloc: Global,
+    f: &F,
+    given: &Given<'_, '_, '_>,
+    to: &mut W,
+) -> Result<bool, CallError>
+    requires framed { IsFramed (F.function f.now) }
     ensures written { IfOk result (λ b. b ≡ true → IsWrittenFirst (F.function f.now)) }
 {
-    if !is_framed(f) {
-        writeln!(to, "not framed")?;
-        return Ok(false);
-    }
     let Ok(are_written) = reads_written(alloc, f) else {
         return Err(CallError::Memory);
     };
     if !are_written {
         writeln!(to, "read before written")?;
+        if let Some(source) = &given.source {
+            write_path(alloc, given.function, source, to)?;
+        }
         return Ok(false);
     }
     writeln!(to, "written first")?;
     Ok(true)
 }
 
-/// Writes the text of a function with an output.
+/// The verdict of [`judge_reads`], or that the function isn't framed.
+fn test_reads<F: Function, W: Write, E: Write>(
+    alloc: Global,
+    f: &F,
+    given: &Given<'_, '_, '_>,
+    to: &mut W,
+    err: &mut E,
+) -> Result<Verdict, CallError> {
+    if !is_framed(f) {
+        writeln!(err, "not framed")?;
+        return Ok(Verdict::Unusable);
+    }
+    let is_accepted = judge_reads(alloc, f, given, to)?;
+    Ok(Verdict::of(is_accepted))
+}
+
+/// Writes the text of a function, and of an output where there is one.
 fn write_text<W: Write>(
     alloc: Global,
     function: &StoredFunction,
-    output: &Output,
+    output: Option<&StoredOutput>,
     to: &mut W,
 ) -> Result<(), CallError> {
-    let Ok(stored) = output.stored() else {
-        return Err(CallError::Memory);
-    };
-    let text = write(alloc, function, Some(&stored))?;
+    let text = write(alloc, function, output)?;
     write!(to, "{text}")?;
     Ok(())
 }
 
-/// Allocates registers to a function, of which the stored one is given too, and answers a call, `Replay` and `Reads` as
-/// a `Check` of the allocator's output. Whether nothing was refused, and no fault found.
-fn allocate<F: Function, W: Write>(
+/// Writes what a call reports of an output.
+fn report<W: Write>(
+    call: Call,
+    function: &StoredFunction,
+    output: &StoredOutput,
+    to: &mut W,
+) -> Result<(), CallError> {
+    let stats = Stats::of(function, output);
+    match call {
+        Call::Dump => write_dump(function, output, to)?,
+        Call::StatsJson => {
+            let json = StatsJson(stats);
+            write!(to, "{json}")?;
+        }
+        _ => write!(to, "{stats}")?,
+    }
+    Ok(())
+}
+
+/// Writes how an output that is given and another one differ, and what the checker finds of each. Whether they agree and nothing is found.
+fn compare<F: Function, W: Write, E: Write>(
+    alloc: Global,
+    f: &F,
+    env: &MachineEnv,
+    given: &Given<'_, '_, '_>,
+    other: &StoredOutput,
+    to: &mut W,
+    err: &mut E,
+) -> Result<Verdict, CallError> {
+    let Some(output) = given.output else {
+        writeln!(err, "bad text: no allocation")?;
+        return Ok(Verdict::Unusable);
+    };
+    let differs = write_diff(given.function, output, other, to)?;
+    write!(to, "first: ")?;
+    let first = replay(alloc, f, env, given, to, err)?;
+    let second = Given {
+        function: given.function,
+        output: Some(other),
+        source: None,
+    };
+    write!(to, "second: ")?;
+    let last = replay(alloc, f, env, &second, to, err)?;
+    if first == Verdict::Unusable || last == Verdict::Unusable {
+        return Ok(Verdict::Unusable);
+    }
+    let is_accepted = first == Verdict::Accepted && last == Verdict::Accepted;
+    Ok(Verdict::of(is_accepted && !differs))
+}
+
+/// Answers a call about the allocator's output by its stored form.
+fn answer_stored<F: Function, W: Write, E: Write>(
     alloc: Global,
     call: Call,
     f: &F,
     env: &MachineEnv,
-    function: &StoredFunction,
+    output: &Output,
+    given: &Given<'_, '_, '_>,
     to: &mut W,
-) -> Result<bool, CallError> {
+    err: &mut E,
+) -> Result<Verdict, CallError> {
+    let Ok(stored) = output.stored() else {
+        return Err(CallError::Memory);
+    };
+    match call {
+        Call::Diff => return compare(alloc, f, env, given, &stored, to, err),
+        Call::Allocated | Call::Text => write_text(alloc, given.function, Some(&stored), to)?,
+        _ => report(call, given.function, &stored, to)?,
+    }
+    Ok(Verdict::Accepted)
+}
+
+/// Writes why a machine doesn't fit a function.
+fn write_misfit<F: Function, E: Write>(
+    f: &F,
+    env: &MachineEnv,
+    given: &Given<'_, '_, '_>,
+    err: &mut E,
+) -> Result<(), CallError> {
+    let Some(source) = &given.source else {
+        writeln!(err, "bad machine")?;
+        return Ok(());
+    };
+    let Err(misfit) = test_machine(f, env) else {
+        return Ok(());
+    };
+    writeln!(err, "bad machine: {misfit}")?;
+    match misfit_at(given.function, misfit) {
+        Some(site) => write_site(site, source, err),
+        None => Ok(()),
+    }
+}
+
+/// Allocates registers to a function, and answers a call, `Replay` and `Reads` as a `Check` of the allocator's output.
+fn allocate<F: Function, W: Write, E: Write>(
+    alloc: Global,
+    call: Call,
+    f: &F,
+    env: &MachineEnv,
+    given: &Given<'_, '_, '_>,
+    to: &mut W,
+    err: &mut E,
+) -> Result<Verdict, CallError> {
     if !machine_fits(f, env) {
-        writeln!(to, "bad machine")?;
-        return Ok(false);
+        write_misfit(f, env, given, err)?;
+        return Ok(Verdict::Unusable);
     }
     let output = match run(alloc, f, env, &OPTIONS) {
         Ok(output) => output,
         Err(RegAllocError::Memory) => return Err(CallError::Memory),
         Err(error) => {
-            let refusal = RefusalText(error);
-            writeln!(to, "{refusal}")?;
-            return Ok(false);
+            write_refusal(error, given, err)?;
+            return Ok(Verdict::Rejected);
         }
     };
     match call {
-        Call::Check | Call::Replay | Call::Reads => return judge(alloc, f, env, &output, to),
         Call::Run => write_listing(f, &output, to)?,
-        Call::Text => write_text(alloc, function, &output, to)?,
         Call::Svg => Picture::new(alloc, &output)?.draw(f, &output, to)?,
+        Call::Check | Call::Replay | Call::Reads => {
+            let is_accepted = judge(alloc, f, env, &output, given, to)?;
+            return Ok(Verdict::of(is_accepted));
+        }
+        _ => return answer_stored(alloc, call, f, env, &output, given, to, err),
     }
-    Ok(true)
+    Ok(Verdict::Accepted)
 }
 
-/// Does a call for a stored function and the output that is given with it, and writes the answer. Whether nothing was
-/// refused, and no fault found.
-///
-/// The answer is the listing, the text, the picture, `checked`, a line for each fault that the checker finds, `written first`, or
-/// `read before written`, which counts as a fault. What turns the function or the output down is one line:
-/// `bad function 2: ..`, `bad machine`, `bad output 3: ..`, `not framed` or `refused 5: ..`.
-/// The numbers are those of `number_of` in [`crate::calls::refusal`] and [`crate::calls::stored_fault`], a fault's its own.
-///
-/// The contract doesn't say what is written: that is shown by tests.
-pub fn answer<W: Write>(
+/// The function that the stored numbers name; nothing if they name none, of which `err` gets a line.
+fn function_of<E: Write>(
     alloc: Global,
-    call: Call,
-    function: &StoredFunction,
-    output: Option<&StoredOutput>,
-    to: &mut W,
-) -> Result<bool, CallError> {
-    let f = match SerializableFunction::from_stored(alloc, function) {
-        Ok(f) => f,
-        Err(StoredFault::Memory) => return Err(CallError::Memory),
+    given: &Given<'_, '_, '_>,
+    err: &mut E,
+) -> Result<Option<SerializableFunction>, CallError> {
+    match SerializableFunction::from_stored(alloc, given.function) {
+        Ok(f) => Ok(Some(f)),
+        Err(StoredFault::Memory) => Err(CallError::Memory),
         Err(fault) => {
             let fault = FaultText(fault);
-            writeln!(to, "bad function {fault}")?;
-            return Ok(false);
+            writeln!(err, "bad function {fault}")?;
+            Ok(None)
         }
+    }
+}
+
+/// Does a call of [`Call::Diff`] with another output in place of the allocator's.
+pub fn answer_diff<W: Write, E: Write>(
+    alloc: Global,
+    given: &Given<'_, '_, '_>,
+    other: &StoredOutput,
+    to: &mut W,
+    err: &mut E,
+) -> Result<Verdict, CallError> {
+    match function_of(alloc, given, err)? {
+        Some(f) => compare(alloc, &f, f.machine_env(), given, other, to, err),
+        None => Ok(Verdict::Unusable),
+    }
+}
+
+/// Does a call, and writes the answer.
+///
+/// The answer is the listing, the text, the picture, counts, upstream's form, how two outputs differ, `checked`, a line for each fault that the checker finds, `written first`, or
+/// `read before written`, which counts as a fault; with a text, lines behind a fault say where it is and what it comes from. What turns
+/// the function or the output down is on `err`: `bad function 2: ..`, `bad machine`, `bad output 3: ..`, `not framed` or `refused 5: ..`,
+/// and with a text its cause and the lines at which it lies. The numbers are those of `number_of` in [`crate::refusal`] and
+/// [`crate::stored_fault`], a fault's its own. [`Call::Text`] tests nothing.
+///
+/// The contract doesn't say what is written: that is shown by tests.
+pub fn answer<W: Write, E: Write>(
+    alloc: Global,
+    call: Call,
+    given: &Given<'_, '_, '_>,
+    to: &mut W,
+    err: &mut E,
+) -> Result<Verdict, CallError> {
+    if call == Call::Text {
+        write_text(alloc, given.function, given.output, to)?;
+        return Ok(Verdict::Accepted);
+    }
+    let Some(f) = function_of(alloc, given, err)? else {
+        return Ok(Verdict::Unusable);
     };
-    match (call, output) {
+    match (call, given.output) {
         (Call::Replay, _) | (Call::Check, Some(_)) => {
-            replay(alloc, &f, f.machine_env(), output, to)
+            replay(alloc, &f, f.machine_env(), given, to, err)
         }
-        (Call::Reads, _) => judge_reads(alloc, &f, to),
-        _ => allocate(alloc, call, &f, f.machine_env(), function, to),
+        (Call::Reads, _) => test_reads(alloc, &f, given, to, err),
+        (Call::Stats | Call::StatsJson | Call::Dump, Some(output)) => {
+            report(call, given.function, output, to)?;
+            Ok(Verdict::Accepted)
+        }
+        _ => allocate(alloc, call, &f, f.machine_env(), given, to, err),
     }
 }

@@ -1,0 +1,137 @@
+//! The command line.
+
+use clap::error::ErrorKind;
+use clap::{Arg, ArgAction, ArgMatches, Command, Error, value_parser};
+use codegen::program::{Action, Task};
+use std::alloc::Global;
+
+/// What the help says of statuses.
+const STATUSES: &str = "\
+The status is 0; or 1 if the function is rejected, or it and its code don't return alike; or 2 if
+words or input are bad or nothing can be written. Errors are on standard error.";
+
+/// What the words ask for.
+#[derive(Drop)]
+pub struct Request<'a> {
+    /// What is to be done.
+    pub task: Task<'a>,
+    /// The path of the file to which the answer is written, in place of standard output.
+    pub output: Option<&'a str>,
+    /// Whether nothing is written but that words or input are bad.
+    pub is_quiet: bool,
+}
+
+/// The argument that names the function's file.
+fn file<'a>(alloc: Global) -> Arg<'a> {
+    Arg::new(alloc, "FILE")
+        .action(ArgAction::Set)
+        .help("A function, as a text; - is standard input")
+}
+
+/// A command with the options that each has.
+fn with_options<'a>(alloc: Global, command: Command<'a>) -> Result<Command<'a>, Error> {
+    let output = Arg::new(alloc, "output")
+        .short('o')
+        .long("output")
+        .value_name("OUT")
+        .action(ArgAction::Set)
+        .help("Write the answer to the file OUT");
+    let quiet = Arg::new(alloc, "quiet")
+        .short('q')
+        .long("quiet")
+        .action(ArgAction::SetTrue)
+        .help("Write neither answer nor rejection: the status tells");
+    Ok(command.after_help(STATUSES).arg(output)?.arg(quiet)?)
+}
+
+/// The subcommand `run`.
+fn run_command<'a>(alloc: Global) -> Result<Command<'a>, Error> {
+    let numbers = Arg::new(alloc, "NUMBER")
+        .action(ArgAction::Append)
+        .num_args(0..)
+        .value_parser(value_parser!(u64))
+        .help("The arguments; those past them are 0");
+    let command = Command::new(alloc, "run")
+        .about("Write what the function and its code return, by interpreters")
+        .arg(file(alloc).required(true))?
+        .arg(numbers)?;
+    with_options(alloc, command)
+}
+
+/// The subcommand `random`.
+fn random_command<'a>(alloc: Global) -> Result<Command<'a>, Error> {
+    let seed = Arg::new(alloc, "SEED")
+        .required(true)
+        .action(ArgAction::Set)
+        .value_parser(value_parser!(u64))
+        .help("A number; the same one gives the same function");
+    let command = Command::new(alloc, "random")
+        .about("Write the text of a function of three arguments that looks random and ends")
+        .arg(seed)?;
+    with_options(alloc, command)
+}
+
+/// The whole command.
+fn command<'a>(alloc: Global) -> Result<Command<'a>, Error> {
+    let command = Command::new(alloc, "compile")
+        .version("0.1.0")
+        .about("Writes a function as assembly for x86-64")
+        .arg_required_else_help(true)
+        .args_conflicts_with_subcommands(true)
+        .arg(file(alloc))?
+        .subcommand(run_command(alloc)?)?
+        .subcommand(random_command(alloc)?)?;
+    with_options(alloc, command)
+}
+
+/// The arguments of `run`.
+fn numbers_of(alloc: Global, given: &ArgMatches<'_>) -> Result<Vec<u64>, Error> {
+    let mut numbers = Vec::new(alloc);
+    let Some(words) = given.get_strs("NUMBER") else {
+        return Ok(numbers);
+    };
+    for word in words {
+        if let Ok(number) = word.parse::<u64>() {
+            numbers.push(number)?;
+        }
+    }
+    Ok(numbers)
+}
+
+/// The task that the matches of a command name.
+fn task_of<'a>(
+    alloc: Global,
+    name: &str,
+    given: &ArgMatches<'a>,
+) -> Result<Option<Task<'a>>, Error> {
+    if name == "random" {
+        let seed = given.get_one::<u64>("SEED");
+        return Ok(seed.map(Task::Random));
+    }
+    let Some(path) = given.get_str("FILE") else {
+        return Ok(None);
+    };
+    if name == "run" {
+        let numbers = numbers_of(alloc, given)?;
+        return Ok(Some(Task::Read(path, Action::Run(numbers))));
+    }
+    Ok(Some(Task::Read(path, Action::Write)))
+}
+
+impl<'a> Request<'a> {
+    /// What the program's words ask for, of which the first is its own name. The error's text is for the user: that the words are bad,
+    /// or the help or the version where that is asked for.
+    pub fn of(alloc: Global, words: &'a [String]) -> Result<Request<'a>, Error> {
+        let mut command = command(alloc)?;
+        let matches = command.try_get_matches_from_mut(words)?;
+        let (name, given) = matches.subcommand().unwrap_or(("", &matches));
+        if let Some(task) = task_of(alloc, name, given)? {
+            return Ok(Request {
+                task,
+                output: given.get_str("output"),
+                is_quiet: given.get_flag("quiet"),
+            });
+        }
+        Err(command.error(ErrorKind::MissingRequiredArgument, "a file is wanted")?)
+    }
+}

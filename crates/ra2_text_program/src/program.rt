@@ -1,0 +1,231 @@
+//! What the program does with a text.
+
+ghost use Rattle.std.specs.Prelude.{◌≤◌};
+
+use super::input::{Input, text_of};
+use super::task::{Action, Task};
+use regalloc2_explain::Source;
+use regalloc2_serialize::StoredFunction;
+use regalloc2_text::{write, write_json};
+use regalloc2_tool::calls::call::{
+    Call, CallError, Given, Verdict, answer as answer_call, answer_diff,
+};
+use std::alloc::Global;
+use std::io::{self, Write};
+
+/// The status of bad words or a bad input, and of output that can't be written.
+pub const UNUSABLE: u8 = 2;
+
+/// The status of a rejected function, and of an output with faults.
+const REJECTED: u8 = 1;
+
+/// How many virtual registers a function may name without a warning, whatever it defines.
+const USUAL_VREGS: u64 = 1 << 20;
+
+/// How many bytes the tables of the allocator and the checker take for a number of a virtual register, about.
+const BYTES_FOR_VREG: u64 = 20;
+
+/// The status of a verdict.
+fn status_of(verdict: Verdict) -> u8
+    ensures { result ≤ 2 }
+{
+    match verdict {
+        Verdict::Accepted => 0,
+        Verdict::Rejected => REJECTED,
+        Verdict::Unusable => UNUSABLE,
+    }
+}
+
+/// Writes the function of a text as JSON on one line.
+fn write_function<O: Write>(
+    alloc: Global,
+    function: &StoredFunction,
+    out: &mut O,
+) -> Result<(), CallError> {
+    let mut json = String::new(alloc);
+    if write_json(function, None, &mut json).is_err() {
+        return Err(CallError::Memory);
+    }
+    writeln!(out, "{json}")?;
+    Ok(())
+}
+
+/// How many words of operands, parameters and arguments a function has, of which each names at most one virtual register.
+fn count_names(function: &StoredFunction) -> u64 {
+    let mut count = 0u64;
+    for inst in &function.insts {
+        count = count.saturating_add(inst.operands.len() as u64);
+    }
+    for params in &function.block_params_in {
+        count = count.saturating_add(params.len() as u64);
+    }
+    count
+}
+
+/// Warns of numbers of virtual registers that are far above how many the function names, with the memory that their tables take.
+fn warn<E: Write>(path: &str, function: &StoredFunction, err: &mut E) -> io::Result<()> {
+    let vregs = function.num_vregs;
+    let names = count_names(function);
+    if vregs <= USUAL_VREGS || vregs / 16 <= names {
+        return Ok(());
+    }
+    let megabytes = vregs.saturating_mul(BYTES_FOR_VREG) / 1_000_000;
+    writeln!(
+        err,
+        "{path}: warning: the numbers of virtual registers go up to {vregs}, and at most {names} are named: tables by number take about {megabytes} MB"
+    )
+}
+
+/// Writes how the outputs of two inputs differ.
+fn act_diff<O: Write, E: Write>(
+    alloc: Global,
+    given: &Given<'_, '_, '_>,
+    other: &Input,
+    out: &mut O,
+    err: &mut E,
+) -> Result<Verdict, CallError> {
+    let one = write(alloc, given.function, None)?;
+    let another = write(alloc, &other.text.function, None)?;
+    if one.as_str() != another.as_str() {
+        writeln!(err, "the files give different functions")?;
+        return Ok(Verdict::Unusable);
+    }
+    let Some(output) = &other.text.output else {
+        writeln!(err, "bad text: no allocation")?;
+        return Ok(Verdict::Unusable);
+    };
+    answer_diff(alloc, given, output, out, err)
+}
+
+/// An input with the bytes that it was read from, and the other one of `diff`.
+#[derive(Clone, Copy)]
+struct Inputs<'t, 'i, 'o> {
+    text: &'t str,
+    input: &'i Input,
+    other: Option<&'o Input>,
+}
+
+/// The text in which the parts of an input are shown: the one that was read, with that name before line numbers, or else the one that is
+/// shown for JSON.
+fn source_of<'s>(text: &'s str, shown: Option<&'s String>, name: &'s str) -> Source<'s> {
+    match shown {
+        Some(shown) => Source {
+            name: None,
+            text: shown.as_str(),
+            first_line: 1,
+        },
+        None => Source {
+            name: Some(name),
+            text,
+            first_line: 1,
+        },
+    }
+}
+
+/// Does an action with an input, and flushes the output.
+fn act<O: Write, E: Write>(
+    alloc: Global,
+    task: Task<'_>,
+    inputs: Inputs<'_, '_, '_>,
+    out: &mut O,
+    err: &mut E,
+) -> Result<Verdict, CallError> {
+    let Inputs { text, input, other } = inputs;
+    let path = task.path;
+    let Ok(name) = format!(in alloc; "{path}:") else {
+        return Err(CallError::Memory);
+    };
+    let source = source_of(text, input.shown.as_ref(), name.as_str());
+    let given = Given {
+        function: &input.text.function,
+        output: input.text.output.as_ref(),
+        source: Some(source),
+    };
+    let verdict = match (task.action, other) {
+        (Action::Json, _) => {
+            write_function(alloc, given.function, out)?;
+            Verdict::Accepted
+        }
+        (Action::Answer(Call::Diff), Some(other)) => act_diff(alloc, &given, other, out, err)?,
+        (Action::Answer(Call::Text), _) => answer_call(alloc, Call::Text, &given, out, err)?,
+        (Action::Answer(call), _) => {
+            warn(path, given.function, err)?;
+            answer_call(alloc, call, &given, out, err)?
+        }
+    };
+    out.flush()?;
+    Ok(verdict)
+}
+
+/// Does an action with an input, and writes nothing if the task is to be quiet.
+fn act_as_asked<O: Write, E: Write>(
+    alloc: Global,
+    task: Task<'_>,
+    inputs: Inputs<'_, '_, '_>,
+    out: &mut O,
+    err: &mut E,
+) -> Result<Verdict, CallError> {
+    if task.is_quiet {
+        act(alloc, task, inputs, &mut io::sink(), &mut io::sink())
+    } else {
+        act(alloc, task, inputs, out, err)
+    }
+}
+
+/// Reads an input; nothing if it can't be read, of which `err` gets a line.
+fn read_input<E: Write>(alloc: Global, path: &str, bytes: &[u8], err: &mut E) -> Option<Input> {
+    let read = match text_of(bytes) {
+        Ok(text) => Input::read(alloc, text),
+        Err(error) => Err(error),
+    };
+    match read {
+        Ok(input) => Some(input),
+        Err(error) => {
+            let _ = writeln!(err, "{path}:{error}");
+            None
+        }
+    }
+}
+
+/// Does a task with the bytes of its files, and answers the status.
+///
+/// The input's fault, or why there is no whole answer, is a line on `err`, and the status then 2. Else the answer is on `out`,
+/// flushed, and the status 0; or 1 if the function is rejected, of which `err` has the cause, or something is found; or 2 if its numbers
+/// name no function.
+pub fn answer<O: Write, E: Write>(
+    alloc: Global,
+    task: Task<'_>,
+    bytes: &[u8],
+    other: Option<(&str, &[u8])>,
+    out: &mut O,
+    err: &mut E,
+) -> u8
+    ensures { result ≤ 2 }
+{
+    let path = task.path;
+    let Some(input) = read_input(alloc, path, bytes, err) else {
+        return UNUSABLE;
+    };
+    let mut second = None;
+    if let Some((name, more)) = other {
+        second = read_input(alloc, name, more, err);
+        if second.is_none() {
+            return UNUSABLE;
+        }
+    }
+    let text = text_of(bytes).unwrap_or("");
+    let first = &input;
+    let other = second.as_ref();
+    let inputs = Inputs {
+        text,
+        input: first,
+        other,
+    };
+    match act_as_asked(alloc, task, inputs, out, err) {
+        Ok(verdict) => status_of(verdict),
+        Err(error) => {
+            let _ = writeln!(err, "ra2_text: {path}: {error}");
+            UNUSABLE
+        }
+    }
+}

@@ -1,0 +1,170 @@
+//! What the program is asked to do.
+
+use clap::error::ErrorKind;
+use clap::{Arg, ArgAction, Command, Error};
+use regalloc2_tool::calls::call::Call;
+use std::alloc::Global;
+
+/// The subcommands, with what their help says.
+const SUBCOMMANDS: [(&str, &str); 10] = [
+    (
+        "run",
+        "Allocate registers, and write the function with its machine and output as a text",
+    ),
+    (
+        "check",
+        "Write `checked`, or what the checker finds in the output that FILE gives or else in the allocator's",
+    ),
+    (
+        "replay",
+        "Do as check does, but only with an output that FILE gives",
+    ),
+    (
+        "text",
+        "Write what FILE gives as a text in its one form, and allocate nothing",
+    ),
+    (
+        "svg",
+        "Allocate registers, and write a picture of where each virtual register is",
+    ),
+    (
+        "reads",
+        "Write whether each read comes after a write on every path, and else a shortest path on which one doesn't",
+    ),
+    (
+        "stats",
+        "Write counts of the output that FILE gives, or else of the allocator's: a table, or JSON with --json",
+    ),
+    ("dump", "Write such an output as upstream does"),
+    (
+        "diff",
+        "Write how the outputs that FILE and OTHER give differ, and whether each is faithful",
+    ),
+    (
+        "json",
+        "Write the function with its machine as JSON, for ra2",
+    ),
+];
+
+/// What the help says of statuses.
+const STATUSES: &str = "\
+The status is 0; or 1 if the allocator rejects the function or something is found; or 2 if
+words or input are bad or nothing can be written. Results are on standard output, and errors
+on standard error: for a rejected function its cause, with the line and column at which it lies.";
+
+/// What is to be done with a text.
+#[derive(Clone, Copy)]
+pub enum Action {
+    /// To answer a call.
+    Answer(Call),
+    /// To write the function as JSON.
+    Json,
+}
+
+impl Action {
+    /// The action that a word names, with or without `--json`.
+    fn named(word: &str, is_json: bool) -> Option<Action> {
+        match word {
+            "json" => Some(Action::Json),
+            "stats" if is_json => Some(Action::Answer(Call::StatsJson)),
+            // the listing that shows everything is the text
+            "run" => Some(Action::Answer(Call::Allocated)),
+            _ => Call::named(word).map(Action::Answer),
+        }
+    }
+}
+
+/// What is to be done with the function in a file.
+#[derive(Clone, Copy)]
+pub struct Task<'a> {
+    /// What is to be done.
+    pub action: Action,
+    /// The file's path; `-` is standard input.
+    pub path: &'a str,
+    /// The path of the file with the other output of `diff`; without one, the allocator's is compared.
+    pub other: Option<&'a str>,
+    /// The path of the file to which the answer is written, in place of standard output.
+    pub output: Option<&'a str>,
+    /// Whether nothing is written but that words or input are bad.
+    pub is_quiet: bool,
+}
+
+/// A subcommand with its arguments.
+fn subcommand<'a>(alloc: Global, name: &'a str, about: &'a str) -> Result<Command<'a>, Error> {
+    let file = Arg::new(alloc, "FILE")
+        .required(true)
+        .action(ArgAction::Set)
+        .help("A function with its machine, as a text or as JSON; - is standard input");
+    let output = Arg::new(alloc, "output")
+        .short('o')
+        .long("output")
+        .value_name("OUT")
+        .action(ArgAction::Set)
+        .help("Write the answer to the file OUT");
+    let quiet = Arg::new(alloc, "quiet")
+        .short('q')
+        .long("quiet")
+        .action(ArgAction::SetTrue)
+        .help("Write neither answer nor rejection: the status tells");
+    let command = Command::new(alloc, name)
+        .about(about)
+        .after_help(STATUSES)
+        .arg(file)?
+        .arg(output)?
+        .arg(quiet)?;
+    match name {
+        "diff" => {
+            let other = Arg::new(alloc, "OTHER").action(ArgAction::Set).help(
+                "The same function with another output; without it, the allocator's",
+            );
+            Ok(command.arg(other)?)
+        }
+        "stats" => {
+            let json = Arg::new(alloc, "json")
+                .long("json")
+                .action(ArgAction::SetTrue)
+                .help("Write the counts as JSON");
+            Ok(command.arg(json)?)
+        }
+        _ => Ok(command),
+    }
+}
+
+/// The command with its subcommands.
+fn command<'a>(alloc: Global) -> Result<Command<'a>, Error> {
+    let mut command = Command::new(alloc, "ra2_text")
+        .version("0.1.0")
+        .about("Allocates registers to a function that is given as a text or as JSON")
+        .after_help(STATUSES)
+        .subcommand_required(true)
+        .arg_required_else_help(true);
+    for (name, about) in SUBCOMMANDS {
+        command = command.subcommand(subcommand(alloc, name, about)?)?;
+    }
+    Ok(command)
+}
+
+impl<'a> Task<'a> {
+    /// The task that the program's words name, of which the first is its own name. The error's text is for the user: that the
+    /// words are bad, or the help or the version where that is asked for.
+    pub fn of(alloc: Global, words: &'a [String]) -> Result<Task<'a>, Error> {
+        let mut command = command(alloc)?;
+        let matches = command.try_get_matches_from_mut(words)?;
+        if let Some((name, given)) = matches.subcommand() {
+            let action = Action::named(name, given.get_flag("json"));
+            if let (Some(action), Some(path)) = (action, given.get_str("FILE")) {
+                return Ok(Task {
+                    action,
+                    path,
+                    other: given.get_str("OTHER"),
+                    output: given.get_str("output"),
+                    is_quiet: given.get_flag("quiet"),
+                });
+            }
+        }
+        Err(command.error(
+            ErrorKind::MissingSubcommand,
+            "a subcommand and a file are wanted",
+        )?)
+    }
+}
