@@ -9,7 +9,7 @@ use Rattle.std.proofs.lemmas.List.Sorted.{All-permutation}
 use Rattle.regalloc2_names.specs.Operand.{OperandValue, is_fixed, is_fixed_nonallocatable}
 use Rattle.regalloc2_names.specs.Place.{Place, NoPlace, InRegister, InSlot, is_no_place}
 use Rattle.regalloc2_names.specs.Register.{VirtualRegister}
-use Rattle.regalloc2_function.specs.FunctionValue.{FunctionValue, IsLimited, Label, inst_at, no_operand}
+use Rattle.regalloc2_function.specs.FunctionValue.{FunctionValue, IsLimited, Label, inst_at, no_operand, op_at, op_at as operand_at}
 use Rattle.regalloc2_function.specs.Machine.{MachineValue}
 use Rattle.regalloc2_function.specs.OutputValue.{DebugLocation, OutputValue}
 use Rattle.regalloc2_function.specs.SourceRun.{IsWrittenFirst}
@@ -17,7 +17,6 @@ use Rattle.regalloc2_function.specs.DebugPaths.{HoldsValue as ShowsValue}
 use Rattle.regalloc2_function.specs.DebugPoints.{PassesAt}
 use Rattle.regalloc2_function.specs.Fitting.{IsProperPlace}
 use Rattle.regalloc2_function.specs.WellFormed.{IsWellFormed}
-use Rattle.regalloc2_function.specs.FunctionValue.{op_at}
 use Rattle.regalloc2_semantics.proofs.SingleDef.{Made, made_small}
 use Rattle.regalloc2_fastalloc_state.specs.StateParts.{IsSlotOrNone, slot_name}
 use Rattle.regalloc2_analysis.specs.declared.live_ranges.InstOperand.{InstOperand}
@@ -33,7 +32,6 @@ use Rattle.regalloc2_fastalloc_proofs.specs.BlockSteps.{offset_of}
 use Rattle.regalloc2_fastalloc_proofs.proofs.Safety.OutputOfWalk.{IsMade, IsOfLabel, place_is, proper_place, slots_below}
 use Rattle.regalloc2_fastalloc_proofs.proofs.Slots.ApartSlotsAreOwned.{OwnsSlots}
 use Rattle.regalloc2_fastalloc_proofs.proofs.Safety.InstsKeepSafe.{WalkKept, place_of}
-use Rattle.regalloc2_function.specs.FunctionValue.{op_at as operand_at}
 use Rattle.regalloc2_fastalloc.specs.DebugLocations.{AreLocated, location_shown, operand_place, place_by, place_shown}
 use Rattle.regalloc2_fastalloc.specs.Promise.{IsPlaceOf, ShowsLabels}
 use Rattle.regalloc2_fastalloc.proofs.DebugLocationsFound.{pointed_made}

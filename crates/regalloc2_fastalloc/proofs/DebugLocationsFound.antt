@@ -9,12 +9,11 @@ use Rattle.std.proofs.lemmas.List.{get_or-map, length-map}
 use Rattle.std.proofs.lemmas.List.Sums.{sum_by_more_le}
 use Rattle.regalloc2_names.specs.Place.{Place}
 use Rattle.regalloc2_names.specs.Register.{VirtualRegister}
-use Rattle.regalloc2_function.specs.FunctionValue.{FunctionValue, Label, inst_at, no_inst, operand_count}
+use Rattle.regalloc2_function.specs.FunctionValue.{FunctionValue, Label, inst_at, no_inst, operand_count, op_at}
 use Rattle.regalloc2_function.specs.OutputValue.{DebugLocation}
 use Rattle.regalloc2_function.specs.Stored.{location_of}
 use Rattle.regalloc2_function.specs.DebugPoints.{IsFirstPoint, PassesAt}
 use Rattle.regalloc2_function.specs.DebugPoints.IsFirstPoint.{of_definition, of_parameter}
-use Rattle.regalloc2_function.specs.FunctionValue.{op_at}
 use Rattle.regalloc2_semantics.proofs.SingleDef.{Made}
 use Rattle.regalloc2_fastalloc_state.specs.StateParts.{SpillSlotsValue}
 use Rattle.regalloc2_analysis.specs.declared.live_ranges.InstOperand.{InstOperand}

@@ -2,8 +2,7 @@
 use Rattle.std.proofs.Common.{◌≡◌, ◌^◌, ◌<◌, ◌≤◌, Bool, true, Err, refl, subst, inl, arith}
 use Rattle.std.specs.Prelude.{◌↔◌, IfErr, Result}
 use Rattle.regalloc2_names.specs.declared.RegAllocError.{RegAllocError}
-use Rattle.regalloc2_names.specs.declared.RegAllocError.TheVariants.{TooManyLiveRegs}
-use Rattle.regalloc2_names.specs.declared.RegAllocError.TheVariants.{TooManyOperands, TooManySpillSlots, Memory}
+use Rattle.regalloc2_names.specs.declared.RegAllocError.TheVariants.{TooManyLiveRegs, TooManyOperands, TooManySpillSlots, Memory}
 use Rattle.regalloc2_function.specs.FunctionValue.{FunctionValue, operand_count}
 use Rattle.regalloc2_function.specs.Machine.{MachineValue}
 use Rattle.regalloc2_function.specs.Reasons.{HasShape, IsShapeFault, IsSound, IsSoundnessFault}

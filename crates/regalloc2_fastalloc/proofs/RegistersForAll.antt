@@ -7,10 +7,9 @@ use Rattle.regalloc2_names.specs.Operand.{OperandValue}
 use Rattle.regalloc2_names.specs.Register.{Register, VirtualRegister}
 use Rattle.regalloc2_names.specs.RegisterSet.{has_register}
 use Rattle.regalloc2_function.specs.Fitting.{allocatable_count, count_below, register_number}
-use Rattle.regalloc2_function.specs.FunctionValue.{FunctionValue, InstValue, no_inst}
+use Rattle.regalloc2_function.specs.FunctionValue.{FunctionValue, InstValue, no_inst, op_at}
 use Rattle.regalloc2_function.specs.Machine.{MachineValue, is_allocatable}
 use Rattle.regalloc2_fastalloc_state.proofs.CountingLaws.{count_le}
-use Rattle.regalloc2_function.specs.FunctionValue.{op_at}
 use Rattle.regalloc2_fastalloc_proofs.specs.Unspilled.SpillFree.{FitInRegs, HasRegOperandsOnly}
 use Rattle.regalloc2_fastalloc.specs.Promise.{HasRegistersForAll}
 

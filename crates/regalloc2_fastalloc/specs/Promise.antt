@@ -2,7 +2,7 @@
 -- runs read in SourceRun and AllocatedRun, outputs in OutputValue, faithful ones in Faithful, proper places in Fitting, slots in Slots,
 -- numbers in Values.
 use Rattle.std.specs.Prelude.{ℕ, ◌≡◌, ◌<◌, ◌≤◌, ◌^◌, ◌⊎◌, List, All, IsSome, length, slice_index_or, Bool, false, [], nat_eq, ◌≢◌}
-use Rattle.regalloc2_names.specs.Register.{VirtualRegister, Register}
+use Rattle.regalloc2_names.specs.Register.{VirtualRegister, Register, no_vreg}
 use Rattle.regalloc2_names.specs.Operand.{OperandValue}
 use Rattle.regalloc2_names.specs.Place.{Place, InSlot}
 use Rattle.regalloc2_names.specs.Point.{before}
@@ -10,7 +10,7 @@ use Rattle.std.specs.List.{IsDistinct}
 use Rattle.regalloc2_names.specs.declared.OperandConstraint.TheVariants.{Reg}
 use Rattle.regalloc2_names.specs.declared.RegClass.{RegClass}
 use Rattle.regalloc2_names.specs.RegisterSet.{has_register}
-use Rattle.regalloc2_function.specs.FunctionValue.{FunctionValue, block_at, inst_at}
+use Rattle.regalloc2_function.specs.FunctionValue.{FunctionValue, block_at, inst_at, op_at}
 use Rattle.regalloc2_function.specs.Machine.{MachineValue}
 use Rattle.regalloc2_function.specs.OutputValue.{OutputValue, IsInOrder, allocs_of, place_at}
 use Rattle.regalloc2_function.specs.Path.{Way, end_of, IsPath}
@@ -22,9 +22,7 @@ use Rattle.regalloc2_function.specs.DebugPoints.{AreDebugLocations}
 use Rattle.regalloc2_function.specs.Fitting.{IsProperPlace, PlacesAreProper, allocatable_count}
 use Rattle.regalloc2_function.specs.Slots.{Owner, OfVReg, OfBranch, IsSlotOf, AreSlotsOwned, StandsInSlot}
 use Rattle.regalloc2_function.specs.Values.{Meaning, SameNumbers, numbers, source_reads}
-use Rattle.regalloc2_function.specs.FunctionValue.{op_at}
 use Rattle.regalloc2_analysis.specs.BranchDefs.BranchDefs.{DefinesNumber, IsEdgeInto}
-use Rattle.regalloc2_names.specs.Register.{no_vreg}
 use Rattle.regalloc2_semantics.specs.Live.{IsLive, HasEntered, HoldsValueAt}
 use Rattle.regalloc2_fastalloc.specs.ErrorReason.{units_at_most}
 

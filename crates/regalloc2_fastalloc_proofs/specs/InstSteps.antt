@@ -14,15 +14,13 @@ use Rattle.regalloc2_names.specs.Operand.{OperandValue, is_def, is_late, is_read
 use Rattle.regalloc2_names.specs.Point.{before, after}
 use Rattle.std.specs.List.{count_by}
 use Rattle.regalloc2_function.specs.Fitting.{is_under_reg}
-use Rattle.regalloc2_function.specs.FunctionValue.{InstValue}
+use Rattle.regalloc2_function.specs.FunctionValue.{InstValue, op_at}
 use Rattle.regalloc2_function.specs.OutputValue.{MoveValue}
 use Rattle.regalloc2_fastalloc_state.specs.StateParts.{VRegAllocsValue, SpillSlotsValue, alloc_of, vreg_of_preg, SetsAlloc, GetsSpillSlot, slot_name}
 use Rattle.regalloc2_fastalloc_state.specs.StateParts.{needs_scratch_reserve}
 use Rattle.regalloc2_fastalloc_state.specs.Choice.{chosen}
 use Rattle.regalloc2_fastalloc_state.specs.InstRegs.{IsAvailableAt, RemovesAvailable, SameAvailable, positions_of, both_positions, awaited_of, free_count}
-use Rattle.regalloc2_fastalloc_state.specs.InstRegs.{is_free}
-use Rattle.regalloc2_fastalloc_state.specs.InstRegs.{is_available_at, is_free_throughout}
-use Rattle.regalloc2_function.specs.FunctionValue.{op_at}
+use Rattle.regalloc2_fastalloc_state.specs.InstRegs.{is_free, is_available_at, is_free_throughout}
 use Rattle.regalloc2_fastalloc_state.specs.declared.inst_regs.InstRegs.{InstRegs}
 use Rattle.regalloc2_fastalloc_state.specs.declared.inst_regs.Positions.{Positions}
 use Rattle.regalloc2_fastalloc_state.specs.declared.request.Requirement.{Requirement}

@@ -1,21 +1,19 @@
 -- What a block's beginning stores: the definitions of the branch that leads there, before all else.
 use Rattle.std.specs.Prelude.{ℕ, ◌≡◌, ◌≢◌, ◌<◌, ◌⊎◌, ◌++◌, ◌∷◌, [], List, false, length, Option, None, Some, slice_index_or}
 use Rattle.regalloc2_names.specs.declared.RegClass.{RegClass}
-use Rattle.regalloc2_names.specs.Register.{Register, VirtualRegister, class_code}
+use Rattle.regalloc2_names.specs.Register.{Register, VirtualRegister, class_code, no_vreg}
 use Rattle.regalloc2_names.specs.Operand.{OperandValue}
 use Rattle.regalloc2_names.specs.Place.{Place, NoPlace, InRegister, is_memory}
 use Rattle.regalloc2_names.specs.Point.{before}
-use Rattle.regalloc2_function.specs.FunctionValue.{FunctionValue, block_at, inst_at}
+use Rattle.regalloc2_function.specs.FunctionValue.{FunctionValue, block_at, inst_at, op_at}
 use Rattle.regalloc2_function.specs.OutputValue.{MoveValue}
 use Rattle.regalloc2_function.specs.SourceRun.{arguments_at}
 use Rattle.regalloc2_function.specs.WellFormed.{last_of}
 use Rattle.regalloc2_semantics.specs.Blocks.{target_at}
-use Rattle.regalloc2_function.specs.FunctionValue.{op_at}
 use Rattle.regalloc2_semantics.specs.Stores.{Store, store_moves, IsOneOf, AreInOrder}
 use Rattle.regalloc2_analysis.specs.BranchDefs.BranchDefs.{DefinesNumber, IsStoredOperand, IsEdgeInto, fixed_definition}
 use Rattle.regalloc2_fastalloc_state.specs.StateParts.{SpillSlotsValue, GetsSpillSlot, NoneIsFrom, slot_name}
 use Rattle.regalloc2_fastalloc_proofs.specs.InstSteps.{StateValue, Outcome, next, no_register, SameMachine, MayHold}
-use Rattle.regalloc2_names.specs.Register.{no_vreg}
 
 -- the operands of the branch at a block's end
 abbrev pub branch_operands : FunctionValue → ℕ → List OperandValue

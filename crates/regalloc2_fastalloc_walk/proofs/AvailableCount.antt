@@ -1,7 +1,6 @@
 -- How many registers of a class are free at both positions, and which is left once one is taken.
-use Rattle.std.proofs.Common.{◌≡◌, true, false, length, refl, sym, ◌∙◌}
+use Rattle.std.proofs.Common.{◌≡◌, true, false, length, refl, sym, ◌∙◌, inl, inr}
 use Rattle.std.specs.Prelude.{◌&&◌, ◌↔◌, not}
-use Rattle.std.proofs.Common.{inl, inr}
 use Rattle.std.proofs.lemmas.Bool.{and_parts, cases_Bool, and_from}
 use Rattle.regalloc2_index.proofs.Bools.{equal_tests}
 use Rattle.regalloc2_names.specs.declared.RegClass.{RegClass}

@@ -12,8 +12,7 @@ use Rattle.regalloc2_analysis.specs.declared.branch_defs.DefSite.{DefSite}
 use Rattle.regalloc2_analysis.proofs.BranchDefsLemmas.BlockEnds.{site_defines}
 use Rattle.regalloc2_fastalloc_state.specs.declared.inst_regs.InstRegs.{InstRegs}
 use Rattle.regalloc2_fastalloc_proofs.specs.InstSteps.{StateValue, no_register}
-use Rattle.regalloc2_fastalloc_proofs.specs.BranchSteps.{ClassMove, GathersEdgeMoves, none_gathered, one_gathered, own_argument, IsOwnDef}
-use Rattle.regalloc2_fastalloc_proofs.specs.BranchSteps.{GatherEdge}
+use Rattle.regalloc2_fastalloc_proofs.specs.BranchSteps.{ClassMove, GathersEdgeMoves, none_gathered, one_gathered, own_argument, IsOwnDef, GatherEdge}
 use Rattle.regalloc2_fastalloc_walk.specs.OwnDefs.{IsOwnBy}
 
 -- the tables name the operand by which a branch defines a number

@@ -11,8 +11,7 @@ use Rattle.regalloc2_names.specs.declared.OperandPos.TheVariants.{Early, Late}
 use Rattle.regalloc2_names.specs.Operand.{OperandValue, is_def, is_fixed_nonallocatable, is_late, is_reading}
 use Rattle.regalloc2_parts.specs.Picked.{is_use_operand, left_from, stands_early, stands_late, is_use_kind}
 use Rattle.regalloc2_fastalloc_walk.specs.OperandsAt.{is_at}
-use Rattle.regalloc2_function.specs.FunctionValue.{op_at}
-use Rattle.regalloc2_function.specs.FunctionValue.{no_operand}
+use Rattle.regalloc2_function.specs.FunctionValue.{op_at, no_operand}
 
 module _ (test : OperandValue → Bool) (ops : List OperandValue) where
   -- the operand at an index is the next where it passes

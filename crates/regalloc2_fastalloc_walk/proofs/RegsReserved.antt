@@ -17,14 +17,12 @@ use Rattle.regalloc2_fastalloc_state.specs.declared.inst_regs.InstRegs.{InstRegs
 use Rattle.regalloc2_fastalloc_walk.specs.declared.reserve_regs.ReservedRegs.{ReservedRegs}
 use Rattle.regalloc2_fastalloc_state.specs.InstRegs.{RemovesAvailable, awaited_of, is_free_throughout}
 use Rattle.regalloc2_fastalloc_state.proofs.ArraysByClass.{zeros}
-use Rattle.regalloc2_function.specs.FunctionValue.{op_at}
+use Rattle.regalloc2_function.specs.FunctionValue.{op_at, no_operand}
 use Rattle.regalloc2_fastalloc_proofs.specs.InstSteps.{StateValue, NeedsFixedReg, own, named, IsFixedIn, ReservesRegs, asks_reg_of_class, asking}
-use Rattle.regalloc2_fastalloc_proofs.specs.InstSteps.{EvictsFixed, none_cleared, not_fixed}
+use Rattle.regalloc2_fastalloc_proofs.specs.InstSteps.{EvictsFixed, none_cleared, not_fixed, RegsAreNotReserved, SameButOrder, unknown, shared}
 use Rattle.regalloc2_fastalloc_walk.specs.ReserveSteps.{IsMachineReg, Shrinks, KeepsReserved, IsNewlyReserved, IsReserved, ReservesRegForOperand, TakesOnly}
 use Rattle.regalloc2_fastalloc_walk.specs.ReserveSteps.{TakesFixed, AwaitsOne, ReservesOnly, OperandReserves, RegIsNotReserved}
-use Rattle.regalloc2_fastalloc_proofs.specs.InstSteps.{RegsAreNotReserved, SameButOrder, unknown, shared}
 use Rattle.regalloc2_fastalloc_proofs.proofs.BlockEnd.NoMoveInPasses.{overlap_cases}
-use Rattle.regalloc2_function.specs.FunctionValue.{no_operand}
 
 -- no register becomes available where nothing changes
 pub shrinks_none : (t : InstRegs) → Shrinks t t

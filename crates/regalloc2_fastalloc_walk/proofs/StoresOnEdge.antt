@@ -9,10 +9,9 @@ use Rattle.regalloc2_names.specs.declared.RegClass.TheVariants.{Int}
 use Rattle.regalloc2_names.specs.Register.{Register, VirtualRegister}
 use Rattle.regalloc2_names.specs.Operand.{OperandValue}
 use Rattle.regalloc2_names.specs.Place.{Place, NoPlace, InRegister, InSlot, is_memory}
-use Rattle.regalloc2_function.specs.FunctionValue.{FunctionValue, block_at}
+use Rattle.regalloc2_function.specs.FunctionValue.{FunctionValue, block_at, op_at}
 use Rattle.regalloc2_function.specs.OutputValue.{MoveValue}
 use Rattle.regalloc2_function.specs.WellFormed.{IsWellFormed, last_of}
-use Rattle.regalloc2_function.specs.FunctionValue.{op_at}
 use Rattle.regalloc2_semantics.specs.Stores.{Store, moves_by, store_moves, IsOneOf, AreInOrder}
 use Rattle.regalloc2_semantics.specs.Stores.IsOneOf.{first, later}
 use Rattle.regalloc2_semantics.proofs.SingleDef.{DefinesAt, not_both, one_operand}
@@ -22,10 +21,8 @@ use Rattle.regalloc2_fastalloc_state.specs.StateParts.{SpillSlotsValue, GetsSpil
 use Rattle.regalloc2_fastalloc_proofs.specs.InstSteps.{StateValue, SameMachine, no_register}
 use Rattle.regalloc2_fastalloc_proofs.specs.BlockSteps.{MayBeAllocated}
 use Rattle.regalloc2_fastalloc_proofs.specs.BranchSteps.{RegsAvoidStack}
-use Rattle.regalloc2_fastalloc_proofs.specs.StoreSteps.{StoreBranchDefs}
+use Rattle.regalloc2_fastalloc_proofs.specs.StoreSteps.{StoreBranchDefs, no_slot, one_slot, IsByWay, StoresFor, StoresOn, pushed_moves}
 use Rattle.regalloc2_fastalloc_proofs.specs.StoreSteps.{branch_operands, fixed_or_slot, defined_place, IsStoredFor, its_own, given, IsConcerned, GetsSlots}
-use Rattle.regalloc2_fastalloc_proofs.specs.StoreSteps.{no_slot}
-use Rattle.regalloc2_fastalloc_proofs.specs.StoreSteps.{one_slot, IsByWay, StoresFor, StoresOn, pushed_moves}
 use Rattle.regalloc2_fastalloc_proofs.proofs.Safety.StoredDefs.{last_within}
 use Rattle.regalloc2_fastalloc_proofs.proofs.Safety.StoresKeepSafe.{stored_concerned, stored_defines}
 use Rattle.regalloc2_fastalloc_proofs.proofs.Slots.SlotsGrow.{SlotsStay, gives_stay, same_stay}
@@ -33,8 +30,7 @@ use Rattle.regalloc2_fastalloc_proofs.proofs.Operands.DefRecord.{real_slot}
 use Rattle.regalloc2_fastalloc_walk.specs.declared.operand.PlaceMove.{PlaceMove}
 use Rattle.regalloc2_fastalloc_walk.specs.declared.store.StoredDef.{StoredDef}
 use Rattle.regalloc2_fastalloc_walk.specs.BranchStores.{ListsStores, is_for, FindsDefined, held, in_slot, FindsStore, no_store, FindsStores, none_found}
-use Rattle.regalloc2_fastalloc_walk.specs.BranchStores.{one_found}
-use Rattle.regalloc2_fastalloc_walk.specs.BranchStores.{IsMadeOf, AreMadeOf, none_made, passed_over, one_made, PushesStores, LacksStoreReg}
+use Rattle.regalloc2_fastalloc_walk.specs.BranchStores.{one_found, IsMadeOf, AreMadeOf, none_made, passed_over, one_made, PushesStores, LacksStoreReg}
 use Rattle.regalloc2_fastalloc_walk.proofs.StoresPushed.{pushed_append}
 
 -- a move that no list has

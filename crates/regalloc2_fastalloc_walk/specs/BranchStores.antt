@@ -1,17 +1,15 @@
 -- How a block's beginning stores what the branch into it defined: which values, by which moves, and through which registers.
 use Rattle.std.specs.Prelude.{ℕ, ◌≡◌, ◌≢◌, ◌+◌, ◌<◌, ◌≤◌, ◌++◌, ◌∷◌, [], Bool, false, not, List, All, Contains, length, sum_by, nat_eq, if◌then◌else◌}
 use Rattle.std.specs.Prelude.{None, Some, slice_index_or}
-use Rattle.regalloc2_names.specs.Register.{Register, VirtualRegister}
+use Rattle.regalloc2_names.specs.Register.{Register, VirtualRegister, no_vreg}
 use Rattle.regalloc2_names.specs.Operand.{OperandValue}
 use Rattle.regalloc2_names.specs.Place.{Place, NoPlace, InRegister, is_memory}
-use Rattle.regalloc2_function.specs.FunctionValue.{FunctionValue}
-use Rattle.regalloc2_function.specs.FunctionValue.{op_at}
+use Rattle.regalloc2_function.specs.FunctionValue.{FunctionValue, op_at}
 use Rattle.regalloc2_semantics.specs.Stores.{Store, moves_by, store_moves}
 use Rattle.regalloc2_analysis.specs.BranchDefs.BranchDefs.{fixed_definition}
 use Rattle.regalloc2_analysis.specs.BranchDefs.Tables.{site_of}
 use Rattle.regalloc2_analysis.specs.declared.branch_defs.BranchDefs.{BranchDefs}
 use Rattle.regalloc2_fastalloc_state.specs.StateParts.{SpillSlotsValue, GetsSpillSlot, NoneIsFrom, slot_name}
-use Rattle.regalloc2_names.specs.Register.{no_vreg}
 use Rattle.regalloc2_fastalloc_proofs.specs.InstSteps.{StateValue, Outcome, next, no_register}
 use Rattle.regalloc2_fastalloc_proofs.specs.StoreSteps.{IsByWay, IsStoredFor, pushed_moves}
 use Rattle.regalloc2_fastalloc_walk.specs.declared.operand.PlaceMove.{PlaceMove}

@@ -18,11 +18,10 @@ use Rattle.regalloc2_fastalloc_proofs.specs.BranchSteps.{IsScratchRegFor, ClassM
 use Rattle.regalloc2_fastalloc_proofs.specs.Safety.{IsWhole}
 use Rattle.regalloc2_fastalloc_proofs.proofs.Safety.StepsKeepState.{place_in}
 use Rattle.regalloc2_fastalloc_proofs.proofs.Operands.RecordOverState.{opt, opt_from, stands_at, slots_at}
-use Rattle.regalloc2_fastalloc_proofs.proofs.Branches.ArgMovesByClass.{IsNoTarget, all_moves, all_kept, all_above, all_moved}
+use Rattle.regalloc2_fastalloc_proofs.proofs.Branches.ArgMovesByClass.{IsNoTarget, all_moves, all_kept, all_above, all_moved, ClassSteps}
 use Rattle.regalloc2_fastalloc_proofs.proofs.Branches.EdgeArgsGathered.{of_class-has, of_class-from, passes_at, argument_at, IsArgued, params_on}
 use Rattle.regalloc2_fastalloc_proofs.proofs.BlockEnd.BranchAlone.{IsHeldHere}
 use Rattle.regalloc2_fastalloc_proofs.proofs.BlockEnd.BranchEndsBlock.{ToCome, cases_opt, slot_there}
-use Rattle.regalloc2_fastalloc_proofs.proofs.Branches.ArgMovesByClass.{ClassSteps}
 
 -- a vreg that is listed is named
 pub names_at : (ps : List VirtualRegister) (j : ℕ) (v : VirtualRegister) → j < length ps → argument_at ps j ≡ v → names v ps ≡ true

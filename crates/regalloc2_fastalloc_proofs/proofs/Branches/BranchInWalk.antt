@@ -9,7 +9,7 @@ use Rattle.regalloc2_names.specs.Register.{VirtualRegister, is_vreg}
 use Rattle.regalloc2_names.specs.RegisterSet.{has_register}
 use Rattle.regalloc2_names.specs.Place.{Place, NoPlace, InRegister, InSlot}
 use Rattle.regalloc2_names.specs.Point.{before, after}
-use Rattle.regalloc2_function.specs.FunctionValue.{FunctionValue, IsLimited, block_at, inst_at, no_inst, no_operand}
+use Rattle.regalloc2_function.specs.FunctionValue.{FunctionValue, IsLimited, block_at, inst_at, no_inst, no_operand, op_at}
 use Rattle.regalloc2_function.specs.Machine.{MachineValue}
 use Rattle.regalloc2_function.specs.OutputValue.{place_at}
 use Rattle.regalloc2_function.specs.SourceRun.{arguments_at}
@@ -28,7 +28,6 @@ use Rattle.regalloc2_semantics.proofs.SingleDef.Made.{by_operand}
 use Rattle.regalloc2_semantics.proofs.Order.{ends_within, reads_later}
 use Rattle.regalloc2_analysis.specs.BranchDefs.BranchDefs.{DefinesNumber, IsEdgeInto}
 use Rattle.regalloc2_fastalloc_state.specs.Validate.NoLimits.{AreTaken}
-use Rattle.regalloc2_function.specs.FunctionValue.{op_at}
 use Rattle.regalloc2_fastalloc_proofs.specs.InstSteps.{StateValue, ends_block}
 use Rattle.regalloc2_fastalloc_proofs.specs.BranchSteps.{IsOwnDef}
 use Rattle.regalloc2_fastalloc_proofs.specs.StoreSteps.{branch_operands}
@@ -50,8 +49,7 @@ use Rattle.regalloc2_fastalloc_proofs.proofs.Walk.InstBoundaries.{grown_pushes}
 use Rattle.regalloc2_fastalloc_proofs.proofs.Walk.InstsBeforeLastCarry.{defined_from}
 use Rattle.regalloc2_fastalloc_proofs.proofs.Walk.DefsBeforeUses.{used_made, used_somewhere}
 use Rattle.regalloc2_fastalloc_proofs.proofs.Walk.BlockCarries.{BlockEnd, EndCarries, BranchCarries, IsUnused, writes_in}
-use Rattle.regalloc2_fastalloc_proofs.proofs.Inst.ProperInsts.{all_proper}
-use Rattle.regalloc2_fastalloc_proofs.proofs.Inst.ProperInsts.{proper_of}
+use Rattle.regalloc2_fastalloc_proofs.proofs.Inst.ProperInsts.{all_proper, proper_of}
 use Rattle.regalloc2_fastalloc_proofs.proofs.Slots.StepsKeepSlots.{changes_grow, Grown}
 use Rattle.regalloc2_fastalloc_proofs.proofs.Changes.WalkChanges.{processes_branch_changes, any_passed}
 

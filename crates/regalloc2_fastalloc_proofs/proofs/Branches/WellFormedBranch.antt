@@ -3,7 +3,7 @@ use Rattle.std.proofs.Common.{ℕ, zero, suc, ◌≡◌, ◌+◌, ◌<◌, ◌�
 use Rattle.std.specs.Prelude.{slice_index_or}
 use Rattle.std.proofs.lemmas.List.{get_or-map}
 use Rattle.regalloc2_names.specs.declared.RegClass.TheVariants.{Int}
-use Rattle.regalloc2_names.specs.Register.{VirtualRegister}
+use Rattle.regalloc2_names.specs.Register.{VirtualRegister, no_vreg}
 use Rattle.regalloc2_names.specs.Operand.{OperandValue}
 use Rattle.regalloc2_function.specs.FunctionValue.{FunctionValue, block_at, inst_at}
 use Rattle.regalloc2_function.specs.WellFormed.{ways_into, last_of, PredecessorsAgree, NoOperandsIntoJoins, ArgumentsCounted, ArgumentsFit}
@@ -11,7 +11,6 @@ use Rattle.regalloc2_function.specs.SourceRun.{arguments_at}
 use Rattle.regalloc2_semantics.specs.Blocks.{names, HasEdge, target_at, ExcusedAreSilent}
 use Rattle.regalloc2_semantics.proofs.NotRead.{Unread}
 use Rattle.regalloc2_semantics.proofs.Soundness.{entered_once}
-use Rattle.regalloc2_names.specs.Register.{no_vreg}
 use Rattle.regalloc2_fastalloc_proofs.proofs.Branches.EdgeArgsGathered.{argument_at, params_on}
 
 pub few_or_more : (n : ℕ) → (n ≤ 1) ⊎ (1 < n)

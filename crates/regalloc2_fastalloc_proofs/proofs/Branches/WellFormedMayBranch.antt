@@ -1,11 +1,10 @@
 -- A well-formed function's branches may pass their arguments.
-use Rattle.std.proofs.Common.{ℕ, zero, suc, ◌≡◌, ◌≢◌, ◌<◌, ◌≤◌, Bool, cond, List, [], ◌∷◌, length, refl, sym, ap, inl, inr, arith}
-use Rattle.std.proofs.Common.{eq-eqb, nat_eq}
+use Rattle.std.proofs.Common.{ℕ, zero, suc, ◌≡◌, ◌≢◌, ◌<◌, ◌≤◌, Bool, cond, List, [], ◌∷◌, length, refl, sym, ap, inl, inr, arith, eq-eqb, nat_eq}
 use Rattle.std.specs.Prelude.{slice_index_or}
 use Rattle.std.proofs.lemmas.Bool.{cases_eq}
 use Rattle.std.proofs.lemmas.List.{get_or_default}
 use Rattle.std.proofs.lemmas.List.Sums.{sum_by-cons, count_by-le-length}
-use Rattle.regalloc2_names.specs.Register.{VirtualRegister}
+use Rattle.regalloc2_names.specs.Register.{VirtualRegister, no_vreg}
 use Rattle.regalloc2_names.specs.Point.{before, after}
 use Rattle.regalloc2_function.specs.FunctionValue.{FunctionValue, block_at}
 use Rattle.regalloc2_function.specs.Machine.{MachineValue}
@@ -14,7 +13,6 @@ use Rattle.regalloc2_function.specs.WellFormed.{IsWellFormed, times_in, ways_int
 use Rattle.regalloc2_semantics.specs.Blocks.{HasEdge, target_at, HasSoundBlocks}
 use Rattle.regalloc2_semantics.proofs.SingleDef.{TakesAt, one_param}
 use Rattle.regalloc2_semantics.proofs.Soundness.{count_at, well_formed_are_sound, find}
-use Rattle.regalloc2_names.specs.Register.{no_vreg}
 use Rattle.regalloc2_fastalloc_proofs.specs.BranchSteps.{MayBranch, ParametersDiffer}
 use Rattle.regalloc2_fastalloc_proofs.specs.InstSteps.{StateValue}
 use Rattle.regalloc2_fastalloc_proofs.specs.BlockSteps.{DefinesBelow}

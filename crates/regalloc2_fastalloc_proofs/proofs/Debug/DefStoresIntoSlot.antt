@@ -19,8 +19,7 @@ use Rattle.regalloc2_semantics.proofs.UnwrittenPlaces.{NoMoveTo, moves_kept}
 use Rattle.regalloc2_fastalloc_state.specs.StateParts.{alloc_of}
 use Rattle.regalloc2_fastalloc_state.specs.declared.inst_regs.InstRegs.{InstRegs}
 use Rattle.regalloc2_fastalloc_state.specs.declared.request.OperandRequest.{OperandRequest}
-use Rattle.regalloc2_fastalloc_proofs.specs.InstSteps.{StateValue, a_move, AddsMove, direct, through}
-use Rattle.regalloc2_fastalloc_proofs.specs.InstSteps.{AllocsOperand, AddsMoveIf, sent, unsent, is_another}
+use Rattle.regalloc2_fastalloc_proofs.specs.InstSteps.{StateValue, a_move, AddsMove, direct, through, AllocsOperand, AddsMoveIf, sent, unsent, is_another}
 use Rattle.regalloc2_fastalloc_proofs.specs.InstSteps.{FreesAlloc, LocatesUse, EvictsFixed, EvictsEach}
 use Rattle.regalloc2_fastalloc_proofs.specs.Safety.{IsWhole}
 use Rattle.regalloc2_fastalloc_proofs.proofs.Safety.StepsKeepState.{place_in, slot_in}
@@ -28,8 +27,7 @@ use Rattle.regalloc2_fastalloc_proofs.proofs.Safety.BranchArgsKeepState.{changes
 use Rattle.regalloc2_fastalloc_proofs.proofs.Operands.DefRecord.{another_is}
 use Rattle.regalloc2_fastalloc_proofs.proofs.Moves.StepsAppendEdits.{Pushes, none_pushed, one_pushed, changes_push}
 use Rattle.regalloc2_fastalloc_proofs.proofs.Changes.InstChanges.{allocs_scratch_reg_changes, adds_move_if_changes, allocs_operand_changes}
-use Rattle.regalloc2_fastalloc_proofs.proofs.Changes.InstChanges.{locates_use_changes, frees_alloc_changes}
-use Rattle.regalloc2_fastalloc_proofs.proofs.Changes.InstChanges.{evicts_fixed_changes, evicts_each_changes}
+use Rattle.regalloc2_fastalloc_proofs.proofs.Changes.InstChanges.{locates_use_changes, frees_alloc_changes, evicts_fixed_changes, evicts_each_changes}
 
 -- allocating an operand keeps the two tables of locations inverse, and each spill slot its vreg's own
 pub allocs_operand_whole : (point : ℕ) (o : OperandRequest) (p : Place) (t u : InstRegs) (old new : StateValue) → AllocsOperand point o p t u old new →

@@ -6,14 +6,13 @@ use Rattle.regalloc2_names.specs.Register.{VirtualRegister}
 use Rattle.regalloc2_names.specs.Operand.{OperandValue, is_def}
 use Rattle.regalloc2_names.specs.Place.{Place, NoPlace}
 use Rattle.regalloc2_names.specs.Point.{before}
-use Rattle.regalloc2_function.specs.FunctionValue.{block_at, inst_at}
+use Rattle.regalloc2_function.specs.FunctionValue.{block_at, inst_at, op_at}
 use Rattle.regalloc2_function.specs.OutputValue.{allocs_of, place_at}
 use Rattle.regalloc2_function.specs.Path.{Way, Onward, ToSuccessor, end_of, IsPath}
 use Rattle.regalloc2_function.specs.SourceRun.{IsWrittenFirst, source_before}
 use Rattle.regalloc2_function.specs.AllocatedRun.{Cells, after_moves}
 use Rattle.regalloc2_function.specs.DebugPaths.{GoesOn, there, further, HoldsValue}
 use Rattle.regalloc2_function.specs.DebugPoints.{UsesAt}
-use Rattle.regalloc2_function.specs.FunctionValue.{op_at}
 use Rattle.regalloc2_semantics.specs.Carry.{Carries}
 use Rattle.regalloc2_semantics.specs.Live.{IsLive, later, HasEntered}
 use Rattle.regalloc2_semantics.specs.Blocks.{IsUnwritten}
@@ -34,11 +33,10 @@ use Rattle.regalloc2_fastalloc_proofs.proofs.Safety.BlocksKeepSafe.{MayInBlocks}
 use Rattle.regalloc2_fastalloc_proofs.proofs.Operands.RecordOverState.{opt, opt_some, opt_from}
 use Rattle.regalloc2_fastalloc_proofs.proofs.Safety.BranchArgsKeepState.{processes_branch_between}
 use Rattle.regalloc2_fastalloc_proofs.proofs.Walk.InstForOneVReg.{needed_parts, parts_needed}
-use Rattle.regalloc2_fastalloc_proofs.proofs.Inst.ProperInsts.{all_proper}
+use Rattle.regalloc2_fastalloc_proofs.proofs.Inst.ProperInsts.{all_proper, proper_of}
 use Rattle.regalloc2_fastalloc_proofs.specs.Debug.SlotHoldsValue.{ShowsAt}
 use Rattle.regalloc2_fastalloc_proofs.proofs.Debug.UnnamedStaysUnlocated.{Absent}
-use Rattle.regalloc2_fastalloc_proofs.proofs.Debug.SlotHoldsDefinedValue.{branch, rising, met_at, listed_at, allocated, by_itself}
-use Rattle.regalloc2_fastalloc_proofs.proofs.Debug.SlotHoldsDefinedValue.{from_nowhere, front_of}
+use Rattle.regalloc2_fastalloc_proofs.proofs.Debug.SlotHoldsDefinedValue.{branch, rising, met_at, listed_at, allocated, by_itself, from_nowhere, front_of}
 use Rattle.regalloc2_fastalloc_proofs.proofs.Debug.InstOnPath.{Fronts, front, onward_front, carried_on, behind, moves_on}
 use Rattle.regalloc2_fastalloc_proofs.proofs.Debug.SlotHoldsToUses.{IsPlain, start_path, goes_live, goes_source}
 use Rattle.regalloc2_fastalloc_proofs.proofs.Debug.InstWithinWalk.{Met, IsStart, IsBefore}
@@ -47,7 +45,6 @@ use Rattle.regalloc2_fastalloc_proofs.proofs.Debug.WellFormedPaths.{op_is, inst_
 use Rattle.regalloc2_fastalloc_proofs.proofs.Debug.LocationWithoutSlot.{IsUnslotted, none_before, old_stays, new_stays}
 use Rattle.regalloc2_fastalloc_proofs.proofs.Walk.WholeWalk.{WholeWalk}
 use Rattle.regalloc2_fastalloc_proofs.proofs.Walk.FunctionLaws.{PlacedCode, code_of}
-use Rattle.regalloc2_fastalloc_proofs.proofs.Inst.ProperInsts.{proper_of}
 use Rattle.regalloc2_fastalloc_proofs.proofs.Slots.StepsKeepSlots.{AnyPlace}
 
 module _ (walk : WholeWalk) (m : IsMade walk.f walk.env (Made walk.f) (MayInBlocks walk.f) walk.last walk.out) (written : IsWrittenFirst walk.f)

@@ -6,13 +6,12 @@ use Rattle.regalloc2_names.specs.declared.OperandPos.TheVariants.{Early, Late}
 use Rattle.regalloc2_names.specs.Register.{VirtualRegister}
 use Rattle.regalloc2_names.specs.Operand.{OperandValue}
 use Rattle.regalloc2_names.specs.Place.{Place}
-use Rattle.regalloc2_function.specs.FunctionValue.{FunctionValue, block_at, inst_at, no_operand}
+use Rattle.regalloc2_function.specs.FunctionValue.{FunctionValue, block_at, inst_at, no_operand, op_at}
 use Rattle.regalloc2_function.specs.OutputValue.{OutputValue, allocs_of, place_at}
 use Rattle.regalloc2_function.specs.Path.{Way, Onward, ToSuccessor, end_of}
 use Rattle.regalloc2_function.specs.SourceRun.{Stamp, read_of, arguments_at, source_before, source_after, over_edge}
 use Rattle.regalloc2_function.specs.AllocatedRun.{Cells, after_moves, moves_at, cells_early, cells_late, cells_before}
 use Rattle.regalloc2_function.specs.Faithful.{ReadsAgree}
-use Rattle.regalloc2_function.specs.FunctionValue.{op_at}
 use Rattle.regalloc2_semantics.specs.Carry.{Spares, Undefined}
 use Rattle.regalloc2_semantics.specs.Blocks.{target_at}
 use Rattle.regalloc2_semantics.specs.Live.{IsAside}

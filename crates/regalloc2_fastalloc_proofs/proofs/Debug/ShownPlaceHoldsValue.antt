@@ -7,7 +7,7 @@ use Rattle.regalloc2_names.specs.declared.OperandPos.TheVariants.{Early, Late}
 use Rattle.regalloc2_names.specs.Register.{VirtualRegister}
 use Rattle.regalloc2_names.specs.Operand.{OperandValue, is_def, is_late, is_reading}
 use Rattle.regalloc2_names.specs.Place.{Place, NoPlace, InRegister, InSlot}
-use Rattle.regalloc2_function.specs.FunctionValue.{FunctionValue, block_at, inst_at, no_operand}
+use Rattle.regalloc2_function.specs.FunctionValue.{FunctionValue, block_at, inst_at, no_operand, op_at}
 use Rattle.regalloc2_function.specs.Fitting.{MachineFits}
 use Rattle.regalloc2_function.specs.OutputValue.{allocs_of, place_at}
 use Rattle.regalloc2_function.specs.Path.{end_of}
@@ -15,7 +15,6 @@ use Rattle.regalloc2_function.specs.SourceRun.{IsWrittenFirst, arguments_at}
 use Rattle.regalloc2_function.specs.DebugPaths.{HoldsValue}
 use Rattle.regalloc2_function.specs.DebugPoints.{DefinesAt, ReadsAt, UsesAt}
 use Rattle.regalloc2_function.specs.WellFormed.{last_of}
-use Rattle.regalloc2_function.specs.FunctionValue.{op_at}
 use Rattle.regalloc2_semantics.specs.Blocks.{HasSoundBlocks, IsUnwritten, target_at}
 use Rattle.regalloc2_semantics.specs.Laws.{ReadsAgreeOnPaths}
 use Rattle.regalloc2_semantics.proofs.SingleDef.{Made, by_operand, one_made, one_operand, not_both, reads_defined}

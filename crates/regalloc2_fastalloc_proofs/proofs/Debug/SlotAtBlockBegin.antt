@@ -2,10 +2,10 @@
 use Rattle.regalloc2_parts.proofs.Resolving.{All-reversed}
 use Rattle.std.proofs.Common.{ℕ, ◌≡◌, ◌≢◌, ◌+◌, ◌<◌, ◌⊎◌, inl, inr, true, false, List, length, refl, sym, ap, ◌∙◌, subst, arith}
 use Rattle.std.specs.Prelude.{All, Option, Some, slice_index_or}
-use Rattle.regalloc2_names.specs.Register.{VirtualRegister}
+use Rattle.regalloc2_names.specs.Register.{VirtualRegister, no_vreg}
 use Rattle.regalloc2_names.specs.Place.{Place, NoPlace, InRegister, InSlot, is_memory}
 use Rattle.regalloc2_names.specs.Point.{before}
-use Rattle.regalloc2_function.specs.FunctionValue.{FunctionValue, block_at, inst_at, no_operand}
+use Rattle.regalloc2_function.specs.FunctionValue.{FunctionValue, block_at, inst_at, no_operand, op_at}
 use Rattle.regalloc2_function.specs.Fitting.{MachineFits}
 use Rattle.regalloc2_function.specs.Machine.{MachineValue}
 use Rattle.regalloc2_function.specs.OutputValue.{OutputValue, MoveValue, allocs_of, moves_before}
@@ -16,7 +16,6 @@ use Rattle.regalloc2_function.specs.WellFormed.{last_of}
 use Rattle.regalloc2_semantics.specs.BlockByPoints.{at_point, listed}
 use Rattle.regalloc2_semantics.specs.Carry.{Undefined}
 use Rattle.regalloc2_semantics.specs.Laws.{ReadsAgreeOnPaths}
-use Rattle.regalloc2_function.specs.FunctionValue.{op_at}
 use Rattle.regalloc2_semantics.specs.Live.{IsLive, HasEntered, LiveStandInPlaces}
 use Rattle.regalloc2_semantics.specs.Stores.{store_moves}
 use Rattle.regalloc2_semantics.proofs.LiveIn.{live_is_used}
@@ -28,7 +27,6 @@ use Rattle.regalloc2_semantics.proofs.StoresInFront.{stores_there, stores_else, 
 use Rattle.regalloc2_semantics.proofs.UnwrittenPlaces.{NoMoveTo, moves_kept}
 use Rattle.regalloc2_analysis.specs.BranchDefs.BranchDefs.{IsUsedElsewhere}
 use Rattle.regalloc2_fastalloc_state.specs.StateParts.{SlotsHaveOneOwner, slot_name}
-use Rattle.regalloc2_names.specs.Register.{no_vreg}
 use Rattle.regalloc2_fastalloc_proofs.specs.InstSteps.{StateValue}
 use Rattle.regalloc2_fastalloc_proofs.specs.Safety.{IsSafe, IsWhole}
 use Rattle.regalloc2_fastalloc_proofs.specs.StoreSteps.{StoresBranchDefs, none_stored, all_stored}
@@ -67,8 +65,7 @@ use Rattle.regalloc2_fastalloc_proofs.proofs.Debug.SlotHoldsDefinedValue.{branch
 use Rattle.regalloc2_fastalloc_proofs.proofs.Debug.WellFormedPaths.{inst_lt, within}
 use Rattle.regalloc2_fastalloc_proofs.proofs.Safety.StepsKeepSafe.{rules_of}
 use Rattle.regalloc2_fastalloc_proofs.proofs.Walk.WholeWalk.{WholeWalk}
-use Rattle.regalloc2_fastalloc_proofs.proofs.Walk.FunctionLaws.{laws_of}
-use Rattle.regalloc2_fastalloc_proofs.proofs.Walk.FunctionLaws.{code_of}
+use Rattle.regalloc2_fastalloc_proofs.proofs.Walk.FunctionLaws.{laws_of, code_of}
 
 -- What is known where blocks begin: where the values of vregs are then, on every path, and that the tables are safe all along the walk.
 pub record AreAtBegin (env : MachineValue) (f : FunctionValue) (blank : List Place) (begin last : StateValue) (out : OutputValue)

@@ -1,18 +1,16 @@
 -- A number that has no location, and that nothing on the way names, stays without a location, and its slot stays as it is.
 use Rattle.std.proofs.Common.{ℕ, ◌≡◌, ◌≢◌, ◌<◌, ◌≤◌, inl, inr, Bool, true, List, length, refl, sym, ap, ◌∙◌, arith}
 use Rattle.std.specs.Prelude.{None, Some, slice_index_or}
-use Rattle.regalloc2_names.specs.Register.{Register, VirtualRegister}
+use Rattle.regalloc2_names.specs.Register.{Register, VirtualRegister, no_vreg}
 use Rattle.regalloc2_names.specs.Operand.{OperandValue, is_late}
 use Rattle.regalloc2_names.specs.Place.{Place, NoPlace, InRegister}
-use Rattle.regalloc2_function.specs.FunctionValue.{FunctionValue, block_at, inst_at}
+use Rattle.regalloc2_function.specs.FunctionValue.{FunctionValue, block_at, inst_at, op_at}
 use Rattle.regalloc2_function.specs.SourceRun.{arguments_at}
 use Rattle.regalloc2_semantics.specs.Blocks.{target_at}
 use Rattle.regalloc2_semantics.specs.OperandsPlaced.{Counts}
 use Rattle.regalloc2_fastalloc_state.specs.StateParts.{VRegAllocsValue, SpillSlotsValue, SetsAlloc, GetsSpillSlot, alloc_of, vreg_of_preg, slot_name}
 use Rattle.regalloc2_fastalloc_state.specs.declared.inst_regs.InstRegs.{InstRegs}
-use Rattle.regalloc2_function.specs.FunctionValue.{op_at}
 use Rattle.regalloc2_fastalloc_proofs.specs.InstSteps.{StateValue, FreesAlloc, ProcessesOperand, ProcessesOperandsAt}
-use Rattle.regalloc2_names.specs.Register.{no_vreg}
 use Rattle.regalloc2_fastalloc_proofs.specs.StoreSteps.{IsConcerned}
 use Rattle.regalloc2_fastalloc_proofs.specs.BlockSteps.{AllocsInstInBlock, BeginsBlock}
 use Rattle.regalloc2_analysis.specs.BranchDefs.BranchDefs.{IsEdgeInto}

@@ -6,14 +6,13 @@ use Rattle.regalloc2_names.specs.declared.OperandPos.{OperandPos}
 use Rattle.regalloc2_names.specs.declared.OperandPos.TheVariants.{Early, Late}
 use Rattle.regalloc2_names.specs.Register.{VirtualRegister, is_vreg}
 use Rattle.regalloc2_names.specs.Operand.{OperandValue, is_reading}
-use Rattle.regalloc2_function.specs.FunctionValue.{FunctionValue, block_at, inst_at, no_operand}
+use Rattle.regalloc2_function.specs.FunctionValue.{FunctionValue, block_at, inst_at, no_operand, op_at}
 use Rattle.regalloc2_function.specs.Machine.{MachineValue}
 use Rattle.regalloc2_function.specs.Path.{Way, Onward, ToSuccessor, end_of, IsPath}
 use Rattle.regalloc2_function.specs.SourceRun.{IsWrittenFirst}
 use Rattle.regalloc2_function.specs.WellFormed.{IsWellFormed}
 use Rattle.regalloc2_function.specs.DebugPaths.{IsGiven}
 use Rattle.regalloc2_function.specs.DebugPoints.{UsesAt, ReadsAt, PassesAt}
-use Rattle.regalloc2_function.specs.FunctionValue.{op_at}
 use Rattle.regalloc2_semantics.specs.Carry.{Undefined}
 use Rattle.regalloc2_semantics.specs.Blocks.{names, target_at, HasSoundBlocks}
 use Rattle.regalloc2_semantics.specs.Live.{IsLive, read_there, passed_there, IsAside}

@@ -1,7 +1,6 @@
 -- Fixed registers are emptied and claimed, before operands are allocated.
 -- The fold in `Changes` doesn't fit: what the listing carries, or the operands' record, differs from step to step.
-use Rattle.std.proofs.Common.{ℕ, ◌≡◌, ◌≢◌, ◌+◌, ◌<◌, ◌≤◌, Bool, true, false, List, length, refl, arith, sym, ap, ◌∙◌, subst, inl, inr, ◌⊎◌}
-use Rattle.std.proofs.Common.{⊎_elim}
+use Rattle.std.proofs.Common.{ℕ, ◌≡◌, ◌≢◌, ◌+◌, ◌<◌, ◌≤◌, Bool, true, false, List, length, refl, arith, sym, ap, ◌∙◌, subst, inl, inr, ◌⊎◌, ⊎_elim}
 use Rattle.std.specs.Prelude.{None, Some, not, ◌&&◌, ◌||◌, slice_index_or}
 use Rattle.std.proofs.lemmas.Bool.{cases_Bool, cases_eq}
 use Rattle.regalloc2_names.specs.declared.RegClass.{RegClass}
@@ -11,8 +10,7 @@ use Rattle.regalloc2_names.specs.RegisterSet.{has_register}
 use Rattle.regalloc2_names.specs.Operand.{OperandValue, is_def, is_late, is_fixed_nonallocatable}
 use Rattle.regalloc2_names.specs.Place.{Place, InRegister}
 use Rattle.regalloc2_names.specs.Point.{after}
-use Rattle.regalloc2_semantics.specs.OperandsPlaced.{What, what_of, Share, read_first, written_after, Counts, Clear, Progress, Puts}
-use Rattle.regalloc2_semantics.specs.OperandsPlaced.{at_begin}
+use Rattle.regalloc2_semantics.specs.OperandsPlaced.{What, what_of, Share, read_first, written_after, Counts, Clear, Progress, Puts, at_begin}
 use Rattle.regalloc2_fastalloc_state.specs.declared.inst_regs.InstRegs.{InstRegs}
 use Rattle.regalloc2_fastalloc_state.specs.declared.inst_regs.Positions.{Positions}
 use Rattle.regalloc2_fastalloc_state.specs.InstRegs.{positions_of}
@@ -22,16 +20,14 @@ use Rattle.regalloc2_fastalloc_proofs.specs.InstSteps.{through, EvictsPReg, empt
 use Rattle.regalloc2_fastalloc_proofs.specs.InstSteps.{own as of_its_own, named as of_named, EvictsFixed, none_cleared, not_fixed, of_fixed, of_reuse}
 use Rattle.regalloc2_fastalloc_proofs.proofs.Safety.StepsKeepState.{place_in}
 use Rattle.regalloc2_fastalloc_proofs.proofs.Operands.RecordOverState.{stands_at, Located}
-use Rattle.regalloc2_fastalloc_proofs.proofs.Evictions.EvictVReg.{Kept, kept_all}
+use Rattle.regalloc2_fastalloc_proofs.proofs.Evictions.EvictVReg.{Kept, kept_all, kept_used}
 use Rattle.regalloc2_fastalloc_proofs.proofs.Moves.ScratchRegTaken.{IsScratch, of_machine, taken, Fit, Less, less_same, less_then, set_found}
 use Rattle.regalloc2_fastalloc_proofs.proofs.Evictions.EvictPReg.{kept_then}
 use Rattle.regalloc2_fastalloc_proofs.proofs.Operands.ClaimAndUse.{covers_at, claim_register}
-use Rattle.regalloc2_fastalloc_proofs.proofs.Operands.RecordOfInst.{Orderly, Ready}
+use Rattle.regalloc2_fastalloc_proofs.proofs.Operands.RecordOfInst.{Orderly, Ready, ready_used}
 use Rattle.regalloc2_fastalloc_proofs.proofs.Evictions.EvictKeepsRecord.{ready_evicts_preg, ready_evicts_other_vregs}
 use Rattle.regalloc2_fastalloc_proofs.proofs.Operands.ClaimKeepsRecord.{Grips, ready_claim}
 use Rattle.regalloc2_fastalloc_proofs.proofs.Operands.BlockTail.{BlockTail}
-use Rattle.regalloc2_fastalloc_proofs.proofs.Evictions.EvictVReg.{kept_used}
-use Rattle.regalloc2_fastalloc_proofs.proofs.Operands.RecordOfInst.{ready_used}
 use Rattle.regalloc2_fastalloc_proofs.proofs.Safety.OperandAssumptions.{defines_or_reads}
 use Rattle.regalloc2_fastalloc_proofs.proofs.Operands.AllocsSoFar.{reads_allocated}
 use Rattle.regalloc2_fastalloc_proofs.proofs.Operands.AllocOperand.{set_at, and_one, puts_one}

@@ -17,8 +17,7 @@ use Rattle.regalloc2_semantics.specs.OperandsPlaced.{What, Progress, Need, locat
 use Rattle.regalloc2_semantics.proofs.NeedsAcrossMoves.{need_slot, claims_through}
 use Rattle.regalloc2_fastalloc_state.specs.declared.inst_regs.InstRegs.{InstRegs}
 use Rattle.regalloc2_fastalloc_proofs.specs.InstSteps.{StateValue, is_stack_in, moved, direct, through, EvictsPReg, empty, cleared, EvictsOtherVRegs, own}
-use Rattle.regalloc2_fastalloc_proofs.specs.InstSteps.{others}
-use Rattle.regalloc2_fastalloc_proofs.specs.InstSteps.{a_move}
+use Rattle.regalloc2_fastalloc_proofs.specs.InstSteps.{others, a_move}
 use Rattle.regalloc2_fastalloc_proofs.specs.Safety.{IsWhole}
 use Rattle.regalloc2_fastalloc_proofs.proofs.Safety.StepsKeepState.{place_in, slot_in, slot_no_register}
 use Rattle.regalloc2_fastalloc_proofs.proofs.Operands.RecordOverState.{stands_at, slots_at, opt, opt_from, Located, Owes, Shifts, shifts}

@@ -12,8 +12,7 @@ use Rattle.regalloc2_semantics.specs.Listing.Item.{Exec}
 use Rattle.regalloc2_semantics.specs.Carry.{is_clobbered}
 use Rattle.regalloc2_semantics.specs.BlockByPoints.{AllFrom, at_point, walked, after_part, listed}
 use Rattle.regalloc2_semantics.specs.Instruction.{Claims, Knows}
-use Rattle.regalloc2_semantics.specs.OperandsPlaced.{What, what_of, Need, Pending, Progress, Placed, Once, Counts}
-use Rattle.regalloc2_semantics.specs.OperandsPlaced.{AreAllPlaced, at_begin}
+use Rattle.regalloc2_semantics.specs.OperandsPlaced.{What, what_of, Need, Pending, Progress, Placed, Once, Counts, AreAllPlaced, at_begin}
 use Rattle.regalloc2_semantics.proofs.Points.{all_from-less}
 use Rattle.regalloc2_semantics.proofs.MoveInFront.{after_part-clean}
 use Rattle.regalloc2_semantics.proofs.RecordSteps.{step_new}
@@ -23,10 +22,9 @@ use Rattle.regalloc2_fastalloc_proofs.proofs.Operands.ClaimAndUse.{PlacesUse}
 use Rattle.regalloc2_fastalloc_state.specs.StateParts.{SpillSlotsValue, slot_name, units_of, IsSlotOrNone, SetsAlloc}
 use Rattle.regalloc2_fastalloc_proofs.specs.InstSteps.{StateValue}
 use Rattle.regalloc2_fastalloc_proofs.specs.Safety.{IsWhole}
-use Rattle.regalloc2_fastalloc_proofs.proofs.Safety.StepsKeepState.{place_in, slot_in, away_holds, away_stands, arrive_holds, arrive_stands}
+use Rattle.regalloc2_fastalloc_proofs.proofs.Safety.StepsKeepState.{place_in, slot_in, away_holds, away_stands, arrive_holds, arrive_stands, slot_no_register}
 use Rattle.regalloc2_fastalloc_proofs.proofs.Operands.RecordOverState.{opt, opt_some, opt_from, opt_real, stands_at, slots_at, Located, Owes}
 use Rattle.regalloc2_fastalloc_proofs.proofs.Operands.BlockTail.{BlockTail}
-use Rattle.regalloc2_fastalloc_proofs.proofs.Safety.StepsKeepState.{slot_no_register}
 
 -- the slots stay
 module _ (old new : StateValue) (v : VirtualRegister) (nowhere : place_in old v.number ≡ NoPlace) (slots : new.slots ≡ old.slots) (w : IsWhole old) where

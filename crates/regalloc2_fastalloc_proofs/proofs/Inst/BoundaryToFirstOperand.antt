@@ -11,7 +11,7 @@ use Rattle.regalloc2_names.specs.Listed.{is_listed}
 use Rattle.regalloc2_names.specs.Operand.{OperandValue, is_def, is_late}
 use Rattle.regalloc2_names.specs.Place.{Place, NoPlace, InRegister, InSlot}
 use Rattle.regalloc2_names.specs.Point.{before, after}
-use Rattle.regalloc2_function.specs.FunctionValue.{InstValue}
+use Rattle.regalloc2_function.specs.FunctionValue.{InstValue, op_at}
 use Rattle.regalloc2_semantics.specs.Carry.{is_clobbered}
 use Rattle.regalloc2_semantics.specs.Instruction.{Claims}
 use Rattle.regalloc2_semantics.specs.BlockByPoints.{AllFrom, at_point, walked, listed}
@@ -20,7 +20,6 @@ use Rattle.regalloc2_semantics.proofs.MoveInFront.{after_part-clean}
 use Rattle.regalloc2_fastalloc_state.specs.declared.inst_regs.InstRegs.{InstRegs}
 use Rattle.regalloc2_fastalloc_state.specs.declared.inst_regs.Positions.{Positions}
 use Rattle.regalloc2_fastalloc_state.specs.InstRegs.{positions_of}
-use Rattle.regalloc2_function.specs.FunctionValue.{op_at}
 use Rattle.regalloc2_fastalloc_proofs.specs.InstSteps.{StateValue, NeedsFixedReg, own, named, ReservesRegs, RemovesClobbers, EvictsEach, none_left, one_more}
 use Rattle.regalloc2_fastalloc_proofs.specs.InstSteps.{AllocsInst, ends_block}
 use Rattle.regalloc2_fastalloc_proofs.specs.Safety.{IsWhole}

@@ -20,8 +20,7 @@ use Rattle.regalloc2_semantics.proofs.PushedMoves.{after_part-more}
 use Rattle.regalloc2_fastalloc_state.specs.declared.inst_regs.InstRegs.{InstRegs}
 use Rattle.regalloc2_fastalloc_proofs.specs.InstSteps.{StateValue, AddsMove, direct, through, is_stack_in, a_move}
 use Rattle.regalloc2_fastalloc_proofs.proofs.Safety.StepsKeepState.{place_in, slot_in, slot_no_register}
-use Rattle.regalloc2_fastalloc_proofs.proofs.Operands.RecordOverState.{opt_from, stands_at, slots_at, Located, Owes, later_push}
-use Rattle.regalloc2_fastalloc_proofs.proofs.Operands.RecordOverState.{stands_edits}
+use Rattle.regalloc2_fastalloc_proofs.proofs.Operands.RecordOverState.{opt_from, stands_at, slots_at, Located, Owes, later_push, stands_edits}
 use Rattle.regalloc2_fastalloc_proofs.proofs.Evictions.EvictVReg.{held_early, held_late, Kept, kept_all, kept_edits}
 use Rattle.regalloc2_fastalloc_proofs.proofs.Moves.ScratchRegTaken.{of_machine, taken, Fit, Spare, Less, allocs_scratch_reg_less, spare_more, scratch_off}
 use Rattle.regalloc2_fastalloc_proofs.proofs.Moves.ScratchRegTaken.{fit_same}

@@ -24,17 +24,15 @@ use Rattle.regalloc2_semantics.proofs.NeedsAcrossMoves.{pend_move, pend_through,
 use Rattle.regalloc2_semantics.proofs.BoundaryToBoundary.{FreeAt, scratch_idle}
 use Rattle.regalloc2_fastalloc_state.specs.declared.inst_regs.InstRegs.{InstRegs}
 use Rattle.regalloc2_function.specs.FunctionValue.{op_at}
-use Rattle.regalloc2_fastalloc_proofs.specs.InstSteps.{StateValue, is_stack_in, EvictsVReg, nobody, moved, AllocsScratchReg, dedicated_scratch, had}
+use Rattle.regalloc2_fastalloc_proofs.specs.InstSteps.{StateValue, is_stack_in, EvictsVReg, nobody, moved, AllocsScratchReg, dedicated_scratch, had, a_move}
 use Rattle.regalloc2_fastalloc_proofs.specs.InstSteps.{found, direct, through, AddsMoveIf, sent, unsent, MovesUses, none_moved, not_moved, one_moved}
-use Rattle.regalloc2_fastalloc_proofs.specs.InstSteps.{a_move}
 use Rattle.regalloc2_fastalloc_proofs.specs.Safety.{IsWhole}
 use Rattle.regalloc2_fastalloc_proofs.proofs.Safety.StepsKeepState.{place_in, slot_in, slot_no_register}
 use Rattle.regalloc2_fastalloc_proofs.proofs.Operands.RecordOverState.{stands_at, slots_at, opt, opt_from, Located, Shifts, shifts}
 use Rattle.regalloc2_fastalloc_proofs.proofs.Operands.RecordOverState.{shift_whole, shift_stands, shift_goes, later_push, stands_edits}
 use Rattle.regalloc2_fastalloc_proofs.proofs.Evictions.EvictVReg.{held_early, held_late, Kept, kept_all, kept_edits, shift_kept}
-use Rattle.regalloc2_fastalloc_proofs.proofs.Moves.ScratchRegTaken.{IsIdle, IsScratch, of_machine, taken, less_early, less_late, held_keeps}
+use Rattle.regalloc2_fastalloc_proofs.proofs.Moves.ScratchRegTaken.{IsIdle, IsScratch, of_machine, taken, less_early, less_late, held_keeps, fit_same}
 use Rattle.regalloc2_fastalloc_proofs.proofs.Moves.ScratchRegTaken.{free_unclaimed, Fit, Spare, spare_same, spare_kept, spare_more, scratch_off}
-use Rattle.regalloc2_fastalloc_proofs.proofs.Moves.ScratchRegTaken.{fit_same}
 use Rattle.regalloc2_fastalloc_proofs.proofs.Evictions.EvictPReg.{kept_then}
 use Rattle.regalloc2_fastalloc_proofs.proofs.Operands.BlockTail.{BlockTail}
 

@@ -9,10 +9,9 @@ use Rattle.regalloc2_fastalloc_state.specs.declared.inst_regs.InstRegs.{InstRegs
 use Rattle.regalloc2_function.specs.FunctionValue.{op_at}
 use Rattle.regalloc2_fastalloc_proofs.specs.InstSteps.{StateValue, ProcessesOperand, a_register, a_use, a_def, a_reuse, ProcessesOperandsAt, none_placed}
 use Rattle.regalloc2_fastalloc_proofs.specs.InstSteps.{of_other, one_placed}
-use Rattle.regalloc2_fastalloc_proofs.proofs.Operands.RecordOfInst.{Turned, Laid}
+use Rattle.regalloc2_fastalloc_proofs.proofs.Operands.RecordOfInst.{Turned, Laid, LayingContext}
 use Rattle.regalloc2_fastalloc_proofs.proofs.Operands.UsesAndPlainDefs.{reads_no_fixed, laid_pass, laid_aside, laid_use, laid_def}
 use Rattle.regalloc2_fastalloc_proofs.proofs.Operands.ReuseDefs.{laid_reuse}
-use Rattle.regalloc2_fastalloc_proofs.proofs.Operands.RecordOfInst.{LayingContext}
 
 module _ (laying : LayingContext) where
   open laying use {tail, ops, lived, clob, ret, orderly}

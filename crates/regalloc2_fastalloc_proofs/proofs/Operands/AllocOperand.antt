@@ -30,11 +30,10 @@ use Rattle.regalloc2_fastalloc_proofs.proofs.Operands.RecordOverState.{opt, stan
 use Rattle.regalloc2_fastalloc_proofs.proofs.Evictions.EvictVReg.{held_early, held_late}
 use Rattle.regalloc2_fastalloc_proofs.proofs.Moves.ScratchRegTaken.{IsScratch, of_machine, taken, held_keeps, scratch_back, fit_same}
 use Rattle.regalloc2_fastalloc_proofs.proofs.Operands.ClaimAndUse.{claim_register, claim_slot}
-use Rattle.regalloc2_fastalloc_proofs.proofs.Operands.RecordOfInst.{Ready}
+use Rattle.regalloc2_fastalloc_proofs.proofs.Operands.RecordOfInst.{Ready, ready_used}
 use Rattle.regalloc2_fastalloc_proofs.proofs.Evictions.EvictKeepsRecord.{Nothing, ready_evicts_other_vregs, evicts_other_vregs_flat}
 use Rattle.regalloc2_fastalloc_proofs.proofs.Operands.ClaimKeepsRecord.{Grips, grips_register, grips_slot, ready_claim}
 use Rattle.regalloc2_fastalloc_proofs.proofs.Operands.BlockTail.{BlockTail}
-use Rattle.regalloc2_fastalloc_proofs.proofs.Operands.RecordOfInst.{ready_used}
 use Rattle.regalloc2_fastalloc_proofs.proofs.Changes.OneChange.{uses_rest}
 
 -- the operand k is at p from now on, and is claimed

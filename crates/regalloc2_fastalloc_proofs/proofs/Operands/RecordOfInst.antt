@@ -12,12 +12,10 @@ use Rattle.regalloc2_semantics.specs.OperandsPlaced.{what_of, Progress, Held, On
 use Rattle.regalloc2_fastalloc_state.specs.declared.inst_regs.InstRegs.{InstRegs}
 use Rattle.regalloc2_function.specs.FunctionValue.{op_at}
 use Rattle.regalloc2_fastalloc_proofs.specs.InstSteps.{StateValue}
-use Rattle.regalloc2_fastalloc_proofs.proofs.Operands.RecordOverState.{stands_at, slots_at, Located, Owes}
+use Rattle.regalloc2_fastalloc_proofs.proofs.Operands.RecordOverState.{stands_at, slots_at, Located, Owes, located_used}
 use Rattle.regalloc2_fastalloc_proofs.proofs.Evictions.EvictVReg.{held_early, held_late}
-use Rattle.regalloc2_fastalloc_proofs.proofs.Moves.ScratchRegTaken.{Fit, Spare}
+use Rattle.regalloc2_fastalloc_proofs.proofs.Moves.ScratchRegTaken.{Fit, Spare, fit_used, spare_used}
 use Rattle.regalloc2_fastalloc_proofs.proofs.Operands.BlockTail.{BlockTail}
-use Rattle.regalloc2_fastalloc_proofs.proofs.Operands.RecordOverState.{located_used}
-use Rattle.regalloc2_fastalloc_proofs.proofs.Moves.ScratchRegTaken.{fit_used, spare_used}
 
 -- The operands of an instruction, as a well-formed function has them. A number is defined once, and isn't read where it is defined;
 -- a reuse is a late definition that names an early use, which no other one names, under Reg or FixedReg.

@@ -18,12 +18,11 @@ use Rattle.regalloc2_fastalloc_state.specs.StateParts.{VRegAllocsValue, SpillSlo
 use Rattle.regalloc2_fastalloc_state.specs.StateParts.{GetsSpillSlot}
 use Rattle.regalloc2_fastalloc_proofs.specs.InstSteps.{StateValue, a_move}
 use Rattle.regalloc2_fastalloc_proofs.specs.Safety.{IsWhole}
-use Rattle.regalloc2_fastalloc_proofs.proofs.Safety.StepsKeepState.{place_in, slot_in, whole_tidy, away_holds, away_stands, given, given_own}
+use Rattle.regalloc2_fastalloc_proofs.proofs.Safety.StepsKeepState.{place_in, slot_in, whole_tidy, away_holds, away_stands, given, given_own, whole_used}
 use Rattle.regalloc2_fastalloc_proofs.proofs.Safety.StepsKeepState.{given_below, given_units, slot_no_register}
 use Rattle.regalloc2_fastalloc_proofs.proofs.Operands.BlockTail.{BlockTail}
 use Rattle.regalloc2_fastalloc_proofs.proofs.Slots.StepsKeepSlots.{Grown, changes_grow}
 use Rattle.regalloc2_fastalloc_proofs.proofs.Changes.OneChange.{Anything, Changes}
-use Rattle.regalloc2_fastalloc_proofs.proofs.Safety.StepsKeepState.{whole_used}
 
 -- a place, unless it is none
 abbrev pub opt : Place → Option Place

@@ -21,23 +21,20 @@ use Rattle.regalloc2_fastalloc_state.specs.declared.request.Requirement.{Require
 use Rattle.regalloc2_fastalloc_state.specs.declared.request.Requirement.TheVariants.{AnyPlace, AnyReg, InMemory, InPReg}
 use Rattle.regalloc2_fastalloc_state.specs.declared.request.OperandRequest.{OperandRequest}
 use Rattle.regalloc2_function.specs.FunctionValue.{op_at}
-use Rattle.regalloc2_fastalloc_proofs.specs.InstSteps.{StateValue, MeetsRequirement, SelectsPlace, stays, fixed, slot, free, ClaimsPlace, in_slot}
+use Rattle.regalloc2_fastalloc_proofs.specs.InstSteps.{StateValue, MeetsRequirement, SelectsPlace, stays, fixed, slot, free, ClaimsPlace, in_slot, AllocsDefOp}
 use Rattle.regalloc2_fastalloc_proofs.specs.InstSteps.{in_register, AddsMoveIf, sent, unsent, FreesAlloc, reuse_requirement_of, reuse_request}
-use Rattle.regalloc2_fastalloc_proofs.specs.InstSteps.{AllocsDefOp}
 use Rattle.regalloc2_fastalloc_proofs.proofs.Safety.StepsKeepState.{place_in}
 use Rattle.regalloc2_fastalloc_proofs.proofs.Operands.RecordOverState.{opt, stands_at, slots_at}
 use Rattle.regalloc2_fastalloc_proofs.proofs.Evictions.EvictVReg.{held_early, held_late}
 use Rattle.regalloc2_fastalloc_proofs.proofs.Moves.ScratchRegTaken.{Less, less_same, less_then}
 use Rattle.regalloc2_fastalloc_proofs.proofs.Operands.ClaimAndUse.{claim_register, covers_both}
-use Rattle.regalloc2_fastalloc_proofs.proofs.Operands.RecordOfInst.{progress, Waits, of_fixed, of_reuse, of_named, Ready, Laid}
+use Rattle.regalloc2_fastalloc_proofs.proofs.Operands.RecordOfInst.{progress, Waits, of_fixed, of_reuse, of_named, Ready, Laid, LayingContext}
 use Rattle.regalloc2_fastalloc_proofs.proofs.Evictions.EvictKeepsRecord.{adds_move_less}
 use Rattle.regalloc2_fastalloc_proofs.proofs.Operands.ClaimKeepsRecord.{Grips, ready_claim}
 use Rattle.regalloc2_fastalloc_proofs.proofs.Operands.AllocOperand.{Due, owed, fresh, meets_requirement_at, Got, allocs_operand_step, set_at, set_at_same}
-use Rattle.regalloc2_fastalloc_proofs.proofs.Operands.AllocOperand.{set_at_other}
-use Rattle.regalloc2_fastalloc_proofs.proofs.Operands.AllocOperand.{puts_one, and_one, and_one_same, and_one_other, and_one_grows, and_one_keeps}
+use Rattle.regalloc2_fastalloc_proofs.proofs.Operands.AllocOperand.{set_at_other, puts_one, and_one, and_one_same, and_one_other, and_one_grows, and_one_keeps}
 use Rattle.regalloc2_fastalloc_proofs.proofs.Operands.RecordAfterOperand.{def_step, made_one, makes_one}
 use Rattle.regalloc2_fastalloc_proofs.proofs.Operands.UsesAndPlainDefs.{waits_set, fresh_turn, phase_turn, laid_next}
-use Rattle.regalloc2_fastalloc_proofs.proofs.Operands.RecordOfInst.{LayingContext}
 use Rattle.regalloc2_fastalloc_proofs.proofs.Operands.AllocsSoFar.{asked_as_fixed}
 
 -- what is held stays held while a definition is sent

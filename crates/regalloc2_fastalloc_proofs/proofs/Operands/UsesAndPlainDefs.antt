@@ -16,12 +16,10 @@ use Rattle.regalloc2_fastalloc_state.specs.declared.request.Requirement.TheVaria
 use Rattle.regalloc2_function.specs.FunctionValue.{op_at}
 use Rattle.regalloc2_fastalloc_proofs.specs.InstSteps.{StateValue, requirement_of, use_request, def_request, AllocsUse, AllocsDefOp}
 use Rattle.regalloc2_fastalloc_proofs.proofs.Operands.ClaimAndUse.{covers_at}
-use Rattle.regalloc2_fastalloc_proofs.proofs.Operands.RecordOfInst.{progress, Turned, Waits, of_fixed, of_reuse, of_named, Ready, Laid}
+use Rattle.regalloc2_fastalloc_proofs.proofs.Operands.RecordOfInst.{progress, Turned, Waits, of_fixed, of_reuse, of_named, Ready, Laid, LayingContext}
 use Rattle.regalloc2_fastalloc_proofs.proofs.Operands.AllocOperand.{Due, owed, fresh, Got, allocs_operand_step, and_one, and_one_same, and_one_other}
-use Rattle.regalloc2_fastalloc_proofs.proofs.Operands.AllocOperand.{and_one_grows}
-use Rattle.regalloc2_fastalloc_proofs.proofs.Operands.AllocOperand.{and_one_keeps}
+use Rattle.regalloc2_fastalloc_proofs.proofs.Operands.AllocOperand.{and_one_grows, and_one_keeps}
 use Rattle.regalloc2_fastalloc_proofs.proofs.Operands.RecordAfterOperand.{use_step, def_step, made_one, makes_one}
-use Rattle.regalloc2_fastalloc_proofs.proofs.Operands.RecordOfInst.{LayingContext}
 use Rattle.regalloc2_fastalloc_proofs.proofs.Operands.AllocsSoFar.{asked_fixed, reads_allocated}
 use Rattle.regalloc2_fastalloc_proofs.proofs.Operands.OperandRules.{use_vreg}
 

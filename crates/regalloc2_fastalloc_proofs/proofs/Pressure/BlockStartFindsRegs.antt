@@ -8,12 +8,11 @@ use Rattle.regalloc2_function.specs.Machine.{MachineValue}
 use Rattle.regalloc2_function.specs.Fitting.{MachineFits, NamesClass}
 use Rattle.regalloc2_fastalloc_state.specs.declared.inst_regs.InstRegs.{InstRegs}
 use Rattle.regalloc2_fastalloc_state.specs.StateParts.{GetsSpillSlot, alloc_of}
-use Rattle.regalloc2_fastalloc_proofs.specs.InstSteps.{StateValue, Outcome, no_register}
+use Rattle.regalloc2_fastalloc_proofs.specs.InstSteps.{StateValue, Outcome, no_register, IsFresh}
 use Rattle.regalloc2_fastalloc_proofs.specs.BlockStart.{ReloadParam, nowhere, comes, ReloadsParams, none_begun, one_begun}
 use Rattle.regalloc2_fastalloc_proofs.specs.BlockStart.{ReloadParams, ReloadRegs, ReloadAtBegin, at_parameter, at_register}
-use Rattle.regalloc2_fastalloc_proofs.specs.InstSteps.{IsFresh}
 use Rattle.regalloc2_fastalloc_proofs.specs.Safety.{IsEndOfMove, AreSafeRegs}
-use Rattle.regalloc2_fastalloc_proofs.proofs.Safety.StepsKeepSafe.{IsApart, StepKept, slot_end, stand_end, there_stands}
+use Rattle.regalloc2_fastalloc_proofs.proofs.Safety.StepsKeepSafe.{IsApart, StepKept, slot_end, stand_end, there_stands, rules_of}
 use Rattle.regalloc2_fastalloc_proofs.proofs.Slots.SlotsGrow.{gives_stay, end_grows}
 use Rattle.regalloc2_fastalloc_proofs.proofs.Safety.BlockStartKeepsSafe.{reloads_params_kept}
 use Rattle.regalloc2_fastalloc_proofs.proofs.Safety.InstKeepsSafe.{fresh_turn}
@@ -21,13 +20,11 @@ use Rattle.regalloc2_fastalloc_proofs.specs.Pressure.EnoughRegs.{HasEnoughRegs, 
 use Rattle.regalloc2_fastalloc_proofs.proofs.Safety.StepsKeepMachine.{keeps_of, machine_stays}
 use Rattle.regalloc2_fastalloc_proofs.proofs.Pressure.StepsKeepMachine.{HasAll, all_kept}
 use Rattle.regalloc2_fastalloc_proofs.proofs.Pressure.OneRegTaken.{ample_none, ample_kept}
-use Rattle.regalloc2_fastalloc_proofs.proofs.Pressure.StepsLeaveEnough.{ample_add_move_if}
+use Rattle.regalloc2_fastalloc_proofs.proofs.Pressure.StepsLeaveEnough.{ample_add_move_if, Demand, demand_of}
 use Rattle.regalloc2_fastalloc_proofs.proofs.Pressure.EvictionsLeaveEnough.{goes_away, never_after}
 use Rattle.regalloc2_fastalloc_proofs.proofs.Pressure.EnoughAtStart.{StartsFree, fresh_ample}
 use Rattle.regalloc2_fastalloc_proofs.proofs.Changes.WalkChanges.{reloads_params_changes}
 use Rattle.regalloc2_fastalloc_proofs.proofs.Changes.Evictions.{regs_evict}
-use Rattle.regalloc2_fastalloc_proofs.proofs.Safety.StepsKeepSafe.{rules_of}
-use Rattle.regalloc2_fastalloc_proofs.proofs.Pressure.StepsLeaveEnough.{Demand, demand_of}
 
 -- where the available registers are fresh, all of the machine's are available, and no scratch register is taken
 pub starts_fresh : (inst_regs : InstRegs) (t : StateValue) → IsFresh inst_regs t → StartsFree inst_regs t

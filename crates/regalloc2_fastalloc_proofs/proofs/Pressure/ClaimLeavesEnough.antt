@@ -17,13 +17,12 @@ use Rattle.regalloc2_fastalloc_state.specs.declared.request.OperandRequest.{Oper
 use Rattle.regalloc2_fastalloc_state.specs.StateParts.{VRegAllocsValue, SetsAlloc, slot_name, vreg_of_preg, alloc_of}
 use Rattle.regalloc2_fastalloc_state.specs.InstRegs.{is_free, free_count}
 use Rattle.regalloc2_fastalloc_proofs.specs.InstSteps.{StateValue, SameMachine, is_stack_in, is_another, scratch_reserve_left}
-use Rattle.regalloc2_fastalloc_proofs.specs.InstSteps.{direct, through, EvictsPReg, empty}
+use Rattle.regalloc2_fastalloc_proofs.specs.InstSteps.{direct, through, EvictsPReg, empty, AllocsOperand, FreesAlloc, AddsMoveIf}
 use Rattle.regalloc2_fastalloc_proofs.specs.InstSteps.{cleared, EvictsOtherVRegs, own, others, SelectsPlace, ClaimsPlace, in_slot, in_register}
-use Rattle.regalloc2_fastalloc_proofs.specs.InstSteps.{AllocsOperand, FreesAlloc, AddsMoveIf}
 use Rattle.regalloc2_fastalloc_proofs.specs.InstSteps.SelectsPlace.{stays, fixed, slot, free}
 use Rattle.regalloc2_fastalloc_proofs.specs.Safety.{MayBeLocatedAt, IsEndOfMove, AreSafeRegs}
 use Rattle.regalloc2_fastalloc_proofs.specs.InstSteps.{no_register, AllocOperand, in_pick, in_clear, FreeAlloc, to_awaited, to_slot}
-use Rattle.regalloc2_fastalloc_proofs.proofs.Safety.StepsKeepSafe.{IsApart, slot_end, stand_end, there_stands, adds_move_if_kept}
+use Rattle.regalloc2_fastalloc_proofs.proofs.Safety.StepsKeepSafe.{IsApart, slot_end, stand_end, there_stands, adds_move_if_kept, rules_of}
 use Rattle.regalloc2_fastalloc_proofs.proofs.Slots.SlotsGrow.{SlotsStay, same_stay, end_grows, changes_stay}
 use Rattle.regalloc2_fastalloc_proofs.proofs.Moves.ScratchRegTaken.{Fit}
 use Rattle.regalloc2_fastalloc_proofs.proofs.Safety.OperandKeepsSafe.{leaves_safe, another_there}
@@ -32,9 +31,7 @@ use Rattle.regalloc2_fastalloc_proofs.proofs.Safety.StepsKeepMachine.{KeepsMachi
 use Rattle.regalloc2_fastalloc_proofs.proofs.Changes.InstChanges.{selects_place_changes, evicts_other_vregs_changes, adds_move_if_changes}
 use Rattle.regalloc2_fastalloc_proofs.proofs.Pressure.StepsKeepMachine.{HasAll, all_kept}
 use Rattle.regalloc2_fastalloc_proofs.proofs.Pressure.OneRegTaken.{free_but_one, free_kept, holds_loses, ample_same, ample_kept, ample_less, ample_some}
-use Rattle.regalloc2_fastalloc_proofs.proofs.Pressure.StepsLeaveEnough.{AreHeld, ample_evict_other_vregs, ample_add_move_if}
-use Rattle.regalloc2_fastalloc_proofs.proofs.Safety.StepsKeepSafe.{rules_of}
-use Rattle.regalloc2_fastalloc_proofs.proofs.Pressure.StepsLeaveEnough.{demand_of}
+use Rattle.regalloc2_fastalloc_proofs.proofs.Pressure.StepsLeaveEnough.{AreHeld, ample_evict_other_vregs, ample_add_move_if, demand_of}
 use Rattle.regalloc2_fastalloc_proofs.proofs.Changes.OneChange.{uses_rest}
 
 -- a register that isn't on the stack is emptied without a scratch register

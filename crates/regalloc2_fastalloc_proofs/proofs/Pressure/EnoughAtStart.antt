@@ -10,7 +10,7 @@ use Rattle.regalloc2_names.specs.Register.{Register, class_code}
 use Rattle.regalloc2_names.specs.RegisterSet.{has_register}
 use Rattle.regalloc2_names.specs.Operand.{OperandValue}
 use Rattle.regalloc2_names.specs.Place.{Place, NoPlace}
-use Rattle.regalloc2_function.specs.FunctionValue.{FunctionValue, InstValue, no_operand}
+use Rattle.regalloc2_function.specs.FunctionValue.{FunctionValue, InstValue, no_operand, op_at}
 use Rattle.regalloc2_function.specs.Machine.{MachineValue, is_allocatable, scratch_of, IsFixedStackSlot}
 use Rattle.regalloc2_function.specs.Fitting.{Fits, MachineFits, NamesClass, count_below, is_fixed_to, register_number, spare_of}
 use Rattle.regalloc2_semantics.proofs.Soundness.{count_at}
@@ -18,7 +18,6 @@ use Rattle.regalloc2_fastalloc_state.specs.declared.inst_regs.InstRegs.{InstRegs
 use Rattle.regalloc2_fastalloc_state.specs.StateParts.{needs_scratch_reserve}
 use Rattle.regalloc2_fastalloc_state.specs.InstRegs.{is_free, is_free_throughout, free_count}
 use Rattle.regalloc2_fastalloc_state.proofs.CountingLaws.{count_some, some_count}
-use Rattle.regalloc2_function.specs.FunctionValue.{op_at}
 use Rattle.regalloc2_fastalloc_proofs.specs.InstSteps.{StateValue, ReservesRegs, RemovesClobbers, IsFixedIn, scratch_reserve_left}
 use Rattle.regalloc2_fastalloc_proofs.specs.Pressure.EnoughRegs.{HasEnoughRegs, waiting, none_needed}
 use Rattle.regalloc2_fastalloc_proofs.proofs.Pressure.StepsKeepMachine.{HasAll}

@@ -1,5 +1,5 @@
 -- Fixed registers and clobbers are emptied, and uses are moved, and enough registers are left.
-use Rattle.std.proofs.Common.{ℕ, ◌≡◌, ◌≢◌, ◌<◌, ◌≤◌, true, false, List, length, refl, subst, arith}
+use Rattle.std.proofs.Common.{ℕ, ◌≡◌, ◌≢◌, ◌<◌, ◌≤◌, true, false, List, length, refl, subst, arith, sym}
 use Rattle.std.specs.Prelude.{not}
 use Rattle.regalloc2_names.specs.Register.{Register, VirtualRegister}
 use Rattle.regalloc2_names.specs.Operand.{OperandValue, is_reading}
@@ -10,7 +10,7 @@ use Rattle.regalloc2_fastalloc_state.specs.StateParts.{alloc_of}
 use Rattle.regalloc2_function.specs.FunctionValue.{op_at}
 use Rattle.regalloc2_fastalloc_proofs.specs.InstSteps.{StateValue, MovesUses, none_moved, not_moved, one_moved, no_register, EvictPReg, MoveUses}
 use Rattle.regalloc2_fastalloc_proofs.specs.Safety.{MayBeLocatedAt, IsEndOfMove, AreSafeRegs}
-use Rattle.regalloc2_fastalloc_proofs.proofs.Safety.StepsKeepSafe.{StepKept, evicts_preg_kept, stand_end, there_stands}
+use Rattle.regalloc2_fastalloc_proofs.proofs.Safety.StepsKeepSafe.{StepKept, evicts_preg_kept, stand_end, there_stands, rules_of, safe_used}
 use Rattle.regalloc2_fastalloc_proofs.proofs.Slots.SlotsGrow.{end_grows, changes_stay}
 use Rattle.regalloc2_fastalloc_proofs.proofs.Slots.LocatedStaysLocated.{changes_last}
 use Rattle.regalloc2_fastalloc_proofs.proofs.Operands.AllocsSoFar.{at_place, IsTame, reads_allocated}
@@ -20,12 +20,8 @@ use Rattle.regalloc2_fastalloc_proofs.proofs.Safety.StepsKeepMachine.{machine_st
 use Rattle.regalloc2_fastalloc_proofs.proofs.Changes.InstChanges.{moves_uses_changes}
 use Rattle.regalloc2_fastalloc_proofs.proofs.Changes.Evictions.{Evictions, evictions_keep}
 use Rattle.regalloc2_fastalloc_proofs.proofs.Pressure.StepsKeepMachine.{HasAll, all_kept}
-use Rattle.regalloc2_fastalloc_proofs.proofs.Pressure.StepsLeaveEnough.{ample_evict_preg, ample_add_move_if}
+use Rattle.regalloc2_fastalloc_proofs.proofs.Pressure.StepsLeaveEnough.{ample_evict_preg, ample_add_move_if, Demand}
 use Rattle.regalloc2_fastalloc_proofs.proofs.Pressure.ClaimLeavesEnough.{safe_held}
-use Rattle.regalloc2_fastalloc_proofs.proofs.Safety.StepsKeepSafe.{rules_of}
-use Rattle.regalloc2_fastalloc_proofs.proofs.Pressure.StepsLeaveEnough.{Demand}
-use Rattle.std.proofs.Common.{sym}
-use Rattle.regalloc2_fastalloc_proofs.proofs.Safety.StepsKeepSafe.{safe_used}
 
 -- a move that is made goes somewhere
 pub goes_away : (p q : Place) → not (is_place p q) ≡ true → p ≡ q → ⊥

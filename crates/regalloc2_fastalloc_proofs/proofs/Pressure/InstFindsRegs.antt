@@ -10,12 +10,11 @@ use Rattle.regalloc2_names.specs.RegisterSet.{has_register, registers_of}
 use Rattle.regalloc2_names.specs.Operand.{OperandValue, is_fixed_nonallocatable}
 use Rattle.regalloc2_names.specs.Place.{Place, NoPlace}
 use Rattle.regalloc2_names.specs.Point.{before, after}
-use Rattle.regalloc2_function.specs.FunctionValue.{FunctionValue, InstValue, no_operand}
+use Rattle.regalloc2_function.specs.FunctionValue.{FunctionValue, InstValue, no_operand, op_at}
 use Rattle.regalloc2_function.specs.Machine.{MachineValue}
 use Rattle.regalloc2_function.specs.Fitting.{Fits, NamesClass}
 use Rattle.regalloc2_fastalloc_state.specs.declared.inst_regs.InstRegs.{InstRegs}
 use Rattle.regalloc2_fastalloc_state.specs.InstRegs.{is_free, positions_of}
-use Rattle.regalloc2_function.specs.FunctionValue.{op_at}
 use Rattle.regalloc2_fastalloc_proofs.specs.InstSteps.{StateValue, ReservesRegs, RemovesClobbers, own as claims_own, EvictsFixed, ends_block}
 use Rattle.regalloc2_fastalloc_proofs.specs.InstSteps.{ProcessesOperandsAt, MovesUses, PreparesRegs}
 use Rattle.regalloc2_fastalloc_proofs.specs.InstSteps.{no_register, EvictFixed, EvictEach, ProcessOperandsAt, MoveUses, PrepareRegs, in_reserve, in_fixed}
@@ -25,8 +24,8 @@ use Rattle.regalloc2_fastalloc_proofs.proofs.Safety.StepsKeepSafe.{IsApart, safe
 use Rattle.regalloc2_fastalloc_proofs.proofs.Moves.ScratchRegTaken.{Less, less_then}
 use Rattle.regalloc2_fastalloc_proofs.proofs.Evictions.EvictKeepsRecord.{evictions_less}
 use Rattle.regalloc2_fastalloc_proofs.proofs.Changes.Evictions.{Evictions, both_evicted, fixed_evicts, each_evicts}
-use Rattle.regalloc2_fastalloc_proofs.proofs.Operands.AllocsSoFar.{IsTame, Filled, FixedAreKnown, filled_same, reads_allocated}
-use Rattle.regalloc2_fastalloc_proofs.proofs.Safety.OperandPassesKeepSafe.{late_operands_kept, early_operands_kept}
+use Rattle.regalloc2_fastalloc_proofs.proofs.Operands.AllocsSoFar.{IsTame, Filled, FixedAreKnown, filled_same, reads_allocated, filling_of}
+use Rattle.regalloc2_fastalloc_proofs.proofs.Safety.OperandPassesKeepSafe.{late_operands_kept, early_operands_kept, passes_of}
 use Rattle.regalloc2_fastalloc_proofs.proofs.Safety.InstKeepsSafe.{fresh_turn}
 use Rattle.regalloc2_fastalloc_proofs.specs.Pressure.EnoughRegs.{HasEnoughRegs, waiting, none_needed, AllWrite, AllMay, AreSafe}
 use Rattle.regalloc2_fastalloc_proofs.proofs.Safety.StepsKeepMachine.{KeepsMachine, keeps_then, machine_stays}
@@ -40,8 +39,6 @@ use Rattle.regalloc2_fastalloc_proofs.proofs.Pressure.PassesLeaveEnough.{never_e
 use Rattle.regalloc2_fastalloc_proofs.proofs.Pressure.EvictionsLeaveEnough.{LeavesEnough, evictions_ample, never_after, ample_moves_uses, never_move_uses}
 use Rattle.regalloc2_fastalloc_proofs.proofs.Pressure.FittingInstReserves.{never_reserve_regs}
 use Rattle.regalloc2_fastalloc_proofs.proofs.Pressure.EnoughAtStart.{StartsFree, held_ample}
-use Rattle.regalloc2_fastalloc_proofs.proofs.Operands.AllocsSoFar.{filling_of}
-use Rattle.regalloc2_fastalloc_proofs.proofs.Safety.OperandPassesKeepSafe.{passes_of}
 use Rattle.regalloc2_fastalloc_proofs.proofs.BlockEnd.NoMoveInLastInst.{some_position, no_place_there}
 use Rattle.regalloc2_fastalloc_proofs.proofs.Pressure.StepsLeaveEnough.{Demand, demand_of}
 use Rattle.regalloc2_fastalloc_proofs.proofs.Pressure.OperandsLeaveEnough.{NamedOperands, named_operands}

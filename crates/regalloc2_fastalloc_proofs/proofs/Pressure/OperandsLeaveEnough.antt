@@ -22,7 +22,7 @@ use Rattle.regalloc2_function.specs.FunctionValue.{op_at}
 use Rattle.regalloc2_fastalloc_proofs.specs.InstSteps.{StateValue, use_request, def_request, reuse_request, AllocsOperand, ClaimsPlace, in_slot}
 use Rattle.regalloc2_fastalloc_proofs.specs.InstSteps.{in_register, AllocsDefOp, AllocsUse, ProcessesOperand, a_register, a_use, a_def, a_reuse}
 use Rattle.regalloc2_fastalloc_proofs.specs.InstSteps.{no_register, AllocOperand, AllocDefOp, in_get, in_define, ProcessOperand, at_use, at_def, at_reuse}
-use Rattle.regalloc2_fastalloc_proofs.proofs.Safety.StepsKeepSafe.{IsApart}
+use Rattle.regalloc2_fastalloc_proofs.proofs.Safety.StepsKeepSafe.{IsApart, rules_of}
 use Rattle.regalloc2_fastalloc_proofs.proofs.Moves.ScratchRegTaken.{Less, less_then}
 use Rattle.regalloc2_fastalloc_proofs.proofs.Evictions.EvictKeepsRecord.{evictions_less}
 use Rattle.regalloc2_fastalloc_proofs.proofs.Changes.Evictions.{but_evicts}
@@ -37,7 +37,6 @@ use Rattle.regalloc2_fastalloc_proofs.proofs.Pressure.OneRegTaken.{ample_kept}
 use Rattle.regalloc2_fastalloc_proofs.proofs.Pressure.ClaimLeavesEnough.{ample_allocs_operand, never_alloc_operand, never_free_alloc, ample_frees_alloc, safe_held}
 use Rattle.regalloc2_fastalloc_proofs.proofs.Pressure.FreeRegsCoverWaiting.{Paying, Pays, pays_fewer, pays_awaited, pays_paid, unfree_kept, allocs_operand_settled}
 use Rattle.regalloc2_fastalloc_proofs.proofs.Pressure.OperandFindsReg.{CountedOperand, Ready, unchanged, use_ready, def_ready, reuse_ready}
-use Rattle.regalloc2_fastalloc_proofs.proofs.Safety.StepsKeepSafe.{rules_of}
 use Rattle.regalloc2_fastalloc_proofs.proofs.BlockEnd.NoMoveInLastInst.{some_position}
 use Rattle.regalloc2_fastalloc_proofs.proofs.Pressure.ClaimLeavesEnough.{naming_of}
 

@@ -8,19 +8,16 @@ use Rattle.regalloc2_names.specs.Operand.{OperandValue, is_late}
 use Rattle.regalloc2_names.specs.Place.{Place}
 use Rattle.regalloc2_fastalloc_state.specs.declared.inst_regs.InstRegs.{InstRegs}
 use Rattle.regalloc2_function.specs.FunctionValue.{op_at}
-use Rattle.regalloc2_fastalloc_proofs.specs.InstSteps.{StateValue, ProcessesOperandsAt, none_placed, of_other, one_placed}
-use Rattle.regalloc2_fastalloc_proofs.specs.InstSteps.{no_register, ProcessOperandsAt}
-use Rattle.regalloc2_fastalloc_proofs.proofs.Operands.AllocsSoFar.{Filled, DefsAreWritten}
+use Rattle.regalloc2_fastalloc_proofs.specs.InstSteps.{StateValue, ProcessesOperandsAt, none_placed, of_other, one_placed, no_register, ProcessOperandsAt}
+use Rattle.regalloc2_fastalloc_proofs.proofs.Operands.AllocsSoFar.{Filled, DefsAreWritten, filling_of}
 use Rattle.regalloc2_fastalloc_proofs.proofs.Safety.OperandPassesKeepSafe.{InLate, InEarly, late_more, early_more, late_operands_kept, early_operands_kept}
 use Rattle.regalloc2_fastalloc_proofs.specs.Pressure.EnoughRegs.{AllWrite, AllMay}
 use Rattle.regalloc2_fastalloc_proofs.proofs.Safety.StepsKeepMachine.{machine_stays}
 use Rattle.regalloc2_fastalloc_proofs.proofs.Changes.InstChanges.{free_operand, processes_operands_at_changes}
 use Rattle.regalloc2_fastalloc_proofs.proofs.Pressure.StepsKeepMachine.{HasAll, all_kept}
 use Rattle.regalloc2_fastalloc_proofs.proofs.Pressure.FreeRegsCoverWaiting.{Paying}
-use Rattle.regalloc2_fastalloc_proofs.proofs.Pressure.OperandsLeaveEnough.{processes_operand_pays, never_process_operand}
-use Rattle.regalloc2_fastalloc_proofs.proofs.Operands.AllocsSoFar.{filling_of}
+use Rattle.regalloc2_fastalloc_proofs.proofs.Pressure.OperandsLeaveEnough.{processes_operand_pays, never_process_operand, NamedOperands}
 use Rattle.regalloc2_fastalloc_proofs.proofs.Safety.OperandPassesKeepSafe.{PassesContext, passes_of}
-use Rattle.regalloc2_fastalloc_proofs.proofs.Pressure.OperandsLeaveEnough.{NamedOperands}
 
 -- more are done
 pub paying_more : (Named : RegClass → Type 0) (ops : List OperandValue) (D E : ℕ → Type 0) (here : List Place) (u : InstRegs) (t : StateValue) →

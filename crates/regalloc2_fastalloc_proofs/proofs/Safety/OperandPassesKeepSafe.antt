@@ -19,14 +19,12 @@ use Rattle.regalloc2_fastalloc_proofs.specs.Safety.{IsOfMachine, MayBeLocatedAt}
 use Rattle.regalloc2_fastalloc_proofs.proofs.Changes.InstChanges.{allocs_def_op_changes, allocs_use_changes}
 use Rattle.regalloc2_fastalloc_proofs.proofs.Slots.SlotsGrow.{changes_stay}
 use Rattle.regalloc2_fastalloc_proofs.proofs.Slots.LocatedStaysLocated.{changes_last}
-use Rattle.regalloc2_fastalloc_proofs.proofs.Safety.StepsKeepSafe.{IsApart}
+use Rattle.regalloc2_fastalloc_proofs.proofs.Safety.StepsKeepSafe.{IsApart, rules_of}
 use Rattle.regalloc2_fastalloc_proofs.proofs.Safety.OperandKeepsSafe.{allocs_def_op_kept, allocs_use_kept}
-use Rattle.regalloc2_fastalloc_proofs.proofs.Operands.AllocsSoFar.{at_place, IsInRegister, MeetsAlone, IsGood}
+use Rattle.regalloc2_fastalloc_proofs.proofs.Operands.AllocsSoFar.{at_place, IsInRegister, MeetsAlone, IsGood, FillingContext}
 use Rattle.regalloc2_fastalloc_proofs.proofs.Operands.AllocsSoFar.{reads_allocated, answer_meets, answer_named, reuse_meets, fixed_meets, asked_fixed}
 use Rattle.regalloc2_fastalloc_proofs.proofs.Operands.AllocsSoFar.{asked_as_fixed, fixed_class, FixedAreKnown, Filled, DefsAreWritten, reuse_register}
 use Rattle.regalloc2_fastalloc_proofs.proofs.Operands.AllocsSoFar.{no_place_register, OneMore, filled_same, filled_on, written, written_twice}
-use Rattle.regalloc2_fastalloc_proofs.proofs.Safety.StepsKeepSafe.{rules_of}
-use Rattle.regalloc2_fastalloc_proofs.proofs.Operands.AllocsSoFar.{FillingContext}
 
 pub a_place_of : (p : Place) → IsInRegister p → (r : Register) × (p ≡ InRegister r)
 a_place_of NoPlace h = absurd h

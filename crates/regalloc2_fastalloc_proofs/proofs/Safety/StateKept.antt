@@ -12,9 +12,8 @@ use Rattle.regalloc2_names.specs.RegisterSet.{has_register}
 use Rattle.regalloc2_names.specs.Place.{Place}
 use Rattle.regalloc2_names.specs.Point.{before, after}
 use Rattle.regalloc2_names.specs.Operand.{OperandValue}
-use Rattle.regalloc2_function.specs.FunctionValue.{FunctionValue, InstValue, block_at, inst_at}
+use Rattle.regalloc2_function.specs.FunctionValue.{FunctionValue, InstValue, block_at, inst_at, no_operand}
 use Rattle.regalloc2_function.specs.WellFormed.{BlocksEnd, BlocksFollow}
-use Rattle.regalloc2_function.specs.FunctionValue.{no_operand}
 use Rattle.regalloc2_semantics.proofs.SingleDef.{Made, no_vreg}
 use Rattle.regalloc2_semantics.proofs.SingleDef.Made.{by_operand}
 use Rattle.regalloc2_fastalloc_state.specs.declared.inst_regs.InstRegs.{InstRegs}

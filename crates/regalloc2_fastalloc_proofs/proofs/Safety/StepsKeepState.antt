@@ -1,5 +1,5 @@
 -- The steps of the walk keep the tables whole.
-use Rattle.std.proofs.Common.{ℕ, ◌≡◌, ◌≢◌, ◌+◌, ◌-◌, ◌<◌, ◌≤◌, Bool, true, false, cond, refl, arith, sym, ap, ◌∙◌, subst, inl, inr, ◌⊎◌}
+use Rattle.std.proofs.Common.{ℕ, ◌≡◌, ◌≢◌, ◌+◌, ◌-◌, ◌<◌, ◌≤◌, Bool, true, false, cond, refl, arith, sym, ap, ◌∙◌, subst, inl, inr, ◌⊎◌, List}
 use Rattle.std.specs.Prelude.{Option, None, Some, slice_index_or}
 use Rattle.std.specs.Int.{next_multiple_of}
 use Rattle.std.proofs.lemmas.Bool.{cases_eq}
@@ -12,7 +12,6 @@ use Rattle.regalloc2_fastalloc_proofs.specs.InstSteps.{StateValue}
 use Rattle.regalloc2_fastalloc_proofs.specs.Safety.{IsWhole}
 use Rattle.regalloc2_semantics.specs.Instruction.{IsTidy}
 use Rattle.regalloc2_semantics.proofs.Cells.{is_place-true, is_place-same, is_place-other}
-use Rattle.std.proofs.Common.{List}
 
 -- where the vregs are located, and their slots, as functions of the number
 abbrev pub place_in : StateValue → ℕ → Place

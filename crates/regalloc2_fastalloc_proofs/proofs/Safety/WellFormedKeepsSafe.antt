@@ -1,12 +1,11 @@
 -- The whole walk over a well-formed function keeps the tables safe, and each operand has a good place.
 use Rattle.std.proofs.Common.{ℕ, ◌<◌, length}
 use Rattle.std.proofs.lemmas.List.Elements.{All-get_or}
-use Rattle.regalloc2_function.specs.FunctionValue.{FunctionValue, IsLimited, inst_at, no_inst, no_operand}
+use Rattle.regalloc2_function.specs.FunctionValue.{FunctionValue, IsLimited, inst_at, no_inst, no_operand, op_at}
 use Rattle.regalloc2_function.specs.Machine.{MachineValue}
 use Rattle.regalloc2_function.specs.WellFormed.{IsWellFormed, ReusesAreSound}
 use Rattle.regalloc2_semantics.proofs.SingleDef.{Made}
 use Rattle.regalloc2_fastalloc_state.specs.Validate.NoLimits.{IsTakenOperand, AreTaken}
-use Rattle.regalloc2_function.specs.FunctionValue.{op_at}
 use Rattle.regalloc2_fastalloc_proofs.proofs.Operands.AllocsSoFar.{IsTame}
 use Rattle.regalloc2_fastalloc_proofs.proofs.Operands.WellFormedInsts.{orderly, knows}
 use Rattle.regalloc2_fastalloc_proofs.proofs.Safety.OperandAssumptions.{tame_of}

@@ -15,8 +15,7 @@ use Rattle.regalloc2_function.specs.WellFormed.{EachOperand}
 use Rattle.regalloc2_function.specs.Slots.{Owner, OfVReg, OfBranch, class_of_owner, units_of_owner, first_unit, IsSlotOf, IsOfClass, AreSlotsOwned}
 use Rattle.regalloc2_fastalloc_state.specs.StateParts.{SpillSlotsValue, slot_name, units_of}
 use Rattle.regalloc2_fastalloc_proofs.specs.SlotLayout.{OwnedSlot, units_in, start_in, start_of_slot, end_of_slot, IsLaidOut, AreSlotsApart, AreLaidOut}
-use Rattle.regalloc2_fastalloc_proofs.specs.SlotLayout.{IsNameOfSlot, IsEndOf}
-use Rattle.regalloc2_fastalloc_proofs.specs.SlotLayout.{IsOfOneClass, ServesAt}
+use Rattle.regalloc2_fastalloc_proofs.specs.SlotLayout.{IsNameOfSlot, IsEndOf, IsOfOneClass, ServesAt}
 
 -- the slot of a vreg that is known
 abbrev pub IsSlotOfKnown : (VirtualRegister → Type 0) → SpillSlotsValue → ℕ → Type 0

@@ -19,11 +19,9 @@ use Rattle.regalloc2_fastalloc_state.specs.StateParts.{units_of, later_slot, lat
 use Rattle.regalloc2_fastalloc_state.specs.ScratchPool.{Moves, pushed}
 use Rattle.regalloc2_fastalloc_state.proofs.SlotsAsPlaces.{slot_grows}
 use Rattle.regalloc2_fastalloc_proofs.specs.InstSteps.{StateValue}
-use Rattle.regalloc2_fastalloc_proofs.specs.BlockStart.{ReloadsParam, nowhere, comes, ReloadsParams, none_begun, one_begun}
-use Rattle.regalloc2_fastalloc_proofs.specs.BlockStart.{ReloadsAtBegin}
-use Rattle.regalloc2_fastalloc_proofs.specs.BranchSteps.{SpillsArgument, from_register, in_slot, ClassMove, of_class, GathersEdgeMoves, none_gathered}
+use Rattle.regalloc2_fastalloc_proofs.specs.BlockStart.{ReloadsParam, nowhere, comes, ReloadsParams, none_begun, one_begun, ReloadsAtBegin}
+use Rattle.regalloc2_fastalloc_proofs.specs.BranchSteps.{SpillsArgument, from_register, in_slot, ClassMove, of_class, GathersEdgeMoves, none_gathered, Pushes}
 use Rattle.regalloc2_fastalloc_proofs.specs.BranchSteps.{one_gathered, own_argument, GathersMoves, no_edge, one_edge, IsScratchUsed, IsOrdered, OrdersMoves}
-use Rattle.regalloc2_fastalloc_proofs.specs.BranchSteps.{Pushes}
 use Rattle.regalloc2_fastalloc_proofs.specs.BranchSteps.{ProcessesBranch}
 use Rattle.regalloc2_fastalloc_proofs.proofs.Slots.SlotsGrow.{SlotsStay, gives_stay, changes_stay}
 use Rattle.regalloc2_fastalloc_proofs.proofs.Safety.StepsKeepSafe.{same_units}

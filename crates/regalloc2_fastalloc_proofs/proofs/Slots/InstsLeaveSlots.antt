@@ -5,7 +5,7 @@ use Rattle.std.specs.Prelude.{All, Some}
 use Rattle.regalloc2_names.specs.Register.{VirtualRegister}
 use Rattle.regalloc2_names.specs.Place.{Place, NoPlace, InRegister, InSlot}
 use Rattle.regalloc2_names.specs.Point.{before, after}
-use Rattle.regalloc2_function.specs.FunctionValue.{FunctionValue, block_at, inst_at}
+use Rattle.regalloc2_function.specs.FunctionValue.{FunctionValue, block_at, inst_at, op_at}
 use Rattle.regalloc2_function.specs.Machine.{MachineValue}
 use Rattle.regalloc2_function.specs.OutputValue.{place_at}
 use Rattle.regalloc2_names.specs.Operand.{is_def}
@@ -14,7 +14,6 @@ use Rattle.regalloc2_semantics.specs.BlockByPoints.{at_point, listed}
 use Rattle.regalloc2_semantics.proofs.UnwrittenPlaces.{IsReadAt, Keeps}
 use Rattle.regalloc2_semantics.proofs.Order.{ends_before, ends_within}
 use Rattle.regalloc2_fastalloc_state.specs.StateParts.{slot_name}
-use Rattle.regalloc2_function.specs.FunctionValue.{op_at}
 use Rattle.regalloc2_fastalloc_proofs.specs.InstSteps.{StateValue}
 use Rattle.regalloc2_fastalloc_proofs.specs.Safety.{MayBeLocatedAt, IsSafe, IsWhole}
 use Rattle.regalloc2_fastalloc_proofs.proofs.Safety.StepsKeepState.{slot_in, slot_no_register}

@@ -13,9 +13,8 @@ use Rattle.regalloc2_names.specs.Register.{VirtualRegister}
 use Rattle.regalloc2_names.specs.Place.{Place, NoPlace, InSlot}
 use Rattle.regalloc2_function.specs.Slots.{Owner, OfVReg, OfBranch, class_of_owner}
 use Rattle.regalloc2_fastalloc_state.specs.StateParts.{SpillSlotsValue, GetsSpillSlot, AddsTempSlots, slot_name, new_slot, later_slot, later_end, units_of}
-use Rattle.regalloc2_fastalloc_proofs.specs.SlotLayout.{OwnedSlot, start_in, start_of_slot, end_of_slot, IsLaidOut, AreSlotsApart, HaveDistinctOwners}
+use Rattle.regalloc2_fastalloc_proofs.specs.SlotLayout.{OwnedSlot, start_in, start_of_slot, end_of_slot, IsLaidOut, AreSlotsApart, HaveDistinctOwners, LaysOut}
 use Rattle.regalloc2_fastalloc_proofs.specs.SlotLayout.{IsOwnSlot, AreLaidOut}
-use Rattle.regalloc2_fastalloc_proofs.specs.SlotLayout.{LaysOut}
 use Rattle.regalloc2_fastalloc_proofs.proofs.Slots.SlotsGrow.{gives_stay}
 use Rattle.regalloc2_fastalloc_proofs.proofs.Slots.StepsKeepSlots.{cases_none}
 use Rattle.regalloc2_fastalloc_proofs.proofs.Branches.ArgMovesEffect.{one_slot}

@@ -9,12 +9,11 @@ use Rattle.std.proofs.lemmas.List.Sums.{sum_by-cons}
 use Rattle.regalloc2_names.specs.declared.RegClass.{RegClass}
 use Rattle.regalloc2_names.specs.Register.{Register, VirtualRegister}
 use Rattle.regalloc2_names.specs.Place.{Place, NoPlace, InRegister, InSlot}
-use Rattle.regalloc2_function.specs.FunctionValue.{FunctionValue, InstValue, slot_size, inst_at}
+use Rattle.regalloc2_function.specs.FunctionValue.{FunctionValue, InstValue, slot_size, inst_at, op_at}
 use Rattle.regalloc2_function.specs.Machine.{MachineValue, scratch_of}
 use Rattle.regalloc2_function.specs.OutputValue.{OutputValue, allocs_of, place_at}
 use Rattle.regalloc2_function.specs.Fitting.{MachineFits}
 use Rattle.regalloc2_fastalloc_state.specs.StateParts.{SlotsHaveOneOwner, units_of}
-use Rattle.regalloc2_function.specs.FunctionValue.{op_at}
 use Rattle.regalloc2_fastalloc_proofs.specs.InstSteps.{StateValue}
 use Rattle.regalloc2_fastalloc_proofs.specs.Safety.{MayBeLocatedAt}
 use Rattle.regalloc2_fastalloc_proofs.specs.SlotLayout.{OwnedSlot, IsEndOf, IsOfOneClass}

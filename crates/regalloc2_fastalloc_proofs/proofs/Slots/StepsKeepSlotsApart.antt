@@ -14,16 +14,14 @@ use Rattle.regalloc2_function.specs.Slots.{OfVReg, OfBranch, class_of_owner}
 use Rattle.regalloc2_fastalloc_state.specs.declared.inst_regs.InstRegs.{InstRegs}
 use Rattle.regalloc2_fastalloc_state.specs.StateParts.{VRegAllocsValue, SpillSlotsValue, SetsAlloc, GetsSpillSlot, IsSlotOrNone, alloc_of, vreg_of_preg}
 use Rattle.regalloc2_fastalloc_state.specs.StateParts.{slot_name, units_of}
-use Rattle.regalloc2_fastalloc_proofs.specs.InstSteps.{StateValue, SameMachine, a_move, EvictsVReg, nobody, moved, AllocsScratchReg}
-use Rattle.regalloc2_fastalloc_proofs.specs.InstSteps.{dedicated_scratch, had, found, AddsMove, direct, through, EvictsPReg, empty, cleared}
-use Rattle.regalloc2_fastalloc_proofs.specs.InstSteps.{AddsMoveIf, sent, unsent}
+use Rattle.regalloc2_fastalloc_proofs.specs.InstSteps.{StateValue, SameMachine, a_move, EvictsVReg, nobody, moved, AllocsScratchReg, AddsMoveIf, sent, unsent}
+use Rattle.regalloc2_fastalloc_proofs.specs.InstSteps.{dedicated_scratch, had, found, AddsMove, direct, through, EvictsPReg, empty, cleared, SameButOrder}
 use Rattle.regalloc2_fastalloc_proofs.proofs.Changes.Evictions.{Evictions, evictions_keep}
 use Rattle.regalloc2_fastalloc_proofs.specs.SlotLayout.{OwnedSlot, AreLaidOut, ServesAt}
 use Rattle.regalloc2_fastalloc_proofs.proofs.Slots.SlotsGrow.{SlotsStay, gives_stay, same_stay, changes_stay}
 use Rattle.regalloc2_fastalloc_proofs.proofs.Changes.InstChanges.{allocs_scratch_reg_changes}
 use Rattle.regalloc2_fastalloc_proofs.proofs.Safety.StepsKeepSafe.{same_units, slots_kept, settled_holder, scratch_each}
 use Rattle.regalloc2_fastalloc_proofs.proofs.Slots.NewSlotsApart.{gives_laid}
-use Rattle.regalloc2_fastalloc_proofs.specs.InstSteps.{SameButOrder}
 use Rattle.regalloc2_fastalloc_proofs.proofs.Safety.StepsKeepState.{slot_no_register}
 
 -- where the value of a vreg may be, if anywhere: in a register of its class, or in its own slot

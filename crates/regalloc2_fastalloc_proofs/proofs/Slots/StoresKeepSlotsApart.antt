@@ -7,10 +7,9 @@ use Rattle.regalloc2_names.specs.Register.{Register, VirtualRegister, class_code
 use Rattle.regalloc2_names.specs.Operand.{OperandValue}
 use Rattle.regalloc2_names.specs.Place.{Place}
 use Rattle.regalloc2_names.specs.Point.{before}
-use Rattle.regalloc2_function.specs.FunctionValue.{FunctionValue, block_at}
+use Rattle.regalloc2_function.specs.FunctionValue.{FunctionValue, block_at, op_at}
 use Rattle.regalloc2_function.specs.OutputValue.{MoveValue}
 use Rattle.regalloc2_fastalloc_proofs.specs.SlotLayout.{OwnedSlot}
-use Rattle.regalloc2_function.specs.FunctionValue.{op_at}
 use Rattle.regalloc2_semantics.specs.Stores.{Store, moves_by, store_moves, IsOneOf}
 use Rattle.regalloc2_semantics.specs.Stores.IsOneOf.{first, later}
 use Rattle.regalloc2_analysis.specs.BranchDefs.BranchDefs.{IsEdgeInto, fixed_definition}

@@ -25,8 +25,7 @@ use Rattle.regalloc2_fastalloc_proofs.proofs.Changes.WalkChanges.{free_inst, all
 use Rattle.regalloc2_fastalloc_proofs.proofs.Safety.StepsKeepMachine.{machine_stays}
 use Rattle.regalloc2_fastalloc_proofs.specs.Safety.{IsWhole}
 use Rattle.regalloc2_fastalloc_proofs.proofs.Unspilled.BlockSpillFree.{edge_block, from_next, gathers_moves_none, inst_spill_free, no_params, nobody_left}
-use Rattle.regalloc2_fastalloc_proofs.proofs.Unspilled.BlockSpillFree.{none_begun_none}
-use Rattle.regalloc2_fastalloc_proofs.proofs.Unspilled.BlockSpillFree.{none_is_stored, of_none, plain_at}
+use Rattle.regalloc2_fastalloc_proofs.proofs.Unspilled.BlockSpillFree.{none_begun_none, none_is_stored, of_none, plain_at}
 use Rattle.regalloc2_fastalloc_proofs.specs.Unspilled.SpillFree.{FitInRegs, HasRegOperandsOnly, IsSpillFreeFrom}
 
 -- where there are no moves of a class, nothing is pushed

@@ -20,8 +20,7 @@ use Rattle.regalloc2_fastalloc_state.specs.declared.request.Requirement.{Require
 use Rattle.regalloc2_fastalloc_state.specs.declared.request.Requirement.TheVariants.{AnyPlace, AnyReg, InMemory, InPReg}
 use Rattle.regalloc2_fastalloc_state.specs.declared.inst_regs.Positions.{Positions}
 use Rattle.regalloc2_fastalloc_state.specs.declared.inst_regs.InstRegs.{InstRegs}
-use Rattle.regalloc2_fastalloc_state.specs.StateParts.{IsLruOf, vreg_of_preg}
-use Rattle.regalloc2_fastalloc_state.specs.StateParts.{alloc_of}
+use Rattle.regalloc2_fastalloc_state.specs.StateParts.{IsLruOf, vreg_of_preg, alloc_of}
 use Rattle.regalloc2_fastalloc_state.specs.Choice.{chosen}
 use Rattle.regalloc2_fastalloc_state.specs.InstRegs.{RemovesAvailable, is_available_at, is_free_throughout}
 use Rattle.regalloc2_fastalloc_proofs.specs.InstSteps.{StateValue, SameButOrder, AllocsOperand, ClaimsPlace, SelectsPlace, MeetsRequirement, in_slot}

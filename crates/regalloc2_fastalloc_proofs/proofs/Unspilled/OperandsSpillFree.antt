@@ -18,14 +18,13 @@ use Rattle.regalloc2_names.specs.Same.{is_place-same}
 use Rattle.regalloc2_fastalloc_state.specs.declared.request.OperandRequest.{OperandRequest}
 use Rattle.regalloc2_fastalloc_state.specs.declared.request.Requirement.TheVariants.{AnyReg}
 use Rattle.regalloc2_fastalloc_state.specs.declared.inst_regs.InstRegs.{InstRegs}
-use Rattle.regalloc2_fastalloc_state.specs.StateParts.{slot_name, alloc_of}
+use Rattle.regalloc2_fastalloc_state.specs.StateParts.{slot_name, alloc_of, SetsAlloc}
 use Rattle.regalloc2_function.specs.FunctionValue.{op_at}
 use Rattle.regalloc2_fastalloc_proofs.specs.InstSteps.{StateValue, FreesAlloc, AllocsDefOp, ProcessesOperand, AllocsUse, AddsMoveIf, SameMachine}
 use Rattle.regalloc2_fastalloc_proofs.specs.InstSteps.{LocatesUse, a_register, a_use, a_def, a_reuse, requirement_of, def_request, is_another, sent}
 use Rattle.regalloc2_fastalloc_proofs.specs.InstSteps.{unsent, stays, located, use_request}
 use Rattle.regalloc2_fastalloc_proofs.proofs.Unspilled.OperandTakesFreeReg.{Got, Taken, operand_got}
 use Rattle.regalloc2_fastalloc_proofs.specs.Unspilled.SpillFree.{FitInRegs, ArePlaced, ArePlain, IsSpillFree, IsSpillFreeIn}
-use Rattle.regalloc2_fastalloc_state.specs.StateParts.{SetsAlloc}
 use Rattle.regalloc2_fastalloc_proofs.proofs.Evictions.PushedAndRemoved.{same_then}
 use Rattle.regalloc2_fastalloc_proofs.proofs.Operands.FreeDef.{leave_whole}
 use Rattle.regalloc2_fastalloc_proofs.proofs.Inst.AcrossInst.{arrive_register}

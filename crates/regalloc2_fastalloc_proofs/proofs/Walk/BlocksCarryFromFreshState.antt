@@ -26,7 +26,7 @@ use Rattle.regalloc2_fastalloc_proofs.proofs.Operands.AllocsSoFar.{IsGood}
 use Rattle.regalloc2_fastalloc_proofs.proofs.Walk.InstsCarry.{AreListed}
 use Rattle.regalloc2_fastalloc_proofs.proofs.Inst.OneInstCarries.{Between}
 use Rattle.regalloc2_fastalloc_proofs.proofs.Safety.InstsKeepSafe.{HasGood}
-use Rattle.regalloc2_fastalloc_proofs.proofs.Walk.InstBoundaries.{BranchKept, allocs_blocks_between, allocs_blocks_outside}
+use Rattle.regalloc2_fastalloc_proofs.proofs.Walk.InstBoundaries.{BranchKept, allocs_blocks_between, allocs_blocks_outside, kept_of}
 use Rattle.regalloc2_fastalloc_proofs.proofs.Branches.LocationsAfterBranch.{branch_kept}
 use Rattle.regalloc2_fastalloc_proofs.proofs.Walk.DefsBeforeUses.{used_made}
 use Rattle.regalloc2_fastalloc_proofs.proofs.Walk.BranchesPlaceDefs.{last_allocated, defs_placed}
@@ -45,10 +45,8 @@ use Rattle.regalloc2_fastalloc_proofs.proofs.Slots.ArgumentHasSlot.{handed_has_s
 use Rattle.regalloc2_fastalloc_proofs.proofs.Safety.StepsKeepState.{slot_in}
 use Rattle.regalloc2_fastalloc_proofs.proofs.Inst.ProperInsts.{all_proper}
 use Rattle.regalloc2_fastalloc_proofs.proofs.Walk.WholeWalk.{WholeWalk}
-use Rattle.regalloc2_fastalloc_proofs.proofs.Walk.FunctionLaws.{FunctionLaws, laws_of}
+use Rattle.regalloc2_fastalloc_proofs.proofs.Walk.FunctionLaws.{FunctionLaws, laws_of, PlacedCode, code_of}
 use Rattle.regalloc2_fastalloc_proofs.proofs.Walk.BlockCarries.{CarryingContext}
-use Rattle.regalloc2_fastalloc_proofs.proofs.Walk.FunctionLaws.{PlacedCode, code_of}
-use Rattle.regalloc2_fastalloc_proofs.proofs.Walk.InstBoundaries.{kept_of}
 
 module _ (env : MachineValue) (f : FunctionValue) (limited : IsLimited f) (ok : IsWellFormed env f) where
   some_block : 0 < length f.blocks

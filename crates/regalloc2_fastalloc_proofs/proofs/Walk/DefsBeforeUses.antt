@@ -2,19 +2,16 @@
 use Rattle.std.proofs.Common.{ℕ, ◌≡◌, ◌≢◌, ◌+◌, ◌<◌, ◌≤◌, inl, inr, true, List, [], length, refl, sym, ap, ◌∙◌, subst, arith}
 use Rattle.std.specs.Prelude.{slice_index_or}
 use Rattle.std.proofs.lemmas.Bool.{cases_Bool, cases_lt}
-use Rattle.regalloc2_names.specs.Register.{VirtualRegister}
+use Rattle.regalloc2_names.specs.Register.{VirtualRegister, no_vreg}
 use Rattle.regalloc2_names.specs.Place.{Place, NoPlace}
 use Rattle.std.proofs.lemmas.List.{get_or_default, get_or_past}
-use Rattle.regalloc2_function.specs.FunctionValue.{FunctionValue, BlockValue, InstValue, block_at, no_block, inst_at, no_inst}
+use Rattle.regalloc2_function.specs.FunctionValue.{FunctionValue, BlockValue, InstValue, block_at, no_block, inst_at, no_inst, no_operand, op_at}
 use Rattle.regalloc2_names.specs.Operand.{OperandValue, is_def}
 use Rattle.regalloc2_names.specs.Point.{before, after}
-use Rattle.regalloc2_function.specs.FunctionValue.{no_operand}
-use Rattle.regalloc2_names.specs.Register.{no_vreg}
 use Rattle.regalloc2_function.specs.WellFormed.{BlocksFollow, BlocksEnd, DefinedOnce, IsDefinedBy, UsesAreDefined, last_of}
 use Rattle.regalloc2_semantics.specs.Blocks.{IsUsedIn, IsUnwritten, IsUsed}
 use Rattle.regalloc2_semantics.proofs.SingleDef.{Made, DefinesAt, TakesAt, one_made, one_operand, one_param, not_both, reads_defined, made_before, is_made}
 use Rattle.regalloc2_semantics.proofs.Order.{ends_before, ends_within, stands_later, reads_later, passes_later, passed_made}
-use Rattle.regalloc2_function.specs.FunctionValue.{op_at}
 use Rattle.regalloc2_fastalloc_proofs.specs.InstSteps.{StateValue}
 use Rattle.regalloc2_fastalloc_proofs.specs.BlockSteps.{AllocsBlocks}
 use Rattle.regalloc2_fastalloc_proofs.proofs.Safety.StepsKeepState.{place_in}
@@ -22,8 +19,7 @@ use Rattle.regalloc2_fastalloc_proofs.proofs.Operands.DefinedNumbers.{defined_by
 use Rattle.regalloc2_fastalloc_proofs.proofs.Inst.OneInstCarries.{Between}
 use Rattle.regalloc2_fastalloc_proofs.proofs.Walk.InstsBeforeLastCarry.{defined_from}
 use Rattle.regalloc2_fastalloc_proofs.proofs.Walk.BlockObligations.{defined_from-some, defines_at}
-use Rattle.regalloc2_fastalloc_proofs.proofs.Walk.InstBoundaries.{IsUsedAt, allocs_blocks_live}
-use Rattle.regalloc2_fastalloc_proofs.proofs.Walk.InstBoundaries.{kept_of}
+use Rattle.regalloc2_fastalloc_proofs.proofs.Walk.InstBoundaries.{IsUsedAt, allocs_blocks_live, kept_of}
 use Rattle.regalloc2_fastalloc_proofs.proofs.Walk.FunctionLaws.{FunctionLaws}
 
 -- where a block uses a number

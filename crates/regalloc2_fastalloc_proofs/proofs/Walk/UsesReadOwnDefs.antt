@@ -7,14 +7,13 @@ use Rattle.regalloc2_names.specs.Register.{Register}
 use Rattle.regalloc2_names.specs.RegisterBits.{bits_of_register}
 use Rattle.regalloc2_names.specs.RegisterSet.{has_register}
 use Rattle.regalloc2_names.specs.Place.{NoPlace}
-use Rattle.regalloc2_function.specs.FunctionValue.{FunctionValue, IsLimited, inst_at}
+use Rattle.regalloc2_function.specs.FunctionValue.{FunctionValue, IsLimited, inst_at, op_at}
 use Rattle.regalloc2_function.specs.Machine.{MachineValue}
 use Rattle.regalloc2_function.specs.Fitting.{MachineFits}
 use Rattle.regalloc2_function.specs.WellFormed.{IsWellFormed}
 use Rattle.regalloc2_semantics.specs.Instruction.{Knows}
 use Rattle.regalloc2_semantics.proofs.SingleDef.{Made}
 use Rattle.regalloc2_fastalloc_state.specs.StateParts.{VRegAllocsValue, SpillSlotsValue, alloc_of, vreg_of_preg, slot_name, units_of, no_allocs, no_slots}
-use Rattle.regalloc2_function.specs.FunctionValue.{op_at}
 use Rattle.regalloc2_fastalloc_proofs.specs.InstSteps.{StateValue, InTables}
 use Rattle.regalloc2_fastalloc_proofs.specs.BlockSteps.{DefinesBelow}
 use Rattle.regalloc2_fastalloc_proofs.specs.Safety.{HasMachine}

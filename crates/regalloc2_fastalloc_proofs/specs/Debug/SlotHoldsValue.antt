@@ -2,14 +2,13 @@
 use Rattle.std.specs.Prelude.{ℕ, ◌≡◌, ◌+◌, ◌<◌, ◌⊎◌, false, true, List, ◌∷◌, length}
 use Rattle.regalloc2_names.specs.Register.{VirtualRegister}
 use Rattle.regalloc2_names.specs.Place.{Place}
-use Rattle.regalloc2_function.specs.FunctionValue.{FunctionValue, inst_at}
+use Rattle.regalloc2_function.specs.FunctionValue.{FunctionValue, inst_at, op_at}
 use Rattle.regalloc2_function.specs.OutputValue.{OutputValue, allocs_of, place_at}
 use Rattle.regalloc2_function.specs.Path.{Way, Onward, end_of, IsPath}
 use Rattle.regalloc2_function.specs.SourceRun.{source_before}
 use Rattle.regalloc2_names.specs.Operand.{is_reading}
 use Rattle.regalloc2_function.specs.AllocatedRun.{after_moves, moves_at, cells_before}
 use Rattle.regalloc2_function.specs.DebugPoints.{DefinesAt}
-use Rattle.regalloc2_function.specs.FunctionValue.{op_at}
 use Rattle.regalloc2_semantics.specs.Carry.{Spares, Undefined}
 use Rattle.regalloc2_semantics.specs.Live.{IsLive, HasEntered}
 use Rattle.regalloc2_semantics.proofs.UnwrittenPlaces.{NoMoveTo}

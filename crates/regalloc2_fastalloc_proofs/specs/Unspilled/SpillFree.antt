@@ -9,11 +9,10 @@ use Rattle.regalloc2_names.specs.RegisterSet.{has_register}
 use Rattle.regalloc2_names.specs.Place.{Place, NoPlace, InRegister}
 use Rattle.regalloc2_names.specs.Operand.{OperandValue, is_def, is_late, is_reading}
 use Rattle.regalloc2_function.specs.Fitting.{count_below, register_number}
-use Rattle.regalloc2_function.specs.FunctionValue.{FunctionValue, inst_at}
+use Rattle.regalloc2_function.specs.FunctionValue.{FunctionValue, inst_at, op_at}
 use Rattle.regalloc2_fastalloc_state.specs.declared.inst_regs.InstRegs.{InstRegs}
 use Rattle.regalloc2_fastalloc_state.specs.StateParts.{IsLruOf, slot_name, alloc_of}
 use Rattle.regalloc2_fastalloc_state.specs.InstRegs.{is_free_throughout}
-use Rattle.regalloc2_function.specs.FunctionValue.{op_at}
 use Rattle.regalloc2_fastalloc_proofs.specs.BranchSteps.{RegsAvoidStack}
 use Rattle.regalloc2_fastalloc_proofs.specs.InstSteps.{StateValue, order_of}
 use Rattle.regalloc2_fastalloc_proofs.specs.Safety.{IsWhole}

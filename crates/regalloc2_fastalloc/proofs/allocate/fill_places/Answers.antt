@@ -44,7 +44,7 @@ use Rattle.regalloc2_fastalloc.proofs.ErrorsHaveReasons.{lacks_where}
 use Rattle.regalloc2_fastalloc.proofs.UsesReadNumbers.{reads_numbers}
 use Rattle.regalloc2_fastalloc.proofs.UnitsNeeded.{sizes_of, sizes_agree, few_slots, full_needs}
 use Rattle.regalloc2_fastalloc_proofs.proofs.Walk.InstsCarry.{Blank, blank_whole}
-use Rattle.regalloc2_fastalloc_proofs.proofs.Safety.FunctionKeepsSafe.{SafeWithin, made_listed_blocks}
+use Rattle.regalloc2_fastalloc_proofs.proofs.Safety.FunctionKeepsSafe.{SafeWithin, made_listed_blocks, FreshWalk}
 use Rattle.regalloc2_fastalloc_proofs.proofs.Safety.BlocksKeepSafe.{MayInBlocks}
 use Rattle.regalloc2_fastalloc_proofs.proofs.Moves.ScratchRegTaken.{Fit}
 use Rattle.regalloc2_fastalloc_proofs.proofs.Safety.BranchArgsKeepState.{processes_branch_between}
@@ -56,7 +56,6 @@ use Rattle.regalloc2_fastalloc.proofs.RegistersForAll.{are_few, asks_for_registe
 use Rattle.regalloc2_fastalloc.proofs.allocate.fill_places.Given.{Over}
 use Rattle.regalloc2_fastalloc.proofs.allocate.fill_places.Goals as goal
 use Rattle.regalloc2_fastalloc_proofs.proofs.Walk.WholeWalk.{WholeWalk, whole_walk}
-use Rattle.regalloc2_fastalloc_proofs.proofs.Safety.FunctionKeepsSafe.{FreshWalk}
 
 pub new-requires : goal.new-requires
 new-requires g c = (search rules, (c.requires.machine, c.table_length-vregs.ensures.few))

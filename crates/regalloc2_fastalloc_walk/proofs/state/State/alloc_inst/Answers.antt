@@ -2,8 +2,7 @@ use Rattle.std.proofs.Common.{ℕ, ◌≡◌, List, length, refl, sym, ◌∙◌
 use Rattle.regalloc2_names.specs.Point.{before}
 use Rattle.regalloc2_names.specs.Operand.{OperandValue}
 use Rattle.regalloc2_fastalloc_state.specs.StateParts.{AllAtOrAfter}
-use Rattle.regalloc2_fastalloc_proofs.specs.InstSteps.{MovesUses}
-use Rattle.regalloc2_fastalloc_proofs.specs.InstSteps.{no_register, MoveUses, in_prepare, in_lates, in_earlies, in_moves}
+use Rattle.regalloc2_fastalloc_proofs.specs.InstSteps.{MovesUses, no_register, MoveUses, in_prepare, in_lates, in_earlies, in_moves}
 use Rattle.std.proofs.lemmas.Result.{err_from_is_err_and}
 use Rattle.regalloc2_fastalloc_walk.proofs.Steps.{fails_with, step_then_fails}
 use Rattle.regalloc2_fastalloc_walk.specs.StateView.{tables_of}

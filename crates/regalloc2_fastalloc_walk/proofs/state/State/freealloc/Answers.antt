@@ -3,9 +3,8 @@ use Rattle.std.specs.Prelude.{not, ◌&&◌}
 use Rattle.regalloc2_names.specs.declared.RegClass.{RegClass}
 use Rattle.regalloc2_names.specs.Place.{Place, is_place}
 use Rattle.regalloc2_fastalloc_state.specs.StateParts.{SetsAlloc, alloc_of, slot_name}
-use Rattle.regalloc2_fastalloc_proofs.specs.InstSteps.{StateValue, AddsMoveIf, is_another, AddMoveIf, no_register}
+use Rattle.regalloc2_fastalloc_proofs.specs.InstSteps.{StateValue, AddsMoveIf, is_another, AddMoveIf, no_register, to_awaited, to_slot}
 use Rattle.std.proofs.lemmas.Result.{err_from_is_err_and}
-use Rattle.regalloc2_fastalloc_proofs.specs.InstSteps.{to_awaited, to_slot}
 use Rattle.regalloc2_fastalloc_walk.specs.StateView.{tables_of}
 use Rattle.regalloc2_fastalloc_walk.proofs.state.State.freealloc.Goals as goal
 

@@ -6,10 +6,9 @@ use Rattle.regalloc2_function.specs.FunctionValue.{FunctionValue, block_at, inst
 use Rattle.regalloc2_function.specs.SourceRun.{arguments_at}
 use Rattle.regalloc2_function.specs.Following.{end_within}
 use Rattle.regalloc2_semantics.specs.Blocks.{target_at}
-use Rattle.regalloc2_fastalloc_proofs.specs.BranchSteps.{GathersMoves, no_edge, one_edge, IsOwnDef}
+use Rattle.regalloc2_fastalloc_proofs.specs.BranchSteps.{GathersMoves, no_edge, one_edge, IsOwnDef, GatherEdge}
 use Rattle.regalloc2_fastalloc_proofs.specs.InstSteps.{StateValue, no_register}
 use Rattle.std.proofs.lemmas.Result.{err_from_is_err_and}
-use Rattle.regalloc2_fastalloc_proofs.specs.BranchSteps.{GatherEdge}
 use Rattle.regalloc2_analysis.specs.BranchDefs.Tables.{AreBranchDefsOf}
 use Rattle.regalloc2_analysis.specs.declared.branch_defs.BranchDefs.{BranchDefs}
 use Rattle.regalloc2_fastalloc_proofs.specs.BlockSteps.{MayBeAllocated}

@@ -1,7 +1,6 @@
 use Rattle.std.proofs.Common.{ℕ, ◌≡◌, ◌<◌, List, length, subst, arith, slice_index_or}
 use Rattle.std.proofs.lemmas.List.{get_or_read}
-use Rattle.regalloc2_names.specs.Register.{VirtualRegister}
-use Rattle.regalloc2_names.specs.Register.{no_vreg}
+use Rattle.regalloc2_names.specs.Register.{VirtualRegister, no_vreg}
 use Rattle.regalloc2_fastalloc_walk.specs.BranchStores.{ListsGiven, no_param, one_param}
 use Rattle.regalloc2_fastalloc_walk.proofs.state.State.list_params.Goals as goal
 

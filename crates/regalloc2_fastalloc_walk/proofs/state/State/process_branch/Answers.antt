@@ -4,16 +4,14 @@ use Rattle.regalloc2_names.specs.declared.RegClass.{RegClass}
 use Rattle.regalloc2_names.specs.declared.RegClass.TheVariants.{Int, Float, Vector}
 use Rattle.regalloc2_names.specs.Point.{before}
 use Rattle.regalloc2_function.specs.FunctionValue.{block_at}
-use Rattle.regalloc2_fastalloc_proofs.specs.BranchSteps.{MayBeParallel, of_class}
+use Rattle.regalloc2_fastalloc_proofs.specs.BranchSteps.{MayBeParallel, of_class, LacksMoveReg, in_gather, in_order}
 use Rattle.regalloc2_fastalloc_state.specs.OutOfResources.{SlotsExhausted, SlotsExhaustedWith, IsResourceError}
 use Rattle.regalloc2_fastalloc_state.specs.ScratchPool.{Moves}
 use Rattle.regalloc2_fastalloc_proofs.specs.InstSteps.{StateValue}
-use Rattle.regalloc2_fastalloc_proofs.specs.BranchSteps.{LacksMoveReg, in_gather, in_order}
 use Rattle.regalloc2_fastalloc_walk.specs.StateView.{tables_of}
 use Rattle.regalloc2_fastalloc_state.specs.StateParts.{AllAtOrAfter}
-use Rattle.regalloc2_fastalloc_proofs.proofs.Branches.ArgMovesAreParallel.{full_before, gathered_below, gathered_sources, lends_none, pushes_at}
+use Rattle.regalloc2_fastalloc_proofs.proofs.Branches.ArgMovesAreParallel.{full_before, gathered_below, gathered_sources, lends_none, pushes_at, pushes_long}
 use Rattle.regalloc2_fastalloc_proofs.proofs.Safety.StateKept.{lends_then, none_lends, same_lends, apart_kept}
-use Rattle.regalloc2_fastalloc_proofs.proofs.Branches.ArgMovesAreParallel.{pushes_long}
 use Rattle.regalloc2_fastalloc_state.proofs.SpillSlotUnits.{lacks_then}
 use Rattle.regalloc2_fastalloc_walk.proofs.NothingPassed.{processes_nothing}
 use Rattle.regalloc2_fastalloc_walk.proofs.state.State.process_branch.Goals as goal

@@ -11,8 +11,7 @@ use Rattle.regalloc2_fastalloc_state.specs.declared.request.Requirement.TheVaria
 use Rattle.regalloc2_fastalloc_state.specs.declared.request.OperandRequest.{OperandRequest}
 use Rattle.regalloc2_function.specs.FunctionValue.{op_at}
 use Rattle.regalloc2_fastalloc_state.proofs.ValidateLemmas.OperandReads.{read_operand}
-use Rattle.regalloc2_fastalloc_proofs.specs.InstSteps.{AllocsUse, use_request, a_use}
-use Rattle.regalloc2_fastalloc_proofs.specs.InstSteps.{no_register, AllocUse, at_use}
+use Rattle.regalloc2_fastalloc_proofs.specs.InstSteps.{AllocsUse, use_request, a_use, no_register, AllocUse, at_use}
 use Rattle.regalloc2_fastalloc_walk.specs.StateView.{tables_of}
 use Rattle.regalloc2_fastalloc_walk.proofs.state.State.process_placed_use.Goals as goal
 

@@ -2,9 +2,8 @@ use Rattle.std.proofs.Common.{ℕ, ◌≡◌, length, sym, ap, ◌∙◌, subst,
 use Rattle.regalloc2_names.specs.declared.sets.PRegSet.{PRegSet}
 use Rattle.regalloc2_names.specs.Point.{before}
 use Rattle.regalloc2_names.specs.RegisterSet.{has_register}
-use Rattle.regalloc2_fastalloc_proofs.specs.BlockStart.{ReloadsParams, ReloadsRegs}
+use Rattle.regalloc2_fastalloc_proofs.specs.BlockStart.{ReloadsParams, ReloadsRegs, ReloadParams, ReloadRegs, at_parameter, at_register}
 use Rattle.std.proofs.lemmas.Result.{err_from_is_err_and}
-use Rattle.regalloc2_fastalloc_proofs.specs.BlockStart.{ReloadParams, ReloadRegs, at_parameter, at_register}
 use Rattle.regalloc2_fastalloc_walk.proofs.Steps.{step_then}
 use Rattle.std.specs.Prelude.{Ok}
 use Rattle.regalloc2_fastalloc_walk.specs.StateView.{tables_of, IsStepAt}

@@ -6,8 +6,7 @@ use Rattle.regalloc2_names.specs.Operand.{OperandValue}
 use Rattle.regalloc2_fastalloc_proofs.specs.InstSteps.{StateValue}
 use Rattle.regalloc2_fastalloc_walk.specs.StateView.{tables_of}
 use Rattle.regalloc2_fastalloc_walk.specs.ReserveSteps.{ReservesRegForOperand}
-use Rattle.regalloc2_fastalloc_walk.proofs.RegsReserved.{fixed_one}
-use Rattle.regalloc2_fastalloc_walk.proofs.RegsReserved.{claim_is, reserves_nothing, reserves_it, reserves_then, same_claim}
+use Rattle.regalloc2_fastalloc_walk.proofs.RegsReserved.{fixed_one, claim_is, reserves_nothing, reserves_it, reserves_then, same_claim}
 use Rattle.regalloc2_fastalloc_walk.proofs.state.State.reserve_reg_for_operand.Given.{Over}
 use Rattle.regalloc2_fastalloc_walk.proofs.state.State.reserve_reg_for_operand.Goals as goal
 use Rattle.regalloc2_fastalloc_walk.proofs.state.State.reserve_reg_for_operand.Goals.{in-Some+in_ok-reserve_preg, in_default}

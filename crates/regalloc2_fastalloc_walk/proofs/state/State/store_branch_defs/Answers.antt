@@ -6,10 +6,9 @@ use Rattle.regalloc2_index.specs.Range.{Span}
 use Rattle.regalloc2_names.specs.Operand.{OperandValue}
 use Rattle.regalloc2_names.specs.Point.{before}
 use Rattle.regalloc2_names.specs.Register.{VirtualRegister}
-use Rattle.regalloc2_function.specs.FunctionValue.{FunctionValue, block_at, inst_at}
+use Rattle.regalloc2_function.specs.FunctionValue.{FunctionValue, block_at, inst_at, op_at}
 use Rattle.regalloc2_function.specs.OutputValue.{MoveValue}
 use Rattle.regalloc2_function.specs.Following.{end_within}
-use Rattle.regalloc2_function.specs.FunctionValue.{op_at}
 use Rattle.regalloc2_analysis.specs.BranchDefs.BranchDefs.{IsEdgeInto}
 use Rattle.regalloc2_analysis.proofs.BranchDefsLemmas.BlockEnds.{last_within}
 use Rattle.regalloc2_fastalloc_state.specs.StateParts.{AllAtOrAfter, NoneIsFrom, SpillSlotsValue}
