@@ -105,8 +105,10 @@ fn task_of<'a>(
     given: &ArgMatches<'a>,
 ) -> Result<Option<Task<'a>>, Error> {
     if name == "random" {
-        let seed = given.get_one::<u64>("SEED");
-        return Ok(seed.map(Task::Random));
+        let Some(seed) = given.get_one::<u64>("SEED") else {
+            return Ok(None);
+        };
+        return Ok(Some(Task::Random(seed)));
     }
     let Some(path) = given.get_str("FILE") else {
         return Ok(None);
