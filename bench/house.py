@@ -36,11 +36,12 @@ FLOORS = [
          ("regalloc2_checker", "Checker, test_cells")])],
     [("Front", [("regalloc2", "allocate, run_tested, run_checked, and all items under upstream's paths")])],
     [("Tools", [
-        ("regalloc2_tool", "listings, pictures, calls"),
         ("regalloc2_explain", "causes of errors"),
+        ("regalloc2_tool", "listings, pictures, calls"),
+        ("regalloc2_c", "library for C"),
         ("ra2", "program: JSON"),
-        ("ra2_text", "program: texts"),
-        ("regalloc2_c", "library for C")])],
+        ("ra2_text_program", "subcommands, text or JSON"),
+        ("ra2_text", "program: texts")])],
     [("Code generator", [
         ("codegen_machine", "functions, machine, text"),
         ("codegen", "the compiler"),

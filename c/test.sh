@@ -58,10 +58,11 @@ compiled_c() {
     step "$name.c compiles without a warning" "$cc" -std=c11 -Wall -Wextra -Werror -O2 -o "$made/bin/$name" "$@"
 }
 
-# Runs each line `$ COMMAND` of test.txt in a copy of the folder examples, and writes that line, what the command wrote, each line
-# on standard error behind a `!`, and its status if that isn't 0.
+# Runs each line `$ COMMAND` of test.txt in a copy of the folder examples with two more texts, and writes that line, what
+# the command wrote, each line on standard error behind a `!`, and its status if that isn't 0.
 transcript() {
-    cp -r "$top/examples" "$made/examples" && cp "$top/crates/ra2_text/data/wrong_way.txt" "$made/examples" && cd "$made/examples" || return 1
+    cp -r "$top/examples" "$made/examples" && cd "$made/examples" || return 1
+    cp "$top/crates/ra2_text/data/wrong_way.txt" "$top/crates/compile/data/sum.txt" . || return 1
     grep '^\$ ' "$here/test.txt" | while IFS= read -r line; do
         printf '%s\n' "$line"
         PATH="$made/bin:$PATH" sh -c "${line#??}" 2>"$made/err" </dev/null
