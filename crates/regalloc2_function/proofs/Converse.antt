@@ -1,5 +1,5 @@
--- Where both runs read the same numbers, whatever the instructions mean, reads agree.
--- For each write that the function's run reads there is a meaning that gives the number 1 to that write alone.
+-- If both runs read the same numbers, whatever the instructions compute, reads agree.
+-- For each write that the function's run reads there is an interpretation (`Meaning`) that gives the number 1 to that write alone.
 use Rattle.std.proofs.Common.{ℕ, zero, suc, ◌≡◌, ◌+◌, ◌<◌, Bool, true, false, cond, List, [], ◌∷◌, length, map, refl, arith, sym, ◌∙◌, eq-eqb}
 use Rattle.std.proofs.Common.{eqb-true, nat_eq, inl, inr}
 use Rattle.std.specs.Prelude.{Option, None, Some, IsSome, ◌&&◌, slice_index_or}
@@ -14,7 +14,7 @@ use Rattle.regalloc2_function.specs.AllocatedRun.{allocated_read}
 use Rattle.regalloc2_function.specs.Laws.{NumbersGiveReads}
 use Rattle.regalloc2_function.specs.Values.{Meaning, reads_from, source_reads, allocated_reads, numbers, SameNumbers}
 
--- the meaning that gives one write the number 1, and all others 0
+-- the interpretation that gives one write the number 1, and all others 0
 abbrev marking : Stamp → Meaning
 marking t = λ inst step history k. cond (nat_eq step t.step && nat_eq k t.operand) 1 0
 
@@ -117,7 +117,7 @@ agree f out same (w ∷ ws) p k d lt reads t e less =
     rw z at (at_operand (option_map a) (option_map b) (allocated_read f out (w ∷ ws)) (λ j o. source_read f (w ∷ ws) o) 0 os h k d lt reads) in
     found_alone a b _ _ t e (marked_here f t (source_reads f) (w ∷ ws) less) (marked_alone f t (allocated_reads f out) (w ∷ ws)) here
 
--- reads agree if each use finds an earlier write and both runs read the same numbers under every meaning
+-- reads agree if each use finds an earlier write and both runs read the same numbers, whatever the instructions compute
 pub numbers_give_reads : NumbersGiveReads
 numbers_give_reads f out earlier same ws p k d lt reads =
     let found = earlier ws p k d lt reads in

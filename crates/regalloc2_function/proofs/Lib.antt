@@ -1,4 +1,4 @@
--- Lemmas on both runs, on listings and on machines; each answers a lemma function or a test of this module.
+-- Lemmas on both runs, on listings and on machines; each serves a lemma function or a test of this module.
 -- Read first: `RunLaws`: a read finds an earlier write. `ValueLaws`, `Converse`: reads agree exactly if numbers do.
 -- Depends on the specs. `ListingLaws`, `OrderLaws` and `Steps` are on listings; `Misfits` and `Tests` on machines.
 pub mod RunLaws

@@ -48,7 +48,7 @@ pub denies : {T E : Type 0} (r : Result T E) (P : Type 0) (Q : E → Type 0) →
 denies (Ok x) P Q q denied = tt
 denies (Err e) P Q q denied = denied e q
 
--- a test answers yes exactly where a fact holds, if its errors deny that fact
+-- a test returns `Ok` exactly if a fact holds, if its errors deny that fact
 pub ok_iff : {T E : Type 0} (r : Result T E) (P : Type 0) → OnOk r P → OnErr r (P → ⊥) → IsOk r ↔ P
 ok_iff (Ok x) P p denied = (λ _. p, λ _. refl)
 ok_iff (Err e) P p denied = (λ ok. absurd cc, λ h. absurd (denied h))

@@ -1,10 +1,10 @@
--- Tests that answer exactly where a fact holds.
+-- Lemmas on tests that return true exactly if a fact holds.
 use Rattle.std.proofs.Common.{◌≡◌, Bool, true, false}
 use Rattle.regalloc2_names.specs.declared.RegClass.{RegClass}
 use Rattle.regalloc2_names.specs.declared.RegClass.TheVariants.{Int, Float, Vector}
 use Rattle.std.specs.Bool.{OnFalse}
 
--- if a test says no, what holds in that case holds
+-- if a test returns false, what holds in that case holds
 pub none_at : {P : Type 0} (b : Bool) → b ≡ false → OnFalse b P → P
 none_at true e h = absurd cc
 none_at false e h = h

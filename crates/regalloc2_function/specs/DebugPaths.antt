@@ -1,6 +1,6 @@
--- Where the value of a labelled vreg stands along a path.
--- Upstream's locations say from where to where; that the value really stands there is this project's own definition.
--- `run` promises it of each debug location, where no path reads a vreg before writing it (`ShowsLabels`).
+-- The place that holds a labelled vreg's value at each step of a path.
+-- Upstream's locations give the range; the definition of holding the value is this project's own.
+-- `run` guarantees it of each debug location, if no path reads a vreg before writing it (`ShowsLabels`).
 use Rattle.std.specs.Prelude.{ℕ, ◌≡◌, ◌⊎◌, false, List, ◌∷◌, Contains, slice_index, Some}
 use Rattle.regalloc2_names.specs.Register.{VirtualRegister}
 use Rattle.regalloc2_names.specs.Place.{Place}
@@ -11,22 +11,22 @@ use Rattle.regalloc2_function.specs.SourceRun.{Stamp, source_before}
 use Rattle.regalloc2_function.specs.AllocatedRun.{after_moves, moves_at, cells_before}
 use Rattle.regalloc2_function.specs.DebugPoints.{DefinesAt, UsesAt}
 
--- a way on from a block gives v what its argument has: v is a parameter of the block that it leads to
+-- an edge from a block gives v the value of its argument: v is a parameter of the block that the edge leads to
 abbrev pub IsTakenOver : FunctionValue → VirtualRegister → ℕ → Way → Type 0
 IsTakenOver f v block Onward = ⊥
 IsTakenOver f v block (ToSuccessor k) = Contains (block_at f (slice_index (block_at f block).succs k)).params v
 
--- v is given a write at the last step of a path, or on the way on from there
+-- v is written at the last step of a path, or by the edge from there
 abbrev pub IsGiven : FunctionValue → VirtualRegister → List Way → Way → Type 0
 IsGiven f v ws w = DefinesAt f v (end_of f ws).inst ⊎ IsTakenOver f v (end_of f ws).block w
 
--- a path that goes on from another one, and does not give v a write on the way
+-- a path that extends another one, and does not write v in between
 pub data GoesOn (f : FunctionValue) (v : VirtualRegister) (start : List Way) : List Way → Type 0 where
   there : GoesOn f v start start
   further : (w : Way) (ws : List Way) → GoesOn f v start ws → (IsGiven f v ws w → ⊥) → GoesOn f v start (w ∷ ws)
 
--- Where a path gives v a write, and then none up to a later step that reads or passes v, the place holds that write at each step in between
--- and at that one, once the moves before the step's instruction have run. Steps at a branch are left out.
+-- If a path writes v, and then not again up to a later step that reads or passes v, the place holds that write at each step in between and at the later step,
+-- once the moves before the step's instruction have run. Steps at a branch are left out.
 abbrev pub HoldsValue : FunctionValue → OutputValue → VirtualRegister → Place → Type 0
 HoldsValue f out v p = (given : List Way) (w : Way) (here used : List Way) (s : Stamp) →
     IsPath f used → IsGiven f v given w → source_before f (w ∷ given) v ≡ Some s → GoesOn f v (w ∷ given) here → GoesOn f v here used →

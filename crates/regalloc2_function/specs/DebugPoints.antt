@@ -1,6 +1,6 @@
 -- From where to where a vreg's value can be shown, and the debug locations that an output has to give.
 -- The points are those of upstream's `vreg_to_live_inst_range`.
--- `run` promises `AreDebugLocations`, with proper places of the labels' vregs that hold their values (`ShowsLabels`).
+-- `run` guarantees `AreDebugLocations`, with valid places (`IsProperPlace`) of the labels' vregs that hold their values (`ShowsLabels`).
 use Rattle.std.specs.Prelude.{ℕ, ◌≡◌, ◌+◌, ◌/◌, ◌<◌, ◌≤◌, ◌⊎◌, true, List, [], ◌∷◌, Contains, length, IsPermutation, slice_index_or}
 use Rattle.std.specs.Ordering.{nat_cmp}
 use Rattle.std.specs.List.Sorted.{IsNonDecreasingBy, IsStableByKey}
@@ -50,7 +50,7 @@ pub data IsLastPoint (f : FunctionValue) (v : VirtualRegister) : ℕ → Type 0 
 abbrev pub IsKept : FunctionValue → Label → ℕ → ℕ → Type 0
 IsKept f l start end = IsFirstPoint f l.vreg start × IsLastPoint f l.vreg end × (start / 2 ≤ l.start) × (l.end ≤ end / 2 + 1)
 
--- the debug locations of a list of labels, as listed, each with what is asked of it and its label
+-- the debug locations of a list of labels, as listed, each with what is required of it and its label
 pub data AreLocationsOf (f : FunctionValue) (Asked : Label → DebugLocation → Type 0) : List Label → List DebugLocation → Type 0 where
   none : AreLocationsOf f Asked [] []
   kept : {ls : List Label} {ds : List DebugLocation} (l : Label) (d : DebugLocation) → d.label ≡ l.label → IsKept f l d.start d.end → Asked l d →

@@ -1,4 +1,4 @@
--- The texts of what is wrong with stored numbers.
+-- The texts of errors in stored numbers.
 use Rattle.std.specs.Prelude.{ℕ, codes, List}
 use Rattle.regalloc2_function.specs.declared.serialize.StoredFault.{StoredFault}
 use Rattle.regalloc2_function.specs.declared.serialize.StoredFault.TheVariants as fault

@@ -1,4 +1,4 @@
--- Fitting machines, proper places and instructions that fit.
+-- Fitting machines, valid places (`IsProperPlace`) and instructions that fit.
 -- What upstream's `MachineEnv` and allocators take for granted of machines and places. When an instruction fits is this project's own.
 use Rattle.std.specs.Prelude.{ℕ, zero, suc, nat_lt, is_none, ◌≡◌, ◌≢◌, ◌+◌, ◌<◌, ◌≤◌, ◌⊎◌, Bool, true, false, ◌&&◌, ◌||◌, not, nat_eq, if◌then◌else◌}
 use Rattle.std.specs.Prelude.{[], All, Any as SomeIn, count_by, length, slice_index_or, Some}
@@ -41,7 +41,7 @@ pub record ClassFits (f : FunctionValue) (env : MachineValue) (class : RegClass)
 abbrev pub MachineFits : FunctionValue → MachineValue → Type 0
 MachineFits f env = (class : RegClass) → ClassFits f env class
 
--- a place where a value of a class may stand
+-- a place that may hold a value of a class
 abbrev pub IsProperPlace : MachineValue → OutputValue → RegClass → Place → Type 0
 IsProperPlace env out class NoPlace = ⊥
 IsProperPlace env out class (InRegister r) = (is_allocatable env class r ≡ true) ⊎ (IsFixedStackSlot env r × (r.class ≡ class))
@@ -51,8 +51,8 @@ IsProperPlace env out class (InSlot n) = n < out.num_spillslots
 abbrev pub IsMoveEnd : MachineValue → OutputValue → Place → Type 0
 IsMoveEnd env out p = (c : RegClass) × (IsProperPlace env out c p ⊎ ((r : Register) × (scratch_of env c ≡ Some r) × (p ≡ InRegister r)))
 
--- the places of all operands, moves and debug locations are proper; a debug location's is of the class of its own label, which has its
--- number, and whose vreg has its points
+-- the places of all operands, moves and debug locations are valid; a debug location's is of the class of its own label, which has its number, and whose vreg
+-- has its points
 pub record PlacesAreProper (f : FunctionValue) (env : MachineValue) (out : OutputValue) : Type 0 where
   pub operands : (i : ℕ) → i < length f.insts → EachOperand (inst_at f i) (λ k o.
       is_fixed_nonallocatable o ≡ false → IsProperPlace env out o.vreg.class (place_at (allocs_of out i) k))
@@ -62,7 +62,7 @@ pub record PlacesAreProper (f : FunctionValue) (env : MachineValue) (out : Outpu
   pub debug_locations : All (λ d. SomeIn (λ l. (l.label ≡ d.label) × IsKept f l d.start d.end × IsProperPlace env out l.vreg.class d.place) f.labels)
       out.debug_locations
 
--- `Fits`, and what it is made of: `TooManyLiveRegs` comes only where an instruction does not fit.
+-- `Fits`, and what it is made of: `TooManyLiveRegs` is returned only if an instruction does not fit.
 
 -- an operand holds the early, or the late, part of its instruction; a use that is reused holds both
 abbrev pub IsReused : InstValue → ℕ → Type 0
@@ -106,7 +106,7 @@ count_below p (suc n) = (if p n then 1 else 0) + count_below p n
 abbrev pub register_number : RegClass → ℕ → Register
 register_number class n = record { number = n; class = class }
 
--- the registers of a class that an instruction needs: one for each operand that may stand in any, and those that are fixed or clobbered
+-- the registers of a class that an instruction needs: one for each operand that may be in any, and those that are fixed or clobbered
 unfoldable pub need_of : MachineValue → RegClass → InstValue → ℕ
 need_of env class i =
     count_by (λ o. is_under_reg o.constraint && nat_eq (class_code o.vreg.class) (class_code class)) i.operands

@@ -1,5 +1,5 @@
 -- The function that is being allocated, as contracts see it.
--- Its parts are what the methods of upstream's trait `Function` answer.
+-- Its parts are what the methods of upstream's trait `Function` return.
 use Rattle.std.specs.Prelude.{ℕ, ◌-◌, ◌<◌, ◌≤◌, ◌^◌, Bool, false, IsTrue, List, [], ◌∷◌, length, slice_index_or, sum_by, All}
 use Rattle.std.specs.Int.{is_power_of_two}
 use Rattle.regalloc2_index.specs.Range.{Span}
@@ -19,7 +19,7 @@ pub record InstValue : Type 0 where
   pub is_branch : Bool
   pub is_ret : Bool
 
--- a basic block; the arguments stand by the position of the successor that they are for
+-- a basic block; the arguments are listed by the position of their successor
 pub record BlockValue : Type 0 where
   pub range : Span
   pub succs : List ℕ

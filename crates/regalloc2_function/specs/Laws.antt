@@ -1,4 +1,4 @@
--- Laws of the runs.
+-- Lemmas on the runs.
 use Rattle.std.specs.Prelude.{◌≡◌, ◌<◌, List, length, None, Some}
 use Rattle.regalloc2_names.specs.Register.{VirtualRegister}
 use Rattle.regalloc2_names.specs.Place.{Place, NoPlace}
@@ -27,11 +27,11 @@ MissingHoldsNothing = (f : FunctionValue) (o : OutputValue) (ws : List Way) → 
 abbrev pub FaithfulGivesNumbers : Type 0
 FaithfulGivesNumbers = (f : FunctionValue) (env : MachineValue) (out : OutputValue) → IsFaithful f env out → SameNumbers f out
 
--- where reads agree on every path, both runs read the same numbers, whatever the instructions mean
+-- where reads agree on every path, both runs read the same numbers, whatever the instructions compute
 abbrev pub ReadsGiveNumbers : Type 0
 ReadsGiveNumbers = (f : FunctionValue) (out : OutputValue) → ((ws : List Way) → IsPath f ws → ReadsAgree f out ws) → SameNumbers f out
 
--- and the converse: where each use finds a write of an earlier step, and both runs read the same numbers, whatever the instructions mean, reads agree
+-- and the converse: if each use finds a write of an earlier step, and both runs read the same numbers, whatever the instructions compute, reads agree
 abbrev pub NumbersGiveReads : Type 0
 NumbersGiveReads = (f : FunctionValue) (out : OutputValue) → ((ws : List Way) → IsPath f ws → UsesFindEarlier f ws) → SameNumbers f out → (ws : List Way) →
     IsPath f ws → ReadsAgree f out ws

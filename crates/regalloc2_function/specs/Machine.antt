@@ -17,7 +17,7 @@ pub record MachineValue : Type 0 where
   pub scratch : List (Option Register)
   pub fixed_stack_slots : List Register
 
--- whether a register is among those that are taken first for vregs of a class, or among those that are taken then
+-- whether a register is preferred for vregs of a class, or non-preferred
 abbrev pub is_preferred : MachineValue → RegClass → Register → Bool
 is_preferred env class r = has_register (slice_index_or env.preferred (class_code class) empty_set) r
 
@@ -32,7 +32,7 @@ is_allocatable env class r = is_preferred env class r || is_non_preferred env cl
 abbrev pub scratch_of : MachineValue → RegClass → Option Register
 scratch_of env class = slice_index_or env.scratch (class_code class) None
 
--- whether a register stands for a stack place
+-- whether a register names a fixed stack slot
 abbrev pub IsFixedStackSlot : MachineValue → Register → Type 0
 IsFixedStackSlot env r = Contains env.fixed_stack_slots r
 

@@ -1,4 +1,4 @@
--- Why a machine doesn't suit a function: the first condition of `MachineFits` that fails.
+-- Why a machine doesn't fit a function: the first condition of `MachineFits` that fails.
 -- First come the fixed stack slots, none of which is invalid; then the classes, Int, Float and Vector in this order, and of each class the
 -- conditions in the order of `MachineMisfit`'s variants.
 use Rattle.std.specs.Prelude.{ℕ, ◌≡◌, ◌≢◌, ◌<◌, true, false, All, Contains, length, slice_index_or, take, Some}

@@ -1,4 +1,4 @@
--- What the allocator gives, as contracts see it.
+-- The allocator's output, as contracts see it.
 -- Its parts are the fields of upstream's `Output`.
 use Rattle.std.specs.Prelude.{ℕ, ◌≡◌, ◌≢◌, ◌+◌, ◌≤◌, ◌<◌, Bool, ◌&&◌, ◌||◌, nat_eq, nat_lt, if◌then◌else◌, List, length, slice_index, slice_index_or}
 use Rattle.std.specs.Prelude.{slice_range, filter, map, All}
@@ -12,14 +12,14 @@ pub record MoveValue : Type 0 where
   pub from : Place
   pub to : Place
 
--- where a labelled value stands, from a point to a point
+-- the place of a labelled value, from a point up to a point
 pub record DebugLocation : Type 0 where
   pub label : ℕ
   pub start : ℕ
   pub end : ℕ
   pub place : Place
 
--- what the allocator gives: moves by their points, the places of all operands, and where those of each instruction begin
+-- the output: moves by their points, the places of all operands, and where those of each instruction begin
 pub record OutputValue : Type 0 where
   pub num_spillslots : ℕ
   pub edits : List (ℕ × MoveValue)
@@ -56,7 +56,7 @@ pub record OffsetsInOrder (o : OutputValue) : Type 0 where
   pub rises : (i : ℕ) → i < length o.offsets → alloc_start o i ≤ alloc_end o i
   pub within : (i : ℕ) → i < length o.offsets → alloc_start o i ≤ length o.allocs
 
--- the output is in order
+-- the output is well-ordered (`is_in_order`)
 pub record IsInOrder (f : FunctionValue) (o : OutputValue) : Type 0 where
   pub one_offset_each : length o.offsets ≡ length f.insts
   pub offsets : OffsetsInOrder o

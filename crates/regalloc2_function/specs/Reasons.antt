@@ -1,4 +1,4 @@
--- Where the tests of a function fail first, as their refusals say.
+-- Where the tests of a function fail first, as their errors report.
 use Rattle.std.specs.Prelude.{ℕ, ◌≡◌, ◌≢◌, ◌+◌, ◌<◌, ◌≤◌, ◌⊎◌, List, [], ◌∷◌, ◌++◌, All, count_by, filter_map, flat_map, length, map, nat_eq}
 use Rattle.std.specs.Prelude.{slice_index_or, Option, None, Some, if◌then◌else◌}
 use Rattle.regalloc2_index.specs.Range.{numbers_from, numbers_of}
@@ -105,7 +105,7 @@ uses_in f = flat_map (block_uses f) f.blocks
 abbrev pub IsFirstUndefined : FunctionValue → VirtualRegister → ℕ → Type 0
 IsFirstUndefined f v i = (point : ℕ) × IsFirstIn (λ u. IsDefinedBy f u.vreg u.point) (uses_in f) (record { vreg = v; inst = i; point = point })
 
--- why the definitions of a function are refused: out of memory, or else the first repeat, or where there is none the first use of what is not defined by then
+-- why the definitions of a function are rejected: out of memory, or else the first repeat, or if there is none the first use of what is not defined by then
 abbrev pub IsDefinitionFault : FunctionValue → RegAllocError → Type 0
 IsDefinitionFault f Memory = Unit {0}
 IsDefinitionFault f (SSA v i) = IsFirstRepeat f v i ⊎ (DefinedOnce f × IsFirstUndefined f v i)
@@ -127,7 +127,7 @@ pub record HasShape (f : FunctionValue) : Type 0 where
   pub no_critical_edge : NoCriticalEdge f
   pub no_operands_into_joins : NoOperandsIntoJoins f
 
--- why the blocks and edges of a function are refused: the first of these tests that fails, and where it fails first
+-- why the blocks and edges of a function are rejected: the first of these tests that fails, and where it fails first
 pub data IsShapeFault (f : FunctionValue) : RegAllocError → Type 0 where
   outside : (s : ℕ) → IsFirstOutside f s → IsShapeFault f (BB s)
   apart : (b : ℕ) → SuccessorsAreBlocks f → IsFirstToFail f (FollowsAt f) b → IsShapeFault f (BB b)
@@ -146,7 +146,7 @@ pub record IsSound (f : FunctionValue) : Type 0 where
   pub defined_once : DefinedOnce f
   pub uses_defined : UsesAreDefined f
 
--- and why they refuse a function: the first of them that fails, and where it fails first
+-- and why they reject a function: the first of them that fails, and where it fails first
 pub data IsSoundnessFault (f : FunctionValue) : RegAllocError → Type 0 where
   elsewhere : f.entry ≢ 0 → IsSoundnessFault f (BB f.entry)
   livein : f.entry ≡ 0 → (block_at f 0).params ≢ [] → IsSoundnessFault f EntryLivein

@@ -9,7 +9,7 @@ use Rattle.regalloc2_function.specs.FunctionValue.{FunctionValue, inst_at, slot_
 use Rattle.regalloc2_function.specs.OutputValue.{OutputValue, allocs_of, place_at}
 use Rattle.regalloc2_function.specs.WellFormed.{EachOperand}
 
--- whose values a slot takes: those of a vreg, or what a branch's moves of arguments put aside, the first or a later time for a class
+-- whose values a slot holds: a vreg's, or those that a branch's moves of arguments save, the first or a later time for a class
 pub data Owner : Type 0 where
   OfVReg : VirtualRegister → Owner
   OfBranch : (branch : ℕ) (class : RegClass) (time : ℕ) → Owner
@@ -18,27 +18,26 @@ abbrev pub class_of_owner : Owner → RegClass
 class_of_owner (OfVReg v) = v.class
 class_of_owner (OfBranch branch class time) = class
 
--- a slot's name stands in the output: as an operand's place, in a move or in a debug location
+-- the output names the slot: as an operand's place, in a move or in a debug location
 abbrev pub IsSlotOf : FunctionValue → OutputValue → ℕ → Type 0
 IsSlotOf f out n = SomeIn (λ p. p ≡ InSlot n) out.allocs ⊎ SomeIn (λ e. (e.1.from ≡ InSlot n) ⊎ (e.1.to ≡ InSlot n)) out.edits
     ⊎ SomeIn (λ d. d.place ≡ InSlot n) out.debug_locations
 
--- how many units a slot takes that has an owner, and the first of them where a slot has that name
+-- how many units an owner's slot takes, and the first of them if the slot has that name
 abbrev pub units_of_owner : FunctionValue → Owner → ℕ
 units_of_owner f owner = slot_size f.slot_sizes (class_of_owner owner)
 
 abbrev pub first_unit : FunctionValue → Owner → ℕ → ℕ
 first_unit f owner n = if f.named_by_last_slot then n + 1 - units_of_owner f owner else n
 
--- the class of what a place takes
+-- the class of the values that a place holds
 abbrev pub IsOfClass : (ℕ → Owner) → Place → RegClass → Type 0
 IsOfClass owner NoPlace class = ⊥
 IsOfClass owner (InRegister r) class = r.class ≡ class
 IsOfClass owner (InSlot n) class = class_of_owner (owner n) ≡ class
 
--- Each slot has an owner of its own, a vreg or a branch; it stands for as many units as its owner's class takes, aligned to
--- that number and below the count; the units of two slots are apart; operands stand in their own vreg's slot; and both ends of
--- a move are of one class.
+-- Each slot has an owner of its own, a vreg or a branch; it stands for as many units as its owner's class takes, aligned to that number and below the count;
+-- the units of two slots are apart; operands are in their own vreg's slot; and both ends of a move are of one class.
 pub record AreSlotsOwned (f : FunctionValue) (out : OutputValue) : Type 0 where
   pub owner : ℕ → Owner
   pub own : (m n : ℕ) → IsSlotOf f out m → IsSlotOf f out n → owner m ≡ owner n → m ≡ n

@@ -37,7 +37,7 @@ passed (p ∷ ps) (a ∷ rest) before after = passed ps rest before (assigned af
 abbrev pub arguments_at : FunctionValue → ℕ → ℕ → List VirtualRegister
 arguments_at f b k = slice_index_or (block_at f b).arguments k []
 
--- the edge that a way takes
+-- the map after an edge or fall-through
 unfoldable pub over_edge : FunctionValue → Location → Way → Source → Source
 over_edge f l Onward m = m
 over_edge f l (ToSuccessor k) m = passed (block_at f (slice_index (block_at f l.block).succs k)).params (arguments_at f l.block k) m m
@@ -71,11 +71,11 @@ UsesFindEarlier f ws = (k : ℕ) (d : OperandValue) → k < length (last_inst f 
     let o : OperandValue = slice_index_or (last_inst f ws).operands k d in
     is_reading o ≡ true → (s : Stamp) × (source_read f ws o ≡ Some s) × (s.step < length ws)
 
--- every argument that is passed on the way on was written
+-- every argument that is passed on an edge was written
 abbrev pub ArgumentsWritten : FunctionValue → List Way → Type 0
 ArgumentsWritten f ws = (k j : ℕ) (d : VirtualRegister) → HasWay f (end_of f ws) (ToSuccessor k) → j < length (arguments_at f (end_of f ws).block k) →
     IsSome (source_after f ws (slice_index_or (arguments_at f (end_of f ws).block k) j d))
 
--- no path reads or passes a vreg before writing it
+-- each vreg is definitely assigned: no path reads or passes it before writing it
 abbrev pub IsWrittenFirst : FunctionValue → Type 0
 IsWrittenFirst f = (ws : List Way) → IsPath f ws → UsesWritten f ws × ArgumentsWritten f ws

@@ -1,4 +1,4 @@
--- What values the uses read, for any meaning of the instructions.
+-- The values that uses read, for any interpretation (`Meaning`) of the instructions.
 -- This project's own: what the instructions compute is left open.
 use Rattle.std.specs.Prelude.{ℕ, ◌≡◌, ◌+◌, nat_eq, if◌then◌else◌, List, [], ◌∷◌, map, length, Option}
 use Rattle.std.specs.Option.{option_map}
@@ -9,8 +9,8 @@ use Rattle.regalloc2_function.specs.Path.{Way, IsPath, end_of, last_inst}
 use Rattle.regalloc2_function.specs.SourceRun.{Stamp, source_read}
 use Rattle.regalloc2_function.specs.AllocatedRun.{allocated_read}
 
--- A meaning gives the number that an instruction writes: from the instruction, its step, what was read at each step so far, the newest
--- first, and the index of the operand that is written.
+-- An interpretation gives the number that an instruction writes: from the instruction, its step, what was read at each step so far, the last step first, and
+-- the index of the operand that is written.
 abbrev pub Meaning : Type 0
 Meaning = ℕ → ℕ → List (List (Option ℕ)) → ℕ → ℕ
 
@@ -26,7 +26,7 @@ source_reads f ws = reads_from (λ k o. source_read f ws o) 0 (last_inst f ws).o
 abbrev pub allocated_reads : FunctionValue → OutputValue → List Way → List (Option Stamp)
 allocated_reads f out ws = reads_from (allocated_read f out ws) 0 (last_inst f ws).operands
 
--- the numbers that were read at each step of a path, the newest first, and the number of each write of an earlier step
+-- the numbers that were read at each step of a path, the last step first, and the number of each write of an earlier step
 pub record Numbers : Type 0 where
   pub history : List (List (Option ℕ))
   pub written : Stamp → ℕ

@@ -1,4 +1,4 @@
--- The conditions on a function, in the order in which they are tested.
+-- The preconditions on a function, in the order in which they are tested.
 -- The tests are those of upstream's `CFGInfo::init` and `validate_ssa`, and what its allocators take for granted.
 use Rattle.std.specs.Prelude.{ℕ, ◌≡◌, ◌+◌, ◌-◌, ◌<◌, ◌≤◌, ◌⊎◌, Bool, true, false, ◌&&◌, nat_eq, if◌then◌else◌, List, [], ◌∷◌, All, Contains, count_by}
 use Rattle.std.specs.Prelude.{length, map, slice_index, slice_index_or}
@@ -26,11 +26,11 @@ EachOperand i P = (k : ℕ) (d : OperandValue) → k < length i.operands → P k
 abbrev pub EachInst : FunctionValue → BlockValue → (ℕ → InstValue → Type 0) → Type 0
 EachInst f b P = (i : ℕ) → b.range.first ≤ i → i < b.range.end → P i (inst_at f i)
 
--- how often a number stands in a list
+-- how often a number is in a list
 abbrev pub times_in : ℕ → List ℕ → ℕ
 times_in n xs = count_by (λ x. nat_eq x n) xs
 
--- in how many ways a block is entered; the function's start is one into the entry
+-- how many edges lead into a block; the function's start counts as one into the entry
 abbrev pub ways_into : FunctionValue → ℕ → ℕ
 ways_into f b = length (block_at f b).preds + (if nat_eq b f.entry then 1 else 0)
 
@@ -58,7 +58,7 @@ PredecessorsAt f n b = (p : ℕ) → times_in p b.preds ≡ times_in n (block_at
 abbrev pub PredecessorsAgree : FunctionValue → Type 0
 PredecessorsAgree f = EachBlock f (PredecessorsAt f)
 
--- a block that is entered in several ways has no predecessor with several successors
+-- a block with several incoming edges has no predecessor with several successors
 abbrev pub NotCriticalAt : FunctionValue → ℕ → BlockValue → Type 0
 NotCriticalAt f n b = 1 < ways_into f n → All (λ p. length (block_at f p).succs ≤ 1) b.preds
 
@@ -137,7 +137,7 @@ UsesAreDefined f = EachBlock f (λ n b.
 abbrev pub IsReuse : OperandConstraint → ℕ → Type 0
 IsReuse k n = k ≡ Reuse n
 
--- a constraint under which a reused operand may stand
+-- a constraint that a reused operand may have
 abbrev pub MayBeReused : MachineValue → RegClass → OperandConstraint → Type 0
 MayBeReused env class Any = ⊥
 MayBeReused env class Reg = Unit {0}
@@ -160,7 +160,7 @@ abbrev pub FixedAvoidClobbers : InstValue → Type 0
 FixedAvoidClobbers i = EachOperand i (λ k o. (r : Register) → o.constraint ≡ FixedReg r → (o.kind ≡ Def) ⊎ (o.position ≡ Late)
     ⊎ ((j : ℕ) × (d : OperandValue) × (j < length i.operands) × IsReuse (slice_index_or i.operands j d).constraint k) → has_register i.clobbers r ≡ false)
 
--- a function whose blocks and terminators are sound, and whose arguments are counted
+-- a structurally valid function: its blocks and terminators are sound, and its arguments are counted
 pub record IsFramed (f : FunctionValue) : Type 0 where
   pub successors : SuccessorsAreBlocks f
   pub follow : BlocksFollow f

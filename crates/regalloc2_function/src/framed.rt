@@ -1,4 +1,4 @@
-//! Whether a function is framed.
+//! Tests of whether a function is structurally valid (`IsFramed`).
 
 ghost use Rattle.std.specs.Prelude.{◌≡◌, ◌+◌, ◌<◌, ◌≤◌, ◌↔◌, ℕ, false, IsTrue, IsOk, IfErr, length};
 ghost use Rattle.regalloc2_function.specs.FunctionValue.{block_at, inst_at};
@@ -58,7 +58,7 @@ fn blocks_follow<F: Function>(f: &F) -> bool
     true
 }
 
-/// Tests that blocks follow one another, and names the first that doesn't.
+/// Tests that blocks follow one another; the error names the first that doesn't.
 pub fn test_blocks<F: Function>(f: &F) -> Result<(), RegAllocError>
     ensures ok { IsOk result ↔ BlocksFollow (F.function f.now) }
     ensures first { IfErr result (λ e. (b : ℕ) × (e ≡ RegAllocError.BB b) × IsFirstToFail (F.function f.now) (FollowsAt (F.function f.now)) b) }
@@ -72,7 +72,8 @@ pub fn test_blocks<F: Function>(f: &F) -> Result<(), RegAllocError>
     Ok(())
 }
 
-/// Whether an instruction may end a block with so many successors: a branch, or a return without any.
+/// Whether an instruction may end a block with so many successors: a branch, or a return without
+/// any.
 fn ends_block<F: Function>(f: &F, inst: Inst, succs: usize) -> bool
     requires { inst < length (F.function f.now).insts }
     ensures { IsTrue result ↔ EndsBlock (inst_at (F.function f.now) inst) succs }
@@ -116,8 +117,8 @@ fn ends<F: Function>(f: &F, block: Block) -> bool
         && goes_on(f, range.first().index(), last.index())
 }
 
-/// Tests that each block ends, and only ends, in a branch or in a return without successors, and names the first that
-/// doesn't.
+/// Tests that each block ends, and only ends, in a branch or in a return without successors; the
+/// error names the first that doesn't.
 ///
 /// Linear in the number of instructions. Blocks follow one another, as [`test_blocks`] tests.
 pub fn test_ends<F: Function>(f: &F) -> Result<(), RegAllocError>
@@ -134,7 +135,7 @@ pub fn test_ends<F: Function>(f: &F) -> Result<(), RegAllocError>
     Ok(())
 }
 
-/// Whether a block gives each successor as many arguments as it has parameters.
+/// Whether a block passes each successor as many arguments as it has parameters.
 fn counts_arguments<F: Function>(f: &F, block: Block, last: Inst) -> bool
     requires block { block < length (F.function f.now).blocks }
     requires last { last + 1 ≡ (block_at (F.function f.now) block).range.end }
@@ -151,7 +152,7 @@ fn counts_arguments<F: Function>(f: &F, block: Block, last: Inst) -> bool
     true
 }
 
-/// Whether each successor is given as many arguments as it has parameters.
+/// Whether each successor is passed as many arguments as it has parameters.
 fn arguments_counted<F: Function>(f: &F) -> bool
     requires blocks { SuccessorsAreBlocks (F.function f.now) }
     requires follow { BlocksFollow (F.function f.now) }
@@ -166,12 +167,13 @@ fn arguments_counted<F: Function>(f: &F) -> bool
     true
 }
 
-/// Whether a function is framed: its entry and each successor is a block, blocks are nonempty and follow one another from
-/// the first instruction to the last, each ends, and only ends, in a branch or in a return without successors, and each
-/// successor is given as many arguments as it has parameters.
+/// Whether a function is structurally valid (`IsFramed`): its entry and each successor is a block,
+/// blocks are nonempty and follow one another from the first instruction to the last, each ends,
+/// and only ends, in a branch or in a return without successors, and each successor is passed as
+/// many arguments as it has parameters.
 ///
-/// Linear in the blocks, edges and instructions. The checker and `reads_written` want a framed function; upstream tests
-/// less.
+/// Linear in the blocks, edges and instructions. The checker and `reads_written` require a
+/// structurally valid function; upstream tests less.
 pub fn is_framed<F: Function>(f: &F) -> bool
     ensures { IsTrue result ↔ IsFramed (F.function f.now) }
 {

@@ -1,22 +1,25 @@
-//! Laws of the definitions, each the contract of a function that does nothing.
+//! Lemma functions on the definitions: each does nothing, and its contract is a lemma.
 
 ghost use Rattle.regalloc2_function.specs.Laws.{FaithfulGivesNumbers, ReadsGiveNumbers, NumbersGiveReads, SourceIsEarlier, CellsAreEarlier};
 ghost use Rattle.regalloc2_function.specs.Laws.{MissingHoldsNothing};
 
-/// A law of the runs: each write that is found was made at an earlier step, and a missing place holds nothing.
+/// A lemma on the runs: each write that is found was made at an earlier step, and a missing place
+/// holds nothing.
 pub fn finds_earlier_writes()
     ensures source { SourceIsEarlier }
     ensures cells { CellsAreEarlier }
     ensures missing { MissingHoldsNothing }
 {}
 
-/// A law of the runs: a faithful output reads the function's own numbers, whatever the instructions mean.
+/// A lemma on the runs: a faithful output reads the function's own numbers, whatever the
+/// instructions compute.
 pub fn reads_the_same_numbers()
     ensures { FaithfulGivesNumbers }
 {}
 
-/// A law of the runs: reads agree on every path just where both runs read the same numbers, whatever the instructions mean.
-/// From the numbers back to the reads it wants each use to find a write of an earlier step.
+/// A lemma on the runs: reads agree on every path exactly if both runs read the same numbers,
+/// whatever the instructions compute. From the numbers back to the reads, it requires each use to
+/// find a write of an earlier step.
 pub fn agrees_where_numbers_do()
     ensures numbers { ReadsGiveNumbers }
     ensures reads { NumbersGiveReads }

@@ -1,7 +1,8 @@
-//! The function that is being allocated, the machine, the output of an allocation, and what they mean.
+//! The function that is being allocated, the machine, the output of an allocation, and their
+//! semantics.
 //!
-//! Contracts speak of three values: the [`Function`]'s own, `machine_of` a [`MachineEnv`] and `output_of` an [`Output`].
-//! The definitions over them stand in this crate's `specs`.
+//! Contracts speak of three values: the [`Function`]'s own, `machine_of` a [`MachineEnv`] and
+//! `output_of` an [`Output`]. The definitions over them are in this crate's `specs`.
 #![tactic(auto)]
 
 ghost use Rattle.std.specs.Prelude.{◌≡◌, ℕ, ◌+◌, ◌-◌, ◌<◌, ◌≤◌, ◌^◌, SomeIff, length, map, slice_index_or, []};
@@ -24,13 +25,14 @@ pub use machine::{MachineEnv, machine_fits, test_machine};
 pub use misfit::MachineMisfit;
 pub use serialize::{StoredFault, StoredOutput};
 
-/// A function as a client of the allocator describes it: blocks of instructions, and what each instruction does with
-/// vregs.
+/// A function as a client of the allocator describes it: blocks of instructions, and what each
+/// instruction does with vregs.
 ///
-/// All calls agree with one function value, and an implementation proves that it keeps the limits of `IsLimited`: fewer
-/// than 2^30 instructions, fewer than 2^32 - 1 blocks, at most 2^30 - 1 vregs, slot sizes that are powers of
-/// two from 1 to 2^24, and labels of vregs below `num_vregs`. Nothing else is owed: whether the blocks follow
-/// one another, or the uses are defined, is tested by the calls that want it.
+/// All calls agree with one function value, and an implementation proves that it keeps the limits
+/// of `IsLimited`: fewer than 2^30 instructions, fewer than 2^32 - 1 blocks, at most 2^30 - 1
+/// vregs, slot sizes that are powers of two from 1 to 2^24, and labels of vregs below `num_vregs`.
+/// Nothing else is required: a call that needs blocks to follow one another, or uses to be defined,
+/// tests it.
 ///
 /// Names and arguments are those of upstream's trait `Function`.
 pub trait Function {
@@ -61,17 +63,17 @@ pub trait Function {
         requires { block < length (function self.now).blocks }
         ensures { result ≡ (block_at (function self.now) block).range };
 
-    /// The blocks that may follow, by the position that the block's last instruction names.
+    /// The successors of a block, by the position that the block's last instruction names.
     fn block_succs(&self, block: Block) -> &[Block]
         requires { block < length (function self.now).blocks }
         ensures { result.now ≡ (block_at (function self.now) block).succs };
 
-    /// The blocks that a block may follow, once for each of their positions that names it.
+    /// The predecessors of a block, once for each of their successor positions that names it.
     fn block_preds(&self, block: Block) -> &[Block]
         requires { block < length (function self.now).blocks }
         ensures { result.now ≡ (block_at (function self.now) block).preds };
 
-    /// The vregs that take the arguments with which a block is entered.
+    /// The parameters of a block: the vregs that receive the arguments of an incoming edge.
     fn block_params(&self, block: Block) -> &[VReg]
         requires { block < length (function self.now).blocks }
         ensures { result.now ≡ (block_at (function self.now) block).params };
@@ -81,7 +83,7 @@ pub trait Function {
         requires { inst < length (function self.now).insts }
         ensures { result ≡ (inst_at (function self.now) inst).is_ret };
 
-    /// Whether an instruction goes on to a successor of its block.
+    /// Whether an instruction branches to a successor of its block.
     fn is_branch(&self, inst: Inst) -> bool
         requires { inst < length (function self.now).insts }
         ensures { result ≡ (inst_at (function self.now) inst).is_branch };
@@ -104,8 +106,8 @@ pub trait Function {
         requires { inst < length (function self.now).insts }
         ensures { result ≡ (inst_at (function self.now) inst).clobbers };
 
-    /// The ranges of instructions over which a client wants to be told where a vreg stands, each from its
-    /// first instruction up to its end, with a label of the client's own.
+    /// The ranges of instructions over which a client requires a vreg's places, each from its first
+    /// instruction up to its end, with a label of the client's own.
     ///
     /// Upstream's default, no labels, can't be given here: see `docs/DECISIONS.md`.
     fn debug_value_labels(&self) -> &[(VReg, Inst, Inst, u32)]
@@ -122,13 +124,14 @@ pub trait Function {
     fn multi_spillslot_named_by_last_slot(&self) -> bool
         ensures { result ≡ (function self.now).named_by_last_slot };
 
-    /// Whether a vreg may have several definitions. The allocator wants single definitions all the same.
+    /// Whether a vreg may have several definitions. The allocator requires single definitions in
+    /// any case.
     ///
     /// Upstream's default is false.
     fn allow_multiple_vreg_defs(&self) -> bool
         ensures { result ≡ (function self.now).allows_multiple_defs };
 
-    /// What each implementation owes.
+    /// The limits that each implementation proves.
     ghost limited: { (f : Self) → IsLimited (function f) };
 }
 

@@ -38,7 +38,7 @@ impl Edit {
     }
 }
 
-/// What an allocation gives.
+/// The output of an allocation.
 ///
 /// Fields and names are those of upstream's `Output`, without its statistics.
 #[derive(Debug, Drop)]
@@ -51,7 +51,7 @@ pub struct Output<A: Allocator = Global> {
     pub allocs: Vec<Allocation, A>,
     /// For each instruction, where its operands' places begin in `allocs`.
     pub inst_alloc_offsets: Vec<u32, A>,
-    /// Where labelled values stand: a label, from a point up to a point, in a place.
+    /// The places of labelled values: a label, from a point up to a point, and the place.
     pub debug_locations: Vec<(u32, ProgPoint, ProgPoint, Allocation), A>,
 }
 
@@ -64,8 +64,9 @@ pub enum InstOrEdit<'a> {
     Edit(&'a Edit),
 }
 
-/// A block's listing, in order: before its first instruction the edits at that one's Before point, before each other
-/// one those at the After point of the instruction before and at its own Before point. It ends with the block's last
+/// A block's listing, in order. Before its first instruction are the edits at the point before that
+/// instruction; before each later instruction, the edits at the point after the previous
+/// instruction and then those at the point before its own. The listing ends with the block's last
 /// instruction.
 #[derive(Clone, Debug, Drop)]
 pub struct OutputIter<'a> {
@@ -73,7 +74,7 @@ pub struct OutputIter<'a> {
     inst_range: InstRange,
 }
 
-/// Whether a point is the one before an instruction, or comes before that.
+/// Whether a point is at or before the point before an instruction.
 fn is_listed_by(point: ProgPoint, inst: Inst) -> bool
     ensures { IsTrue result ↔ (point ≤ before inst) }
 {
@@ -145,8 +146,8 @@ impl<A: Allocator> Output<A> {
         (start, end)
     }
 
-    /// The places of an instruction's operands, in operand order. They are fewer than the operands where the last
-    /// operands have none.
+    /// The places of an instruction's operands, in operand order. They are fewer than the operands
+    /// where the last operands have none.
     pub fn inst_allocs(&self, inst: Inst) -> &[Allocation]
         requires in_order { OffsetsInOrder (output_of self.now) }
         requires inst { inst < length (output_of self.now).offsets }
@@ -156,7 +157,8 @@ impl<A: Allocator> Output<A> {
         &self.allocs[start..end]
     }
 
-    /// A block's listing: its instructions, each after the edits that run before it. Each instruction listed is the block's.
+    /// A block's listing: its instructions, each after the edits that run before it. Each
+    /// instruction listed is the block's.
     pub fn block_insts_and_edits<F: Function>(&self, func: &F, block: Block) -> OutputIter<'_>
         requires in_order { IsInOrder (F.function func.now) (output_of self.now) }
         requires block { block < length (F.function func.now).blocks }
@@ -179,8 +181,8 @@ impl<A: Allocator> Output<A> {
         }
     }
 
-    /// Whether an instruction's places don't end before they begin, begin within the places, and are no more than its
-    /// operands.
+    /// Whether the range of an instruction's places doesn't end before it begins, begins within the
+    /// places, and has no more places than the instruction has operands.
     fn has_range_in_order(&self, inst: usize, operands: usize) -> bool
         requires { inst < length (output_of self.now).offsets }
         ensures { IsTrue result ↔ ((alloc_start (output_of self.now) inst ≤ alloc_end (output_of self.now) inst)
@@ -191,8 +193,8 @@ impl<A: Allocator> Output<A> {
         start <= end && start <= self.allocs.len() && end - start <= operands
     }
 
-    /// Whether there is one offset for each instruction, the offsets are in order, and no instruction has more places
-    /// than operands.
+    /// Whether there is one offset for each instruction, the offsets are in order, and no
+    /// instruction has more places than operands.
     fn has_places_in_order<F: Function>(&self, func: &F) -> bool
         ensures { IsTrue result ↔ ((length (output_of self.now).offsets ≡ length (F.function func.now).insts) × OffsetsInOrder (output_of self.now)
             × ((i : ℕ) → i < length (F.function func.now).insts →
@@ -236,9 +238,9 @@ impl<A: Allocator> Output<A> {
             .all(|edit| names_places(edit.1))
     }
 
-    /// Whether the output is in order: there is one offset for each instruction, the first is 0, none is below the one
-    /// before and none is past the places; no instruction has more places than operands; the edits' points never fall;
-    /// and no move names `none`.
+    /// Whether the output is well-ordered: there is one offset for each instruction, the first is
+    /// 0, none is below the one before and none is past the places; no instruction has more places
+    /// than operands; the edits' points never fall; and no move names `none`.
     ///
     /// Upstream takes this for granted. Linear in the function and the output.
     pub fn is_in_order<F: Function>(&self, func: &F) -> bool

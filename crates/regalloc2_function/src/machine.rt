@@ -25,17 +25,17 @@ use std::alloc::{Allocator, Global};
 /// Fields and names are those of upstream's `MachineEnv`.
 #[derive(Debug, Drop)]
 pub struct MachineEnv<A: Allocator = Global> {
-    /// The registers of each class that are taken first.
+    /// The registers of each class that are allocated first.
     pub preferred_regs_by_class: [PRegSet; 3],
-    /// The registers of each class that are taken where no preferred one is left.
+    /// The registers of each class that are allocated if no preferred one is left.
     pub non_preferred_regs_by_class: [PRegSet; 3],
-    /// A register of each class through which moves may go, if one is set aside for that.
+    /// The dedicated scratch register of each class, if there is one. Moves may go through it.
     pub scratch_by_class: [Option<PReg>; 3],
-    /// Names of registers that stand for stack places, such as arguments on the stack.
+    /// Registers that name fixed stack slots, such as arguments on the stack.
     pub fixed_stack_slots: Vec<PReg, A>,
 }
 
-/// Whether two classes are one.
+/// Whether the classes are equal.
 fn is_class(a: RegClass, b: RegClass) -> bool
     ensures { IsTrue result ↔ (a ≡ b) }
 {
@@ -62,7 +62,7 @@ fn of_other_class(set: PRegSet, class: RegClass) -> Option<PReg>
     None
 }
 
-/// Whether a register is another one.
+/// Whether the registers differ.
 fn is_other(a: PReg, b: PReg) -> bool
     ensures { IsTrue result ↔ (a ≢ b) }
 {
@@ -104,7 +104,7 @@ impl<A: Allocator> MachineEnv<A> {
         Ok(())
     }
 
-    /// Tests the register of a class that is set aside for moves, if there is one.
+    /// Tests the dedicated scratch register of a class, if there is one.
     fn test_scratch(&self, class: RegClass) -> Result<(), MachineMisfit>
         ensures ok { OnOk result (IsScratchSound (machine_of self.now) class) }
         ensures misfit { IfErr result (λ m. (f : FunctionValue) → PassesRegisters f (machine_of self.now) class → IsMisfit f (machine_of self.now) m) }
@@ -132,7 +132,7 @@ impl<A: Allocator> MachineEnv<A> {
         self.fixed_stack_slots.contains(&PReg::invalid())
     }
 
-    /// Whether a register is the one of a class that is set aside for moves.
+    /// Whether a register is the dedicated scratch register of a class.
     fn is_scratch(&self, class: RegClass, reg: PReg) -> bool
         ensures { IsTrue result ↔ (scratch_of (machine_of self.now) class ≡ Some reg) }
     {
@@ -215,8 +215,8 @@ fn vregs_name(vregs: &[VReg], class: RegClass) -> bool
     vregs.iter().any(|vreg| is_class(vreg.class(), class))
 }
 
-/// Whether a block's arguments name a vreg of a class. Those of a block that is empty or not within the
-/// instructions don't count, since nothing says what they are.
+/// Whether a block's arguments name a vreg of a class. Those of a block that is empty or not within
+/// the instructions don't count, because nothing determines them.
 fn arguments_name<F: Function>(f: &F, block: Block, class: RegClass) -> bool
     requires { block < length (F.function f.now).blocks }
     ensures { IsTrue result ↔ NamesByArgument (F.function f.now) block class }
@@ -254,7 +254,7 @@ fn names_class<F: Function>(f: &F, class: RegClass) -> bool
     insts_name(f, class) || blocks_name(f, class)
 }
 
-/// Tests that a machine suits what a function has of one class.
+/// Tests that a machine fits a function, for one class.
 fn test_class<F: Function, A: Allocator>(
     f: &F,
     env: &MachineEnv<A>,
@@ -274,16 +274,19 @@ fn test_class<F: Function, A: Allocator>(
     Ok(())
 }
 
-/// Tests that a machine suits a function, as an allocation wants it, and names the first condition that fails.
+/// Tests that a machine fits a function, as an allocation requires, and returns the first condition
+/// that fails.
 ///
-/// Each class's registers, its scratch register too, are of that class; preferred, non-preferred and scratch registers
-/// and fixed stack slots are apart, and none is `PReg::invalid()`; and each class of which an operand, a parameter or an
-/// argument names a vreg has a register to allocate. The same slot may stand twice among the fixed stack
-/// slots. Arguments of a block that is empty or not within the instructions don't count, nor do operands that name a
-/// register which is not allocated.
+/// Each class's registers, its scratch register too, are of that class; preferred, non-preferred
+/// and scratch registers and fixed stack slots are apart, and none is `PReg::invalid()`; and each
+/// class of which an operand, a parameter or an argument names a vreg has a register to allocate.
+/// The same slot may be listed twice among the fixed stack slots. Arguments of a block that is
+/// empty or not within the instructions don't count, nor do operands that name a register which is
+/// not allocated.
 ///
-/// That no slot is invalid is tested first, and then each class in turn: `Int`, `Float`, `Vector`. The conditions of a
-/// class come in the order of the variants of [`MachineMisfit`].
+/// The first test is whether a slot is invalid. Each class follows in turn: `Int`, `Float`,
+/// `Vector`. The conditions of a class are tested in the order of the variants of
+/// [`MachineMisfit`].
 ///
 /// Upstream takes this for granted.
 pub fn test_machine<F: Function, A: Allocator>(
@@ -302,7 +305,7 @@ pub fn test_machine<F: Function, A: Allocator>(
     test_class(f, env, RegClass::Vector)
 }
 
-/// Whether a machine suits a function, as [`test_machine`] tests it.
+/// Whether a machine fits a function, as [`test_machine`] tests it.
 pub fn machine_fits<F: Function, A: Allocator>(f: &F, env: &MachineEnv<A>) -> bool
     ensures { IsTrue result ↔ MachineFits (F.function f.now) (machine_of env.now) }
 {

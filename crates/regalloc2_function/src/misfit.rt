@@ -1,10 +1,11 @@
-//! Why a machine doesn't suit a function.
+//! Why a machine doesn't fit a function.
 
 use regalloc2_names::{PReg, RegClass};
 use std::error::Error;
 use std::fmt;
 
-/// Why a machine doesn't suit a function: the first condition that fails, as `test_machine` tests them.
+/// Why a machine doesn't fit a function: the first condition that fails, as `test_machine` tests
+/// them.
 #[derive(Clone, Copy, Debug, PartialEq, Eq)]
 pub enum MachineMisfit {
     /// A fixed stack slot is `PReg::invalid()`.
@@ -17,11 +18,11 @@ pub enum MachineMisfit {
     InvalidRegister(RegClass),
     /// The scratch register of a class is of another class.
     ScratchOfOtherClass(RegClass, PReg),
-    /// The scratch register of a class is listed to be allocated, too.
+    /// The scratch register of a class is also listed as allocatable.
     ScratchAllocatable(RegClass, PReg),
     /// The scratch register of a class is `PReg::invalid()`.
     InvalidScratch(RegClass),
-    /// A fixed stack slot is listed to be allocated for a class.
+    /// A fixed stack slot is listed as allocatable for a class.
     SlotAllocatable(RegClass, PReg),
     /// A fixed stack slot is the scratch register of a class.
     SlotIsScratch(RegClass, PReg),
@@ -43,7 +44,7 @@ impl MachineMisfit {
         }
     }
 
-    /// The class that its text names behind [`before_class`](Self::before_class).
+    /// The class that its text names after [`before_class`](Self::before_class).
     fn class(self) -> Option<RegClass> {
         match self {
             Self::InvalidSlot => None,
@@ -79,7 +80,7 @@ impl MachineMisfit {
         }
     }
 
-    /// The words behind the class.
+    /// The words after the class.
     fn after_class(self) -> &'static str {
         match self {
             Self::OtherClass(..) => ", and is of another class",

@@ -12,24 +12,24 @@ use std::alloc::{AllocError, AllocFailed, Allocator, Global};
 use std::error::Error;
 use std::fmt;
 
-/// Why stored data stand for no function or output. They are counted from 1.
+/// Why stored data encode no function or output. The variants are numbered from 1.
 #[derive(Clone, Copy, Debug, PartialEq, Eq)]
 pub enum StoredFault {
     /// Lists that should be of one length are not.
     Lengths,
     /// A block, an instruction or a labelled vreg is out of range.
     Index,
-    /// A number is that of no name.
+    /// A number encodes no name.
     Bits,
-    /// A limit that each function keeps is passed.
+    /// A limit that each function keeps is exceeded.
     Limit,
-    /// A growth was refused.
+    /// A memory allocation failed.
     Memory,
-    /// A JSON value has another shape.
+    /// A JSON value has the wrong shape.
     Shape,
 }
 
-/// Says what is wrong, as `a word names nothing`.
+/// Writes what is wrong, as `a word names nothing`.
 impl fmt::Display for StoredFault {
     ghost use Rattle.std.specs.Prelude.{Some};
     ghost use Rattle.regalloc2_function.specs.FaultText.{fault_reason};
@@ -83,12 +83,12 @@ pub struct StoredOutput<A: Allocator = Global> {
     pub allocs: Vec<u32, A>,
     /// For each instruction, where its operands' places begin.
     pub inst_alloc_offsets: Vec<u32, A>,
-    /// Where labelled values stand: a label, the points from which and up to which, and a place.
+    /// The places of labelled values: a label, the points from which and up to which, and a place.
     pub debug_locations: Vec<(u32, u32, u32, u32), A>,
 }
 
 impl<A: Allocator> StoredOutput<A> {
-    /// Whether each number is that of a name: points and places.
+    /// Whether each number that should encode a point or a place does.
     fn names_values(&self) -> bool
         ensures { IsTrue result ↔ NamesValues self.now }
     {
@@ -240,10 +240,11 @@ fn words_of_locations<A: Allocator>(
 }
 
 impl<A: Allocator + Copy> Output<A> {
-    /// The output that stored numbers name.
+    /// The output that stored numbers encode.
     ///
-    /// `Bits` exactly where a number is that of no point or place; `Memory` only where each number is one, and memory ran out;
-    /// no other fault comes. Whether the output is in order is tested by [`Output::is_in_order`].
+    /// Returns `Bits` exactly if a number that should encode a point or a place doesn't; `Memory`
+    /// only if each does, and memory ran out; no other error. [`Output::is_in_order`] tests whether
+    /// the output is well-ordered.
     pub fn from_stored<B: Allocator>(
         alloc: A,
         stored: &StoredOutput<B>,
@@ -272,9 +273,10 @@ impl<A: Allocator + Copy> Output<A> {
 }
 
 impl<A: Allocator + Copy> Output<A> {
-    /// The numbers of this output, which [`Output::from_stored`] takes back, made with the output's own allocator.
+    /// The numbers of this output, which [`Output::from_stored`] decodes, made with the output's
+    /// own allocator.
     ///
-    /// `Memory` where memory ran out, and nothing else.
+    /// Returns `Memory` if memory ran out, and no other error.
     pub fn stored(&self) -> Result<StoredOutput<A>, RegAllocError>
         ensures output { IfOk result (λ stored. output_of_stored stored ≡ output_of self.now) }
         ensures names { IfOk result (λ stored. NamesValues stored) }

@@ -1,4 +1,4 @@
--- Two names are one exactly where the test of equality accepts them, else they differ.
+-- The test of equality accepts two names exactly if they are equal.
 use Rattle.std.proofs.Common.{◌≡◌, ◌≢◌, Bool, true, false, refl, sym, ap, ◌∙◌, inl, inr, ◌⊎◌}
 use Rattle.regalloc2_names.specs.declared.OperandPos.{OperandPos}
 use Rattle.regalloc2_names.specs.declared.OperandPos.TheVariants.{Early, Late}
@@ -15,7 +15,7 @@ place_apart : (b : Bool) (p q : Place) → is_place p q ≡ b → p ≢ q → b 
 place_apart true p q e h = absurd (h (is_place-true p q e))
 place_apart false p q e h = refl
 
--- two different places aren't
+-- different places aren't accepted
 pub is_place-other : (p q : Place) → p ≢ q → is_place p q ≡ false
 is_place-other p q h = place_apart (is_place p q) p q refl h
 
@@ -35,7 +35,7 @@ vreg_apart : (b : Bool) (v w : VirtualRegister) → is_vreg v w ≡ b → v ≢ 
 vreg_apart true v w e h = absurd (h (is_vreg-true v w e))
 vreg_apart false v w e h = refl
 
--- two different vregs aren't accepted
+-- different vregs aren't accepted
 pub is_vreg-other : (v w : VirtualRegister) → v ≢ w → is_vreg v w ≡ false
 is_vreg-other v w h = vreg_apart (is_vreg v w) v w refl h
 

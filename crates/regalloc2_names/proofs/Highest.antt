@@ -26,7 +26,7 @@ top_bit w j low high =
     let e : w / 2 ^ j ≡ 1 = rw whole at q in
     rw e refl
 
--- the place of the highest bit
+-- the index of the highest bit
 pub top_at : (w : ℕ) → 0 < w → w < 2 ^ 64 → (bit_at w (63 - count_leading_zeros 64 w) ≡ 1) × ((n : ℕ) → 63 - count_leading_zeros 64 w < n → bit_at w n ≡ 0)
 top_at w some fits =
     let (j, sums, low, high) = leading_top 64 w some fits in

@@ -8,14 +8,14 @@ use Rattle.regalloc2_names.specs.declared.OperandPos.{OperandPos}
 use Rattle.regalloc2_names.specs.declared.OperandPos.TheVariants.{Early, Late}
 use Rattle.regalloc2_names.specs.Register.{Register, VirtualRegister}
 
--- what an instruction does with a virtual register
+-- what an instruction does with a virtual register (vreg)
 pub record OperandValue : Type 0 where
   pub vreg : VirtualRegister
   pub constraint : OperandConstraint
   pub kind : OperandKind
   pub position : OperandPos
 
--- the register that a constraint asks for by name
+-- the fixed register of a constraint, if it has one
 abbrev pub fixed_register : OperandConstraint → Option Register
 fixed_register Any = None
 fixed_register Reg = None
@@ -24,7 +24,7 @@ fixed_register (FixedReg r) = Some r
 fixed_register (Reuse i) = None
 fixed_register (Limit n) = None
 
--- the register of an operand that names one and no virtual register, which the greatest number marks
+-- the fixed register of an operand without a vreg, which the greatest number marks
 abbrev pub nonallocatable_register : OperandValue → Option Register
 nonallocatable_register o = if nat_eq o.vreg.number 1073741823 then fixed_register o.constraint else None
 
@@ -38,14 +38,14 @@ abbrev pub is_late : OperandPos → Bool
 is_late Early = false
 is_late Late = true
 
--- two names of one position
+-- the positions are equal
 abbrev pub is_position : OperandPos → OperandPos → Bool
 is_position Early Early = true
 is_position Early Late = false
 is_position Late Early = false
 is_position Late Late = true
 
--- it asks for a register by name
+-- it requires a fixed register
 abbrev pub is_fixed : OperandConstraint → Bool
 is_fixed Any = false
 is_fixed Reg = false
@@ -54,14 +54,14 @@ is_fixed (FixedReg r) = true
 is_fixed (Reuse n) = false
 is_fixed (Limit n) = false
 
--- the operand names a register that is not allocated, and no virtual register
+-- the operand has a fixed register, and the number that marks no vreg
 abbrev pub is_fixed_nonallocatable : OperandValue → Bool
 is_fixed_nonallocatable o = is_fixed o.constraint && nat_eq o.vreg.number 1073741823
 
--- the operand reads its virtual register
+-- the operand reads its vreg
 abbrev pub is_reading : OperandValue → Bool
 is_reading o = not (is_def o.kind) && not (is_fixed_nonallocatable o)
 
--- and does so at that position
+-- and reads it at that position
 abbrev pub reads_at : OperandPos → OperandValue → Bool
 reads_at position o = is_reading o && is_position position o.position

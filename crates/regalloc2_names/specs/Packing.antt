@@ -1,4 +1,4 @@
--- How operands are packed into bits, and the laws of all the packed names.
+-- How operands are packed into bits, and the lemmas on all packed names.
 use Rattle.std.specs.Prelude.{ℕ, true, false, ◌≡◌, ◌<◌, ◌≤◌, ◌+◌, ◌-◌, ◌*◌, ◌/◌, ◌%◌, ◌^◌, ◌⊎◌, zero, suc, refl, nat_eq, nat_lt, if◌then◌else◌, IsTrue}
 use Rattle.std.proofs.Common.{arith}
 use Rattle.std.proofs.lemmas.Grind.{common_steps}
@@ -208,7 +208,7 @@ fields : (n k p q c : ℕ) → n < 4294967296 → k < 4 → p < 2 → q < 2 →
     (b % 4294967296 ≡ n) × (b / 4294967296 % 4 ≡ k) × (b / 17179869184 % 2 ≡ p) × (b / 34359738368 % 2 ≡ q) × (b / 68719476736 ≡ c)
 fields n k p q c hn hk hp hq = (omega arith, omega arith, omega arith, omega arith, omega arith)
 
--- an operand's word is one, and gives the operand back
+-- an operand's encoding is accepted, and decodes to the operand
 pub IsOperandBits-bits_of_operand : (o : OperandValue) → IsOperand o → IsOperandBits (bits_of_operand o)
 unfolding bits_of_operand
 IsOperandBits-bits_of_operand o h =
@@ -233,7 +233,7 @@ operand_of_bits-bits_of_operand o h =
       constraint_forth o.vreg.class o.constraint h.1,
     ) refl
 
--- what a code stands for is a constraint of the class
+-- a code decodes to a constraint of the class
 plain_is : (class : RegClass) (n : ℕ) → IsConstraintOf class (plain_constraint n)
 plain_is class zero = tt
 plain_is class (suc zero) = tt
@@ -268,7 +268,7 @@ constraint_is class c h = below_16 (cases_lt c 16)
     below_16 (inl l) = let a : nat_lt c 16 ≡ true = grind (arith, nat_tests) in rw a (plain_is class c)
     below_16 (inr l) = below_32 l (cases_lt c 32)
 
--- each word of an operand stands for one
+-- an accepted encoding decodes to an operand
 pub IsOperand-operand_of_bits : (b : ℕ) → IsOperandBits b → IsOperand (operand_of_bits b)
 unfolding operand_of_bits
 IsOperand-operand_of_bits b h = (h.0, constraint_is (class_of_code (b / 4294967296 % 4)) (b / 68719476736) h.2)

@@ -6,7 +6,7 @@ use Rattle.regalloc2_names.specs.declared.sets.PRegSet.{PRegSet}
 use Rattle.regalloc2_names.specs.Register.{Register, is_register}
 use Rattle.regalloc2_names.specs.RegisterSet.{has_register}
 
--- where a value may stand: nowhere, in a register, or in a spill slot
+-- a place: none, a register or a spill slot
 pub data Place : Type 0 where
   NoPlace : Place
   InRegister : Register → Place
@@ -43,13 +43,13 @@ is_in_slot NoPlace = false
 is_in_slot (InRegister r) = false
 is_in_slot (InSlot n) = true
 
--- a place in memory: a slot, or a register that stands for a fixed stack slot
+-- a stack place: a spill slot, or a register that names a fixed stack slot
 abbrev pub is_memory : PRegSet → Place → Bool
 is_memory fixed_stack NoPlace = false
 is_memory fixed_stack (InRegister r) = has_register fixed_stack r
 is_memory fixed_stack (InSlot n) = true
 
--- two names of one place
+-- the places are equal
 abbrev pub is_place : Place → Place → Bool
 is_place NoPlace NoPlace = true
 is_place (InRegister r) (InRegister s) = is_register r s

@@ -1,4 +1,4 @@
--- Registers and virtual registers, as contracts see them.
+-- Registers and virtual registers (vregs), as contracts see them.
 use Rattle.std.specs.Prelude.{ℕ, zero, suc, ◌<◌, Bool, ◌&&◌, nat_eq}
 use Rattle.regalloc2_names.specs.declared.RegClass.{RegClass}
 use Rattle.regalloc2_names.specs.declared.RegClass.TheVariants.{Int, Float, Vector}
@@ -20,35 +20,35 @@ pub record Register : Type 0 where
   pub number : ℕ
   pub class : RegClass
 
--- a virtual register: a number and the class of its values
+-- a vreg: a number and the class of its values
 pub record VirtualRegister : Type 0 where
   pub number : ℕ
   pub class : RegClass
 
--- two names of one register
+-- the registers are equal
 abbrev pub is_register : Register → Register → Bool
 is_register a b = nat_eq (class_code a.class) (class_code b.class) && nat_eq a.number b.number
 
--- two names of one virtual register
+-- the vregs are equal
 abbrev pub is_vreg : VirtualRegister → VirtualRegister → Bool
 is_vreg a b = nat_eq (class_code a.class) (class_code b.class) && nat_eq a.number b.number
 
--- a register that the packed form holds: 64 numbers in each of three classes
+-- a register that has an encoding: 64 numbers in each of three classes
 abbrev pub IsRegister : Register → Type 0
 IsRegister r = r.number < 64
 
--- a virtual register that the packed form holds: 30 bits of number
+-- a vreg that has an encoding: 30 bits of number
 abbrev pub IsVirtualRegister : VirtualRegister → Type 0
 IsVirtualRegister v = v.number < 1073741824
 
--- the register that stands for none where a register is wanted
+-- the register that stands for none
 abbrev pub invalid_register : Register
 invalid_register = record { number = 63; class = Int }
 
--- the virtual register that stands for none where one is wanted
+-- the vreg that stands for none
 abbrev pub invalid_vreg : VirtualRegister
 invalid_vreg = record { number = 1073741823; class = Int }
 
--- a virtual register that no list has
+-- a vreg that no list has
 abbrev pub no_vreg : VirtualRegister
 no_vreg = record { number = 0; class = Int }

@@ -1,4 +1,4 @@
--- How registers and virtual registers are packed into bits.
+-- How registers and virtual registers (vregs) are packed into bits.
 use Rattle.std.specs.Prelude.{ℕ, ◌≡◌, ◌<◌, ◌+◌, ◌*◌, ◌/◌, ◌%◌, zero, suc, refl}
 use Rattle.std.proofs.Common.{arith}
 use Rattle.regalloc2_names.specs.Register.{class_code, class_of_code, Register, VirtualRegister}
@@ -20,11 +20,11 @@ vreg_of_bits b = record { number = b / 4; class = class_of_code (b % 4) }
 abbrev pub bits_of_vreg : VirtualRegister → ℕ
 bits_of_vreg v = v.number * 4 + class_code v.class
 
--- the words of virtual registers
+-- the encodings of vregs
 abbrev pub IsVRegBits : ℕ → Type 0
 IsVRegBits b = b % 4 < 3
 
--- codes of classes go back
+-- a code of a class is that of the class it decodes to
 pub class_code-class_of_code : (n : ℕ) → n < 3 → class_code (class_of_code n) ≡ n
 class_code-class_of_code zero h = refl
 class_code-class_of_code (suc zero) h = refl

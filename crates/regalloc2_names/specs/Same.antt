@@ -1,4 +1,4 @@
--- The tests of names answer true exactly at equal ones.
+-- The tests of equality of names return true exactly for equal names.
 use Rattle.std.specs.Prelude.{ℕ, ◌≡◌, Bool, true, false, ◌&&◌, nat_eq, refl}
 use Rattle.std.proofs.Common.{ap, eqb-true, eq-eqb}
 use Rattle.regalloc2_names.specs.declared.RegClass.{RegClass}

@@ -33,7 +33,7 @@ register_text r = codes "p" ++ decimal r.number ++ class_letter r.class
 abbrev pub vreg_text : VirtualRegister → List ℕ
 vreg_text v = codes "v" ++ decimal v.number
 
--- a virtual register with its class, as v7i
+-- a virtual register (vreg) with its class, as v7i
 abbrev pub class_vreg_text : VirtualRegister → List ℕ
 class_vreg_text v = vreg_text v ++ class_letter v.class
 
@@ -112,7 +112,7 @@ point_debug_text p = codes "progpoint" ++ decimal (inst_of_point p) ++ position_
 abbrev pub site_text : ℕ → List ℕ
 site_text i = if nat_eq i 4294967295 then codes "a block's parameter" else codes "inst" ++ decimal i
 
--- what a refusal names: an edge, a virtual register with its site, a block, an instruction or nothing
+-- what an error names: an edge, a vreg with its site, a block, an instruction or nothing
 abbrev pub refusal_subject : RegAllocError → List ℕ
 refusal_subject (CritEdge a b) = codes "the edge from block" ++ decimal a ++ codes " to block" ++ decimal b
 refusal_subject (SSA v i) = class_vreg_text v ++ codes " at " ++ site_text i
@@ -126,7 +126,7 @@ refusal_subject (Unsupported i) = codes "inst" ++ decimal i
 refusal_subject TooManySpillSlots = []
 refusal_subject Memory = []
 
--- what is wrong with what a refusal names
+-- what is wrong with what an error names
 abbrev pub refusal_words : RegAllocError → List ℕ
 refusal_words (CritEdge a b) = codes " is critical"
 refusal_words (SSA v i) = codes " is defined again, past the count, or used too early"

@@ -1,4 +1,4 @@
-//! Refusals.
+//! The texts of errors.
 
 ghost use Rattle.std.specs.Prelude.{◌≡◌};
 ghost use Rattle.regalloc2_names.specs.Text.{refusal_words};
@@ -10,7 +10,8 @@ use std::alloc::{AllocError, AllocFailed};
 use std::error::Error;
 use std::fmt;
 
-/// Where a virtual register is defined or read: an instruction, or a block's parameter for `Inst::invalid()`.
+/// Where a virtual register (vreg) is defined or read: an instruction, or a block's parameter for
+/// `Inst::invalid()`.
 #[derive(Clone, Copy)]
 struct SiteText(Inst);
 
@@ -29,7 +30,7 @@ impl fmt::Display for SiteText {
     }
 }
 
-/// What a refusal names: the edge, the virtual register with its site, the block, the instruction or nothing.
+/// What an error names: the edge, the vreg with its site, the block, the instruction or nothing.
 #[derive(Clone, Copy)]
 struct SubjectText(RegAllocError);
 
@@ -58,7 +59,7 @@ impl fmt::Display for SubjectText {
     }
 }
 
-/// What is wrong with what a refusal names.
+/// What is wrong with what an error names.
 fn words_of(error: RegAllocError) -> &'static str
     ensures { result.now ≡ refusal_words error }
 {
@@ -79,7 +80,7 @@ fn words_of(error: RegAllocError) -> &'static str
     }
 }
 
-/// Says what is wrong, as `the edge from block0 to block2 is critical`.
+/// Writes what is wrong, as `the edge from block0 to block2 is critical`.
 ///
 /// Upstream: the text of `Debug`.
 impl fmt::Display for RegAllocError {

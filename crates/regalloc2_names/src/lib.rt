@@ -1,9 +1,10 @@
-//! The names that an allocator and its clients exchange: registers, virtual registers, spill slots,
-//! operands, places and points, each packed into one word, with sets of registers and the refusals.
+//! The names that an allocator and its clients exchange: registers, virtual registers (vregs),
+//! spill slots, operands, places and program points, each packed into one word, with sets of
+//! registers and the errors.
 //!
-//! The words are inside. A contract sees a name as the value that it stands for: a `Register` or a
-//! `VirtualRegister` is a number with a class, a `Place` one of three forms, an `OperandValue` a record
-//! of its parts, and a point its number in the order of points.
+//! The words are private. A contract sees a name as the value that it encodes: a `Register` or a
+//! `VirtualRegister` is a number with a class, a `Place` one of three forms, an `OperandValue` a
+//! record of its parts, and a point its number in the order of points.
 #![tactic(auto, using(crate::specs::Packing::packing))]
 
 use regalloc2_index::{Block, Inst};
@@ -25,7 +26,8 @@ pub use sets::{PRegSet, PRegSetIter};
 pub use texts::VRegText;
 pub use virtual_registers::VReg;
 
-/// The class of a value and of the registers that may hold it. Classes have separate register files.
+/// The class of a value and of the registers that may hold it. Classes have separate register
+/// files.
 #[derive(Clone, Copy, Debug, PartialEq, Eq, PartialOrd, Ord, Hash)]
 pub enum RegClass {
     Int = 0,
@@ -33,7 +35,7 @@ pub enum RegClass {
     Vector = 2,
 }
 
-/// What an operand asks of the place that it is given.
+/// What an operand requires of its place.
 #[derive(Clone, Copy, Debug, PartialEq, Eq)]
 pub enum OperandConstraint {
     /// Any register or stack place.
@@ -58,10 +60,10 @@ pub enum OperandConstraint {
 /// What an instruction does with an operand.
 #[derive(Clone, Copy, Debug, PartialEq, Eq)]
 pub enum OperandKind {
-    /// It writes the virtual register.
+    /// It writes the vreg.
     Def = 0,
 
-    /// It reads the virtual register.
+    /// It reads the vreg.
     Use = 1,
 }
 
@@ -90,40 +92,41 @@ pub enum InstPosition {
     After = 1,
 }
 
-/// Why a function is refused.
+/// Why a function is rejected, or why its allocation fails.
 #[derive(Clone, Copy, Debug, PartialEq, Eq)]
 pub enum RegAllocError {
-    /// The edge from the first block to the second one is critical: the first has several successors, and
-    /// the second is entered in several ways.
+    /// The edge from the first block to the second is critical: the first has several successors,
+    /// and the second several incoming edges (the function's start counts as one).
     CritEdge(Block, Block),
 
-    /// The virtual register is defined twice or too late, or read before it is defined, at that instruction.
+    /// The vreg is defined twice or too late, or read before it is defined, at that instruction.
     SSA(VReg, Inst),
 
-    /// The block is out of range, or badly begun, ended or linked.
+    /// The block is out of range, the entry but not block 0, or wrong in its range, its terminators
+    /// or its predecessors.
     BB(Block),
 
-    /// The branch gives a successor other arguments than that has parameters.
+    /// The branch passes a successor arguments that don't fit its parameters.
     Branch(Inst),
 
     /// The entry block has parameters.
     EntryLivein,
 
-    /// The branch has operands of its own, and leads to a block that is entered in several ways.
+    /// The branch has operands, and leads to a block with several incoming edges.
     DisallowedBranchArg(Inst),
 
-    /// An instruction asks for more registers than there are.
+    /// An instruction needs more registers than there are.
     TooManyLiveRegs,
 
     /// The function has 2^32 operands or more.
     TooManyOperands,
 
-    /// The instruction has an operand of a form that isn't taken.
+    /// The instruction has an operand of an unsupported form.
     Unsupported(Inst),
 
     /// A spill slot would have a number past `SpillSlot::MAX`.
     TooManySpillSlots,
 
-    /// Memory was refused.
+    /// A memory allocation failed.
     Memory,
 }

@@ -8,11 +8,11 @@ use super::registers::CLASSES;
 use super::{OperandConstraint, OperandKind, OperandPos, PReg, RegClass, VReg};
 use std::marker::Model;
 
-/// An operand of an instruction: the virtual register that it reads or writes, when, and what it asks of the
-/// place that it is given.
+/// An operand of an instruction: the virtual register (vreg) that it reads or writes, when, and
+/// what it requires of its place.
 ///
-/// Packed into 64 bits: the number in bits 0 to 31, the class in 32 and 33, the position in 34, the kind in
-/// 35, and the constraint's code from 36 on.
+/// Packed into 64 bits: the number in bits 0 to 31, the class in 32 and 33, the position in 34, the
+/// kind in 35, and the constraint's code from 36 on.
 #[derive(Clone, Copy, PartialEq, Eq, PartialOrd, Ord, Hash)]
 pub struct Operand {
     bits: u64,
@@ -62,8 +62,8 @@ fn constraint_field(class: RegClass, constraint: OperandConstraint) -> u64
 }
 
 impl Operand {
-    /// The operand with those parts. A fixed register is of the virtual register's class, the index of a
-    /// reuse at most 31, a limit a power of two up to 64.
+    /// The operand with those parts. A fixed register is of the vreg's class, the index of a reuse
+    /// at most 31, a limit a power of two up to 64.
     pub fn new(
         vreg: VReg,
         constraint: OperandConstraint,
@@ -112,7 +112,8 @@ impl Operand {
         Operand::in_reg(vreg, OperandKind::Use, OperandPos::Early)
     }
 
-    /// A use in a register, at the end of the instruction, which clobbers and definitions leave alone.
+    /// A use in a register, at the end of the instruction, which clobbers and definitions leave
+    /// alone.
     pub fn reg_use_at_end(vreg: VReg) -> Self
         ensures { result ≡ record { vreg = vreg; constraint = OperandConstraint.Reg; kind = OperandKind.Use; position = OperandPos.Late } }
     {
@@ -133,14 +134,15 @@ impl Operand {
         Operand::in_reg(vreg, OperandKind::Def, OperandPos::Early)
     }
 
-    /// A register that the instruction may write all through: a definition at its beginning.
+    /// A register that the instruction may write at any time: a definition at its beginning.
     pub fn reg_temp(vreg: VReg) -> Self
         ensures { result ≡ record { vreg = vreg; constraint = OperandConstraint.Reg; kind = OperandKind.Def; position = OperandPos.Early } }
     {
         Operand::reg_def_at_start(vreg)
     }
 
-    /// A definition at the end of the instruction in the register of the use with that index, at most 31.
+    /// A definition at the end of the instruction in the register of the use with that index, at
+    /// most 31.
     pub fn reg_reuse_def(vreg: VReg, idx: usize) -> Self
         requires { idx < 32 }
         ensures { result ≡ record { vreg = vreg; constraint = OperandConstraint.Reuse idx; kind = OperandKind.Def; position = OperandPos.Late } }
@@ -153,7 +155,8 @@ impl Operand {
         )
     }
 
-    /// A use in that register, which is of the class of `vreg`, at the beginning of the instruction.
+    /// A use in that register, which is of the class of `vreg`, at the beginning of the
+    /// instruction.
     pub fn reg_fixed_use(vreg: VReg, preg: PReg) -> Self
         requires { preg.class ≡ vreg.class }
         ensures { result ≡ record { vreg = vreg; constraint = OperandConstraint.FixedReg preg; kind = OperandKind.Use; position = OperandPos.Early } }
@@ -169,7 +172,8 @@ impl Operand {
         Operand::in_that_reg(vreg, preg, OperandKind::Use, OperandPos::Late)
     }
 
-    /// A definition in that register, which is of the class of `vreg`, at the end of the instruction.
+    /// A definition in that register, which is of the class of `vreg`, at the end of the
+    /// instruction.
     pub fn reg_fixed_def(vreg: VReg, preg: PReg) -> Self
         requires { preg.class ≡ vreg.class }
         ensures { result ≡ record { vreg = vreg; constraint = OperandConstraint.FixedReg preg; kind = OperandKind.Def; position = OperandPos.Late } }
@@ -177,7 +181,8 @@ impl Operand {
         Operand::in_that_reg(vreg, preg, OperandKind::Def, OperandPos::Late)
     }
 
-    /// A definition in that register, which is of the class of `vreg`, at the beginning of the instruction.
+    /// A definition in that register, which is of the class of `vreg`, at the beginning of the
+    /// instruction.
     pub fn reg_fixed_def_at_start(vreg: VReg, preg: PReg) -> Self
         requires { preg.class ≡ vreg.class }
         ensures { result ≡ record { vreg = vreg; constraint = OperandConstraint.FixedReg preg; kind = OperandKind.Def; position = OperandPos.Early } }
@@ -199,8 +204,8 @@ impl Operand {
         Operand::anywhere(vreg, OperandKind::Def, OperandPos::Late)
     }
 
-    /// A use of that register, which need not be one that may be allocated. It reads no virtual register, which
-    /// the number `VReg::MAX` marks.
+    /// A use of that register, which needn't be allocatable. It reads no vreg: its number is
+    /// `VReg::MAX`.
     pub fn fixed_nonallocatable(preg: PReg) -> Self
         ensures operand { result ≡ record {
           vreg = record { number = VReg.MAX; class = preg.class };
@@ -218,7 +223,7 @@ impl Operand {
         )
     }
 
-    /// The class of the virtual register.
+    /// The class of the vreg.
     #[tactic(auto, unfolding(crate::specs::Packing::operand_of_bits))]
     pub fn class(self) -> RegClass
         ensures { result ≡ self.vreg.class }
@@ -226,7 +231,7 @@ impl Operand {
         CLASSES[((self.bits >> 32) & 3) as usize]
     }
 
-    /// The virtual register.
+    /// The vreg.
     #[tactic(auto, unfolding(crate::specs::Packing::operand_of_bits))]
     pub fn vreg(self) -> VReg
         ensures { result ≡ self.vreg }
@@ -259,7 +264,7 @@ impl Operand {
         }
     }
 
-    /// What the operand asks of its place.
+    /// What the operand requires of its place.
     #[tactic(auto, unfolding(crate::specs::Packing::operand_of_bits))]
     pub fn constraint(self) -> OperandConstraint
         ensures constraint { result ≡ self.constraint }
@@ -283,7 +288,7 @@ impl Operand {
         }
     }
 
-    /// Whether the operand may be in any register, which most may.
+    /// Whether the operand may be in any register, the most frequent constraint.
     #[tactic(auto, unfolding(crate::specs::Packing::operand_of_bits))]
     pub fn is_any_reg(self) -> bool
         ensures { IsTrue result ↔ (self.constraint ≡ OperandConstraint.Reg) }
@@ -291,8 +296,8 @@ impl Operand {
         self.bits >> 36 == 1
     }
 
-    /// The fixed register of an operand that names no virtual register, which the number `VReg::MAX` marks.
-    /// Such a use reads nothing, and its register need not be one that may be allocated.
+    /// The fixed register of an operand that names no vreg, marked by the number `VReg::MAX`. The
+    /// operand reads nothing, and its register needn't be allocatable.
     pub fn as_fixed_nonallocatable(self) -> Option<PReg>
         ensures { result ≡ nonallocatable_register self }
     {
@@ -302,14 +307,14 @@ impl Operand {
         }
     }
 
-    /// Whether the operand writes its virtual register.
+    /// Whether the operand writes its vreg.
     pub fn is_def(self) -> bool
         ensures { result ≡ is_def self.kind }
     {
         self.kind() == OperandKind::Def
     }
 
-    /// Whether the operand reads its virtual register. A use does, but for one that names a register that isn't
+    /// Whether the operand reads its vreg. Every use does, except one whose register isn't
     /// allocated (`as_fixed_nonallocatable`).
     pub fn is_reading(self) -> bool
         ensures { result ≡ is_reading self }
@@ -317,7 +322,7 @@ impl Operand {
         if self.kind() != OperandKind::Use {
             return false;
         }
-        // the number is asked first, since it is the greatest in hardly any operand
+        // the number is tested first: it is the greatest in hardly any operand
         self.vreg().vreg() != VReg::MAX
             || !matches!(self.constraint(), OperandConstraint::FixedReg(_))
     }
@@ -337,14 +342,14 @@ impl Operand {
         self.pos() == pos
     }
 
-    /// Whether the operand reads its virtual register at that position.
+    /// Whether the operand reads its vreg at that position.
     pub fn reads_at(self, pos: OperandPos) -> bool
         ensures { result ≡ reads_at pos self }
     {
         self.is_reading() && self.is_at(pos)
     }
 
-    /// The word that holds the operand, and gives it back.
+    /// The operand's encoding, which `from_bits` decodes.
     pub fn bits(self) -> u64
         ensures bits { result ≡ bits_of_operand self }
         ensures word { IsOperandBits result }
@@ -354,7 +359,7 @@ impl Operand {
         bits
     }
 
-    /// Whether a word is that of an operand.
+    /// Whether the bits encode an operand.
     pub fn is_bits(bits: u64) -> bool
         ensures { IsTrue result ↔ IsOperandBits bits }
     {
@@ -363,7 +368,7 @@ impl Operand {
         bits & 0xffff_ffff < 1 << 30 && (bits >> 32) & 0b11 != 0b11 && is_code
     }
 
-    /// The operand of that word, which `is_bits` accepts.
+    /// The operand that the bits encode; `is_bits` accepts them.
     pub fn from_bits(bits: u64) -> Self
         requires { IsOperandBits bits }
         ensures operand { result ≡ operand_of_bits bits }

@@ -1,4 +1,4 @@
-//! Places: spill slots, and what an operand is given.
+//! Places: spill slots, and the places of operands.
 
 ghost use Rattle.std.specs.Prelude.{None, Some, false, ◌≡◌, ℕ, ◌+◌, ◌%◌, ◌<◌, ◌≤◌, ◌↔◌, IsTrue};
 ghost use Rattle.regalloc2_names.specs.PlaceBits.{IsPlaceBits, bits_of_place, index_of_place, place_of_bits};
@@ -8,7 +8,8 @@ ghost use Rattle.regalloc2_names.specs.Place.{kind_of_place, register_of_place, 
 use super::{AllocationKind, PReg, PRegSet};
 use std::marker::Model;
 
-/// A spill slot, which a contract sees as its number: at most `SpillSlot::MAX`, or that of the invalid slot.
+/// A spill slot, which a contract sees as its number: at most `SpillSlot::MAX`, or that of the
+/// invalid slot.
 #[derive(Clone, Copy, Debug, PartialEq, Eq, PartialOrd, Ord, Hash)]
 pub struct SpillSlot {
     bits: u32,
@@ -39,7 +40,7 @@ impl SpillSlot {
         SpillSlot { bits: slot as u32 }
     }
 
-    /// The number of the slot: its lower 24 bits, so that of the invalid slot is the greatest.
+    /// The number of the slot, its lower 24 bits: the greatest number for the invalid slot.
     pub fn index(self) -> usize
         ensures low { result ≡ self % 16777216 }
         ensures number { self ≤ SpillSlot.MAX → result ≡ self }
@@ -48,7 +49,7 @@ impl SpillSlot {
         (self.bits & 0x00ff_ffff) as usize
     }
 
-    /// The slot so many numbers further on.
+    /// The slot `offset` numbers further on.
     pub fn plus(self, offset: usize) -> Self
         requires { self + offset ≤ SpillSlot.MAX }
         ensures { result ≡ self + offset }
@@ -80,7 +81,8 @@ impl SpillSlot {
 
 /// A place: none, a register or a spill slot.
 ///
-/// Packed into 32 bits, the form in the top three, the register's or the slot's index in the lower 28.
+/// Packed into 32 bits, the form in the top three, the register's or the slot's index in the lower
+/// 28.
 #[derive(Clone, Copy, PartialEq, Eq, PartialOrd, Ord, Hash)]
 pub struct Allocation {
     bits: u32,
@@ -156,7 +158,7 @@ impl Allocation {
         self.kind() != AllocationKind::None
     }
 
-    /// Whether both are one place.
+    /// Whether the places are equal.
     pub fn is_same(self, other: Allocation) -> bool
         ensures test { result ≡ is_place self other }
         ensures same { IsTrue result ↔ (self ≡ other) }
@@ -178,7 +180,8 @@ impl Allocation {
         self.kind() == AllocationKind::Stack
     }
 
-    /// Whether it is in memory: a spill slot, or one of the registers that stand for fixed stack slots.
+    /// Whether it is a stack place: a spill slot, or one of the registers that name fixed stack
+    /// slots.
     pub fn is_memory(self, fixed_stack: PRegSet) -> bool
         ensures { result ≡ is_memory fixed_stack self }
     {
@@ -188,14 +191,14 @@ impl Allocation {
         }
     }
 
-    /// The index of the register or the number of the slot; 0 where there is no place.
+    /// The index of the register or the number of the slot; 0 if there is no place.
     pub fn index(self) -> usize
         ensures { result ≡ index_of_place self }
     {
         (self.bits & 0x0fff_ffff) as usize
     }
 
-    /// The register, where it is one.
+    /// The register, if it is one.
     pub fn as_reg(self) -> Option<PReg>
         ensures { result ≡ register_of_place self }
     {
@@ -206,7 +209,7 @@ impl Allocation {
         }
     }
 
-    /// The spill slot, where it is one.
+    /// The spill slot, if it is one.
     pub fn as_stack(self) -> Option<SpillSlot>
         ensures { result ≡ slot_of_place self }
     {
@@ -219,7 +222,7 @@ impl Allocation {
         }
     }
 
-    /// The word that holds the place, and gives it back.
+    /// The place's encoding, which `from_bits` decodes.
     pub fn bits(self) -> u32
         ensures bits { result ≡ bits_of_place self }
         ensures word { IsPlaceBits result }
@@ -229,7 +232,7 @@ impl Allocation {
         bits
     }
 
-    /// Whether a word is that of a place.
+    /// Whether the bits encode a place.
     pub fn is_bits(bits: u32) -> bool
         ensures { IsTrue result ↔ IsPlaceBits bits }
     {
@@ -242,7 +245,7 @@ impl Allocation {
         }
     }
 
-    /// The place of that word, which `is_bits` accepts.
+    /// The place that the bits encode; `is_bits` accepts them.
     pub fn from_bits(bits: u32) -> Self
         requires { IsPlaceBits bits }
         ensures place { result ≡ place_of_bits bits }
@@ -252,7 +255,7 @@ impl Allocation {
     }
 }
 
-/// No place, with which short lists of places fill what they do not use.
+/// No place, which fills the unused entries of short lists of places.
 impl Default for Allocation {
     ghost use Rattle.std.specs.Prelude.{◌≡◌};
     ghost use Rattle.regalloc2_names.specs.Place.{NoPlace};

@@ -1,4 +1,4 @@
-//! Points before and after instructions.
+//! Program points, before and after instructions.
 
 ghost use Rattle.std.specs.Prelude.{◌≡◌, ◌≢◌, ℕ, ◌+◌, ◌-◌, ◌<◌, ◌↔◌, IsTrue};
 ghost use Rattle.regalloc2_names.specs.Point.{IsPointNumber, after, before, inst_limit, inst_of_point, invalid_inst, invalid_point, point_at, position_of_point};
@@ -7,10 +7,11 @@ use super::InstPosition;
 use regalloc2_index::Inst;
 use std::marker::Model;
 
-/// A point before or after an instruction, which a contract sees as its number in the order of points.
+/// A program point, before or after an instruction. A contract sees it as its number in the order
+/// of points.
 ///
-/// That number is twice the instruction's, and one more for the point after it. `Inst::invalid()` has the
-/// two points past all others.
+/// That number is twice the instruction's, and one more for the point after it. `Inst::invalid()`
+/// has the two points past all others.
 #[derive(Clone, Copy, PartialEq, Eq, PartialOrd, Ord, Hash)]
 pub struct ProgPoint {
     bits: u32,
@@ -30,7 +31,8 @@ impl Model for ProgPoint {
 }
 
 impl ProgPoint {
-    /// The point at that position of that instruction, whose number is below `inst_limit`, 2^30, or that of `Inst::invalid()`.
+    /// The point at that position of that instruction, whose number is below `inst_limit`, 2^30, or
+    /// that of `Inst::invalid()`.
     pub fn new(inst: Inst, pos: InstPosition) -> Self
         requires { inst ≢ invalid_inst → inst < inst_limit }
         ensures point { inst ≢ invalid_inst → result ≡ point_at inst pos }
@@ -110,7 +112,8 @@ impl ProgPoint {
         ProgPoint { bits: index }
     }
 
-    /// The next point, where there is one: after an instruction comes what is before the next.
+    /// The next point, if there is one: the point before the next instruction follows the point
+    /// after this one.
     pub fn next(self) -> Self
         requires { IsPointNumber (self + 1) }
         ensures { result ≡ self + 1 }
@@ -120,7 +123,7 @@ impl ProgPoint {
         }
     }
 
-    /// The point before, where there is one.
+    /// The previous point, if there is one.
     pub fn prev(self) -> Self
         requires not_first { 0 < self }
         requires point { IsPointNumber (self - 1) }

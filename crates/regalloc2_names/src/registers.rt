@@ -7,7 +7,7 @@ ghost use Rattle.regalloc2_names.specs.Register.{IsRegister, class_code, invalid
 use super::RegClass;
 use std::marker::Model;
 
-/// The classes by their code. A class is looked up here where its code is known, which takes one step and no test.
+/// The classes by their code. Looking up a class by its code takes one step and no test.
 pub static CLASSES: [RegClass; 3] = [RegClass::Int, RegClass::Float, RegClass::Vector];
 
 impl RegClass {
@@ -22,7 +22,8 @@ impl RegClass {
 
 /// A hardware register: a number from 0 to 63 in the register file of a class.
 ///
-/// Packed into one byte, the class in the top two bits, which is also its index among all registers.
+/// Packed into one byte, the class in the top two bits, which is also its index among all
+/// registers.
 #[derive(Clone, Copy, PartialEq, Eq, PartialOrd, Ord, Hash)]
 pub struct PReg {
     bits: u8,
@@ -52,7 +53,7 @@ impl PReg {
     /// The greatest hardware number.
     pub const MAX: usize = 63;
 
-    /// How many numbers an index may have, the unused ones of a fourth class among them.
+    /// The number of indexes, including the unused ones of a fourth class.
     pub const NUM_INDEX: usize = 256;
 
     /// The index of the invalid register.
@@ -83,7 +84,7 @@ impl PReg {
         CLASSES[(self.bits >> 6) as usize]
     }
 
-    /// The place among all registers: those of the class `Int` first, then `Float`, then `Vector`.
+    /// The index among all registers: those of the class `Int` first, then `Float`, then `Vector`.
     pub const fn index(self) -> usize
         ensures index { result ≡ bits_of_register self }
         ensures small { result < 192 }

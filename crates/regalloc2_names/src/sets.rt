@@ -55,7 +55,7 @@ impl PRegSet {
         self.bits[index] |= 1 << bit;
     }
 
-    /// The set and that register.
+    /// The set with that register added.
     pub const fn with(self, reg: PReg) -> Self
         ensures members { (r : Register) → has_register result r ≡ is_register reg r || has_register self r }
         ensures in_range { reg.number ≤ PReg.MAX }
@@ -65,7 +65,7 @@ impl PRegSet {
         out
     }
 
-    /// Takes the register out of the set.
+    /// Removes the register from the set.
     pub fn remove(&mut self, reg: PReg)
         ensures members { (r : Register) → has_register self.new r ≡ not (is_register reg r) && has_register self.old r }
         ensures in_range { reg.number ≤ PReg.MAX }
@@ -83,7 +83,7 @@ impl PRegSet {
         self.bits = [a | d, b | e, c | f];
     }
 
-    /// Takes out what isn't in the other set.
+    /// Removes the registers that aren't in the other set.
     pub fn intersect_from(&mut self, other: PRegSet)
         ensures { (r : Register) → has_register self.new r ≡ has_register self.old r && has_register other r }
     {
@@ -148,7 +148,7 @@ impl PRegSet {
     }
 }
 
-/// Which is the highest bit of a word that isn't 0.
+/// The index of the highest bit set in a word that isn't 0.
 fn highest_bit(word: u64) -> usize
     requires { word ≢ 0 }
     ensures small { result < 64 }
@@ -202,7 +202,7 @@ impl BitOr<PRegSet> for PRegSet {
     }
 }
 
-/// The registers of a set that are left, by rising index.
+/// The remaining registers of a set, by rising index.
 #[derive(Debug, Drop)]
 pub struct PRegSetIter {
     int: u64,
@@ -221,7 +221,7 @@ impl Model for PRegSetIter {
     ghost view = { λ it. registers_of_words it.int it.float it.vector };
 }
 
-/// Takes the lowest bit out of a word, and says which it was.
+/// Clears the lowest bit set in a word, and returns its index.
 fn take_lowest(word: &mut u64) -> usize
     requires { word.old ≢ 0 }
     ensures taken { (class : RegClass) → word_members class 0 64 word.old ≡ record { number = result; class = class } ∷ word_members class 0 64 word.new }

@@ -11,7 +11,7 @@ use super::{
 };
 use std::fmt;
 
-/// The letter that stands for a class behind a number.
+/// The letter of a class, written after a number.
 fn class_letter(class: RegClass) -> &'static str
     ensures { result.now ≡ class_letter class }
 {
@@ -22,7 +22,7 @@ fn class_letter(class: RegClass) -> &'static str
     }
 }
 
-/// A definition or a use, with the position where that isn't the usual one.
+/// A definition or a use, with the position if it isn't the usual one.
 fn kind_name(kind: OperandKind, pos: OperandPos) -> &'static str
     ensures { result.now ≡ kind_text kind pos }
 {
@@ -79,7 +79,7 @@ impl fmt::Display for SpillSlot {
     }
 }
 
-/// `none`, or as the register or the slot.
+/// `none`, or the text of the register or the slot.
 impl fmt::Display for Allocation {
     ghost output = { λ a. Some (place_text a) };
 
@@ -114,7 +114,7 @@ impl fmt::Display for OperandConstraint {
     }
 }
 
-/// As `Use: v0i reg`, or `Fixed: p63i` where it names no virtual register.
+/// As `Use: v0i reg`, or `Fixed: p63i` if it names no vreg.
 impl fmt::Display for Operand {
     ghost output = { λ o. Some (operand_text o) };
 

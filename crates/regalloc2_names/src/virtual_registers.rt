@@ -8,7 +8,7 @@ use super::RegClass;
 use super::registers::CLASSES;
 use std::marker::Model;
 
-/// A virtual register: a number below 2^30 and the class of its values.
+/// A virtual register (vreg): a number below 2^30 and the class of its values.
 ///
 /// Packed into 32 bits, the class in the lower two.
 #[derive(Clone, Copy, PartialEq, Eq, PartialOrd, Ord, Hash)]
@@ -40,7 +40,7 @@ impl VReg {
     /// The greatest number.
     pub const MAX: usize = (1 << 30) - 1;
 
-    /// The virtual register with that number and class.
+    /// The vreg with that number and class.
     pub const fn new(virt_reg: usize, class: RegClass) -> Self
         requires { virt_reg ≤ VReg.MAX }
         ensures { result ≡ record { number = virt_reg; class = class } }
@@ -65,14 +65,14 @@ impl VReg {
         CLASSES[(self.bits & 3) as usize]
     }
 
-    /// The virtual register that stands for none: the greatest number, of the class `Int`.
+    /// The vreg that stands for none: the greatest number, of the class `Int`.
     pub const fn invalid() -> Self
         ensures { result ≡ invalid_vreg }
     {
         VReg::new(Self::MAX, RegClass::Int)
     }
 
-    /// The word that holds the number and, in the lower two bits, the class; it gives the virtual register back.
+    /// The encoding of the number and, in the lower two bits, the class; `from_bits` decodes it.
     pub const fn bits(self) -> usize
         ensures bits { result ≡ bits_of_vreg self }
         ensures word { IsVRegBits result }
@@ -83,14 +83,14 @@ impl VReg {
         self.bits as usize
     }
 
-    /// Whether a word is that of a virtual register.
+    /// Whether the bits encode a vreg.
     pub fn is_bits(bits: u32) -> bool
         ensures { IsTrue result ↔ IsVRegBits bits }
     {
         bits & 0b11 != 0b11
     }
 
-    /// The virtual register of that word, which `is_bits` accepts.
+    /// The vreg that the bits encode; `is_bits` accepts them.
     pub const fn from_bits(bits: u32) -> Self
         requires { IsVRegBits bits }
         ensures vreg { result ≡ vreg_of_bits bits }

@@ -57,7 +57,7 @@ leaves-same succs t {s = s} e (enter {b = b} {inner = inner} m i r) =
     enter (sym (e b) ∙ m) (leaves-same succs (b ∷ t) (λ x. ap (λ v. nat_eq b x || v) (e x)) i)
     (leaves-same succs (inner ++ b ∷ t) (same-append inner (b ∷ s) (b ∷ t) (λ x. ap (λ v. nat_eq b x || v) (e x))) r)
 
--- how a walk with this stack, the newest block first, goes on: it leaves these blocks
+-- how a walk with this stack, the last entered block first, goes on: it leaves these blocks
 unfoldable pub Finish : (ℕ → List ℕ) → List ℕ → List Frame → List ℕ → Type 0
 Finish succs seen [] rest = rest ≡ []
 Finish succs seen (f ∷ fs) rest =
@@ -221,7 +221,7 @@ walked_start succs num entry vs ws fs out e less w f o =
       goes = λ rest h. finish_start succs entry rest h;
     })
 
--- a walk stands at the block f on top of its stack, over the popped ones; xs are the block's successors
+-- a walk is at the block f on top of its stack, over the popped ones; xs are the block's successors
 pub record StandsAt (succs : ℕ → List ℕ) (num entry : ℕ) (vs : List Bool) (out : List ℕ) (before popped : List Frame) (f : Frame) (xs : List ℕ) : Type 0 where
   pub top : before ≡ popped ++ f ∷ []
   pub is : xs ≡ succs f.block

@@ -34,7 +34,7 @@ shape_refused f shape (unlisted b blocks follow h) = h.1 (shape.predecessors b h
 shape_refused f shape (critical b p blocks follow agree h fork) = h.1 (shape.no_critical_edge b h.0)
 shape_refused f shape (operands b blocks follow agree edges h) = h.1 (shape.no_operands_into_joins b h.0)
 
--- a fault of definitions is one of soundness, where the tests before pass
+-- an error of definitions is one of soundness, if the tests before pass
 pub definition_fault : (f : FunctionValue) → EntryIsFirst f → BlocksEnd f → ArgumentsFit f → (e : RegAllocError) → IsDefinitionFault f e → (e ≡ Memory)
     ⊎ IsSoundnessFault f e
 definition_fault f entry end fit Memory h = inl refl

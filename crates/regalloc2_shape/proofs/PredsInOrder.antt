@@ -113,7 +113,7 @@ next_met f b i s c order here less is within long =
     is_next (ways_of_first f b s) rest (block_at f s).preds (times_in s (take i succs)) (times_in s succs) c b (omega (arith, more, le))
     (order s within ∙ numbers_split h 0 (length f.blocks) b here ∙ ap (λ m. (ways_of_first f b s ++ h m) ++ rest) o) long
 
--- how often a block is among the ways of the first
+-- how often a block is among the first blocks that lead to n
 times_first : (f : FunctionValue) (b n p : ℕ) → (p < b → times_in p (ways_of_first f b n) ≡ times_in n (block_at f p).succs)
     × (b ≤ p → times_in p (ways_of_first f b n) ≡ 0)
 times_first f zero n p = (λ less. absurd (omega arith), λ past. refl)

@@ -15,7 +15,7 @@ pub data Leaves (succs : ℕ → List ℕ) : List ℕ → List ℕ → List ℕ 
   enter : {seen : List ℕ} {b : ℕ} {bs inner rest : List ℕ} → met seen b ≡ false → Leaves succs (b ∷ seen) (succs b) inner →
       Leaves succs (inner ++ b ∷ seen) bs rest → Leaves succs seen (b ∷ bs) (inner ++ b ∷ rest)
 
--- some way leads from a block to another
+-- some path leads from a block to another
 pub data Reaches (succs : ℕ → List ℕ) (entry : ℕ) : ℕ → Type 0 where
   here : Reaches succs entry entry
   onward : {b : ℕ} (s : ℕ) → Reaches succs entry b → met (succs b) s ≡ true → Reaches succs entry s

@@ -1,9 +1,9 @@
--- What a closure answers for blocks.
+-- What a closure returns for blocks.
 use Rattle.std.specs.Prelude.{ℕ, ◌≡◌, ◌<◌, List, ◌∷◌, All, flat_map}
 use Rattle.std.specs.Borrow.{Bor}
 use Rattle.regalloc2_index.specs.Range.{numbers_from}
 
--- the successors of so many blocks, which is what the closure answers for each, whenever it is asked
+-- the successors of so many blocks, which the closure returns for each at every call
 abbrev pub AreSuccessors : (ℕ → Bor (List ℕ) → Type 0) → ℕ → (ℕ → List ℕ) → Type 0
 AreSuccessors answers num succs = (b : ℕ) (r : Bor (List ℕ)) → b < num → answers b r → r.now ≡ succs b
 

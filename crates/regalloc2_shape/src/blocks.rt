@@ -15,7 +15,7 @@ use regalloc2_index::{Block, Inst};
 use regalloc2_names::RegAllocError;
 use std::alloc::{AllocError, Allocator};
 
-// The first of these blocks that is none of so many.
+// The first of these blocks whose number isn't below `num_blocks`.
 pub fn first_outside(num_blocks: usize, blocks: &[Block]) -> Option<Block>
     ensures none { IfNone result (All (λ s. s < num_blocks) blocks.now) }
     ensures first { IfSome result (IsFirstIn (λ s. s < num_blocks) blocks.now) }
@@ -46,7 +46,7 @@ pub fn test_successors<F: Function>(f: &F) -> Result<(), RegAllocError>
     Ok(())
 }
 
-// Adds a block to the lists of those that it may go on to, once for each position.
+// Adds a block to the predecessor lists of its successors, once for each position.
 fn add_ways<A: Allocator + Copy>(
     ways: &mut [Vec<Block, A>],
     succs: &[Block],
@@ -62,7 +62,7 @@ fn add_ways<A: Allocator + Copy>(
     Ok(())
 }
 
-// So many empty lists.
+// `num` empty lists.
 fn no_ways<A: Allocator + Copy>(alloc: A, num: usize) -> Result<Vec<Vec<Block, A>, A>, AllocError>
     ensures len { IfOk result (λ w. length w.items ≡ num) }
     ensures none { IfOk result (λ w. (n : ℕ) → listed_of w.items n ≡ []) }
@@ -74,7 +74,7 @@ fn no_ways<A: Allocator + Copy>(alloc: A, num: usize) -> Result<Vec<Vec<Block, A
     Ok(ways)
 }
 
-// For each block those that go on to it, once for each position.
+// For each block the blocks that list it as a successor, once for each position.
 fn add_all_ways<A: Allocator + Copy, F: Function>(
     ways: &mut [Vec<Block, A>],
     f: &F,
@@ -102,7 +102,8 @@ fn count_in(counts: &mut [usize], blocks: &[Block])
     }
 }
 
-// Takes from each block's count how often it is in a list, and says whether the counts were enough.
+// Subtracts from each block's count how often it is in a list, and returns whether the counts were
+// enough.
 fn count_out(counts: &mut [usize], blocks: &[Block]) -> bool
     ensures enough { IsTrue result ↔ ((b : ℕ) → times_in b blocks.now ≤ slice_index counts.old b) }
     ensures taken { OnTrue result ((b : ℕ) → slice_index counts.new b + times_in b blocks.now ≡ slice_index counts.old b) }
@@ -129,7 +130,7 @@ fn are_used_up(counts: &[usize], blocks: &[Block]) -> bool
     true
 }
 
-// Whether two lists have each block equally often. The counts are 0 before, and after a yes.
+// Whether two lists have each block equally often. The counts are 0 before, and after `true`.
 fn same_blocks(counts: &mut [usize], listed: &[Block], preds: &[Block]) -> bool
     requires within { All (λ b. b < length counts.old) listed.now }
     requires zero { (b : ℕ) → slice_index counts.old b ≡ 0 }
@@ -143,7 +144,7 @@ fn same_blocks(counts: &mut [usize], listed: &[Block], preds: &[Block]) -> bool
     are_used_up(counts, listed)
 }
 
-// Compares each block's predecessors with those that go on to it.
+// Compares each block's predecessors with the blocks that list it as a successor.
 fn compare_ways<A: Allocator + Copy, F: Function>(
     counts: &mut [usize],
     ways: &[Vec<Block, A>],
@@ -211,7 +212,7 @@ fn pass_in_order<F: Function>(counts: &mut [usize], f: &F) -> bool
     are_all_met(counts, f)
 }
 
-// The same, with counts of its own.
+// The same, with newly allocated counts.
 fn are_in_order<A: Allocator + Copy, F: Function>(alloc: A, f: &F) -> Result<bool, AllocError>
     requires { SuccessorsAreBlocks (F.function f.now) }
     ensures { IfOk result (λ yes. IsTrue yes ↔ ListedInOrder (F.function f.now)) }
@@ -252,7 +253,7 @@ pub fn test_predecessors<A: Allocator + Copy, F: Function>(
     test_counted(alloc, f)
 }
 
-// Whether a block is entered in several ways; the function's start is one into the entry.
+// Whether a block has several incoming edges; the function's start counts as one into the entry.
 fn is_join<F: Function>(f: &F, block: Block) -> bool
     requires { block < length (F.function f.now).blocks }
     ensures { IsTrue result ↔ (1 < ways_into (F.function f.now) block) }
@@ -279,7 +280,7 @@ fn first_fork<F: Function>(f: &F, preds: &[Block]) -> Option<Block>
     None
 }
 
-/// Tests that no block that is entered in several ways has a predecessor with several successors.
+/// Tests that no block with several incoming edges has a predecessor with several successors.
 pub fn test_edges<F: Function>(f: &F) -> Result<(), RegAllocError>
     requires { EachBlock (F.function f.now) (λ n b. All (λ p. p < length (F.function f.now).blocks) b.preds) }
     ensures ok { OnOk result (NoCriticalEdge (F.function f.now)) }
@@ -297,7 +298,8 @@ pub fn test_edges<F: Function>(f: &F) -> Result<(), RegAllocError>
     Ok(())
 }
 
-// Whether a block's last instruction has no operands, or none of its successors is entered in several ways.
+// Whether a block's last instruction has no operands, or none of its successors has several
+// incoming edges.
 fn may_branch<F: Function>(f: &F, block: Block, last: Inst) -> bool
     requires block { block < length (F.function f.now).blocks }
     requires last { last ≡ last_of (block_at (F.function f.now) block) }
@@ -316,7 +318,7 @@ fn may_branch<F: Function>(f: &F, block: Block, last: Inst) -> bool
     true
 }
 
-/// Tests that no branch into a block that is entered in several ways has operands.
+/// Tests that no branch into a block with several incoming edges has operands.
 pub fn test_branches<F: Function>(f: &F) -> Result<(), RegAllocError>
     requires blocks { SuccessorsAreBlocks (F.function f.now) }
     requires follow { BlocksFollow (F.function f.now) }
@@ -334,8 +336,9 @@ pub fn test_branches<F: Function>(f: &F) -> Result<(), RegAllocError>
     Ok(())
 }
 
-/// Tests a function's blocks and edges: the tests of [`CFGInfo::init`](crate::cfg::CFGInfo::init), which says what they are and what errors
-/// name, without its tables. `Memory` comes where memory ran out.
+/// Tests a function's blocks and edges: the tests of [`CFGInfo::init`](crate::cfg::CFGInfo::init),
+/// which says what they are and what errors name, without its tables. Returns `Memory` if memory
+/// ran out.
 pub fn test_shape<A: Allocator + Copy, F: Function>(alloc: A, f: &F) -> Result<(), RegAllocError>
     ensures ok { OnOk result (HasShape (F.function f.now)) }
     ensures err { IfErr result (λ e. (e ≡ RegAllocError.Memory) ⊎ IsShapeFault (F.function f.now) e) }

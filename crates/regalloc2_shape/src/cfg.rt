@@ -12,7 +12,8 @@ use regalloc2_index::Block;
 use regalloc2_names::{ProgPoint, RegAllocError};
 use std::alloc::{AllocError, Allocator, Global};
 
-/// What [`CFGInfo::init`] keeps between calls: the marks of its walk over blocks, and the allocator that it works with.
+/// What [`CFGInfo::init`] keeps between calls: the marks of its walk over blocks, and the allocator
+/// of its working memory.
 #[derive(Drop)]
 pub struct CFGInfoCtx<A: Allocator = Global> {
     visited: Vec<bool, A>,
@@ -20,7 +21,7 @@ pub struct CFGInfoCtx<A: Allocator = Global> {
 }
 
 impl<A: Allocator + Copy> CFGInfoCtx<A> {
-    /// A context that takes the memory for its own work from `alloc`. It asks for none yet.
+    /// A context that allocates its working memory from `alloc`. This call allocates nothing.
     pub fn new(alloc: A) -> CFGInfoCtx<A> {
         CFGInfoCtx {
             visited: Vec::new(alloc),
@@ -34,8 +35,8 @@ impl<A: Allocator + Copy> CFGInfoCtx<A> {
 /// Upstream's tables of dominators and of loop depth are left out.
 #[derive(Debug, Drop)]
 pub struct CFGInfo<A: Allocator = Global> {
-    /// The blocks that the entry reaches, each once, in the order in which a depth-first walk that takes successors in
-    /// listed order leaves them.
+    /// The blocks that the entry reaches, each once, in the order in which a depth-first walk that
+    /// takes successors in listed order leaves them.
     pub postorder: Vec<Block, A>,
     /// The block of each instruction, by the instruction's number.
     pub insn_block: Vec<Block, A>,
@@ -84,7 +85,7 @@ fn list_points<A: Allocator + Copy, F: Function>(
 }
 
 impl<A: Allocator + Copy> CFGInfo<A> {
-    /// Tables without entries. It asks for no memory.
+    /// Tables without entries. Allocates nothing.
     pub fn empty(alloc: A) -> CFGInfo<A>
         ensures { IsEmptyInfo result }
     {
@@ -108,7 +109,7 @@ impl<A: Allocator + Copy> CFGInfo<A> {
         Ok(info)
     }
 
-    // Takes out all entries.
+    // Removes all entries.
     fn clear(&mut self)
         ensures { IsEmptyInfo self.new }
     {
@@ -131,18 +132,21 @@ impl<A: Allocator + Copy> CFGInfo<A> {
 
     /// Tests a function's blocks and edges, and fills in the tables anew.
     ///
-    /// The tests, in turn: the entry and each successor is a block; blocks are nonempty and follow one another, from the first
-    /// instruction to the last; a block's predecessors are its listings among successors, counted; no block that is entered in
-    /// several ways has a predecessor with several successors; no branch into a block that is entered in several ways has
-    /// operands. The function's start counts as one way into the entry.
+    /// The tests, in turn: the entry and each successor is a block; blocks are nonempty and follow
+    /// one another, from the first instruction to the last; a block's predecessors are its listings
+    /// among successors, counted; no block with several incoming edges has a predecessor with
+    /// several successors; no branch into a block with several incoming edges has operands. The
+    /// function's start counts as one edge into the entry.
     ///
-    /// The first test that fails decides, and the error names where it fails first: `BB` with the number that is no block, or
-    /// with the block whose range or whose predecessors don't fit; `CritEdge` with the predecessor and the block;
-    /// `DisallowedBranchArg` with the branch. `Memory` comes where memory ran out; the tests of ranges and edges take none. An
-    /// error leaves the four tables without entries.
+    /// The first test that fails decides, and the error names where it fails first: `BB` with the
+    /// number that is no block, or with the block whose range or whose predecessors don't fit;
+    /// `CritEdge` with the predecessor and the block; `DisallowedBranchArg` with the branch. It is
+    /// `Memory` if memory ran out; the tests of ranges and edges allocate nothing. An error leaves
+    /// the four tables without entries.
     ///
-    /// Linear in the function's blocks, edges and instructions. The tables' lists keep their own allocators; other memory is
-    /// taken from that of `ctx`. Upstream tests ranges and predecessors nowhere, and the rest block by block.
+    /// Linear in the function's blocks, edges and instructions. The tables' lists keep their own
+    /// allocators; other memory is allocated from that of `ctx`. Upstream tests ranges and
+    /// predecessors nowhere, and the rest block by block.
     pub fn init<F: Function>(&mut self, f: &F, ctx: &mut CFGInfoCtx<A>) -> Result<(), RegAllocError>
         ensures ok { OnOk result (IsInfoOf (F.function f.now) self.new) }
         ensures refused { IfErr result (λ e. (e ≡ RegAllocError.Memory) ⊎ IsShapeFault (F.function f.now) e) }

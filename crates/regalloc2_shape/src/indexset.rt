@@ -17,7 +17,7 @@ use std::marker::Model;
 /// How many words are inline.
 const INLINE: usize = 12;
 
-/// The place of a key among words.
+/// The index of a key among words.
 fn place_of(words: &[(u32, u64)], key: u32) -> Option<usize>
     ensures some { IfSome result (λ p. (p < length words.now) × ((slice_index_or words.now p (0, 0)).0 ≡ key)) }
     ensures none { IfNone result (LacksKey key words.now) }
@@ -30,7 +30,7 @@ fn place_of(words: &[(u32, u64)], key: u32) -> Option<usize>
     None
 }
 
-/// The place of a word that is zero.
+/// The index of a word that is zero.
 fn zero_place(words: &[(u32, u64)]) -> Option<usize>
     ensures some { IfSome result (λ p. (p < length words.now) × ((slice_index_or words.now p (0, 0)).1 ≡ 0)) }
 {
@@ -42,7 +42,8 @@ fn zero_place(words: &[(u32, u64)]) -> Option<usize>
     None
 }
 
-/// Where the word of a key goes: to its own place, else to that of a word that became zero, else past the others.
+/// The index at which to write the word of a key: its own, else that of a word that became zero,
+/// else past the others.
 fn place_for(words: &[(u32, u64)], key: u32) -> usize
     ensures { IsPlaceFor words.now key result }
 {
@@ -112,7 +113,7 @@ impl Few {
         }
     }
 
-    /// Writes the word of a key, where there is room; answers whether there was.
+    /// Writes the word of a key if there is room; returns whether there was.
     fn put(&mut self, key: u32, word: u64) -> bool
         ensures written { result ≡ true → (k : ℕ) → word_of self.new k ≡ cond (nat_eq k key) word (word_of self.old k) }
         ensures full { result ≡ false → self.new ≡ self.old }
@@ -130,7 +131,8 @@ impl Few {
     }
 }
 
-/// The places of the bits that are set in a word, by rising number: those that are left, seen as their list.
+/// The remaining indexes of the bits set in a word, by rising number; a contract sees them as a
+/// list.
 #[derive(Clone, Debug, Drop)]
 pub struct SetBitsIter(u64);
 
@@ -145,7 +147,7 @@ impl Model for SetBitsIter {
 }
 
 impl SetBitsIter {
-    /// The places of the bits that are set in `bits`.
+    /// The indexes of the bits set in `bits`.
     pub fn new(bits: u64) -> Self
         ensures list { result ≡ bits_of bits }
         ensures members { (i : ℕ) → times_listed result i ≡ bit_at bits i }
@@ -155,7 +157,7 @@ impl SetBitsIter {
     }
 }
 
-/// Takes the lowest bit out of a word, and says which it was.
+/// Clears the lowest bit set in a word, and returns its index.
 fn take_lowest(word: &mut u64) -> usize
     requires { word.old ≢ 0 }
     ensures taken { bits_of word.old ≡ result ∷ bits_of word.new }
@@ -181,7 +183,7 @@ impl Iterator for SetBitsIter {
     }
 }
 
-/// Words with their keys: those that are left, seen as their list.
+/// The remaining words with their keys; a contract sees them as a list.
 #[derive(Clone, Drop)]
 struct WordsIter<'a> {
     few: &'a [(u32, u64)],
@@ -213,7 +215,8 @@ impl<'a> Iterator for WordsIter<'a> {
     }
 }
 
-/// The members of a set, each once and in no order that is promised: those that are left, seen as their list.
+/// The remaining members of a set, each once and in no guaranteed order; a contract sees them as a
+/// list.
 #[derive(Clone, Drop)]
 pub struct IndexSetIter<'a> {
     base: usize,
@@ -253,7 +256,7 @@ impl<'a> Iterator for IndexSetIter<'a> {
 /// The words of a set that aren't inline.
 type Many<A> = HashMap<u32, u64, BuildHasherDefault<FoldHasher>, A>;
 
-/// What a map has at a key, or zero.
+/// The word of a map at a key, or zero.
 fn stored_in<A: Allocator>(many: &Many<A>, key: u32) -> u64
     ensures { result ≡ unwrap_or (get nat_eq many.now key) 0 }
 {
@@ -270,7 +273,7 @@ fn word_in<A: Allocator>(many: &Many<A>, key: u32) -> u64
     stored_in(many, key)
 }
 
-/// Writes the word of a key that has one; answers whether it has. Takes no memory.
+/// Writes the word of a key that has one; returns whether it has one. Allocates nothing.
 fn rewrite<A: Allocator>(many: &mut Many<A>, key: u32, word: u64) -> bool
     ensures written { result ≡ true → (k : ℕ) → word_of many.new.entries k ≡ cond (nat_eq k key) word (word_of many.old.entries k) }
     ensures unchanged { result ≡ false → many.new.entries ≡ many.old.entries }
@@ -313,7 +316,7 @@ fn copied<A: Allocator + Copy>(alloc: A, many: &Many<A>) -> Result<Many<A>, Allo
     Ok(copy)
 }
 
-/// Writes the word of a key where it is, else where there is room inline, else among the others.
+/// Writes the word of a key over its old one, else inline if there is room, else into the map.
 fn write<A: Allocator + Copy>(
     few: &mut Few,
     many: &mut Many<A>,
@@ -344,8 +347,9 @@ fn write<A: Allocator + Copy>(
 
 /// A set of numbers below 2^38, sparse by words of 64 numbers.
 ///
-/// Twelve words are inline, and a word that became zero is used again, so a set of members in up to twelve words takes
-/// no memory; further words are in a hashed map. Contracts see a set through `has_number`.
+/// Twelve words are inline, and a word that became zero is used again, so a set of members in up to
+/// twelve words allocates nothing; further words are in a hashed map. Contracts see a set through
+/// `has_number`.
 #[derive(Drop)]
 pub struct IndexSet<A: Allocator = Global> {
     few: Few,
@@ -366,7 +370,7 @@ impl<A: Allocator> Model for IndexSet<A> {
 }
 
 impl<A: Allocator + Copy> IndexSet<A> {
-    /// The set of no number. Takes no memory.
+    /// The empty set. Allocates nothing.
     pub fn new(alloc: A) -> Self
         ensures { (i : ℕ) → has_number result i ≡ false }
     {
@@ -399,7 +403,7 @@ impl<A: Allocator + Copy> IndexSet<A> {
         Ok(())
     }
 
-    /// Whether a number below 2^38 is a member. Takes no memory.
+    /// Whether a number below 2^38 is a member. Allocates nothing.
     pub fn get(&self, index: usize) -> bool
         requires { index < 2 ^ 38 }
         ensures { result ≡ has_number self.now index }
@@ -407,10 +411,11 @@ impl<A: Allocator + Copy> IndexSet<A> {
         self.word((index / 64) as u32) >> (index % 64) & 1 == 1
     }
 
-    /// Makes a number below 2^38 a member, or no member where `val` is false.
+    /// Adds `index`, below 2^38, to the set if `val` is true; removes it otherwise.
     ///
-    /// Out of memory, the call leaves the set as it was. That comes only where `val` is true and none of the 64 numbers that
-    /// share the number's word is a member: `set(index, false)` takes no memory.
+    /// If memory runs out, the set is unchanged. It can run out only if `val` is true and none of
+    /// the 64 numbers that share the number's word is a member; `set(index, false)` allocates
+    /// nothing.
     pub fn set(&mut self, index: usize, val: bool) -> Result<(), AllocError>
         requires { index < 2 ^ 38 }
         ensures ok { OnOk result ((i : ℕ) → has_number self.new i ≡ cond (nat_eq i index) val (has_number self.old i)) }
@@ -429,9 +434,9 @@ impl<A: Allocator + Copy> IndexSet<A> {
         Ok(())
     }
 
-    /// Gives the set the members of `other`.
+    /// Replaces the set's members by those of `other`.
     ///
-    /// Out of memory, the call leaves the set as it was; that never comes where `other`'s words are inline.
+    /// If memory runs out, the set is unchanged. It never does if `other`'s words are inline.
     pub fn assign(&mut self, other: &Self) -> Result<(), AllocError>
         ensures ok { OnOk result ((i : ℕ) → has_number self.new i ≡ has_number other.now i) }
         ensures err { OnErr result (self.new ≡ self.old) }
@@ -442,9 +447,9 @@ impl<A: Allocator + Copy> IndexSet<A> {
         Ok(())
     }
 
-    /// Adds the members of `other`; answers whether that made any number a member.
+    /// Adds the members of `other`; returns whether any number became a member.
     ///
-    /// Out of memory, the call leaves a set between the set as it was and the union.
+    /// If memory runs out, the set is between its old value and the union.
     pub fn union_with(&mut self, other: &Self) -> Result<bool, AllocError>
         ensures ok { OnOk result ((i : ℕ) → has_number self.new i ≡ has_number self.old i || has_number other.now i) }
         ensures added { IfOk result (λ added. added ≡ true → (i : ℕ) × (has_number self.old i ≡ false) × (has_number other.now i ≡ true)) }
@@ -474,7 +479,7 @@ impl<A: Allocator + Copy> IndexSet<A> {
         }
     }
 
-    /// The members, each once, in no order that is promised. Takes no memory.
+    /// The members, each once, in no guaranteed order. Allocates nothing.
     pub fn iter(&self) -> IndexSetIter<'_>
         ensures { ListsMembers self.now result }
     {

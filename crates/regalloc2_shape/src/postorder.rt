@@ -19,7 +19,7 @@ struct Frame {
     next: usize,
 }
 
-// The successors that a closure answers for a block.
+// The successors that a closure returns for a block.
 fn succs_of<'a, F: Fn(Block) -> &'a [Block]>(succ_blocks: &F, block: Block) -> &'a [Block]
     requires { F.pre succ_blocks.now block }
     ensures { F.post succ_blocks.now block result }
@@ -50,7 +50,8 @@ fn test_named<'a, F: Fn(Block) -> &'a [Block]>(
     Ok(())
 }
 
-// Walks depth first from the entry over blocks that aren't visited, and lists each block as it leaves it.
+// Walks depth first from the entry over blocks that aren't visited, and lists each block as it
+// leaves it.
 fn walk<'a, A: Allocator + Copy, F: Fn(Block) -> &'a [Block]>(
     alloc: A,
     entry: Block,
@@ -94,16 +95,17 @@ fn walk<'a, A: Allocator + Copy, F: Fn(Block) -> &'a [Block]>(
     Ok(())
 }
 
-/// Lists the blocks that the entry reaches, in the order in which a depth-first walk that takes successors in listed order
-/// leaves them, each once.
+/// Lists the blocks that the entry reaches, in the order in which a depth-first walk that takes
+/// successors in listed order leaves them, each once.
 ///
-/// The closure answers for each of the `num_blocks` blocks, which are numbered from 0, the same successors whenever it is
-/// asked. It is asked for each block, reached or not: the entry and each successor has to be a block, and the first that
-/// isn't is named by `BB`: the entry, or else the first in the lists of successors by rising block. `Memory` comes where
-/// memory ran out. After an error `out` is empty. `visited_scratch` holds nothing that is needed again.
+/// For each of the `num_blocks` blocks, numbered from 0, the closure returns the same successors at
+/// every call. It is called for each block, reached or not: the entry and each successor has to be
+/// a block, and `BB` names the first that isn't: the entry, or else the first in the lists of
+/// successors by rising block. The error is `Memory` if memory ran out. After an error `out` is
+/// empty. `visited_scratch` holds nothing that is needed again.
 ///
-/// Linear in the blocks and their successors. The stack is a list of its own, so that a chain of any length is walked.
-/// Upstream tests only the blocks that the walk meets.
+/// Linear in the blocks and their successors. The walk has its own stack, so it handles a chain of
+/// any length. Upstream tests only the blocks that the walk meets.
 pub fn calculate<'a, A: Allocator + Copy, F: Fn(Block) -> &'a [Block]>(
     alloc: A,
     num_blocks: usize,
@@ -146,10 +148,12 @@ pub fn calculate<'a, A: Allocator + Copy, F: Fn(Block) -> &'a [Block]>(
     }
 }
 
-/// Lists the blocks that the entry reaches, in the order in which a depth-first walk that takes successors in listed order leaves them, each once.
+/// Lists the blocks that the entry reaches, in the order in which a depth-first walk that takes
+/// successors in listed order leaves them, each once.
 ///
-/// The entry and each successor is a block, as `cfg` tests. Linear in the blocks that are reached and their edges. The stack is a list of its own, so
-/// that a chain of any length is walked. Where memory runs out, `out` is empty; `visited_scratch` holds nothing that is needed again.
+/// The entry and each successor is a block, as `cfg` tests. Linear in the blocks that are reached
+/// and their edges. The walk has its own stack, so it handles a chain of any length. If memory runs
+/// out, `out` is empty; `visited_scratch` holds nothing that is needed again.
 pub fn leave_order<A: Allocator + Copy, F: Function>(
     alloc: A,
     f: &F,

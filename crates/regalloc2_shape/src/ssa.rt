@@ -26,7 +26,8 @@ use std::alloc::Allocator;
 #[derive(Clone, Copy, Debug, PartialEq, Eq)]
 struct Definition {
     class: RegClass,
-    // The point from which on it may be used: after the instruction that defines it, or before its block for a parameter.
+    // The point from which on it may be used: after the instruction that defines it, or before its
+    // block for a parameter.
     usable: ProgPoint,
 }
 
@@ -255,7 +256,8 @@ fn test_blocks<F: Function>(defined: &[Option<Definition>], f: &F) -> Result<(),
     Ok(())
 }
 
-// Tests definitions and then uses, over a table that is blank and has room for what the function defines.
+// Tests definitions and then uses, over a table that is blank and has room for what the function
+// defines.
 fn test_over<F: Function>(defined: &mut [Option<Definition>], f: &F) -> Result<(), RegAllocError>
     requires some { 0 < length (F.function f.now).blocks }
     requires follow { BlocksFollow (F.function f.now) }
@@ -272,13 +274,16 @@ fn test_over<F: Function>(defined: &mut [Option<Definition>], f: &F) -> Result<(
 
 /// Tests the definitions of a function whose blocks follow one another, and then its uses.
 ///
-/// Each vreg number has at most one definition, whatever the class, and each defined number is below `num_vregs`. Each use that reads a vreg, and
-/// each argument of a branch, names in number and class a vreg that is defined at a smaller instruction number, where a parameter counts as defined
+/// Each vreg number has at most one definition, whatever the class, and each defined number is
+/// below `num_vregs`. Each use that reads a vreg, and each argument of a branch, names in number
+/// and class a vreg that is defined at a smaller instruction number; a parameter counts as defined
 /// before its block. An argument may also name what its own branch defines.
 ///
-/// The error is `SSA` with the first vreg that fails the first of the two tests that fails, and the instruction where it does: block by block, in
-/// each first its parameters, which are named with `Inst::invalid()`, then its instructions with their operands in order, and after those of the last
-/// the arguments by successor. It is `Memory` where the table of definitions, as long as `table_length` says, could not be made.
+/// The error is `SSA` with the first vreg that fails the first of the two tests that fails, and the
+/// instruction where it does: block by block, in each first its parameters, which are named with
+/// `Inst::invalid()`, then its instructions with their operands in order, and after those of the
+/// last the arguments by successor. It is `Memory` if the table of definitions, as long as
+/// `table_length` says, could not be allocated.
 pub fn test_definitions<A: Allocator + Copy, F: Function>(
     alloc: A,
     f: &F,
@@ -327,7 +332,7 @@ fn same_classes(arguments: &[VReg], params: &[VReg]) -> bool
     true
 }
 
-// Whether a block gives each successor arguments that fit its parameters.
+// Whether a block passes each successor arguments that fit its parameters.
 fn arguments_fit<F: Function>(f: &F, block: Block, last: Inst) -> bool
     requires block { block < length (F.function f.now).blocks }
     requires last { last + 1 ≡ (block_at (F.function f.now) block).range.end }
@@ -345,7 +350,7 @@ fn arguments_fit<F: Function>(f: &F, block: Block, last: Inst) -> bool
     true
 }
 
-// Tests that each successor is given arguments that fit its parameters.
+// Tests that each successor is passed arguments that fit its parameters.
 fn test_fit<F: Function>(f: &F) -> Result<(), RegAllocError>
     requires blocks { SuccessorsAreBlocks (F.function f.now) }
     requires follow { BlocksFollow (F.function f.now) }
@@ -363,19 +368,22 @@ fn test_fit<F: Function>(f: &F) -> Result<(), RegAllocError>
     Ok(())
 }
 
-/// Tests a function's entry, terminators, arguments, definitions and uses. Its blocks and edges are sound:
-/// [`test_shape`](crate::test_shape) tests that.
+/// Tests a function's entry, terminators, arguments, definitions and uses. Its blocks and edges are
+/// sound: [`test_shape`](crate::test_shape) tests that.
 ///
-/// The tests, in turn: the entry is block 0 and has no parameters; each block ends, and only ends, in a branch or in a return
-/// without successors, and no instruction is both; each successor is given as many arguments as it has parameters, of the
-/// same classes; definitions and then uses are as [`test_definitions`] says.
+/// The tests, in turn: the entry is block 0 and has no parameters; each block ends, and only ends,
+/// in a branch or in a return without successors, and no instruction is both; each successor is
+/// passed as many arguments as it has parameters, of the same classes; definitions and then uses
+/// are as [`test_definitions`] says.
 ///
-/// The first test that fails decides, and the error names where it fails first: `BB` with the entry, or with the block that
-/// doesn't end so; `EntryLivein`; `Branch` with the last instruction of the block that passes the arguments; `SSA` as
-/// [`test_definitions`] says. `Memory` comes where memory ran out.
+/// The first test that fails decides, and the error names where it fails first: `BB` with the
+/// entry, or with the block that doesn't end so; `EntryLivein`; `Branch` with the last instruction
+/// of the block that passes the arguments; `SSA` as [`test_definitions`] says. It is `Memory` if
+/// memory ran out.
 ///
-/// Linear in the function's instructions, operands and arguments. Upstream tests uses by dominance where this tests the order of
-/// instruction numbers, counts arguments without looking at their classes, and judges the entry's parameters last.
+/// Linear in the function's instructions, operands and arguments. Upstream tests uses by dominance
+/// where this tests the order of instruction numbers, counts arguments without looking at their
+/// classes, and checks the entry's parameters last.
 pub fn test_soundness<A: Allocator + Copy, F: Function>(
     alloc: A,
     f: &F,
@@ -391,8 +399,8 @@ pub fn test_soundness<A: Allocator + Copy, F: Function>(
     test_definitions(alloc, f)
 }
 
-/// Makes the tests of [`test_soundness`]. `cfginfo` is what [`CFGInfo::new`] or [`CFGInfo::init`] made of the same function, so blocks and
-/// edges are sound; the tests don't read it.
+/// Makes the tests of [`test_soundness`]. `cfginfo` is what [`CFGInfo::new`] or [`CFGInfo::init`]
+/// made of the same function, so blocks and edges are sound; the tests don't read it.
 pub fn validate_ssa<A: Allocator + Copy, F: Function, B: Allocator>(
     alloc: A,
     f: &F,

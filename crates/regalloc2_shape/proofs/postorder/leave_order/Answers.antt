@@ -7,7 +7,7 @@ use Rattle.regalloc2_shape.proofs.NamedBlocks.{function_blocks}
 use Rattle.regalloc2_shape.proofs.LeavesReached.{leaves_once, leaves_reached}
 use Rattle.regalloc2_shape.proofs.postorder.leave_order.Goals as goal
 
--- the function's blocks, by what the calls answer
+-- the function's blocks, by what the calls return
 blocks_of : (f : FunctionValue) (num entry : ℕ) → num ≡ length f.blocks → entry ≡ f.entry → SuccessorsAreBlocks f → AreBlocks (succs_in f) num entry
 blocks_of f num entry n e h = subst (λ m. AreBlocks (succs_in f) m entry) (sym n)
     (subst (λ m. AreBlocks (succs_in f) (length f.blocks) m) (sym e) (function_blocks f h))
