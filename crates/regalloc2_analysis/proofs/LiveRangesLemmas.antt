@@ -3,10 +3,9 @@
 -- Depends on `DebugPoints` of regalloc2_function, and on `SingleDef` and `Order` of regalloc2_semantics.
 -- Main theorems: `walked_all` in `LiveRangeTable`, the table after the walk has each vreg's live range; `kept_from` in
 -- `KeptLabels`.
--- `UsesNoted` is what the walk notes at one instruction. `UsesInSSA` says which instructions may use a vreg;
--- `ItemsPastEnd` serves all. `Spread`: tables with entries of what is wanted alone are read as tables by number
--- (`set_spread`), which is how all others speak of them. `Labelled`: which numbers are wanted; what names none of them
--- is passed over (`walked_over` in `LiveRangeTable`).
+-- `UsesNoted` is what the walk notes at one instruction. `UsesInSSA` says which instructions may use a vreg; `ItemsPastEnd` serves all. `Spread`: tables with
+-- entries of the requested numbers alone are read as tables by number (`set_spread`), as all other files do. `Labelled`: which numbers are requested; what
+-- names none of them is passed over (`walked_over` in `LiveRangeTable`).
 pub mod ItemsPastEnd
 pub mod Spread
 pub mod UsesNoted

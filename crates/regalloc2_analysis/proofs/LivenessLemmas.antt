@@ -1,13 +1,11 @@
 -- `reads_written` returns whether each read and each argument is definitely assigned.
 -- Read first: `IsNeeded` and `IsScoped` in the specs, then `never_needed` in `ScopedIsWritten`.
 -- Depends on `IsWrittenFirst` of regalloc2_function, and on `Blocks` and `Cells` of regalloc2_semantics.
--- Main theorem: `decides` in `ReadsWrittenDecided`: a function is written first just where nothing is needed at its
--- entry. `scoped_written` and `needed_unwritten` in `StepsWalked` say so of what the walk over a tree and the search
--- find; `none_listed` and `lists_none` in `PropagatedToFixpoint` of the list that needs, passed on, end with.
--- `never_needed` in `ScopedIsWritten`: what is clear at a step isn't needed there. `ChainCut`, `SitesKept` and
--- `StepsWalked` have the walk over the tree, `SearchedBack` the search. `walked_whole` in `LiveAtBlockBegin` is what
--- one block asks for, and `WalkSteps` has its loops; `PairLists`, `PairSets` and `EdgeLists` say what the lists and
--- sets of the needs hold.
+-- Main theorem: `decides` in `ReadsWrittenDecided`: every vreg is definitely assigned exactly where nothing is needed at the function's entry. `scoped_written`
+-- and `needed_unwritten` in `StepsWalked` say so of what the walk over a tree and the search find; `none_listed` and `lists_none` in `PropagatedToFixpoint` of
+-- the list that needs, passed on, end with. `never_needed` in `ScopedIsWritten`: what is clear at a step isn't needed there. `ChainCut`, `SitesKept` and
+-- `StepsWalked` have the walk over the tree, `SearchedBack` the search. `walked_whole` in `LiveAtBlockBegin` has the upward-exposed uses of one block, and
+-- `WalkSteps` its loops; `PairLists`, `PairSets` and `EdgeLists` say what the lists and sets of the needs hold.
 pub mod LiveAtBlockBegin
 pub mod PropagatedToFixpoint
 pub mod ReadsWrittenDecided

@@ -1,4 +1,4 @@
--- What the analyses of a function answer: reads after writes, definitions of branches, live ranges of labelled vregs.
+-- What the analyses of a function return: reads after writes, definitions of branches, live ranges of labelled vregs.
 -- Read first: `BranchDefs/BranchDefs`, then `Liveness` and `LiveRanges`; none of the three needs another.
 -- Depends on the function value (regalloc2_function), the paths of regalloc2_semantics and the tables of regalloc2_shape.
 pub mod BranchDefs

@@ -72,10 +72,10 @@ pub fn fixed_definition(operand: Operand) -> Option<PReg>
 }
 
 impl<A: Allocator + Copy> BranchDefs<A> {
-    /// Those of a function.
+    /// The tables of a function.
     ///
-    /// Linear in the function's instructions, operands and arguments. The refusal is `Memory`; where no branch defines, no memory
-    /// is asked for.
+    /// Linear in the function's instructions, operands and arguments. The only error is `Memory`;
+    /// if no branch defines, nothing is allocated.
     pub fn of<F: Function>(alloc: A, f: &F) -> Result<Self, RegAllocError>
         requires well_formed { MayHaveTables (F.function f.now) }
         ensures ok { IfOk result (λ t. AreBranchDefsOf (F.function f.now) t) }

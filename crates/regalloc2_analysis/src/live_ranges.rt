@@ -1,8 +1,9 @@
 //! From where to where the value of each vreg can be shown to a debugger, and which operand's place shows it.
 //!
-//! [`live_ranges`] finds that for each vreg of which it is wanted, [`kept_labels`] for each label that a client put on one. Nothing here
-//! knows the allocator: its walk decides the places, and these calls say of which operands they are needed. Upstream keeps the
-//! same points in `vreg_to_live_inst_range` while it allocates.
+//! [`live_ranges`] returns these for each requested vreg, [`kept_labels`] for each label that a
+//! client put on a vreg. Nothing here depends on the allocator: its walk selects the places, and
+//! these calls return the operands whose places are needed. Upstream keeps the same points in
+//! `vreg_to_live_inst_range` while it allocates.
 
 use regalloc2_index::Inst;
 use regalloc2_names::{ProgPoint, VReg};

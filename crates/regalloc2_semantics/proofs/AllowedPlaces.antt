@@ -1,11 +1,11 @@
--- Where an operand may be: the law of the instruction from what is held, and from where its vreg is located.
+-- Where an operand may be placed, given what is held and its vreg's current location.
 use Rattle.std.proofs.Common.{◌≡◌, ℕ, Bool, true, false, Option, Some, None, ◌⊎◌, ⊎_elim, inl, inr, sym, ap, ◌∙◌}
 use Rattle.std.proofs.lemmas.Bool.{cases_Bool}
 use Rattle.regalloc2_names.specs.Place.{Place}
 use Rattle.regalloc2_semantics.specs.OperandsPlaced.{What, uses, read_first, written_after, Progress, Placed, Once, Clear, Held, Free}
 use Rattle.regalloc2_semantics.proofs.SharedPlace.{share_late, share_early, share_uses, share_turn}
 
--- a place that is free where the operand is
+-- an operand may claim a place that is free at its positions
 pub clear_free : (what : ℕ → What) (here : ℕ → Place) (claimed : ℕ → Bool) (early late : Place → Bool) (k : ℕ) (r : Place)
     → Held what here claimed early late → Free (what k) early late r → Clear what here claimed k r
 clear_free what here claimed early late k r h f i c e =
@@ -34,7 +34,7 @@ clear_free what here claimed early late k r h f i c e =
     (cases_Bool (what k).is_def))
     (cases_Bool (what i).is_def))
 
--- a use stays where its vreg is located; a late one is placed before all early uses
+-- a use may stay at its vreg's current location; a late one is placed before all early uses
 pub clear_kept_use : (counts : ℕ → Type 0) (what : ℕ → What) (p : Progress) (T S : ℕ → Option Place) (k : ℕ) (r : Place)
     → Placed what p T S → Once counts what → ((j : ℕ) → p.claimed j ≡ true → counts j) → counts k
     → (what k).is_def ≡ false → T (what k).number ≡ Some r
@@ -62,7 +62,7 @@ clear_kept_use counts what p T S k r s once within lt is_use was_located phase i
     (λ (ui : (what i).is_def ≡ false). uses ui is_use (sym (s.use_alone i (what k).number c ui (was_located ∙ ap Some (sym e)))))
     (cases_Bool (what i).is_def))
 
--- a definition stays where its vreg is located
+-- a definition may stay at its vreg's current location
 pub clear_kept_def : (counts : ℕ → Type 0) (what : ℕ → What) (p : Progress) (T S : ℕ → Option Place) (k : ℕ) (r : Place)
     → Placed what p T S → Once counts what → ((j : ℕ) → p.claimed j ≡ true → counts j) → counts k
     → (what k).is_def ≡ true → T (what k).number ≡ Some r
@@ -78,7 +78,7 @@ clear_kept_def counts what p T S k r s once within lt def was_located i c e =
     (λ (ui : (what i).is_def ≡ false). absurd (once.unread k i lt (within i c) def ui (s.use_alone i (what k).number c ui (was_located ∙ ap Some (sym e)))))
     (cases_Bool (what i).is_def))
 
--- a vreg that is evicted by the operand k from the register that it takes: it lived, and no definition is placed there
+-- a vreg that the operand k evicts from the register that it claims lived, and no definition is placed there
 pub evictable : (what : ℕ → What) (p : Progress) (T S : ℕ → Option Place) (k : ℕ) (r : Place) (w : ℕ)
     → Placed what p T S
     → Clear what p.here p.claimed k r → p.done k ≡ false → T w ≡ Some r → (w ≡ (what k).number → ⊥)
@@ -108,7 +108,7 @@ evictable what p T S k r w s clear new was_located other phase =
           (cases_Bool (p.made_at r u)),
     )
 
--- a reuse claims its place for the use that it names too, at once
+-- a definition that reuses an input claims its place for that use too
 pub clear_reuse : (what : ℕ → What) (here there : ℕ → Place) (claimed claimed2 : ℕ → Bool) (d k : ℕ) (r : Place)
     → (what d).is_def ≡ true → (what d).is_late ≡ true → (what k).is_def ≡ false → (what k).is_late ≡ false
     → ((j : ℕ) → claimed2 j ≡ true → (j ≡ d) ⊎ ((claimed j ≡ true) × (there j ≡ here j)))
@@ -118,7 +118,7 @@ clear_reuse what here there claimed claimed2 d k r dd dl uk ek grows clear i c e
     (λ x. clear i x.0 (sym x.1 ∙ e))
     (grows i c)
 
--- and no vreg is there, once the reuse is placed, before all early uses
+-- after the reuse is placed, and before all early uses are, no vreg is in its place
 pub reuse_alone : (what : ℕ → What) (p : Progress) (T S : ℕ → Option Place) (d w : ℕ)
     → Placed what p T S → p.done d ≡ true → (what d).is_def ≡ true
     → ((j : ℕ) → p.done j ≡ true → (what j).is_def ≡ false → (what j).is_late ≡ true)

@@ -7,34 +7,34 @@ use Rattle.regalloc2_semantics.specs.Listing.{Item}
 use Rattle.regalloc2_semantics.specs.Carry.{Carries}
 use Rattle.regalloc2_semantics.proofs.CarryRules.{carries_append, carries_weaken}
 
--- Where v's value may be relied on at a boundary: where it is there (T) and in its slot (S), if nothing behind in the block writes it; and in the
--- slot that it has at the end of the whole walk (F), if the block doesn't write it at all.
+-- Where v's value may be assumed to be at a boundary between instructions: at its current location (T) and in its slot (S), if nothing later in the block
+-- writes v; and in the slot that v has after the whole walk (F), if the block doesn't write v at all.
 abbrev pub Relied : (later block : Bool) (T S F : Option Place) → Place → Type 0
 Relied later block T S F p = (later ≡ false) × ((T ≡ Some p) ⊎ (S ≡ Some p) ⊎ ((block ≡ false) × (F ≡ Some p)))
 
--- What is known of one instruction: T and S are where v is and its slot before it, U and R behind it; later: something behind it in the block writes v.
+-- What one instruction guarantees: T and S are v's location and slot before it, U and R after it; later: something later in the block writes v.
 pub record StepOf (v : VirtualRegister) (step : List Item) (written later : Bool) (T S U R F : Option Place) : Type 1 where
-  -- it carries v by itself; from nowhere, if it writes v
+  -- it carries v by itself, and from no place if it writes v
   pub law : Carries v step (λ p. (T ≡ Some p) ⊎ ((written ≡ false) × (S ≡ Some p))) (λ p. (U ≡ Some p) ⊎ (R ≡ Some p))
   pub gone : written ≡ true → T ≡ None
-  -- a slot that is there stays to the end
+  -- a slot that v has stays to the end of the walk
   pub stays : (p : Place) → R ≡ Some p → F ≡ Some p
-  -- a slot that comes now or later is left to v
+  -- if v gets its slot now or later, the instruction carries v in that slot too
   pub left : (s : Place) → written ≡ false → R ≡ None → F ≡ Some s → (P E : Place → Type 0) → Carries v step P E →
       Carries v step (λ p. P p ⊎ (p ≡ s)) (λ p. E p ⊎ (p ≡ s))
-  -- before what writes v nothing has to do with it
+  -- if something later writes v, nothing need hold v before the instruction
   pub silent : later ≡ true → (L : List Item) (E : Place → Type 0) → Carries v L (λ p. ⊥) E → Carries v (step ++ L) (λ p. ⊥) E
 
 module _ (v : VirtualRegister) (step L : List Item) (written later block : Bool) (T S U R F : Option Place) (E : Place → Type 0)
     (within : block ≡ false → written ≡ false)
     (k : StepOf v step written later T S U R F) where
-  -- where v is written behind
+  -- if something later writes v
   silent_on : later ≡ true → Carries v L (Relied later block U R F) E → Carries v (step ++ L) (Relied (written || later) block T S F) E
   silent_on e c =
       carries_weaken v (step ++ L) (λ p. ⊥) (Relied (written || later) block T S F) E E (λ p h. absurd h) (λ p h. h)
       (k.silent e L E (carries_weaken v L (Relied later block U R F) (λ p. ⊥) E E (λ p h. (let x : later ≡ false = h.0 in absurd cc)) (λ p h. h) c))
 
-  -- where it isn't, by the instruction alone
+  -- if nothing later does, by the instruction alone
   alone : later ≡ false → (P : Place → Type 0) → Carries v step P (λ p. (U ≡ Some p) ⊎ (R ≡ Some p) ⊎ ((block ≡ false) × (F ≡ Some p))) →
       ((p : Place) → P p → Relied (written || later) block T S F p)
       → Carries v L (Relied later block U R F) E → Carries v (step ++ L) (Relied (written || later) block T S F) E
@@ -44,7 +44,7 @@ module _ (v : VirtualRegister) (step L : List Item) (written later block : Bool)
       (λ p. (U ≡ Some p) ⊎ (R ≡ Some p) ⊎ ((block ≡ false) × (F ≡ Some p))) relied (λ p h. h) here)
       (carries_weaken v L (Relied later block U R F) (λ p. (U ≡ Some p) ⊎ (R ≡ Some p) ⊎ ((block ≡ false) × (F ≡ Some p))) E E (λ p h. h.1) (λ p h. h) c)
 
-  -- what the law says is relied on
+  -- the places from which `law` carries v may be assumed
   by_law : later ≡ false → (p : Place) → (T ≡ Some p) ⊎ ((written ≡ false) × (S ≡ Some p)) → Relied (written || later) block T S F p
   by_law e p h = by_test written refl h
     where
@@ -54,7 +54,7 @@ module _ (v : VirtualRegister) (step L : List Item) (written later block : Bool)
       by_test false is (inl t) = (rw (is, e) refl, inl t)
       by_test false is (inr s) = (rw (is, e) refl, inr (inl s.1))
 
-  -- where its slot is there behind, or never comes
+  -- if v has its slot after the instruction, or never gets one
   law_on : later ≡ false → ((p : Place) → block ≡ false → F ≡ Some p → R ≡ Some p) → Carries v L (Relied later block U R F) E →
       Carries v (step ++ L) (Relied (written || later) block T S F) E
   law_on e there c =
@@ -64,7 +64,7 @@ module _ (v : VirtualRegister) (step L : List Item) (written later block : Bool)
       (λ p h. h) (λ p h. elim h [ inl u ↦ inl u | inr x ↦ inr (elim x [ inl r ↦ r | inr b ↦ there p b.0 b.1 ]) ]) k.law)
       (by_law e) c
 
-  -- where it comes now or later, and the block doesn't write v
+  -- if v gets it now or later, and the block doesn't write v
   left_on : later ≡ false → block ≡ false → R ≡ None → (s : Place) → F ≡ Some s → Carries v L (Relied later block U R F) E →
       Carries v (step ++ L) (Relied (written || later) block T S F) E
   left_on e free none s comes c =

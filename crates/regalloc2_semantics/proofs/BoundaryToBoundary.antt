@@ -1,10 +1,10 @@
--- From one boundary of instructions to the next, and what is held at the two positions.
+-- From one boundary of instructions to the next, and the places held at the two positions.
 use Rattle.std.proofs.Common.{◌≡◌, ℕ, Bool, true, false, Option, Some, is_some, ⊎_elim, refl, sym, ap, ◌∙◌}
 use Rattle.std.proofs.lemmas.Bool.{cases_Bool}
 use Rattle.regalloc2_names.specs.Place.{Place}
 use Rattle.regalloc2_semantics.specs.OperandsPlaced.{What, Progress, Placed, Puts, Held, Free, at_begin}
 
--- when an instruction begins: what stands lives, and nothing is placed
+-- when an instruction begins: the numbers with a location are those that lived, and no operand is placed
 pub begin_all : (what : ℕ → What) (here : ℕ → Place) (lived : ℕ → Bool) (T S : ℕ → Option Place) → ((w : ℕ) → lived w ≡ is_some (T w)) →
     Placed what (at_begin here lived) T S
 begin_all what here lived T S is = record {
@@ -25,19 +25,19 @@ begin_all what here lived T S is = record {
   makes = λ q w x. absurd cc;
 }
 
--- the positions are those of the operand, at least
+-- the positions include those of the operand
 pub record Covers (w : What) (at_early at_late : Bool) : Type 0 where
   pub early_use : w.is_def ≡ false → at_early ≡ true
   pub early_def : w.is_late ≡ false → at_early ≡ true
   pub late_def : w.is_def ≡ true → at_late ≡ true
   pub late_use : w.is_late ≡ true → at_late ≡ true
 
--- the place is free at the positions that are asked for
+-- the place is free at the requested positions
 pub record FreeAt (early late : Place → Bool) (at_early at_late : Bool) (r : Place) : Type 0 where
   pub free_early : at_early ≡ true → early r ≡ false
   pub free_late : at_late ≡ true → late r ≡ false
 
--- the place is held from now on, if the position asks for it
+-- the place is held from now on, if the position is requested
 pub record Holds (before_it after_it : Place → Bool) (asked : Bool) (r : Place) : Type 0 where
   pub keeps : (q : Place) → before_it q ≡ true → after_it q ≡ true
   pub holds : asked ≡ true → after_it r ≡ true

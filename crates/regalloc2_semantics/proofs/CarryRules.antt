@@ -21,7 +21,7 @@ pub carries_nil : (v : VirtualRegister) (P E : Place → Type 0) → ((p : Place
 unfolding Carries CarriesFrom
 carries_nil v P E h = λ s c n holds p e. holds p (h p e)
 
--- more is relied on, and less is owed
+-- fewer places have to hold v at the end
 from_weaken : (v : VirtualRegister) (L : List Item) (E F : Place → Type 0) (s : Source) (c : Cells) (n : ℕ) → ((p : Place) → F p → E p) →
     CarriesFrom v E L s c n → CarriesFrom v F L s c n
 unfolding CarriesFrom
@@ -29,7 +29,7 @@ from_weaken v [] E F s c n h g = λ p f. g p (h p f)
 from_weaken v (Move m ∷ L) E F s c n h g = from_weaken v L E F s _ n h g
 from_weaken v (Exec ops places clobbers ∷ L) E F s c n h g = (g.0, g.1, from_weaken v L E F _ _ (suc n) h g.2)
 
--- the rule of consequence: a listing that carries v still does if more places are relied on before it and fewer are owed after it
+-- the rule of consequence: a listing that carries v still does if more places are assumed to hold v before it and fewer have to hold it after it
 pub carries_weaken : (v : VirtualRegister) (L : List Item) (P R E F : Place → Type 0) → ((p : Place) → P p → R p) → ((p : Place) → F p → E p) →
     Carries v L P E → Carries v L R F
 unfolding Carries
@@ -131,7 +131,7 @@ defines_not (o ∷ os) v h =
     let parts = or_parts (is_def o.kind && is_vreg o.vreg v) (defines v os) h in
     first_not (is_def o.kind) o os v refl parts.0 (defines_not os v parts.1)
 
--- a place that no item writes may be relied on and is owed, where none writes v
+-- if no item writes v, a place that no item writes may be added: assumed before the listing, and required after it
 pub from_fresh : (v : VirtualRegister) (L : List Item) (E R : Place → Type 0) (s : Source) (c : Cells) (n : ℕ) → ((p : Place) → R p → Untouched p L) →
     writes v L ≡ false → ((p : Place) → R p → c p ≡ s v) →
     CarriesFrom v E L s c n → CarriesFrom v (λ p. E p ⊎ R p) L s c n

@@ -1,4 +1,4 @@
--- Maps that change at one place or vreg; and names that are one or not, passed on from the names.
+-- Maps updated at one place or vreg; and lemmas on equal places and vregs, passed on.
 use Rattle.std.proofs.Common.{◌≡◌, ◌≢◌, refl, sym}
 use Rattle.std.specs.Prelude.{Option}
 use Rattle.regalloc2_names.specs.Register.{VirtualRegister}

@@ -1,4 +1,4 @@
--- In a well-formed function, a vreg that is live where a path comes to a block is read or passed by a block on that doesn't write it, nor does one up to there.
+-- In a well-formed function, if v is live where a path enters a block, some block from there on reads or passes v, and no block up to it writes v.
 use Rattle.std.proofs.Common.{ℕ, ◌≡◌, ◌+◌, ◌<◌, ◌≤◌, inl, inr, [], List, length, refl, ap, subst, arith}
 use Rattle.std.specs.Prelude.{Contains, slice_index_or}
 use Rattle.std.proofs.lemmas.Bool.{cases_lt}
@@ -23,7 +23,7 @@ module _ (env : MachineValue) (f : FunctionValue) (ok : IsWellFormed env f) (v :
   abbrev FreeUpTo : ℕ → ℕ → Type 0
   FreeUpTo b i = (j : ℕ) → (block_at f b).range.first ≤ j → j < i → Undefined (inst_at f j).operands v
 
-  -- nor do the others, where each definition comes before i
+  -- nor do the block's other instructions, if each definition of v is before i
   all_free : (b i : ℕ) → b < length f.blocks → FreeUpTo b i → ((j k : ℕ) → DefinesAt f v.number j k → j < i) → IsUnwritten f b v
   all_free b i lb free sooner j ge less k lt def is = elim (cases_lt j i) [
     | inl early ↦ free j ge early k lt def is
@@ -80,14 +80,14 @@ module _ (env : MachineValue) (f : FunctionValue) (ok : IsWellFormed env f) (v :
       k way.1 aside
       (live_on (first_of f b) on lt (omega arith) some (λ j ge2 less2. absurd (omega (arith, ge2, less2))))
 
-  -- where a path comes to a block
+  -- the same where a path enters a block
   pub live_entered : (ws : List Way) → HasEntered f ws → (end_of f ws).block < length f.blocks → IsLive f v (end_of f ws) → Live f v (end_of f ws).block
   live_entered ws entered lb live =
       let some : (block_at f (end_of f ws).block).range.first < (block_at f (end_of f ws).block).range.end = (ok.follow (end_of f ws).block lb).0 in
       let first : (end_of f ws).inst ≡ (block_at f (end_of f ws).block).range.first = entered in
       live_on (end_of f ws) live lb (omega (arith, first)) (omega (arith, first, some)) (λ j ge less. absurd (omega (arith, ge, less, first)))
 
--- some block uses it and doesn't write it
+-- if v is live where a path enters a block, some block uses v and doesn't write it
 pub live_is_used : (env : MachineValue) (f : FunctionValue) → IsWellFormed env f → IsWrittenFirst f → (ws : List Way) → IsPath f ws → HasEntered f ws →
     (v : VirtualRegister) → IsLive f v (end_of f ws) → UsedSomewhere f v
 live_is_used env f ok written ws path entered v live =
@@ -95,7 +95,7 @@ live_is_used env f ok written ws path entered v live =
     let lb : (end_of f ws).block < length f.blocks = block_within f sound written ws path in
     live_somewhere f sound v (end_of f ws).block lb (live_entered env f ok v ws entered lb live)
 
--- if writes come first and reached blocks carry what they owe, the places of vregs live at a block's entry hold their values
+-- if every vreg is definitely assigned, and reachable blocks meet their obligations, the places of vregs live at a block's beginning hold their values
 pub live_stand_in_places : LiveStandWhereBlocksCarryOn
 live_stand_in_places env f out stand ok written rising quiet carries ws path entered v p live is =
     let sound : HasSoundBlocks f = well_formed_are_sound env f ok in

@@ -70,7 +70,7 @@ module _ (Known : VirtualRegister → Type 0) (E : VirtualRegister → Place →
         | made x ↦ made x
       ])
 
--- before the instruction: the move of the use k from c, where its number is, to its place
+-- before the instruction: the move of the use k to its place from c, the current location of its number
 module _ (what : ℕ → What) (p : Progress) (T S : ℕ → Option Place) (k : ℕ) (c : Place) (h : IsMoved what p T S k c) where
   moved_here : (v : ℕ) → Pending what p.here p.done p.out T S k v (p.here k) → Pending what p.here p.done p.out T S (k + 1) v c
   moved_here v o = elim o [
@@ -94,7 +94,7 @@ module _ (what : ℕ → What) (p : Progress) (T S : ℕ → Option Place) (k : 
       moved_here
       moved_there
 
-  -- so it is where it goes in two moves, through a place that nothing needs
+  -- the same for two moves, through an intermediate place that nothing needs
   pub pend_through : (by : Place) (Known : VirtualRegister → Type 0) (E : VirtualRegister → Place → Type 0) (L : List Item)
       → by ≢ NoPlace → ((v : ℕ) → Pending what p.here p.done p.out T S k v by → ⊥)
       → Claims Known L (Pending what p.here p.done p.out T S k) E → Claims Known

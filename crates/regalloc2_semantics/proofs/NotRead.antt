@@ -51,11 +51,11 @@ from_silent v (Exec ops places clobbers ∷ L) s c n h = (
   from_silent v L _ _ (suc n) h.1,
 )
 
--- it relies on nothing
+-- a listing that doesn't read v carries it, if no place has to hold it at the end
 pub carries_silent : (v : VirtualRegister) (L : List Item) (P : Place → Type 0) → Silent v L → Carries v L P (λ p. ⊥)
 unfolding Carries
 carries_silent v L P h = λ s c n holds. from_silent v L s c n h
 
--- and what follows it carries v by itself, where that relies on nothing
+-- if what follows such a listing carries v from no place, both together carry v
 pub carries_behind : (v : VirtualRegister) (K L : List Item) (P E : Place → Type 0) → Silent v K → Carries v L (λ p. ⊥) E → Carries v (K ++ L) P E
 carries_behind v K L P E h g = carries_append v K L P (λ p. ⊥) E (carries_silent v K P h) g

@@ -27,7 +27,7 @@ pub record Evicted (T S T' S' : ℕ → Place) (w : ℕ) (r : Register) (s : Pla
   pub own : (n : ℕ) → S' n ≡ s → n ≡ w
 
 module _ (T S T' S' : ℕ → Place) (w : ℕ) (r : Register) (s : Place) (e : Evicted T S T' S' w r s) (tidy : IsTidy T S) where
-  -- some vreg is located somewhere exactly where he did before
+  -- a number that had a location still has one
   found : (n : ℕ) → T n ≢ NoPlace → T' n ≢ NoPlace
   found n h = elim (cases_eq n w) [
     | inl same ↦ (λ z. let x : InSlot e.is_slot.0 ≡ NoPlace = sym e.is_slot.1 ∙ sym e.stands_now ∙ ap T' (sym same) ∙ z in cc)

@@ -29,7 +29,7 @@ use Rattle.regalloc2_semantics.proofs.PathInBlock.{onwards, onwards-block, onwar
 use Rattle.regalloc2_semantics.proofs.Points.{block_items-walked}
 use Rattle.regalloc2_semantics.proofs.PathSteps.{left_at, Stepped, stepped, reads_agree}
 
--- block by block: on some way on from the block's beginning v is read or passed, and no block up to there writes it
+-- block by block: on some path from the block's beginning v is read or passed, and no block up to there writes it
 pub data Live (f : FunctionValue) (v : VirtualRegister) : ℕ → Type 0 where
   read : {b : ℕ} → IsUnwritten f b v → IsReadIn f b v → Live f v b
   passed_on : {b : ℕ} → IsUnwritten f b v → (k : ℕ) → HasEdge f b k → Contains (arguments_at f b k) v → Live f v b
@@ -54,7 +54,7 @@ live_somewhere f ok v b lt (read u r) = record { block = b; within = lt; unwritt
 live_somewhere f ok v b lt (passed_on u k edge c) = record { block = b; within = lt; unwritten = u; used = inr (k, edge, c) }
 live_somewhere f ok v b lt (onward u k edge aside l) = live_somewhere f ok v (target_at f b k) (ok.targets b k edge) l
 
--- what is live at a successor is wanted behind the block
+-- what is live at a successor may be live out of the block
 live_wanted : (f : FunctionValue) → HasSoundBlocks f → (v : VirtualRegister) (b k : ℕ) → HasEdge f b k → Live f v (target_at f b k) → IsWantedBehind f b v
 live_wanted f ok v b k edge l =
     let u = live_somewhere f ok v (target_at f b k) (ok.targets b k edge) l in (
@@ -112,13 +112,13 @@ abbrev last_of : FunctionValue → ℕ → ℕ
 last_of f b = (block_at f b).range.end - 1
 
 module _ (f : FunctionValue) (ok : HasSoundBlocks f) (written : IsWrittenFirst f) where
-  -- what a step that does not write v leaves of it
+  -- a step that doesn't write v keeps v's value
   still : (vs : List Way) (v : VirtualRegister) (b i : ℕ) → (end_of f vs).inst ≡ i → (block_at f b).range.first ≤ i → i < (block_at f b).range.end →
       IsUnwritten f b v → source_after f vs v ≡ source_before f vs v
   still vs v b i e le lt u = after_defs-other (last_inst f vs).operands (length vs) 0 (source_before f vs) v
       (subst (λ j. Undefined (inst_at f j).operands v) (sym e) (u i le lt))
 
-  -- an instruction that reads v finds something
+  -- if an instruction reads v, v has a value there
   read_written : (b i j : ℕ) (vs : List Way) (v : VirtualRegister) → IsPath f vs → (end_of f vs).inst ≡ i → j < length (inst_at f i).operands →
       is_reading (op_at (inst_at f i).operands j) ≡ true → (op_at (inst_at f i).operands j).vreg ≡ v →
       source_before f vs v ≡ None → source_after f vs v ≡ None → ⊥
@@ -160,7 +160,7 @@ module _ (f : FunctionValue) (ok : HasSoundBlocks f) (written : IsWrittenFirst f
   kept_on k vs v h = passed-other (block_at f (target_at f (end_of f vs).block k)).params (arguments_at f (end_of f vs).block k) (source_after f vs)
       (source_after f vs) v h
 
-  -- a live vreg has something
+  -- a live vreg has a value
   live_written : (v : VirtualRegister) (b : ℕ) (ws : List Way) → b < length f.blocks → Entered f b ws → Live f v b → source_before f ws v ≡ None → ⊥
   live_written v b ws block e (read u (i, j, le, lt, j_lt, reads, is)) none =
       let t = through f b i ws e le lt in
@@ -186,19 +186,19 @@ module _ (f : FunctionValue) (ok : HasSoundBlocks f) (written : IsWrittenFirst f
       live_written v (target_at f b k) (ToSuccessor k ∷ vs) (ok.targets b k edge) (entered_on b k vs block edge t.path t.block_is t.inst_is) l
       (kept_on k vs v not ∙ after)
 
-  -- where the blocks of all paths are
+  -- every path ends in a block of the function
   pub block_within : (ws : List Way) → IsPath f ws → (end_of f ws).block < length f.blocks
   block_within [] p = ok.entry
   block_within (Onward ∷ ws) p = block_within ws p.0
   block_within (ToSuccessor k ∷ ws) p = ok.targets (end_of f ws).block k p.1.1
 
-  -- a path to the beginning of the block on which v has nothing
+  -- a path to the beginning of the block on which v has no value
   record Unvisited (b : ℕ) (v : VirtualRegister) : Type 0 where
     ways : List Way
     entered : Entered f b ways
     none : source_before f ways v ≡ None
 
-  -- a parameter of a successor that is entered in one way has nothing on the first visit
+  -- a parameter of a successor that only one block leads to has no value on the first visit
   first_visit : (b : ℕ) (v : VirtualRegister) → IsExcused f b v → (ws : List Way) → IsPath f ws → Unvisited b v
       ⊎ ((source_before f ws v ≡ None) × ((end_of f ws).block ≢ b))
   unfolding source_before over_edge
@@ -410,11 +410,11 @@ module _ (f : FunctionValue) (ok : HasSoundBlocks f) (written : IsWrittenFirst f
         holds (Onward ∷ vs) q e m at = (let inside = (within_block vs q.0 (rest_on vs q.0)).0 in absurd (omega (arith, inside, e)))
         holds (ToSuccessor k ∷ vs) q e m at = edge_stands k vs q (rest_on vs q.0) v p m at
 
--- if no path reads before writing, and every reached block carries what it owes, reads agree on every path
+-- if every vreg is definitely assigned, and every reachable block meets its obligation, reads agree on every path
 pub blocks_agree_in_places : BlocksAgreeInPlaces
 blocks_agree_in_places f out stand ok written carries = agree_at f ok written out stand carries
 
--- a block that a path reaches is one
+-- a reachable block is one of the function's
 reached_within : (f : FunctionValue) → HasSoundBlocks f → (b : ℕ) → IsReached f (first_of f b) → b < length f.blocks
 reached_within f ok b (ws, p, e) = subst (λ c. c < length f.blocks) (ap (λ (l : Location). l.block) e) (within ws p)
   where
@@ -423,7 +423,7 @@ reached_within f ok b (ws, p, e) = subst (λ c. c < length f.blocks) (ap (λ (l 
     within (Onward ∷ vs) q = within vs q.0
     within (ToSuccessor k ∷ vs) q = ok.targets (end_of f vs).block k q.1.1
 
--- what a block's listing carries that is put together by points
+-- a listing built from program points carries the same
 pub items_carry_on : (f : FunctionValue) (out : OutputValue) (stand : ℕ → VirtualRegister → Option Place) → HasSoundBlocks f → Rising out.edits →
     ((b : ℕ) → b < length f.blocks → EndsQuiet f out b) →
     ((b : ℕ) → IsReached f (first_of f b) → BlockCarriesOn f stand b (block_walked f out b)) → (b : ℕ) → IsReached f (first_of f b) →

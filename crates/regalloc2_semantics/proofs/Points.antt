@@ -92,7 +92,7 @@ pub moves_before-later : (o : OutputValue) (first i : ℕ) → first ≤ i → R
     ++ at_point o.edits (before (i + 1))
 moves_before-later o first i le r = split first i o.edits le r
 
--- before the block's first instruction stand the moves before it
+-- before the block's first instruction only the moves before it are listed
 pub moves_before-first : (o : OutputValue) (i : ℕ) → moves_before o i i ≡ at_point o.edits (before i)
 moves_before-first o i = each o.edits
   where
@@ -109,7 +109,7 @@ moves_before-first o i = each o.edits
     each : (es : List (ℕ × MoveValue)) → map (λ e. e.1) (filter (λ e. is_listed_at i i e.0) es) ≡ at_point es (before i)
     each es = ap (map (λ e. e.1)) (filter_agree (λ e. is_listed_at i i e.0) (λ e. nat_eq e.0 (before i)) (λ e. same e.0) es)
 
--- two lists of moves in front of a listing are the first in front of the second in front of it
+-- to prepend two joined lists of moves is to prepend the second, and then the first
 pub with_moves-append : (ms ns : List MoveValue) (L : List Item) → with_moves (ms ++ ns) L ≡ with_moves ms (with_moves ns L)
 unfolding with_moves
 with_moves-append [] ns L = refl
@@ -134,7 +134,7 @@ later f o first r i (suc count) le quiet =
     ∙ ap (λ l. with_moves (at_point o.edits (after i)) (with_moves (at_point o.edits (before (i + 1)))
     (exec_item (inst_at f (i + 1)) (allocs_of o (i + 1)) ∷ l))) rest
 
--- a block's listing is what the points say
+-- a block's listing is the one built from program points
 counted : (f : FunctionValue) (o : OutputValue) (first n : ℕ) → Rising o.edits → at_point o.edits (after (first + n)) ≡ [] →
     items_from f o first first (suc n) ≡ walked (inst_at f) (at_point o.edits) (allocs_of o) first (suc n)
 unfolding items_by walked
@@ -153,13 +153,13 @@ block_items-walked f o b r nonempty quiet =
     let last : (block_at f b).range.end - 1 ≡ first + n = omega arith in
     rw e (counted f o first n r (rw last at quiet))
 
--- an output in order
+-- edits whose points, by index, are all at least n
 pub all_from : (n : ℕ) (es : List (ℕ × MoveValue)) → ((k : ℕ) (d : ℕ × MoveValue) → k < length es → n ≤ (slice_index_or es k d).0) → AllFrom n es
 unfolding AllFrom
 all_from n [] h = tt
 all_from n (e ∷ es) h = (h 0 e (omega arith), all_from n es (λ k d lt. h (suc k) d (omega arith)))
 
--- edits sorted by their points, as `IsNonDecreasingBy` says it of indices, have points that never fall
+-- edits sorted by their points, as `IsNonDecreasingBy` states it for indices, have points that never fall
 pub rising_by : (es : List (ℕ × MoveValue)) → IsNonDecreasingBy (λ e. e.0) es → Rising es
 unfolding Rising
 rising_by [] h = tt

@@ -207,7 +207,7 @@ once_at f once i lt reads =
     by_maker n j x (by_earlier l m less y e) = let same = one_operand f once _ i l j m x y in omega (arith, less, same.0)
     by_maker n j x (MadeBefore.by_param b l y e) = not_both f once _ i j b l x y
 
--- and what they name is known by its number
+-- the vregs that are made are one for each number, and include those that the operands name
 pub knows_at : (f : FunctionValue) → DefinedOnce f → (i : ℕ) → i < length f.insts → ReadsDefined f i → Knows (Made f) (inst_at f i).operands
 knows_at f once i lt reads = record {
   same = one_made f once;

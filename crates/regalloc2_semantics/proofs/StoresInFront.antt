@@ -1,4 +1,4 @@
--- Stores before all else carry values from where they are to where they are stored, and leave other places as they are.
+-- Stores at a block's beginning carry values from their places to where they are stored, and don't change other places.
 use Rattle.std.proofs.Common.{◌≡◌, ◌≢◌, Bool, true, false, List, [], ◌∷◌, ◌++◌, Option, None, Some, refl, sym, ap, ◌∙◌, subst, inl, inr, ◌⊎◌}
 use Rattle.regalloc2_names.specs.Register.{VirtualRegister}
 use Rattle.regalloc2_names.specs.Place.{Place, NoPlace}
@@ -11,7 +11,7 @@ use Rattle.regalloc2_semantics.specs.Stores.IsOneOf.{first, later}
 use Rattle.regalloc2_semantics.proofs.Cells.{stored-same, stored-other}
 use Rattle.regalloc2_semantics.proofs.CarryRules.{carries_moves}
 
--- moves, and then others
+-- a list of moves, and then another
 pub after_both : (ms ns : List MoveValue) (c : Cells) → after_moves (ms ++ ns) c ≡ after_moves ns (after_moves ms c)
 unfolding after_moves
 after_both [] ns c = refl
@@ -82,8 +82,8 @@ ways M [] h t m q by = elim m [ ]
 ways M (s ∷ ss) h t (first is) q by = (h.1 q (ap (λ (x : Store). x.by) is ∙ by)).0
 ways M (s ∷ ss) h t (later m) q by = ways M ss h.3 t m q by
 
--- Stores to memory don't disturb one another if those that start in registers come before all that go by way of one, no place is stored to twice, and
--- none from which a later one starts.
+-- Stores to stack places don't disturb one another if those that start in registers are before all that go through one, no place is the target of two, and no
+-- later store starts from an earlier one's target.
 pub in_order : (M : Place → Bool) → M NoPlace ≡ false → (ss : List Store) → AreInOrder M ss → AreStores ss
 unfolding AreInOrder AreStores
 in_order M none [] h = tt

@@ -79,6 +79,6 @@ well_formed_read_earlier earlier env f ok ws p written k d lt reads =
 pub agreeing_reads_find_earlier : SourceIsEarlier → AgreeingReadsFindEarlier
 agreeing_reads_find_earlier earlier env f out ok agree ws p = well_formed_read_earlier earlier env f ok ws p (λ k d lt reads. (agree ws p k d lt reads).0)
 
--- in a well-formed function whose uses all find a write, reads agree if both runs read the same numbers under every meaning
+-- in a well-formed function whose uses all find a write, reads agree if both runs read the same numbers whatever the instructions compute
 pub agrees_by_numbers : SourceIsEarlier → NumbersGiveReads → ReadsAgreeWhereNumbersDo
 agrees_by_numbers earlier back env f out ok written same = back f out (λ ws p. well_formed_read_earlier earlier env f ok ws p (written ws p)) same

@@ -1,4 +1,4 @@
--- A block's items_by, by the points of its moves.
+-- A block's listing, built from the program points of its moves.
 use Rattle.std.specs.Prelude.{ℕ, zero, suc, ◌≡◌, ◌+◌, ◌-◌, ◌≤◌, nat_eq, List, [], ◌∷◌, filter, map, reverse}
 use Rattle.regalloc2_names.specs.Place.{Place}
 use Rattle.regalloc2_names.specs.Point.{before, after}
@@ -16,7 +16,7 @@ walked insts at places i zero = []
 walked insts at places i (suc count) = with_moves (at (before i)) (exec_item (insts i) (places i) ∷ with_moves (at (after i))
     (walked insts at places (i + 1) count))
 
--- those of a block
+-- the listing of a block
 abbrev pub block_walked : FunctionValue → OutputValue → ℕ → List Item
 block_walked f out b = walked (inst_at f) (at_point out.edits) (allocs_of out) (block_at f b).range.first
     ((block_at f b).range.end - (block_at f b).range.first)
@@ -35,14 +35,14 @@ Rising (e ∷ es) = AllFrom e.0 es × Rising es
 abbrev pub EndsQuiet : FunctionValue → OutputValue → ℕ → Type 0
 EndsQuiet f out b = at_point out.edits (after ((block_at f b).range.end - 1)) ≡ []
 
--- The walk goes backward through a block, and pushes moves in front. What runs after the instruction i, with n more behind it:
+-- The walk goes backward through a block, and pushes moves in front. What runs after the instruction i, with n more instructions behind it:
 abbrev pub after_part : (ℕ → InstValue) → List (ℕ × MoveValue) → (ℕ → List Place) → ℕ → ℕ → List Item
 after_part insts edits places i n = with_moves (at_point edits (after i)) (walked insts (at_point edits) places (i + 1) n)
 
--- and what runs from the moves before it on, where it is as the item
+-- what runs from the moves before the instruction on, where item stands for the instruction
 abbrev pub before_part : (ℕ → InstValue) → List (ℕ × MoveValue) → (ℕ → List Place) → ℕ → ℕ → Item → List Item
 before_part insts edits places i n item = with_moves (at_point edits (before i)) (item ∷ after_part insts edits places i n)
 
--- the moves in the order in which they were pushed, and as they are listed
+-- the edits as listed, from the order in which they were pushed
 abbrev pub listed : List (ℕ × MoveValue) → List (ℕ × MoveValue)
 listed pushed = reverse pushed

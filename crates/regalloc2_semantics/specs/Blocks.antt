@@ -1,4 +1,4 @@
--- What each block owes, and the theorem on paths.
+-- The obligation of each block, and the theorem on paths.
 use Rattle.std.specs.Prelude.{ℕ, ◌≡◌, ◌≢◌, ◌<◌, ◌≤◌, ◌⊎◌, Bool, true, false, ◌||◌, List, [], ◌∷◌, length, slice_index, Contains, Option, Some}
 use Rattle.regalloc2_names.specs.Register.{VirtualRegister, is_vreg}
 use Rattle.regalloc2_names.specs.Place.{Place}
@@ -17,7 +17,7 @@ unfoldable pub names : VirtualRegister → List VirtualRegister → Bool
 names v [] = false
 names v (p ∷ ps) = is_vreg p v || names v ps
 
--- a block has an edge at a position, and it leads there
+-- the block has an edge at a position; and the block that the edge leads to
 abbrev pub HasEdge : FunctionValue → ℕ → ℕ → Type 0
 HasEdge f b k = k < length (block_at f b).succs
 
@@ -27,12 +27,12 @@ target_at f b k = slice_index (block_at f b).succs k
 abbrev pub IsParameter : FunctionValue → ℕ → VirtualRegister → Type 0
 IsParameter f b v = names v (block_at f b).params ≡ true
 
--- the block is entered in one way, and not by the function's start
+-- the block isn't the entry, and all edges into it come from one block
 pub record IsEnteredOnce (f : FunctionValue) (s : ℕ) : Type 0 where
   pub not_entry : s ≢ f.entry
   pub from_one : (b c i j : ℕ) → HasEdge f b i → HasEdge f c j → target_at f b i ≡ s → target_at f c j ≡ s → b ≡ c
 
--- of a well-formed function, what the theorem needs
+-- what the theorem requires of a function, and each well-formed one meets
 pub record HasSoundBlocks (f : FunctionValue) : Type 0 where
   pub nonempty : (b : ℕ) → b < length f.blocks → (block_at f b).range.first < (block_at f b).range.end
   pub entry : f.entry < length f.blocks
@@ -54,11 +54,11 @@ IsUsed f v = ((b : ℕ) × IsReadIn f b v) ⊎ ((b k : ℕ) × HasEdge f b k × 
 abbrev pub IsUsedIn : FunctionValue → ℕ → VirtualRegister → Type 0
 IsUsedIn f b v = IsReadIn f b v ⊎ ((k : ℕ) × HasEdge f b k × Contains (arguments_at f b k) v)
 
--- v may be wanted behind the block: it has an edge, and either leaves v unwritten, or another block uses v and leaves it unwritten
+-- v may be live out of the block: the block has an edge, and either leaves v unwritten, or another block uses v and leaves it unwritten
 abbrev pub IsWantedBehind : FunctionValue → ℕ → VirtualRegister → Type 0
 IsWantedBehind f b v = ((k : ℕ) × HasEdge f b k) × (IsUnwritten f b v ⊎ ((c : ℕ) × (c < length f.blocks) × (c ≢ b) × IsUnwritten f c v × IsUsedIn f c v))
 
--- v is a parameter of a successor that is entered in one way: then a block owes nothing for v
+-- v is a parameter of a successor that only this block leads to: then the block has no obligation for v
 abbrev pub IsExcused : FunctionValue → ℕ → VirtualRegister → Type 0
 IsExcused f b v = (k : ℕ) × HasEdge f b k × IsEnteredOnce f (target_at f b k) × IsParameter f (target_at f b k) v
 
@@ -66,36 +66,36 @@ IsExcused f b v = (k : ℕ) × HasEdge f b k × IsEnteredOnce f (target_at f b k
 abbrev pub IsSilent : FunctionValue → ℕ → VirtualRegister → Type 0
 IsSilent f b v = (IsReadIn f b v → ⊥) × ((k : ℕ) → HasEdge f b k → Contains (arguments_at f b k) v → ⊥)
 
--- what a block may rely on: it has nothing to do with those for which it owes nothing
+-- what a block may assume: it neither reads nor passes the vregs for which it has no obligation
 abbrev pub ExcusedAreSilent : FunctionValue → ℕ → Type 0
 ExcusedAreSilent f b = (v : VirtualRegister) → IsExcused f b v → IsSilent f b v
 
--- the argument a is given for the parameter v, counting v's last listing
+-- a is the argument passed for the parameter v; if v is listed more than once, its last position counts
 unfoldable pub Passes : VirtualRegister → VirtualRegister → List VirtualRegister → List VirtualRegister → Type 0
 Passes v a [] arguments = ⊥
 Passes v a (p ∷ ps) [] = ⊥
 Passes v a (p ∷ ps) (x ∷ xs) = Passes v a ps xs ⊎ ((p ≡ v) × (x ≡ a) × (names v ps ≡ false))
 
 module _ (f : FunctionValue) (slot : VirtualRegister → Option Place) where
-  -- where v may be relied on at the block's beginning: in its slot, unless the block writes it
+  -- where v's value may be assumed to be at the block's beginning: in its slot, unless the block writes v
   abbrev pub StandsBefore : ℕ → VirtualRegister → Place → Type 0
   StandsBefore b v p = IsUnwritten f b v × (slot v ≡ Some p)
 
-  -- where v's value has to be at the block's end: in its slot, where it may be wanted and is no parameter of a successor, and in the slot
-  -- of each parameter that it is passed to
+  -- where v's value has to be at the block's end: in its slot, if v may be live out and is no parameter of a successor, and in the slot of each parameter that
+  -- v is passed to
   abbrev pub StandsAfter : ℕ → VirtualRegister → Place → Type 0
   StandsAfter b v p =
       (((k : ℕ) → HasEdge f b k → names v (block_at f (target_at f b k)).params ≡ false) × IsWantedBehind f b v × (slot v ≡ Some p))
       ⊎ ((k : ℕ) × (u : VirtualRegister) × HasEdge f b k × Passes u v (block_at f (target_at f b k)).params (arguments_at f b k) × (slot u ≡ Some p))
 
--- The same for values that aren't in one slot wherever a block begins: stand says where vregs are at each block's beginning.
+-- The same for values that aren't in one slot at every block's beginning: stand gives the place of each vreg at each block's beginning.
 module _ (f : FunctionValue) (stand : ℕ → VirtualRegister → Option Place) where
-  -- where v may be relied on at the block's beginning: where it is there, unless the block writes it
+  -- where v's value may be assumed to be at the block's beginning: in its place there, unless the block writes v
   abbrev pub ComesIn : ℕ → VirtualRegister → Place → Type 0
   ComesIn b v p = IsUnwritten f b v × (stand b v ≡ Some p)
 
-  -- where v's value has to be at the block's end: where it is at the beginning of each successor, if it may be wanted and is no parameter of a
-  -- successor, and where each parameter that it is passed to is there
+  -- where v's value has to be at the block's end: in its place at the beginning of each successor, if v may be live out and is no parameter of a successor, and
+  -- in the place there of each parameter that v is passed to
   abbrev pub GoesOut : ℕ → VirtualRegister → Place → Type 0
   GoesOut b v p =
       ((k : ℕ) × HasEdge f b k × ((j : ℕ) → HasEdge f b j → names v (block_at f (target_at f b j)).params ≡ false) × IsWantedBehind f b v
@@ -103,16 +103,16 @@ module _ (f : FunctionValue) (stand : ℕ → VirtualRegister → Option Place) 
       ⊎ ((k : ℕ) × (u : VirtualRegister) × HasEdge f b k × Passes u v (block_at f (target_at f b k)).params (arguments_at f b k)
       × (stand (target_at f b k) u ≡ Some p))
 
-  -- what a block owes, for each vreg that is used somewhere
+  -- the block's obligation, for each vreg that is used somewhere
   abbrev pub BlockCarriesOn : ℕ → List Item → Type 0
   BlockCarriesOn b items = ExcusedAreSilent f b → (v : VirtualRegister) → IsUsed f v → (IsExcused f b v → ⊥) → Carries v items (ComesIn b v) (GoesOut b v)
 
--- where no path reads before writing, and every block that a path reaches does what it owes, reads agree on every path
+-- if every vreg is definitely assigned (`IsWrittenFirst`), and every reachable block meets its obligation, reads agree on every path
 abbrev pub BlocksAgreeInPlaces : Type 0
 BlocksAgreeInPlaces = (f : FunctionValue) (out : OutputValue) (stand : ℕ → VirtualRegister → Option Place) → HasSoundBlocks f → IsWrittenFirst f →
     ((b : ℕ) → IsReached f (first_of f b) → BlockCarriesOn f stand b (block_items f out b)) → ReadsAgreeOnPaths f out
 
--- the same, with the listings put together by the points of their moves
+-- the same, with listings built from the program points of the moves
 abbrev pub BlocksAgreeInPlacesByPoints : Type 0
 BlocksAgreeInPlacesByPoints = (f : FunctionValue) (out : OutputValue) (stand : ℕ → VirtualRegister → Option Place) → HasSoundBlocks f → IsWrittenFirst f →
     Rising out.edits → ((b : ℕ) → b < length f.blocks → EndsQuiet f out b) →

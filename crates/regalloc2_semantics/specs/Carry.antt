@@ -26,7 +26,7 @@ Finds v late operands places x c = (j : ℕ) → j < length operands → is_read
     (op_at operands j).vreg ≡ v →
     c (place_at places j) ≡ x
 
--- Run on both sides from a step on, each reading use of v finds what v has then, and the places of E hold it at the end.
+-- Both runs execute the listing from step n on: each reading use of v finds v's value at that time, and the places of E hold it at the end.
 unfoldable pub CarriesFrom : VirtualRegister → (Place → Type 0) → List Item → Source → Cells → ℕ → Type 0
 CarriesFrom v E [] s c n = (p : Place) → E p → c p ≡ s v
 CarriesFrom v E (Move m ∷ items) s c n = CarriesFrom v E items s (stored c m.to (c m.from)) n
@@ -35,7 +35,7 @@ CarriesFrom v E (Exec operands places clobbers ∷ items) s c n =
     × Finds v true operands places (after_defs n 0 operands s v) (late_cells n operands places clobbers c)
     × CarriesFrom v E items (after_defs n 0 operands s) (late_cells n operands places clobbers c) (suc n)
 
--- The same from every state in which the places of P hold what v has, which may be nothing.
+-- The same from every state in which the places of P hold v's value, which may be none.
 unfoldable pub Carries : VirtualRegister → List Item → (Place → Type 0) → (Place → Type 0) → Type 0
 Carries v items P E = (s : Source) (c : Cells) (n : ℕ) → ((p : Place) → P p → c p ≡ s v) → CarriesFrom v E items s c n
 
@@ -45,12 +45,12 @@ is_clobbered clobbers NoPlace = false
 is_clobbered clobbers (InRegister r) = has_register clobbers r
 is_clobbered clobbers (InSlot n) = false
 
--- an instruction leaves the place as it is
+-- an instruction doesn't change the place
 pub record Spares (operands : List OperandValue) (places : List Place) (clobbers : PRegSet) (p : Place) : Type 0 where
   pub no_definition : (j : ℕ) → j < length operands → is_def (op_at operands j).kind ≡ true → place_at places j ≡ p → ⊥
   pub no_clobber : is_clobbered clobbers p ≡ false
 
--- and the vreg
+-- no operand defines the vreg
 abbrev pub Undefined : List OperandValue → VirtualRegister → Type 0
 Undefined operands v = (j : ℕ) → j < length operands → is_def (op_at operands j).kind ≡ true → (op_at operands j).vreg ≡ v → ⊥
 

@@ -1,4 +1,4 @@
--- One instruction, as a backward walk allocates it: which vregs are known by their numbers, and what a listing carries.
+-- One instruction, as a backward walk allocates it: which vreg each number stands for, and what a listing carries.
 use Rattle.std.specs.Prelude.{ℕ, ◌≡◌, ◌<◌, true, List, length}
 use Rattle.regalloc2_names.specs.Register.{Register, VirtualRegister}
 use Rattle.regalloc2_names.specs.Operand.{OperandValue, is_def, is_reading}
@@ -7,18 +7,18 @@ use Rattle.regalloc2_semantics.specs.Listing.{Item}
 use Rattle.regalloc2_semantics.specs.Carry.{Carries}
 use Rattle.regalloc2_function.specs.FunctionValue.{op_at}
 
--- T: where the vreg of a number is; S: its slot
+-- T: the current location of the vreg with a number; S: its slot
 pub record IsTidy (T S : ℕ → Place) : Type 0 where
   pub apart : (m n : ℕ) (r : Register) → T m ≡ InRegister r → T n ≡ InRegister r → m ≡ n
   pub own_slot : (n k : ℕ) → T n ≡ InSlot k → S n ≡ InSlot k
   pub no_register : (n : ℕ) (r : Register) → S n ≡ InRegister r → ⊥
   pub one_owner : (m n k : ℕ) → S m ≡ InSlot k → S n ≡ InSlot k → m ≡ n
 
--- a listing carries each vreg that is known from the places that its number needs
+-- a listing carries each vreg of Known from the places that its number needs
 abbrev pub Claims : (VirtualRegister → Type 0) → List Item → (ℕ → Place → Type 0) → (VirtualRegister → Place → Type 0) → Type 0
 Claims Known items N E = (v : VirtualRegister) → Known v → Carries v items (N v.number) (E v)
 
--- a number has one vreg that is known, and those of the operands are
+-- Known has one vreg for a number, and has those of the operands
 pub record Knows (Known : VirtualRegister → Type 0) (operands : List OperandValue) : Type 0 where
   pub same : (v w : VirtualRegister) → Known v → Known w → v.number ≡ w.number → v ≡ w
   pub definition : (j : ℕ) → j < length operands → is_def (op_at operands j).kind ≡ true → Known (op_at operands j).vreg

@@ -23,12 +23,12 @@ FaithfulWhereReadsAgree = (f : FunctionValue) (env : MachineValue) (out : Output
 abbrev pub WellFormedReadEarlier : Type 0
 WellFormedReadEarlier = (env : MachineValue) (f : FunctionValue) → IsWellFormed env f → (ws : List Way) → IsPath f ws → UsesWritten f ws → UsesFindEarlier f ws
 
--- so where reads agree, each finds on both sides a write of an earlier step, to which every meaning gives a number
+-- so if reads agree, each finds on both sides a write of an earlier step, which has a number under every interpretation
 abbrev pub AgreeingReadsFindEarlier : Type 0
 AgreeingReadsFindEarlier = (env : MachineValue) (f : FunctionValue) (out : OutputValue) → IsWellFormed env f → ReadsAgreeOnPaths f out → (ws : List Way) →
     IsPath f ws → UsesFindEarlier f ws
 
--- and where every use finds a write, and both runs read the same numbers, whatever the instructions mean, reads agree
+-- if every use finds a write, and both runs read the same numbers whatever the instructions compute, reads agree
 abbrev pub ReadsAgreeWhereNumbersDo : Type 0
 ReadsAgreeWhereNumbersDo = (env : MachineValue) (f : FunctionValue) (out : OutputValue) → IsWellFormed env f →
     ((ws : List Way) → IsPath f ws → UsesWritten f ws) → SameNumbers f out → ReadsAgreeOnPaths f out

@@ -30,11 +30,11 @@ items_by insts moves places i (suc count) = with_moves (moves i) (exec_item (ins
 abbrev pub items_from : FunctionValue → OutputValue → ℕ → ℕ → ℕ → List Item
 items_from f out first i count = items_by (inst_at f) (moves_before out first) (allocs_of out) i count
 
--- and for the whole block
+-- the listing of the whole block
 abbrev pub block_items : FunctionValue → OutputValue → ℕ → List Item
 block_items f out b = items_from f out (block_at f b).range.first (block_at f b).range.first ((block_at f b).range.end - (block_at f b).range.first)
 
--- whether operands, or a items_by, write a vreg
+-- whether operands, or a listing, write a vreg
 unfoldable pub defines : VirtualRegister → List OperandValue → Bool
 defines v [] = false
 defines v (o ∷ os) = (is_def o.kind && is_vreg o.vreg v) || defines v os

@@ -1,4 +1,4 @@
--- The vregs that are live at a block's beginning, and where their values are then.
+-- The vregs that are live at a block's beginning, and the places that hold their values there.
 use Rattle.std.specs.Prelude.{ℕ, ◌≡◌, ◌<◌, true, false, List, length, Option, Some, IsSome, Contains}
 use Rattle.regalloc2_names.specs.Register.{VirtualRegister}
 use Rattle.regalloc2_names.specs.Place.{Place}
@@ -16,13 +16,13 @@ use Rattle.regalloc2_semantics.specs.Carry.{Undefined}
 use Rattle.regalloc2_semantics.specs.BlockByPoints.{block_walked, Rising, EndsQuiet}
 use Rattle.regalloc2_semantics.specs.Blocks.{names, target_at, BlockCarriesOn}
 
--- a way on gives v no new value: it is no edge to a block of which v is a parameter
+-- the edge or fall-through (`Way`) gives v no new value: it leads to no block with v as a parameter
 abbrev pub IsAside : FunctionValue → VirtualRegister → Location → Way → Type 0
 IsAside f v l Onward = Unit {0}
 IsAside f v l (ToSuccessor k) = names v (block_at f (target_at f l.block k)).params ≡ false
 
--- v is live before an instruction: it is read there, or on some way on it is read or passed before it is written (where what an instruction
--- reads isn't what it writes, as in well-formed functions)
+-- v is live before an instruction: it is read there, or read or passed on some path from there before it is written (if no instruction reads what it writes, as
+-- in well-formed functions)
 pub data IsLive (f : FunctionValue) (v : VirtualRegister) : Location → Type 0 where
   read_there : (l : Location) (j : ℕ) → j < length (inst_at f l.inst).operands → is_reading (op_at (inst_at f l.inst).operands j) ≡ true →
       (op_at (inst_at f l.inst).operands j).vreg ≡ v → IsLive f v l
@@ -30,21 +30,21 @@ pub data IsLive (f : FunctionValue) (v : VirtualRegister) : Location → Type 0 
       IsLive f v l
   later : (l : Location) (w : Way) → HasWay f l w → Undefined (inst_at f l.inst).operands v → IsAside f v l w → IsLive f v (next_of f l w) → IsLive f v l
 
--- a path has just come to a block
+-- the path ends at the first instruction of a block
 abbrev pub HasEntered : FunctionValue → List Way → Type 0
 HasEntered f ws = (end_of f ws).inst ≡ (block_at f (end_of f ws).block).range.first
 
--- before a path's last step, v has a value, parameters what the edge gave them, and the place holds it
+-- before a path's last step v has a value (a parameter the one that the edge gave it), and the place holds it
 abbrev pub HoldsValueAt : FunctionValue → OutputValue → List Way → Place → VirtualRegister → Type 0
 HoldsValueAt f out ws p v = IsSome (source_before f ws v) × (cells_before f out ws p ≡ source_before f ws v)
 
--- on every path, where it comes to a block, the place where a vreg is that is live there holds its value
+-- whenever a path enters a block, the place of each vreg that is live there holds its value
 abbrev pub LiveStandInPlaces : FunctionValue → OutputValue → (ℕ → VirtualRegister → Option Place) → Type 0
 LiveStandInPlaces f out stand = (ws : List Way) → IsPath f ws → HasEntered f ws → (v : VirtualRegister) (p : Place) → IsLive f v (end_of f ws) →
     stand (end_of f ws).block v ≡ Some p → HoldsValueAt f out ws p v
 
--- so it is where no path reads before writing, and every block that a path reaches carries values from where they are at its beginning
--- to where they are at the next one's, with the listings put together by the points of their moves
+-- this is so if every vreg is definitely assigned, and every reachable block carries values from their places at its beginning to those at the next block's
+-- beginning, with listings built from the program points of the moves
 abbrev pub LiveStandWhereBlocksCarryOn : Type 0
 LiveStandWhereBlocksCarryOn = (env : MachineValue) (f : FunctionValue) (out : OutputValue) (stand : ℕ → VirtualRegister → Option Place) →
     IsWellFormed env f → IsWrittenFirst f → Rising out.edits → ((b : ℕ) → b < length f.blocks → EndsQuiet f out b) →

@@ -23,8 +23,8 @@ pub data Share (a b : What) : Type 0 where
   read_first : a.is_def ≡ false → a.is_late ≡ false → b.is_def ≡ true → b.is_late ≡ true → Share a b
   written_after : a.is_def ≡ true → a.is_late ≡ true → b.is_def ≡ false → b.is_late ≡ false → Share a b
 
--- T: where numbers are; S: their slots. What a number needs after the instruction, while its operands are allocated: where it was all
--- through, its slot, or where it was defined.
+-- T: current locations, by vreg number; S: slots. What a number needs after the instruction, while its operands are allocated: its location if it lived when
+-- the instruction began, its slot, or the place where it was defined.
 pub data Need (lived out : ℕ → Bool) (X : Place → ℕ → Bool) (T S : ℕ → Option Place) (n : ℕ) (p : Place) : Type 0 where
   located : lived n ≡ true → T n ≡ Some p → Need lived out X T S n p
   in_slot : out n ≡ false → S n ≡ Some p → Need lived out X T S n p
@@ -40,9 +40,9 @@ pub data Pending (what : ℕ → What) (here : ℕ → Place) (done out : ℕ �
 abbrev pub Counts : List OperandValue → ℕ → Type 0
 Counts operands j = (j < length operands) × ((is_def (op_at operands j).kind ≡ true) ⊎ (is_reading (op_at operands j) ≡ true))
 
--- How far the operands of an instruction have their places. here: the place of each; claimed: operands that have their place (placed ones, and
--- fixed ones from the evictions on); done: placed ones; lived: numbers that had a location when the instruction began; out: numbers whose
--- definition is placed; made_at: the places of those; clobbered: the places that are clobbered.
+-- How far an instruction's operands are placed. here: the place of each; claimed: operands that have their place (placed ones, and fixed ones from the
+-- evictions on); done: placed ones; lived: numbers that had a location when the instruction began; out: numbers whose definition is placed; made_at: the places
+-- of those; clobbered: the places that are clobbered.
 pub record Progress : Type 0 where
   pub here : ℕ → Place
   pub claimed : ℕ → Bool
@@ -64,12 +64,12 @@ at_begin here lived = record {
   clobbered = λ q. false;
 }
 
--- what holds of operands that have their places so far
+-- the invariant of the operands placed so far
 pub record Placed (what : ℕ → What) (p : Progress) (T S : ℕ → Option Place) : Type 0 where
-  -- the law of the instruction
+  -- what operands' places must satisfy
   pub there : (j : ℕ) → p.claimed j ≡ true → p.here j ≢ NoPlace
   pub apart : (i j : ℕ) → p.claimed i ≡ true → p.claimed j ≡ true → p.here i ≡ p.here j → (i ≡ j) ⊎ Share (what i) (what j)
-  -- no other vreg is in a claimed place; a vreg that is newly placed may, in that of a definition
+  -- no other vreg is in a claimed place, but a newly placed one may be in that of a definition
   pub def_alone : (j w : ℕ) → p.claimed j ≡ true → (what j).is_def ≡ true → p.lived w ≡ true → T w ≡ Some (p.here j) → w ≡ (what j).number
   pub use_alone : (j w : ℕ) → p.claimed j ≡ true → (what j).is_def ≡ false → T w ≡ Some (p.here j) → w ≡ (what j).number
   pub slot_own : (j w : ℕ) → p.claimed j ≡ true → S w ≡ Some (p.here j) → w ≡ (what j).number
@@ -102,7 +102,7 @@ pub record GoesToSlot (T U S : ℕ → Option Place) (n : ℕ) (r slot : Place) 
   pub alone : (x : ℕ) → T x ≡ Some r → x ≡ n
   pub no_slot : (x : ℕ) → S x ≡ Some r → ⊥
 
--- the use k is moved to its place from the place q, where its number is
+-- the use k is moved to its place from q, the current location of its number
 pub record IsMoved (what : ℕ → What) (p : Progress) (T S : ℕ → Option Place) (k : ℕ) (q : Place) : Type 0 where
   pub there : p.here k ≢ NoPlace
   pub is_use : (what k).is_def ≡ false
@@ -120,7 +120,7 @@ pub record Puts (here there : ℕ → Place) (claimed claimed2 : ℕ → Bool) (
   pub keeps : (j : ℕ) → claimed j ≡ true → claimed2 j ≡ true
   pub claims : claimed2 k ≡ true
 
--- no number is where the operand w goes but its own, or one that a definition displaces
+-- r is no other number's location, unless the operand w is a definition and that number is newly placed; and r is no other number's slot
 pub record IsVacant (w : What) (lived : ℕ → Bool) (T S : ℕ → Option Place) (r : Place) : Type 0 where
   pub for_def : w.is_def ≡ true → (n : ℕ) → lived n ≡ true → T n ≡ Some r → n ≡ w.number
   pub for_use : w.is_def ≡ false → (n : ℕ) → T n ≡ Some r → n ≡ w.number
@@ -147,7 +147,7 @@ pub record AreAllPlaced (operands : List OperandValue) (places : List Place) (p 
   pub counted : (j : ℕ) → p.done j ≡ true → Counts operands j
   pub at_places : (j : ℕ) → Counts operands j → place_at places j ≡ p.here j
 
--- clobbers are among the places that the walk takes for clobbered, and no slot is
+-- each clobber is among the places that the walk treats as clobbered, and no slot is
 pub record AreClobbersKnown (clobbers : PRegSet) (clobbered : Place → Bool) (S : ℕ → Option Place) : Type 0 where
   pub listed : (q : Place) → clobbered q ≡ false → is_clobbered clobbers q ≡ false
   pub slots : (w : ℕ) (q : Place) → S w ≡ Some q → clobbered q ≡ false
@@ -157,18 +157,18 @@ pub record Once (counts : ℕ → Type 0) (what : ℕ → What) : Type 0 where
   pub one : (i j : ℕ) → counts i → counts j → (what i).is_def ≡ true → (what j).is_def ≡ true → (what i).number ≡ (what j).number → i ≡ j
   pub unread : (i j : ℕ) → counts i → counts j → (what i).is_def ≡ true → (what j).is_def ≡ false → (what i).number ≡ (what j).number → ⊥
 
--- the claim of the operand k on the place r
+-- the operand k may claim the place r: each operand that claimed r before may share it
 abbrev pub Clear : (ℕ → What) → (ℕ → Place) → (ℕ → Bool) → ℕ → Place → Type 0
 Clear what here claimed k r = (i : ℕ) → claimed i ≡ true → here i ≡ r → (i ≡ k) ⊎ Share (what i) (what k)
 
--- what is held at the two positions, at least
+-- the places taken at the early and the late position include at least the claimed ones
 pub record Held (what : ℕ → What) (here : ℕ → Place) (claimed : ℕ → Bool) (early late : Place → Bool) : Type 0 where
   pub early_uses : (i : ℕ) → claimed i ≡ true → (what i).is_def ≡ false → early (here i) ≡ true
   pub early_defs : (i : ℕ) → claimed i ≡ true → (what i).is_late ≡ false → early (here i) ≡ true
   pub late_defs : (i : ℕ) → claimed i ≡ true → (what i).is_def ≡ true → late (here i) ≡ true
   pub late_uses : (i : ℕ) → claimed i ≡ true → (what i).is_late ≡ true → late (here i) ≡ true
 
--- the register is free where the operand is
+-- the register is free at the operand's positions
 pub record Free (w : What) (early late : Place → Bool) (r : Place) : Type 0 where
   pub early_use : w.is_def ≡ false → early r ≡ false
   pub early_def : w.is_late ≡ false → early r ≡ false

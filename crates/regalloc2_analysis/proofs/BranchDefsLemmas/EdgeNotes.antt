@@ -159,7 +159,7 @@ range_behind xs ys =
     ap (take (length (xs ++ ys) - length xs)) (drop-append_seam xs ys) ∙ take_all ys (length (xs ++ ys) - length xs)
     (let l = length-append xs ys in omega (arith, l))
 
--- what is told of an edge stays where more is listed
+-- what an entry says of an edge still holds if more is listed
 edge_stays : (f : FunctionValue) (b : ℕ) (listed added : List ℕ) (e : EdgeInto) → IsEdgeOf f b listed e → IsEdgeOf f b (listed ++ added) e
 edge_stays f b listed added e h = record {
   edge = h.edge;

@@ -36,7 +36,7 @@ marks_then P Q R old mid new long a b either = record {
   marks = λ n lt r. elim ((either n).0 r) [ inl p ↦ b.kept n (a.marks n lt p) | inr q ↦ b.marks n (omega (arith, lt, long)) q ];
 }
 
--- of the first count + 1 one, it is one of the first count or the last
+-- one of the first count + 1 is one of the first count, or the last
 last_or_before : (P : ℕ → Type 0) (count : ℕ) → ((k : ℕ) × (k < count + 1) × P k) → ((k : ℕ) × (k < count) × P k) ⊎ P count
 last_or_before P count h = elim (cases_eq h.0 count) [
   | inl same ↦ inr (subst P same h.2)

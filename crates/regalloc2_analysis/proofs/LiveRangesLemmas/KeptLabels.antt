@@ -37,7 +37,7 @@ kept_append (left_out l never rest) b = left_out l never (kept_append rest b)
 abbrev pub location_at : (KeptLabel → Place) → KeptLabel → DebugLocation
 location_at place k = record { label = k.label; start = k.range.first; end = k.range.last; place = place k }
 
--- Where each place meets what is asked of it, those of the labels that are kept are the function's debug locations, as listed.
+-- If each place meets what is required of it, the locations of the labels that are kept are the function's debug locations, as listed.
 pub located_labels : {f : FunctionValue} {ls : List Label} {ks : List KeptLabel} (Asked : Label → DebugLocation → Type 0) (place : KeptLabel → Place) →
     ((l : Label) (k : KeptLabel) → k.label ≡ l.label → IsKeptRange f l k.range → Asked l (location_at place k))
     → AreKeptLabels f ls ks → AreLocationsOf f Asked ls (map (location_at place) ks)
@@ -109,7 +109,7 @@ module _ (f : FunctionValue) (limited : IsLimited f) (ssa : IsSSA f) (t : List (
       let q : end ≡ r.last = one_last_point f ssa l.vreg k.1 (subst (λ (v : VirtualRegister). IsLastPoint f v r.last) same live.last) in
       (same, rw (first, ← p) k.2, rw (last, ← q) k.3)
 
--- vregs of one number and one word are the same
+-- vregs of one number and one encoding are the same
 pub same_word : (a b : VirtualRegister) → a.number ≡ b.number → nat_eq (a.number * 4 + class_code a.class) (b.number * 4 + class_code b.class) ≡ true → a ≡ b
 same_word a b number word =
     let words = (Decides-eqb (a.number * 4 + class_code a.class) (b.number * 4 + class_code b.class)).0 word in
@@ -117,7 +117,7 @@ same_word a b number word =
     let class : a.class ≡ b.class = same_class a.class b.class ((Decides-eqb (class_code a.class) (class_code b.class)).1 codes) in
     ap (λ (n : ℕ). record { number = n; class = a.class }) number ∙ ap (λ (c : RegClass). record { number = b.number; class = c }) class
 
--- equal vregs are packed in one word
+-- equal vregs have one encoding
 pub one_word : (a b : VirtualRegister) → a ≡ b → nat_eq (a.number * 4 + class_code a.class) (b.number * 4 + class_code b.class) ≡ true
 one_word a b same = (Decides-eqb (a.number * 4 + class_code a.class) (b.number * 4 + class_code b.class)).1
     (ap (λ (v : VirtualRegister). v.number * 4 + class_code v.class) same)

@@ -45,7 +45,7 @@ labelled_at f items k x same lt is =
     subst (λ (ls : List Label). Any (λ (l : Label). l.vreg.number ≡ x.0.number) ls) same
     (k, label_of x, omega (arith, many, lt), mapped_at items k x lt (sym is), refl)
 
--- where the numbers of all labels were marked, those are wanted that are labelled
+-- once the numbers of all labels are marked, the requested numbers are those that are labelled
 pub labelled_are : (f : FunctionValue) (items : List Given) (old new : List Bool) → ((n : ℕ) → slice_index_or old n false ≡ false) →
     map label_of items ≡ f.labels → Marks (NamedAmong items (length items)) old new → (n : ℕ) → n < length old → IsWanted new n ↔ IsLabelled f n
 labelled_are f items old new none same m n lt = (
@@ -62,7 +62,7 @@ labelled_are f items old new none same m n lt = (
       m.marks n lt (x.0, g.0, g.1, g.2, ap (λ (l : Label). l.vreg.number) g.3 ∙ x.4)),
 )
 
--- the live ranges that are wanted are those of what labels name
+-- the live ranges of the requested numbers are those of what labels name
 pub ranges_of_labelled : (f : FunctionValue) → IsSSA f → (wanted : List Bool) (t : List (Option LiveRange)) → HasRoom f (length wanted) →
     ((n : ℕ) → n < length wanted → IsWanted wanted n ↔ IsLabelled f n) → AreLiveRanges f (IsWanted wanted) t → AreLiveRanges f (IsLabelled f) t
 ranges_of_labelled f ssa wanted t room same are = record {

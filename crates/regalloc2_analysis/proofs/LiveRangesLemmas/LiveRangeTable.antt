@@ -66,7 +66,7 @@ range_same f a v p q d e same at end h =
     (subst (λ (n : ℕ). IsLiveRange f (record { vreg = v; first = n; last = d.last; by = d.by })) (sym at)
     (subst (λ (x : RangeEnd). IsLiveRange f (record { vreg = v; first = q; last = x.last; by = x.by })) (sym end) h))
 
--- of the first so many operands' definitions, those that are asked for have entries
+-- of the first so many operands' definitions, those that are requested have entries
 abbrev pub AreBegun : (ℕ → Type 0) → List OperandValue → ℕ → List (Option LiveRange) → Type 0
 AreBegun Asked ops m t = (k : ℕ) → k < m → k < length ops → is_def (op_at ops k).kind ≡ true → Asked (op_at ops k).vreg.number →
     range_at t (op_at ops k).vreg.number ≢ None
@@ -81,7 +81,7 @@ begun_more Asked ops m n t o r less is same room h k lt within def asked = elim 
       subst (λ (q : ℕ). range_at (set t n (Some r)) q ≢ None) (sym at) (there_now t n r room))
 ]
 
--- with an operand m that defines nothing that is asked for, those among the first m + 1 operands have entries if those before it do
+-- with an operand m that defines nothing requested, those among the first m + 1 operands have entries if those before it do
 pub begun_same : (Asked : ℕ → Type 0) (ops : List OperandValue) (m : ℕ) (t : List (Option LiveRange)) (o : OperandValue) → m < length ops →
     o ≡ slice_index_or ops m o → (is_def o.kind ≡ true → Asked o.vreg.number → ⊥) → AreBegun Asked ops m t → AreBegun Asked ops (m + 1) t
 begun_same Asked ops m t o less is never h k lt within def asked = elim (below_or_last k m lt) [
@@ -90,7 +90,7 @@ begun_same Asked ops m t o less is never h k lt within def asked = elim (below_o
       absurd (never (ap (λ (p : OperandValue). is_def p.kind) (sym at) ∙ def) (subst (λ (p : OperandValue). Asked p.vreg.number) at asked)))
 ]
 
--- of the first so many parameters, those that are asked for and have ends have entries
+-- of the first so many parameters, those that are requested and have ends have entries
 abbrev pub AreTaken : (ℕ → Type 0) → List VirtualRegister → ℕ → List (Option RangeEnd) → List (Option LiveRange) → Type 0
 AreTaken Asked vs m ends t = (k : ℕ) → k < m → k < length vs → Asked (slice_index_or vs k no_vreg).number →
     end_at ends (slice_index_or vs k no_vreg).number ≢ None → range_at t (slice_index_or vs k no_vreg).number ≢ None
@@ -106,7 +106,7 @@ taken_more Asked vs m n ends t v r less is same room h k lt within asked some = 
       subst (λ (q : ℕ). range_at (set t n (Some r)) q ≢ None) (sym at) (there_now t n r room))
 ]
 
--- with a parameter m that has no end or isn't asked for, those of the first m + 1 have entries if those before it do
+-- with a parameter m that has no end or isn't requested, those of the first m + 1 have entries if those before it do
 pub taken_same : (Asked : ℕ → Type 0) (vs : List VirtualRegister) (m : ℕ) (ends : List (Option RangeEnd)) (t : List (Option LiveRange)) (v : VirtualRegister) →
     m < length vs → v ≡ slice_index_or vs m v → (Asked v.number → end_at ends v.number ≡ None) → AreTaken Asked vs m ends t →
     AreTaken Asked vs (m + 1) ends t
@@ -128,7 +128,7 @@ pub record AreParams (f : FunctionValue) (b : ℕ) (vs : List VirtualRegister) (
   pub same : vs ≡ (block_at f b).params
   pub all : length vs ≤ m
 
--- so that all used ones have
+-- so that all used parameters have entries
 pub taken_all : (f : FunctionValue) (ssa : IsSSA f) (Asked : ℕ → Type 0) (b : ℕ) (vs : List VirtualRegister) (m : ℕ) (ends : List (Option RangeEnd))
     (t : List (Option LiveRange)) → AreParams f b vs m → AreNoted f Asked (block_at f b).range.first ends → AreTaken Asked vs m ends t →
     (v : VirtualRegister) (j : ℕ) → Asked v.number → Contains (block_at f b).params v → UsesAt f v j → range_at t v.number ≢ None
@@ -178,7 +178,7 @@ walked_inst f Asked i b ends ends' ranges ranges' w long longs noted right stay 
   taken = λ v c j le lt asked has used. stay v.number (w.taken v c j le lt asked has used);
 }
 
--- nothing that is asked for is used or defined by an instruction whose operands name none, unless it is the last one of its block
+-- nothing requested is used or defined by an instruction whose operands name none, unless it is the last one of its block
 unused_here : (f : FunctionValue) → BlocksFollow f → (Asked : ℕ → Type 0) (b i n : ℕ) → b < length f.blocks → (block_at f b).range.first ≤ i →
     i < (block_at f b).range.end → i + 1 ≢ (block_at f b).range.end → NamesNoAsked f Asked i → Asked n → UsesNumber f n i → ⊥
 unused_here f follow Asked b i n lt from upto inside none asked (reads at k less r) =

@@ -83,7 +83,7 @@ module _ (slots : List ℕ) (s : ℕ) where
   one_longer : length (slots ++ s ∷ []) ≡ length slots + 1
   one_longer = length-append slots (s ∷ [])
 
--- a wanted number more has the next slot
+-- one requested number more has the next slot
 pub slot_more : (wanted : List Bool) (slots : List ℕ) (count num : ℕ) → length slots < num → IsWanted wanted (length slots) →
     SlotsSoFar wanted slots count num → SlotsSoFar wanted (slots ++ count ∷ []) (count + 1) num
 slot_more wanted slots count num room is h = record {
@@ -143,7 +143,7 @@ slot_more wanted slots count num room is h = record {
     at : (n : ℕ) → n ≡ length slots → slice_index_or (slots ++ count ∷ []) n 0 ≡ count
     at n same = subst (λ (k : ℕ). slice_index_or (slots ++ count ∷ []) k 0 ≡ count) (sym same) (at_it slots count)
 
--- one that isn't wanted has one past all
+-- one that isn't requested has one past all
 pub slot_none : (wanted : List Bool) (slots : List ℕ) (count num : ℕ) → length slots < num → (IsWanted wanted (length slots) → ⊥) →
     SlotsSoFar wanted slots count num → SlotsSoFar wanted (slots ++ num ∷ []) count num
 slot_none wanted slots count num room never h = record {

@@ -138,7 +138,7 @@ module _ (f : FunctionValue) (ssa : IsSSA f) where
   parameter_small n room v b lt h = room v (before (block_at f b).range.first) (inl (b, lt, omega arith, h))
       (made_small f ssa.once v (made_by_parameter f v b lt h))
 
-  -- who reads a number that is made reads its vreg
+  -- an operand that reads a number that is made reads its vreg
   pub is_reader : (v : VirtualRegister) → Made f v → (at : OperandPos) (i k : ℕ) → i < length f.insts → ReadsNumber (inst_at f i).operands v.number at k →
       IsReader f v at (record { inst = i; index = k })
   is_reader v made at i k lt r =
@@ -157,7 +157,7 @@ module _ (f : FunctionValue) (ssa : IsSSA f) where
       IsDefinedBy f (slice_index_or (slice_index_or (block_at f b).arguments s []) k no_vreg) (after (last_of (block_at f b)))
   argument_defined b s k lt edge less = (ssa.uses b lt).1 s edge k no_vreg less
 
-  -- and who passes one passes it, unless it defines it
+  -- and an instruction that passes the number passes the vreg, unless it defines it
   pub passes_it : (v : VirtualRegister) → Made f v → (i : ℕ) → (DefinesAt f v i → ⊥) → PassesNumber f v.number i → PassesAt f v i
   passes_it v made i other p =
       let vs : List VirtualRegister = slice_index_or (block_at f p.0).arguments p.3.0 [] in

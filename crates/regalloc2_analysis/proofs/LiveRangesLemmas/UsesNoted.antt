@@ -85,7 +85,7 @@ pub record IsReader (at : OperandPos) (ops : List OperandValue) (m : ℕ) (o : O
   pub reads : (is_reading o ≡ true) × (o.position ≡ at)
   pub same : v ≡ o.vreg
 
--- where it reads is noted for it, unless an end is, and nothing else is
+-- for v, the end of this read is noted unless an end is already; the entries of other numbers stay
 pub record NotesEnd (Has : ℕ → Type 0) (at : OperandPos) (i m : ℕ) (v : VirtualRegister) (last : ℕ) (before after : List (Option RangeEnd)) : Type 0 where
   pub end : last ≡ read_end at i
   pub noted : Has v.number → end_at after v.number ≡ option_or (end_at before v.number)
@@ -149,7 +149,7 @@ notes_nothing F S None never = never
 abbrev NotesPasses : FunctionValue → ℕ → ℕ → Option RangeEnd → Option RangeEnd → Type 0
 NotesPasses f i n = NotesRangeEnd (PassesNumber f n i) (λ e. PassesNumber f n i × (e ≡ end_of_argument i))
 
--- an instruction stands in a block
+-- an instruction is in a block
 pub record StandsIn (f : FunctionValue) (b i : ℕ) : Type 0 where
   pub block : b < length f.blocks
   pub from : (block_at f b).range.first ≤ i

@@ -25,7 +25,7 @@ pub names_empty : (n : ℕ) → names_block [] n ≡ false
 unfolding names_block
 names_empty n = refl
 
--- the list at a place that is there
+-- the list at an index that is within the lists
 pub blocks_here : {A : Type 0} (es : List (Vec ℕ A)) (n : ℕ) (d : Vec ℕ A) → n < length es → blocks_of es n ≡ (get_or es n d).items
 blocks_here es n d less = get_or-map (λ w. w.items) es n d [] less
 

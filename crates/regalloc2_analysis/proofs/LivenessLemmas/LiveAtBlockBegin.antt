@@ -25,7 +25,7 @@ unfolding lists
 nothing p = refl
 
 module _ (f : FunctionValue) (b : ℕ) (v : VirtualRegister) where
-  -- who is needed at an instruction, and isn't defined by those before it, is needed at the block's beginning
+  -- a vreg that is needed at an instruction, and isn't defined by those before it, is needed at the block's beginning
   needed_from : (k : ℕ) → (block_at f b).range.first + k < (block_at f b).range.end →
       IsNeeded f v (record { block = b; inst = (block_at f b).range.first + k }) → IsUnwrittenTo f b ((block_at f b).range.first + k) v →
       IsNeeded f v (first_of f b)
@@ -190,7 +190,7 @@ writes_more f n w0 n0 w n' h here = record {
   fresh = λ p le. here.walked.writes.others p (ne_eqb n p.0 (λ e. omega (arith, e))) ∙ h.fresh p (omega arith);
 }
 
--- an empty list is what no blocks ask for
+-- an empty list has the upward-exposed uses of no blocks
 pub asked_start : (f : FunctionValue) (n : ℕ) (needs : List Pair) → n ≡ 0 → needs ≡ [] → AreAsked f n needs
 asked_start f n needs e none = record {
   sound = λ p h. let not_so : lists needs p ≡ false = rw none (nothing p) in absurd cc;
@@ -198,7 +198,7 @@ asked_start f n needs e none = record {
   passed = λ b k v less. absurd (omega arith);
 }
 
--- once block n is walked, the list has what the first n + 1 blocks ask for, and only what is needed
+-- once block n is walked, the list has the upward-exposed uses of the first n + 1 blocks, and only what is needed
 pub asked_more : (f : FunctionValue) (n : ℕ) (w0 : BlockSets) (n0 : List Pair) (w : BlockSets) (n' : List Pair) → AreAsked f n n0 →
     IsBlockWalked f n w0 n0 w n' →
     AreAsked f (n + 1) n'

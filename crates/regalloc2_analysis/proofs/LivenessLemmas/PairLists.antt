@@ -77,7 +77,7 @@ grows_one b u old = by_test (lists old (b, u)) refl
     }
     by_test false none = record { gains = gains_last b u old; added = (b, u) ∷ []; begins = refl }
 
--- what a block asks for, where it writes some
+-- what is upward-exposed in a block that writes some
 pub asked_written : (written : BlockSets) (b : ℕ) (u v : VirtualRegister) → holds written (b, u) ≡ true → (is_vreg u v && not (holds written (b, v))) ≡ false
 asked_written written b u v there = elim (cases_Bool (is_vreg u v)) [
   | inl h ↦ (let same : holds written (b, v) ≡ true = subst (λ (w : VirtualRegister). holds written (b, w) ≡ true) (is_vreg-true u v h) there in
@@ -85,7 +85,7 @@ asked_written written b u v there = elim (cases_Bool (is_vreg u v)) [
   | inr h ↦ rw h refl
 ]
 
--- a vreg that the block didn't write before is asked for, and no other one
+-- a vreg that the block didn't write before is upward-exposed, and no other one
 pub asked_free : (written : BlockSets) (b : ℕ) (u v : VirtualRegister) → holds written (b, u) ≡ false →
     (is_vreg u v && not (holds written (b, v))) ≡ is_vreg u v
 asked_free written b u v none = elim (cases_Bool (is_vreg u v)) [

@@ -1,4 +1,4 @@
--- Sets of vregs for blocks, by their words.
+-- Sets of vregs for blocks, by their encodings.
 use Rattle.std.proofs.Common.{ℕ, zero, suc, ◌≡◌, ◌≢◌, ◌+◌, ◌*◌, ◌/◌, ◌%◌, ◌<◌, ◌≤◌, Bool, true, false, cond, List, [], ◌∷◌, ◌++◌, length, get_or, set}
 use Rattle.std.proofs.Common.{refl, sym, ap, ◌∙◌, subst, arith, inl, inr, nat_eq, eqb-true, eq-eqb}
 use Rattle.std.specs.Prelude.{◌&&◌, ◌||◌, map}
@@ -33,7 +33,7 @@ vreg_back v =
     vregs ((v.number * 4 + class_code v.class) / 4) v.number (class_of_code ((v.number * 4 + class_code v.class) % 4)) v.class (omega arith)
     (ap class_of_code code ∙ class_back v.class)
 
--- words tell vregs apart
+-- different vregs have different encodings
 same_bits : (u v : VirtualRegister) → nat_eq (bits_of_vreg u) (bits_of_vreg v) ≡ is_vreg v u
 same_bits u v = equal_tests _ _
     (λ h. let e : bits_of_vreg u ≡ bits_of_vreg v = eqb-true _ _ h in

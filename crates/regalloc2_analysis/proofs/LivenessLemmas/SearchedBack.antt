@@ -1,4 +1,4 @@
--- A block that reads a vreg too early, and the way back from it to the entry.
+-- A block that reads a vreg too early, and the path from the entry to it, followed backward.
 use Rattle.std.proofs.Common.{ℕ, ◌≡◌, ◌+◌, ◌-◌, ◌<◌, ◌≤◌, ◌∙◌, ap, true, false, List, length, subst, sym, arith, inl, inr}
 use Rattle.std.specs.Prelude.{Any, Contains, slice_index, slice_index_or}
 use Rattle.std.proofs.lemmas.Bool.{cases_Bool, and_parts}
@@ -21,7 +21,7 @@ use Rattle.regalloc2_analysis.proofs.LivenessLemmas.LiveAtBlockBegin.{needed_fir
 use Rattle.regalloc2_analysis.proofs.LivenessLemmas.PropagatedToFixpoint.{needed_over}
 use Rattle.regalloc2_analysis.proofs.LivenessLemmas.WalkSteps.{names_found}
 
--- an operand that reads v, by what is asked of each
+-- an operand that reads v, from an operand that passes the test
 read_at : (pos : OperandPos) (v : VirtualRegister) (ops : List OperandValue) → Any (λ o. (reads_at pos o ≡ true) × (o.vreg ≡ v)) ops → IsReadAt pos v ops
 read_at pos v ops (k, o, less, is, (reads, same)) =
     let e : op_at ops k ≡ o = get_or_default ops k no_operand o less ∙ is in
@@ -30,7 +30,7 @@ read_at pos v ops (k, o, less, is, (reads, same)) =
     (t.0, sym (is_position-true pos o.position t.1), same) in
     (k, less, r.0, r.1, r.2)
 
--- no operand defines v, by what is asked of each
+-- no operand defines v, if none passes the test
 undefined_by : (ops : List OperandValue) (v : VirtualRegister) → (Any (λ o. (is_def o.kind ≡ true) × (o.vreg ≡ v)) ops → ⊥) → Undefined ops v
 undefined_by ops v none j less def is = none (j, op_at ops j, less, get_or_default ops j (op_at ops j) no_operand less, (def, is))
 
@@ -41,7 +41,7 @@ names_not v xs none = elim (cases_Bool (names v xs)) [
   | inr other ↦ other
 ]
 
--- what is asked of an instruction's operands
+-- some operand of an instruction reads v at a position, or defines v
 abbrev pub Reads : FunctionValue → ℕ → OperandPos → VirtualRegister → Type 0
 Reads f i pos v = Any (λ o. (reads_at pos o ≡ true) × (o.vreg ≡ v)) (inst_at f i).operands
 

@@ -36,12 +36,12 @@ unfolding reads is_read
 reads_more pos v ops i o lt is = list_any_more (λ x. reads_at pos x && is_vreg x.vreg v) ops i o lt
     ∙ ap (λ x. reads pos v (take i ops) || (reads_at pos x && is_vreg x.vreg v)) (sym is)
 
--- without operands no vreg is asked for
+-- no operands, no upward-exposed uses
 pub reads_none : (pos : OperandPos) (written : BlockSets) (b : ℕ) (v : VirtualRegister) → (reads pos v [] && not (holds written (b, v))) ≡ false
 unfolding reads
 reads_none pos written b v = refl
 
--- one operand more that reads at the position asks for its vreg too, unless the block wrote it before
+-- one operand more that reads at the position adds an upward-exposed use of its vreg, unless the block wrote it before
 pub reads_yes : (pos : OperandPos) (ops : List OperandValue) (i : ℕ) (o : OperandValue) (written : BlockSets) (b : ℕ) → i < length ops → o ≡ get_or ops i o →
     reads_at pos o ≡ true → (v : VirtualRegister) →
     (reads pos v (take (i + 1) ops) && not (holds written (b, v))) ≡ ((reads pos v (take i ops) && not (holds written (b, v)))
@@ -51,7 +51,7 @@ reads_yes pos ops i o written b lt is does v =
     let here : is_read pos v o ≡ is_vreg o.vreg v = rw does refl in
     rw (reads_more pos v ops i o lt is, here) (and-or_distrib_right (reads pos v (take i ops)) (is_vreg o.vreg v) (not (holds written (b, v))))
 
--- one operand more that doesn't read at the position asks for nothing more
+-- one operand more that doesn't read at the position adds none
 pub reads_no : (pos : OperandPos) (ops : List OperandValue) (i : ℕ) (o : OperandValue) (written : BlockSets) (b : ℕ) → i < length ops → o ≡ get_or ops i o →
     reads_at pos o ≡ false → (v : VirtualRegister) →
     (reads pos v (take (i + 1) ops) && not (holds written (b, v))) ≡ (reads pos v (take i ops) && not (holds written (b, v)))
@@ -104,14 +104,14 @@ names_more xs i x lt is v =
     names_is v (take (i + 1) xs) ∙ list_any_more (λ y. is_vreg y v) xs i x lt ∙ ap (λ y. list_any (λ z. is_vreg z v) (take i xs) || is_vreg y v) (sym is)
     ∙ ap (λ y. y || is_vreg x v) (sym (names_is v (take i xs)))
 
--- of the first i + 1 vregs a block asks for what it asks for of the first i, and for the one at i unless it wrote it before
+-- the upward-exposed uses among the first i + 1 vregs are those among the first i, and the one at i unless the block wrote it before
 pub names_asked : (xs : List VirtualRegister) (i : ℕ) (x : VirtualRegister) (written : BlockSets) (b : ℕ) → i < length xs → x ≡ get_or xs i x →
     (v : VirtualRegister) →
     (names v (take (i + 1) xs) && not (holds written (b, v))) ≡ ((names v (take i xs) && not (holds written (b, v)))
     || (is_vreg x v && not (holds written (b, v))))
 names_asked xs i x written b lt is v = rw (names_more xs i x lt is v) (and-or_distrib_right (names v (take i xs)) (is_vreg x v) (not (holds written (b, v))))
 
--- tests and what they stand for
+-- the boolean tests and the definitions that they decide
 reads_found : (pos : OperandPos) (v : VirtualRegister) (ops : List OperandValue) → reads pos v ops ≡ true → IsReadAt pos v ops
 unfolding reads
 reads_found pos v [] h = absurd cc
@@ -153,7 +153,7 @@ pub names_there : (v : VirtualRegister) (xs : List VirtualRegister) → Contains
 names_there v xs (k, lt, is) = names_is v xs ∙ list_any_at (λ y. is_vreg y v) xs k v lt
     (subst (λ (w : VirtualRegister). is_vreg w v ≡ true) (sym is) (is_vreg-same v))
 
--- an instruction asks for what it reads and the block didn't write before
+-- what the test finds upward-exposed at an instruction is read there, and the block didn't write it before
 pub asked_read : (ops : List OperandValue) (written : BlockSets) (b : ℕ) (v : VirtualRegister) → asks_for_vreg ops written b v ≡ true →
     (holds written (b, v) ≡ false)
     × IsRead v ops
@@ -167,7 +167,7 @@ asked_read ops written b v h =
           (t.0, inr (defines_not ops v t.1, reads_found Late v ops s.0)))
     ]
 
--- an instruction asks for a vreg that it reads and that its block didn't write before
+-- what an instruction reads and its block didn't write before is upward-exposed
 pub read_asked : (ops : List OperandValue) (written : BlockSets) (b : ℕ) (v : VirtualRegister) → holds written (b, v) ≡ false → IsRead v ops →
     asks_for_vreg ops written b v ≡ true
 read_asked ops written b v free (inl early) = rw (reads_there Early v ops early, free) refl
@@ -175,7 +175,7 @@ read_asked ops written b v free (inr (undefined, late)) =
     or_right (reads Early v ops && not (holds written (b, v))) (reads Late v ops && not (holds written (b, v) || defines v ops))
     (rw (reads_there Late v ops late, free, defines_none ops v undefined) refl)
 
--- what an instruction asks for, early and late
+-- the upward-exposed uses of an instruction, early and late
 pub asks_twice : (ops : List OperandValue) (old mid : BlockSets) (b : ℕ) (needs asked new : List Pair) → Gains b (λ v. defines v ops) (holds old) (holds mid) →
     Grows b (λ v. reads Early v ops && not (holds old (b, v))) needs asked → Grows b (λ v. reads Late v ops && not (holds mid (b, v))) asked new →
     Grows b (asks_for_vreg ops old b) needs new

@@ -25,7 +25,7 @@ stored_of t e = slice_range t.stored.items e.first e.end
 abbrev pub IsEdgeWithin : List ℕ → EdgeInto → Type 0
 IsEdgeWithin stored e = (e.first ≤ e.end) × (e.end ≤ length stored)
 
--- what is told of an edge into the block b, where operands are listed as stored
+-- what an entry of the table says of an edge into the block b, where operands are listed as stored
 pub record IsEdgeOf (f : FunctionValue) (b : ℕ) (listed : List ℕ) (e : EdgeInto) : Type 0 where
   pub edge : IsEdgeInto f b e.from e.position
   pub branch : e.branch ≡ last_of (block_at f e.from)

@@ -15,8 +15,8 @@ use Rattle.regalloc2_analysis.specs.declared.live_ranges.InstOperand.{InstOperan
 use Rattle.regalloc2_analysis.specs.declared.live_ranges.LiveRange.{LiveRange}
 use Rattle.regalloc2_analysis.specs.declared.live_ranges.KeptLabel.{KeptLabel}
 
--- What the calls ask of a function, which each well-formed one has: blocks follow one another, each number is defined once, and each use
--- comes after its definition.
+-- The precondition of the calls, which each well-formed function meets: blocks follow one another, each number is defined once, and each use comes after its
+-- definition.
 pub record IsSSA (f : FunctionValue) : Type 0 where
   pub some : 0 < length f.blocks
   pub follow : BlocksFollow f
@@ -57,11 +57,11 @@ pub record IsLiveRange (f : FunctionValue) (r : LiveRange) : Type 0 where
   pub last : IsLastPoint f r.vreg r.last
   pub by : IsShownBy f r.vreg r.by
 
--- what a table says of a number; nothing past its end
+-- the entry of a table for a number; none past its end
 abbrev pub range_at : List (Option LiveRange) → ℕ → Option LiveRange
 range_at t n = slice_index_or t n None
 
--- a number is marked as one that is wanted
+-- a number is marked as requested
 abbrev pub IsWanted : List Bool → ℕ → Type 0
 IsWanted wanted n = slice_index_or wanted n false ≡ true
 
@@ -69,8 +69,8 @@ IsWanted wanted n = slice_index_or wanted n false ≡ true
 abbrev pub IsLabelled : FunctionValue → ℕ → Type 0
 IsLabelled f n = Any (λ l. l.vreg.number ≡ n) f.labels
 
--- A table by number of live ranges, of all numbers that are asked for: there is room for all that the function defines, each entry is that of a
--- vreg of the number, and each vreg of such a number with a first and a last point has its entry.
+-- A table by number of the live ranges of all requested numbers: it has room for all that the function defines, each entry is that of a vreg of the number, and
+-- each vreg of a requested number with a first and a last point has its entry.
 pub record AreLiveRanges (f : FunctionValue) (Asked : ℕ → Type 0) (t : List (Option LiveRange)) : Type 0 where
   pub room : HasRoom f (length t)
   pub found : (n : ℕ) (r : LiveRange) → range_at t n ≡ Some r → (r.vreg.number ≡ n) × IsLiveRange f r
@@ -83,7 +83,7 @@ pub record IsKeptRange (f : FunctionValue) (l : Label) (r : LiveRange) : Type 0 
   pub kept : IsKept f l r.first r.last
   pub by : IsShownBy f l.vreg r.by
 
--- The labels that are kept, as listed, each with its live range; the others have none with which they are.
+-- The labels that are kept, as listed, each with its live range; no other label has points with which it is kept.
 pub data AreKeptLabels (f : FunctionValue) : List Label → List KeptLabel → Type 0 where
   none : AreKeptLabels f [] []
   kept : {ls : List Label} {ks : List KeptLabel} (l : Label) (k : KeptLabel) → k.label ≡ l.label → IsKeptRange f l k.range → AreKeptLabels f ls ks →

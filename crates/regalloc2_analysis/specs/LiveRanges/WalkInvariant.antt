@@ -18,7 +18,7 @@ AreRight f t = (n : ℕ) (r : LiveRange) → range_at t n ≡ Some r → (r.vreg
 abbrev pub Stay : List (Option LiveRange) → List (Option LiveRange) → Type 0
 Stay old new = (n : ℕ) → range_at old n ≢ None → range_at new n ≢ None
 
--- the last use from an instruction on is noted of each number that is asked for
+-- for each requested number, its last use from an instruction on is noted
 abbrev pub AreEndsFrom : FunctionValue → (ℕ → Type 0) → ℕ → List (Option RangeEnd) → Type 0
 AreEndsFrom f Asked i t = (n : ℕ) → n < length t → Asked n → EndsFrom f i n (end_at t n)
 
@@ -32,7 +32,7 @@ pub record AreRangesWalked (f : FunctionValue) (Asked : ℕ → Type 0) (i b : �
   pub taken : (v : VirtualRegister) (c j : ℕ) → b ≤ c → c < length f.blocks → Asked v.number → Contains (block_at f c).params v → UsesAt f v j →
       range_at ranges v.number ≢ None
 
--- no operand of an instruction names a number that is asked for
+-- no operand of an instruction names a requested number
 abbrev pub NamesNoAsked : FunctionValue → (ℕ → Type 0) → ℕ → Type 0
 NamesNoAsked f Asked i = (k : ℕ) → k < length (inst_at f i).operands → Asked (op_at (inst_at f i).operands k).vreg.number → ⊥
 

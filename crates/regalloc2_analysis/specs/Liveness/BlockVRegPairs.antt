@@ -13,7 +13,7 @@ Pair = ℕ × VirtualRegister
 unfoldable pub lists : List Pair → Pair → Bool
 lists ps p = list_any (λ q. nat_eq q.0 p.0 && is_vreg q.1 p.1) ps
 
--- sets of vregs, one for each of the first blocks, as sets of their words
+-- sets of vregs, one for each of the first blocks, as sets of their encodings
 abbrev pub BlockSets : Type 0
 BlockSets = List NumberSet
 

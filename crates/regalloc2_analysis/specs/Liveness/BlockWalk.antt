@@ -1,4 +1,4 @@
--- What a walk over blocks finds: what they write, and what they ask for.
+-- What a walk over blocks finds: what they write, and their upward-exposed uses: what they read or pass without writing it before.
 use Rattle.std.specs.Prelude.{ℕ, ◌≡◌, ◌<◌, ◌≤◌, ◌&&◌, ◌||◌, Bool, true, false, not, nat_eq, List, length, Contains}
 use Rattle.std.specs.List.{list_any}
 use Rattle.regalloc2_names.specs.declared.OperandPos.{OperandPos}
@@ -17,7 +17,7 @@ use Rattle.regalloc2_analysis.specs.Liveness.BlockVRegPairs.{Pair, lists, BlockS
 unfoldable pub reads : OperandPos → VirtualRegister → List OperandValue → Bool
 reads pos v ops = list_any (λ o. reads_at pos o && is_vreg o.vreg v) ops
 
--- whether an instruction of a block asks for v, where the block has written some before
+-- whether an instruction of a block has an upward-exposed use of v, given what the block has written before
 abbrev pub asks_for_vreg : List OperandValue → BlockSets → ℕ → VirtualRegister → Bool
 asks_for_vreg ops written b v = (reads Early v ops && not (holds written (b, v))) || (reads Late v ops && not (holds written (b, v) || defines v ops))
 
@@ -62,7 +62,7 @@ pub record AreWrites (f : FunctionValue) (n : ℕ) (written : BlockSets) : Type 
   pub unlisted : (b : ℕ) (v : VirtualRegister) → b < n → IsUnwritten f b v → holds written (b, v) ≡ false
   pub fresh : (p : Pair) → n ≤ p.0 → holds written p ≡ false
 
--- what the first blocks ask for is listed, and only what is needed
+-- the upward-exposed uses of the first blocks are listed, and only what is needed
 pub record AreAsked (f : FunctionValue) (n : ℕ) (needs : List Pair) : Type 0 where
   pub sound : AreNeeded f needs
   pub read : (b j : ℕ) (v : VirtualRegister) → b < n → (block_at f b).range.first ≤ j → j < (block_at f b).range.end → IsRead v (inst_at f j).operands →

@@ -23,7 +23,7 @@ IsRead v ops = IsReadAt Early v ops ⊎ (Undefined ops v × IsReadAt Late v ops)
 abbrev pub IsPassed : FunctionValue → VirtualRegister → Location → Type 0
 IsPassed f v l = (k : ℕ) × HasWay f l (ToSuccessor k) × Contains (arguments_at f l.block k) v
 
--- v is needed at an instruction: it is read or passed there, or on some way on, and nothing writes it till then
+-- v is needed at an instruction: it is read or passed there or on some path from there, and nothing writes it before
 pub data IsNeeded (f : FunctionValue) (v : VirtualRegister) : Location → Type 0 where
   read : (l : Location) → IsRead v (inst_at f l.inst).operands → IsNeeded f v l
   passed_on : (l : Location) → Undefined (inst_at f l.inst).operands v → IsPassed f v l → IsNeeded f v l

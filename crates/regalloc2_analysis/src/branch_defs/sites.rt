@@ -15,7 +15,7 @@ use regalloc2_index::{Block, Inst};
 use regalloc2_names::{Operand, VReg};
 use std::alloc::{AllocError, Allocator};
 
-// If an operand defines, it is where its number is defined.
+// Notes an operand as the site of the number that it defines, if it is a definition.
 fn note_site(sites: &mut [Option<DefSite>], operand: Operand, site: DefSite)
     ensures { sites.new ≡ (if is_def operand.kind then slice_set sites.old operand.vreg.number (Some site) else sites.old) }
 {
@@ -25,7 +25,7 @@ fn note_site(sites: &mut [Option<DefSite>], operand: Operand, site: DefSite)
     }
 }
 
-// What the operands of a branch define is defined there.
+// Notes the operands of a branch as the sites of what they define.
 fn note_sites(sites: &mut [Option<DefSite>], operands: &[Operand], branch: Inst)
     ensures { NotesSites operands.now branch (length operands.now) sites.old sites.new }
 {
@@ -34,7 +34,7 @@ fn note_sites(sites: &mut [Option<DefSite>], operands: &[Operand], branch: Inst)
     }
 }
 
-// If a block ends in a branch, what that defines is defined there.
+// Notes the operands of the branch that ends a block, if one does.
 fn note_branch<F: Function>(sites: &mut [Option<DefSite>], f: &F, block: Block)
     requires block { block < length (F.function f.now).blocks }
     requires well_formed { MayHaveTables (F.function f.now) }
@@ -46,7 +46,7 @@ fn note_branch<F: Function>(sites: &mut [Option<DefSite>], f: &F, block: Block)
     }
 }
 
-// What the branches of blocks define is defined there.
+// Notes the operands of all blocks' branches.
 fn note_branches<F: Function>(sites: &mut [Option<DefSite>], f: &F)
     requires well_formed { MayHaveTables (F.function f.now) }
     requires room { HasRoom (F.function f.now) (length sites.old) }

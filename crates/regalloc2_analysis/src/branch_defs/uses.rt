@@ -18,7 +18,7 @@ use regalloc2_index::{Block, Inst};
 use regalloc2_names::{Operand, VReg};
 use std::alloc::{AllocError, Allocator};
 
-// A number is marked.
+// Marks a number.
 fn mark(used: &mut [bool], number: usize)
     ensures { Marks (λ n. number ≡ n) used.old used.new }
 {
@@ -27,7 +27,7 @@ fn mark(used: &mut [bool], number: usize)
     }
 }
 
-// What an operand reads is used.
+// Marks what an operand reads.
 fn note_read(used: &mut [bool], operand: Operand)
     ensures { Marks (λ n. (is_reading operand ≡ true) × (operand.vreg.number ≡ n)) used.old used.new }
 {
@@ -36,7 +36,7 @@ fn note_read(used: &mut [bool], operand: Operand)
     }
 }
 
-// What operands read is used.
+// Marks what operands read.
 fn note_reads(used: &mut [bool], operands: &[Operand])
     ensures { Marks (ReadsAmong operands.now (length operands.now)) used.old used.new }
 {
@@ -45,7 +45,7 @@ fn note_reads(used: &mut [bool], operands: &[Operand])
     }
 }
 
-// What instructions read is used.
+// Marks what instructions read.
 fn note_all_reads<F: Function>(used: &mut [bool], f: &F)
     ensures { Marks (ReadsIn (F.function f.now) (length (F.function f.now).insts)) used.old used.new }
 {
@@ -54,7 +54,7 @@ fn note_all_reads<F: Function>(used: &mut [bool], f: &F)
     }
 }
 
-// An argument that an instruction passes and doesn't define is used.
+// Marks an argument, unless the instruction that passes it defines it.
 fn note_argument(used: &mut [bool], sites: &[Option<DefSite>], argument: VReg, inst: Inst)
     ensures { Marks (λ n. (argument.number ≡ n) × (IsSiteAt sites.now n inst → ⊥)) used.old used.new }
 {
@@ -63,7 +63,7 @@ fn note_argument(used: &mut [bool], sites: &[Option<DefSite>], argument: VReg, i
     }
 }
 
-// What an instruction passes to one successor and doesn't define is used.
+// Marks what an instruction passes to one successor and doesn't define.
 fn note_arguments(used: &mut [bool], sites: &[Option<DefSite>], arguments: &[VReg], inst: Inst)
     ensures { Marks (PassesAmong sites.now inst arguments.now (length arguments.now)) used.old used.new }
 {
@@ -72,7 +72,7 @@ fn note_arguments(used: &mut [bool], sites: &[Option<DefSite>], arguments: &[VRe
     }
 }
 
-// What a block passes to its successors, and its last instruction doesn't define, is used.
+// Marks what a block passes to its successors and its last instruction doesn't define.
 fn note_passed<F: Function>(used: &mut [bool], sites: &[Option<DefSite>], f: &F, block: Block)
     requires block { block < length (F.function f.now).blocks }
     requires well_formed { MayHaveTables (F.function f.now) }
@@ -84,7 +84,7 @@ fn note_passed<F: Function>(used: &mut [bool], sites: &[Option<DefSite>], f: &F,
     }
 }
 
-// What blocks pass, and their last instructions don't define, is used.
+// Marks what blocks pass and their last instructions don't define.
 fn note_all_passed<F: Function>(used: &mut [bool], sites: &[Option<DefSite>], f: &F)
     requires well_formed { MayHaveTables (F.function f.now) }
     ensures { Marks (PassesIn (F.function f.now) sites.now (length (F.function f.now).blocks)) used.old used.new }
@@ -94,7 +94,7 @@ fn note_all_passed<F: Function>(used: &mut [bool], sites: &[Option<DefSite>], f:
     }
 }
 
-// What is used elsewhere is used.
+// Marks what is used elsewhere.
 fn note_uses<F: Function>(used: &mut [bool], sites: &[Option<DefSite>], f: &F)
     requires well_formed { MayHaveTables (F.function f.now) }
     requires sites { AreDefSites (F.function f.now) sites.now }
@@ -106,7 +106,7 @@ fn note_uses<F: Function>(used: &mut [bool], sites: &[Option<DefSite>], f: &F)
     note_all_passed(used, sites, f);
 }
 
-// No mark for each of so many numbers.
+// A table of so many numbers, none marked.
 fn no_marks<A: Allocator + Copy>(alloc: A, num: usize) -> Result<Vec<bool, A>, AllocError>
     ensures len { IfOk result (λ v. length v.items ≡ num) }
     ensures none { IfOk result (λ v. (n : ℕ) → slice_index_or v.items n false ≡ false) }

@@ -64,13 +64,15 @@ fn keep_labels<A: Allocator + Copy, F: Function>(
 
 /// The debug labels of a function that are kept, as listed, each with the live range of its vreg.
 ///
-/// A label is kept where its vreg has a first and a last point, and the label starts at or after the first one's
-/// instruction and ends at most one past the last one's, as upstream's `build_debug_info` has it. Where the vreg has
-/// a spill slot in the end, that shows the value; else the place of the operand that `range.by` names does. It names none only
-/// where an argument is the last use, and arguments are passed in slots. Conditions are those of [`live_ranges`].
+/// A label is kept where its vreg has a first and a last point, and the label starts at or after
+/// the first one's instruction and ends at most one past the last one's, as upstream's
+/// `build_debug_info` has it. Where the vreg has a spill slot in the end, that shows the value;
+/// else the place of the operand that `range.by` names does. It names none only where an argument
+/// is the last use, and arguments are passed in slots. The preconditions are those of
+/// [`live_ranges`].
 ///
-/// Live ranges are found only where there are labels, and only of what these name: for a function without them no memory is asked
-/// for. The only error is `Memory`.
+/// Live ranges are found only where there are labels, and only for the vregs that these name: for a
+/// function without labels nothing is allocated. The only error is `Memory`.
 pub fn kept_labels<A: Allocator + Copy, F: Function>(
     alloc: A,
     f: &F,

@@ -19,8 +19,8 @@ use regalloc2_function::Function;
 use regalloc2_index::{Block, Inst};
 use regalloc2_names::{Operand, ProgPoint, VReg};
 
-// The end of what an instruction defines, of which the uses from the instruction on are noted. One right before it is an argument that
-// it passes itself, which doesn't count.
+// The end of what an instruction defines, where the uses from the instruction on are noted. An end
+// right before the instruction is that of an argument that it passes itself, which doesn't count.
 fn end_of_defined(noted: Option<RangeEnd>, inst: Inst, unused: RangeEnd) -> RangeEnd
     requires { inst < 1073741824 }
     ensures { result ≡ end_behind inst noted unused }
@@ -32,14 +32,15 @@ fn end_of_defined(noted: Option<RangeEnd>, inst: Inst, unused: RangeEnd) -> Rang
     }
 }
 
-// Whether an operand defines a vreg that is wanted.
+// Whether an operand defines a requested vreg.
 fn defines_wanted(wanted: &[bool], operand: Operand) -> bool
     ensures { result ≡ is_def operand.kind && slice_index_or wanted.now operand.vreg.number false }
 {
     operand.is_def() && is_wanted(wanted, operand.vreg())
 }
 
-/// Completes the live ranges of what an instruction defines that is wanted. Where nothing uses it, its definition is its last point's.
+/// Completes the live ranges of the requested vregs that an instruction defines. If nothing uses a
+/// vreg, the operand of its last point is its definition.
 pub fn begin_at_defs<F: Function>(
     ranges: &mut [Option<LiveRange>],
     ends: &[Option<RangeEnd>],
@@ -78,7 +79,7 @@ pub fn begin_at_defs<F: Function>(
     }
 }
 
-// The end that is noted of a vreg, if that is wanted.
+// The end that is noted for a vreg, if the vreg is requested.
 fn wanted_end(
     wanted: &[bool],
     ends: &[Option<RangeEnd>],
@@ -95,7 +96,8 @@ fn wanted_end(
     }
 }
 
-/// Completes the live ranges of a block's parameters that are wanted. One that nothing uses has none.
+/// Completes the live ranges of a block's parameters that are requested. One that nothing uses has
+/// none.
 pub fn begin_at_params<F: Function>(
     ranges: &mut [Option<LiveRange>],
     ends: &[Option<RangeEnd>],

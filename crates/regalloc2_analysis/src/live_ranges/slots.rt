@@ -1,5 +1,5 @@
-//! Tables with an entry for each wanted vreg alone, since few are wanted and entries are long. A list by number says where each
-//! one's entry is: its slot.
+//! Tables with entries for the requested vregs alone, since few are requested and entries are long.
+//! A list by number gives the index of each number's entry: its slot.
 
 ghost use Rattle.std.specs.Prelude.{ℕ, ◌≡◌, ◌≢◌, ◌<◌, ◌^◌, length, set, slice_index_or, IfOk, None, Some};
 ghost use Rattle.regalloc2_analysis.specs.LiveRanges.Slots.{AreSlots, HasSlot, IsApart, spread};
@@ -30,8 +30,8 @@ pub fn set_entry<T: Copy>(table: &mut [Option<T>], slots: &[u32], number: usize,
     }
 }
 
-/// The slots of so many numbers, in a table of those that are wanted, and how many these are. A number that isn't wanted has one
-/// past the table's end.
+/// The slots of so many numbers, in a table of the requested ones, and how many are requested. A
+/// number that isn't requested has a slot past the table's end.
 pub fn slots_of<A: Allocator + Copy>(
     alloc: A,
     wanted: &[bool],

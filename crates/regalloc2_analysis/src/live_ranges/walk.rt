@@ -18,7 +18,8 @@ use regalloc2_names::RegAllocError;
 use regalloc2_shape::table_length::table_length;
 use std::alloc::{AllocError, Allocator};
 
-/// Live ranges of what is wanted, and by number which of them is whose: the index of its entry, past the end where it has none.
+/// The requested live ranges, and by number the index of each one's entry: past the end if it has
+/// none.
 #[derive(Drop)]
 pub struct FewRanges<A: Allocator> {
     pub slots: Vec<u32, A>,
@@ -81,7 +82,7 @@ fn walk_blocks<F: Function>(
     }
 }
 
-/// The live ranges of the vregs that are wanted, in tables that are as long as there are such.
+/// The live ranges of the requested vregs, in tables as long as the number of these vregs.
 pub fn few_ranges<A: Allocator + Copy, F: Function>(
     alloc: A,
     f: &F,
@@ -121,13 +122,14 @@ fn spread_out<A: Allocator + Copy>(
     Ok(ranges)
 }
 
-/// The live ranges of the vregs that are wanted, by number: none for a number that isn't defined, or that is a parameter's and
-/// never used. Where all are wanted, each is there.
+/// The live ranges of the requested vregs, by number: none for a number that isn't defined, or that
+/// is a parameter's and never used. If all are requested, each is there.
 ///
-/// Each is that of upstream's `vreg_to_live_inst_range`. Of the function is asked what each well-formed one has (`IsSSA`): its
-/// blocks follow one another, each number is defined once, and each use comes after its definition. The time is linear in the
-/// operands, the arguments, the parameters and what `table_length` returns. The only error is `Memory`, where memory for
-/// two tables of that length, or for two of what is wanted, ran out.
+/// Each is that of upstream's `vreg_to_live_inst_range`. Requires what each well-formed function
+/// meets (`IsSSA`): its blocks follow one another, each number is defined once, and each use comes
+/// after its definition. The time is linear in the operands, the arguments, the parameters and what
+/// `table_length` returns. The only error is `Memory`, if an allocation for two tables of that
+/// length, or for two of the requested vregs, fails.
 pub fn live_ranges<A: Allocator + Copy, F: Function>(
     alloc: A,
     f: &F,

@@ -1,5 +1,5 @@
-//! Of which vregs live ranges are wanted: those that labels name. Most functions label few, and the walk passes over
-//! instructions that name none of them.
+//! The vregs whose live ranges are requested: those that labels name. Most functions label few, and
+//! the walk passes over instructions that name none of them.
 
 ghost use Rattle.std.specs.Prelude.{ℕ, ◌≡◌, ◌≢◌, ◌<◌, ◌+◌, ◌↔◌, false, length, slice_index_or, IsTrue, IfOk};
 ghost use Rattle.regalloc2_shape.specs.TableLength.{HasRoom};
@@ -26,14 +26,14 @@ pub fn is_marked(wanted: &[bool], number: usize) -> bool
     }
 }
 
-/// Whether a vreg is wanted.
+/// Whether a vreg is requested.
 pub fn is_wanted(wanted: &[bool], vreg: VReg) -> bool
     ensures { result ≡ slice_index_or wanted.now vreg.number false }
 {
     is_marked(wanted, vreg.vreg())
 }
 
-// Whether an operand names a vreg that is wanted.
+// Whether an operand names a requested vreg.
 fn some_is_wanted(wanted: &[bool], operands: &[Operand]) -> bool
     ensures { IsTrue result ↔ ((k : ℕ) × (k < length operands.now) × IsWanted wanted.now (op_at operands.now k).vreg.number) }
 {
@@ -45,8 +45,8 @@ fn some_is_wanted(wanted: &[bool], operands: &[Operand]) -> bool
     false
 }
 
-/// Whether the walk has nothing to do at an instruction of a block that ends before `end`: no operand names a vreg that is wanted, and
-/// it isn't the last one, which may pass some.
+/// Whether the walk has nothing to do at an instruction of a block that ends before `end`: no
+/// operand names a requested vreg, and it isn't the last one, which may pass some.
 pub fn is_passed_over<F: Function>(f: &F, wanted: &[bool], end: Inst, inst: Inst) -> bool
     requires { inst < length (F.function f.now).insts }
     ensures { IsTrue result ↔ ((inst + 1 ≢ end) × NamesNoAsked (F.function f.now) (IsWanted wanted.now) inst) }
@@ -57,7 +57,7 @@ pub fn is_passed_over<F: Function>(f: &F, wanted: &[bool], end: Inst, inst: Inst
     !some_is_wanted(wanted, f.inst_operands(inst))
 }
 
-// A number is marked.
+// Marks a number.
 fn mark(wanted: &mut [bool], number: usize)
     ensures { Marks (λ n. number ≡ n) wanted.old wanted.new }
 {
@@ -66,7 +66,7 @@ fn mark(wanted: &mut [bool], number: usize)
     }
 }
 
-// The numbers of the vregs that labels name are marked.
+// Marks the numbers of the vregs that labels name.
 fn mark_labelled(wanted: &mut [bool], labels: &[(VReg, Inst, Inst, u32)])
     ensures { Marks (NamedAmong labels.now (length labels.now)) wanted.old wanted.new }
 {
@@ -75,7 +75,7 @@ fn mark_labelled(wanted: &mut [bool], labels: &[(VReg, Inst, Inst, u32)])
     }
 }
 
-// No mark for each of so many numbers.
+// A table of so many numbers, none marked.
 fn no_marks<A: Allocator + Copy>(alloc: A, num: usize) -> Result<Vec<bool, A>, AllocError>
     ensures len { IfOk result (λ v. length v.items ≡ num) }
     ensures none { IfOk result (λ v. (n : ℕ) → slice_index_or v.items n false ≡ false) }
@@ -85,7 +85,8 @@ fn no_marks<A: Allocator + Copy>(alloc: A, num: usize) -> Result<Vec<bool, A>, A
     Ok(wanted)
 }
 
-/// Of which vregs live ranges are wanted, by number: of those that labels name, as far as the function defines them.
+/// The vregs whose live ranges are requested, by number: those that labels name, as far as the
+/// function defines them.
 pub fn labelled<A: Allocator + Copy, F: Function>(
     alloc: A,
     f: &F,

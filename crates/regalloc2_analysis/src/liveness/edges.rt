@@ -21,7 +21,7 @@ fn no_edges<A: Allocator + Copy>(alloc: A, num: usize) -> Result<Vec<Vec<Block, 
     Ok(edges)
 }
 
-/// Adds a block to the lists of those that it may go on to, once for each position.
+/// Adds a block to the lists of its successors, once for each position.
 fn add_edges<A: Allocator + Copy>(
     edges: &mut [Vec<Block, A>],
     succs: &[Block],
@@ -37,7 +37,7 @@ fn add_edges<A: Allocator + Copy>(
     Ok(())
 }
 
-/// Adds each block to the lists of those that it may go on to.
+/// Adds each block to the lists of its successors.
 fn add_all_edges<A: Allocator + Copy, F: Function>(
     edges: &mut [Vec<Block, A>],
     f: &F,
@@ -54,8 +54,8 @@ fn add_all_edges<A: Allocator + Copy, F: Function>(
     Ok(())
 }
 
-/// For each block those with an edge to it, by the successors that blocks name: what they name as predecessors needs no
-/// trust. Linear in the blocks and edges.
+/// For each block those with an edge to it, by the successors that blocks name: the predecessors
+/// that they name needn't be right. Linear in the blocks and edges.
 pub fn edges_into<A: Allocator + Copy, F: Function>(
     alloc: A,
     f: &F,

@@ -48,7 +48,7 @@ impl<A: Allocator + Copy> Needs<A> {
         self.found.len()
     }
 
-    /// The pair that was found at a place in the order.
+    /// The pair at an index, in the order in which pairs were found.
     pub fn at(&self, index: usize) -> (Block, VReg)
         requires { index < length self.now }
         ensures { result ≡ slice_index_or self.now index result }
@@ -56,7 +56,7 @@ impl<A: Allocator + Copy> Needs<A> {
         self.found[index]
     }
 
-    /// Adds a pair, if it wasn't found yet. Out of memory, it leaves all as it was.
+    /// Adds a pair, if it wasn't found yet. If an allocation fails, nothing changes.
     pub fn add(&mut self, block: Block, vreg: VReg) -> Result<(), AllocError>
         ensures ok { OnOk result (self.new ≡ (if lists self.old (block, vreg) then self.old else self.old ++ (block, vreg) ∷ [])) }
         ensures err { OnErr result (self.new ≡ self.old) }
@@ -72,7 +72,7 @@ impl<A: Allocator + Copy> Needs<A> {
         Ok(())
     }
 
-    /// Adds what a block asks for, if it wasn't found yet and the block doesn't write it.
+    /// Adds what a block reads or passes, if it wasn't found yet and the block hasn't written it.
     pub fn ask(
         &mut self,
         written: &BlockVRegs<A>,

@@ -10,7 +10,7 @@ use regalloc2_shape::indexset::IndexSet;
 use std::alloc::{AllocError, Allocator};
 use std::marker::Model;
 
-/// A set of vregs for each block, by their words. Sets are made as blocks come.
+/// A set of vregs for each block, by their encodings. Sets are made when a block first needs one.
 #[derive(Drop)]
 pub struct BlockVRegs<A: Allocator> {
     sets: Vec<IndexSet<A>, A>,
@@ -57,7 +57,7 @@ impl<A: Allocator + Copy> BlockVRegs<A> {
         Ok(())
     }
 
-    /// Adds a vreg to a block's set. Out of memory, no set gains or loses one.
+    /// Adds a vreg to a block's set. If an allocation fails, no set gains or loses one.
     pub fn add(&mut self, block: Block, vreg: VReg) -> Result<(), AllocError>
         ensures ok { OnOk result (Gains block (is_vreg vreg) (holds self.old) (holds self.new)) }
         ensures err { OnErr result ((p : Pair) → holds self.new p ≡ holds self.old p) }

@@ -1,4 +1,5 @@
-//! What each block writes, and what it asks for: what it reads or passes without writing it before.
+//! What each block writes, and its upward-exposed uses: what it reads or passes without writing it
+//! before.
 
 ghost use Rattle.std.specs.Prelude.{◌≡◌, ◌<◌, ◌&&◌, false, [], not, length, IfOk, OnOk};
 ghost use Rattle.regalloc2_names.specs.Register.{VirtualRegister};
@@ -17,7 +18,7 @@ use regalloc2_index::{Block, Inst};
 use regalloc2_names::{Operand, OperandPos, VReg};
 use std::alloc::{AllocError, Allocator};
 
-/// Asks for what operands read at a position.
+/// Lists what operands read at a position and the block hasn't written before.
 fn ask_reads<A: Allocator + Copy>(
     operands: &[Operand],
     pos: OperandPos,
@@ -51,7 +52,8 @@ fn write_definitions<A: Allocator + Copy>(
     Ok(())
 }
 
-/// Asks for what an instruction of a block reads, and notes what it writes: late reads find what it defines.
+/// Lists the upward-exposed uses of an instruction of a block, and notes what it writes: late reads
+/// find what it defines.
 fn walk_inst<A: Allocator + Copy>(
     operands: &[Operand],
     block: Block,
@@ -85,7 +87,7 @@ fn walk_insts<A: Allocator + Copy, F: Function>(
     Ok(())
 }
 
-/// Asks for arguments that a block passes.
+/// Lists the arguments that a block passes and hasn't written.
 fn ask_arguments<A: Allocator + Copy>(
     arguments: &[VReg],
     block: Block,
@@ -100,7 +102,7 @@ fn ask_arguments<A: Allocator + Copy>(
     Ok(())
 }
 
-/// Asks for what a block passes to its successors.
+/// Lists what a block passes to its successors and hasn't written.
 fn ask_passed<A: Allocator + Copy, F: Function>(
     f: &F,
     block: Block,

@@ -22,7 +22,7 @@ use Rattle.regalloc2_semantics.specs.Laws.{AgreeingReadsFindEarlier}
 use Rattle.regalloc2_semantics.proofs.ValuesLemmas.Standing.{Stands, Holds, moves_stand, early_stand, writes_stand, clobbers_stand, defs_hold, edge_holds, Made}
 use Rattle.regalloc2_semantics.proofs.ValuesLemmas.Standing.{more, still, newest, before_defs, before_writes, before_clobbers}
 
--- numbers that are the same at each operand that is read are the same lists
+-- if two assignments of numbers agree at each operand that is read, the lists of the numbers read are equal
 same_reads : (is_read : OperandValue → Bool) (a b : ℕ → OperandValue → ℕ) (n : ℕ) (os : List OperandValue) →
     ((k : ℕ) (d : OperandValue) → k < length os → is_read (slice_index_or os k d) ≡ true →
     a (k + n) (slice_index_or os k d) ≡ b (k + n) (slice_index_or os k d)) →
@@ -40,7 +40,7 @@ same_reads is_read a b n (o ∷ os) h =
     pick true t is = rw (t refl, is) refl
     pick false t is = is
 
--- which number each write of a path made, and that numbers are those of the writes
+-- the number that each write of a path made; vregs and places hold the numbers of their writes
 record Told (f : FunctionValue) (out : OutputValue) (ws : List Way) (e : VirtualRegister → ℕ) (m : Place → ℕ) : Type 0 where
   number : Stamp → ℕ
   holds : Holds (Made (length ws) number) (source_before f ws) e
@@ -77,11 +77,11 @@ found f out ws o p Late s is less a b =
       cell_late = λ yes. b';
     }
 
--- numbers of one write are the same
+-- a write has one number
 one_number : (n : ℕ) (number : Stamp → ℕ) (s : Stamp) (x y : ℕ) → Made n number s x → Made n number s y → x ≡ y
 one_number n number s x y a b = a.1 ∙ sym b.1
 
--- the ways on are the function's
+-- the edge that a run takes is one of the function's
 edge_is_there : (f : FunctionValue) (l : Location) (taken : Option ℕ) (w : Way) → l.inst + 1 ≡ (block_at f l.block).range.end →
     edge_to (length (block_at f l.block).succs) taken ≡ Some w → HasWay f l w
 edge_is_there f l None w end e = absurd cc
@@ -141,14 +141,14 @@ module _ (f : FunctionValue) (out : OutputValue) (meaning : InstMeaning) (noise 
     told_alike : place_told f out meaning noise (place_at_end ws h m) ≡ source_told f meaning (source_at ws h e)
     told_alike = rw reads_alike refl
 
-    -- what has been read then, and which numbers the writes have made
+    -- the history with what is read there, and which numbers the writes have made
     abbrev told : History
     told = source_told f meaning (source_at ws h e)
 
     abbrev numbered : Stamp → ℕ
     numbered = more (length ws) (meaning.writes told) t.number
 
-    -- the places' numbers after the instruction, where that was read
+    -- the places' numbers after the instruction, given that history
     abbrev written_at : History → Place → ℕ
     written_at x = numbers_clobbered (inst_at f (end_of f ws).inst).clobbers (noise x)
         (written_to (meaning.writes x) places 0 ops (place_found f out meaning noise (place_at_end ws h m)))
@@ -194,7 +194,7 @@ module _ (f : FunctionValue) (out : OutputValue) (meaning : InstMeaning) (noise 
       still = still_at;
     }
 
-    -- one way further
+    -- one step further
     told_on : (w : Way) → Told f out (w ∷ ws) (passed_over f (end_of f ws) w (vreg_written f meaning (source_at ws h e))) (written_at told)
     unfolding source_before cells_before
     told_on w =

@@ -1,4 +1,4 @@
--- What places and vregs hold by name is there as a number.
+-- A place or vreg that holds a write holds the number of that write.
 use Rattle.std.proofs.Common.{ℕ, zero, suc, ◌≡◌, ◌+◌, ◌<◌, Bool, true, false, cond, None, Some, List, [], ◌∷◌, refl, sym, ap, arith, nat_eq, eq-eqb, subst, ◌∙◌}
 use Rattle.std.specs.Prelude.{Option, ◌&&◌, not}
 use Rattle.regalloc2_names.specs.Register.{VirtualRegister, is_vreg}
@@ -22,17 +22,17 @@ Value = Stamp → ℕ → Type 0
 abbrev pub Stands : Value → Cells → (Place → ℕ) → Type 0
 Stands R c m = (p : Place) (s : Stamp) → c p ≡ Some s → R s (m p)
 
--- and each vreg
+-- each vreg that holds a write has a number that it made
 abbrev pub Holds : Value → Source → (VirtualRegister → ℕ) → Type 0
 Holds R c m = (v : VirtualRegister) (s : Stamp) → c v ≡ Some s → R s (m v)
 
--- one of two
+-- one of two, chosen by a test
 chosen : (R : Value) (b : Bool) (x y : Option Stamp) (n k : ℕ) (s : Stamp) → ((t : Stamp) → x ≡ Some t → R t n) → ((t : Stamp) → y ≡ Some t → R t k) →
     cond b x y ≡ Some s → R s (cond b n k)
 chosen R true x y n k s h g e = h s e
 chosen R false x y n k s h g e = g s e
 
--- nothing holds no write
+-- None is no write
 nothing : (R : Value) (n : ℕ) (t : Stamp) → ◌≡◌ {A = Option Stamp} None (Some t) → R t n
 nothing R n t e = absurd cc
 
@@ -116,7 +116,7 @@ edge_holds R f l (ToSuccessor k) c m h = passed_hold R _ _ c c m m h h
 abbrev pub Made : ℕ → (Stamp → ℕ) → Value
 Made n number s k = (s.step < n) × (k ≡ number s)
 
--- one step more: the writes of the newest step have new numbers
+-- one step more: the writes of the last step have new numbers
 abbrev pub more : ℕ → (ℕ → ℕ) → (Stamp → ℕ) → Stamp → ℕ
 more n written number s = cond (nat_eq s.step n) (written s.operand) (number s)
 

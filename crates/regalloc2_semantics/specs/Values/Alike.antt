@@ -13,8 +13,8 @@ use Rattle.regalloc2_semantics.specs.Values.Interpreters.{History, InstMeaning, 
 use Rattle.regalloc2_semantics.specs.Values.Interpreters.{place_reads, place_written, place_run}
 
 module _ (f : FunctionValue) (out : OutputValue) (meaning : InstMeaning) (noise : History → Place → ℕ) where
-  -- Both are at one instruction, and have read the same numbers up to it; they read the same ones there. What a late use reads
-  -- still has that number, and so has its place, once the instruction has defined.
+  -- Both runs are at the same instruction, have read the same numbers up to it, and read the same numbers there. A vreg that is read late, and its place, still
+  -- hold that number after the instruction's definitions.
   pub record AreAlike (c : State VirtualRegister) (d : State Place) : Type 0 where
     pub at : d.at ≡ c.at
     pub history : d.history ≡ c.history
@@ -24,14 +24,14 @@ module _ (f : FunctionValue) (out : OutputValue) (meaning : InstMeaning) (noise 
     pub still : read_by is_late_use (λ k o. vreg_written f meaning c o.vreg) 0 (inst_at f c.at.inst).operands
         ≡ read_by is_late_use (λ k o. c.numbers o.vreg) 0 (inst_at f c.at.inst).operands
 
-  -- and both end together
+  -- the runs are alike, or both have ended
   abbrev pub HaveRunAlike : Option (State VirtualRegister) → Option (State Place) → Type 0
   HaveRunAlike None None = Unit {0}
   HaveRunAlike None (Some d) = ⊥
   HaveRunAlike (Some c) None = ⊥
   HaveRunAlike (Some c) (Some d) = AreAlike c d
 
--- whatever the instructions mean, whatever noise there is, and whatever numbers are there at first, both run alike, however many steps they make
+-- whatever the instructions compute, whatever the noise and the initial numbers are, both runs are alike after any number of steps
 abbrev pub RunAlike : FunctionValue → OutputValue → Type 0
 RunAlike f out = (meaning : InstMeaning) (noise : History → Place → ℕ) (virtual : VirtualRegister → ℕ) (places : Place → ℕ) (n : ℕ) →
     HaveRunAlike f out meaning noise (source_run f meaning virtual n) (place_run f out meaning noise places n)
@@ -40,10 +40,10 @@ RunAlike f out = (meaning : InstMeaning) (noise : History → Place → ℕ) (vi
 abbrev pub ReadsEarlier : FunctionValue → Type 0
 ReadsEarlier f = (ws : List Way) → IsPath f ws → UsesFindEarlier f ws
 
--- so they do, of a faithful output
+-- the runs of a faithful output are alike, if no use reads what its own instruction writes
 abbrev pub FaithfulRunAlike : Type 0
 FaithfulRunAlike = (f : FunctionValue) (env : MachineValue) (out : OutputValue) → ReadsEarlier f → IsFaithful f env out → RunAlike f out
 
--- and of a faithful output of a well-formed function, on which there is no other condition
+-- the runs of a faithful output of a well-formed function are alike, without any other condition
 abbrev pub WellFormedRunAlike : Type 0
 WellFormedRunAlike = (f : FunctionValue) (env : MachineValue) (out : OutputValue) → IsWellFormed env f → IsFaithful f env out → RunAlike f out

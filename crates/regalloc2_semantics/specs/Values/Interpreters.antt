@@ -13,12 +13,12 @@ use Rattle.regalloc2_function.specs.Path.{Way, Onward, ToSuccessor, Location, fi
 use Rattle.regalloc2_function.specs.SourceRun.{arguments_at}
 use Rattle.regalloc2_function.specs.AllocatedRun.{moves_at}
 
--- what a run has read so far: each step's instruction, and the numbers that it read, the newest first
+-- what a run has read so far: each step's instruction and the numbers that it read, the last step first
 abbrev pub History : Type 0
 History = List (ℕ × List ℕ)
 
--- What instructions do, by what was read up to their step and at it: the number that they write to the operand of an index, and the position
--- of the successor that a branch takes, or none where the run ends. Memory and whatever else changes is a function of what was read.
+-- An interpretation: what instructions do, given what was read up to their step and at it. writes gives the number written to the operand of an index; takes
+-- gives the position of the successor that a branch takes, or none where the run ends. Memory and other state are functions of what was read.
 pub record InstMeaning : Type 0 where
   pub writes : History → ℕ → ℕ
   pub takes : History → Option ℕ
@@ -37,12 +37,12 @@ read_by is_read number k (o ∷ os) = if is_read o then number k o ∷ read_by i
 abbrev pub is_late_use : OperandValue → Bool
 is_late_use o = is_reading o && is_late o.position
 
--- where a run goes on from a block's last instruction, if there is that successor
+-- the edge from a block's last instruction to the successor taken, if there is that successor
 abbrev pub edge_to : ℕ → Option ℕ → Option Way
 edge_to count None = None
 edge_to count (Some k) = if nat_lt k count then Some (ToSuccessor k) else None
 
--- where it goes on from an instruction: to the next one of the block, and from the last to the successor that is taken
+-- how a run goes on from an instruction: to the next one of the block, or from the last one to the successor taken
 abbrev pub way_on : FunctionValue → Location → Option ℕ → Option Way
 way_on f l taken =
     if nat_lt (l.inst + 1) (block_at f l.block).range.end then Some Onward
@@ -63,7 +63,7 @@ passed_on [] arguments before after = after
 passed_on (p ∷ ps) [] before after = after
 passed_on (p ∷ ps) (a ∷ rest) before after = passed_on ps rest before (number_set after p (before a))
 
--- the edge that a way takes
+-- the numbers after an edge or fall-through: an edge passes its arguments to the parameters
 unfoldable pub passed_over : FunctionValue → Location → Way → (VirtualRegister → ℕ) → VirtualRegister → ℕ
 passed_over f l Onward m = m
 passed_over f l (ToSuccessor k) m = passed_on (block_at f (slice_index (block_at f l.block).succs k)).params (arguments_at f l.block k) m m
@@ -79,7 +79,7 @@ unfoldable pub numbers_moved : List MoveValue → (Place → ℕ) → Place → 
 numbers_moved [] m = m
 numbers_moved (e ∷ es) m = numbers_moved es (place_set m e.to (m e.from))
 
--- an instruction may write its early definitions while it reads, so their places hold any numbers then
+-- an instruction may write its early definitions while it reads, so their places may hold any numbers at that time
 unfoldable pub disturbed : (Place → ℕ) → List Place → ℕ → List OperandValue → (Place → ℕ) → Place → ℕ
 disturbed noise places k [] m = m
 disturbed noise places k (o ∷ os) m = disturbed noise places (k + 1) os
@@ -98,14 +98,14 @@ numbers_clobbered set noise m (InSlot n) = m (InSlot n)
 
 -- The interpreter over vregs.
 module _ (f : FunctionValue) (meaning : InstMeaning) where
-  -- what an instruction reads, and what has been read then
+  -- the numbers that an instruction reads, and the history with them
   abbrev pub vreg_reads : State VirtualRegister → List ℕ
   vreg_reads c = read_by is_reading (λ k o. c.numbers o.vreg) 0 (inst_at f c.at.inst).operands
 
   abbrev pub source_told : State VirtualRegister → History
   source_told c = (c.at.inst, vreg_reads c) ∷ c.history
 
-  -- the numbers once the instruction has defined
+  -- the numbers after the instruction's definitions
   abbrev pub vreg_written : State VirtualRegister → VirtualRegister → ℕ
   vreg_written c = numbers_defined (meaning.writes (source_told c)) 0 (inst_at f c.at.inst).operands c.numbers
 
@@ -114,35 +114,35 @@ module _ (f : FunctionValue) (meaning : InstMeaning) where
   source_step c = option_map (λ w. record { at = next_of f c.at w; history = source_told c; numbers = passed_over f c.at w (vreg_written c) })
       (way_on f c.at (meaning.takes (source_told c)))
 
-  -- so many steps from the entry, with any numbers in the vregs; nothing once it has ended
+  -- the state after so many steps from the entry, with any initial numbers in the vregs; none once the run has ended
   unfoldable pub source_run : (VirtualRegister → ℕ) → ℕ → Option (State VirtualRegister)
   source_run start zero = Some (record { at = first_of f f.entry; history = []; numbers = start })
   source_run start (suc n) = option_and_then source_step (source_run start n)
 
 -- The interpreter over places. Noise is what an instruction may leave in the places of early definitions while it reads, and in clobbered registers.
 module _ (f : FunctionValue) (out : OutputValue) (meaning : InstMeaning) (noise : History → Place → ℕ) where
-  -- the numbers that an instruction finds: its moves are made, and early definitions may have been written
+  -- the numbers that an instruction finds: its moves have run, and early definitions may have been written
   abbrev pub place_found : State Place → Place → ℕ
   place_found c = disturbed (noise c.history) (allocs_of out c.at.inst) 0 (inst_at f c.at.inst).operands (numbers_moved (moves_at f out c.at) c.numbers)
 
-  -- what it reads, in the places of its uses, and what has been read then
+  -- the numbers that it reads, in the places of its uses, and the history with them
   abbrev pub place_reads : State Place → List ℕ
   place_reads c = read_by is_reading (λ k o. place_found c (place_at (allocs_of out c.at.inst) k)) 0 (inst_at f c.at.inst).operands
 
   abbrev pub place_told : State Place → History
   place_told c = (c.at.inst, place_reads c) ∷ c.history
 
-  -- the numbers once it has defined
+  -- the numbers after its definitions and clobbers
   abbrev pub place_written : State Place → Place → ℕ
   place_written c = numbers_clobbered (inst_at f c.at.inst).clobbers (noise (place_told c))
       (written_to (meaning.writes (place_told c)) (allocs_of out c.at.inst) 0 (inst_at f c.at.inst).operands (place_found c))
 
-  -- one step further; on an edge nothing moves
+  -- one step further; on an edge no place changes
   abbrev pub place_step : State Place → Option (State Place)
   place_step c = option_map (λ w. record { at = next_of f c.at w; history = place_told c; numbers = place_written c })
       (way_on f c.at (meaning.takes (place_told c)))
 
-  -- so many steps from the entry, with any numbers in the places; nothing once it has ended
+  -- the state after so many steps from the entry, with any initial numbers in the places; none once the run has ended
   unfoldable pub place_run : (Place → ℕ) → ℕ → Option (State Place)
   place_run start zero = Some (record { at = first_of f f.entry; history = []; numbers = start })
   place_run start (suc n) = option_and_then place_step (place_run start n)

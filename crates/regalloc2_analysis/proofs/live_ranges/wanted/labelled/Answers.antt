@@ -7,7 +7,7 @@ use Rattle.regalloc2_analysis.specs.LiveRanges.LiveRanges.{IsLabelled, IsWanted}
 use Rattle.regalloc2_analysis.proofs.LiveRangesLemmas.Labelled.{labelled_are}
 use Rattle.regalloc2_analysis.proofs.live_ranges.wanted.labelled.Goals as goal
 
--- the table is as long as was asked for
+-- the table has the requested length
 pub returns-clause-room : goal.returns-clause-room
 returns-clause-room g c =
     let f : FunctionValue = g.F.Function.function c.args.f.now in

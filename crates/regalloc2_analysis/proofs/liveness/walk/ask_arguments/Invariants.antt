@@ -4,6 +4,6 @@ use Rattle.regalloc2_semantics.specs.Blocks.{names}
 use Rattle.regalloc2_analysis.specs.Liveness.BlockVRegPairs.{Grows, holds}
 use Rattle.regalloc2_analysis.proofs.liveness.walk.ask_arguments.Given as goal
 
--- the arguments so far are asked for
+-- the upward-exposed uses among the arguments so far are listed
 abbrev pub invariant-loop-argument : goal.invariant-loop-argument
 invariant-loop-argument g l = Grows l.block (λ v. names v (take l.argument-index l.arguments) && not (holds l.written (l.block, v))) l.fn.needs l.needs

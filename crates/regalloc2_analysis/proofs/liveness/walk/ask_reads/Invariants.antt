@@ -4,6 +4,6 @@ use Rattle.regalloc2_analysis.specs.Liveness.BlockVRegPairs.{Grows, holds}
 use Rattle.regalloc2_analysis.specs.Liveness.BlockWalk.{reads}
 use Rattle.regalloc2_analysis.proofs.liveness.walk.ask_reads.Given as goal
 
--- what the operands so far read is asked for
+-- the upward-exposed uses among the operands so far are listed
 abbrev pub invariant-loop-operand : goal.invariant-loop-operand
 invariant-loop-operand g l = Grows l.block (λ v. reads l.pos v (take l.operand-index l.operands) && not (holds l.written (l.block, v))) l.fn.needs l.needs
