@@ -1,4 +1,4 @@
--- The places of debug locations: each is one where its label's vreg may be, and so they are as `run` promises them.
+-- The places of debug locations: each is one where its label's vreg may be, and so they are as `run` guarantees them.
 use Rattle.std.proofs.Common.{if◌then◌else◌, ℕ, ◌≡◌, ◌≢◌, ◌+◌, ◌<◌, false, inl, inr, List, length, map, nat_eq, refl, sym, ap, ◌∙◌}
 use Rattle.std.proofs.Common.{subst, arith, slice_index, slice_index_or}
 use Rattle.std.specs.Prelude.{All, None, Option, Some}
@@ -115,7 +115,7 @@ module _ (env : MachineValue) (f : FunctionValue) (limited : IsLimited f) (ok : 
   place_is_shown v (InRegister r) by shown = refl
   place_is_shown v (InSlot n) by shown = refl
 
-  -- debug locations as `run` promises them
+  -- debug locations as `run` guarantees them
   pub shows_labels : (IsWrittenFirst f → (l : Label) (r : LiveRange) → IsKeptRange f l r →
       ShowsValue f out l.vreg (shown_place out (slot_name t.slots r.vreg.number) r.by)) → AreLocated f t.slots out.offsets out.allocs out.debug_locations →
       ShowsLabels f env out owns.owned.owner

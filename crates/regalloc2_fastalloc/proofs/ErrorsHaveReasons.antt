@@ -34,7 +34,7 @@ fixed_reason : (f : FunctionValue) (env : MachineValue) (asked : Bool) (e : RegA
     IsFixedFault f env e → IsReason f env asked e
 fixed_reason f env asked e p on shape sound h = rw h.1 (inl (p, on, clashing shape sound (h.0, refl, h.2)))
 
--- a fault is a reason, where it is asked for
+-- an error is a reason, where its test is required
 pub fault_is_reason : (f : FunctionValue) (env : MachineValue) (asked : Bool) {e : RegAllocError} → HasFewOperands f → asked ≡ true → IsFunctionFault f env e →
     IsReason f env asked e
 fault_is_reason f env asked p on memory = p

@@ -4,7 +4,7 @@
 -- Main theorem: `made_in_slots` in `ReadsAgree`, with `made_blocks_agree`: reads agree on every path of what the walk
 -- made; it joins `blocks_carry` of regalloc2_fastalloc_proofs with `blocks_agree_in_places_by_points` of
 -- regalloc2_semantics. `walk_kept_through` and `walk_safe_through` give its premises, safe states. The contract itself
--- is answered in `allocate/fill_places` and `run`.
+-- is proved in `allocate/fill_places` and `run`.
 -- Slots of branches: `branch_slots_serve` in `BranchSlots`. Debug locations: `shows_labels` in `DebugLocationPlaces`,
 -- over `DebugLocationsFound`. Errors: `fault_is_reason` and `lack_is_a_reason` in `ErrorsHaveReasons`. Resources:
 -- `few_slots` in `UnitsNeeded`, `are_few` in `RegistersForAll`, `has_room` in `RoomInTables`. `UsesReadNumbers` serves

@@ -90,7 +90,7 @@ module _ (walk : WholeWalk) (taken : AreTaken walk.f) (in_place : (i : ℕ) → 
   abbrev standing : ℕ → VirtualRegister → Option Place
   standing = stand_on env f ok (allocs_of out) (slots_at last)
 
-  -- each block carries what the laws on paths want
+  -- each block carries what the lemmas on paths require
   made_blocks_carry : (b : ℕ) → BlockCarriesOn f standing b (block_walked f out b)
   made_blocks_carry =
       blocks_carry walk (processes_branch_between f) m.edits are_listed (λ b. WritesFrom f out.allocs (b + 1))
@@ -108,7 +108,7 @@ module _ (walk : WholeWalk) (taken : AreTaken walk.f) (in_place : (i : ℕ) → 
   made_blocks_agree written = blocks_agree_in_places_by_points f out standing (well_formed_are_sound env f ok) written made_rising blocks_quiet
       (λ b reached. made_blocks_carry b)
 
-  -- and who is live where a path comes to a block is where it stands there
+  -- and each vreg that is live where a path comes to a block is in its current location there
   pub made_live_stand : IsWrittenFirst f → LiveStandInPlaces f out standing
   made_live_stand written = live_stand_in_places env f out standing ok written made_rising blocks_quiet (λ b reached. made_blocks_carry b)
 
@@ -118,7 +118,7 @@ module _ (walk : WholeWalk) (taken : AreTaken walk.f) (in_place : (i : ℕ) → 
   made_live_slots written ws path entered v live = used_slots walk (processes_branch_between f) v
       (live_is_used env f ok written ws path entered v live)
 
-  -- all as `run` promises it
+  -- all as `run` guarantees it
   pub made_in_slots : SlotsHaveOneOwner last.slots → ((i : ℕ) → i < length f.insts → IsTame (Made f) (inst_at f i).operands) → IsWrittenFirst f
       → LiveInSlots f out
   made_in_slots owned tame written = record {

@@ -40,7 +40,7 @@ step_reads : (f : FunctionValue) (env : MachineValue) (out : OutputValue) → Is
     All IsSome (source_reads f ws)
 step_reads f env out h ws p = each_reads (λ k o. source_read f ws o) 0 (last_inst f ws).operands (λ k d less yes. ((h ws p).reads k d less yes).0)
 
--- where an output is faithful, on every path each use of the function reads a number, whatever the instructions mean
+-- where an output is faithful, on every path each use of the function reads a number, whatever the instructions compute
 pub reads_numbers : (f : FunctionValue) (env : MachineValue) (out : OutputValue) → IsFaithful f env out → ReadsNumbers f
 unfolding numbers
 reads_numbers f env out h meaning [] p = All-cons (All IsSome) (map (option_map (λ s. 0)) (source_reads f [])) []

@@ -37,7 +37,7 @@ pub record AreLocated (f : FunctionValue) (slots : SpillSlotsValue) (offsets : L
   pub rising : IsNonDecreasingBy (λ d. d.label) ds
   pub stable : IsStableByKey (λ d. d.label) nat_cmp (map (location_shown slots offsets allocs) kept) ds
 
--- what the place of a live range is found by: its vreg is one of the table, and the operand that it names has a place
+-- what is needed to find the place of a live range: its vreg is one of the table, and the operand that it names has a place
 pub record HasPlace (slots : SpillSlotsValue) (offsets : List ℕ) (allocs : List Place) (r : LiveRange) : Type 0 where
   pub vreg : r.vreg.number < length slots.vreg_spillslots
   pub inst : (o : InstOperand) → r.by ≡ Some o → o.inst < length offsets

@@ -16,18 +16,18 @@ use Rattle.regalloc2_fastalloc_state.specs.Validate.Validated.{IsFunctionFault}
 abbrev pub HasFewOperands : FunctionValue → Type 0
 HasFewOperands f = operand_count f < 2 ^ 32
 
--- then those of a well-formed function, where they are asked for
+-- then those of a well-formed function, if they are required
 abbrev pub IsValidIfChecked : FunctionValue → MachineValue → Bool → Type 0
 IsValidIfChecked f env asked = asked ≡ true → IsWellFormed env f
 
--- all tests that were asked for
+-- all tests that were required
 pub record PassesAllChecks (f : FunctionValue) (env : MachineValue) (asked : Bool) : Type 0 where
   pub first : HasFewOperands f
   pub well_formed : IsValidIfChecked f env asked
   pub unlimited : (i : ℕ) → i < length f.insts → AreUnlimited (inst_at f i)
   pub branches : (i : ℕ) → i < length f.insts → BranchDefinesInPlace (inst_at f i)
 
--- the function isn't well-formed, where that is asked for
+-- the function isn't well-formed, if that is tested
 abbrev pub FailsValidation : FunctionValue → MachineValue → Bool → RegAllocError → Type 0
 FailsValidation f env asked e = HasFewOperands f × (asked ≡ true) × IsFunctionFault f env e
 
@@ -43,8 +43,8 @@ greatest_slot f = max (slot_size f.slot_sizes Int) (max (slot_size f.slot_sizes 
 abbrev pub units_at_most : FunctionValue → ℕ
 units_at_most f = 2 * greatest_slot f * (f.num_vregs + 6 * length f.blocks)
 
--- The reason that an error gives. Not promised: that `Memory` comes only where memory ran out, of which it says which tests pass; nor that
--- `TooManyLiveRegs` comes wherever an instruction doesn't fit.
+-- The reason that an error gives. Not guaranteed: that `Memory` is returned only if memory ran out (it says which tests pass); nor that
+-- `TooManyLiveRegs` is returned wherever an instruction doesn't fit.
 abbrev pub IsReason : FunctionValue → MachineValue → Bool → RegAllocError → Type 0
 IsReason f env asked (CritEdge p b) = FailsValidation f env asked (CritEdge p b)
 IsReason f env asked (SSA v i) = FailsValidation f env asked (SSA v i)

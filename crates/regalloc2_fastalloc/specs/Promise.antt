@@ -1,6 +1,5 @@
--- What `run` promises of its outputs: the main theorem's conclusion. Its words are in regalloc2_function/specs: paths in Path, what both
--- runs read in SourceRun and AllocatedRun, outputs in OutputValue, faithful ones in Faithful, proper places in Fitting, slots in Slots,
--- numbers in Values.
+-- What `run` guarantees of its outputs: the main theorem's conclusion. Its terms are in regalloc2_function/specs: paths in Path, what both runs read
+-- in SourceRun and AllocatedRun, outputs in OutputValue, faithful ones in Faithful, valid places in Fitting, slots in Slots, numbers in Values.
 use Rattle.std.specs.Prelude.{ℕ, ◌≡◌, ◌<◌, ◌≤◌, ◌^◌, ◌⊎◌, List, All, IsSome, length, slice_index_or, Bool, false, [], nat_eq, ◌≢◌}
 use Rattle.regalloc2_names.specs.Register.{VirtualRegister, Register, no_vreg}
 use Rattle.regalloc2_names.specs.Operand.{OperandValue}
@@ -26,13 +25,13 @@ use Rattle.regalloc2_analysis.specs.BranchDefs.BranchDefs.{DefinesNumber, IsEdge
 use Rattle.regalloc2_semantics.specs.Live.{IsLive, HasEntered, HoldsValueAt}
 use Rattle.regalloc2_fastalloc.specs.ErrorReason.{units_at_most}
 
--- on every path each use of the function reads a number, whatever the instructions mean
+-- on every path each use of the function reads a number, whatever the instructions compute
 abbrev pub ReadsNumbers : FunctionValue → Type 0
 ReadsNumbers f = (meaning : Meaning) (ws : List Way) → IsPath f ws → All (All IsSome) (numbers f meaning (source_reads f) ws).history
 
--- The allocated program runs as the function does, along every path from the entry: at each step each use finds in its place the function's
--- own write, each place meets its constraint, and no move goes from a stack place to another; and so each use reads the function's own
--- number, whatever the instructions mean.
+-- The allocated program runs as the function does, along every path from the entry: at each step each use finds in its place the function's own
+-- write, each place meets its constraint, and no move is stack-to-stack; and so each use reads the function's own number, whatever the instructions
+-- compute.
 pub record RunsAsTheFunction (f : FunctionValue) (env : MachineValue) (out : OutputValue) : Type 0 where
   pub faithful : IsFaithful f env out
   pub reads_numbers : ReadsNumbers f
@@ -90,9 +89,9 @@ IsPlaceOfOperand f out v p = (i k : ℕ) × (d : OperandValue) × (i < length f.
 abbrev pub IsPlaceOf : FunctionValue → OutputValue → (ℕ → Owner) → VirtualRegister → Place → Type 0
 IsPlaceOf f out owner v p = IsPlaceOfOperand f out v p ⊎ ((n : ℕ) × (p ≡ InSlot n) × (owner n ≡ OfVReg v))
 
--- The debug locations are those of the labels that are kept, each from its vreg's first point to its last one, by rising label,
--- and as listed where labels are equal. Each place is proper, and one of that vreg; and where no path from the entry reads a
--- vreg before writing it, it holds that one's value.
+-- The debug locations are those of the labels that are kept, each from its vreg's first point to its last one, by rising label, and as listed where
+-- labels are equal. Each place is valid, and one of that vreg; and if no path from the entry reads a vreg before writing it, it holds that vreg's
+-- value.
 abbrev pub ShowsLabels : FunctionValue → MachineValue → OutputValue → (ℕ → Owner) → Type 0
 ShowsLabels f env out owner = AreDebugLocations f (λ l d. IsProperPlace env out l.vreg.class d.place × IsPlaceOf f out owner l.vreg d.place
     × (IsWrittenFirst f → ShowsValue f out l.vreg d.place)) out
@@ -113,18 +112,18 @@ pub record HasRegistersForAll (f : FunctionValue) (env : MachineValue) : Type 0 
   pub enough : (class : RegClass) (vs : List VirtualRegister) → IsDistinct have_same_number vs → All (λ v. (v.class ≡ class) × IsNamed f v) vs →
       length vs ≤ allocatable_count env class
 
--- The whole promise about an output. Only `faithful`, `live` and the last part of `labels` have a premise: that no path from the entry
--- reads a vreg before writing it.
---     in_order            offsets and moves are in order, and no move names a missing place
+-- The whole guarantee about an output. Only `faithful`, `live` and the last part of `labels` have a premise: that no path from the entry reads a vreg
+-- before writing it.
+--     in_order            offsets and moves are well-ordered, and no move names a missing place
 --     constraints         each operand's place meets its constraint, whether a path reaches it or not
 --     proper              each operand's place, and each end of a move, is one of the machine's or a slot below the count
---     no_stack_to_stack   no move goes from a stack place to another
+--     no_stack_to_stack   no move is stack-to-stack
 --     listed              each move is listed, none after the last instruction of a block
 --     faithful            the output runs as the function does
 --     live                values that are live between blocks are in their slots, or where the branch between them defined them
 --     slots               slots take few units
 --     unspilled           where each vreg can have a register of its own, there are no moves and no slots
---     owners              slots are memory: each that is named has one owner, a vreg or a branch, and units of its own, of its owner's class
+--     owners              each slot that is named has one owner, a vreg or a branch, and units of its own, of its owner's class
 --     branch_slots        a branch owns two slots for a class at most, and only moves at the point before it name them
 --     labels              debug locations are those of the labels that are kept, and name places of their vregs, which hold their values
 pub record IsAllocation (f : FunctionValue) (env : MachineValue) (out : OutputValue) : Type 0 where

@@ -21,7 +21,8 @@ use regalloc2_names::{Allocation, ProgPoint, RegAllocError};
 use regalloc2_shape::table_length::table_length;
 use std::alloc::Allocator;
 
-/// What an output has beside the places: how many units slots take, the moves as they are listed, and the debug locations.
+/// The parts of an output beside the places: how many units slots take, the moves as they are
+/// listed, and the debug locations.
 #[derive(Drop)]
 struct Rest<A: Allocator> {
     num_spillslots: usize,
@@ -29,7 +30,8 @@ struct Rest<A: Allocator> {
     debug_locations: Vec<(u32, ProgPoint, ProgPoint, Allocation), A>,
 }
 
-/// The walk from a fresh state fills in the place of each operand. What comes back is the rest of a whole output.
+/// Walks from a fresh state and fills in the place of each operand. Returns the rest of a whole
+/// output.
 fn fill_places<A: Allocator + Copy, F: Function, B: Allocator>(
     alloc: A,
     f: &F,
@@ -58,7 +60,7 @@ fn fill_places<A: Allocator + Copy, F: Function, B: Allocator>(
     let vregs = table_length(f);
     let mut state = State::new(&alloc, f, env, vregs)?;
     state.alloc_blocks(&alloc, f, offsets, allocs)?;
-    // what only the walk needs is let go first: to locate labels takes tables by vreg, too
+    // what only the walk needs is freed first: locating labels takes tables by vreg, too
     drop(state.places);
     drop(state.registers);
     let debug_locations = debug::locations(alloc, f, &state.slots, offsets, allocs)?;
@@ -66,7 +68,7 @@ fn fill_places<A: Allocator + Copy, F: Function, B: Allocator>(
     // and so are the slots, since a move that is listed takes more than one that is kept
     drop(state.slots);
     let edits = state.edits.listed(alloc)?;
-    // a law, which the contract needs: the call does nothing
+    // a lemma, which the contract needs: the call does nothing
     reads_the_same_numbers();
     Ok(Rest {
         num_spillslots,

@@ -1,8 +1,9 @@
-//! The fast allocator: one walk from the last instruction to the first, which gives a register to each operand as it meets
-//! it, and moves vregs to spill slots where registers run out.
+//! The fast allocator: one walk from the last instruction to the first, which gives a register to
+//! each operand as it meets it, and moves vregs to spill slots where registers run out.
 //!
-//! [`run`] allocates a function: it makes the tests, walks by `regalloc2_fastalloc_walk`, and assembles the output. Upstream's module
-//! `fastalloc` does the same, reached by its crate's `run`.
+//! [`run`] allocates a function: it tests the function, calls the walk in
+//! `regalloc2_fastalloc_walk`, and assembles the output. Upstream's module `fastalloc` does the
+//! same, reached by its crate's `run`.
 #![tactic(auto)]
 
 ghost use Rattle.std.specs.Prelude.{◌≡◌, ◌≤◌, ◌^◌, ◌↔◌, [], false, IfErr, IfOk, OnErr, OnOk};
@@ -36,16 +37,16 @@ pub enum Algorithm {
 /// How to allocate.
 #[derive(Clone, Copy, Debug, Default, PartialEq, Eq)]
 pub struct RegallocOptions {
-    /// Whether to test that the function is well-formed. Else the caller answers for that.
+    /// Whether to test that the function is well-formed. If false, the caller guarantees it.
     pub validate_ssa: bool,
     /// By which algorithm.
     pub algorithm: Algorithm,
 }
 
-/// What is kept between allocations: the newest output, and the allocator that outputs are made with.
+/// What is kept between allocations: the last output, and the allocator that outputs are made with.
 #[derive(Drop)]
 pub struct Ctx<A: Allocator = Global> {
-    /// What the newest call that returned no error gave; at first an output of no instructions.
+    /// The output of the last call that returned no error; at first an output of no instructions.
     pub output: Output<A>,
     alloc: A,
 }
@@ -89,45 +90,61 @@ impl<A: Allocator + Copy> Ctx<A> {
 
 /// Allocates registers to a function.
 ///
-/// The machine suits the function (`machine_fits` tests that). Where `options.validate_ssa` is false the function is
-/// well-formed; else that is tested. The output is in order; each operand's place is proper and meets its constraint, also in
-/// instructions that no path reaches; each end of a move is proper, and no move goes from a stack place to another; and
-/// each move is listed, none after the last instruction of a block. Slots are memory: each that the output names belongs to
-/// one vreg, and is where its operands stand that are in slots, or to one branch. A branch owns at most two slots for each
-/// class, and only moves at the point before the branch name them. Each slot takes as many units as its owner's class wants, aligned to
-/// that number, below the count, and no other slot has one of them; and both ends of a move are of one class. The debug locations are
-/// those of the labels that are kept, by rising label. Each is from the first point of its vreg to the last one, in a proper
-/// place: that of an operand of the vreg, or the slot that it owns. All that is promised of an output is one record,
-/// `IsAllocation`, in `specs/Promise.antt`.
+/// The machine fits the function (`machine_fits` tests that). If `options.validate_ssa` is false,
+/// the function is well-formed; else that is tested.
 ///
-/// If no path from the entry reads a vreg before writing it, the output runs as the function does: along every
-/// path, and whatever the instructions mean, each use reads the function's own value. Where a path comes to a block, the slot of
-/// each vreg that is live there holds its value; but what the branch into the block defines is still in the place of the
-/// branch's operand, and so is each parameter that is given it. And the place of each debug location holds its vreg's
-/// value, from where that is given up to each step that uses it, at all steps but branches. That premise isn't tested here.
+/// The output is well-ordered. Each operand's place is valid and meets its constraint, also in
+/// instructions that no path reaches. Each end of a move is valid, and no move is stack-to-stack.
+/// Each move is listed, none after the last instruction of a block. Each slot that the output names
+/// is owned by one vreg, and is the place of its operands that are in slots, or by one branch. A
+/// branch owns at most two slots for each class, and only moves at the point before the branch name
+/// them. Each slot takes as many units as its owner's class requires, aligned to that number, below
+/// the count, and no other slot has one of them. Both ends of a move are of one class. The debug
+/// locations are those of the labels that are kept, by rising label. Each is from the first point
+/// of its vreg to the last one, in a valid place: that of an operand of the vreg, or the slot that
+/// it owns. One record contains all that is guaranteed of an output: `IsAllocation`, in
+/// `specs/Promise.antt`.
 ///
-/// Errors come in this order: 2^32 operands or more, by `TooManyOperands`; where `options.validate_ssa` is true, first
-/// blocks and edges that aren't sound, as `CFGInfo::init` says, then an entry, terminators, arguments, definitions or uses
-/// that aren't, as `validate_ssa` says, and then reuses that aren't sound and registers fixed beside clobbers, by
-/// `Unsupported` with the first such instruction; an operand under `Limit`, and then a branch that defines in any register or by a
-/// reuse, by `Unsupported` with the first such instruction. Only after all these tests comes `TooManyLiveRegs`, when no register is
-/// found for an operand or a move: that happens only where some instruction doesn't fit, by `Fits`: it asks for more
-/// registers of a class than there are, or for a fixed one that the machine lacks or another operand holds. Or
-/// `TooManySpillSlots`, when a slot would end past 2^24: that happens only where `units_at_most` passes 2^24, which is twice
-/// the size of the greatest slot, for each vreg and six times for each block. Slots take no more units than
-/// that, and at most 2^24. `Memory` comes when memory runs out, never from the first test, which asks for none.
+/// If no path from the entry reads a vreg before writing it, the output runs as the function does:
+/// along every path, and whatever the instructions compute, each use reads the function's own
+/// value. Where a path comes to a block, the slot of each vreg that is live there holds its value;
+/// but what the branch into the block defines is still in the place of the branch's operand, and so
+/// is each parameter that is given it. The place of each debug location holds its vreg's value,
+/// from where that is given up to each step that uses it, at all steps but branches. This premise
+/// isn't tested here.
 ///
-/// Not promised: that `TooManyLiveRegs` comes wherever an instruction doesn't fit, nor that `Memory` comes only where memory ran
-/// out, of which the contract says that the first test passes.
+/// # Errors
 ///
-/// A reuse is sound where it is a late definition that names an early use, which no other one names, of a vreg of
-/// its class, in any register or fixed to an allocatable one. No definition, late use or reused operand may be fixed to a
-/// clobber of its instruction.
+/// In this order, `Memory` aside:
 ///
-/// The contract doesn't say which registers are chosen, nor how many moves are made, but for one kind of function: where there is
-/// one block, all operands are under `Reg`, nothing is clobbered and each vreg can have a register of its own, there
-/// are no moves and no slots. Upstream's `run` makes the same tests in another order, and takes reuses and fixed registers for
-/// granted.
+/// - `TooManyOperands`: 2^32 operands or more.
+/// - If `options.validate_ssa` is true, first the errors of `CFGInfo::init` in blocks and edges,
+///   then those of `validate_ssa` in the entry, terminators, arguments, definitions or uses, and
+///   then `Unsupported` with the first instruction whose reuses aren't sound, or if there is none,
+///   the first whose fixed registers clash with clobbers.
+/// - `Unsupported` with the first instruction that has an operand under `Limit`, or if there is
+///   none, the first branch that defines in any register or by a reuse.
+/// - After all these tests, `TooManyLiveRegs` if no register is found for an operand or a move.
+///   That happens only if some instruction doesn't fit, by `Fits`: it requires more registers of a
+///   class than there are, or a fixed one that the machine lacks or another operand holds.
+/// - Or `TooManySpillSlots` if a slot would end past 2^24. That happens only if `units_at_most`
+///   passes 2^24, which is twice the size of the greatest slot, for each vreg and six times for
+///   each block. Slots take no more units than that, and at most 2^24.
+///
+/// `Memory` is returned if memory runs out, never from the first test, which allocates nothing.
+///
+/// The contract doesn't guarantee `TooManyLiveRegs` wherever an instruction doesn't fit, nor that
+/// `Memory` is returned only if memory ran out; of `Memory` it says that the first test passes.
+///
+/// A reuse is sound if it is a late definition that names an early use, which no other reuse names,
+/// of a vreg of its class, in any register or fixed to an allocatable one. Fixed registers clash
+/// with clobbers if a definition, late use or reused operand is fixed to a clobber of its
+/// instruction.
+///
+/// The contract leaves open which registers are chosen, and how many moves are made, but for one
+/// kind of function: if there is one block, all operands are under `Reg`, nothing is clobbered and
+/// each vreg can have a register of its own, there are no moves and no slots. Upstream's `run`
+/// makes the same tests in another order, and takes reuses and fixed registers for granted.
 pub fn run<A: Allocator + Copy, F: Function, B: Allocator>(
     alloc: A,
     f: &F,
@@ -154,8 +171,9 @@ pub fn run<A: Allocator + Copy, F: Function, B: Allocator>(
 
 /// Allocates registers to a function, and puts the output into `ctx.output`.
 ///
-/// Conditions, output and errors are those of [`run`]. An error leaves `ctx.output`. After a call that returns no error,
-/// `&ctx.output` is the output. Upstream has this within `run_with_ctx`.
+/// Preconditions, output and errors are those of [`run`]. An error leaves `ctx.output` unchanged.
+/// After a call that returns no error, `&ctx.output` is the output. Upstream has this within
+/// `run_with_ctx`.
 pub fn run_into_ctx<A: Allocator + Copy, F: Function, B: Allocator>(
     f: &F,
     env: &MachineEnv<B>,

@@ -1,4 +1,4 @@
--- Laws of counting.
+-- Lemmas on counting.
 use Rattle.std.proofs.Common.{ℕ, zero, suc, refl, ◌≡◌, ◌≢◌, ◌+◌, ◌<◌, ◌≤◌, ◌⊎◌, Bool, true, false, sym, ap, ◌∙◌, subst, arith, inl, inr}
 use Rattle.std.specs.Prelude.{if◌then◌else◌}
 use Rattle.std.proofs.lemmas.Bool.{cases_Bool, cases_eq}

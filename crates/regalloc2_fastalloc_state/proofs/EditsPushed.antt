@@ -26,7 +26,7 @@ one_pushed point old es new ms n k m next lt reads had more =
     more ∙ ap (λ (xs : List (ℕ × MoveValue)). xs ++ last) before ∙ append_assoc old (pushed point rest) last
     ∙ ap (λ (xs : Moves). old ++ pushed point xs) (sym here)
 
--- and one more is listed, in front of which those stand that were before the chunk and those of the chunk that were pushed after it
+-- and one more is listed, after those before the chunk and those of the chunk that were pushed after it
 pub one_listed : (before done more : List (ℕ × MoveValue)) (ms : List (ℕ × Place × Place)) (n k : ℕ) (m : ℕ × Place × Place) → n ≡ k + 1 → k < length ms →
     get_or ms k m ≡ m → done ≡ before ++ reverse (map kept_move (drop n ms)) → more ≡ done ++ kept_move m ∷ [] →
     more ≡ before ++ reverse (map kept_move (drop k ms))

@@ -212,7 +212,7 @@ pub lacks_then : (P Q : Type 0) → (P → Q) → (e : RegAllocError) → IsReso
 lacks_then P Q more TooManySpillSlots h = more h
 lacks_then P Q more e h = h
 
--- a fault of moves is an error for slots or memory
+-- an error of moves is an error for slots or memory
 pub slots_of_fault : (P : Type 0) (fault : MoveFault) → (fault ≡ NoSlot → P) → LacksSlots P (error_of fault)
 slots_of_fault P NoSlot h = h refl
 slots_of_fault P MemoryFault h = tt

@@ -120,7 +120,8 @@ inverse_kept t u v p known long small alone i s = record {
         q (sym e ∙ ap (λ (z : VirtualRegister). z.number) (sym y) ∙ x.1)) in
         s.holders r lt ∙ rw (a, b) h
 
--- The tables as code writes them where the location of a vreg is set: the old register is emptied, the new one filled, the list told, and the location set.
+-- The tables as code writes them where the location of a vreg is set: the old register is emptied, the new one filled, the list updated, and the
+-- location set.
 pub record Marks : Type 0 where
   pub vreg_allocs : List Place
   pub held : List (Option VirtualRegister)

@@ -14,12 +14,12 @@ pub record IsAvailableAt (inst_regs : InstRegs) (p : Positions) (r : Register) :
   pub early : p.early ≡ true → has_register inst_regs.early r ≡ true
   pub late : p.late ≡ true → has_register inst_regs.late r ≡ true
 
--- the same as a test; at neither position, it asks for the late one
+-- the same as a test; at neither position, it tests the late one
 abbrev pub is_available_at : InstRegs → Positions → Register → Bool
 is_available_at inst_regs p r =
     if p.early then has_register inst_regs.early r && (not p.late || has_register inst_regs.late r) else has_register inst_regs.late r
 
--- how many operands of a class that ask for any register are still to be allocated
+-- how many operands of a class that require any register are still to be allocated
 abbrev pub awaited_of : InstRegs → RegClass → ℕ
 awaited_of inst_regs class = slice_index inst_regs.awaited (class_code class)
 
@@ -35,7 +35,7 @@ is_free set inst_regs r = has_register set r && is_free_throughout inst_regs r
 abbrev pub free_count : PRegSet → InstRegs → RegClass → ℕ
 free_count set inst_regs class = count_below (λ n. is_free set inst_regs (register_number class n)) 64
 
--- a register is held at the positions from now on; how many operands are still to be allocated isn't said here
+-- a register is held at the positions from now on; how many operands are still to be allocated is left open
 pub record RemovesAvailable (old new : InstRegs) (r : Register) (p : Positions) : Type 0 where
   pub early : (q : Register) → has_register new.early q ≡ not (p.early && is_register r q) && has_register old.early q
   pub late : (q : Register) → has_register new.late q ≡ not (p.late && is_register r q) && has_register old.late q

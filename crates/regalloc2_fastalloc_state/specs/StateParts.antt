@@ -16,7 +16,7 @@ use Rattle.regalloc2_names.specs.declared.sets.PRegSet.{PRegSet}
 use Rattle.regalloc2_names.specs.RegisterSet.{has_register}
 use Rattle.regalloc2_names.specs.Place.{Place, NoPlace, InRegister, InSlot, is_place, is_in_register, is_no_place}
 
--- where the vregs are located, by number; which vreg is in each register, by index; and the vregs that are in registers, the one that came last first
+-- where the vregs are located, by number; which vreg is in each register, by index; and the vregs in registers, the last filled register's first
 pub record VRegAllocsValue : Type 0 where
   pub vreg_allocs : List Place
   pub vreg_in_preg : List (Option VirtualRegister)
@@ -40,7 +40,7 @@ pub record IsInverse (t : VRegAllocsValue) : Type 0 where
   pub listed : (r : Register) (v : VirtualRegister) → r.number < 64 → vreg_of_preg t r ≡ Some v → Contains t.in_registers v
   pub only : (v : VirtualRegister) → Contains t.in_registers v → (r : Register) × (r.number < 64) × (vreg_of_preg t r ≡ Some v)
 
--- of the registers in which vregs are, the one to which a vreg came last
+-- the last filled register, of those in which vregs are
 pub record IsNewest (t : VRegAllocsValue) (r : Register) : Type 0 where
   pub vreg : VirtualRegister
   pub rest : List VirtualRegister
@@ -64,7 +64,7 @@ pub record HasIf (b : Bool) (vregs : List VirtualRegister) (n : ℕ) : Type 0 wh
 abbrev pub no_allocs : ℕ → VRegAllocsValue
 no_allocs n = record { vreg_allocs = replicate n NoPlace; vreg_in_preg = replicate 256 None; in_registers = [] }
 
--- the vreg is located at the place from now on, and nowhere else; in a register it is the one that came last
+-- the place is the vreg's only location from now on; if it is a register, it is the last filled one
 pub record SetsAlloc (old new : VRegAllocsValue) (v : VirtualRegister) (p : Place) : Type 0 where
   pub long : length new.vreg_allocs ≡ length old.vreg_allocs
   pub here : alloc_of new v.number ≡ p
@@ -165,7 +165,7 @@ pub record AddsTempSlots (old new : SpillSlotsValue) (class : RegClass) (taken :
 abbrev pub no_slots : ℕ → List ℕ → Bool → SpillSlotsValue
 no_slots n sizes by_last = record { vreg_spillslots = replicate n NoPlace; count = 0; num_temp_slots = 0; sizes = sizes; by_last = by_last }
 
--- a move as it is kept until it is listed: its point, and where it goes from and to
+-- a move as it is kept until it is listed: its point, source and destination
 abbrev pub kept_move : ℕ × Place × Place → ℕ × MoveValue
 kept_move m = (m.0, record { from = m.1; to = m.2 })
 
@@ -177,8 +177,8 @@ PointsDescend es = (i j : ℕ) (d : ℕ × MoveValue) → i ≤ j → j < length
 abbrev pub AllAtOrAfter : ℕ → List (ℕ × MoveValue) → Type 0
 AllAtOrAfter point es = All (λ e. point ≤ e.0) es
 
--- The allocatable registers, and for each class the order of their use, the newest first; those that are fixed stack slots; the register of
--- each class that is kept for moves from stack to stack.
+-- The allocatable registers, and for each class the order of their use, the most recently used first; those that are fixed stack slots; the register
+-- of each class that is kept for stack-to-stack moves.
 pub record AllocatableRegsValue : Type 0 where
   pub allocatable : PRegSet
   pub lrus : List (List Register)
@@ -191,12 +191,12 @@ pub record SameRegisters (old new : AllocatableRegsValue) : Type 0 where
   pub fixed_stack : new.fixed_stack ≡ old.fixed_stack
   pub dedicated_scratch : new.dedicated_scratch ≡ old.dedicated_scratch
 
--- whether there are fixed stack slots of a class, and no register that the machine keeps for moves from stack to stack
+-- whether there are fixed stack slots of a class, and no register that the machine keeps for stack-to-stack moves
 abbrev pub needs_scratch_reserve : PRegSet → List (Option Register) → RegClass → Bool
 needs_scratch_reserve stack dedicated_scratch class = nat_lt 0 (count_below (λ n. has_register stack (register_number class n)) 64)
     && is_none (slice_index_or dedicated_scratch (class_code class) None)
 
--- how many registers of the class are to be kept for moves from stack to stack
+-- how many registers of the class are to be kept for stack-to-stack moves
 abbrev pub scratch_reserve_for : PRegSet → List (Option Register) → RegClass → ℕ
 scratch_reserve_for stack dedicated_scratch class = if needs_scratch_reserve stack dedicated_scratch class then 1 else 0
 

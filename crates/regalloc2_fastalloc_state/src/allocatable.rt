@@ -18,14 +18,14 @@ use regalloc2_parts::lru::Lrus;
 use std::alloc::Allocator;
 use std::marker::Model;
 
-/// The allocatable registers, and for each class the order in which they were used last.
+/// The allocatable registers, and the LRU list of each class.
 #[derive(Drop)]
 pub struct AllocatableRegs<A: Allocator> {
     allocatable: PRegSet,
     lrus: Lrus<A>,
     /// Those that are fixed stack slots.
     fixed_stack: PRegSet,
-    /// The register of each class that is kept for moves from stack to stack.
+    /// The register of each class that is kept for stack-to-stack moves.
     dedicated_scratch: [Option<PReg>; 3],
     /// The allocatable registers of each class.
     of_class: [PRegSet; 3],
@@ -80,7 +80,8 @@ fn set_of(regs: &[PReg]) -> PRegSet
 }
 
 impl<A: Allocator + Copy> AllocatableRegs<A> {
-    /// Those of a machine; in each class the lowest number counts as used last.
+    /// Returns the registers of a machine; in each class the lowest number is the most recently
+    /// used.
     pub fn new<B: Allocator>(alloc: A, env: &MachineEnv<B>) -> Result<Self, RegAllocError>
         requires { (c : RegClass) (r : Register) → is_allocatable (machine_of env.now) c r ≡ true → r.class ≡ c }
         ensures ok { IfOk result (λ t. (r : Register) → r.number < 64 → has_register t.allocatable r ≡ true →
@@ -155,7 +156,7 @@ impl<A: Allocator> AllocatableRegs<A> {
         }
     }
 
-    /// The register of the class that is kept for moves from stack to stack.
+    /// The register of the class that is kept for stack-to-stack moves.
     pub fn dedicated_scratch(&self, class: RegClass) -> Option<PReg>
         ensures { result ≡ slice_index_or self.now.dedicated_scratch (class_code class) None }
     {
@@ -169,8 +170,8 @@ impl<A: Allocator> AllocatableRegs<A> {
         self.of_class[class.code()]
     }
 
-    /// How many registers of the class are to be kept for moves from stack to stack: one where there are fixed stack
-    /// slots of the class, and no register for such moves.
+    /// How many registers of the class are to be kept for stack-to-stack moves: one if there are
+    /// fixed stack slots of the class and no dedicated register for such moves.
     pub fn scratch_reserve_of(&self, class: RegClass) -> usize
         ensures { result ≡ scratch_reserve_for self.now.fixed_stack self.now.dedicated_scratch class }
     {
@@ -181,10 +182,10 @@ impl<A: Allocator> AllocatableRegs<A> {
         }
     }
 
-    /// The register of a class that is taken, of those that are available: the one that was used longest ago.
+    /// Chooses the least recently used of the available registers of a class.
     ///
-    /// `chosen` says which that is. Nothing else decides it: to change the policy, edit that definition, and this function with its
-    /// short cut `first_choice`.
+    /// `chosen` defines the choice. Nothing else decides it: to change the policy, edit that
+    /// definition, and this function with its short cut `first_choice`.
     pub fn choose_register(&self, class: RegClass, available: PRegSet) -> Option<PReg>
         ensures chosen { result ≡ chosen (has_register available) (lru_of self.now class) }
         ensures found { IfSome result (λ r. IsLeastRecentIn self.now class available r) }
@@ -193,8 +194,8 @@ impl<A: Allocator> AllocatableRegs<A> {
         self.lrus.items[class.code()].last(available)
     }
 
-    /// The register that would be taken if all of the class were available. It is what `choose_register` answers for each set that
-    /// has it, without a search.
+    /// Returns the register that would be chosen if all of the class were available. It is what
+    /// `choose_register` returns for each set that has this register, without a search.
     #[inline(always)]
     pub fn first_choice(&self, class: RegClass) -> Option<PReg>
         ensures chosen { result ≡ chosen (λ r. true) (lru_of self.now class) }
@@ -205,7 +206,7 @@ impl<A: Allocator> AllocatableRegs<A> {
         self.lrus.items[class.code()].oldest()
     }
 
-    /// The register was used just now: it is the newest of its class from now on, and the others keep their order.
+    /// Makes the register the most recently used of its class; the others keep their order.
     #[inline(always)]
     pub fn poke(&mut self, preg: PReg)
         requires member { has_register self.old.allocatable preg ≡ true }

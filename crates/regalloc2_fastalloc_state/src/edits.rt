@@ -1,4 +1,4 @@
-//! The moves that are added.
+//! The moves that the allocator adds.
 
 ghost use Rattle.std.specs.Prelude.{◌≡◌, ◌≤◌, ◌+◌, ◌-◌, ◌^◌, ◌++◌, ◌∷◌, [], OnOk, OnErr, IfOk, IfErr};
 ghost use Rattle.std.specs.Prelude.{flat_map, length, map, min, reverse, vec_len, vec_capacity};
@@ -12,17 +12,19 @@ use std::alloc::Allocator;
 use std::marker::Model;
 use std::mem;
 
-/// A move as it is kept until it is listed: its point, and where it goes from and to. That takes twelve bytes, and a move of the output sixteen.
+/// A move as it is kept until it is listed: its point, source and destination. It takes twelve
+/// bytes; a move of the output takes sixteen.
 type KeptMove = (ProgPoint, Allocation, Allocation);
 
-/// How many moves a chunk has room for at most: 12 kB of them.
+/// A chunk has room for at most this many moves: 12 kB of them.
 const MAX_MOVES_IN_CHUNK: usize = 1024;
 
-/// And at least.
+/// A chunk has room for at least this many moves.
 const MIN_MOVES_IN_CHUNK: usize = 16;
 
-/// The moves of the part that was walked, in the order in which they were pushed: the last one is listed first, so
-/// points never rise. They are kept in chunks, so that none is copied when the list grows, and chunks are freed one by one while moves are listed.
+/// The moves of the part that was walked, in the order in which they were pushed: the last one is
+/// listed first, so points never rise. They are kept in chunks, so that no move is copied when the
+/// list grows; chunks are freed one by one while moves are listed.
 #[derive(Drop)]
 pub struct Edits<A: Allocator + Copy> {
     /// The chunks that are full, in the order in which they were filled.
@@ -51,7 +53,7 @@ fn as_edit(kept: KeptMove) -> (ProgPoint, Edit)
     (point, Edit::Move { from, to })
 }
 
-/// The current chunk becomes one of those that are full, and a new one begins, with room for as many moves.
+/// Adds the current chunk to the full ones, and begins a new one with room for as many moves.
 #[inline(never)]
 fn begin_chunk<A: Allocator + Copy>(
     full: &mut Vec<Vec<KeptMove, A>, A>,
@@ -70,7 +72,8 @@ fn begin_chunk<A: Allocator + Copy>(
     Ok(())
 }
 
-/// The moves of a chunk are listed after those that are, the last one first, where there is room for them.
+/// Lists the moves of a chunk after those already listed, the last one first. There must be room
+/// for them.
 fn list_chunk<B: Allocator>(listed: &mut Vec<(ProgPoint, Edit), B>, chunk: &[KeptMove])
     requires room { vec_len listed.old + length chunk.now ≤ vec_capacity listed.old }
     ensures listed { map edit_of listed.new.items ≡ map edit_of listed.old.items ++ reverse (map kept_move chunk.now) }
@@ -82,7 +85,7 @@ fn list_chunk<B: Allocator>(listed: &mut Vec<(ProgPoint, Edit), B>, chunk: &[Kep
     }
 }
 
-/// How many moves some chunks have in all.
+/// How many moves some chunks have in all, or the greatest number.
 fn moves_in<A: Allocator>(chunks: &[Vec<KeptMove, A>]) -> usize
     ensures { result ≡ min (length (flat_map (λ chunk. chunk.items) chunks.now)) (2 ^ 64 - 1) }
 {
@@ -94,7 +97,8 @@ fn moves_in<A: Allocator>(chunks: &[Vec<KeptMove, A>]) -> usize
 }
 
 impl<A: Allocator + Copy> Edits<A> {
-    /// No moves. About so many are expected: a chunk has room for that many, within its bounds.
+    /// Returns an empty list. `moves` is about how many are expected: a chunk has room for that
+    /// many, within its bounds.
     pub fn with_capacity(alloc: A, moves: usize) -> Result<Self, RegAllocError>
         ensures empty { IfOk result (λ e. e ≡ []) }
         ensures err { IfErr result (λ e. e ≡ RegAllocError.Memory) }
@@ -107,7 +111,7 @@ impl<A: Allocator + Copy> Edits<A> {
         })
     }
 
-    /// One more move, listed before all others, at a point that comes after none of theirs.
+    /// Adds a move, listed before all others, at a point that comes after none of theirs.
     pub fn push(
         &mut self,
         point: ProgPoint,
@@ -126,8 +130,8 @@ impl<A: Allocator + Copy> Edits<A> {
         Ok(())
     }
 
-    /// Moves at a point that comes after none of those that are there, the last one first: so they are listed in their
-    /// order.
+    /// Adds moves at a point that comes after none of the points there, the last one first: so they
+    /// are listed in their order.
     pub fn push_all(
         &mut self,
         point: ProgPoint,
@@ -147,8 +151,9 @@ impl<A: Allocator + Copy> Edits<A> {
         Ok(())
     }
 
-    /// The moves in the order in which they are listed, by rising points. Room for a quarter of them is asked for at first, and for the others when
-    /// the chunks of that quarter have been listed and freed: so at no time are all of them there twice.
+    /// Returns the moves in the order in which they are listed, by rising points. Room for a
+    /// quarter of them is allocated at first, and for the others once the chunks of that quarter
+    /// have been listed and freed: so at no time are all of them there twice.
     pub fn listed<B: Allocator>(self, alloc: B) -> Result<Vec<(ProgPoint, Edit), B>, RegAllocError>
         ensures listed { IfOk result (λ v. map edit_of v.items ≡ reverse self) }
         ensures falling { PointsDescend self }

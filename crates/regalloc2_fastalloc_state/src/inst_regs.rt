@@ -1,4 +1,5 @@
-//! The registers of one instruction: which are free at its two positions, and how many are still asked for.
+//! The registers of one instruction: which are free at its two positions, and how many are still
+//! required.
 
 ghost use Rattle.std.specs.Prelude.{IsTrue, ◌≡◌, ◌+◌, ◌-◌, ◌&&◌, ◌||◌, ◌∷◌, [], true, None, Some, not, length, min, slice_index_or, slice_set};
 ghost use Rattle.regalloc2_names.specs.Register.{Register, class_code, is_register};
@@ -28,8 +29,8 @@ impl Positions {
         }
     }
 
-    /// Those of an operand: an early use is read before late definitions are written, all others are held throughout,
-    /// but that a late definition comes after the early uses.
+    /// Those of an operand: an early use is read before late definitions are written, and a late
+    /// definition comes after the early uses; all other operands hold their registers throughout.
     pub fn of(operand: Operand) -> Positions
         ensures { result ≡ positions_of operand }
     {
@@ -49,13 +50,13 @@ pub struct InstRegs {
     early: PRegSet,
     /// Those that are free while late operands are there.
     late: PRegSet,
-    /// Through which moves of each class from stack to stack go, once one was taken.
+    /// The register of each class that stack-to-stack moves go through, once one is chosen.
     scratch: [Option<PReg>; 3],
-    /// How many operands of each class that ask for any register are still to be allocated.
+    /// How many operands of each class that require any register are still to be allocated.
     awaited: [usize; 3],
 }
 
-/// The set has the register no more, if it is taken.
+/// Removes the register from the set, if it is taken.
 #[inline(always)]
 fn take_out(set: &mut PRegSet, preg: PReg, is_taken: bool)
     ensures { (q : Register) → has_register set.new q ≡ not (is_taken && is_register preg q) && has_register set.old q }
@@ -97,7 +98,8 @@ impl InstRegs {
         }
     }
 
-    /// Whether the register is free at the positions: whether `available_pregs` has it, without that set being made.
+    /// Whether the register is free at the positions: whether `available_pregs` has it, without
+    /// building that set.
     #[inline(always)]
     pub fn is_available(&self, preg: PReg, positions: Positions) -> bool
         ensures same { result ≡ is_available_at self.now positions preg }
@@ -111,7 +113,7 @@ impl InstRegs {
         }
     }
 
-    /// The register is no longer available at the positions.
+    /// Makes the register unavailable at the positions.
     #[inline(always)]
     pub fn remove_available(&mut self, preg: PReg, positions: Positions)
         ensures removed { RemovesAvailable self.old self.new preg positions }
@@ -121,7 +123,7 @@ impl InstRegs {
         take_out(&mut self.late, preg, positions.late);
     }
 
-    /// The registers of the set are no longer available at the end of the instruction.
+    /// Makes the registers of the set unavailable at the end of the instruction.
     pub fn remove_late(&mut self, taken: PRegSet)
         ensures late { (r : Register) → has_register self.new.late r ≡ not (has_register taken r) && has_register self.old.late r }
         ensures early { self.new.early ≡ self.old.early }
@@ -134,7 +136,7 @@ impl InstRegs {
         self.late = late & taken.invert();
     }
 
-    /// One more operand of the class asks for any register.
+    /// Counts one more operand of the class that requires any register.
     pub fn add_any_reg_op(&mut self, class: RegClass)
         ensures sets { SameAvailable self.old self.new }
         ensures long { length self.old.awaited ≡ 3 }
@@ -144,7 +146,7 @@ impl InstRegs {
         self.awaited[class as usize] = awaited.saturating_add(1);
     }
 
-    /// An operand of the class that asked for any register is placed.
+    /// Counts an operand of the class that required any register as placed.
     pub fn remove_any_reg_op(&mut self, class: RegClass)
         ensures sets { SameAvailable self.old self.new }
         ensures awaited { self.new.awaited ≡ slice_set self.old.awaited (class_code class) (awaited_of self.old class - 1) }
@@ -153,7 +155,7 @@ impl InstRegs {
         self.awaited[class as usize] = awaited.saturating_sub(1);
     }
 
-    /// How many operands of the class that ask for any register are still to be allocated.
+    /// How many operands of the class that require any register are still to be allocated.
     pub fn awaited(&self, class: RegClass) -> usize
         ensures { result ≡ awaited_of self.now class }
     {
@@ -167,14 +169,14 @@ impl InstRegs {
         self.early.contains(preg) && self.late.contains(preg)
     }
 
-    /// The register through which moves of the class go, if one was taken.
+    /// The register that stack-to-stack moves of the class go through, if one was chosen.
     pub fn scratch_of(&self, class: RegClass) -> Option<PReg>
         ensures { result ≡ slice_index_or self.now.scratch (class_code class) None }
     {
         self.scratch[class as usize]
     }
 
-    /// Moves of the class go through this register from now on.
+    /// Sets the register that stack-to-stack moves of the class go through from now on.
     pub fn set_scratch(&mut self, class: RegClass, preg: PReg)
         ensures early { self.new.early ≡ self.old.early }
         ensures late { self.new.late ≡ self.old.late }

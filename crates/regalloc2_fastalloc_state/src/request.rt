@@ -1,9 +1,9 @@
-//! What an operand asks, as it is allocated.
+//! What an operand requires, as it is allocated.
 
 use super::inst_regs::Positions;
 use regalloc2_names::{PReg, VReg};
 
-/// What an operand asks of its place, once a reuse was replaced by what it names.
+/// What an operand requires of its place, once a reuse was replaced by the operand that it names.
 #[derive(Clone, Copy)]
 pub enum Requirement {
     /// Any place.
@@ -21,7 +21,7 @@ pub enum Requirement {
 pub struct OperandRequest {
     /// The vreg that it names.
     pub vreg: VReg,
-    /// What it asks of its place.
+    /// What it requires of its place.
     pub requirement: Requirement,
     /// When it holds its register.
     pub positions: Positions,

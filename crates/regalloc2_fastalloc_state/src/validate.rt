@@ -1,4 +1,5 @@
-//! The tests that the allocator makes before it walks: that a function is well-formed, and that it takes the function's operands.
+//! The tests that the allocator makes before it walks: that a function is well-formed, and that the
+//! allocator supports its operands.
 
 ghost use Rattle.std.specs.Prelude.{IfErr, OnOk};
 ghost use Rattle.regalloc2_function.specs.Views.{machine_of};
@@ -15,10 +16,12 @@ pub mod constraints;
 
 use constraints::validate_fixed;
 
-/// Tests that a function is well-formed: as [`test_shape`] says, then as [`test_soundness`], then as [`validate_fixed`].
+/// Tests that a function is well-formed: by [`test_shape`], then [`test_soundness`], then
+/// [`validate_fixed`].
 ///
-/// These are the tests of `CFGInfo::new` and `validate_ssa`, without the tables that the former makes, which no test reads. The first
-/// test that fails decides. `Memory` comes where memory ran out.
+/// These are the tests of `CFGInfo::new` and `validate_ssa`, without the tables that the former
+/// makes, which no test reads. The first test that fails decides the error. Returns `Memory` if
+/// memory runs out.
 pub fn validate_function<A: Allocator + Copy, F: Function, B: Allocator>(
     alloc: A,
     f: &F,

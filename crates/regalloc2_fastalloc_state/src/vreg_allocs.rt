@@ -21,7 +21,7 @@ pub struct VRegAllocs<A: Allocator> {
     vreg_allocs: Vec<Allocation, A>,
     /// By register index.
     vreg_in_preg: Vec<Option<VReg>, A>,
-    /// The vregs that are in registers, the one that came last first.
+    /// The vregs that are in registers, the last filled register's first.
     in_registers: VRegSet<A>,
 }
 
@@ -56,7 +56,7 @@ impl<A: Allocator + Copy> VRegAllocs<A> {
     }
 }
 
-/// If the place is a register, the vreg is what is held there from now on.
+/// Records that the vreg is in the place from now on, if that is a register.
 #[inline(always)]
 fn set_vreg_in_preg<A: Allocator>(
     vreg_in_preg: &mut Vec<Option<VReg>, A>,
@@ -72,7 +72,8 @@ fn set_vreg_in_preg<A: Allocator>(
     }
 }
 
-/// The vreg with this number, which is in the list if the place that it leaves is a register, is out of it from now on.
+/// Removes the vreg with this number from the list if the place that it leaves is a register; the
+/// vreg is in the list then.
 #[inline(always)]
 fn take_out<A: Allocator>(in_registers: &mut VRegSet<A>, left: Allocation, number: usize)
     requires { HasIf (is_in_register left) in_registers.old.members number }
@@ -83,7 +84,7 @@ fn take_out<A: Allocator>(in_registers: &mut VRegSet<A>, left: Allocation, numbe
     }
 }
 
-/// If the place is a register, the vreg, which isn't in the list, is in front from now on.
+/// Puts the vreg, which isn't in the list, in front if the place is a register.
 #[inline(always)]
 fn put_in_front<A: Allocator>(in_registers: &mut VRegSet<A>, place: Allocation, vreg: VReg)
     requires below { vreg.number < in_registers.old.capacity }
@@ -128,14 +129,15 @@ impl<A: Allocator> VRegAllocs<A> {
         self.vreg_in_preg[preg.index()]
     }
 
-    /// The registers in which vregs are. That takes a step for each of these, and not for each register.
+    /// The registers in which vregs are. It takes a step for each of these, and not for each
+    /// register.
     pub fn filled(&self) -> PRegSet
         ensures { (r : Register) → r.number < 64 → (has_register result r ≡ true) ↔ ((v : VirtualRegister) × (vreg_of_preg self.now r ≡ Some v)) }
     {
         registers_of_vregs(&self.in_registers, &self.vreg_allocs)
     }
 
-    /// The register to which a vreg came last, of those in which vregs are.
+    /// The last filled register, of those in which vregs are.
     pub fn newest_filled(&self) -> Option<PReg>
         ensures some { IfSome result (λ r. IsNewest self.now r) }
         ensures none { IfNone result (self.now.in_registers ≡ []) }
@@ -145,7 +147,7 @@ impl<A: Allocator> VRegAllocs<A> {
         self.vreg_allocs[vreg.vreg()].as_reg()
     }
 
-    /// The vreg is located at the place from now on, and nowhere else.
+    /// Makes the place the vreg's only location.
     pub fn set_alloc(&mut self, vreg: VReg, place: Allocation)
         requires vreg { vreg.number < length self.old.vreg_allocs }
         requires alone { (r : Register) → place ≡ InRegister r → (vreg_of_preg self.old r ≡ None) ⊎ (vreg_of_preg self.old r ≡ Some vreg) }

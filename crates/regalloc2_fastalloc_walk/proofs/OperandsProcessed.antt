@@ -25,7 +25,7 @@ module _ (i : ℕ) (is_ret : Bool) (pos : OperandPos) (ops : List OperandValue) 
       ProcessesOperand i is_ret ops k there next u w m n → AreProcessed there u m k → AreProcessed next w n (k + 1)
   processed_more {there} {next} {u} {w} {m} {n} {k} passes one h = one_placed k there next u w m n h (is_there pos (op_at ops k) passes) one
 
-  -- those before the next one that is picked
+  -- those before the next one that is selected
   pub processed_next : {there : List Place} {u : InstRegs} {m : StateValue} {n : ℕ} (left : List (ℕ × OperandValue)) {rest : List (ℕ × OperandValue)}
       {x : ℕ × OperandValue} → n ≤ length ops → left_from (is_at pos) n ops ≡ left → left ≡ x ∷ rest → AreProcessed there u m n →
       Met (is_at pos) ops (AreProcessed there u m) x rest

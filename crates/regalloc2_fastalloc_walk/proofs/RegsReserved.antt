@@ -238,11 +238,11 @@ stops_reserve ops k t u c old lt h s = elim s.stops [
   ]
 ]
 
--- so many of the first k operands ask for any register of a class
+-- so many of the first k operands require any register of a class
 abbrev pub Awaiting : List OperandValue → ℕ → InstRegs → InstRegs → Type 0
 Awaiting ops k t u = t.awaited ≡ 0 ∷ 0 ∷ 0 ∷ [] → (class : RegClass) → awaited_of u class ≡ asking (take k ops) class
 
--- of the first 0 operands none waits for a register
+-- of the first 0 operands none requires a register
 pub awaiting_none : (ops : List OperandValue) (t : InstRegs) → Awaiting ops 0 t t
 awaiting_none ops t e class = ap (λ xs. slice_index xs (class_code class)) e ∙ zeros class
 
@@ -325,7 +325,7 @@ same_claim r p c x e f =
     let pair : (r, p) ≡ c = cc in
     (ap (λ (y : Register × Positions). y.0) pair, ap (λ (y : Register × Positions). y.1) pair)
 
--- what the code answers that operand k reserves, operand k does reserve
+-- what the code returns as reserved by operand k, operand k does reserve
 pub claim_is : (ops : List OperandValue) (k : ℕ) (o : Option (Register × Positions)) → IfSome o (λ c. NeedsFixedReg ops k c.0 c.1) →
     (c : Register × Positions) → o ≡ Some c → NeedsFixedReg ops k c.0 c.1
 claim_is ops k None h c e = absurd cc

@@ -38,7 +38,7 @@ stays_in_slot point request s t old any at = record {
   awaited = ap (λ (w : Requirement). awaited_less w request.vreg.class t.awaited) (sym any);
 }
 
--- where no reuse has chosen a register for it, it asks for any place
+-- where no reuse has chosen a register for it, it may have any place
 asks_any_place : (o : OperandValue) (h : Place) → o.constraint ≡ Any → ((r : Register) → (use_request o h).requirement ≡ InPReg r → ⊥) →
     (use_request o h).requirement ≡ AnyPlace
 asks_any_place o NoPlace any none = ap requirement_of any

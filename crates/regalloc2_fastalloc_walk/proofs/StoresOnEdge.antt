@@ -185,7 +185,7 @@ no_slots_made : (f : FunctionValue) (e : ℕ) (t : StateValue) (ds : List Stored
 no_slots_made f e t ds n ns z none_found few = refl
 no_slots_made f e t ds n ns z (one_found j os m x y lt prev one) few = absurd (omega (arith, few))
 
--- What is made of moves doesn't hang on slots and edits.
+-- What is made of moves doesn't depend on slots and edits.
 made_on : (t : StateValue) (s : SpillSlotsValue) (es : List (ℕ × MoveValue)) (from_memory : Bool) (ms : List PlaceMove) (ss : List Store) →
     AreMadeOf (record t { slots = s; edits = es }) from_memory ms ss → AreMadeOf t from_memory ms ss
 made_on t s es from_memory ms ss none_made = none_made

@@ -30,7 +30,7 @@ pub record TakesOnly (by : Register) (t u : InstRegs) : Type 0 where
 abbrev pub TakesFixed : List OperandValue → InstRegs → InstRegs → Type 0
 TakesFixed operands t u = (r : Register) → is_free_throughout t r ≡ true → is_free_throughout u r ≡ false → IsFixedIn operands r
 
--- the operand k is awaited if it asks for any register
+-- the operand k is counted if it requires any register
 abbrev pub AwaitsOne : List OperandValue → ℕ → InstRegs → InstRegs → Type 0
 AwaitsOne operands k t u = (class : RegClass) → awaited_of t class < 18446744073709551615 →
     awaited_of u class ≡ awaited_of t class + (if asks_reg_of_class class (op_at operands k) then 1 else 0)

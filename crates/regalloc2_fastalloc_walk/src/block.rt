@@ -1,4 +1,4 @@
-//! The beginning of a block: what is read from there on comes in spill slots.
+//! The beginning of a block: what is read from there on arrives in spill slots.
 
 ghost use Rattle.std.specs.Prelude.{ℕ, ◌≡◌, ◌<◌, [], All, length, None, OnOk};
 ghost use Rattle.regalloc2_names.specs.Point.{before, inst_limit};
@@ -17,8 +17,8 @@ use regalloc2_names::{Allocation, ProgPoint, RegAllocError, VReg};
 use std::alloc::Allocator;
 
 impl<'a, A: Allocator> State<'a, A> {
-    /// A parameter of the block that begins: it comes in its slot, from where it is moved to where it is awaited, and
-    /// has no location before.
+    /// Reloads a parameter of the block that begins: it arrives in its slot, from where it is moved
+    /// to its expected place, and has no location before.
     fn reload_param(
         &mut self,
         inst_regs: &mut InstRegs,
@@ -50,7 +50,7 @@ impl<'a, A: Allocator> State<'a, A> {
         Ok(())
     }
 
-    /// The parameters of the block that begins, in order.
+    /// Reloads the parameters of the block that begins, in order.
     fn reload_params(
         &mut self,
         inst_regs: &mut InstRegs,
@@ -68,7 +68,7 @@ impl<'a, A: Allocator> State<'a, A> {
         Ok(())
     }
 
-    /// Each vreg in a register is reloaded from its slot, the one that came to a register last first.
+    /// Reloads each vreg in a register from its slot, the last filled register's first.
     fn reload_regs(
         &mut self,
         inst_regs: &mut InstRegs,
@@ -85,8 +85,8 @@ impl<'a, A: Allocator> State<'a, A> {
         Ok(())
     }
 
-    /// The beginning of a block: its parameters come in their slots, and so does each vreg that is in a register
-    /// behind.
+    /// Reloads at the beginning of a block: its parameters arrive in their slots, and so does each
+    /// vreg that is in a register after the block's beginning.
     pub fn reload_at_begin(&mut self, first: Inst, params: &[VReg]) -> Result<(), RegAllocError>
         requires inst { first < inst_limit }
         requires later { AllAtOrAfter (before first) self.old.edits }

@@ -1,4 +1,4 @@
-//! The moves of a branch: each argument goes to the slots of the parameters that it is given for.
+//! The moves of a branch: each argument goes to the slots of the parameters that it is passed to.
 
 ghost use Rattle.regalloc2_semantics.specs.Blocks.{HasEdge, target_at};
 ghost use Rattle.std.specs.Prelude.{ℕ, List, ◌≡◌, ◌↔◌, ◌≢◌, ◌<◌, ◌≤◌, ◌+◌, ◌++◌, ◌∷◌, ◌⊎◌, [], None, Some, length, IsTrue, IfOk, IfSome, IfErr, OnOk};
@@ -104,7 +104,7 @@ fn resolve<A: Allocator + Copy>(
     }
 }
 
-/// Moves that are to be made at once, of each class.
+/// The parallel moves of each class.
 #[derive(Drop)]
 struct MovesByClass<'b, B: Allocator> {
     int: ParallelMoves<(), &'b B>,
@@ -112,7 +112,7 @@ struct MovesByClass<'b, B: Allocator> {
     vector: ParallelMoves<(), &'b B>,
 }
 
-/// One more of the moves.
+/// Adds one of the moves.
 fn add_to<A: Allocator + Copy>(
     moves: &mut ParallelMoves<(), A>,
     from: Allocation,
@@ -130,7 +130,7 @@ fn add_to<A: Allocator + Copy>(
 }
 
 impl<'b, B: Allocator> MovesByClass<'b, B> {
-    /// None.
+    /// No moves.
     fn none(alloc: &'b B) -> Self
         ensures { AreOf result.int result.float result.vector [] }
     {
@@ -141,7 +141,7 @@ impl<'b, B: Allocator> MovesByClass<'b, B> {
         }
     }
 
-    /// One more, of a class.
+    /// Adds a move of a class.
     fn add(
         &mut self,
         class: RegClass,
@@ -163,7 +163,8 @@ impl<'b, B: Allocator> MovesByClass<'b, B> {
 }
 
 impl<'a, A: Allocator> State<'a, A> {
-    /// The first scratch register for moves of a class: that of the machine, else the one that is taken of the set.
+    /// The first scratch register for moves of a class: the machine's dedicated one, else the one
+    /// chosen from the set.
     fn first_scratch(&self, class: RegClass, free: PRegSet) -> Option<PReg>
         ensures found { IfSome result (λ r. (slice_index_or self.now.registers.dedicated_scratch (class_code class) None ≡ Some r)
             ⊎ IsLeastRecentIn self.now.registers class free r) }
@@ -212,7 +213,7 @@ impl<'a, A: Allocator> State<'a, A> {
         }
     }
 
-    /// The moves of a class, which are to be made at once, in an order in which they can be made.
+    /// The parallel moves of a class, in an order in which they can be made one after another.
     fn order<'b, B: Allocator>(
         &mut self,
         inst_regs: &InstRegs,
@@ -244,7 +245,7 @@ impl<'a, A: Allocator> State<'a, A> {
         Ok(made.moves)
     }
 
-    /// Pushes moves of a class, which are to be made at once, put in order.
+    /// Orders the parallel moves of a class, and pushes them.
     #[inline(never)]
     fn push_some<'b, B: Allocator>(
         &mut self,
@@ -267,9 +268,10 @@ impl<'a, A: Allocator> State<'a, A> {
         Ok(())
     }
 
-    /// Pushes one move from slot to slot, made by way of a register: the last one pushed is listed first. `push_some` would push just
-    /// these two, since both ends are on the stack and the register is the first that it would take. Left out is what needs more than one
-    /// move: putting them in order, a second register and temporary slots.
+    /// Pushes one slot-to-slot move, made by way of a register: the last one pushed is listed
+    /// first. `push_some` would push just these two, since both ends are on the stack and the
+    /// register is the first that it would choose. It skips what needs more than one move:
+    /// ordering, a second register and temporary slots.
     #[inline(never)]
     fn push_one(
         &mut self,
@@ -290,7 +292,7 @@ impl<'a, A: Allocator> State<'a, A> {
         Ok(())
     }
 
-    /// Pushes the moves of a class, which are to be made at once.
+    /// Pushes the parallel moves of a class.
     #[inline(always)]
     fn push_moves<'b, B: Allocator>(
         &mut self,
@@ -309,7 +311,8 @@ impl<'a, A: Allocator> State<'a, A> {
         ensures err { IfErr result (IsResourceError (SlotsExhaustedWith self.old.slots (self.old.slots.num_temp_slots + 2))) }
     {
         if moves.is_empty() {
-            // most branches have moves of one class, and the list of another isn't handed on to be put in order
+            // most branches have moves of one class, and an empty list isn't passed on to be
+            // ordered
             return Ok(());
         }
         if let Some((from, to)) = moves.only() {
@@ -325,7 +328,7 @@ impl<'a, A: Allocator> State<'a, A> {
 }
 
 impl<'a, A: Allocator> State<'a, A> {
-    /// An argument's location is its slot from now on; it is reloaded from there to where it was awaited.
+    /// Makes an argument's slot its location; it is reloaded from there to its expected place.
     fn spill_argument(
         &mut self,
         inst_regs: &mut InstRegs,
@@ -346,7 +349,7 @@ impl<'a, A: Allocator> State<'a, A> {
         Ok(slot)
     }
 
-    /// One more of the moves of an edge: the argument is spilled, and goes to its parameter's slot.
+    /// Adds a move of an edge: the argument is spilled, and goes to its parameter's slot.
     fn gather_argument<'b, B: Allocator>(
         &mut self,
         inst_regs: &mut InstRegs,
@@ -371,7 +374,8 @@ impl<'a, A: Allocator> State<'a, A> {
         Ok(())
     }
 
-    /// The moves of one edge, to be made at once: each argument that the branch doesn't define goes to its parameter's slot.
+    /// The parallel moves of one edge: each argument that the branch doesn't define goes to its
+    /// parameter's slot.
     fn gather_edge<'b, B: Allocator, C: Allocator>(
         &mut self,
         inst_regs: &mut InstRegs,
@@ -403,7 +407,7 @@ impl<'a, A: Allocator> State<'a, A> {
         Ok(())
     }
 
-    /// The moves of all edges, to be made at once.
+    /// The parallel moves of all edges.
     fn gather<'b, F: Function, B: Allocator, C: Allocator>(
         &mut self,
         inst_regs: &mut InstRegs,
@@ -441,7 +445,7 @@ impl<'a, A: Allocator> State<'a, A> {
         Ok(moves)
     }
 
-    /// Pushes the moves of each class, which are to be made at once, one class after another.
+    /// Pushes the parallel moves of each class, one class after another.
     fn push_gathered<'b, B: Allocator>(
         &mut self,
         inst_regs: &InstRegs,
@@ -465,15 +469,16 @@ impl<'a, A: Allocator> State<'a, A> {
         Ok(())
     }
 
-    /// The slots, of which each has one owner.
+    /// Each slot has one owner.
     fn have_owners(&self)
         ensures { SlotsHaveOneOwner self.now.slots }
     {
         let _count = self.slots.num_units();
     }
 
-    /// A branch passes its arguments: all are spilled to their slots, and then moved to those of the parameters. One that has none
-    /// is done at once: lists for its moves would cost more than all else of it.
+    /// Passes the arguments of a branch: all are spilled to their slots, and then moved to those of
+    /// the parameters. A branch that passes nothing returns at once, because lists for its moves
+    /// would cost more than all else.
     pub fn process_branch<F: Function, B: Allocator, C: Allocator>(
         &mut self,
         inst_regs: &mut InstRegs,

@@ -1,4 +1,4 @@
-//! Moves, by way of a register where both ends are stack places, and evictions.
+//! Moves, by way of a register if stack-to-stack, and evictions.
 
 ghost use Rattle.std.specs.Prelude.{◌≡◌, ◌<◌, OnOk, IfErr, None, Some};
 ghost use Rattle.regalloc2_names.specs.Place.{NoPlace};
@@ -35,8 +35,9 @@ impl<'a, A: Allocator> State<'a, A> {
         Ok(())
     }
 
-    /// The register through which moves of the class from stack to stack go at this instruction: the machine's own, else
-    /// one that is free at both positions, emptied, which stays the one.
+    /// The register that stack-to-stack moves of the class go through at this instruction: the
+    /// machine's dedicated scratch register, else the register chosen earlier for this instruction,
+    /// else the least recently used register free at both positions, whose vreg is evicted.
     fn alloc_scratch_reg(
         &mut self,
         inst_regs: &mut InstRegs,
@@ -64,7 +65,8 @@ impl<'a, A: Allocator> State<'a, A> {
         Ok(preg)
     }
 
-    /// One more move of a vreg of the class, listed before all others, by way of a register where both ends are stack places.
+    /// Adds a move of a vreg of the class, listed before all others, by way of a register if it is
+    /// stack-to-stack.
     #[inline(always)]
     pub fn add_move(
         &mut self,
@@ -90,8 +92,9 @@ impl<'a, A: Allocator> State<'a, A> {
         Ok(())
     }
 
-    /// Empties a register or fixed stack slot in which a vreg is: that is in its slot from now on, and is reloaded from there at the
-    /// point. Its callers, which mostly find no vreg there, have only the test inlined.
+    /// Empties a register or fixed stack slot that holds a vreg: the vreg is in its slot from now
+    /// on, and is reloaded from there at the point. Callers mostly find no vreg there, so they have
+    /// only the test inlined.
     #[inline(never)]
     fn evict_occupied_preg(
         &mut self,

@@ -39,7 +39,7 @@ fn operands_at<'o>(operands: &'o [Operand], pos: OperandPos) -> PickedOperands<'
     }
 }
 
-/// Whether two places aren't one.
+/// Whether the places differ.
 pub fn are_places_different(place: Allocation, other: Allocation) -> bool
     ensures { result ≡ not (is_place place other) }
 {
@@ -57,7 +57,7 @@ fn reused(operand: Operand) -> Option<usize>
     }
 }
 
-/// What the constraint of an operand that isn't a reuse asks.
+/// What the constraint of an operand that isn't a reuse requires.
 fn requirement_of(constraint: OperandConstraint) -> Requirement
     ensures { result ≡ requirement_of constraint }
 {
@@ -69,7 +69,8 @@ fn requirement_of(constraint: OperandConstraint) -> Requirement
     }
 }
 
-/// What a reuse asks, by the constraint of the operand that it names: its register if it is fixed, else any register.
+/// What a reuse requires, by the constraint of the operand that it names: its register if it is
+/// fixed, else any register.
 fn reuse_requirement_of(constraint: OperandConstraint) -> Requirement
     ensures { result ≡ reuse_requirement_of constraint }
 {
@@ -79,7 +80,7 @@ fn reuse_requirement_of(constraint: OperandConstraint) -> Requirement
     }
 }
 
-/// A use, as it is allocated: where a reuse that names it has a place, it asks for that register.
+/// The request of a use: if a reuse that names it has a place, it requires that register.
 fn use_request(operand: Operand, place: Allocation) -> OperandRequest
     ensures { result ≡ use_request operand place }
 {
@@ -96,7 +97,7 @@ fn use_request(operand: Operand, place: Allocation) -> OperandRequest
     }
 }
 
-/// A definition, as it is allocated.
+/// The request of a definition.
 fn def_request(operand: Operand) -> OperandRequest
     ensures { result ≡ def_request operand }
 {
@@ -108,15 +109,16 @@ fn def_request(operand: Operand) -> OperandRequest
     }
 }
 
-/// Whether an operand asks for any register, and no reuse has chosen one for it.
+/// Whether an operand requires any register, and no reuse has chosen one for it.
 fn asks_any_reg(operand: Operand, place: Allocation) -> bool
     ensures { IsTrue result ↔ (operand.constraint ≡ OperandConstraint.Reg) × (place ≡ NoPlace) }
 {
     operand.is_any_reg() && place.is_none()
 }
 
-/// The register of a use, where it is known before it is placed: the one that a reuse has chosen for it, else the one that it is fixed
-/// to. None for a definition, and for a use that reads nothing: neither is placed as a use.
+/// The register of a use, if it is already determined before it is placed: the one that a reuse has
+/// chosen for it, else the one that it is fixed to. None for a definition, and for a use that reads
+/// nothing: both aren't placed as uses.
 fn known_register(operand: Operand, place: Allocation) -> Option<PReg>
     ensures some { IfSome result (λ r. (is_reading operand ≡ true) × ((use_request operand place).requirement ≡ Requirement.InPReg r)) }
     ensures none { IfNone result (is_reading operand ≡ true → (r : Register) → (use_request operand place).requirement ≡ Requirement.InPReg r → ⊥) }
@@ -140,7 +142,7 @@ fn is_any_use(operand: Operand) -> bool
     !operand.is_def() && matches!(operand.constraint(), OperandConstraint::Any)
 }
 
-/// An operand that asks for any register, as it is allocated where no reuse has chosen one for it.
+/// The request of an operand that requires any register and for which no reuse has chosen one.
 fn reg_request(operand: Operand) -> OperandRequest
     requires { operand.constraint ≡ OperandConstraint.Reg }
     ensures used { is_def operand.kind ≡ false → result ≡ use_request operand NoPlace }
@@ -154,7 +156,7 @@ fn reg_request(operand: Operand) -> OperandRequest
     }
 }
 
-/// A reuse, as it is allocated: it holds its register throughout, for the operand that it names too.
+/// The request of a reuse: it holds its register throughout, for the operand that it names too.
 fn reuse_request(operand: Operand, operands: &[Operand], index: usize) -> OperandRequest
     ensures { result ≡ reuse_request operand (op_at operands.now index) }
 {
@@ -171,7 +173,7 @@ fn reuse_request(operand: Operand, operands: &[Operand], index: usize) -> Operan
     }
 }
 
-/// The place of an index, if there is one, is that from now on.
+/// Sets the place of an index, if there is one.
 fn set_place(places: &mut [Allocation], index: usize, place: Allocation)
     ensures { places.new ≡ slice_set places.old index place }
 {
@@ -184,7 +186,7 @@ fn set_place(places: &mut [Allocation], index: usize, place: Allocation)
 #[derive(Clone, Copy)]
 pub struct InstCx<'a> {
     pub inst: Inst,
-    /// Whether it ends its block, so that no move comes after it.
+    /// Whether the instruction is its block's last. No move may follow it.
     pub ends_block: bool,
     pub operands: &'a [Operand],
     /// The registers that it overwrites.
@@ -192,7 +194,8 @@ pub struct InstCx<'a> {
 }
 
 impl<'a, A: Allocator> State<'a, A> {
-    /// Allocates the operand k, whatever it asks. The place of a reuse is that of the operand that it names too.
+    /// Allocates the operand k, whatever it requires. The place of a reuse is that of the operand
+    /// that it names too.
     #[inline(never)]
     fn process_operand(
         &mut self,
@@ -233,7 +236,8 @@ impl<'a, A: Allocator> State<'a, A> {
         Ok(())
     }
 
-    /// Allocates the operand k, which asks for any register, as most do. It is [`Self::process_operand`] without all that others ask.
+    /// Allocates the operand k, which requires any register, as most do. It is
+    /// [`Self::process_operand`] without all that other operands need.
     #[inline(never)]
     fn process_reg_operand(
         &mut self,
@@ -265,8 +269,9 @@ impl<'a, A: Allocator> State<'a, A> {
         Ok(())
     }
 
-    /// Allocates the operand k, a use whose register is known before it is placed. It is [`Self::process_operand`] but for what that asks
-    /// first: whether the operand is a use of a vreg, as each that reads is, and what such a use requires, which is the register here.
+    /// Allocates the operand k, a use whose register is determined before it is placed. It is
+    /// [`Self::process_operand`] without its first tests: whether the operand is a use of a vreg,
+    /// as each that reads is, and what such a use requires, which is the register here.
     #[inline(never)]
     fn process_placed_use(
         &mut self,
@@ -300,9 +305,10 @@ impl<'a, A: Allocator> State<'a, A> {
         Ok(())
     }
 
-    /// The slot that a use under `Any` is read from, where its vreg is in one. [`Self::process_operand`] would choose it too, and do nothing
-    /// else: no register is claimed, no move is added, and the vreg stays where it is. None where the vreg is in a register or has no
-    /// location yet.
+    /// The slot that a use under `Any` is read from, if its vreg is in one.
+    /// [`Self::process_operand`] would choose it too, and do nothing else: no register is claimed,
+    /// no move is added, and the vreg keeps its location. None if the vreg is in a register or has
+    /// no location yet.
     fn slot_of_any_use(&self, operand: Operand) -> Option<Allocation>
         requires { operand.constraint ≡ OperandConstraint.Any → operand.vreg.number < length self.now.places.vreg_allocs }
         ensures some { IfSome result (λ p. (is_def operand.kind ≡ false) × (operand.constraint ≡ OperandConstraint.Any) × (is_in_slot p ≡ true)
@@ -321,7 +327,8 @@ impl<'a, A: Allocator> State<'a, A> {
         }
     }
 
-    /// Allocates the operand k. The most common kinds have ways of their own, and those do as [`Self::process_operand`] does.
+    /// Allocates the operand k. The most common kinds have fast paths, which do what
+    /// [`Self::process_operand`] does.
     #[inline(always)]
     fn process_operand_allocation(
         &mut self,
@@ -381,7 +388,7 @@ impl<'a, A: Allocator> State<'a, A> {
         Ok(())
     }
 
-    /// Moves a use from where its vreg is located to its place.
+    /// Moves a use from its vreg's current location to its place.
     fn move_use(
         &mut self,
         inst_regs: &mut InstRegs,
@@ -409,7 +416,8 @@ impl<'a, A: Allocator> State<'a, A> {
         Ok(())
     }
 
-    /// Moves the uses of an instruction from where their vregs are located to their places, in operand order.
+    /// Moves the uses of an instruction from their vregs' current locations to their places, in
+    /// operand order.
     pub fn move_uses(
         &mut self,
         inst_regs: &mut InstRegs,
@@ -433,7 +441,7 @@ impl<'a, A: Allocator> State<'a, A> {
 }
 
 impl<'a, A: Allocator> State<'a, A> {
-    /// Takes the fixed registers and the clobbers of an instruction, and empties them.
+    /// Claims the fixed registers and the clobbers of an instruction, and empties them.
     #[inline(always)]
     fn prepare_regs(
         &mut self,

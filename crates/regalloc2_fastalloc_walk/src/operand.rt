@@ -29,7 +29,7 @@ pub struct PlaceMove {
     pub to: Allocation,
 }
 
-/// Whether a place is there, and isn't that other one.
+/// Whether a place isn't none, and differs from the other one.
 fn is_another(place: Allocation, other: Allocation) -> bool
     ensures { result ≡ is_another place other }
 {
@@ -43,7 +43,7 @@ fn is_any_register(requirement: Requirement) -> bool
     matches!(requirement, Requirement::AnyReg)
 }
 
-/// An operand that asked for any register is placed.
+/// Counts an operand that required any register as placed.
 fn remove_if_any_reg_op(inst_regs: &mut InstRegs, request: &OperandRequest)
     ensures sets { SameAvailable inst_regs.old inst_regs.new }
     ensures awaited { inst_regs.new.awaited ≡ awaited_less request.now.requirement request.now.vreg.class inst_regs.old.awaited }
@@ -56,7 +56,7 @@ fn remove_if_any_reg_op(inst_regs: &mut InstRegs, request: &OperandRequest)
 // The steps that place an operand, and the moves of `evict`, are inlined into one: calls between them would cost about a
 // tenth of a whole allocation.
 impl<'a, A: Allocator> State<'a, A> {
-    /// Whether a place meets what is asked.
+    /// Whether a place meets the requirement.
     fn allocd_within_constraint(&self, requirement: Requirement, place: Allocation) -> bool
         requires { place ≢ NoPlace }
         ensures { IsTrue result ↔ MeetsRequirement (tables_of self.now) requirement place }
@@ -79,7 +79,7 @@ impl<'a, A: Allocator> State<'a, A> {
         free.len() as usize
     }
 
-    /// How many registers of the class are still kept for a move from stack to stack.
+    /// How many registers of the class are still kept for a stack-to-stack move.
     #[inline(always)]
     fn scratch_reserve_left(&self, inst_regs: &InstRegs, class: RegClass) -> usize
         ensures left { result ≡ scratch_reserve_left self.now.registers.fixed_stack self.now.registers.dedicated_scratch inst_regs.now class }
@@ -91,7 +91,8 @@ impl<'a, A: Allocator> State<'a, A> {
         }
     }
 
-    /// Whether enough registers are left for the operands that ask for any register, once this one is taken too.
+    /// Whether enough registers are left for the operands that require any register, once this one
+    /// is claimed too.
     #[inline(always)]
     fn is_enough(&self, inst_regs: &InstRegs, preg: PReg) -> bool
         ensures enough { IsTrue result → IsAffordable inst_regs.now (tables_of self.now) preg }
@@ -125,7 +126,7 @@ impl<'a, A: Allocator> State<'a, A> {
         }
     }
 
-    /// The place where the operand's vreg is, if the operand may have that.
+    /// The current location of the operand's vreg, if the operand may have that.
     #[inline(always)]
     fn current_if_allowed(
         &self,
@@ -154,8 +155,8 @@ impl<'a, A: Allocator> State<'a, A> {
         }
     }
 
-    /// Whether an operand that may be anywhere takes a register rather than a slot: there are enough, and its vreg
-    /// isn't one that is defined and awaited nowhere.
+    /// Whether an operand that may be anywhere gets a register rather than a slot: there are
+    /// enough, and it doesn't define a vreg that is expected nowhere.
     #[inline(always)]
     fn prefers_register(&self, inst_regs: &InstRegs, request: &OperandRequest, preg: PReg) -> bool
         requires { request.now.vreg.number < length self.now.places.vreg_allocs }
@@ -170,7 +171,7 @@ impl<'a, A: Allocator> State<'a, A> {
         self.is_enough(inst_regs, preg)
     }
 
-    /// The register of the class that is taken, of those that are free at the positions.
+    /// The register of the class that is chosen, of those that are free at the positions.
     #[inline(never)]
     fn search_free(
         &self,
@@ -191,10 +192,11 @@ impl<'a, A: Allocator> State<'a, A> {
         self.registers.choose_register(class, free)
     }
 
-    /// The register that is taken for the operand, of those that are free for it.
+    /// The register that is chosen for the operand, of those that are free for it.
     ///
-    /// The first choice of all is asked for first, and mostly it is free. Then no set is made of those that are free, and no ring
-    /// is searched for the first of them, since the search would stop at its first step.
+    /// The first choice of all is tested first, and mostly it is free. Then the set of free
+    /// registers isn't built, and no ring is searched, since the search would stop at its first
+    /// step.
     #[inline(always)]
     fn choose_free(&self, inst_regs: &InstRegs, request: &OperandRequest) -> Option<PReg>
         ensures chosen { IfSome result (λ r. chosen (is_available_at inst_regs.now request.now.positions)
@@ -212,7 +214,7 @@ impl<'a, A: Allocator> State<'a, A> {
         self.search_free(inst_regs, class, request.positions)
     }
 
-    /// A free register for an operand that may be in any, or anywhere and takes one.
+    /// A free register for an operand that may be in any, or that may be anywhere and gets one.
     #[inline(always)]
     fn select_free_reg(&self, inst_regs: &InstRegs, request: &OperandRequest) -> Option<PReg>
         requires { request.now.vreg.number < length self.now.places.vreg_allocs }
@@ -235,7 +237,8 @@ impl<'a, A: Allocator> State<'a, A> {
         }
     }
 
-    /// Another place for the operand. Returns the error `TooManyLiveRegs` where it asks for any register, and none is free.
+    /// Another place for the operand. Returns the error `TooManyLiveRegs` if it requires any
+    /// register, and none is free.
     #[inline(always)]
     fn alloc_new_place(
         &mut self,
@@ -269,7 +272,8 @@ impl<'a, A: Allocator> State<'a, A> {
         Ok(slot)
     }
 
-    /// The place of an operand, before it is claimed: where its vreg is located if it may stay there, else another one.
+    /// The place of an operand, before it is claimed: its vreg's current location if that is
+    /// allowed, else another one.
     #[inline(always)]
     fn select_place(
         &mut self,
@@ -296,7 +300,7 @@ impl<'a, A: Allocator> State<'a, A> {
         Ok(place)
     }
 
-    /// An allocatable register counts as used just now if it wasn't asked for by name.
+    /// Marks an allocatable register as just used, unless the operand requires it by name.
     #[inline(always)]
     fn note_taken(&mut self, requirement: Requirement, preg: PReg)
         ensures { Between (UsesPlace requirement (InRegister preg)) self.old self.new }
@@ -309,7 +313,7 @@ impl<'a, A: Allocator> State<'a, A> {
         }
     }
 
-    /// The register is the operand's: others are evicted, and it is held.
+    /// Claims the register for the operand: other vregs are evicted, and the register is held.
     #[inline(always)]
     fn take_preg(
         &mut self,
@@ -330,7 +334,7 @@ impl<'a, A: Allocator> State<'a, A> {
         Ok(())
     }
 
-    /// The place is the operand's: a register is claimed.
+    /// Gives the operand the place: a register is claimed.
     #[inline(always)]
     fn take_place(
         &mut self,
@@ -354,7 +358,7 @@ impl<'a, A: Allocator> State<'a, A> {
         Ok(())
     }
 
-    /// The place of an operand, which is claimed.
+    /// Chooses the place of an operand, and claims it.
     #[inline(always)]
     fn alloc_operand(
         &mut self,
@@ -376,7 +380,7 @@ impl<'a, A: Allocator> State<'a, A> {
         Ok(place)
     }
 
-    /// A move that is made unless it goes nowhere, by way of a register where both ends are stack places.
+    /// Adds a move, unless it is to be left out, by way of a register if it is stack-to-stack.
     #[inline(always)]
     pub fn add_move_if(
         &mut self,
@@ -397,8 +401,8 @@ impl<'a, A: Allocator> State<'a, A> {
         Ok(())
     }
 
-    /// The definition of a vreg in a place: the vreg has no location before it, and is moved to where it was awaited and to its
-    /// slot, unless the instruction is a return.
+    /// Defines a vreg in a place: the vreg has no location before it, and is moved to its expected
+    /// place and to its slot, unless the instruction ends its block.
     #[inline(always)]
     fn freealloc(
         &mut self,
@@ -435,8 +439,8 @@ impl<'a, A: Allocator> State<'a, A> {
         Ok(())
     }
 
-    /// Allocates a definition: its vreg has no location before it, and is moved to where it was awaited and to its slot, unless the
-    /// instruction is a return.
+    /// Allocates a definition: its vreg has no location before it, and is moved to its expected
+    /// place and to its slot, unless the instruction ends its block.
     #[inline(always)]
     pub fn alloc_def_op(
         &mut self,
@@ -477,7 +481,7 @@ impl<'a, A: Allocator> State<'a, A> {
     }
 }
 
-/// Whether a definition in a place is moved to where its vreg was awaited.
+/// Whether a definition in a place is moved to its vreg's expected place.
 fn is_awaited(is_ret: bool, awaited: Allocation, place: Allocation) -> bool
     ensures { result ≡ not is_ret && is_another awaited place }
 {

@@ -1,4 +1,4 @@
-//! What an instruction takes before its operands are allocated: fixed registers and clobbers.
+//! What an instruction claims before its operands are allocated: fixed registers and clobbers.
 
 ghost use Rattle.std.specs.Prelude.{ℕ, ◌≡◌, ◌<◌, ◌⊎◌, ◌||◌, ◌↔◌, length, true, false, IsTrue, OnOk, IfOk, IfSome, IfNone, IfErr, Some, MatchResult};
 ghost use Rattle.regalloc2_names.specs.Register.{Register};
@@ -185,7 +185,8 @@ impl<'a, A: Allocator> State<'a, A> {
         }
     }
 
-    /// Reserves what the operand k takes before operands are allocated, and counts it if it asks for any register.
+    /// Reserves what the operand k claims before operands are allocated, and counts it if it
+    /// requires any register.
     fn reserve_reg_for_operand(
         &mut self,
         inst_regs: &mut InstRegs,
@@ -204,7 +205,7 @@ impl<'a, A: Allocator> State<'a, A> {
             self.new.registers.lrus ≡ self.old.registers.lrus) }
     {
         let operand = operands[k];
-        // one that asks for any register claims none, and is fixed to none
+        // one that requires any register claims none, and is fixed to none
         if operand.is_any_reg() {
             inst_regs.add_any_reg_op(operand.class());
             return Ok(());
@@ -218,7 +219,8 @@ impl<'a, A: Allocator> State<'a, A> {
         Ok(())
     }
 
-    /// Reserves what the operands take before they are placed, in operand order. Whether any is fixed to a register is answered.
+    /// Reserves what the operands claim before they are placed, in operand order. Returns whether
+    /// any is fixed to a register.
     pub fn reserve(
         &mut self,
         inst_regs: &mut InstRegs,
@@ -254,8 +256,8 @@ impl<'a, A: Allocator> State<'a, A> {
         inst_regs.remove_late(clobbers);
     }
 
-    /// Empties the fixed registers of the operands, in operand order, of all vregs but each operand's own. Most instructions have none,
-    /// which is told by `any_fixed`.
+    /// Empties the fixed registers of the operands, in operand order, of all vregs but each
+    /// operand's own. Most instructions have none, which `any_fixed` says.
     pub fn evict_fixed(
         &mut self,
         inst_regs: &mut InstRegs,
@@ -290,8 +292,8 @@ impl<'a, A: Allocator> State<'a, A> {
         Ok(())
     }
 
-    /// Empties the clobbers, by rising index: those in which vregs are, since there is nothing in the others. Most instructions
-    /// clobber nothing.
+    /// Empties the clobbers in which vregs are, by rising index; the others are empty already. Most
+    /// instructions clobber nothing.
     pub fn evict_clobbers(
         &mut self,
         inst_regs: &mut InstRegs,

@@ -1,4 +1,4 @@
-//! What a branch defined, stored at the beginning of the block that it leads to.
+//! A branch's definitions, stored at the beginning of the block that it leads to.
 
 ghost use Rattle.std.specs.Prelude.{ℕ, ◌≡◌, ◌≢◌, ◌+◌, ◌<◌, ◌≤◌, ◌⊎◌, ◌++◌, ◌∷◌, [], All, Contains, length, map, None, Some, OnOk, IfOk, IfErr, slice_index_or};
 ghost use Rattle.regalloc2_names.specs.Register.{VirtualRegister, class_code};
@@ -32,7 +32,7 @@ use std::alloc::Allocator;
 struct StoredDef {
     /// The operand's index.
     index: usize,
-    /// The vreg: what the operand defines, or a parameter to which the branch passes that.
+    /// The vreg: the operand's own, or a parameter to which the branch passes it.
     to: VReg,
 }
 
@@ -55,7 +55,8 @@ fn own_stores<A: Allocator + Copy>(
 }
 
 impl<'a, A: Allocator> State<'a, A> {
-    /// Lists what a parameter is given, if the branch of the edge defines that, and something uses the parameter.
+    /// Lists the value that a parameter is given, if the branch of the edge defines it, and
+    /// something uses the parameter.
     fn list_given<B: Allocator, C: Allocator>(
         &self,
         stores: &mut Vec<StoredDef, B>,
@@ -79,7 +80,8 @@ impl<'a, A: Allocator> State<'a, A> {
         Ok(())
     }
 
-    /// Lists what the parameters are given that the branch of the edge defines.
+    /// Lists the values that the parameters are given, of those that the branch of the edge
+    /// defines.
     fn list_params<B: Allocator, C: Allocator>(
         &self,
         stores: &mut Vec<StoredDef, B>,
@@ -100,8 +102,8 @@ impl<'a, A: Allocator> State<'a, A> {
         Ok(())
     }
 
-    /// Lists the values that the beginning of a block stores, by the operands that define them; of one operand that for its own
-    /// vreg first, and then those for the parameters in order.
+    /// Lists the values that the beginning of a block stores, by the operands that define them: for
+    /// each operand first the store for its own vreg, and then those for the parameters in order.
     fn list_stores<'b, F: Function, B: Allocator, C: Allocator>(
         &self,
         alloc: &'b B,
@@ -124,7 +126,8 @@ impl<'a, A: Allocator> State<'a, A> {
         Ok(stores)
     }
 
-    /// The place in which a branch leaves what an operand defines: the register that it is fixed to, else its vreg's slot.
+    /// The place in which a branch leaves an operand's definition: the register that it is fixed
+    /// to, else its vreg's slot.
     fn defined_place(&mut self, operand: Operand) -> Result<Allocation, RegAllocError>
         requires { operand.vreg.number < length self.old.slots.vreg_spillslots }
         ensures ok { IfOk result (λ p. FindsDefined operand p self.old.slots self.new.slots) }
@@ -174,8 +177,9 @@ impl<'a, A: Allocator> State<'a, A> {
         Ok(moves)
     }
 
-    /// The register through which stores of a class from memory go: the machine's own, else the least recently used one to
-    /// which no definition is fixed, else the greatest. Everything else is in slots at a block's beginning.
+    /// The register that stack-to-stack stores of a class go through: the machine's dedicated
+    /// scratch register, else the least recently used one to which no definition is fixed, else the
+    /// one with the greatest number. Everything else is in slots at a block's beginning.
     fn store_scratch(&self, class: RegClass, held: PRegSet) -> Result<PReg, RegAllocError>
         ensures ok { IfOk result (λ r. (slice_index_or self.now.registers.dedicated_scratch (class_code class) None ≡ Some r)
             ⊎ MayHold (tables_of self.now) class r) }
@@ -238,9 +242,10 @@ impl<'a, A: Allocator> State<'a, A> {
         Ok(())
     }
 
-    /// The beginning of a block, before all else there: what the branch into it defines goes to its vreg's slot, where another
-    /// instruction uses that, and to the slot of each parameter that is given it and used. The stores from registers come first,
-    /// so that the others may go through any register.
+    /// The beginning of a block, before all else there: stores the definitions of the branch into
+    /// it, each to its vreg's slot if another instruction uses the vreg, and to the slot of each
+    /// used parameter that is given it. The stores from registers come first, so that the others
+    /// may go through any register.
     pub fn store_branch_defs<F: Function, B: Allocator, C: Allocator>(
         &mut self,
         alloc: &B,

@@ -1,9 +1,10 @@
 //! The walk over all blocks, from the last to the first, and over the instructions of each.
 //!
-//! It goes backward: when it comes to an instruction, all later uses of each vreg are known, and one place for each vreg is all that
-//! has to be remembered. The first use that the walk meets gives the vreg its location; from there a move fills the place of each
-//! other use, before its instruction; and the definition, which comes last, brings the value there. So liveness needs no analysis
-//! of its own, and no instruction is looked at twice.
+//! It goes backward: when it reaches an instruction, all later uses of each vreg are known, and one
+//! place for each vreg is all that it has to remember. The first use that the walk meets gives the
+//! vreg its location; a move from there fills the place of each other use, before its instruction;
+//! and the definition, which the walk meets last, brings the value there. So liveness needs no
+//! analysis of its own, and no instruction is visited twice.
 
 ghost use Rattle.std.specs.Prelude.{List};
 ghost use Rattle.regalloc2_names.specs.Register.{VirtualRegister};
@@ -45,7 +46,7 @@ struct InstAt {
     start: usize,
 }
 
-/// Whether an instruction ends its block, so that no move comes after it.
+/// Whether an instruction is its block's last. No move may follow it.
 fn ends_block<F: Function>(f: &F, inst: Inst) -> bool
     requires { inst < length (F.function f.now).insts }
     ensures { result ≡ ends_block (inst_at (F.function f.now) inst) }
@@ -136,7 +137,8 @@ impl<'a, A: Allocator> State<'a, A> {
         Ok(())
     }
 
-    /// The beginning of a block: its reloads, and in front of them in the listing, what the branch into it defines is stored.
+    /// The beginning of a block: its reloads, and before them in the listing, the stores of what
+    /// the branch into it defines.
     fn begin_block<F: Function, B: Allocator, C: Allocator>(
         &mut self,
         alloc: &B,

@@ -48,7 +48,7 @@ module _ {T : Type 0} where
       let here : h.0 < length ms = omega arith in
       (get_or ms h.0 x, Contains-get_or ms h.0 x here, sym (get_or-map (filled s) ms h.0 x x here) ∙ h.2)
 
--- a longer list of answers has what a shorter one has
+-- a longer list of returned places has what a shorter one has
 answered_more : (rs ss qs ts : List (Option Place)) (p : Place) → IsAnswer rs ss p → IsAnswer (rs ++ qs) (ss ++ ts) p
 answered_more rs ss qs ts p h = ⊎_elim (λ l. inl (Contains-append_left rs qs (Some p) l)) (λ r. inr (Contains-append_left ss ts (Some p) r)) h
 
@@ -100,7 +100,7 @@ module _ {F G T : Type 0} (registers : F → Option Place → F → Type 0) (slo
         (was.0, subst (λ x. IsUnnamed r x) (sym e) was.1);
   }
 
-  -- the ends of what was filled with an answered place
+  -- the ends of a move filled with a returned place
   sources_filled : (rs ss : List (Option Place)) (s : Place) (given made : List (Place × Place × T)) → IsAnswer rs ss s → made ≡ map (filled s) given →
       (x : Place × Place × T) → Contains made x → IsAnswer rs ss x.0 ⊎ ((n : Place × Place × T) × Contains given n × (x.0 ≡ n.0))
   sources_filled rs ss s given made answered e x h =
@@ -195,7 +195,7 @@ module _ {F G T : Type 0} (registers : F → Option Place → F → Type 0) (slo
   chosen (Scratch ms) made f f' g g' owes run (inr (Register s, e, h, m)) = chosen_register ms.items made f f' g g' s owes run h.0 h.1 m
   chosen (Scratch ms) made f f' g g' owes run (inr (Slot s, e, h, m)) = chosen_slot ms.items made f f' g g' s owes run h.0 h.1 m
 
-  -- no move goes from stack to stack, and so the moves stay
+  -- no move is stack-to-stack, and so the moves stay
   computed_at_once : (given made : List (Place × Place × T)) (scratch : Bool) (f f' : F) (g g' : G) (c : Chosen given scratch f f' g g' made) →
       AreSeenApart stack made → IsComputed stack borrowed (IsAnswer c.rs c.ss) scratch given made
   computed_at_once given made scratch f f' g g' c apart = record {
@@ -249,7 +249,7 @@ module _ {F G T : Type 0} (registers : F → Option Place → F → Type 0) (slo
         plain = λ e a. absurd (some (subst (λ xs. AreApartInMemory stack xs) (sym (c.plain e)) a));
       }
 
-  -- what was asked at the first time, and at the second
+  -- what was returned the first time, and the second
   abbrev asked_registers : (given made : List (Place × Place × T)) (scratch : Bool) (f f' : F) (g g' : G) → Chosen given scratch f f' g g' made →
       Asked registers f f'
   asked_registers given made scratch f f' g g' c = record { answers = c.rs; few = let few : length c.rs ≤ 1 = c.rs_few in omega arith; calls = c.rs_calls }
@@ -273,7 +273,7 @@ module _ {F G T : Type 0} (registers : F → Option Place → F → Type 0) (slo
     calls = FoldsTo-push slots g c.ss g' r g'' c.ss_calls step;
   }
 
-  -- no slot was asked for at the second time
+  -- no slot was requested the second time
   abbrev no_more_slots : (given made : List (Place × Place × T)) (scratch : Bool) (f f' : F) (g g' g'' : G) (c : Chosen given scratch f f' g g' made) →
       g'' ≡ g' → Asked slots g g''
   no_more_slots given made scratch f f' g g' g'' c e = record {
@@ -282,14 +282,14 @@ module _ {F G T : Type 0} (registers : F → Option Place → F → Type 0) (slo
     calls = subst (λ x. FoldsTo slots g (c.ss ++ []) x) (sym e) (subst (λ xs. FoldsTo slots g xs g') (sym (append-nil c.ss)) c.ss_calls);
   }
 
-  -- all that was asked for and made: nothing more than a scratch place
+  -- all places requested, and the moves made: nothing more than a scratch place
   pub computes_at_once : (given made : List (Place × Place × T)) (scratch : Bool) (f f' : F) (g g' : G) → Chosen given scratch f f' g g' made →
       AreSeenApart stack made → (a : Asked registers f f') × (b : Asked slots g g')
       × IsComputed stack borrowed (IsAnswer a.answers b.answers) scratch given made
   computes_at_once given made scratch f f' g g' c apart =
       (asked_registers given made scratch f f' g g' c, asked_slots given made scratch f f' g g' c, computed_at_once given made scratch f f' g g' c apart)
 
-  -- no place was left for moves from stack to stack
+  -- no place was left for stack-to-stack moves
   pub computes_refused : (given made : List (Place × Place × T)) (scratch : Bool) (f f' f'' : F) (g g' g'' : G) → Chosen given scratch f f' g g' made →
       IsRefusing registers slots f' f'' g' g'' → (a : Asked registers f f'') × (b : Asked slots g g'') × Contains b.answers None
   computes_refused given made scratch f f' f'' g g' g'' c h =
@@ -320,7 +320,7 @@ module _ {F G T : Type 0} (registers : F → Option Place → F → Type 0) (slo
         between = c.between;
       }
 
-  -- all that was asked for, and what was made by way of what was handed out
+  -- all places requested, and the moves made by way of what was handed out
   pub computes_by_way : {given made : List (Place × Place × T)} {scratch : Bool} {f f' : F} {g g' : G} (f'' : F) (g'' : G) →
       Chosen given scratch f f' g g' made →
       (AreApartInMemory stack made → ⊥) → (h : Handed) → IsHanding registers slots f' f'' g' g'' h → (via : ScratchReg) (first : Held) →
@@ -342,7 +342,7 @@ module _ {F G T : Type 0} (registers : F → Option Place → F → Type 0) (slo
         (inr (subst (λ y. Contains (c.ss ++ Some p ∷ []) (Some y)) (sym is.1) (Contains-push c.ss (Some p)))) some x.same x.each),
   )
 
--- what may be asked twice may be asked again once a scratch place is chosen
+-- what may be called twice may be called again once a scratch place is chosen
 pub may_ask_again : {F G T A : Type 0} (registers : F → Option Place → F → Type 0) (slots : G → Option Place → G → Type 0) (pre : F → Type 0)
     (slots_pre : G → Type 0) (moves : MoveVecWithScratch T A) (made : List (Place × Place × T)) (f f' : F) (g g' : G)
     → MayBeAskedTwice registers pre f → MayBeAskedTwice slots slots_pre g → IsChoice registers slots f f' g g' moves made → pre f' × slots_pre g'
@@ -359,7 +359,7 @@ refused_first registers slots f f' g g' h = (
   (0, omega arith, refl),
 )
 
--- what was said of a closure's answers, where the closure and the list are the same
+-- what a closure returned, where the closure and the list are the same
 pub not_apart : {S T : Type 0} (post : S → Place → Bool → Type 0) (f f' : S) (xs ys : List (Place × Place × T)) → f ≡ f' → xs ≡ ys →
     (AreApartInMemory (λ p b. post f p b) xs → true ≡ false) → AreApartInMemory (λ p b. post f' p b) ys → ⊥
 not_apart post f f' xs ys ef e some a =

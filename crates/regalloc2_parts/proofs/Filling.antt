@@ -21,7 +21,7 @@ or_real s NoPlace n e = n e
 or_real s (InRegister r) n e = absurd cc
 or_real s (InSlot k) n e = absurd cc
 
--- only the scratch place and what stands aside differ
+-- the cells differ only at the scratch place and at `none`
 abbrev Agree : {X : Type 0} → Place → CellsOf X → CellsOf X → Type 0
 Agree s c d = (p : Place) → p ≢ s → p ≢ NoPlace → d p ≡ c p
 
@@ -36,7 +36,7 @@ agree_moved s to c d x y other had e p not_s real = ⊎_elim
     (cases_place to NoPlace)
 
 module _ {T X : Type 0} (s : Place) (fresh : s ≢ NoPlace) where
-  -- once what stands aside was written
+  -- once `none` was written
   fills_after : (ms : List (Place × Place × T)) (c d : CellsOf X) → IsUnnamed s ms → Agree s c d → d s ≡ c NoPlace → (q : Place) → q ≢ s → q ≢ NoPlace →
       in_turn (ends_of (map (filled s) ms)) d q ≡ in_turn (ends_of ms) c q
   unfolding in_turn

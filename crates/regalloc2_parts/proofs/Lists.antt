@@ -32,7 +32,7 @@ module _ {T : Type 0} where
   pub read_in : (ms : List (Place × Place × T)) (k : ℕ) (m : Place × Place × T) → k < length ms → m ≡ get_or ms k m → Contains ms m
   read_in ms k m r e = subst (λ x. Contains ms x) (sym e) (Contains-get_or ms k m r)
 
-  -- one of the moves, one of which what it reads stands aside, and one that puts aside what it reads
+  -- one of the moves, one that reads `none`, and one that writes its source to `none`
   pub of_itself : (ms : List (Place × Place × T)) (m : Place × Place × T) → Contains ms m → IsOfMoves ms m
   of_itself ms m h = inr (m, h, refl, refl, inr refl)
 

@@ -1,4 +1,4 @@
--- A walk over a ring's registers from the oldest to the newest.
+-- A walk over a ring's registers from the least to the most recently used.
 use Rattle.std.proofs.Common.{ℕ, zero, suc, ◌≡◌, ◌≢◌, ◌+◌, ◌-◌, ◌<◌, ◌≤◌, ◌∙◌, refl, arith, sym, ap}
 use Rattle.std.proofs.Common.{subst, List, [], ◌∷◌, ◌++◌, Bool, true, false, cond, length, slice_index_or, append_assoc, inl, inr}
 use Rattle.std.specs.Prelude.{All, Contains, ◌⊎◌, MatchOption, IfNone, IfSome, Option, None, Some, find, map, option_map, reverse, slice_get, slice_index}
@@ -29,7 +29,7 @@ pub record Begins (nodes : List LruNode) (h at : ℕ) (class : RegClass) : Type 
   pub left : left_of nodes h class (Some at) ≡ reverse (map (named class) (ring_numbers nodes h))
   pub proper : IsLeft nodes h (Some at)
 
--- from the one before the head on, a walk backward passes all registers of the ring, the oldest first
+-- from the one before the head on, a walk backward passes all registers of the ring, the least recently used first
 pub begins : (nodes : List LruNode) (h at : ℕ) (class : RegClass) → length nodes ≤ 64 → IsNodeRing nodes h → slice_index (lru_prevs nodes) h ≡ at →
     Begins nodes h at class
 begins nodes h at class few ring e =
@@ -147,7 +147,7 @@ first_there ring it next (Some r) e steps =
     Contains-permutation (reverse ring) ring r (IsPermutation-sym ring (reverse ring) (IsPermutation-reverse ring))
     (rw (sym e ∙ steps) (0, omega arith, refl))
 
--- those that a closure was asked about
+-- those that a closure was called for
 within : (P : Register → Type 0) (us : List Register) (r : Register) (vs : List Register) → All P vs →
     AllWithin P (us ++ r ∷ vs) (length us + 1) (length (us ++ r ∷ vs))
 within P [] r vs all zero d low high = absurd (omega arith)
@@ -158,7 +158,7 @@ within P (u ∷ us) r vs all (suc k) d low high = within P us r vs all k d (omeg
 all_reversed : (P : Register → Type 0) (xs : List Register) → All P xs → All P (reverse xs)
 all_reversed P xs all = All-permutation P xs (reverse xs) (IsPermutation-reverse xs) all
 
--- where a closure said no to each register of the ring, none is the oldest accepted one
+-- where a closure returned false for each register of the ring, there is no least recently used accepted one
 pub none_accepted : (answers : Register → Bool → Type 0) (ring done rest : List Register) → reverse ring ≡ done ++ rest → rest ≡ [] →
     All (λ r. answers r false) done → IsOldestAccepted answers ring None
 none_accepted answers ring done rest e none all =
@@ -166,7 +166,7 @@ none_accepted answers ring done rest e none all =
     let back : ring ≡ reverse done = sym (reverse-reverse ring) ∙ ap (λ l. reverse l) whole in
     rw back (all_reversed (λ (r : Register). answers r false) done all)
 
--- where it said no to those from the ring's end up to a register and yes to this one, this is the oldest accepted one
+-- where it returned false for those from the ring's end up to a register and true for this one, this is the least recently used accepted one
 pub one_accepted : (answers : Register → Bool → Type 0) (ring done rest : List Register) (r : Register) → reverse ring ≡ done ++ r ∷ rest →
     All (λ q. answers q false) done → answers r true → IsOldestAccepted answers ring (Some r)
 one_accepted answers ring done rest r e all here =

@@ -1,4 +1,4 @@
--- Closures that give scratch places: what a resolver is owed of them, and what it makes with these places.
+-- Closures that return scratch places: what the resolver requires of them, and the moves that it makes with these places.
 use Rattle.std.proofs.Common.{ℕ, zero, suc, ◌≡◌, ◌≢◌, ◌≤◌, Bool, true, false, List, [], ◌∷◌, length, get_or, Option, None, Some, refl, sym, ap, ◌∙◌}
 use Rattle.std.proofs.Common.{subst, inl, inr, ◌⊎◌, ⊎_elim, arith}
 use Rattle.std.specs.Prelude.{Contains}
@@ -40,7 +40,7 @@ module _ {F : Type 0} (g : Mut F (Unit {0}) (Option Place)) (f : F) (pair : Scra
   differ : DoDiffer pair → AnswersDiffer (λ s a t. Called g s tt a t) f
   differ d p q m t k l = d p q (sym (h (Some p) m k).0) (sym ((h (Some p) m k).1 (Some q) t l).0)
 
-  -- each of two answers at most is one of the two
+  -- each of at most two returned places is one of the two
   which : (answers : List (Option Place)) (f' : F) → length answers ≤ 2 → FoldsTo (λ s a t. Called g s tt a t) f answers f' → (x : Option Place) →
       Contains answers x → (x ≡ pair.first) ⊎ (x ≡ pair.second)
   which [] f' few calls x c = absurd (nothing_in x c)
@@ -101,7 +101,7 @@ module _ {F : Type 0} (g : Mut F (Unit {0}) (Option Place)) (f : F) (pair : Scra
 memory_slot : (fixed_stack : PRegSet) (q : Place) (k : ℕ) → q ≡ InSlot k → is_memory fixed_stack q ≡ true
 memory_slot fixed_stack q k e = ap (is_memory fixed_stack) e
 
--- ends that aren't both on the stack aren't both said to be
+-- the closure doesn't report both of two ends as on the stack, where they aren't
 pub stay_apart : {H : Type 0} (m : Shared H (Place × Unit {0}) Bool) (h : H) (fixed_stack : PRegSet) → DecidesStack m h fixed_stack →
     (mv : Place × Place × Unit {0}) → AreNotBothInMemory fixed_stack mv.0 mv.1 → m.post h (mv.0, tt) true → m.post h (mv.1, tt) true → ⊥
 stay_apart m h fixed_stack tells mv apart a b = apart (tells mv.0 true a) (tells mv.1 true b)
@@ -114,7 +114,7 @@ pub record LendPool {F G H : Type 0} (r : Mut F (Unit {0}) (Option Place)) (s : 
   pub tells : DecidesStack m h l.fixed_stack
   pub serves : IsUsableFor l given
 
--- what was asked of such closures, and how many slots were taken, as the next one shows
+-- what such closures returned, and how many slots were taken, as the next one shows
 pub record HaveTaken {F G : Type 0} (r : Mut F (Unit {0}) (Option Place)) (s : Mut G (Unit {0}) (Option Place)) (f : F) (g : G) (slots : ScratchPair)
     (taken : ℕ) : Type 0 where
   pub registers_left : F
@@ -130,7 +130,7 @@ module _ {F G H : Type 0} {r : Mut F (Unit {0}) (Option Place)} {s : Mut G (Unit
     {h : H} {l : ScratchPool} {given : Moves} (lend : LendPool r s m f g h l given) where
   open lend use {tells, serves}
 
-  -- closures that yield the pool's registers and slots in order keep what the resolver is owed
+  -- closures that yield the pool's registers and slots in order meet the resolver's requirements
   pub owes_lent : (borrowed : Register) → borrowed ≡ l.borrowed → Owes (λ x a y. Called r x tt a y) (λ x a y. Called s x tt a y) (λ p b. m.post h (p, tt) b)
       (InRegister borrowed) given f g
   owes_lent borrowed is = record {
@@ -150,7 +150,7 @@ module _ {F G H : Type 0} {r : Mut F (Unit {0}) (Option Place)} {s : Mut G (Unit
   module _ (may_tell : MayDecideStack m h l.fixed_stack) {taken : ℕ} (have : HaveTaken r s f g l.slots taken) where
     open have use {registers_left, slots_left, asked, slots_asked, next, last, after, counts}
 
-    -- what the closure says isn't on the stack, or can't say otherwise of, is none
+    -- what the closure reports as not on the stack, or can't report otherwise, is not
     away : (p : Place) → IsAway (λ q b. m.post h (q, tt) b) p → true ≡ is_memory l.fixed_stack p → ⊥
     away p (inl n) so = let no : false ≡ true = tells p false n ∙ sym so in cc
     away p (inr n) so = n (subst (λ t. m.post h (p, tt) t) (sym so) (may_tell p))

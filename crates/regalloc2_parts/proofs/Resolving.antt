@@ -1,4 +1,4 @@
--- Lemmas on the moves that are answered.
+-- Lemmas on the moves that are returned.
 use Rattle.std.proofs.Common.{◌≡◌, ◌≢◌, ℕ, ◌+◌, ◌-◌, ◌<◌, ◌≤◌, Bool, true, false, IsTrue, List, [], ◌∷◌, ◌++◌, length, reverse, get_or, inl, inr}
 use Rattle.std.proofs.Common.{refl, sym, ap, ◌∙◌, subst, ⊎_elim, arith}
 use Rattle.std.specs.List.{All}
@@ -122,7 +122,7 @@ module _ {T : Type 0} where
     pub more : scratch ≡ true → length new < length made
     pub few : scratch ≡ false → length made ≤ length new
 
-  -- what was given out, turned round
+  -- the emitted moves, reversed
   pub resolves_order : (old new given made : List (Place × Place × T)) (nexts : List ℕ) (scratch : Bool) → HasOneSourceEach (ends_of old) → AreReal old →
       1 < length old → IsTidied (ends_of old) (ends_of new) → ((m : Place × Place × T) → Contains new m → Contains old m) → AreNexts (ends_of new) nexts →
       IsOrder (ends_of new) nexts (ends_of given) → All (IsOfMoves new) given → made ≡ reverse given → TellsScratch scratch new made →

@@ -133,7 +133,7 @@ head_out nodes h p ring same =
     subst (λ (i : ℕ). IsRingOfNumbers nodes h (i ∷ without i (ring_numbers nodes h))) (sym same)
     (record { ring = ring; are = rw (e, all_kept h (others nodes h) (IsDistinct-head nat_eq h (others nodes h) ring.distinct)) refl })
 
--- the oldest stands last already
+-- the least recently used number is the last already
 pub oldest_last : (nodes : List LruNode) (h p : ℕ) (d : LruNode) → IsNodeRing nodes h → p ≢ h → (slice_index_or nodes h d).prev ≡ p →
     IsRingOfNumbers nodes h (without p (ring_numbers nodes h) ++ p ∷ [])
 oldest_last nodes h p d ring other e =
@@ -141,7 +141,7 @@ oldest_last nodes h p d ring other e =
     let parts = last_out (lru_nexts nodes) (lru_prevs nodes) h (others nodes h) h p ring.leads ring.distinct last (differs p h (λ s. other (sym s))) in
     record { ring = ring; are = rw (head_kept h (others nodes h) p other) (ap (λ l. h ∷ l) parts) }
 
--- with the oldest as head
+-- with the least recently used number as head
 pub node_turned : (nodes : List LruNode) (h : ℕ) (xs : List ℕ) (p : ℕ) → IsRingOfNumbers nodes h (without p (h ∷ xs) ++ p ∷ []) → p ≢ h →
     IsRingOfNumbers nodes p (p ∷ without p (h ∷ xs))
 node_turned nodes h xs p of other =
@@ -151,7 +151,7 @@ node_turned nodes h xs p of other =
     rw kept (stands_for nodes p (h ∷ without p xs)
     (IsRing-turned (lru_nexts nodes) (lru_prevs nodes) h (without p xs) p (subst (λ l. IsRing (lru_nexts nodes) (lru_prevs nodes) h l) same of.ring)))
 
--- the oldest as head: it goes from the end to the front
+-- the least recently used number as head: it goes from the end to the front
 pub oldest_as_head : (nodes : List LruNode) (h p : ℕ) (d : LruNode) → IsNodeRing nodes h → (slice_index_or nodes h d).prev ≡ p →
     IsRingOfNumbers nodes p (p ∷ without p (ring_numbers nodes h))
 oldest_as_head nodes h p d ring e = by_place (cases_eq p h)

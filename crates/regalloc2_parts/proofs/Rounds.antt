@@ -1,4 +1,4 @@
--- Lemmas on a chain that is given out from its end on.
+-- Lemmas on a chain that is emitted from its end on.
 use Rattle.std.proofs.Common.{◌≡◌, ℕ, ◌+◌, ◌<◌, ◌≤◌, List, [], ◌∷◌, ◌++◌, length, set, refl, sym, ap, ◌∙◌, subst, inl, inr, ⊎_elim, arith}
 use Rattle.std.proofs.lemmas.List.{reverse-append, length-append}
 use Rattle.regalloc2_names.specs.Place.{Place, NoPlace}
@@ -14,17 +14,17 @@ use Rattle.std.specs.List.{count_by}
 use Rattle.std.proofs.lemmas.List.Elements.{All-push}
 use Rattle.regalloc2_parts.proofs.Rings.{rings_one, rings_open, count_done}
 
--- a move that does not read what stands aside comes before all that was given out
+-- a move that does not read `none` comes before all emitted moves
 written_push : (given : List Ends) (m : Ends) → (m.from ≡ NoPlace → ⊥) → HasWrittenFirst given → HasWrittenFirst (given ++ m ∷ [])
 unfolding WritesNoneFirst
 written_push given m real had = subst (λ x. WritesNoneFirst x) (sym (reverse-append given (m ∷ []))) (real, λ n. had)
 
--- nor one that writes what stands aside
+-- nor one that writes `none`
 written_close : (given : List Ends) (m : Ends) → (m.from ≡ NoPlace → ⊥) → m.to ≡ NoPlace → HasWrittenFirst (given ++ m ∷ [])
 unfolding WritesNoneFirst
 written_close given m real into = subst (λ x. WritesNoneFirst x) (sym (reverse-append given (m ∷ []))) (real, λ n. absurd (n into))
 
--- a move from a place to a place is given out
+-- a move from a place to a place is emitted
 plain_push : (st : List State) (k : ℕ) (given : List Ends) (m : Ends) → k < length st → (state_at st k ≡ Done → ⊥) → (m.from ≡ NoPlace → ⊥) →
     (m.to ≡ NoPlace → ⊥) → IsPlain st given → IsPlain (set st k Done) (given ++ m ∷ [])
 plain_push st k given m short open_ from to had same =
@@ -48,7 +48,7 @@ pub record ClosesRing (nexts : List ℕ) (st : List State) (chain : List ℕ) (k
   pub next_pending : state_at st next ≡ Pending
 
 module _ (ms : List Ends) (nexts : List ℕ) (apart : AreMovesApart ms) (ns : AreNexts ms nexts) where
-  -- the chain is given out as it stands
+  -- the chain is emitted as it is
   pub gives_start : (st : List State) (chain : List ℕ) (given : List Ends) → HasGivenWhole ms nexts st given → IsMoveChain nexts st chain →
       ((i : ℕ) → i + 1 ≡ length chain → IsNextDone nexts st (number_at chain i)) → IsGiving ms nexts st chain given (length ms) (length ms)
   gives_start st chain given had is ready = record {
@@ -58,7 +58,7 @@ module _ (ms : List Ends) (nexts : List ℕ) (apart : AreMovesApart ms) (ns : Ar
     ring = inl (record { cut_past = refl; first_past = refl; rings = had.rings; written = had.written; plain = had.plain });
   }
 
-  -- the chain ends in a ring: its last move is given out as one from `none`
+  -- the chain ends in a ring: its last move is emitted as one from `none`
   pub gives_ring : (st : List State) (chain : List ℕ) (given : List Ends) (k next : ℕ) {m : Ends} → HasGiven (length ms) ms st given →
       (rings : HasRings nexts st (length given)) → AreRingsDone st rings.rings → ClosesRing nexts st chain k next (length ms) → length st ≡ length ms →
       IsFromTo m NoPlace (to_at ms k) → IsGiving ms nexts (set st k Done) chain (given ++ m ∷ []) k next
@@ -102,7 +102,7 @@ module _ (ms : List Ends) (nexts : List ℕ) (apart : AreMovesApart ms) (ns : Ar
         });
       }
 
-  -- the last move of the chain is given out
+  -- the last move of the chain is emitted
   gives_top : (st : List State) (chain : List ℕ) (given : List Ends) (k cut first : ℕ) (m : Ends) → IsGiving ms nexts st (chain ++ k ∷ []) given cut first →
       length st ≡ length ms → IsFromTo m (from_at ms k) (to_at ms k) → HasGiven cut ms (set st k Done) (given ++ m ∷ [])
   gives_top st chain given k cut first m is same goes =
@@ -209,7 +209,7 @@ ends_whole ms nexts st chain given cut first is empty = ⊎_elim
     (λ r. let low : r.stands.0 < length chain = r.stands.1 in absurd (omega arith))
     is.ring
 
--- a ring is open while its first is given out
+-- a ring is open while its first move is emitted
 pub cut_within : (ms : List Ends) (nexts : List ℕ) (st : List State) (chain : List ℕ) (given : List Ends) (cut first : ℕ) →
     IsGiving ms nexts st chain given cut first → first < length ms → cut < length ms
 cut_within ms nexts st chain given cut first is low = ⊎_elim

@@ -44,7 +44,7 @@ apart_at_once ms c apart = record {
   kept = λ q real n. runs_keep ms c q n;
 }
 
--- what was given out from the last to the first, run from its end on
+-- what was emitted from the last move to the first, run from its end on
 pub given_at_once : {X : Type 0} (ms given : List Ends) (c : CellsOf X) → AreMovesApart ms →
     ((q : Place) → (q ≡ NoPlace → ⊥) → TakesFrom ms q (origin given q)) →
     AreAtOnce ms c (in_turn (reverse given) c)
@@ -86,13 +86,13 @@ free_alone ms nexts apart ns past i j d o r =
       (λ e. let same : j ≡ i = apart.one_writer j i r low (ap (λ (z : Ends). z.to) (sym at_j) ∙ e ∙ ap (λ (z : Ends). z.to) at_i) in omega arith),
     )
 
--- what was given out of the tidied list does what the whole list does
+-- what was emitted of the tidied list does what the whole list does
 pub ordered_at_once : {X : Type 0} (old new given : List Ends) (c : CellsOf X) → AreFair old → IsTidied old new →
     ((q : Place) → (q ≡ NoPlace → ⊥) → TakesFrom new q (origin given q)) → AreAtOnce old c (in_turn (reverse given) c)
 ordered_at_once old new given c fair is takes =
     tidied_at_once old new c (in_turn (reverse given) c) fair is (given_at_once new given c (tidied_apart old new fair is) takes)
 
--- a list that names no place nowhere writes what stands aside first, if at all
+-- a list that nowhere names `none` writes it before reading it, if at all
 pub written_first : (ms : List Ends) → ((m : Ends) → Contains ms m → (m.from ≢ NoPlace) × (m.to ≢ NoPlace)) → WritesNoneFirst ms
 unfolding WritesNoneFirst
 written_first [] real = tt

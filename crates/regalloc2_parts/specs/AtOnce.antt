@@ -1,4 +1,4 @@
--- Moves made at once, and one after another.
+-- Parallel moves, and moves made one after another.
 use Rattle.std.specs.Prelude.{◌≡◌, ◌≢◌, Bool, true, false, if◌then◌else◌, List, [], ◌∷◌, map, Contains, refl, ◌⊎◌}
 use Rattle.std.specs.List.{All}
 use Rattle.std.proofs.Common.{ap, ◌∙◌, sym}
@@ -10,7 +10,7 @@ pub record Ends : Type 0 where
   pub from : Place
   pub to : Place
 
--- the move that is meant where there is none
+-- the default move, for an index that no move has
 abbrev pub no_move : Ends
 no_move = record { from = NoPlace; to = NoPlace }
 
@@ -20,7 +20,7 @@ ends m = record { from = m.0; to = m.1 }
 abbrev pub ends_of : {T : Type 0} → List (Place × Place × T) → List Ends
 ends_of ms = map ends ms
 
--- What stands at each place: X may be an option, where a place may hold nothing. No place is one more cell here, for what stands aside.
+-- The cells: what each place holds. X may be an option, if a place may hold nothing. `none` is one more cell: the scratch place until it is chosen.
 abbrev pub CellsOf : Type 0 → Type 0
 CellsOf X = Place → X
 
@@ -33,12 +33,12 @@ unfoldable pub in_turn : {X : Type 0} → List Ends → CellsOf X → CellsOf X
 in_turn [] c = c
 in_turn (m ∷ ms) c = in_turn ms (moved c m.to (c m.from))
 
--- the cells after all moves at once: each destination has what its source had at first, all others stay, and what stands aside is left open
+-- the cells after parallel moves: each destination has what its source had at first, all others stay, and the cell `none` is left open
 pub record AreAtOnce {X : Type 0} (ms : List Ends) (old new : CellsOf X) : Type 0 where
   pub assigned : (m : Ends) → Contains ms m → new m.to ≡ old m.from
   pub kept : (q : Place) → q ≢ NoPlace → ((m : Ends) → Contains ms m → m.to ≢ q) → new q ≡ old q
 
--- Each place holds its own name. What moves make of these cells says of each place where what stands there came from, and so what they make
+-- Each place holds its own name. The cells after moves from this start say of each place which place its value came from, and so what the moves make
 -- of any cells (`in_turn-any`).
 abbrev pub own_names : CellsOf Place
 own_names q = q
@@ -47,18 +47,19 @@ own_names q = q
 abbrev pub HasOneSourceEach : List Ends → Type 0
 HasOneSourceEach ms = (a b : Ends) → Contains ms a → Contains ms b → a.to ≡ b.to → a.from ≡ b.from
 
--- A move of a list that was made of the moves ms: one of them, or one of which an end stands aside. It carries the value of the one that has its destination.
+-- A move of a list that was made of the moves ms: one of them, or one with `none` as an end. It carries the value of the one that has its
+-- destination.
 abbrev pub IsOfMoves : {T : Type 0} → List (Place × Place × T) → Place × Place × T → Type 0
 IsOfMoves {T} ms m =
     ((m.1 ≡ NoPlace) × (n : Place × Place × T) × Contains ms n × (m.0 ≡ n.0))
     ⊎ ((n : Place × Place × T) × Contains ms n × (m.1 ≡ n.1) × (m.2 ≡ n.2) × ((m.0 ≡ NoPlace) ⊎ (m.0 ≡ n.0)))
 
--- what stands aside is written before it is read
+-- `none` is written before it is read
 unfoldable pub WritesNoneFirst : List Ends → Type 0
 WritesNoneFirst [] = Unit {0}
 WritesNoneFirst (m ∷ ms) = (m.from ≢ NoPlace) × (m.to ≢ NoPlace → WritesNoneFirst ms)
 
--- a place that an allocation stands for, whose word gives it back
+-- a place that an allocation encodes, and its encoding gives it back
 abbrev pub IsPlace : Place → Type 0
 IsPlace p = place_of_bits (bits_of_place p) ≡ p
 

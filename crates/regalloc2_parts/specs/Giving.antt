@@ -1,4 +1,4 @@
--- What the private steps of the move resolver promise one another: moves are given out from the last to the first. No public contract speaks of this.
+-- What the private steps of the move resolver guarantee one another: moves are emitted from the last to the first. No public contract cites this.
 use Rattle.std.specs.Prelude.{ℕ, ◌≡◌, ◌<◌, ◌≤◌, ◌+◌, ◌==◌, Bool, true, false, if◌then◌else◌, List, reverse, count_by, Contains, [], ◌∷◌, length}
 use Rattle.std.specs.Prelude.{slice_index_or, ◌⊎◌, ◌≢◌}
 use Rattle.regalloc2_names.specs.Place.{Place, NoPlace, is_place}
@@ -20,16 +20,16 @@ state_at st k = slice_index_or st k Todo
 abbrev pub number_at : List ℕ → ℕ → ℕ
 number_at ks i = slice_index_or ks i 0
 
--- the place from which a move takes what comes to stand at p
+-- the place whose value p holds after a move
 abbrev pub place_before : Ends → Place → Place
 place_before m p = if is_place m.to p then m.from else p
 
--- the place from which what comes to stand at q is taken, the moves run from the last to the first
+-- the place whose value q holds after the moves are run from the last to the first
 unfoldable pub origin : List Ends → Place → Place
 origin [] q = q
 origin (m ∷ ms) q = origin ms (place_before m q)
 
--- where the move k takes its value from, while the move `cut` takes it from `none`
+-- the source of the move k, where the move `cut` reads `none`
 abbrev pub source_but : ℕ → List Ends → ℕ → Place
 source_but cut ms k = if k == cut then NoPlace else from_at ms k
 
@@ -52,7 +52,7 @@ pub record AreNexts (ms : List Ends) (nexts : List ℕ) : Type 0 where
   pub found : (k : ℕ) → k < length ms → number_at nexts k < length ms → to_at ms (number_at nexts k) ≡ from_at ms k
   pub absent : (k : ℕ) → k < length ms → (number_at nexts k < length ms → ⊥) → (j : ℕ) → j < length ms → to_at ms j ≡ from_at ms k → ⊥
 
--- what was given out makes the moves that are done at once, and each place that they read is written by moves that are done, if at all
+-- the emitted moves do what the done ones do in parallel, and each place that the done ones read is written by done moves, if at all
 pub record HasGiven (cut : ℕ) (ms : List Ends) (st : List State) (given : List Ends) : Type 0 where
   pub gave : (k : ℕ) → k < length ms → state_at st k ≡ Done → origin given (to_at ms k) ≡ source_but cut ms k
   pub kept : (q : Place) → (q ≡ NoPlace → ⊥) → ((k : ℕ) → k < length ms → state_at st k ≡ Done → to_at ms k ≡ q → ⊥) → origin given q ≡ q
@@ -91,11 +91,11 @@ pub record IsRingOfMoves (nexts ring : List ℕ) : Type 0 where
 abbrev pub ring_at : List (List ℕ) → ℕ → List ℕ
 ring_at rings r = slice_index_or rings r []
 
--- a move stands in one of the rings
+-- a move is in one of the rings
 abbrev pub StandsIn : List (List ℕ) → ℕ → Type 0
 StandsIn rings k = (r : ℕ) × (i : ℕ) × (r < length rings) × (i < length (ring_at rings r)) × (number_at (ring_at rings r) i ≡ k)
 
--- the rings that were met as moves were given out, and how many moves that took: one for each that is done, and one for each ring
+-- the rings that were met as moves were emitted, and how many moves were emitted: one for each that is done, and one for each ring
 pub record HasRings (nexts : List ℕ) (st : List State) (count : ℕ) : Type 0 where
   pub rings : List (List ℕ)
   pub each : (r : ℕ) → r < length rings → IsRingOfMoves nexts (ring_at rings r)
@@ -112,7 +112,7 @@ pub record HasRings (nexts : List ℕ) (st : List State) (count : ℕ) : Type 0 
 abbrev pub AreRingsDone : List State → List (List ℕ) → Type 0
 AreRingsDone st rings = (k : ℕ) → StandsIn rings k → state_at st k ≡ Done
 
--- what was given out writes `none` before it reads it
+-- the emitted moves write `none` before they read it
 abbrev pub HasWrittenFirst : List Ends → Type 0
 HasWrittenFirst given = WritesNoneFirst (reverse given)
 
@@ -120,7 +120,7 @@ HasWrittenFirst given = WritesNoneFirst (reverse given)
 abbrev pub AreBetween : List Ends → Type 0
 AreBetween ms = All (λ (m : Ends). (m.from ≡ NoPlace → ⊥) × (m.to ≡ NoPlace → ⊥)) ms
 
--- where no ring took one more, each move that was given out is from a place to a place
+-- where no ring added a move, each emitted move is from a place to a place
 abbrev pub IsPlain : List State → List Ends → Type 0
 IsPlain st given = length given ≡ count_by is_done st → AreBetween given
 
@@ -132,7 +132,7 @@ pub record HasNoRing (ms : List Ends) (nexts : List ℕ) (st : List State) (give
   pub written : HasWrittenFirst given
   pub plain : IsPlain st given
 
--- the ring whose last move takes its value from `none`, down to its first, which is still to be given out
+-- the ring whose last move reads `none`, down to its first, which is still to be emitted
 pub record IsMoveRing (ms : List Ends) (nexts : List ℕ) (st : List State) (chain : List ℕ) (given : List Ends) (cut first : ℕ) : Type 0 where
   pub cut_within : cut < length ms
   pub cut_done : state_at st cut ≡ Done
@@ -142,14 +142,14 @@ pub record IsMoveRing (ms : List Ends) (nexts : List ℕ) (st : List State) (cha
   pub rings : HasRings nexts st (length given + 1)
   pub least : count_by is_done st ≤ length given
 
--- the chain is being given out, from its end on
+-- the chain is being emitted, from its end on
 pub record IsGiving (ms : List Ends) (nexts : List ℕ) (st : List State) (chain : List ℕ) (given : List Ends) (cut first : ℕ) : Type 0 where
   pub had : HasGiven cut ms st given
   pub is_chain : IsMoveChain nexts st chain
   pub ready : (i : ℕ) → i + 1 ≡ length chain → IsNextDone nexts st (number_at chain i)
   pub ring : HasNoRing ms nexts st given cut first ⊎ IsMoveRing ms nexts st chain given cut first
 
--- the moves given out so far, with no ring open
+-- the moves emitted so far, with no ring open
 pub record HasGivenWhole (ms : List Ends) (nexts : List ℕ) (st : List State) (given : List Ends) : Type 0 where
   pub had : HasGiven (length ms) ms st given
   pub rings : HasRings nexts st (length given)
@@ -160,7 +160,7 @@ pub record HasGivenWhole (ms : List Ends) (nexts : List ℕ) (st : List State) (
 abbrev pub IsSettled : List State → Type 0
 IsSettled st = (k : ℕ) → k < length st → state_at st k ≡ Pending → ⊥
 
--- what was not to be done at first isn't now
+-- what was not `Todo` at first isn't now
 abbrev pub HasGoneOn : List State → List State → Type 0
 HasGoneOn old new = (k : ℕ) → (state_at old k ≡ Todo → ⊥) → state_at new k ≡ Todo → ⊥
 
@@ -169,7 +169,7 @@ pub record AreSameDone (old new : List State) : Type 0 where
   pub stays : (k : ℕ) → state_at old k ≡ Done → state_at new k ≡ Done
   pub was : (k : ℕ) → state_at new k ≡ Done → state_at old k ≡ Done
 
--- a chain was given out to its first move, no other is begun, and what is given was made of the moves
+-- a chain was emitted to its first move, no other is begun, and the emitted moves are made of the moves
 pub record IsGivenOut {T : Type 0} (moves : List (Place × Place × T)) (nexts : List ℕ) (old new : List State) (chain : List ℕ)
     (given : List (Place × Place × T)) : Type 0 where
   pub had : HasGivenWhole (ends_of moves) nexts new (ends_of given)
@@ -200,7 +200,7 @@ pub record CanOpen {T : Type 0} (moves : List (Place × Place × T)) (ks : List 
   pub stops : stop < length ks → state_at st stop ≢ Todo
   pub of_moves : All (IsOfMoves moves) given
 
--- the moves of a chain can be given out
+-- the moves of a chain can be emitted
 pub record CanGive {T : Type 0} (moves : List (Place × Place × T)) (ks : List ℕ) (st : List State) (chain : List ℕ) (given : List (Place × Place × T))
     (cut first : ℕ) : Type 0 where
   pub apart : AreMovesApart (ends_of moves)
@@ -210,7 +210,7 @@ pub record CanGive {T : Type 0} (moves : List (Place × Place × T)) (ks : List 
   pub giving : IsGiving (ends_of moves) ks st chain (ends_of given) cut first
   pub of_moves : All (IsOfMoves moves) given
 
--- the chain can be given out that begins at the move `at`
+-- the chain that begins at the move `at` can be emitted
 pub record CanBegin {T : Type 0} (moves : List (Place × Place × T)) (ks : List ℕ) (st : List State) (chain : List ℕ) (given : List (Place × Place × T))
     (at : ℕ) : Type 0 where
   pub apart : AreMovesApart (ends_of moves)
@@ -224,12 +224,12 @@ pub record CanBegin {T : Type 0} (moves : List (Place × Place × T)) (ks : List
   pub within : at < length moves
   pub of_moves : All (IsOfMoves moves) given
 
--- p is the place from which what comes to stand at q is taken, where all moves are made at once
+-- p is the place whose value q holds after the parallel moves
 pub record TakesFrom (ms : List Ends) (q p : Place) : Type 0 where
   pub written : (k : ℕ) → k < length ms → to_at ms k ≡ q → p ≡ from_at ms k
   pub unwritten : ((k : ℕ) → k < length ms → to_at ms k ≡ q → ⊥) → p ≡ q
 
--- all moves were given out, and the rings among them are those that were met
+-- all moves were emitted, and the rings among them are those that were met
 pub record IsOrder (ms : List Ends) (nexts : List ℕ) (given : List Ends) : Type 0 where
   pub takes : (q : Place) → (q ≡ NoPlace → ⊥) → TakesFrom ms q (origin given q)
   pub rings : List (List ℕ)
@@ -241,11 +241,11 @@ pub record IsOrder (ms : List Ends) (nexts : List ℕ) (given : List Ends) : Typ
   pub written : HasWrittenFirst given
   pub plain : length given ≡ length ms → AreBetween given
 
--- the words of the places give them back
+-- the encodings of the places give them back
 abbrev pub AreProper : List Ends → Type 0
 AreProper ms = (m : Ends) → Contains ms m → IsPlace m.from × IsPlace m.to
 
--- of two moves, the second writes a place of a higher word
+-- of two moves, the second writes a place of a higher encoding
 abbrev pub Below : Ends → Ends → Type 0
 Below x y = bits_of_place x.to < bits_of_place y.to
 
@@ -261,6 +261,6 @@ pub record AreFair (ms : List Ends) : Type 0 where
   pub one_source : (a b : Ends) → Contains ms a → Contains ms b → a.to ≡ b.to → a.from ≡ b.from
   pub real : (m : Ends) → Contains ms m → (m.from ≡ NoPlace → ⊥) × (m.to ≡ NoPlace → ⊥)
 
--- of two moves, the second writes a place of a higher word, or they are one move
+-- of two moves, the second writes a place of a higher encoding, or they are one move
 abbrev pub IsBefore : Ends → Ends → Type 0
 IsBefore x y = (bits_of_place x.to < bits_of_place y.to) ⊎ ((x.from ≡ y.from) × (x.to ≡ y.to))

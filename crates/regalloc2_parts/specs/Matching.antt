@@ -8,7 +8,7 @@ use Rattle.regalloc2_parts.specs.declared.iter.Matches.{Matches}
 abbrev pub walked_operands : {F : Type 0} → Matches F → List OperandValue
 walked_operands it = it.operands.now
 
--- the index of the first operand that the closure has not been asked about
+-- the index of the first operand that the closure has not been called for
 abbrev pub next_index : {F : Type 0} → Matches F → ℕ
 next_index it = it.from
 
@@ -16,8 +16,8 @@ next_index it = it.from
 abbrev pub predicate_of : {F : Type 0} → Matches F → F
 predicate_of it = it.predicate
 
--- the closure was asked about each operand from the next one on until it gave true: that operand with its index, or none at all;
--- answers f o b: the closure f can give b at o
+-- the closure was called for each operand from the next one on until it returned true: that operand with its index, or none; answers f o b: the
+-- closure f can return b for o
 abbrev pub GivesNextMatch : {F : Type 0} → (F → OperandValue → Bool → Type 0) → Matches F → Option (ℕ × OperandValue) → Matches F → Type 0
 GivesNextMatch answers it result after =
     (walked_operands after ≡ walked_operands it) × (predicate_of after ≡ predicate_of it)

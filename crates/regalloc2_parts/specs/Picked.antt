@@ -1,4 +1,4 @@
--- Operands picked by what they do, as contracts see them.
+-- Operands selected by what they do, as contracts see them.
 use Rattle.std.specs.Prelude.{ℕ, Bool, true, false, List, drop, filter}
 use Rattle.std.specs.List.{enumerate_from}
 use Rattle.regalloc2_names.specs.declared.OperandConstraint.{OperandConstraint}
@@ -63,7 +63,7 @@ asks_by_name (FixedReg r) = true
 asks_by_name (Reuse i) = false
 asks_by_name (Limit n) = false
 
--- it takes one register that it names
+-- it is fixed to a register
 abbrev pub is_fixed_operand : OperandValue → Bool
 is_fixed_operand o = asks_by_name o.constraint
 
@@ -75,11 +75,11 @@ asks_any_reg (FixedReg r) = false
 asks_any_reg (Reuse i) = false
 asks_any_reg (Limit n) = false
 
--- it takes a register, whichever
+-- it requires a register, any one
 abbrev pub is_any_reg_operand : OperandValue → Bool
 is_any_reg_operand o = asks_any_reg o.constraint
 
--- whether an operand is picked
+-- whether an operand is selected
 abbrev pub accepts : Pick → OperandValue → Bool
 accepts picks.Def o = is_def_operand o
 accepts picks.Use o = is_use_operand o

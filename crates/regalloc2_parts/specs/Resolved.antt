@@ -12,7 +12,7 @@ use Rattle.regalloc2_parts.specs.Cycles.{HasCycle, IsCounted}
 abbrev pub AreBetweenPlaces : {T : Type 0} → List (Place × Place × T) → Type 0
 AreBetweenPlaces ms = All (λ m. (m.0 ≢ NoPlace) × (m.1 ≢ NoPlace)) ms
 
--- The moves `made`, one after another, are the moves ms at once.
+-- The moves `made`, one after another, do what the parallel moves ms do.
 pub record IsResolution {T : Type 0} (ms : List (Place × Place × T)) (scratch : Bool) (made : List (Place × Place × T)) : Type 0 where
   -- what each place holds then
   pub at_once : AreAtOnce (ends_of ms) own_names (in_turn (ends_of made) own_names)
@@ -24,7 +24,7 @@ pub record IsResolution {T : Type 0} (ms : List (Place × Place × T)) (scratch 
   pub short : length ms ≤ 1 → made ≡ ms
   -- which move and which value each of them has
   pub of_moves : All (IsOfMoves ms) made
-  -- none names no place, or what stands aside is written before it is read
+  -- no move names `none`, or `none` is written before it is read
   pub plain : scratch ≡ false → AreBetweenPlaces made
   pub written : WritesNoneFirst (ends_of made)
 
@@ -44,7 +44,7 @@ module _ {T A : Type 0} where
   unscratched (NoScratch ms) = Some ms
   unscratched (Scratch ms) = None
 
-  -- moves that can be made: none names no place, or what stands aside is written before it is read
+  -- moves that can be made: none names `none`, or `none` is written before it is read
   abbrev pub IsRunnable : MoveVecWithScratch T A → Type 0
   IsRunnable (NoScratch ms) = AreBetweenPlaces ms.items
   IsRunnable (Scratch ms) = WritesNoneFirst (ends_of ms.items)

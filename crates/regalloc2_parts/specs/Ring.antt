@@ -1,4 +1,4 @@
--- Registers in the order of their last use, as contracts see them: the newest first.
+-- Registers ordered by their last use, as contracts see them: the most recently used first.
 use Rattle.std.specs.Prelude.{ℕ, ◌≡◌, ◌+◌, ◌<◌, Bool, true, false, List, [], Option, All, MatchOption, IsPermutation, length, slice_index_or}
 use Rattle.std.specs.List.{AllWithin, IsDistinct}
 use Rattle.std.specs.List.Sorted.{IsNonDecreasingBy}
@@ -16,8 +16,8 @@ pub record IsNewRing (regs ring : List Register) : Type 0 where
   pub rising : IsNonDecreasingBy (λ r. r.number) ring
   pub distinct : IsDistinct is_register ring
 
--- a test was asked at each register, the oldest first, until it gave true: the register where it did, or none at all;
--- answers r b: the test can give b at r
+-- a test was called for each register, the least recently used first, until it returned true: the register for which it did, or none; answers r b:
+-- the test can return b for r
 abbrev pub IsOldestAccepted : (Register → Bool → Type 0) → List Register → Option Register → Type 0
 IsOldestAccepted answers ring result =
     MatchOption result

@@ -1,4 +1,4 @@
--- The nodes of a ring of registers, and the list that their links stand for.
+-- The nodes of a ring of registers, and the list that their links represent.
 use Rattle.std.specs.Prelude.{ℕ, ◌≡◌, ◌+◌, ◌<◌, ◌≤◌, ◌⊎◌, List, [], ◌∷◌, ◌++◌, Option, None, Some, MatchOption, length, map, slice_index}
 use Rattle.regalloc2_names.specs.declared.RegClass.{RegClass}
 use Rattle.regalloc2_names.specs.Register.{Register}
@@ -36,7 +36,7 @@ lru_changed_links old new = changed (lru_nexts old) (lru_nexts new) + changed (l
 abbrev pub named : RegClass → ℕ → Register
 named class number = record { number = number; class = class }
 
--- the registers of a ring, the newest first: none where it has no nodes
+-- the registers of a ring, the most recently used first: none if it has no nodes
 abbrev pub ring_registers : List LruNode → ℕ → RegClass → List Register
 ring_registers [] head class = []
 ring_registers (node ∷ nodes) head class = map (named class) (ring_numbers (node ∷ nodes) head)
@@ -46,12 +46,12 @@ pub record IsLruNodes (nodes : List LruNode) (head : ℕ) : Type 0 where
   pub sized : (length nodes ≡ 0) ⊎ (length nodes ≡ 64)
   pub ring : 0 < length nodes → IsNodeRing nodes head
 
--- the registers from one on to the newest, which is the last of them
+-- the registers from one on to the most recently used, which is the last of them
 abbrev pub left_of : List LruNode → ℕ → RegClass → Option ℕ → List Register
 left_of nodes head class None = []
 left_of nodes head class (Some at) = map (named class) (walked_links (lru_prevs nodes) head at ++ head ∷ [])
 
--- a walk from a register to the newest one stays among the nodes
+-- a walk from a register to the most recently used one stays among the nodes
 pub record IsLeft (nodes : List LruNode) (head : ℕ) (at : Option ℕ) : Type 0 where
   pub few : length nodes ≤ 64
   pub walk : MatchOption at (Unit {0}) (λ k. (head < length nodes) × IsWalk (lru_prevs nodes) head k (walked_links (lru_prevs nodes) head k))

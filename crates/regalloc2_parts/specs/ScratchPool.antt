@@ -1,4 +1,4 @@
--- Scratch places for moves that are to be made at once, and what becomes of them.
+-- Scratch places for parallel moves, and the moves made with them.
 use Rattle.std.specs.Prelude.{ℕ, ◌≡◌, ◌≢◌, ◌≤◌, ◌⊎◌, Bool, true, false, List, Option, None, Some}
 use Rattle.std.specs.Fn.{Mut, Shared, Called}
 use Rattle.std.specs.List.{All}
@@ -15,7 +15,7 @@ use Rattle.regalloc2_parts.specs.declared.moves.MoveFault.TheVariants.{NoSlot, M
 use Rattle.regalloc2_parts.specs.declared.scratch_pool.ScratchPair.{ScratchPair}
 use Rattle.regalloc2_parts.specs.declared.scratch_pool.ScratchPool.{ScratchPool}
 
--- moves whose values no vreg asks for
+-- moves that carry no value
 abbrev pub Moves : Type 0
 Moves = List (Place × Place × Unit {0})
 
@@ -31,14 +31,14 @@ IsScratchTaken pair taken p = ((pair.first ≡ Some p) × (1 ≤ taken)) ⊎ ((p
 abbrev pub DoDiffer : ScratchPair → Type 0
 DoDiffer pair = (p q : Place) → pair.first ≡ Some p → pair.second ≡ Some q → p ≢ q
 
--- a call answers the first, the next call the second, and the one after it none
+-- the first call returns the first, the next call the second, and the one after it none
 abbrev pub YieldsInOrder : {F : Type 0} → Mut F (Unit {0}) (Option Place) → F → ScratchPair → Type 0
 YieldsInOrder {F} g f pair =
     (a : Option Place) (f1 : F) → Called g f tt a f1 → (a ≡ pair.first)
     × ((b : Option Place) (f2 : F) → Called g f1 tt b f2 → (b ≡ pair.second)
     × ((d : Option Place) (f3 : F) → Called g f2 tt d f3 → d ≡ None))
 
--- a call answers whether a place is on the stack, and may answer that
+-- a call returns whether a place is on the stack, and may return that
 abbrev pub DecidesStack : {H : Type 0} → Shared H (Place × Unit {0}) Bool → H → PRegSet → Type 0
 DecidesStack g f fixed_stack = (p : Place) (b : Bool) → g.post f (p, tt) b → b ≡ is_memory fixed_stack p
 
@@ -58,7 +58,7 @@ pub record IsUsableFor (l : ScratchPool) (ms : Moves) : Type 0 where
   pub slots_in_order : l.slots.first ≡ None → l.slots.second ≡ None
   pub borrowed : has_register l.fixed_stack l.borrowed ≡ false
 
--- The moves `made`, one after another, do what the given ones do, but for scratch places: all registers, and the first so many slots.
+-- The moves `made`, one after another, do what the given ones do, except in scratch places: all registers, and the first so many slots.
 pub record IsOrderedWith (l : ScratchPool) (taken : ℕ) (given made : Moves) : Type 0 where
   pub same : (q : Place) → q ≢ NoPlace → (IsOfScratchPair l.registers q → ⊥) → (IsScratchTaken l.slots taken q → ⊥) →
       in_turn (ends_of made) own_names q ≡ in_turn (ends_of given) own_names q
@@ -66,15 +66,15 @@ pub record IsOrderedWith (l : ScratchPool) (taken : ℕ) (given made : Moves) : 
       ⊎ (IsScratchTaken l.slots taken p ⊎ (p ≡ InRegister l.borrowed))) given)
       made
 
--- one of the two isn't there
+-- one of the two is missing
 abbrev pub HasTooFewSlots : ScratchPair → Type 0
 HasTooFewSlots pair = (pair.first ≡ None) ⊎ (pair.second ≡ None)
 
--- so many are there
+-- so many exist
 abbrev pub AreThere : ScratchPair → ℕ → Type 0
 AreThere pair taken = (taken ≤ 2) × (1 ≤ taken → (p : Place) × (pair.first ≡ Some p)) × (2 ≤ taken → (p : Place) × (pair.second ≡ Some p))
 
--- a fault of moves as an error of an allocation
+-- an error of moves as an error of an allocation
 abbrev pub error_of : MoveFault → RegAllocError
 error_of NoSlot = TooManySpillSlots
 error_of Memory = OutOfMemory

@@ -1,4 +1,4 @@
--- The nodes of the list of live vregs, and the list that their links stand for.
+-- The nodes of the list of live vregs, and the list that their links represent.
 use Rattle.std.specs.Prelude.{ℕ, ◌≡◌, ◌+◌, ◌≤◌, List, length, map, slice_index, slice_index_or}
 use Rattle.std.specs.List.{AllByRecursion}
 use Rattle.regalloc2_names.specs.Register.{VirtualRegister, invalid_vreg}
@@ -22,7 +22,7 @@ vreg_ring_numbers nodes head = walked_links (nexts nodes) head (slice_index (nex
 abbrev pub vregs_at : List VRegNode → List ℕ → List VirtualRegister
 vregs_at nodes ns = map (λ n. slice_index_or (vregs nodes) n invalid_vreg) ns
 
--- the members, the newest first
+-- the members, the last inserted first
 abbrev pub members_of : List VRegNode → ℕ → List VirtualRegister
 members_of nodes head = vregs_at nodes (vreg_ring_numbers nodes head)
 

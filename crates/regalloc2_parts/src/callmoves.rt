@@ -1,7 +1,8 @@
 //! The moves of one call, in an order in which they can be made one after another.
 //!
-//! The arguments of a call go to the places that a calling convention names, all at once. `schedule` makes of such moves a list that
-//! does the same step by step, with free registers and free slots as the only places that it changes beside.
+//! The arguments of a call go to the places that a calling convention names, in parallel.
+//! `schedule` turns these parallel moves into a list that does the same step by step and changes no
+//! other places than free registers and free slots.
 
 ghost use Rattle.std.specs.Prelude.{◌≡◌, ◌≤◌, length, IfOk, IfErr, MatchResult};
 ghost use Rattle.regalloc2_parts.specs.Callmoves.CallMoves.{fault_of, with_units, HasNone, NamesNoPlace, IsCallFault, IsProper, IsScheduled};
@@ -17,37 +18,38 @@ use std::error::Error;
 use std::fmt;
 use std::ops::Range;
 
-/// What the moves of a call may use, beside the places that they name.
+/// The scratch resources of a call's moves, beside the places that they name.
 #[derive(Drop)]
 pub struct CallFrame<A: Allocator = Global> {
     /// Registers whose values are not needed. They are handed out from the front.
     pub free_regs: Vec<PReg, A>,
-    /// A register that is used where none is free, and restored.
+    /// A register that is used if none is free, and restored.
     pub borrowed: PReg,
-    /// The registers that stand for stack places: no move goes from stack to stack.
+    /// The registers that represent stack places: no scheduled move goes from stack to stack.
     pub stack_pregs: PRegSet,
     /// Slots whose values are not needed. They are handed out from the start.
     pub slots: Range<usize>,
 }
 
-/// Why the moves of a call could not be scheduled: the first of the first three that applies, else one of the last two.
+/// Why the moves of a call could not be scheduled: the first of the first three variants that
+/// applies, else one of the last two.
 #[derive(Clone, Copy, Debug, PartialEq, Eq)]
 pub enum CallFault {
     /// The index of the first move that names `Allocation::none()`.
     NoneNamed(usize),
     /// The destination of the first move whose destination an earlier move has, with another source.
     TwoSources(Allocation),
-    /// The first place in use that should be free: a free register that a move names, that stands earlier in the list or that stands
-    /// for a stack place; the borrowed register, where it is free or stands for a stack place; the lowest slot of the range
-    /// that a move names.
+    /// The first place in use that should be free: a free register that a move names, that occurs
+    /// earlier in the list or that represents a stack place; the borrowed register, if it is free
+    /// or represents a stack place; the lowest slot of the range that a move names.
     InUse(Allocation),
     /// A slot was needed, and the range had none left.
     NoSlot,
-    /// A growth was refused.
+    /// A memory allocation failed.
     Memory,
 }
 
-/// Says what is wrong, as `move 2 names no place`.
+/// Writes what is wrong, as `move 2 names no place`.
 impl fmt::Display for CallFault {
     fn fmt<W: fmt::Write>(&self, f: &mut fmt::Formatter<W>) -> fmt::Result {
         match self {
@@ -76,7 +78,7 @@ impl From<MoveFault> for CallFault {
     }
 }
 
-/// The moves as moves that are to be made at once.
+/// The moves as parallel moves.
 fn in_parallel<A: Allocator + Copy>(
     alloc: A,
     moves: &[(Allocation, Allocation)],
@@ -92,7 +94,8 @@ fn in_parallel<A: Allocator + Copy>(
     Ok(parallel)
 }
 
-/// The same for moves and a frame without fault. They are made over `&alloc`, whose size is known, and copied.
+/// `schedule` for moves and scratch resources without errors. It orders the moves over `&alloc`,
+/// whose size is known, and copies them.
 fn schedule_proper<A: Allocator + Copy, B: Allocator>(
     alloc: A,
     moves: &[(Allocation, Allocation)],
@@ -109,14 +112,16 @@ fn schedule_proper<A: Allocator + Copy, B: Allocator>(
     Ok(SmallVec::from_slice(alloc, made.moves.as_slice())?)
 }
 
-/// The moves of a call, put in an order in which they can be made one after another as if they were made at once.
+/// Orders the parallel moves of a call so that they can be made one after another.
 ///
-/// A cycle goes through a free register, or else through a slot of the range; a move from stack to stack through a free register, or
-/// else through the borrowed one, which is saved in a slot and restored. The range ends at most at 2^24.
+/// A cycle goes through a free register, or else through a slot of the range; a stack-to-stack move
+/// goes through a free register, or else through the borrowed one, which is saved in a slot and
+/// restored. The range ends at most at 2^24.
 ///
-/// The list comes from `alloc`, and so do the tables that it is made with. A fault of moves or frame is told also where memory runs out.
+/// `alloc` allocates the list and the tables used to make it. An error in the moves or the frame is
+/// reported even if memory runs out.
 ///
-/// The contract leaves open in which order the moves come, and how many they are.
+/// The contract leaves the order and the number of the moves open.
 pub fn schedule<A: Allocator + Copy, B: Allocator>(
     alloc: A,
     moves: &[(Allocation, Allocation)],

@@ -1,4 +1,4 @@
-//! The operands of one instruction, picked by what they do.
+//! The operands of one instruction, selected by what they do.
 
 ghost use Rattle.std.specs.Prelude.{◌≡◌, ◌+◌, ◌-◌, ◌<◌, ◌∷◌, [], IfSome, IfNone, drop, length, slice_index_or};
 ghost use Rattle.std.specs.Iterator.{IsFinite, YieldsFirst, item_count, at_most};
@@ -63,21 +63,21 @@ impl<'a> Operands<'a> {
         self.picked(Pick::Use)
     }
 
-    /// The operands that reuse another one's place, with their indexes.
+    /// The operands that reuse another operand's place, with their indexes.
     pub fn reuse(&self) -> PickedOperands<'a>
         ensures { result ≡ picked is_reuse_operand self.now.0.now }
     {
         self.picked(Pick::Reuse)
     }
 
-    /// The operands that ask for a register by name, with their indexes.
+    /// The operands that are fixed to a register, with their indexes.
     pub fn fixed(&self) -> PickedOperands<'a>
         ensures { result ≡ picked is_fixed_operand self.now.0.now }
     {
         self.picked(Pick::Fixed)
     }
 
-    /// The operands that ask for any register, with their indexes.
+    /// The operands that require any register, with their indexes.
     pub fn any_reg(&self) -> PickedOperands<'a>
         ensures { result ≡ picked is_any_reg_operand self.now.0.now }
     {
@@ -113,7 +113,7 @@ impl<'a> Index<usize> for Operands<'a> {
     }
 }
 
-/// What an operand is picked by.
+/// What an operand is selected by.
 #[derive(Clone, Copy, Debug)]
 enum Pick {
     Def,
@@ -142,7 +142,7 @@ impl Pick {
     }
 }
 
-/// The first index from `from` on whose operand is picked.
+/// The first index from `from` on whose operand is selected.
 #[inline(always)]
 fn next_picked(operands: &[Operand], from: usize, pick: Pick) -> Option<usize>
     ensures none { IfNone result (left_from (accepts pick) from operands.now ≡ []) }
@@ -158,7 +158,7 @@ fn next_picked(operands: &[Operand], from: usize, pick: Pick) -> Option<usize>
     None
 }
 
-/// Picked operands with their indexes, in order: those that are left, seen as their list.
+/// Selected operands with their indexes, in order; specified as the list of those that are left.
 #[derive(Clone, Debug, Drop)]
 pub struct PickedOperands<'a> {
     operands: &'a [Operand],

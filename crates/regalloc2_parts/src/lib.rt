@@ -1,4 +1,5 @@
-//! Parts of the allocator that know nothing of it: move resolvers and scratch places for them, the ring of registers, the list of live vregs, operand filters.
+//! Parts that don't depend on the allocator: move resolvers and their scratch places, the LRU ring
+//! of registers, the list of live vregs, operand filters.
 #![tactic(auto)]
 
 pub mod callmoves;

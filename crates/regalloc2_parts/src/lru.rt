@@ -1,4 +1,4 @@
-//! Registers in the order of their last use.
+//! Registers ordered by their last use: LRU lists.
 
 ghost use Rattle.std.specs.Prelude.{◌≡◌, ◌-◌, ◌∷◌, ◌<◌, ◌≤◌, ◌↔◌, ◌==◌, IsTrue, true, false, IfSome, IfNone, IfOk, IfErr, All, Contains, length};
 ghost use Rattle.std.specs.Prelude.{Bool, Some, not, filter, find, reverse, slice_get, slice_index_or, slice_set, ◌≢◌, [], IsOk};
@@ -17,15 +17,16 @@ use std::ops::Index;
 
 mod nodes;
 
-/// The registers of one class in the order of their last use, seen as their list: the newest first.
+/// The registers of one class ordered by their last use, specified as a list: the most recently
+/// used first.
 ///
-/// No register stands twice in it, and none comes or goes: only the order changes. It is a ring of nodes, one for each
-/// number, that name their neighbours.
+/// Each register occurs once, and none is added or removed: only the order changes. It is a ring of
+/// nodes, one for each number, that name their neighbours.
 #[derive(Debug, Drop)]
 pub struct Lru<A: Allocator = Global> {
     /// A node for each number; none for an empty ring.
     nodes: Vec<LruNode, A>,
-    /// The number of the newest.
+    /// The number of the most recently used register.
     head: u8,
     class: RegClass,
 }
@@ -54,10 +55,11 @@ fn set_of(regs: &[PReg]) -> PRegSet
 }
 
 impl<A: Allocator> Lru<A> {
-    /// The ring of these registers of class `regclass`, the lowest number newest and the highest oldest.
+    /// Returns the ring of these registers of class `regclass`: the lowest number is the most
+    /// recently used, the highest the least.
     ///
-    /// `Memory` where there is no room for them, which no contract can foresee; a ring of none takes no memory, and no
-    /// later call takes any.
+    /// Returns `Memory` if there is no room for them, which no contract can foresee. A ring of no
+    /// registers allocates nothing, and no later call allocates.
     pub fn new(alloc: A, regclass: RegClass, regs: &[PReg]) -> Result<Self, RegAllocError>
         requires { AreDistinctOf regclass regs.now }
         ensures ring { IfOk result (λ ring. IsNewRing regs.now ring) }
@@ -82,9 +84,10 @@ impl<A: Allocator> Lru<A> {
         })
     }
 
-    /// Makes a member the newest; the others keep their order.
+    /// Makes a member the most recently used; the others keep their order.
     ///
-    /// Changes at most six links between nodes. The contract of `poke_node` says so; this one sees the list alone.
+    /// Changes at most six links between nodes, by the contract of `poke_node`; this contract
+    /// covers the list alone.
     #[inline(always)]
     pub fn poke(&mut self, preg: PReg)
         requires { Contains self.old preg }
@@ -95,7 +98,7 @@ impl<A: Allocator> Lru<A> {
         nodes::poke_node(&mut self.nodes, &mut self.head, preg.hw_enc() as u8);
     }
 
-    /// A walk over the members, the oldest first.
+    /// A walk over the members, the least recently used first.
     #[inline(always)]
     fn oldest_first(&self) -> OldestFirst<'_>
         ensures walk { result ≡ reverse self.now }
@@ -108,7 +111,8 @@ impl<A: Allocator> Lru<A> {
         }
     }
 
-    /// The oldest member; `None` for an empty ring. It is what `last` answers for each set that has it, without a search.
+    /// Returns the least recently used member; `None` for an empty ring. It is what `last` returns
+    /// for each set that has this member, without a search.
     #[inline(always)]
     pub fn oldest(&self) -> Option<PReg>
         ensures oldest { result ≡ slice_get self.now (length self.now - 1) }
@@ -120,7 +124,7 @@ impl<A: Allocator> Lru<A> {
         self.oldest_first().next()
     }
 
-    /// The oldest member, which stays in the ring; `None` for an empty ring.
+    /// Returns the least recently used member, which stays in the ring; `None` for an empty ring.
     pub fn pop(&mut self) -> Option<PReg>
         ensures oldest { result ≡ slice_get self.old (length self.old - 1) }
         ensures member { IfSome result (λ r. Contains self.old r) }
@@ -130,7 +134,7 @@ impl<A: Allocator> Lru<A> {
         self.oldest()
     }
 
-    /// The oldest member that is in the set; `None` where no member is.
+    /// Returns the least recently used member that is in the set; `None` if no member is.
     pub fn last(&self, from: PRegSet) -> Option<PReg>
         ensures oldest { result ≡ find (has_register from) (reverse self.now) }
         ensures member { IfSome result (λ r. Contains self.now r) }
@@ -141,8 +145,8 @@ impl<A: Allocator> Lru<A> {
         self.oldest_first().find(|r| from.contains(*r))
     }
 
-    /// The oldest member that `f` accepts; `None` where it accepts none. `f` is asked from the oldest on, and no more
-    /// once it has accepted.
+    /// Returns the least recently used member that `f` accepts; `None` if it accepts none. Calls
+    /// `f` from the least recently used member on, until it accepts one.
     pub fn last_satisfying<F: Fn(PReg) -> bool + Drop>(&self, f: F) -> Option<PReg>
         requires { F.IsAlwaysCallable f }
         ensures oldest { IsOldestAccepted (λ r b. F.post f r b) self.now result }
@@ -207,7 +211,8 @@ impl<T: fmt::Display> fmt::Display for PartedByRegClass<T> {
 pub type Lrus<A = Global> = PartedByRegClass<Lru<A>>;
 
 impl<A: Allocator + Copy> PartedByRegClass<Lru<A>> {
-    /// The rings of the registers of the three classes, each as `Lru::new` makes it, and refused as it refuses.
+    /// Returns the rings of the registers of the three classes, each as `Lru::new` makes it, or its
+    /// error.
     ///
     /// A function that is generic in its allocator makes rings that stay within it over `&alloc`.
     pub fn new(
@@ -236,7 +241,8 @@ impl<A: Allocator + Copy> PartedByRegClass<Lru<A>> {
 }
 
 impl<A: Allocator> PartedByRegClass<Lru<A>> {
-    /// Makes a member of a class's ring its newest, as `Lru::poke` does; the other rings stay.
+    /// Makes a member of a class's ring its most recently used, as `Lru::poke` does; the other
+    /// rings don't change.
     pub fn poke(&mut self, class: RegClass, preg: PReg)
         requires { Contains (ring_of self.old.items class) preg }
         ensures moved { ring_of self.new.items class ≡ preg ∷ filter (λ r. not (is_register preg r)) (ring_of self.old.items class) }
@@ -256,7 +262,7 @@ impl<A: Allocator> PartedByRegClass<Lru<A>> {
         self.items[class as usize].poke(preg);
     }
 
-    /// The oldest member of a class's ring, as `Lru::pop` answers it.
+    /// Returns the least recently used member of a class's ring, as `Lru::pop` does.
     pub fn pop(&mut self, class: RegClass) -> Option<PReg>
         ensures oldest { result ≡ slice_get (ring_of self.old.items class) (length (ring_of self.old.items class) - 1) }
         ensures member { IfSome result (λ r. Contains (ring_of self.old.items class) r) }
@@ -265,7 +271,8 @@ impl<A: Allocator> PartedByRegClass<Lru<A>> {
         self.items[class as usize].pop()
     }
 
-    /// The oldest member of a class's ring that is in the set, as `Lru::last` answers it.
+    /// Returns the least recently used member of a class's ring that is in the set, as `Lru::last`
+    /// does.
     pub fn last(&self, class: RegClass, from: PRegSet) -> Option<PReg>
         ensures oldest { result ≡ find (has_register from) (reverse (ring_of self.now.items class)) }
         ensures member { IfSome result (λ r. Contains (ring_of self.now.items class) r) }

@@ -1,8 +1,8 @@
-//! Moves that are to be made at once, put in an order in which they can be made one after another.
+//! Parallel moves, put in an order in which they can be made one after another.
 //!
-//! The moves of a branch's arguments or of a call's are a parallel assignment: each destination takes what its source held before
-//! any of them. The order is found by a walk from each move to the one that writes what it reads; a cycle is broken through a
-//! scratch place.
+//! The moves of a branch's arguments or of a call's are a parallel assignment: each destination
+//! gets what its source held before any of them. The order is found by a walk from each move to the
+//! one that writes its source; a cycle is broken through a scratch place.
 
 ghost use Rattle.std.specs.Prelude.{◌≡◌, ◌≢◌, ◌↔◌, ◌<◌, ◌≤◌, length, [], ◌∷◌, ◌++◌, IsTrue, IsOk, IfOk, OnOk, OnErr, IfErr, IfSome, IfNone};
 ghost use Rattle.regalloc2_names.specs.Place.{NoPlace};
@@ -22,15 +22,16 @@ use std::error::Error;
 use std::fmt;
 use std::marker::Model;
 
-/// Moves in the order in which they are made: from a place, to a place, with a value of the caller's. 16 of them stand inline.
+/// Moves in the order in which they are made: source, destination and a value of the caller's. Up
+/// to 16 are stored inline.
 pub type MoveVec<T, A = Global> = SmallVec<(Allocation, Allocation, T), 16, A>;
 
 /// Why moves could not be resolved.
 #[derive(Clone, Copy, Debug, PartialEq, Eq)]
 pub enum MoveFault {
-    /// A spill slot was needed, and the resolver's `get_stackslot` answered none.
+    /// A spill slot was needed, and the resolver's `get_stackslot` returned none.
     NoSlot,
-    /// A growth was refused.
+    /// A memory allocation failed.
     Memory,
 }
 
@@ -81,9 +82,9 @@ impl From<MoveFault> for RegAllocError {
     }
 }
 
-/// Moves that are to be made at once, seen as their list in the order in which they were added.
+/// Parallel moves, specified as their list in the order in which they were added.
 ///
-/// The first 16 stand inline and take no memory.
+/// The first 16 are stored inline and allocate nothing.
 #[derive(Drop)]
 pub struct ParallelMoves<T: Drop, A: Allocator = Global> {
     parallel_moves: MoveVec<T, A>,
@@ -101,7 +102,7 @@ impl<T: Drop, A: Allocator> Model for ParallelMoves<T, A> {
     ghost invariant = { λ p. AreReal p.parallel_moves.items × (16 ≤ p.parallel_moves.capacity) };
 }
 
-/// Its word gives a place back: the sort by words rests on this.
+/// A place's encoding gives the place back: the sort by encodings relies on this.
 fn has_word(place: Allocation)
     ensures { IsPlace place }
 {
@@ -111,7 +112,7 @@ fn has_word(place: Allocation)
 impl<T: Copy + Default, A: Allocator + Copy> ParallelMoves<T, A> {
     ghost use Rattle.regalloc2_parts.specs.Resolved.{moves_listed, has_scratch, IsResolution, IsRunnable};
 
-    /// No moves.
+    /// Returns an empty list of moves.
     pub fn new(alloc: A) -> Self
         ensures { result ≡ [] }
     {
@@ -120,7 +121,8 @@ impl<T: Copy + Default, A: Allocator + Copy> ParallelMoves<T, A> {
         }
     }
 
-    /// One move more, from a place to a place. Refused, with `Memory`, only from the 17th on, and then nothing changes.
+    /// Adds a move from a place to a place. Returns `Memory` only from the 17th move on, and then
+    /// nothing changes.
     pub fn add(&mut self, from: Allocation, to: Allocation, t: T) -> Result<(), MoveFault>
         requires from { from ≢ NoPlace }
         requires to { to ≢ NoPlace }
@@ -135,14 +137,15 @@ impl<T: Copy + Default, A: Allocator + Copy> ParallelMoves<T, A> {
         Ok(())
     }
 
-    /// Whether there are none.
+    /// Returns `true` if there are no moves.
     pub fn is_empty(&self) -> bool
         ensures { IsTrue result ↔ (self.now ≡ []) }
     {
         self.parallel_moves.is_empty()
     }
 
-    /// From where to where the one move goes, where there is just one. What it carries is left out.
+    /// Returns source and destination of the one move, if there is just one, without the value it
+    /// carries.
     #[inline(always)]
     pub fn only(&self) -> Option<(Allocation, Allocation)>
         ensures one { IfSome result (λ m. (t : T) × (self.now ≡ (m.0, m.1, t) ∷ [])) }
@@ -155,10 +158,12 @@ impl<T: Copy + Default, A: Allocator + Copy> ParallelMoves<T, A> {
         Some((moves[0].0, moves[0].1))
     }
 
-    /// The moves in an order in which they can be made one after another as if they were made at once. Two moves into one place
-    /// are to be one and the same move. Refused, with `Memory`, where a growth was refused, and never for one move or none.
+    /// Orders the moves so that they can be made one after another as if in parallel.
     ///
-    /// The contract leaves open which order that is, and what a move into the scratch place carries.
+    /// Two moves into one place must be one and the same move. Returns `Memory` if a memory
+    /// allocation fails, never for fewer than two moves.
+    ///
+    /// The contract leaves open the order, and what a move into the scratch place carries.
     pub fn resolve(self) -> Result<MoveVecWithScratch<T, A>, MoveFault>
         requires { HasOneSourceEach (ends_of self) }
         ensures resolved { IfOk result (λ r. IsResolution self (has_scratch r) (moves_listed r)) }

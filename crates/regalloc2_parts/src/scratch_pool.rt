@@ -27,9 +27,9 @@ pub struct ScratchPool {
     pub registers: ScratchPair,
     /// Slots that no move names.
     pub slots: ScratchPair,
-    /// The registers that stand for stack places.
+    /// The registers that represent stack places.
     pub fixed_stack: PRegSet,
-    /// A register that is borrowed where there is no scratch register, and restored.
+    /// A register that is borrowed if there is no scratch register, and restored.
     pub borrowed: PReg,
 }
 
@@ -89,7 +89,7 @@ impl ScratchPair {
         }
     }
 
-    /// How many were handed out where this is the next one.
+    /// How many were handed out if this is the next one.
     fn num_taken(&self, next: Option<Allocation>) -> usize
         ensures there { AreThere self.now result }
         ensures none { result ≡ 0 → (self.now.first ≡ None) ⊎ (next ≡ self.now.first) }
@@ -102,7 +102,7 @@ impl ScratchPair {
     }
 }
 
-/// The moves that a resolver makes, whose closures give these places.
+/// The moves that a resolver makes whose closures return these places.
 fn compute_with_resolver<R, S, M, A: Allocator + Copy>(
     mut resolver: MoveAndScratchResolver<R, S, M>,
     pool: &ScratchPool,

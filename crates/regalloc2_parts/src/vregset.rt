@@ -61,10 +61,11 @@ fn remove_node(nodes: &mut [VRegNode], head: u32, number: u32)
     link(nodes, node.prev, node.next);
 }
 
-/// Vregs with different numbers below a capacity, seen as their list, the newest first.
+/// Vregs with different numbers below a capacity, specified as their list, the last inserted first.
 #[derive(Debug, Drop)]
 pub struct VRegSet<A: Allocator = Global> {
-    /// A node for each number below the capacity, and the head, which stands before the newest and after the oldest.
+    /// A node for each number below the capacity, and the head, which is before the last inserted
+    /// member and after the first inserted one.
     nodes: Vec<VRegNode, A>,
     /// The head's number, which is the capacity.
     head: u32,
@@ -82,9 +83,11 @@ impl<A: Allocator> Model for VRegSet<A> {
 }
 
 impl<A: Allocator> VRegSet<A> {
-    /// An empty list with room for the vregs whose numbers are below `num_vregs`, which is at most 2^30.
+    /// Returns an empty list with room for the vregs whose numbers are below `num_vregs`, which is
+    /// at most 2^30.
     ///
-    /// `Memory` where there is no room for them, which no contract can foresee; no later call takes memory.
+    /// Returns `Memory` if there is no room for them, which no contract can foresee; no later call
+    /// allocates.
     pub fn with_capacity(alloc: A, num_vregs: usize) -> Result<Self, RegAllocError>
         requires { num_vregs ≤ 1073741824 }
         ensures made { IfOk result (λ set. set ≡ record { members = []; capacity = num_vregs }) }
@@ -100,9 +103,10 @@ impl<A: Allocator> VRegSet<A> {
         Ok(VRegSet { nodes, head })
     }
 
-    /// Puts a vreg in front. Its number is below the capacity and no member's.
+    /// Inserts a vreg at the front. Its number is below the capacity and no member's.
     ///
-    /// Changes at most four links between nodes. The contract of `insert_node` says so; this one sees the list alone.
+    /// Changes at most four links between nodes, by the contract of `insert_node`; this contract
+    /// covers the list alone.
     pub fn insert(&mut self, vreg: VReg)
         requires below { vreg.number < self.old.capacity }
         requires absent { All (λ v. v.number ≢ vreg.number) self.old.members }
@@ -112,9 +116,10 @@ impl<A: Allocator> VRegSet<A> {
         insert_node(&mut self.nodes, self.head, vreg);
     }
 
-    /// Takes the member with this number out; the others keep their order.
+    /// Removes the member with this number; the others keep their order.
     ///
-    /// Changes at most two links between nodes. The contract of `remove_node` says so; this one sees the list alone.
+    /// Changes at most two links between nodes, by the contract of `remove_node`; this contract
+    /// covers the list alone.
     pub fn remove(&mut self, vreg_num: usize)
         requires { Any (λ v. v.number ≡ vreg_num) self.old.members }
         ensures removed { self.new ≡ record self.old { members = filter (λ v. not (v.number == vreg_num)) self.old.members } }
@@ -130,7 +135,7 @@ impl<A: Allocator> VRegSet<A> {
         self.nodes[self.head as usize].next == self.head
     }
 
-    /// Walks the members, the newest first.
+    /// Walks the members, the last inserted first.
     pub fn iter(&self) -> VRegSetIter<'_>
         ensures members { result ≡ self.now.members }
         ensures proper { NamesEachOnce self.now.members self.now.capacity }
@@ -143,7 +148,7 @@ impl<A: Allocator> VRegSet<A> {
     }
 }
 
-/// The members that are left of a walk, seen as their list.
+/// The members left in a walk, specified as their list.
 #[derive(Debug, Drop)]
 pub struct VRegSetIter<'a> {
     nodes: &'a [VRegNode],

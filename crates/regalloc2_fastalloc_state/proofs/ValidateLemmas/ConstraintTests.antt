@@ -187,7 +187,7 @@ valid_then env i ops b e each apart = (
   λ s. apart.1 (subst (λ os. AreReusesApart os (length os)) (sym e) (apart_reuses env i s)),
 )
 
--- where the test of single reuses fails, its answer decides the instruction's reuses as a whole: they are not valid
+-- where the test of single reuses fails, its result decides the instruction's reuses as a whole: they are not valid
 pub valid_else : (env : MachineValue) (i : InstValue) (ops : List OperandValue) (b : Bool) → ops ≡ i.operands → b ≡ false →
     (IsTrue b ↔ ((k : ℕ) → k < length ops → IsSoundReuse env ops (op_at ops k)))
     → IsTrue b ↔ ReusesAreSound env i

@@ -57,7 +57,7 @@ IsUnlimited o = (n : ℕ) → o.constraint ≡ Limit n → ⊥
 abbrev pub AreUnlimited : InstValue → Type 0
 AreUnlimited i = (k : ℕ) → k < length i.operands → IsUnlimited (op_at i.operands k)
 
--- the place of an operand under a constraint is known before registers are chosen: a register by name, or memory where need be
+-- the place of an operand under a constraint is known before registers are chosen: a register by name, or a stack place if need be
 abbrev pub IsInPlace : OperandConstraint → Type 0
 IsInPlace Any = Unit {0}
 IsInPlace Reg = ⊥
@@ -84,7 +84,7 @@ abbrev pub IsFixedFault : FunctionValue → MachineValue → RegAllocError → T
 IsFixedFault f env e = (i : ℕ) × (e ≡ Unsupported i) × (IsFirstFailing f (ReusesAreSound env) i
     ⊎ (((j : ℕ) → j < length f.insts → ReusesAreSound env (inst_at f j)) × IsFirstFailing f FixedAvoidClobbers i))
 
--- an instruction that the allocator doesn't take: the first that has a `Limit`, or where none has one, the first branch that
--- defines in any register or by a reuse
+-- an instruction that the allocator rejects: the first that has a `Limit`, or if none has one, the first branch that defines in any register or by a
+-- reuse
 abbrev pub IsUnsupported : FunctionValue → ℕ → Type 0
 IsUnsupported f i = IsFirstFailing f AreUnlimited i ⊎ (((j : ℕ) → j < length f.insts → AreUnlimited (inst_at f j)) × IsFirstFailing f BranchDefinesInPlace i)

@@ -250,7 +250,7 @@ fn has_no_limit<F: Function>(f: &F, inst: Inst) -> bool
     are_unlimited(f.inst_operands(inst))
 }
 
-/// Tests reuses. Else the error is `Unsupported` with the first instruction at fault.
+/// Tests reuses. Else the error is `Unsupported` with the first instruction that fails.
 fn validate_reuses<F: Function, B: Allocator>(
     f: &F,
     env: &MachineEnv<B>,
@@ -267,7 +267,8 @@ fn validate_reuses<F: Function, B: Allocator>(
     Ok(())
 }
 
-/// Tests fixed registers beside clobbers. Else the error is `Unsupported` with the first instruction at fault.
+/// Tests fixed registers beside clobbers. Else the error is `Unsupported` with the first
+/// instruction that fails.
 fn validate_clobbers<F: Function>(f: &F) -> Result<(), RegAllocError>
     ensures ok { IsOk result ↔ ((i : ℕ) → i < length (F.function f.now).insts → FixedAvoidClobbers (inst_at (F.function f.now) i)) }
     ensures first { IfErr result (λ e. (i : ℕ) × (e ≡ RegAllocError.Unsupported i) × IsFirstFailing (F.function f.now) (FixedAvoidClobbers) i) }
@@ -317,7 +318,8 @@ pub fn validate_limits<F: Function>(f: &F) -> Result<(), RegAllocError>
     Ok(())
 }
 
-/// Whether an operand defines nothing, or in a register that it names or in memory where need be.
+/// Whether an operand defines nothing, or defines in a register that it names or in a stack place
+/// if need be.
 fn defines_in_place(operand: Operand) -> bool
     ensures { IsTrue result ↔ DefinesInPlace operand }
 {
@@ -330,7 +332,7 @@ fn defines_in_place(operand: Operand) -> bool
     }
 }
 
-/// Whether each operand does.
+/// Whether all operands do.
 fn define_in_place(operands: &[Operand]) -> bool
     ensures { IsTrue result ↔ ((k : ℕ) → k < length operands.now → DefinesInPlace (op_at operands.now k)) }
 {
@@ -342,7 +344,8 @@ fn define_in_place(operands: &[Operand]) -> bool
     true
 }
 
-/// Whether an instruction is no branch, or defines in registers that it names and in memory alone.
+/// Whether an instruction is no branch, or defines only in registers that it names and in stack
+/// places.
 fn is_sound_branch<F: Function>(f: &F, inst: Inst) -> bool
     requires { inst < length (F.function f.now).insts }
     ensures { IsTrue result ↔ BranchDefinesInPlace (inst_at (F.function f.now) inst) }
@@ -350,12 +353,12 @@ fn is_sound_branch<F: Function>(f: &F, inst: Inst) -> bool
     !f.is_branch(inst) || define_in_place(f.inst_operands(inst))
 }
 
-/// Tests that no branch has a definition in any register or in the place of another operand. Else the first one that has is
-/// refused by `Unsupported`.
+/// Tests that no branch has a definition in any register or in the place of another operand. Else
+/// the error is `Unsupported` with the first branch that has one.
 ///
-/// What a branch defines is stored behind it, at the beginning of each block that it leads to, and blocks are walked before
-/// those that lead to them: so the place has to be known before the branch is allocated. Upstream's fast allocator stops the
-/// program there.
+/// Successors store a branch's definitions at their beginning, and the walk visits a block before
+/// the blocks that lead to it: so the place must be known before the branch is allocated.
+/// Upstream's fast allocator stops the program there.
 pub fn validate_branches<F: Function>(f: &F) -> Result<(), RegAllocError>
     ensures ok { IsOk result ↔ ((i : ℕ) → i < length (F.function f.now).insts → BranchDefinesInPlace (inst_at (F.function f.now) i)) }
     ensures first { IfErr result (λ e. (i : ℕ) × (e ≡ RegAllocError.Unsupported i) × IsFirstFailing (F.function f.now) (BranchDefinesInPlace) i) }

@@ -28,7 +28,7 @@ slot_not p e n is = let no : None ≡ Some n = e ∙ ap slot_of_place is in cc
 pub split_le : (a b : ℕ) → a ≤ b → (a < b) ⊎ (a ≡ b)
 split_le a b le = ⊎_elim (λ l. inl l) (λ h. inr (omega arith)) (cases_lt a b)
 
--- a move of a list without fault is from a place and to one
+-- a move of a list without errors is from a place and to one
 pub move_real : (ms : CallMoves) (k : ℕ) (m : Place × Place) → HasNone (length ms) (NamesNoPlace ms) → k < length ms → m ≡ get_or ms k m →
     (m.0 ≢ NoPlace) × (m.1 ≢ NoPlace)
 move_real ms k m h lt is =

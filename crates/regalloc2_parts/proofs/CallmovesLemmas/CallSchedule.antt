@@ -1,4 +1,4 @@
--- What is made of the moves of a call that have no fault.
+-- The scheduled moves of a call without errors.
 use Rattle.std.proofs.Common.{ℕ, zero, suc, ◌≡◌, ◌≢◌, ◌<◌, ◌≤◌, ◌+◌, Bool, true, false, [], ◌∷◌, length, get_or, Option, None, Some, refl, sym, ap, ◌∙◌}
 use Rattle.std.proofs.Common.{subst, inl, inr, ◌⊎◌, ⊎_elim, arith}
 use Rattle.std.specs.Prelude.{Contains}
@@ -104,7 +104,7 @@ module _ {A : Type 0} (ms : CallMoves) (f : CallFrame A) (l : ScratchPool) (prop
   lent_of p (inl a) = inl (of_registers p a)
   lent_of p (inr a) = inr (of_slots p a)
 
-  -- no move names what is lent
+  -- no move names a scratch resource
   unnamed : (p : Place) → IsLent f p → MovesName ms p → ⊥
   unnamed p (inl (k, lt, e)) named = proper.free.registers k lt (inl (subst (MovesName ms) e named))
   unnamed p (inr (n, low, lt, e)) named = proper.free.slots n lt (low, subst (MovesName ms) e named)
@@ -139,7 +139,7 @@ module _ {A : Type 0} (ms : CallMoves) (f : CallFrame A) (l : ScratchPool) (prop
   elim_none (Some p) h empty = absurd (omega (arith, h.0))
 
   module _ (scratch : Bool) (given : Moves) (resolved : IsResolution (with_units ms) scratch given) where
-    -- a move that was made of the moves names none of the lent places
+    -- a move that was made of the moves names no scratch resource
     spared : (p : Place) → IsLent f p → (m : Place × Place × Unit {0}) → IsOfMoves (with_units ms) m → (m.0 ≢ p) × (m.1 ≢ p)
     spared p a m (inl (aside, n, c, e)) =
         let k = unit_of ms n c in
@@ -153,7 +153,7 @@ module _ {A : Type 0} (ms : CallMoves) (f : CallFrame A) (l : ScratchPool) (prop
     all_spared : (p : Place) → IsLent f p → IsUnnamed p given
     all_spared p a k d lt = spared p a (get_or given k d) (resolved.of_moves k d lt)
 
-    -- what is lent serves the ordered moves: none of them names it
+    -- the scratch resources serve the ordered moves: none of them names one
     pub usable : IsUsableFor l given
     usable = record {
       free = λ p a. let x = lent_of p (inl a) in ((λ e. lent_real p x (sym e)), all_spared p x, no_memory p a);
@@ -178,7 +178,7 @@ module _ {A : Type 0} (ms : CallMoves) (f : CallFrame A) (l : ScratchPool) (prop
     of_pair p taken (inl a) = inl a.0
     of_pair p taken (inr a) = inr a.0
 
-    -- moves that do what the ordered ones do, but for scratch places, do what the call's moves do at once
+    -- moves that do what the ordered ones do, except in scratch places, do what the call's parallel moves do
     pub scheduled : (taken : ℕ) (made : Moves) → IsOrderedWith l taken given made → IsScheduled ms f made
     scheduled taken made with_ = record {
       assigned = λ k lt.
@@ -195,7 +195,7 @@ module _ {A : Type 0} (ms : CallMoves) (f : CallFrame A) (l : ScratchPool) (prop
           (record { apart = λ a b. x.apart (sym a) (sym b); between = x.between });
     }
 
-  -- a fault of the resolver is one of the call
+  -- an error of the resolver is one of the call
   pub fails : (fault : MoveFault) → (fault ≡ NoSlot → HasTooFewSlots l.slots) → IsCallFault ms f (fault_of fault)
   fails NoSlot h = ⊎_elim (λ e. (proper, omega (arith, slot_missing 0 l.slots.first lends.first_slot e)))
       (λ e. (proper, omega (arith, slot_missing 1 l.slots.second lends.second_slot e))) (h refl)

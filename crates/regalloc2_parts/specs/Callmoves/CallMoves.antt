@@ -1,4 +1,4 @@
--- The moves of one call, what may be wrong with them, and what is made of them.
+-- The moves of one call, their errors, and the scheduled moves.
 use Rattle.std.specs.Prelude.{ℕ, ◌≡◌, ◌≢◌, ◌+◌, ◌<◌, ◌≤◌, ◌⊎◌, true, List, map, length, slice_index_or, Option, None, Some}
 use Rattle.std.specs.List.{All}
 use Rattle.regalloc2_names.specs.declared.sets.PRegSet.{PRegSet}
@@ -17,7 +17,7 @@ use Rattle.regalloc2_parts.specs.declared.callmoves.CallFrame.{CallFrame}
 abbrev pub CallMoves : Type 0
 CallMoves = List (Place × Place)
 
--- the same moves, with a value each that says nothing
+-- the same moves, each with an empty value
 abbrev pub with_units : CallMoves → List (Place × Place × Unit {0})
 with_units ms = map (λ m. (m.0, m.1, tt)) ms
 
@@ -58,7 +58,7 @@ MovesName ms p = (k : ℕ) × (k < length ms) × ((source ms k ≡ p) ⊎ (targe
 abbrev pub free_at : {A : Type 0} → CallFrame A → ℕ → Register
 free_at f k = slice_index_or f.free_regs.items k invalid_register
 
--- a register that isn't free: a move names it, it stands earlier in the list, or it stands for a stack place
+-- a register that isn't free: a move names it, it occurs earlier in the list, or it represents a stack place
 abbrev pub IsNotFree : {A : Type 0} → CallMoves → CallFrame A → ℕ → Type 0
 IsNotFree ms f k =
     MovesName ms (InRegister (free_at f k))
@@ -69,7 +69,7 @@ IsNotFree ms f k =
 abbrev pub IsFreeRegister : {A : Type 0} → CallFrame A → Register → Type 0
 IsFreeRegister f r = (k : ℕ) × (k < length f.free_regs.items) × (free_at f k ≡ r)
 
--- the borrowed register is one of the free ones, or stands for a stack place
+-- the borrowed register is one of the free ones, or represents a stack place
 abbrev pub IsBorrowedTaken : {A : Type 0} → CallFrame A → Type 0
 IsBorrowedTaken f = IsFreeRegister f f.borrowed ⊎ (has_register f.stack_pregs f.borrowed ≡ true)
 
@@ -101,13 +101,13 @@ abbrev pub IsFirstInUseOrNone : {A : Type 0} → CallMoves → CallFrame A → O
 IsFirstInUseOrNone ms f None = IsFree ms f
 IsFirstInUseOrNone ms f (Some p) = IsFirstInUse ms f p
 
--- moves and a frame without fault
+-- moves and scratch resources without error
 pub record IsProper {A : Type 0} (ms : CallMoves) (f : CallFrame A) : Type 0 where
   pub named : HasNone (length ms) (NamesNoPlace ms)
   pub one_source : HasNone (length ms) (HasOtherSource ms)
   pub free : IsFree ms f
 
--- what a fault says: of the first three the first that applies, else one of the last two
+-- what an error says: of the first three variants the first that applies, else one of the last two
 abbrev pub IsCallFault : {A : Type 0} → CallMoves → CallFrame A → CallFault → Type 0
 IsCallFault ms f (NoneNamed k) = IsLowest (length ms) (NamesNoPlace ms) k
 IsCallFault ms f (TwoSources p) = HasNone (length ms) (NamesNoPlace ms) × ((k : ℕ) × IsLowest (length ms) (HasOtherSource ms) k × (p ≡ target ms k))
@@ -115,12 +115,12 @@ IsCallFault ms f (InUse p) = HasNone (length ms) (NamesNoPlace ms) × HasNone (l
 IsCallFault ms f NoSlot = IsProper ms f × (f.slots.«end» ≤ f.slots.start + 1)
 IsCallFault ms f Memory = IsProper ms f
 
--- no fault, or the first one
+-- no error, or the first one
 abbrev pub IsFoundOrNone : {A : Type 0} → CallMoves → CallFrame A → Option CallFault → Type 0
 IsFoundOrNone ms f None = IsProper ms f
 IsFoundOrNone ms f (Some e) = IsCallFault ms f e
 
--- a fault of the resolver as one of a call
+-- an error of the resolver as one of a call
 abbrev pub fault_of : MoveFault → CallFault
 fault_of NoMoveSlot = NoSlot
 fault_of NoMemory = Memory
@@ -131,7 +131,7 @@ IsLent f p =
     ((k : ℕ) × (k < length f.free_regs.items) × (p ≡ InRegister (free_at f k)))
     ⊎ ((n : ℕ) × (f.slots.start ≤ n) × (n < f.slots.«end») × (p ≡ InSlot n))
 
--- the free register of that index, and the slot so many after the start of the range, where they are there
+-- the free register of that index, and the slot so many after the start of the range, if they exist
 abbrev pub IsRegisterAt : {A : Type 0} → CallFrame A → ℕ → Option Place → Type 0
 IsRegisterAt f k None = length f.free_regs.items ≤ k
 IsRegisterAt f k (Some p) = (k < length f.free_regs.items) × (p ≡ InRegister (free_at f k))
@@ -154,7 +154,7 @@ pub record IsMove (stack_pregs : PRegSet) (from to : Place) : Type 0 where
   pub apart : is_memory stack_pregs from ≡ true → is_memory stack_pregs to ≡ true → ⊥
   pub between : (from ≢ NoPlace) × (to ≢ NoPlace)
 
--- The moves `made`, one after another, are the moves ms at once, but for free registers and slots.
+-- The moves `made`, one after another, do what the parallel moves ms do, except in free registers and slots.
 pub record IsScheduled {A : Type 0} (ms : CallMoves) (f : CallFrame A) (made : List (Place × Place × Unit {0})) : Type 0 where
   -- each destination has what its source had at first
   pub assigned : (k : ℕ) → k < length ms → in_turn (ends_of made) own_names (target ms k) ≡ source ms k

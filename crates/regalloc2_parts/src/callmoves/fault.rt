@@ -1,4 +1,4 @@
-//! What is wrong with the moves of a call, or with its frame.
+//! The errors in the moves of a call, or in its scratch resources.
 
 ghost use Rattle.std.specs.Prelude.{◌≡◌, ◌≢◌, ◌<◌, ◌≤◌, ◌||◌, true, false, length, ℕ, IfOk, MatchOption};
 ghost use Rattle.regalloc2_names.specs.Place.{NoPlace, InRegister, InSlot, is_place};
@@ -13,10 +13,10 @@ use std::alloc::{AllocError, Allocator};
 use std::collections::HashMap;
 use std::hash::{BuildHasherDefault, FoldHasher};
 
-/// Of so many moves each is held against each other one: no table is made for them.
+/// Up to this many moves are compared pairwise, without a table.
 const FEW: usize = 16;
 
-/// Where a move is from.
+/// The source of a move.
 fn source_at(moves: &[(Allocation, Allocation)], at: usize) -> Allocation
     requires { at < length moves.now }
     ensures { result ≡ source moves.now at }
@@ -24,7 +24,7 @@ fn source_at(moves: &[(Allocation, Allocation)], at: usize) -> Allocation
     moves[at].0
 }
 
-/// Where a move is to.
+/// The destination of a move.
 fn target_at(moves: &[(Allocation, Allocation)], at: usize) -> Allocation
     requires { at < length moves.now }
     ensures { result ≡ target moves.now at }
@@ -79,7 +79,8 @@ fn has_other_source(moves: &[(Allocation, Allocation)], at: usize) -> bool
     false
 }
 
-/// The index of the first move of whose destination an earlier move has another source: each is held against all earlier ones.
+/// The index of the first move whose destination an earlier move has with another source. It
+/// compares each move with all earlier ones.
 fn find_by_pairs(moves: &[(Allocation, Allocation)]) -> Option<usize>
     ensures { IsFirstOrNone (length moves.now) (HasOtherSource moves.now) result }
 {
@@ -91,7 +92,7 @@ fn find_by_pairs(moves: &[(Allocation, Allocation)]) -> Option<usize>
     None
 }
 
-/// The same by a table of destinations, in a time that is linear in their number.
+/// The same by a table of destinations, in time linear in the number of moves.
 fn find_by_table<A: Allocator + Copy>(
     alloc: A,
     moves: &[(Allocation, Allocation)],
@@ -111,7 +112,7 @@ fn find_by_table<A: Allocator + Copy>(
     Ok(None)
 }
 
-/// The same, by a table where that is quicker and gets its memory.
+/// The same, by a table if that is faster and its memory can be allocated.
 fn find_two_sources<A: Allocator + Copy>(
     alloc: A,
     moves: &[(Allocation, Allocation)],
@@ -127,7 +128,7 @@ fn find_two_sources<A: Allocator + Copy>(
     }
 }
 
-/// Puts the place into a set, where it is a register.
+/// Adds the place to a set, if it is a register.
 fn add_place(set: &mut PRegSet, place: Allocation)
     ensures { (r : Register) → has_register set.new r ≡ is_place place (InRegister r) || has_register set.old r }
 {
@@ -182,7 +183,7 @@ fn is_free<A: Allocator>(frame: &CallFrame<A>, preg: PReg) -> bool
     false
 }
 
-/// Whether the borrowed register is free or stands for a stack place.
+/// Whether the borrowed register is free or represents a stack place.
 fn is_borrowed_taken<A: Allocator>(frame: &CallFrame<A>) -> bool
     ensures yes { result ≡ true → IsBorrowedTaken frame.now }
     ensures no { result ≡ false → IsBorrowedTaken frame.now → ⊥ }
@@ -190,7 +191,7 @@ fn is_borrowed_taken<A: Allocator>(frame: &CallFrame<A>) -> bool
     is_free(frame, frame.borrowed) || frame.stack_pregs.contains(frame.borrowed)
 }
 
-/// The number of the place, where it is a slot.
+/// The number of the place, if it is a slot.
 fn slot_number(place: Allocation) -> Option<usize>
     ensures { MatchOption result ((n : ℕ) → place ≢ InSlot n) (λ n. place ≡ InSlot n) }
 {
@@ -200,7 +201,7 @@ fn slot_number(place: Allocation) -> Option<usize>
     }
 }
 
-/// The number, where it is from `start` on and below `lowest`, else `lowest`.
+/// The number, if it is in `start..lowest`, else `lowest`.
 fn lower_number(number: usize, start: usize, lowest: usize) -> usize
     ensures least { result ≤ lowest }
     ensures number { result < lowest → (start ≤ result) × (number ≡ result) }
@@ -213,7 +214,7 @@ fn lower_number(number: usize, start: usize, lowest: usize) -> usize
     }
 }
 
-/// The number of the place where it is a slot from `start` on below `lowest`, else `lowest`.
+/// The number of the place if it is a slot in `start..lowest`, else `lowest`.
 fn lower(place: Allocation, start: usize, lowest: usize) -> usize
     ensures { IsLower place start lowest result }
 {
@@ -223,7 +224,7 @@ fn lower(place: Allocation, start: usize, lowest: usize) -> usize
     }
 }
 
-/// The lowest slot of the range that a move names, or the range's end where there is none.
+/// The lowest slot of the range that a move names, or the range's end if no move names one.
 fn lowest_slot<A: Allocator>(moves: &[(Allocation, Allocation)], frame: &CallFrame<A>) -> usize
     ensures end { result ≤ frame.now.slots.«end» }
     ensures named { result < frame.now.slots.«end» → IsNamedSlot moves.now frame.now result }
@@ -259,7 +260,8 @@ fn find_in_use<A: Allocator>(
     None
 }
 
-/// The first fault of the moves and the frame, if they have one. Two sources are looked for last: only they may take memory.
+/// The first error of the moves and the frame, if any. Two sources are looked for last: only this
+/// search may allocate.
 pub(super) fn find_fault<A: Allocator + Copy, B: Allocator>(
     alloc: A,
     moves: &[(Allocation, Allocation)],

@@ -43,7 +43,7 @@ impl<A: Allocator> CallFrame<A> {
         }
     }
 
-    /// The scratch places for its moves: no more than two registers and two slots are asked for.
+    /// The scratch places for its moves: at most two registers and two slots are needed.
     pub(super) fn scratch_pool(&self) -> ScratchPool
         requires range { self.now.slots.start ≤ self.now.slots.«end» }
         requires small { self.now.slots.«end» ≤ 16777216 }

@@ -28,7 +28,7 @@ fn link(nodes: &mut [LruNode], prev: u8, next: u8)
     nodes[next as usize].prev = prev;
 }
 
-/// Puts a number into a ring, as the oldest.
+/// Adds a number to a ring, as the least recently used.
 pub fn append_node(nodes: &mut [LruNode], head: u8, number: u8)
     requires ring { IsNodeRing nodes.old head }
     requires below { number < length nodes.old }
@@ -42,7 +42,7 @@ pub fn append_node(nodes: &mut [LruNode], head: u8, number: u8)
     link(nodes, number, head);
 }
 
-/// Takes a member that isn't the newest out of a ring.
+/// Removes a member other than the most recently used from a ring.
 fn take_out_node(nodes: &mut [LruNode], head: u8, number: u8)
     requires ring { IsNodeRing nodes.old head }
     requires member { Contains (ring_numbers nodes.old head) number }
@@ -55,7 +55,8 @@ fn take_out_node(nodes: &mut [LruNode], head: u8, number: u8)
     link(nodes, node.prev, node.next);
 }
 
-/// Makes a member that isn't the newest the oldest of a ring; the others keep their order.
+/// Makes a member other than the most recently used the least recently used of a ring; the others
+/// keep their order.
 fn make_oldest(nodes: &mut [LruNode], head: u8, number: u8)
     requires ring { IsNodeRing nodes.old head }
     requires member { Contains (ring_numbers nodes.old head) number }
@@ -68,7 +69,8 @@ fn make_oldest(nodes: &mut [LruNode], head: u8, number: u8)
     append_node(nodes, head, number);
 }
 
-/// Makes any member the newest of a ring, as `poke_node` does, which calls it for those that aren't the oldest.
+/// Makes any member the most recently used of a ring, as `poke_node` does, which calls it for those
+/// that aren't the least recently used.
 #[inline(never)]
 fn poke_younger(nodes: &mut [LruNode], head: &mut u8, number: u8)
     requires ring { IsNodeRing nodes.old head.old }
@@ -84,10 +86,12 @@ fn poke_younger(nodes: &mut [LruNode], head: &mut u8, number: u8)
     *head = number;
 }
 
-/// Makes a member the newest of a ring; the others keep their order. At most six links and the head change.
+/// Makes a member the most recently used of a ring; the others keep their order. At most six links
+/// and the head change.
 ///
-/// For the oldest only the head moves, and no link changes: in a ring the oldest stands right before the newest, so that
-/// it is at its new place already. It is asked for first, and in line, since the oldest is what an allocator mostly takes.
+/// For the least recently used member only the head changes: it is right before the most recently
+/// used one in the ring, and so is already at its new place. This case is tested first, and inline,
+/// because the allocator mostly chooses this member.
 #[inline(always)]
 pub fn poke_node(nodes: &mut [LruNode], head: &mut u8, number: u8)
     requires ring { IsNodeRing nodes.old head.old }
@@ -103,7 +107,7 @@ pub fn poke_node(nodes: &mut [LruNode], head: &mut u8, number: u8)
     poke_younger(nodes, head, number);
 }
 
-/// Makes the ring of a register's number and of those that a walk over a set has left.
+/// Makes the ring of a register's number and of those left in a walk over a set.
 pub fn make_ring(nodes: &mut [LruNode], head: u8, rest: PRegSetIter)
     requires room { length nodes.old ≡ 64 }
     requires below { head < 64 }
@@ -117,7 +121,8 @@ pub fn make_ring(nodes: &mut [LruNode], head: u8, rest: PRegSetIter)
     }
 }
 
-/// The registers of a ring that are left of a walk from the oldest to the newest, seen as their list.
+/// The registers of a ring that are left in a walk from the least to the most recently used,
+/// specified as their list.
 #[derive(Drop)]
 pub struct OldestFirst<'a> {
     nodes: &'a [LruNode],

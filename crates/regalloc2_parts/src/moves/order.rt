@@ -1,13 +1,17 @@
-//! The order in which moves that overlap are made.
+//! The order in which overlapping moves are made.
 //!
-//! A move must come before the one that overwrites its source: call that one its next. A place has one writer, so each move has at
-//! most one next, and following nexts from a move gives a single chain. It ends where no move writes the last source, where the next
-//! was given out already, or where the next is on the chain. In the third case a ring is closed, and it is a simple one: each of its
-//! moves has just its neighbour as next, so no way leads out of a ring, and two rings share no move. A chain that meets itself is the
-//! whole cycle, and no search for strongly connected components is needed.
+//! A move must come before the one that overwrites its source: call that one its next. A place has
+//! one writer, so each move has at most one next, and following nexts from a move gives a single
+//! chain. It ends at a move whose source no move writes, whose next was already emitted, or whose
+//! next is on the chain. In the third case it closes a ring, and a simple one: each of its moves
+//! has just its neighbour as next, so no next leads out of a ring, and two rings share no move. A
+//! chain that meets itself contains the whole cycle, and no search for strongly connected
+//! components is needed.
 //!
-//! A chain is given out from its end to its start, and what was given out is reversed in the end. A ring is broken by a scratch
-//! place: its last move is given out as one from there, and after its first a move to there, from what the last one reads.
+//! A chain is emitted from its end to its start, and the list of emitted moves is reversed at the
+//! end. A ring is broken by a scratch place: its last move is emitted as one from the scratch
+//! place, and a move from the last one's source to the scratch place is emitted after its first
+//! move.
 
 ghost use Rattle.std.specs.Prelude.{◌≡◌, ◌≢◌, ◌↔◌, true, false, ◌+◌, ◌<◌, ◌≤◌, length, reverse, slice_index, [], Contains, EachIndex, IsTrue, IsOk};
 ghost use Rattle.std.specs.Prelude.{ℕ, ◌-◌, IfOk, IfErr, IsFalse, OnOk, slice_index_or};
@@ -26,23 +30,23 @@ use regalloc2_names::Allocation;
 use smallvec::SmallVec;
 use std::alloc::{AllocError, Allocator};
 
-/// Indexes of moves, of which 16 stand inline.
+/// Indexes of moves. Up to 16 are stored inline.
 pub(super) type Indexes<'a, A> = SmallVec<usize, 16, &'a A>;
 
-/// How far a move has come.
+/// The state of a move.
 #[derive(Clone, Copy, Debug, Default, PartialEq, Eq)]
 pub(super) enum State {
-    /// It stands on no chain yet.
+    /// On no chain yet.
     #[default]
     Todo,
-    /// It stands on the chain that is followed.
+    /// On the chain that is followed.
     Pending,
-    /// It was given out.
+    /// Emitted.
     Done,
 }
 
-/// Follows a chain of moves, each by the one that writes what it reads, and answers where it stops: at a move that is no
-/// longer to be done, or past the end.
+/// Follows a chain of moves, each by the one that writes its source, and returns where it stops: at
+/// a move that isn't `Todo`, or past the end.
 fn follow<'a, B: Allocator>(
     start: usize,
     nexts: &[usize],
@@ -66,7 +70,7 @@ fn follow<'a, B: Allocator>(
     Ok(at)
 }
 
-/// Whether a move stands on the chain that is followed. No move past the end does.
+/// Whether a move is on the chain that is followed. No move past the end is.
 fn is_pending(state: &[State], at: usize) -> bool
     ensures yes { result ≡ true → (at < length state.now) × (state_at state.now at ≡ Pending) }
     ensures no { result ≡ false → at < length state.now → state_at state.now at ≢ Pending }
@@ -74,8 +78,9 @@ fn is_pending(state: &[State], at: usize) -> bool
     at < state.len() && matches!(state[at], State::Pending)
 }
 
-/// Opens the ring that a chain closes: its last move is given out as one from no place. Answers that move, which `give_chain`
-/// makes up for once the ring's first move is given out, and the first move; past the end for both where there is no ring.
+/// Opens the ring that a chain closes: emits its last move as one from no place. Returns that move,
+/// whose source `give_chain` saves after the ring's first move, and the first move; past the end
+/// for both if there is no ring.
 fn open_ring<'a, T: Copy + Default, A: Allocator + Copy>(
     moves: &[(Allocation, Allocation, T)],
     nexts: &[usize],
@@ -100,8 +105,9 @@ fn open_ring<'a, T: Copy + Default, A: Allocator + Copy>(
     Ok((last, stop))
 }
 
-/// Gives out the moves of a chain from its end on. Where it holds a ring, given as its last move and its first one, that is down to
-/// the first, and what the last one reads is then put aside; where it holds none, both are past the end.
+/// Emits the moves of a chain from its end on. If the chain closes a ring, given as its last move
+/// and its first one, a move that saves the last one's source follows the first; if there is no
+/// ring, both are past the end.
 fn give_chain<'a, T: Copy + Default, A: Allocator + Copy>(
     moves: &[(Allocation, Allocation, T)],
     nexts: &[usize],
@@ -127,7 +133,7 @@ fn give_chain<'a, T: Copy + Default, A: Allocator + Copy>(
     Ok(())
 }
 
-/// Gives out the chain that begins at a move.
+/// Emits the chain that begins at a move.
 fn give_from<'a, T: Copy + Default, A: Allocator + Copy>(
     moves: &[(Allocation, Allocation, T)],
     nexts: &[usize],
@@ -144,7 +150,7 @@ fn give_from<'a, T: Copy + Default, A: Allocator + Copy>(
     give_chain(moves, nexts, state, chain, given, ring)
 }
 
-/// The moves from the last to the first.
+/// The emitted moves, from the last to the first.
 fn give_all<T: Copy + Default, A: Allocator + Copy>(
     alloc: A,
     moves: &[(Allocation, Allocation, T)],
@@ -171,7 +177,8 @@ fn give_all<T: Copy + Default, A: Allocator + Copy>(
     Ok(given)
 }
 
-/// Whether the word of a place is below those of all destinations, or above them. The moves are sorted by these words.
+/// Whether a place's encoding is below those of all destinations, or above them. The moves are
+/// sorted by these encodings.
 fn is_outside<T: Copy + Default>(moves: &[(Allocation, Allocation, T)], place: Allocation) -> bool
     requires { IsNonDecreasingBy (λ (m : Place × Place × _). bits_of_place m.1) moves.now }
     ensures outside { IsTrue result → (j : ℕ) (d : Place × Place × _) → j < length moves.now →
@@ -188,8 +195,9 @@ fn is_outside<T: Copy + Default>(moves: &[(Allocation, Allocation, T)], place: A
     word < moves[0].1.bits() || moves[end - 1].1.bits() < word
 }
 
-/// The index of the move that writes a place, or past the end where no move does. Slots are numbered as they are made: the slot of
-/// an argument is often above those of all parameters, and then nothing is searched.
+/// The index of the move that writes a place, or past the end if no move does. Slots are numbered
+/// as they are made: the slot of an argument is often above those of all parameters, and then
+/// nothing is searched.
 fn find_writer<T: Copy + Default>(moves: &[(Allocation, Allocation, T)], place: Allocation) -> usize
     requires sorted { IsNonDecreasingBy (λ (m : Place × Place × _). bits_of_place m.1) moves.now }
     requires proper { AreProper (ends_of moves.now) }
@@ -205,7 +213,7 @@ fn find_writer<T: Copy + Default>(moves: &[(Allocation, Allocation, T)], place: 
     }
 }
 
-/// For each move, the index of the one that writes its source, or past the end where no move does.
+/// For each move, the index of the one that writes its source, or past the end if none does.
 fn find_nexts<'a, T: Copy + Default, B: Allocator>(
     alloc: &'a B,
     moves: &[(Allocation, Allocation, T)],
@@ -221,7 +229,7 @@ fn find_nexts<'a, T: Copy + Default, B: Allocator>(
     Ok(nexts)
 }
 
-/// Sorts the moves by the words of their destinations.
+/// Sorts the moves by the encodings of their destinations.
 fn sort_moves<T: Copy + Default, A: Allocator + Copy>(moves: &mut MoveVec<T, A>)
     ensures permutation { IsPermutation moves.old.items moves.new.items }
     ensures sorted { IsNonDecreasingBy (λ (m : Place × Place × _). bits_of_place m.1) moves.new.items }
@@ -241,7 +249,7 @@ fn tidy<T: Copy + Default, A: Allocator + Copy>(moves: &mut MoveVec<T, A>)
     moves.retain(|m| m.0.bits() != m.1.bits());
 }
 
-/// Turns the moves round.
+/// Reverses the moves.
 fn turn_round<T: Copy + Default, A: Allocator + Copy>(moves: &mut MoveVec<T, A>)
     ensures { moves.new.items ≡ reverse moves.old.items }
 {
@@ -256,7 +264,7 @@ fn are_free(nexts: &[usize]) -> bool
     nexts.iter().all(|next| *next >= end)
 }
 
-/// The moves in an order in which they can be made one after another as if they were made at once.
+/// The moves, ordered so that they can be made one after another as if in parallel.
 pub(super) fn resolve<T: Copy + Default, A: Allocator + Copy>(
     mut moves: MoveVec<T, A>,
 ) -> Result<MoveVecWithScratch<T, A>, MoveFault>
@@ -278,7 +286,7 @@ pub(super) fn resolve<T: Copy + Default, A: Allocator + Copy>(
     }
     let mut given = give_all(alloc, moves.as_slice(), nexts.as_slice())?;
     turn_round(&mut given);
-    // each cycle took one move more
+    // each cycle added one move
     if given.len() > moves.len() {
         return Ok(MoveVecWithScratch::Scratch(given));
     }

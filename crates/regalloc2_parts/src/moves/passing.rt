@@ -1,4 +1,4 @@
-//! Moves from stack to stack, made by way of a register.
+//! Stack-to-stack moves, made by way of a register.
 
 ghost use Rattle.std.specs.Prelude.{◌≡◌, ◌≢◌, ◌⊎◌, Contains, IsTrue, IfOk, OnOk};
 ghost use Rattle.regalloc2_names.specs.Place.{Place};
@@ -10,27 +10,28 @@ use super::MoveVec;
 use regalloc2_names::Allocation;
 use std::alloc::{AllocError, Allocator};
 
-/// Where it stands what the moves made so far say is in the register.
+/// Where the value is that the moves made so far put into the register.
 #[derive(Clone, Copy, Debug, PartialEq, Eq)]
 pub(super) enum Held {
-    /// The register is free: no move names it, and what it holds counts for nothing.
+    /// The register is free: no move names it, and its value isn't needed.
     Free,
-    /// In the register alone.
+    /// In the register only.
     InRegister,
-    /// In the register, and in the save slot too.
+    /// In the register and in the save slot.
     InBoth,
-    /// In the save slot alone: the register holds what last went through it.
+    /// In the save slot only: the register holds the last value that went through it.
     InSave,
 }
 
-/// The register by which moves go, and the slot in which what it held is saved. A free register is given in both.
+/// The register that moves go through, and the slot in which its value is saved. For a free
+/// register, both are the register.
 #[derive(Clone, Copy, Debug, PartialEq, Eq)]
 pub(super) struct ScratchReg {
     pub register: Allocation,
     pub save: Allocation,
 }
 
-/// Saves what the register is to hold, unless it is saved.
+/// Saves the value that the register must hold, unless it is saved.
 fn save_first<T: Copy + Default, A: Allocator + Copy>(
     via: &ScratchReg,
     held: Held,
@@ -52,7 +53,7 @@ fn save_first<T: Copy + Default, A: Allocator + Copy>(
     }
 }
 
-/// Has the register hold what the moves say.
+/// Makes the register hold the value that the moves put into it.
 pub(super) fn restore_first<T: Copy + Default, A: Allocator + Copy>(
     via: &ScratchReg,
     held: Held,
@@ -96,7 +97,7 @@ fn pass<T: Copy + Default, A: Allocator + Copy>(
     Ok(after)
 }
 
-/// Makes a move as it is. What it reads is to be there: not in the save slot alone.
+/// Makes a move as it is. Its source must be available: not in the save slot only.
 fn copy<T: Copy + Default, A: Allocator + Copy>(
     m: &(Allocation, Allocation, T),
     via: &ScratchReg,
@@ -116,7 +117,7 @@ fn copy<T: Copy + Default, A: Allocator + Copy>(
     Ok(held)
 }
 
-/// Makes a move, by way of the register where it is one from stack to stack.
+/// Makes a move, by way of the register if it is stack-to-stack.
 pub(super) fn make<T: Copy + Default, A: Allocator + Copy>(
     m: &(Allocation, Allocation, T),
     is_passing: bool,

@@ -9,13 +9,13 @@ use super::MoveVec;
 use regalloc2_names::Allocation;
 use std::alloc::{Allocator, Global};
 
-/// Moves in the order in which they are made. Where they have a cycle, one place is still to be chosen: until then
-/// `Allocation::none()` stands for it.
+/// Moves in the order in which they are made. If they have a cycle, a scratch place is still to be
+/// chosen: until then `Allocation::none()` represents it.
 #[derive(Debug, Drop)]
 pub enum MoveVecWithScratch<T: Drop, A: Allocator = Global> {
     /// No move names `Allocation::none()`.
     NoScratch(MoveVec<T, A>),
-    /// `Allocation::none()` stands for a scratch place, which is written before it is read.
+    /// `Allocation::none()` represents a scratch place, which is written before it is read.
     Scratch(MoveVec<T, A>),
 }
 
@@ -37,9 +37,11 @@ fn fill<T: Copy + Default>(moves: &mut [(Allocation, Allocation, T)], scratch: A
 }
 
 impl<T: Copy + Default, A: Allocator + Copy> MoveVecWithScratch<T, A> {
-    /// The moves with `scratch` in place of `Allocation::none()` where they need a scratch place, else as they are.
+    /// Returns the moves with `scratch` in place of `Allocation::none()` if they need a scratch
+    /// place, else unchanged.
     ///
-    /// `scratch` is to be a place that no move names: then each place but `scratch` ends as before.
+    /// `scratch` should be a place that no move names: then each place but `scratch` ends as
+    /// before.
     pub fn with_scratch(self, scratch: Allocation) -> MoveVec<T, A>
         ensures items { result.items ≡ with_place scratch self }
         ensures real { scratch ≢ NoPlace → IsRunnable self → AreBetweenPlaces result.items }
@@ -55,7 +57,7 @@ impl<T: Copy + Default, A: Allocator + Copy> MoveVecWithScratch<T, A> {
         }
     }
 
-    /// The moves where they need no scratch place, else `None`.
+    /// Returns the moves if they need no scratch place, else `None`.
     pub fn without_scratch(self) -> Option<MoveVec<T, A>>
         ensures { result ≡ unscratched self }
     {
@@ -65,7 +67,7 @@ impl<T: Copy + Default, A: Allocator + Copy> MoveVecWithScratch<T, A> {
         }
     }
 
-    /// Whether the moves need a scratch place.
+    /// Returns `true` if the moves need a scratch place.
     pub fn needs_scratch(&self) -> bool
         ensures { result ≡ has_scratch self.now }
     {

@@ -1,4 +1,4 @@
-//! A scratch place for cycles, and a register for moves from stack to stack.
+//! A scratch place for cycles, and a register for stack-to-stack moves.
 
 ghost use Rattle.std.specs.Prelude.{◌≡◌, ◌⊎◌, true, false, IfOk, IfErr, MatchResult};
 ghost use Rattle.regalloc2_names.specs.Place.{InRegister};
@@ -13,9 +13,9 @@ use regalloc2_names::{Allocation, PReg};
 use smallvec::SmallVec;
 use std::alloc::Allocator;
 
-/// Finds the scratch places that resolved moves need, and a register for those of them that go from stack to stack.
+/// Finds the scratch places that resolved moves need, and a register for the stack-to-stack ones.
 ///
-/// What the three closures owe is said where they are asked, at `compute`.
+/// `compute` says what the three closures must guarantee.
 #[derive(Drop)]
 pub struct MoveAndScratchResolver<GetReg, GetStackSlot, IsStackAlloc>
 where
@@ -23,17 +23,17 @@ where
     GetStackSlot: FnMut() -> Option<Allocation>,
     IsStackAlloc: Fn(Allocation) -> bool,
 {
-    /// Answers a register that is free for the moves, another one at each call, or none.
+    /// Returns a register that is free for the moves, a different one at each call, or none.
     pub find_free_reg: GetReg,
-    /// Answers a spill slot that is free for the moves, another one at each call, or none.
+    /// Returns a spill slot that is free for the moves, a different one at each call, or none.
     pub get_stackslot: GetStackSlot,
-    /// Whether a place is on the stack, so that no move may go from it to another such.
+    /// Whether a place is on the stack. No move may go from one stack place to another.
     pub is_stack_alloc: IsStackAlloc,
-    /// The register that is used where none is free. What the moves leave in it is restored.
+    /// The register that is used if none is free. What the moves leave in it is restored.
     pub borrowed_scratch_reg: PReg,
 }
 
-/// A place that the closures handed out.
+/// A place that the closures returned.
 #[derive(Clone, Copy, Debug, PartialEq, Eq)]
 enum Handed {
     Register(Allocation),
@@ -41,7 +41,8 @@ enum Handed {
 }
 
 impl Handed {
-    /// The register to go through, where this place was handed out: a free register is its own save place, and in a slot the borrowed register is saved.
+    /// The register to go through, for a place that the closures returned: a free register is its
+    /// own save place, and in a slot the borrowed register is saved.
     fn via(self, borrowed: PReg) -> (ScratchReg, Held)
         ensures { IsVia self (InRegister borrowed) result.0 result.1 }
     {
@@ -70,7 +71,7 @@ where
     GetStackSlot: FnMut() -> Option<Allocation>,
     IsStackAlloc: Fn(Allocation) -> bool,
 {
-    /// A free register, or a slot where none is free.
+    /// A free register, or a slot if none is free.
     fn hand_out(&mut self) -> Result<Handed, MoveFault>
         requires registers { GetReg.pre self.old.find_free_reg }
         requires slots { GetStackSlot.pre self.old.get_stackslot }
@@ -90,7 +91,7 @@ where
         }
     }
 
-    /// Whether a move goes from stack to stack.
+    /// Whether a move is stack-to-stack.
     fn is_stack_to_stack(&self, from: Allocation, to: Allocation) -> bool
         requires callable { IsStackAlloc.IsAlwaysCallable self.now.is_stack_alloc }
         ensures both { result ≡ true → IsStackAlloc.post self.now.is_stack_alloc from true × IsStackAlloc.post self.now.is_stack_alloc to true }
@@ -99,7 +100,7 @@ where
         (self.is_stack_alloc)(from) && (self.is_stack_alloc)(to)
     }
 
-    /// Whether one of the moves goes from stack to stack.
+    /// Whether one of the moves is stack-to-stack.
     fn has_stack_to_stack<T: Copy + Default>(&self, moves: &[(Allocation, Allocation, T)]) -> bool
         requires callable { IsStackAlloc.IsAlwaysCallable self.now.is_stack_alloc }
         ensures none { result ≡ false → AreSeenApart (λ p b. IsStackAlloc.post self.now.is_stack_alloc p b) moves.now }
@@ -113,7 +114,7 @@ where
         false
     }
 
-    /// The moves with a scratch place in place of `Allocation::none()`, where they need one.
+    /// The moves with a scratch place in place of `Allocation::none()`, if they need one.
     fn choose_scratch<T: Copy + Default, A: Allocator + Copy>(
         &mut self,
         moves: MoveVecWithScratch<T, A>,
@@ -136,7 +137,7 @@ where
         }
     }
 
-    /// The moves, each of those from stack to stack made by way of a register.
+    /// The moves, each stack-to-stack one made by way of a register.
     fn expand<T: Copy + Default, A: Allocator + Copy>(
         &self,
         alloc: A,
@@ -158,7 +159,7 @@ where
         Ok(out)
     }
 
-    /// `compute`, which leaves the resolver: so a caller learns what states its closures have come to.
+    /// `compute`, but keeps the resolver: a caller can read the states that its closures reached.
     pub fn compute_by_ref<T: Copy + Default, A: Allocator + Copy>(
         &mut self,
         moves: MoveVecWithScratch<T, A>,
@@ -181,19 +182,22 @@ where
         self.expand(*chosen.allocator(), list, &via, first)
     }
 
-    /// The moves with the scratch places that they need, none of them from stack to stack. A cycle goes through a free
-    /// register, or else through a slot; a move from stack to stack goes through a free register, or else through the
-    /// borrowed one, which is saved in a slot and restored.
+    /// Returns the moves with the scratch places that they need, none of them stack-to-stack.
     ///
-    /// `moves` are to be as `ParallelMoves::resolve` gives them: without `Allocation::none()`, or with it written before it is
-    /// read. The closures owe registers and slots that no move names and that all differ; no register, the borrowed one
-    /// neither, is on the stack.
+    /// A cycle goes through a free register, or else through a slot; a stack-to-stack move goes
+    /// through a free register, or else through the borrowed one, which is saved in a slot and
+    /// restored.
     ///
-    /// `find_free_reg` and `get_stackslot` need only bear two calls each, and so are asked at most twice. They are dropped as
-    /// these calls left them, in the resolver that `computed` calls `after`; `compute_by_ref` keeps it.
+    /// `moves` must be as `ParallelMoves::resolve` returns them: without `Allocation::none()`, or
+    /// with it written before it is read. The closures must return registers and slots that no move
+    /// names and that all differ; no register, not even the borrowed one, may be on the stack.
     ///
-    /// Refused with `NoSlot` only where `get_stackslot` answered none, and with `Memory` where a growth was refused.
-    /// The contract leaves open in which order the moves come, and how many they are.
+    /// `find_free_reg` and `get_stackslot` need to allow two calls each only, and are called at
+    /// most twice. They are dropped as these calls left them, in the resolver that `computed` calls
+    /// `after`; `compute_by_ref` keeps it.
+    ///
+    /// Returns `NoSlot` only if `get_stackslot` returned none, and `Memory` if a memory allocation
+    /// fails. The contract leaves the order and the number of the moves open.
     pub fn compute<T: Copy + Default, A: Allocator + Copy>(
         mut self,
         moves: MoveVecWithScratch<T, A>,

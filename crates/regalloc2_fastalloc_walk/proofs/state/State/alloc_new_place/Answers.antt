@@ -39,7 +39,7 @@ returns-clause-outcome g c = slot
     })
     refl
 
--- any register was asked for, and none is free
+-- any register was required, and none is free
 pub returns-then-is_any_register : goal.returns-then-is_any_register
 returns-then-is_any_register g c = record {
   affordable = tt;

@@ -23,7 +23,7 @@ pub returns-then-leaves_enough_regs-clause-suits : goal.returns-then-leaves_enou
 returns-then-leaves_enough_regs-clause-suits g
     c = (sym c.current_alloc-current.ensures.place, c.allocd_within_constraint.ensures.0 c.if-not-allocd_within_constraint.false)
 
--- it has no location, or what is asked isn't met there
+-- it has no location, or its location doesn't meet the requirement
 pub returns-then-is_none-clause-none : goal.returns-then-is_none-clause-none
 returns-then-is_none-clause-none g c = λ any suits.
     let t = tables_of c.args.self.now in
@@ -42,7 +42,7 @@ any_place : (t : StateValue) (p : Place) → p ≢ NoPlace → MeetsRequirement 
 unfolding MeetsRequirement
 any_place t p h = h
 
--- where any place will do, one that it has is refused for being a register
+-- where any place will do, its place is rejected for being a register
 pub returns-then-is_none-clause-leaves : goal.returns-then-is_none-clause-leaves
 returns-then-is_none-clause-leaves g c = λ any there.
     let t = tables_of c.args.self.now in

@@ -8,7 +8,7 @@ use Rattle.regalloc2_fastalloc_walk.specs.StateView.{tables_of}
 use Rattle.regalloc2_fastalloc_walk.proofs.OperandsProcessed.{AreProcessed}
 use Rattle.regalloc2_fastalloc_walk.proofs.state.State.process_operands_at.Given as goal
 
--- the operands before an index are processed, and those that are picked from it on are left
+-- the operands before an index are processed, and those that are selected from it on are left
 abbrev pub invariant-loop-k : goal.invariant-loop-k
 invariant-loop-k g l = record {
   done : (n : ℕ) × (n ≤ length l.cx.operands.now) × (left_from (is_at l.fn.pos) n l.cx.operands.now ≡ l.k-iterator)

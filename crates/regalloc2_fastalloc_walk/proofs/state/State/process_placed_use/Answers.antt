@@ -15,14 +15,14 @@ use Rattle.regalloc2_fastalloc_proofs.specs.InstSteps.{AllocsUse, use_request, a
 use Rattle.regalloc2_fastalloc_walk.specs.StateView.{tables_of}
 use Rattle.regalloc2_fastalloc_walk.proofs.state.State.process_placed_use.Goals as goal
 
--- what a use asks, whatever its place
+-- what a use requires, whatever its place
 parts : (o : OperandValue) (h : Place) →
     record { vreg = o.vreg; requirement = (use_request o h).requirement; positions = positions_of o; is_def = false } ≡ use_request o h
 parts o NoPlace = refl
 parts o (InRegister r) = refl
 parts o (InSlot n) = refl
 
--- a use that asks for a register is requested in that register
+-- a use that requires a register is requested in that register
 placed : (o p : OperandValue) (h : Place) (r : Register) (v : VirtualRegister) (at : Positions) → o ≡ p → (use_request p h).requirement ≡ InPReg r →
     v ≡ o.vreg → at ≡ positions_of o
     → record { vreg = v; requirement = InPReg r; positions = at; is_def = false } ≡ use_request p h

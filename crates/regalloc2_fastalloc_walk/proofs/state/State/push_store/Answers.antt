@@ -23,7 +23,7 @@ returns-then-not-is_stack-clause-outcome g c =
       ap (λ (es : List (ℕ × MoveValue)). record t { edits = es }) c.in_ok-push.ensures.ok,
     )
 
--- from memory
+-- from the stack
 pub returns-clause-outcome : goal.returns-clause-outcome
 unfolding pushed_moves
 returns-clause-outcome g c =

@@ -2,7 +2,7 @@ use Rattle.std.proofs.Common.{◌≡◌, ◌++◌, false, reverse}
 use Rattle.std.specs.Prelude.{All}
 use Rattle.regalloc2_parts.proofs.lru.Lru.last_satisfying.Given as goal
 
--- the registers that came were asked, and none was accepted
+-- the closure was called for the registers so far, and accepted none
 abbrev pub invariant-loop-preg : goal.invariant-loop-preg
 invariant-loop-preg g l = record {
   walk : reverse l.self ≡ l.yielded ++ l.preg-iterator;
