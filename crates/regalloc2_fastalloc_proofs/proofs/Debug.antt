@@ -1,12 +1,12 @@
 -- A debug location's place holds its vreg's value, on every path from a definition to each use.
 -- Read first: `label_shown` in `DebugLocationsHoldValues`, then the halves of `shown`: with a slot, without one.
 -- Depends on regalloc2_fastalloc_proofs (`Walk`, `Safety`, `Slots`), regalloc2_semantics (paths), and kept labels.
--- Main theorem: `label_shown` in `DebugLocationsHoldValues`: a kept label's place is proper, and holds the value. It
+-- Main theorem: `label_shown` in `DebugLocationsHoldValues`: a kept label's place is valid, and holds the value. It
 -- is `shown` in `ShownPlaceHoldsValue`, which has two halves.
 -- With a slot: `left_slot_shows` in `SlotAfterWalk`. Read `IsKeptInSlot` in the specs, then `slot_shows` in
--- `SlotHoldsToUses` (step by step along a path), `defined_shows` in `SlotHoldsDefinedValue` (behind a definition, from
--- `stores` in `DefWithMovesStores`), `entered_shows` in `SlotAtBlockBegin` (where a block begins, from where values
--- are then), and `kept_in_slot` in `MovesLeaveSlot`.
+-- `SlotHoldsToUses` (step by step along a path), `defined_shows` in `SlotHoldsDefinedValue` (after a definition, from
+-- `stores` in `DefWithMovesStores`), `entered_shows` in `SlotAtBlockBegin` (at a block's start, from the places that hold values
+-- there), and `kept_in_slot` in `MovesLeaveSlot`.
 -- Without one: `register_shows` in `OperandPlaceHoldsValue`. Read `IsUnslotted` and `in_stays` in
 -- `LocationWithoutSlot`, then `observed` in `PlaceKeepsValueOverMoves`.
 -- The others are steps of both: of the walk (`UnnamedStaysUnlocated`, `LocatedStaysOrHasSlot`,

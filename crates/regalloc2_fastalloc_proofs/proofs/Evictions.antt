@@ -1,5 +1,5 @@
 -- Registers that an instruction takes are evicted: their vregs go to their slots, and are reloaded after it.
--- Read first: `evicts_vreg_step` in `EvictVReg`, one allocatable register, and `Kept` there: what no eviction changes.
+-- Read first: `evicts_vreg_step` in `EvictVReg` (one allocatable register), and `Kept` there: what no eviction changes.
 -- Depends on `Operands` for the record of an instruction's operands, and on `Moves` for scratch registers.
 -- Main theorem: `ready_evicts_preg` in `EvictKeepsRecord` (`ready_evicts_other_vregs`, where the operand's own vreg may stay): an
 -- eviction keeps the record of the instruction's operands, so the listing still carries each vreg from its location,

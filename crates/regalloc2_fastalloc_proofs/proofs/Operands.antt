@@ -2,7 +2,7 @@
 -- Read first: `BlockTail`, then `Located` and `Owes` in `RecordOverState`, then `Ready` and `Laid` in `RecordOfInst`.
 -- Depends on `Evictions` and `Moves`, and on `RecordSteps` and `AllowedPlaces` of regalloc2_semantics.
 -- Main theorem: `laid_both` in `AllOperands`. Both passes keep the record `Laid`: which operands have claimed a place,
--- which are done, and that the listing behind carries each known vreg from where the record needs it.
+-- which are done, and that the rest of the listing carries each known vreg from where the record needs it.
 -- All files keep the records `Ready` and `Laid`. One operand: `ClaimAndUse` and `ClaimKeepsRecord`, then
 -- `AllocOperand` (it gets a place, `allocs_operand_step`); `FreeDef` and `DefRecord` (a definition ends its vreg,
 -- `frees_alloc_step`); `RecordAfterOperand` joins the two. `UsesAndPlainDefs` and `ReuseDefs` are one step of a pass.

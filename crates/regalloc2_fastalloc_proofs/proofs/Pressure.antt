@@ -1,14 +1,14 @@
--- A walk that runs out of registers stops at an instruction that doesn't fit.
+-- A walk that runs out of registers does so at an instruction that doesn't fit.
 -- Read first: `fits_enough` and `all_wait` in `WaitingOperands`, and `held_ample` in `EnoughAtStart`.
 -- Depends on regalloc2_fastalloc_proofs (relations and `Safety`) and on `Fitting` of regalloc2_function.
 -- Main theorem: `walk_stops` in `OutOfRegs`. Its invariant: `HasEnoughRegs` in the specs, as many registers are free
--- as are needed, and one is kept for moves. What fits leaves a register for each operand that waits
+-- as are needed, and one is reserved for moves. An instruction that fits leaves a register for each operand that waits
 -- (`WaitingOperands`), once fixed registers and clobbers are reserved (`EnoughAtStart`).
 -- Then upwards: `OneRegTaken`, `StepsLeaveEnough` and `EvictionsLeaveEnough` (one step), `ClaimLeavesEnough`,
 -- `FreeRegsCoverWaiting` and `OperandFindsReg` (one operand), `OperandsLeaveEnough` (`processes_operand_pays`), `PassesLeaveEnough`
 -- (`never_late`, `never_early`), `InstFindsRegs` (`never_alloc_inst`), with `FittingInstReserves`, `BranchFindsRegs` and
--- `BlockStartFindsRegs` for the rest of a block. `never_` says that a step doesn't stop, `ample_` that it leaves
--- enough. `StepsKeepMachine` and `WalkKeepsSafe` give what all of them assume.
+-- `BlockStartFindsRegs` for the rest of a block. `never_` says that a step doesn't fail, `ample_` that it leaves
+-- enough. `StepsKeepMachine` and `WalkKeepsSafe` prove what all of them assume.
 pub mod BlockStartFindsRegs
 pub mod EvictionsLeaveEnough
 pub mod InstFindsRegs

@@ -1,4 +1,4 @@
--- What a block's beginning does to the tables.
+-- What the start of a block does to the tables.
 use Rattle.std.specs.Prelude.{ℕ, ◌≡◌, ◌≢◌, ◌+◌, ◌<◌, not, List, length, None, slice_index_or}
 use Rattle.regalloc2_names.specs.Register.{Register, VirtualRegister, no_vreg}
 use Rattle.regalloc2_names.specs.Place.{Place, NoPlace, is_place}
@@ -6,7 +6,7 @@ use Rattle.regalloc2_fastalloc_state.specs.declared.inst_regs.InstRegs.{InstRegs
 use Rattle.regalloc2_fastalloc_state.specs.StateParts.{IsNewest, alloc_of, vreg_of_preg, GetsSpillSlot, SetsAlloc}
 use Rattle.regalloc2_fastalloc_proofs.specs.InstSteps.{StateValue, Outcome, next, no_register, InTurn, SameMachine, IsFresh, EvictPReg, EvictsPReg, AddMoveIf}
 
--- a parameter of the block: it comes in its slot, and has no location before
+-- a parameter of the block: it is in its slot on entry, and has no location before
 pub data ReloadParam (point : ℕ) (v : VirtualRegister) (t : InstRegs) (old : StateValue) : Outcome InstRegs → Type 0 where
   nowhere : {u : InstRegs} {new : StateValue} → alloc_of old.places v.number ≡ NoPlace → u ≡ t → new ≡ old → ReloadParam point v t old (next u new)
   comes : {o : Outcome InstRegs} (s : Place) (m : StateValue) → alloc_of old.places v.number ≢ NoPlace → GetsSpillSlot old.slots m.slots v s →
@@ -27,13 +27,13 @@ abbrev pub ReloadParams : ℕ → List VirtualRegister → InstRegs → StateVal
 ReloadParams point params t old = InTurn (length params) (ReloadsParams point params t old)
     (λ k u m. ReloadParam point (slice_index_or params k no_vreg) u m no_register)
 
--- registers in which a vreg is located are emptied, one after another, the one to which a vreg came last first
+-- the registers that hold vregs are emptied one by one, the last filled first
 pub data ReloadsRegs (point : ℕ) (t : InstRegs) (old : StateValue) : InstRegs → StateValue → Type 0 where
   none_emptied : ReloadsRegs point t old t old
   one_emptied : (r : Register) (u w : InstRegs) (m n : StateValue) → ReloadsRegs point t old u m → IsNewest m.places r → EvictsPReg point r u w m n →
       ReloadsRegs point t old w n
 
--- one can't be emptied, after others
+-- one of them can't be emptied, after others were
 pub record RegsAreNotReloaded (point : ℕ) (t : InstRegs) (old : StateValue) : Type 0 where
   pub register : Register
   pub inst_regs : InstRegs
@@ -45,7 +45,7 @@ abbrev pub ReloadRegs : ℕ → InstRegs → StateValue → Outcome InstRegs →
 ReloadRegs point t old (next u new) = ReloadsRegs point t old u new
 ReloadRegs point t old no_register = RegsAreNotReloaded point t old
 
--- The beginning of a block: its parameters come in their slots, and so does each vreg that is in a register behind.
+-- The start of a block: on entry its parameters are in their slots, and so is each vreg that is in a register after it.
 pub record ReloadsAtBegin (point : ℕ) (params : List VirtualRegister) (old new : StateValue) : Type 0 where
   pub began : InstRegs
   pub begun : InstRegs

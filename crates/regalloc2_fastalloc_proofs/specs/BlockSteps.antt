@@ -14,11 +14,11 @@ use Rattle.regalloc2_fastalloc_proofs.specs.BlockStart.{ReloadsAtBegin, ReloadAt
 use Rattle.regalloc2_fastalloc_proofs.specs.StoreSteps.{StoresBranchDefs, StoreBranchDefs}
 use Rattle.regalloc2_fastalloc_proofs.specs.BranchSteps.{ProcessesBranch, ProcessBranch}
 
--- where the places of an instruction's operands begin: so many operands have the instructions before it
+-- the index where the places of an instruction's operands begin: the number of operands of all instructions before it
 abbrev pub offset_of : FunctionValue → ℕ → ℕ
 offset_of f i = sum_by (λ n. length n.operands) (take i f.insts)
 
--- an instruction is allocated, whose operands' places begin at start among those of all operands
+-- an instruction is allocated; its operands' places begin at index start in the list of all operands' places
 pub record AllocsInstOfAt (i : ℕ) (operands : List OperandValue) (clobbers : PRegSet) (ends : Bool) (start : ℕ) (before_it places : List Place)
     (old new : StateValue) : Type 0 where
   pub blank : List Place
@@ -32,19 +32,19 @@ abbrev pub AllocsInstAt : ℕ → InstValue → ℕ → List Place → List Plac
 AllocsInstAt i inst start before_it places old new =
     AllocsInstOfAt i inst.operands inst.clobbers (ends_block inst) start before_it places old new
 
--- an instruction is allocated, which leaves the registers so
+-- an instruction is allocated, and leaves the given instruction registers
 abbrev pub AllocsInstInto : InstRegs → ℕ → List OperandValue → PRegSet → Bool → ℕ → List Place → List Place → StateValue → StateValue → Type 0
 AllocsInstInto inst_regs i operands clobbers ends start before_it places old new =
     (a : AllocsInstOfAt i operands clobbers ends start before_it places old new) × (a.allocates.ended ≡ inst_regs)
 
--- or it stops, its list of places having none yet
+-- an instruction is allocated or runs out of registers; all places in its list are none at first
 abbrev pub AllocInstAt : ℕ → List OperandValue → PRegSet → Bool → ℕ → List Place → InstRegs → StateValue → Outcome (List Place × InstRegs) → Type 0
 AllocInstAt i operands clobbers ends start before_it t old (next (places, u) new) =
     AllocsInstInto u i operands clobbers ends start before_it places old new
 AllocInstAt i operands clobbers ends start before_it t old no_register = (blank : List Place) × (length blank ≡ length operands)
     × ((k : ℕ) → slice_index_or blank k NoPlace ≡ NoPlace) × AllocInst i operands clobbers ends blank t old no_register
 
--- how many temporary slots an instruction adds, at most: two for each class, where it is a branch
+-- the most temporary slots that an instruction adds: two for each class if it is a branch, else none
 abbrev pub temp_slots_at : FunctionValue → ℕ → ℕ
 temp_slots_at f i = if (inst_at f i).is_branch then 6 else 0
 
@@ -56,7 +56,7 @@ MayBeAllocated f = (env : MachineValue) × IsWellFormed env f
 abbrev pub DefinesBelow : FunctionValue → ℕ → Type 0
 DefinesBelow f n = (v : VirtualRegister) (point : ℕ) → IsDefinedBy f v point → v.number < n
 
--- An instruction of the block b is allocated, and a branch passes its arguments.
+-- An instruction of the block b is allocated; if it is a branch, its arguments are passed.
 pub record AllocsInstInBlock (f : FunctionValue) (b i : ℕ) (before_it places : List Place) (old new : StateValue) : Type 0 where
   pub middle : StateValue
   pub inst_regs : InstRegs
@@ -64,7 +64,7 @@ pub record AllocsInstInBlock (f : FunctionValue) (b i : ℕ) (before_it places :
   pub no_branch : (inst_at f i).is_branch ≡ false → new ≡ middle
   pub branch : (inst_at f i).is_branch ≡ true → ProcessesBranch f b i allocates.allocates.ended inst_regs middle new
 
--- it stops, or the moves of its branch do
+-- the instruction runs out of registers, or the moves of its branch do
 pub data InBlockIsNotAllocated (f : FunctionValue) (b i : ℕ) (before_it : List Place) (old : StateValue) : Type 0 where
   in_inst : (t : InstRegs) → IsFresh t old →
       AllocInstAt i (inst_at f i).operands (inst_at f i).clobbers (ends_block (inst_at f i)) (offset_of f i) before_it t old no_register →
@@ -83,7 +83,7 @@ pub data AllocsBlockInsts (f : FunctionValue) (b : ℕ) (blank : List Place) (ol
       AllocsBlockInsts f b blank old (i + 1) before_it t
       → AllocsInstInBlock f b i before_it places t u → AllocsBlockInsts f b blank old i places u
 
--- an instruction stops, after those behind
+-- an instruction runs out of registers, once those after it are allocated
 pub record InstsAreNotAllocated (f : FunctionValue) (b : ℕ) (blank : List Place) (old : StateValue) : Type 0 where
   pub index : ℕ
   pub places : List Place
@@ -96,13 +96,13 @@ abbrev pub AllocBlock : FunctionValue → ℕ → List Place → StateValue → 
 AllocBlock f b blank old (next places new) = AllocsBlockInsts f b blank old (block_at f b).range.first places new
 AllocBlock f b blank old no_register = InstsAreNotAllocated f b blank old
 
--- The beginning of the block b: its reloads, and before them in the listing what the branch into it defines is stored.
+-- The start of the block b: its reloads, and, listed before them, the stores of what the branch into it defines.
 pub record BeginsBlock (f : FunctionValue) (b : ℕ) (old new : StateValue) : Type 0 where
   pub middle : StateValue
   pub reloads : ReloadsAtBegin (before (block_at f b).range.first) (block_at f b).params old middle
   pub stores : StoresBranchDefs f b middle new
 
--- it stops at its reloads, or then at the stores
+-- it runs out of registers at its reloads, or then at the stores
 pub data BlockIsNotBegun (f : FunctionValue) (b : ℕ) (old : StateValue) : Type 0 where
   at_reloads : ReloadAtBegin (before (block_at f b).range.first) (block_at f b).params old no_register → BlockIsNotBegun f b old
   at_stores : (m : StateValue) → ReloadsAtBegin (before (block_at f b).range.first) (block_at f b).params old m → StoreBranchDefs f b m no_register →
@@ -112,13 +112,13 @@ abbrev pub BeginBlock : FunctionValue → ℕ → StateValue → Outcome (Unit {
 BeginBlock f b old (next x new) = BeginsBlock f b old new
 BeginBlock f b old no_register = BlockIsNotBegun f b old
 
--- The blocks from b on, from the last one down: the instructions of each, then its beginning.
+-- The blocks from b on, the last one first: the instructions of each, then its start.
 pub data AllocsBlocks (f : FunctionValue) (blank : List Place) (old : StateValue) : ℕ → List Place → StateValue → Type 0 where
   all_left : AllocsBlocks f blank old (length f.blocks) blank old
   one_block : (b : ℕ) (before_it places : List Place) (t u w : StateValue) → b < length f.blocks → AllocsBlocks f blank old (b + 1) before_it t
       → AllocsBlockInsts f b before_it t (block_at f b).range.first places u → BeginsBlock f b u w → AllocsBlocks f blank old b places w
 
--- the instructions of one stop, or its beginning does
+-- the instructions of one run out of registers, or its start does
 pub data BlocksAreNotAllocated (f : FunctionValue) (blank : List Place) (old : StateValue) : Type 0 where
   in_block : (b : ℕ) (places : List Place) (m : StateValue) → b < length f.blocks → AllocsBlocks f blank old (b + 1) places m →
       AllocBlock f b places m no_register → BlocksAreNotAllocated f blank old

@@ -22,14 +22,14 @@ use Rattle.regalloc2_fastalloc_state.specs.ScratchPool.{Moves, pushed, HasTooFew
 use Rattle.regalloc2_fastalloc_state.specs.InstRegs.{IsAvailableAt, both_positions}
 use Rattle.regalloc2_fastalloc_proofs.specs.InstSteps.{StateValue, Outcome, next, no_register, InTurn, SameMachine, EvictPReg, EvictsPReg, MayHold}
 
--- the next two slots of a class, where there is room for them
+-- the next two temporary slots of a class, where there is room for them
 pub record AreNextTempSlots (s : SpillSlotsValue) (class : RegClass) (pair : ScratchPair) : Type 0 where
   pub first : (p : Place) → pair.first ≡ Some p → (p ≡ InSlot (later_slot s class 0)) × (later_end s class 0 ≤ most_units)
   pub second : (p : Place) → pair.second ≡ Some p → (p ≡ InSlot (later_slot s class 1)) × (later_end s class 1 ≤ most_units)
   pub short : HasTooFewSlots pair → most_units < later_end s class 1
   pub owned : SlotsHaveOneOwner s
 
--- a scratch register for moves of a class: the one that the machine keeps for moves, or an allocatable one that is free at both positions
+-- a scratch register for moves of a class: the machine's dedicated one, or an allocatable one that is free at both positions
 abbrev pub MayBeScratch : InstRegs → StateValue → RegClass → Register → Type 0
 MayBeScratch inst_regs t class r = (slice_index_or t.dedicated_scratch (class_code class) None ≡ Some r)
     ⊎ (MayHold t class r × IsAvailableAt inst_regs both_positions r)
@@ -37,7 +37,7 @@ MayBeScratch inst_regs t class r = (slice_index_or t.dedicated_scratch (class_co
 abbrev pub IsScratchRegFor : InstRegs → StateValue → RegClass → Place → Type 0
 IsScratchRegFor inst_regs t class p = (r : Register) × (p ≡ InRegister r) × MayBeScratch inst_regs t class r
 
--- no allocatable register, and none that is kept for moves, is on the stack
+-- no allocatable register, and no register reserved for moves, is a fixed stack slot
 pub record RegsAvoidStack (t : StateValue) : Type 0 where
   pub allocatable : (r : Register) → has_register t.allocatable r ≡ true → has_register t.fixed_stack r ≡ false
   pub dedicated_scratch : (class : RegClass) (r : Register) → slice_index_or t.dedicated_scratch (class_code class) None ≡ Some r
@@ -54,22 +54,22 @@ AreBetweenSlots count ms = All (λ m. IsSlotBelow count m.0 × IsSlotBelow count
 abbrev pub IsScratchPlace : InstRegs → StateValue → RegClass → Place → Type 0
 IsScratchPlace inst_regs old class p = IsScratchRegFor inst_regs old class p ⊎ ((k : ℕ) × (p ≡ InSlot k) × (old.slots.count ≤ k))
 
--- a place through which values go: a scratch register or the borrowed one, or a temporary slot, one of the next ones of the class
+-- a place that the moves go through: a scratch register, the borrowed register, or one of the class's next temporary slots
 abbrev pub IsScratchUsed : InstRegs → StateValue → StateValue → RegClass → Place → Type 0
 IsScratchUsed inst_regs old new class p =
     ((r : Register) × (p ≡ InRegister r) × (MayBeScratch inst_regs old class r ⊎ MayHold old class r))
     ⊎ ((k : ℕ) × (p ≡ InSlot k) × (old.slots.count ≤ k) × (k < new.slots.count) × (j : ℕ) × (k ≡ later_slot old.slots class j)
     × (later_end old.slots class j ≤ new.slots.count))
 
--- a move that is made for the given ones
+-- a move that implements the given ones
 pub record IsOrdered (inst_regs : InstRegs) (class : RegClass) (given : Moves) (old new : StateValue) (m : Place × Place × Unit {0}) : Type 0 where
   pub between : (m.0 ≢ NoPlace) × (m.1 ≢ NoPlace)
   pub apart : is_memory old.fixed_stack m.0 ≡ true → is_memory old.fixed_stack m.1 ≡ true → ⊥
   pub source : IsScratchUsed inst_regs old new class m.0 ⊎ ((n : Place × Place × Unit {0}) × Contains given n × (m.0 ≡ n.0))
   pub target : IsScratchUsed inst_regs old new class m.1 ⊎ ((n : Place × Place × Unit {0}) × Contains given n × (m.1 ≡ n.1))
 
--- The moves `made`, one after another, are the given ones of a class at once, but for scratch places. Nothing else changes but how many
--- temporary slots there are, two at most.
+-- The moves `made`, run one after another, do what the given parallel moves of a class do, but for scratch places. All else stays but the
+-- number of temporary slots, which grows by two at most.
 pub record OrdersMoves (inst_regs : InstRegs) (class : RegClass) (given made : Moves) (old new : StateValue) : Type 0 where
   pub places : new.places ≡ old.places
   pub edits : new.edits ≡ old.edits
@@ -85,14 +85,14 @@ pub record OrdersMoves (inst_regs : InstRegs) (class : RegClass) (given made : M
   pub each : All (IsOrdered inst_regs class given old new) made
   pub idle : given ≡ [] → (made ≡ []) × (new ≡ old)
 
--- they are pushed at a point, so that they are listed in their order before all others
+-- the moves are pushed at a point, and are listed there in their order before all others
 pub record Pushes (point : ℕ) (inst_regs : InstRegs) (class : RegClass) (given : Moves) (old new : StateValue) : Type 0 where
   pub made : Moves
   pub middle : StateValue
   pub orders : OrdersMoves inst_regs class given made old middle
   pub pushes : new ≡ record middle { edits = middle.edits ++ pushed point made }
 
--- there are moves, and no register of their class is allocatable
+-- there are moves, but no register of their class is allocatable
 abbrev pub LacksMoveReg : RegClass → Moves → StateValue → Type 0
 LacksMoveReg class given old = (given ≢ []) × NoneIsFrom old.allocatable class 0
 
@@ -104,7 +104,7 @@ abbrev pub PushMoves : ℕ → InstRegs → RegClass → Moves → StateValue �
 PushMoves point inst_regs class given old (next x new) = Pushes point inst_regs class given old new
 PushMoves point inst_regs class given old no_register = LacksMoveReg class given old
 
--- an argument is in its slot s from now on, and is moved from there to the register where it was awaited
+-- an argument has its slot s as current location, and is moved from there to the register where it is expected
 pub data SpillsArgument (point : ℕ) (a : VirtualRegister) (s : Place) (t u : InstRegs) (old new : StateValue) : Type 0 where
   from_register : (r : Register) (m : StateValue) → alloc_of old.places a.number ≡ InRegister r → GetsSpillSlot old.slots m.slots a s → m.places ≡ old.places →
       m.edits ≡ old.edits → SameMachine old m → m.lrus ≡ old.lrus
@@ -113,7 +113,7 @@ pub data SpillsArgument (point : ℕ) (a : VirtualRegister) (s : Place) (t u : I
       new.edits ≡ old.edits → SameMachine old new → new.lrus ≡ old.lrus → u ≡ t
       → SpillsArgument point a s t u old new
 
--- the register where it was awaited can't be emptied
+-- the register where it is expected can't be emptied
 pub record ArgumentIsNotSpilled (point : ℕ) (t : InstRegs) (old : StateValue) : Type 0 where
   pub register : Register
   pub middle : StateValue
@@ -138,7 +138,7 @@ is_class Float Float = true
 is_class Vector Vector = true
 is_class c d = false
 
--- those of one class
+-- the moves of one class
 unfoldable pub of_class : RegClass → List ClassMove → Moves
 of_class c [] = []
 of_class c (g ∷ gs) = if is_class c g.class then (g.from, g.to, tt) ∷ of_class c gs else of_class c gs
@@ -147,8 +147,8 @@ of_class c (g ∷ gs) = if is_class c g.class then (g.from, g.to, tt) ∷ of_cla
 abbrev pub IsOwnDef : FunctionValue → ℕ → VirtualRegister → Type 0
 IsOwnDef f b v = (j : ℕ) × DefinesNumber (inst_at f (last_of (block_at f b))).operands v.number j
 
--- The first n parameters of an edge with their arguments: each parameter's slot is made, then the argument is spilled, and its value is to go from slot to
--- slot. Nothing is done for arguments that the branch defines itself.
+-- The first n parameters of an edge with their arguments: each parameter's slot is made, the argument is spilled, and a slot-to-slot move is
+-- gathered. Nothing is done for arguments that the branch defines itself.
 pub data GathersEdgeMoves (Own : VirtualRegister → Type 0) (point : ℕ) (params arguments : List VirtualRegister) (t : InstRegs) (old : StateValue)
     (before_it : List ClassMove) : ℕ → InstRegs →
     StateValue → List ClassMove → Type 0 where
@@ -169,7 +169,7 @@ GatherEdge Own point params arguments t old before_it = InTurn (length params)
     (λ k g m. GathersEdgeMoves Own point params arguments t old before_it k g.0 m g.1)
     (λ k g m. (n : StateValue) × (n.places ≡ m.places) × SameMachine m n × SpillArgument point (slice_index_or arguments k no_vreg) g.0 n no_register)
 
--- those of the first k edges out of the block b
+-- the moves of the first k edges out of the block b
 pub data GathersMoves (f : FunctionValue) (b point : ℕ) (t : InstRegs) (old : StateValue) : ℕ → InstRegs → StateValue → List ClassMove → Type 0 where
   no_edge : GathersMoves f b point t old 0 t old []
   one_edge : (k : ℕ) (given more : List ClassMove) (u w : InstRegs) (m n : StateValue) → k < length (block_at f b).succs
@@ -183,7 +183,7 @@ abbrev pub GatherMoves : FunctionValue → ℕ → ℕ → InstRegs → StateVal
 GatherMoves f b point t old = InTurn (length (block_at f b).succs) (λ k g m. GathersMoves f b point t old k g.0 m g.1)
     (λ k g m. GatherEdge (IsOwnDef f b) point (block_at f (target_at f b k)).params (arguments_at f b k) g.0 m g.1 no_register)
 
--- a branch at the end of the block b passes its arguments: all are spilled, then the moves of each class are pushed
+-- the branch at the end of the block b passes its arguments: all are spilled, then the moves of each class are pushed
 pub record ProcessesBranch (f : FunctionValue) (b i : ℕ) (t u : InstRegs) (old new : StateValue) : Type 0 where
   pub given : List ClassMove
   pub gathered : StateValue
@@ -205,30 +205,30 @@ abbrev pub ProcessBranch : FunctionValue → ℕ → ℕ → InstRegs → StateV
 ProcessBranch f b i t old (next u new) = ProcessesBranch f b i t u old new
 ProcessBranch f b i t old no_register = BranchIsNotProcessed f b i t old
 
--- the moves of each class, gathered apart
+-- the gathered moves, by class
 pub record AreOf (ints floats vectors : Moves) (given : List ClassMove) : Type 0 where
   pub int : ints ≡ of_class Int given
   pub float : floats ≡ of_class Float given
   pub vector : vectors ≡ of_class Vector given
 
--- all of these are vregs of the tables
+-- all of these vregs are in the tables
 abbrev pub AreVRegsInTables : List VirtualRegister → StateValue → Type 0
 AreVRegsInTables vs t = All (λ v. v.number < length t.places.vreg_allocs) vs
 
--- the parameters of all edges out of a block are distinct by their numbers
+-- the parameters of all edges out of a block have distinct numbers
 abbrev pub ParametersDiffer : FunctionValue → ℕ → Type 0
 ParametersDiffer f b = (k l i j : ℕ) → HasEdge f b k → HasEdge f b l → (let ps : List VirtualRegister = (block_at f (target_at f b k)).params in
     let qs : List VirtualRegister = (block_at f (target_at f b l)).params in
     i < length ps → j < length qs → (slice_index_or ps i no_vreg).number ≡ (slice_index_or qs j no_vreg).number → (k ≡ l) × (i ≡ j))
 
--- a block whose branch may pass its arguments: edges lead to blocks, each with as many arguments as parameters, which are all known
+-- a block whose branch may pass its arguments: its edges lead to blocks, with as many arguments as parameters, all of them known
 pub record MayBranch (f : FunctionValue) (b : ℕ) (t : StateValue) : Type 0 where
   pub targets : (k : ℕ) → HasEdge f b k → target_at f b k < length f.blocks
   pub counted : (k : ℕ) → HasEdge f b k → length (arguments_at f b k) ≡ length (block_at f (target_at f b k)).params
   pub parameters : (k : ℕ) → HasEdge f b k → AreVRegsInTables (block_at f (target_at f b k)).params t
   pub arguments : (k : ℕ) → HasEdge f b k → AreVRegsInTables (arguments_at f b k) t
 
--- the machine's registers stay, and so do the sizes of slots and the number of vregs; so many temporary slots more are added at most
+-- the machine's registers, the slot sizes and the number of vregs stay; at most `more` temporary slots are added
 pub record AddsTempSlotsAtMost (more : ℕ) (old new : StateValue) : Type 0 where
   pub allocatable : new.allocatable ≡ old.allocatable
   pub fixed_stack : new.fixed_stack ≡ old.fixed_stack
@@ -250,7 +250,7 @@ PushAllClasses point inst_regs ints floats vectors old (next x new) = PushesAllC
 PushAllClasses point inst_regs ints floats vectors old no_register =
     LacksMoveReg Int ints old ⊎ (LacksMoveReg Float floats old ⊎ LacksMoveReg Vector vectors old)
 
--- moves that may be made at once: between slots below a count, two into one place from one
+-- valid parallel moves: between slots below a count, and two moves into one place have one source
 pub record MayBeParallel (count : ℕ) (ms : Moves) : Type 0 where
   pub ends : AreBetweenSlots count ms
   pub one_source : HasOneSourceEach (ends_of ms)

@@ -1,4 +1,4 @@
--- What an output does with one vreg's spill slot, and the place that debug locations name for a vreg.
+-- How an output uses one vreg's spill slot, and the place that debug locations name for a vreg.
 -- Read first: `IsKeptInSlot` in `SlotHoldsValue`; then `SlotWrites`, the moves that write the slot, and `ShownPlace`.
 -- Depends on regalloc2_function (paths and debug points) and on the listings of regalloc2_semantics.
 pub mod SlotHoldsValue

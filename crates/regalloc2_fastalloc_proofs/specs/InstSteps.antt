@@ -1,6 +1,6 @@
--- What the steps of the walk do to the tables, with operands of every kind but `Limit`.
--- A relation with the name of a function of the walk, as `AddMove`, is between a state and what that comes to: the next state, or that a register is
--- missing. In the third person, as `AddsMove`, it is the part with a next state.
+-- What the steps of the walk do to the tables, for operands under every constraint but `Limit`.
+-- A relation named after a function of the walk, such as `AddMove`, relates a state to its outcome: the next state, or an error because a register is
+-- missing. In the third person, such as `AddsMove`, it is the case with a next state.
 use Rattle.std.specs.Prelude.{ℕ, ◌≡◌, ◌≢◌, ◌+◌, ◌<◌, ◌⊎◌, Bool, true, false, not, ◌&&◌, ◌||◌, List, [], ◌∷◌, ◌++◌, length, Option, None, Some}
 use Rattle.std.specs.Prelude.{slice_index, slice_index_or, slice_set, ◌-◌, ◌≤◌, nat_eq, is_none, filter, if◌then◌else◌}
 use Rattle.regalloc2_names.specs.declared.RegClass.{RegClass}
@@ -27,8 +27,8 @@ use Rattle.regalloc2_fastalloc_state.specs.declared.request.Requirement.{Require
 use Rattle.regalloc2_fastalloc_state.specs.declared.request.Requirement.TheVariants.{AnyPlace, AnyReg, InMemory, InPReg}
 use Rattle.regalloc2_fastalloc_state.specs.declared.request.OperandRequest.{OperandRequest}
 
--- the tables of the walk; the moves in the order in which they were pushed; the machine's registers, and for each class the order in which its allocatable
--- ones were used, the newest first
+-- the tables of the walk; the moves in the order in which they were pushed; the machine's registers; and for each class its allocatable registers, the
+-- most recently used first
 pub record StateValue : Type 0 where
   pub places : VRegAllocsValue
   pub slots : SpillSlotsValue
@@ -38,11 +38,11 @@ pub record StateValue : Type 0 where
   pub dedicated_scratch : List (Option Register)
   pub lrus : List (List Register)
 
--- the registers of a class, in the order in which they were used
+-- the registers of a class, the most recently used first
 abbrev pub order_of : StateValue → RegClass → List Register
 order_of t class = slice_index_or t.lrus (class_code class) []
 
--- the machine's registers stay, and so do the sizes of slots, the number of vregs, and how many temporary slots there are
+-- the machine's registers, the slot sizes, the number of vregs and the number of temporary slots stay
 pub record SameMachine (old new : StateValue) : Type 0 where
   pub allocatable : new.allocatable ≡ old.allocatable
   pub fixed_stack : new.fixed_stack ≡ old.fixed_stack
@@ -51,12 +51,12 @@ pub record SameMachine (old new : StateValue) : Type 0 where
   pub vregs : length new.slots.vreg_spillslots ≡ length old.slots.vreg_spillslots
   pub num_temp_slots : new.slots.num_temp_slots ≡ old.slots.num_temp_slots
 
--- What a step comes to: what it gives and the next state, or, where a register is missing, neither.
+-- The outcome of a step: its result and the next state, or, if a register is missing, neither.
 pub data Outcome (Given : Type 0) : Type 0 where
   next : Given → StateValue → Outcome Given
   no_register : Outcome Given
 
--- the steps before the one at an index are done, and that one lacks a register
+-- the steps before the one at an index are done, and that step lacks a register
 pub record StopsAt {Given : Type 0} (count : ℕ) (Done : ℕ → Given → StateValue → Type 0) (Stops : ℕ → Given → StateValue → Type 0) : Type 0 where
   pub index : ℕ
   pub given : Given
@@ -65,12 +65,12 @@ pub record StopsAt {Given : Type 0} (count : ℕ) (Done : ℕ → Given → Stat
   pub done : Done index given middle
   pub stops : Stops index given middle
 
--- so many steps, one after another: all are done, or one of them lacks a register
+-- a number of steps, one after another: all are done, or one of them lacks a register
 abbrev pub InTurn : {Given : Type 0} → ℕ → (ℕ → Given → StateValue → Type 0) → (ℕ → Given → StateValue → Type 0) → Outcome Given → Type 0
 InTurn count Done Stops (next given new) = Done count given new
 InTurn count Done Stops no_register = StopsAt count Done Stops
 
--- registers may have been used, and nothing else changes
+-- at most the order in which registers were used changes
 abbrev pub SameButOrder : StateValue → StateValue → Type 0
 SameButOrder old new = new ≡ record old { lrus = new.lrus }
 
@@ -88,19 +88,19 @@ pub record MayHold (t : StateValue) (class : RegClass) (r : Register) : Type 0 w
   pub small : r.number < 64
   pub allocatable : has_register t.allocatable r ≡ true
 
--- an allocatable register is emptied: the vreg that is there is in its slot from now on, and is reloaded from there at the point
+-- an allocatable register is emptied: its vreg's current location becomes its slot, and the vreg is reloaded from there at the point
 pub data EvictsVReg (point : ℕ) (r : Register) (old new : StateValue) : Type 0 where
   nobody : vreg_of_preg old.places r ≡ None → new ≡ old → EvictsVReg point r old new
   moved : (v : VirtualRegister) (s : Place) → r.number < 64 → vreg_of_preg old.places r ≡ Some v → GetsSpillSlot old.slots new.slots v s →
       SetsAlloc old.places new.places v s
       → new.edits ≡ old.edits ++ a_move point s (InRegister r) ∷ [] → SameMachine old new → new.lrus ≡ old.lrus → EvictsVReg point r old new
 
--- which takes no other register
+-- which never fails: it takes no other register
 abbrev pub EvictVReg : ℕ → Register → StateValue → Outcome (Unit {0}) → Type 0
 EvictVReg point r old (next x new) = EvictsVReg point r old new
 EvictVReg point r old no_register = ⊥
 
--- the register through which moves of a class from stack to stack go at an instruction
+-- the scratch register for the stack-to-stack moves of a class at an instruction
 pub data AllocsScratchReg (point : ℕ) (class : RegClass) (t u : InstRegs) (by : Register) (old new : StateValue) : Type 0 where
   dedicated_scratch : slice_index_or old.dedicated_scratch (class_code class) None ≡ Some by → u ≡ t → new ≡ old → AllocsScratchReg point class t u by old new
   had : slice_index_or old.dedicated_scratch (class_code class) None ≡ None → slice_index_or t.scratch (class_code class) None ≡ Some by → u ≡ t → new ≡ old →
@@ -115,7 +115,7 @@ pub data AllocsScratchReg (point : ℕ) (class : RegClass) (t u : InstRegs) (by 
 abbrev pub NoneIsAvailable : RegClass → InstRegs → StateValue → Type 0
 NoneIsAvailable class t old = (r : Register) → MayHold old class r → is_free_throughout t r ≡ true → ⊥
 
--- none is kept for moves of a class or was taken for them, and none is free
+-- no register is reserved for moves of a class or was taken for them, and none is free
 pub record LacksScratchReg (class : RegClass) (t : InstRegs) (old : StateValue) : Type 0 where
   pub none_kept : slice_index_or old.dedicated_scratch (class_code class) None ≡ None
   pub none_taken : slice_index_or t.scratch (class_code class) None ≡ None
@@ -125,7 +125,7 @@ abbrev pub AllocScratchReg : ℕ → RegClass → InstRegs → StateValue → Ou
 AllocScratchReg point class t old (next (by, u) new) = AllocsScratchReg point class t u by old new
 AllocScratchReg point class t old no_register = LacksScratchReg class t old
 
--- one more move, listed before all others, by way of a register where both ends are stack places
+-- one more move, listed before all others, through a register if both ends are stack places
 pub data AddMove (point : ℕ) (class : RegClass) (from to : Place) (t : InstRegs) (old : StateValue) : Outcome InstRegs → Type 0 where
   direct : {u : InstRegs} {new : StateValue} → (is_stack_in old from && is_stack_in old to) ≡ false → u ≡ t →
       new ≡ record old { edits = old.edits ++ a_move point from to ∷ [] } → AddMove point class from to t old (next u new)
@@ -148,7 +148,7 @@ pub data EvictPReg (point : ℕ) (r : Register) (t : InstRegs) (old : StateValue
 abbrev pub EvictsPReg : ℕ → Register → InstRegs → InstRegs → StateValue → StateValue → Type 0
 EvictsPReg point r t u old new = EvictPReg point r t old (next u new)
 
--- and of all vregs but that of one number
+-- a register or fixed stack slot is emptied of all vregs but that of one number
 pub data EvictOtherVRegs (point : ℕ) (r : Register) (v : VirtualRegister) (t : InstRegs) (old : StateValue) : Outcome InstRegs → Type 0 where
   own : {u : InstRegs} {new : StateValue} (w : VirtualRegister) → vreg_of_preg old.places r ≡ Some w → w.number ≡ v.number → u ≡ t → new ≡ old →
       EvictOtherVRegs point r v t old (next u new)
@@ -158,15 +158,15 @@ pub data EvictOtherVRegs (point : ℕ) (r : Register) (v : VirtualRegister) (t :
 abbrev pub EvictsOtherVRegs : ℕ → Register → VirtualRegister → InstRegs → InstRegs → StateValue → StateValue → Type 0
 EvictsOtherVRegs point r v t u old new = EvictOtherVRegs point r v t old (next u new)
 
--- a place meets what is asked
+-- a place meets the requirement
 unfoldable pub MeetsRequirement : StateValue → Requirement → Place → Type 0
 MeetsRequirement t AnyPlace p = p ≢ NoPlace
 MeetsRequirement t AnyReg p = (r : Register) × (p ≡ InRegister r) × (is_stack_in t p ≡ false)
 MeetsRequirement t InMemory p = is_stack_in t p ≡ true
 MeetsRequirement t (InPReg r) p = p ≡ InRegister r
 
--- The place of an operand, before it is claimed: where its vreg is located; or the register that it asks for; or its slot; or of the
--- registers that are free the one that is chosen, but where any register will do only if its vreg is in none.
+-- The place of an operand, before it is claimed: its vreg's current location; or the register that it requires; or its slot; or the one chosen of
+-- the free registers, where any register will do only if its vreg is in none.
 pub data SelectsPlace (inst_regs : InstRegs) (o : OperandRequest) (p : Place) (old new : StateValue) : Type 0 where
   stays : alloc_of old.places o.vreg.number ≡ p → MeetsRequirement old o.requirement p → new ≡ old → SelectsPlace inst_regs o p old new
   fixed : (r : Register) → o.requirement ≡ InPReg r → p ≡ InRegister r → new ≡ old → SelectsPlace inst_regs o p old new
@@ -177,53 +177,53 @@ pub data SelectsPlace (inst_regs : InstRegs) (o : OperandRequest) (p : Place) (o
       IsAvailableAt inst_regs o.positions r → chosen (is_available_at inst_regs o.positions) (order_of old o.vreg.class) ≡ Some r → p ≡ InRegister r →
       new ≡ old → SelectsPlace inst_regs o p old new
 
--- or there is none: any register was asked for, and none is free
+-- the operand has a place, or none: any register is required, and none is free
 abbrev pub SelectPlace : InstRegs → OperandRequest → StateValue → Outcome Place → Type 0
 SelectPlace t o old (next p new) = SelectsPlace t o p old new
 SelectPlace t o old no_register = (o.requirement ≡ AnyReg) × NoneIsAvailable o.vreg.class t old
 
--- how many registers of a class are still kept for a move from stack to stack: none once one was taken for such moves
+-- how many registers of a class are still reserved for a stack-to-stack move: none once one was taken for such moves
 abbrev pub scratch_reserve_left : PRegSet → List (Option Register) → InstRegs → RegClass → ℕ
 scratch_reserve_left stack kept inst_regs class = if needs_scratch_reserve stack kept class && is_none
     (slice_index_or inst_regs.scratch (class_code class) None) then 1 else 0
 
--- if a register that is free at both positions is taken, enough are left for the operands that ask for any register and for a move from stack to stack
+-- if a register that is free at both positions is taken, enough are left for the operands that require any register and for a stack-to-stack move
 abbrev pub IsAffordable : InstRegs → StateValue → Register → Type 0
 IsAffordable inst_regs t r = is_free t.allocatable inst_regs r ≡ true →
     awaited_of inst_regs r.class + scratch_reserve_left t.fixed_stack t.dedicated_scratch inst_regs r.class + 1 ≤ free_count t.allocatable inst_regs r.class
 
--- how many operands of each class still ask for any register, once one that asked so is placed
+-- how many operands of each class still need a register, once one of them under this requirement is placed
 abbrev pub awaited_less : Requirement → RegClass → List ℕ → List ℕ
 awaited_less AnyPlace class awaited = awaited
 awaited_less AnyReg class awaited = slice_set awaited (class_code class) (slice_index awaited (class_code class) - 1)
 awaited_less InMemory class awaited = awaited
 awaited_less (InPReg r) class awaited = awaited
 
--- a place is claimed: a register is emptied of others, and is held
+-- a place is claimed: a register is emptied of other vregs, and is held
 pub data ClaimsPlace (point : ℕ) (o : OperandRequest) (p : Place) (t u : InstRegs) (old new : StateValue) : Type 0 where
   in_slot : (k : ℕ) → p ≡ InSlot k → SameAvailable t u → new ≡ old → ClaimsPlace point o p t u old new
   in_register : (r : Register) (m : InstRegs) → p ≡ InRegister r → EvictsOtherVRegs point r o.vreg t m old new → RemovesAvailable m u r o.positions
       → ClaimsPlace point o p t u old new
 
--- a register counts as the one of its class that was used last
+-- a register becomes the most recently used of its class
 pub record UsesReg (r : Register) (old new : StateValue) : Type 0 where
   pub rest : SameButOrder old new
   pub newest : order_of new r.class ≡ r ∷ filter (λ q. not (is_register r q)) (order_of old r.class)
   pub others : (class : RegClass) → class ≢ r.class → order_of new class ≡ order_of old class
 
--- so does the place of an operand that asked for any register or place, if it is a register that may be allocated
+-- so does the place of an operand that requires any register or any place, if it is an allocatable register
 pub data UsesPlace (w : Requirement) (p : Place) (old new : StateValue) : Type 0 where
   used : (r : Register) → (w ≡ AnyPlace) ⊎ (w ≡ AnyReg) → p ≡ InRegister r → has_register old.allocatable r ≡ true → UsesReg r old new → UsesPlace w p old new
   not_used : ((r : Register) → (w ≡ AnyPlace) ⊎ (w ≡ AnyReg) → p ≡ InRegister r → has_register old.allocatable r ≡ false) → new ≡ old →
       UsesPlace w p old new
 
--- both
+-- a place is claimed and used
 pub record TakesPlace (point : ℕ) (o : OperandRequest) (p : Place) (t u : InstRegs) (old new : StateValue) : Type 0 where
   pub claimed : StateValue
   pub occupies : ClaimsPlace point o p t u old claimed
   pub uses : UsesPlace o.requirement p claimed new
 
--- or the register can't be emptied
+-- a place is claimed and used, or its register can't be emptied
 abbrev pub TakePlace : ℕ → OperandRequest → Place → InstRegs → StateValue → Outcome InstRegs → Type 0
 TakePlace point o p t old (next u new) = TakesPlace point o p t u old new
 TakePlace point o p t old no_register = (r : Register) × (p ≡ InRegister r) × EvictOtherVRegs point r o.vreg t old no_register
@@ -237,7 +237,7 @@ pub record AllocsOperand (point : ℕ) (o : OperandRequest) (p : Place) (t u : I
   pub awaited_in : o.is_def ≡ true → o.requirement ≡ AnyPlace → (r : Register) → p ≡ InRegister r → (q : Register)
       × (alloc_of old.places o.vreg.number ≡ InRegister q)
 
--- no place is there for it, or the place can't be claimed
+-- no place is found for it, or the place can't be claimed
 pub data LacksPlace (point : ℕ) (o : OperandRequest) (t : InstRegs) (old : StateValue) : Type 0 where
   in_pick : SelectPlace t o old no_register → LacksPlace point o t old
   in_clear : (p : Place) (m : StateValue) → SelectsPlace t o p old m → TakePlace point o p t m no_register → LacksPlace point o t old
@@ -246,7 +246,7 @@ abbrev pub AllocOperand : ℕ → OperandRequest → InstRegs → StateValue →
 AllocOperand point o t old (next (p, u) new) = AllocsOperand point o p t u old new
 AllocOperand point o t old no_register = LacksPlace point o t old
 
--- a move that is made unless it goes nowhere
+-- a move, unless its target is none or its source
 pub data AddMoveIf (point : ℕ) (class : RegClass) (is_made : Bool) (from to : Place) (t : InstRegs) (old : StateValue) : Outcome InstRegs → Type 0 where
   sent : {o : Outcome InstRegs} → is_made ≡ true → AddMove point class from to t old o → AddMoveIf point class is_made from to t old o
   unsent : {u : InstRegs} {new : StateValue} → is_made ≡ false → u ≡ t → new ≡ old → AddMoveIf point class is_made from to t old (next u new)
@@ -254,11 +254,11 @@ pub data AddMoveIf (point : ℕ) (class : RegClass) (is_made : Bool) (from to : 
 abbrev pub AddsMoveIf : ℕ → RegClass → Bool → Place → Place → InstRegs → InstRegs → StateValue → StateValue → Type 0
 AddsMoveIf point class is_made from to t u old new = AddMoveIf point class is_made from to t old (next u new)
 
--- whether a place is there, and isn't that other one
+-- whether a place isn't none, and differs from another one
 abbrev pub is_another : Place → Place → Bool
 is_another p q = not (is_place p NoPlace) && not (is_place p q)
 
--- the definition of a vreg in a place: it leaves the tables, and is moved to where it was awaited and to its slot; a return sends nothing
+-- the definition of a vreg in a place: the vreg leaves the tables, and is moved to where it is expected and to its slot; a return adds no move
 pub record FreesAlloc (point : ℕ) (v : VirtualRegister) (is_ret : Bool) (p : Place) (t u : InstRegs) (old new : StateValue) : Type 0 where
   pub left : StateValue
   pub inst_regs : InstRegs
@@ -272,7 +272,7 @@ pub record FreesAlloc (point : ℕ) (v : VirtualRegister) (is_ret : Bool) (p : P
   pub stored : (let s : Place = slot_name old.slots v.number in AddsMoveIf point v.class
       (not is_ret && (is_another s p && not (is_place s (alloc_of old.places v.number)))) p s inst_regs u middle new)
 
--- a move of the definition can't be made: to where its vreg was awaited, or then to its slot
+-- a move of the definition can't be made: to where its vreg is expected, or then to its slot
 pub data DefIsNotFreed (point : ℕ) (v : VirtualRegister) (is_ret : Bool) (p : Place) (t : InstRegs) (old : StateValue) : Type 0 where
   to_awaited : (left : StateValue) → SetsAlloc old.places left.places v NoPlace → left.slots ≡ old.slots → left.edits ≡ old.edits → SameMachine old left
       → AddMoveIf point v.class (not is_ret && is_another (alloc_of old.places v.number) p) p (alloc_of old.places v.number) t left no_register
@@ -288,7 +288,7 @@ abbrev pub FreeAlloc : ℕ → VirtualRegister → Bool → Place → InstRegs �
 FreeAlloc point v is_ret p t old (next u new) = FreesAlloc point v is_ret p t u old new
 FreeAlloc point v is_ret p t old no_register = DefIsNotFreed point v is_ret p t old
 
--- the use of a vreg in a place: it is there from now on if it had no location
+-- the use of a vreg in a place, which becomes its current location if it had none
 pub data LocatesUse (v : VirtualRegister) (p : Place) (old new : StateValue) : Type 0 where
   stays : alloc_of old.places v.number ≢ NoPlace → new ≡ old → LocatesUse v p old new
   located : alloc_of old.places v.number ≡ NoPlace → SetsAlloc old.places new.places v p → new.slots ≡ old.slots → new.edits ≡ old.edits → SameMachine old new →
@@ -308,7 +308,7 @@ pub record AllocsUse (point : ℕ) (o : OperandRequest) (p : Place) (t u : InstR
   pub uses : LocatesUse o.vreg p middle new
   pub awaited : u.awaited ≡ awaited_less o.requirement o.vreg.class t.awaited
 
--- a definition gets no place, or can't be sent from there
+-- a definition gets no place, or can't be moved from there
 pub data DefIsNotAllocated (point : ℕ) (o : OperandRequest) (is_ret : Bool) (t : InstRegs) (old : StateValue) : Type 0 where
   in_get : AllocOperand point o t old no_register → DefIsNotAllocated point o is_ret t old
   in_define : (p : Place) (inst_regs : InstRegs) (middle : StateValue) → AllocsOperand point o p t inst_regs old middle →
@@ -322,12 +322,12 @@ abbrev pub AllocUse : ℕ → OperandRequest → InstRegs → StateValue → Out
 AllocUse point o t old (next (p, u) new) = AllocsUse point o p t u old new
 AllocUse point o t old no_register = AllocOperand point o t old no_register
 
--- each operand that reads or defines names a vreg of the tables
+-- each operand that reads or defines names a vreg in the tables
 abbrev pub InTables : List OperandValue → StateValue → Type 0
 InTables operands t = (k : ℕ) → k < length operands → is_fixed_nonallocatable (op_at operands k) ≡ false →
     (op_at operands k).vreg.number < length t.places.vreg_allocs
 
--- what the constraint of an operand that isn't a reuse asks
+-- the requirement of a constraint that isn't a reuse
 abbrev pub requirement_of : OperandConstraint → Requirement
 requirement_of Any = AnyPlace
 requirement_of Reg = AnyReg
@@ -336,7 +336,7 @@ requirement_of (FixedReg r) = InPReg r
 requirement_of (Reuse n) = AnyReg
 requirement_of (Limit n) = AnyReg
 
--- what a reuse asks: what the operand that it names asks
+-- the requirement of a reuse: that of the operand that it names
 abbrev pub reuse_requirement_of : OperandConstraint → Requirement
 reuse_requirement_of Any = AnyReg
 reuse_requirement_of Reg = AnyReg
@@ -345,7 +345,7 @@ reuse_requirement_of (FixedReg r) = InPReg r
 reuse_requirement_of (Reuse n) = AnyReg
 reuse_requirement_of (Limit n) = AnyReg
 
--- an operand as it is allocated; a use for which a reuse has chosen a register asks for that one
+-- the request for an operand; a use for which a reuse has chosen a register requires that register
 abbrev pub use_request : OperandValue → Place → OperandRequest
 use_request o (InRegister r) = record { vreg = o.vreg; requirement = InPReg r; positions = positions_of o; is_def = false }
 use_request o NoPlace = record { vreg = o.vreg; requirement = requirement_of o.constraint; positions = positions_of o; is_def = false }
@@ -357,7 +357,7 @@ def_request o = record { vreg = o.vreg; requirement = requirement_of o.constrain
 abbrev pub reuse_request : OperandValue → OperandValue → OperandRequest
 reuse_request o named = record { vreg = o.vreg; requirement = reuse_requirement_of named.constraint; positions = both_positions; is_def = true }
 
--- an operand is allocated; here has the places of the instruction before, there after
+-- an operand is allocated; here holds the places of the instruction before, there after
 pub data ProcessesOperand (i : ℕ) (is_ret : Bool) (operands : List OperandValue) (k : ℕ) (here there : List Place) (t u : InstRegs)
     (old new : StateValue) : Type 0 where
   a_register : (r : Register) → is_fixed_nonallocatable (op_at operands k) ≡ true → (op_at operands k).constraint ≡ FixedReg r →
@@ -403,7 +403,7 @@ abbrev pub ProcessOperandsAt : ℕ → Bool → Bool → List OperandValue → L
 ProcessOperandsAt i is_ret late operands here t old = InTurn (length operands) (λ k g m. ProcessesOperandsAt i is_ret late operands here t old k g.0 g.1 m)
     (λ k g m. (is_late (op_at operands k).position ≡ late) × ProcessOperand i is_ret operands k g.0 g.1 m no_register)
 
--- the uses among the first k operands that read are moved to their places from where their vregs are located
+-- the uses among the first k operands are moved to their places from their vregs' current locations
 pub data MovesUses (point : ℕ) (operands : List OperandValue) (here : List Place) (t : InstRegs) (old : StateValue) : ℕ → InstRegs → StateValue → Type 0 where
   none_moved : MovesUses point operands here t old 0 t old
   not_moved : (k : ℕ) (u : InstRegs) (m : StateValue) → MovesUses point operands here t old k u m → is_reading (op_at operands k) ≡ false →
@@ -413,7 +413,7 @@ pub data MovesUses (point : ℕ) (operands : List OperandValue) (here : List Pla
       AddsMoveIf point (op_at operands k).vreg.class (not (is_place q p)) q p u w m n)
       → MovesUses point operands here t old (k + 1) w n
 
--- the move of a use from where its vreg is located to its place
+-- the move of a use from its vreg's current location to its place
 abbrev pub MoveUse : ℕ → OperandValue → Place → InstRegs → StateValue → Outcome InstRegs → Type 0
 MoveUse point o p t old = (let q : Place = alloc_of old.places o.vreg.number in AddMoveIf point o.vreg.class (not (is_place q p)) q p t old)
 
@@ -421,15 +421,15 @@ abbrev pub MoveUses : ℕ → List OperandValue → List Place → InstRegs → 
 MoveUses point operands here t old = InTurn (length operands) (MovesUses point operands here t old)
     (λ k u m. (is_reading (op_at operands k) ≡ true) × MoveUse point (op_at operands k) (slice_index_or here k NoPlace) u m no_register)
 
--- what an operand claims before operands are allocated: its fixed register, where it isn't one that reads nothing; and for a reuse that of
--- the operand that it names, while late operands are there
+-- the register that an operand claims before operands are allocated: its fixed one, unless that is nonallocatable; and for a reuse that of
+-- the operand that it names, at the late position
 pub data NeedsFixedReg (operands : List OperandValue) (k : ℕ) (r : Register) (p : Positions) : Type 0 where
   own : is_fixed_nonallocatable (op_at operands k) ≡ false → (op_at operands k).constraint ≡ FixedReg r → p ≡ positions_of (op_at operands k) →
       NeedsFixedReg operands k r p
   named : (n : ℕ) → (op_at operands k).constraint ≡ Reuse n → n < length operands → (op_at operands n).constraint ≡ FixedReg r →
       p ≡ record { early = false; late = true } → NeedsFixedReg operands k r p
 
--- whether an operand asks for any register of a class, and how many do
+-- whether an operand requires any register of a class, and how many do
 abbrev pub asks_reg_of_class : RegClass → OperandValue → Bool
 asks_reg_of_class class o = is_under_reg o.constraint && nat_eq (class_code o.vreg.class) (class_code class)
 
@@ -440,7 +440,7 @@ asking operands class = count_by (asks_reg_of_class class) operands
 abbrev pub IsFixedIn : List OperandValue → Register → Type 0
 IsFixedIn operands r = (k : ℕ) × (k < length operands) × ((op_at operands k).constraint ≡ FixedReg r)
 
--- the registers that operands claim before they are placed are held, and differ where they share a position; no table changes
+-- the registers that operands claim before they are placed are held, and differ if they share a position; no table changes
 pub record ReservesRegs (operands : List OperandValue) (t u : InstRegs) (old : StateValue) : Type 0 where
   pub known : (k : ℕ) (r : Register) (p : Positions) → k < length operands → NeedsFixedReg operands k r p → (has_register old.allocatable r ≡ true)
       ⊎ (has_register old.fixed_stack r ≡ true)
@@ -465,19 +465,19 @@ abbrev pub ReserveRegs : List OperandValue → InstRegs → StateValue → Outco
 ReserveRegs operands t old (next u new) = ReservesRegs operands t u old
 ReserveRegs operands t old no_register = RegsAreNotReserved operands old
 
--- the clobbers are held while late operands are there
+-- the clobbers are held at the late position
 pub record RemovesClobbers (clobbers : PRegSet) (t u : InstRegs) : Type 0 where
   pub late : (r : Register) → has_register u.late r ≡ not (has_register clobbers r) && has_register t.late r
   pub early : (r : Register) → has_register u.early r ≡ has_register t.early r
   pub scratch : u.scratch ≡ t.scratch
   pub awaited : u.awaited ≡ t.awaited
 
--- none was used where no operand is fixed to a register
+-- the order of use stays if no operand is fixed to a register
 abbrev pub NoneUsed : List OperandValue → List (List Register) → List (List Register) → Type 0
 NoneUsed operands old new = ((k : ℕ) (r : Register) → k < length operands → (op_at operands k).constraint ≡ FixedReg r → ⊥) → new ≡ old
 
--- The fixed registers of the first k operands are emptied of all vregs but each operand's own, and those that reuses share with fixed uses of all. Before that,
--- the registers to which operands are fixed count as used, in some order.
+-- The fixed registers of the first k operands are emptied of all vregs but each operand's own; registers that reuses share with fixed uses, of all.
+-- Before that, the fixed registers become the most recently used, in some order.
 pub data EvictsFixed (point : ℕ) (operands : List OperandValue) (t : InstRegs) (old : StateValue) : ℕ → InstRegs → StateValue → Type 0 where
   none_cleared : (order : List (List Register)) → NoneUsed operands old.lrus order → EvictsFixed point operands t old 0 t (record old { lrus = order })
   not_fixed : (k : ℕ) (u : InstRegs) (m : StateValue) → EvictsFixed point operands t old k u m
@@ -490,7 +490,7 @@ pub data EvictsFixed (point : ℕ) (operands : List OperandValue) (t : InstRegs)
       j < length operands → (op_at operands j).constraint ≡ FixedReg r
       → EvictsPReg point r u w m n → EvictsFixed point operands t old (k + 1) w n
 
--- or a register of an operand can't be emptied
+-- the fixed registers are emptied, or one of them can't be
 abbrev pub EvictFixed : ℕ → List OperandValue → InstRegs → StateValue → Outcome InstRegs → Type 0
 EvictFixed point operands t old = InTurn (length operands) (EvictsFixed point operands t old)
     (λ k u m. (r : Register) × EvictPReg point r u m no_register)
@@ -501,7 +501,7 @@ pub data EvictsEach (point : ℕ) : List Register → InstRegs → StateValue �
   one_more : (r : Register) (rs : List Register) (t u w : InstRegs) (old m new : StateValue) → EvictsPReg point r t u old m → EvictsEach point rs u m w new →
       EvictsEach point (r ∷ rs) t old w new
 
--- one can't be emptied, after others
+-- one of them can't be emptied, after others were
 pub record EachIsNotEvicted (point : ℕ) (t : InstRegs) (old : StateValue) : Type 0 where
   pub cleared : List Register
   pub inst_regs : InstRegs
@@ -514,11 +514,11 @@ abbrev pub EvictEach : ℕ → List Register → InstRegs → StateValue → Out
 EvictEach point rs t old (next u new) = EvictsEach point rs t old u new
 EvictEach point rs t old no_register = EachIsNotEvicted point t old
 
--- an instruction that ends its block, after which no move is listed
+-- the instruction is its block's last; no move may follow it
 abbrev pub ends_block : InstValue → Bool
 ends_block inst = inst.is_branch || inst.is_ret
 
--- all registers of the machine are free, none is kept for moves yet, and no operand asks for one
+-- all registers of the machine are free, none is taken for moves yet, and no operand is counted
 pub record IsFresh (inst_regs : InstRegs) (t : StateValue) : Type 0 where
   pub early : (r : Register) → has_register inst_regs.early r ≡ (has_register t.allocatable r || has_register t.fixed_stack r)
   pub late : (r : Register) → has_register inst_regs.late r ≡ (has_register t.allocatable r || has_register t.fixed_stack r)
@@ -537,7 +537,7 @@ pub record PreparesRegs (i : ℕ) (operands : List OperandValue) (clobbers : PRe
   pub emptied : EvictsEach (after i) (registers_of clobbers) cleared middle quiet new
   pub awaited : (c : RegClass) → awaited_of quiet c ≡ asking operands c
 
--- they can't be taken, or not emptied
+-- the registers can't be taken, or can't be emptied
 pub data RegsAreNotPrepared (i : ℕ) (operands : List OperandValue) (clobbers : PRegSet) (t : InstRegs) (old : StateValue) : Type 0 where
   in_reserve : ReserveRegs operands t old no_register → RegsAreNotPrepared i operands clobbers t old
   in_fixed : (reserved held : InstRegs) → ReservesRegs operands t reserved old → RemovesClobbers clobbers reserved held →
@@ -550,8 +550,8 @@ abbrev pub PrepareRegs : ℕ → List OperandValue → PRegSet → InstRegs → 
 PrepareRegs i operands clobbers t old (next quiet new) = PreparesRegs i operands clobbers t quiet old new
 PrepareRegs i operands clobbers t old no_register = RegsAreNotPrepared i operands clobbers t old
 
--- An instruction is allocated: its registers are prepared; late operands are allocated, then early ones; then uses are moved. After one that ends its
--- block no move is listed.
+-- An instruction is allocated: its registers are prepared; late operands are allocated, then early ones; then uses are moved. No move is listed after
+-- an instruction that ends its block.
 pub record AllocsInstOf (i : ℕ) (operands : List OperandValue) (clobbers : PRegSet) (ends : Bool) (blank places : List Place) (old new : StateValue) :
     Type 0 where
   pub began : InstRegs
@@ -571,11 +571,11 @@ pub record AllocsInstOf (i : ℕ) (operands : List OperandValue) (clobbers : PRe
   pub earlies : ProcessesOperandsAt i ends false operands half late after_late (length operands) places early after_early
   pub moves : MovesUses (before i) operands places early after_early (length operands) ended new
 
--- by its operands, its clobbers and whether it ends its block
+-- an instruction is allocated, given by its operands, its clobbers and whether it ends its block
 abbrev pub AllocsInst : ℕ → InstValue → List Place → List Place → StateValue → StateValue → Type 0
 AllocsInst i inst blank places old new = AllocsInstOf i inst.operands inst.clobbers (ends_block inst) blank places old new
 
--- an instruction stops at one of its stages
+-- an instruction runs out of registers at one of its stages
 pub data InstIsNotAllocated (i : ℕ) (operands : List OperandValue) (clobbers : PRegSet) (ends : Bool) (blank : List Place) (t : InstRegs)
     (old : StateValue) : Type 0 where
   in_prepare : PrepareRegs i operands clobbers t old no_register → InstIsNotAllocated i operands clobbers ends blank t old

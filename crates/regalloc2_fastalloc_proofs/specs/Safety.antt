@@ -1,4 +1,4 @@
--- What holds of the tables all along the walk, with operands of every kind but `Limit`.
+-- The invariant of the tables along the whole walk, for operands under every constraint but `Limit`.
 use Rattle.std.specs.Prelude.{ℕ, ◌≡◌, ◌≢◌, ◌<◌, ◌⊎◌, true, All, length, slice_index_or, None, Some}
 use Rattle.regalloc2_names.specs.declared.RegClass.{RegClass}
 use Rattle.regalloc2_names.specs.Register.{Register, VirtualRegister, class_code}
@@ -11,7 +11,7 @@ use Rattle.regalloc2_fastalloc_state.specs.declared.inst_regs.InstRegs.{InstRegs
 use Rattle.regalloc2_fastalloc_state.specs.StateParts.{SpillSlotsValue, alloc_of, vreg_of_preg, slot_name, units_of, IsSlotOrNone}
 use Rattle.regalloc2_fastalloc_proofs.specs.InstSteps.{StateValue}
 
--- the tables are inverses, and slots are the vregs' own
+-- the two tables of locations are inverse, and each slot is one vreg's own
 pub record IsWhole (t : StateValue) : Type 0 where
   pub holds : (r : Register) (v : VirtualRegister) → r.number < 64 → vreg_of_preg t.places r ≡ Some v → alloc_of t.places v.number ≡ InRegister r
   pub stands_in : (n : ℕ) (r : Register) → alloc_of t.places n ≡ InRegister r → (r.number < 64)
@@ -36,13 +36,13 @@ MayBeLocatedAtOrNone env slots v NoPlace = Unit {0}
 MayBeLocatedAtOrNone env slots v (InRegister r) = IsOfMachine env r × (r.class ≡ v.class)
 MayBeLocatedAtOrNone env slots v (InSlot n) = slot_name slots v.number ≡ InSlot n
 
--- an end of a move of a vreg's value: such a place, or the register that is kept for moves of its class
+-- an end of a move of a vreg's value: such a place, or the register reserved for moves of its class
 abbrev pub IsEndOfMove : MachineValue → SpillSlotsValue → VirtualRegister → Place → Type 0
 IsEndOfMove env slots v NoPlace = ⊥
 IsEndOfMove env slots v (InRegister r) = (IsOfMachine env r × (r.class ≡ v.class)) ⊎ (scratch_of env v.class ≡ Some r)
 IsEndOfMove env slots v (InSlot n) = slot_name slots v.number ≡ InSlot n
 
--- a move of a known vreg's value between such ends; into a slot only where Writes lets its vreg's value be written there
+-- a move of a known vreg's value between such ends; into a slot only where Writes allows writing that vreg's value
 pub record IsMoveOfValue (env : MachineValue) (Known : VirtualRegister → Type 0) (Writes : ℕ → VirtualRegister → ℕ → Type 0) (slots : SpillSlotsValue)
     (e : ℕ × MoveValue) : Type 0 where
   pub vreg : VirtualRegister
@@ -51,7 +51,7 @@ pub record IsMoveOfValue (env : MachineValue) (Known : VirtualRegister → Type 
   pub to : IsEndOfMove env slots vreg e.1.to
   pub written : (n : ℕ) → e.1.to ≡ InSlot n → Writes e.0 vreg n
 
--- a register through which moves of a class go: an allocatable one, or the one that is kept for them
+-- a register that moves of a class may go through: an allocatable one, or the one reserved for them
 abbrev pub IsMoveReg : MachineValue → RegClass → Register → Type 0
 IsMoveReg env class r = ((is_allocatable env r.class r ≡ true) × (r.class ≡ class)) ⊎ (scratch_of env class ≡ Some r)
 
@@ -61,7 +61,7 @@ IsEndOfArgMove env slots class NoPlace = ⊥
 IsEndOfArgMove env slots class (InRegister r) = IsMoveReg env class r
 IsEndOfArgMove env slots class (InSlot n) = n < slots.count
 
--- a move of a branch's arguments of a class; into a known vreg's slot where Writes lets its value be written there, or into one that is no vreg's
+-- a move of a branch's arguments of a class; into a known vreg's slot where Writes allows writing its value, or into a slot that is no vreg's
 pub record IsArgMove (env : MachineValue) (Known : VirtualRegister → Type 0) (Writes : ℕ → VirtualRegister → ℕ → Type 0) (slots : SpillSlotsValue)
     (e : ℕ × MoveValue) : Type 0 where
   pub class : RegClass
@@ -70,7 +70,7 @@ pub record IsArgMove (env : MachineValue) (Known : VirtualRegister → Type 0) (
   pub written : (n : ℕ) → e.1.to ≡ InSlot n → ((v : VirtualRegister) × Known v × (slot_name slots v.number ≡ InSlot n) × Writes e.0 v n)
       ⊎ ((v : VirtualRegister) → Known v → slot_name slots v.number ≢ InSlot n)
 
--- a move of either kind, not from a stack place to another, at a point where moves may be
+-- a move of either kind, not stack-to-stack, at a point where moves may be
 pub record IsSafeEdit (env : MachineValue) (Known : VirtualRegister → Type 0) (Writes : ℕ → VirtualRegister → ℕ → Type 0) (slots : SpillSlotsValue)
     (May : ℕ → Type 0) (e : ℕ × MoveValue) : Type 0 where
   pub moves : IsMoveOfValue env Known Writes slots e ⊎ IsArgMove env Known Writes slots e
@@ -84,7 +84,7 @@ pub record HasMachine (env : MachineValue) (t : StateValue) : Type 0 where
   pub memory : (r : Register) → IsFixedStackSlot env r → has_register t.fixed_stack r ≡ true
   pub dedicated_scratch : (c : RegClass) (r : Register) → slice_index_or t.dedicated_scratch (class_code c) None ≡ Some r → scratch_of env c ≡ Some r
 
--- any vreg that is known is where it may, or nowhere; registers hold no other vreg; slots and moves are in order, and each slot takes a unit at least
+-- each known vreg is at an allowed place or nowhere; registers hold no other vreg; slots and moves are valid, and each slot has at least one unit
 pub record IsSafe (env : MachineValue) (Known : VirtualRegister → Type 0) (Writes : ℕ → VirtualRegister → ℕ → Type 0) (May : ℕ → Type 0) (t : StateValue) : Type
     0 where
   pub machine : HasMachine env t
@@ -94,7 +94,7 @@ pub record IsSafe (env : MachineValue) (Known : VirtualRegister → Type 0) (Wri
   pub units : (c : RegClass) → 0 < units_of t.slots c
   pub edits : All (IsSafeEdit env Known Writes t.slots May) t.edits
 
--- moves from stack to stack go through allocatable registers of their class, where the machine has none of its own for them
+-- stack-to-stack moves go through allocatable registers of their class, where the machine has no dedicated one
 pub record AreSafeRegs (env : MachineValue) (t : InstRegs) : Type 0 where
   pub three : length t.scratch ≡ 3
   pub scratch : (c : RegClass) (r : Register) → slice_index_or t.scratch (class_code c) None ≡ Some r → (is_allocatable env r.class r ≡ true) × (r.class ≡ c)

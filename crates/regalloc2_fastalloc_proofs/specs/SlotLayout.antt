@@ -1,4 +1,4 @@
--- The slots that were made, newest first, each with its owner and the units that it stands for.
+-- The slots that were made, the last one first, each with its owner and its units.
 use Rattle.std.specs.Prelude.{ℕ, ◌≡◌, ◌≢◌, ◌+◌, ◌-◌, ◌%◌, ◌<◌, ◌≤◌, Bool, true, List, All, Contains, length, slice_index, slice_index_or, if◌then◌else◌}
 use Rattle.regalloc2_names.specs.Register.{VirtualRegister, class_code}
 use Rattle.regalloc2_names.specs.declared.RegClass.{RegClass}
@@ -8,12 +8,12 @@ use Rattle.regalloc2_function.specs.OutputValue.{MoveValue}
 use Rattle.regalloc2_function.specs.Slots.{Owner, OfVReg, OfBranch, class_of_owner}
 use Rattle.regalloc2_fastalloc_state.specs.StateParts.{SpillSlotsValue, slot_name}
 
--- a slot that was made: whose it is, and its name
+-- a slot that was made: its owner and its name
 pub record OwnedSlot : Type 0 where
   pub owner : Owner
   pub name : ℕ
 
--- how many units it takes, and the first of them
+-- how many units a slot has, and the first of them
 abbrev pub units_in : List ℕ → Owner → ℕ
 units_in sizes owner = slice_index sizes (class_code (class_of_owner owner))
 
@@ -26,27 +26,27 @@ start_of_slot sizes by_last c = start_in by_last (units_in sizes c.owner) c.name
 abbrev pub end_of_slot : List ℕ → Bool → OwnedSlot → ℕ
 end_of_slot sizes by_last c = start_of_slot sizes by_last c + units_in sizes c.owner
 
--- it lies at its units, which are aligned to their number and lie below the count
+-- a slot's units are aligned to their number and below the count
 pub record IsLaidOut (sizes : List ℕ) (by_last : Bool) (count : ℕ) (c : OwnedSlot) : Type 0 where
   pub some : 0 < units_in sizes c.owner
   pub named : by_last ≡ true → units_in sizes c.owner ≤ c.name + 1
   pub aligned : start_of_slot sizes by_last c % units_in sizes c.owner ≡ 0
   pub within : end_of_slot sizes by_last c ≤ count
 
--- each lies behind those that were made before it
+-- each slot is above those that were made before it
 abbrev pub AreSlotsApart : List ℕ → Bool → List OwnedSlot → Type 0
 AreSlotsApart sizes by_last made = (i j : ℕ) (d : OwnedSlot) → i < j → j < length made →
     end_of_slot sizes by_last (slice_index_or made j d) ≤ start_of_slot sizes by_last (slice_index_or made i d)
 
--- no two have one owner
+-- no two slots have one owner
 abbrev pub HaveDistinctOwners : List OwnedSlot → Type 0
 HaveDistinctOwners made = (i j : ℕ) (d : OwnedSlot) → i < j → j < length made → (slice_index_or made i d).owner ≢ (slice_index_or made j d).owner
 
--- the slot of a vreg is the one that the tables give it
+-- a slot whose owner is a vreg is the one that the tables give the vreg
 abbrev pub IsOwnSlot : SpillSlotsValue → OwnedSlot → Type 0
 IsOwnSlot s c = (v : VirtualRegister) → c.owner ≡ OfVReg v → slot_name s v.number ≡ InSlot c.name
 
--- all slots lie so, and those of known vregs are among them
+-- all slots are laid out, and those of known vregs are among them
 pub record AreLaidOut (Known : VirtualRegister → Type 0) (s : SpillSlotsValue) (made : List OwnedSlot) : Type 0 where
   pub each : All (IsLaidOut s.sizes s.by_last s.count) made
   pub apart : AreSlotsApart s.sizes s.by_last made
@@ -54,7 +54,7 @@ pub record AreLaidOut (Known : VirtualRegister → Type 0) (s : SpillSlotsValue)
   pub known : (v : VirtualRegister) → Known v → (k : ℕ) → slot_name s v.number ≡ InSlot k → Contains made (record { owner = OfVReg v; name = k })
   pub own : All (IsOwnSlot s) made
 
--- the slots once some more were made, of all of which something holds
+-- the slots once some more were made, all of them with a property
 pub record LaysOut (Known : VirtualRegister → Type 0) (Holds : OwnedSlot → Type 0) (s : SpillSlotsValue) (before_it : List OwnedSlot) : Type 0 where
   pub made : List OwnedSlot
   pub laid : AreLaidOut Known s made
@@ -65,7 +65,7 @@ pub record LaysOut (Known : VirtualRegister → Type 0) (Holds : OwnedSlot → T
 abbrev pub IsNameOfSlot : List OwnedSlot → ℕ → Type 0
 IsNameOfSlot made n = (c : OwnedSlot) × Contains made c × (c.name ≡ n)
 
--- moves at a point may name the slot of an owner: a branch's slot serves the moves before that branch alone
+-- moves at a point may name the slot of an owner: a branch's slot only serves the moves before that branch
 abbrev pub ServesAt : ℕ → Owner → Type 0
 ServesAt point (OfVReg v) = Unit {0}
 ServesAt point (OfBranch branch class time) = point ≡ before branch

@@ -1,4 +1,4 @@
--- A block's beginning with the stores of what the branch into it defines: its listing carries each vreg from where it is when the block is entered.
+-- The start of a block with the stores of what the branch into it defines: its listing carries each vreg from its location on entry.
 use Rattle.std.proofs.Common.{ℕ, zero, suc, ◌≡◌, ◌≢◌, ◌<◌, ◌⊎◌, inl, inr, true, false, List, [], ◌∷◌, length, refl, sym, ap, ◌∙◌, subst, arith}
 use Rattle.std.specs.Prelude.{Option, None, Some, IsSome, slice_index_or}
 use Rattle.std.proofs.lemmas.Bool.{cases_Bool}
@@ -35,7 +35,7 @@ use Rattle.regalloc2_fastalloc_proofs.proofs.BlockBegin.StoresOfDefs.{walked_sto
 use Rattle.regalloc2_fastalloc_proofs.proofs.Safety.StoresKeepSafe.{order_each, stored_concerned}
 use Rattle.regalloc2_fastalloc_proofs.proofs.Branches.Arrivals.{left_at, IsNeeded, Arrive, DefsPlaced}
 
--- a parameter of that name, or none
+-- the parameter of a number, or none
 find_param : (ps : List VirtualRegister) (v : VirtualRegister) → ((n : ℕ) × (n < length ps) × (slice_index_or ps n no_vreg ≡ v))
     ⊎ ((n : ℕ) → n < length ps → slice_index_or ps n no_vreg ≡ v → ⊥)
 find_param [] v = inr (λ n lt is. absurd (omega (arith, lt)))
@@ -60,8 +60,8 @@ fixed_none : (o : OperandValue) → is_def o.kind ≡ true → IsAnyOrStack o.co
 fixed_none o def (inl any) = (let x : fixed_register o.constraint ≡ None = ap fixed_register any in rw def x)
 fixed_none o def (inr stack) = (let x : fixed_register o.constraint ≡ None = ap fixed_register stack in rw def x)
 
--- A block at whose beginning what branches define is stored, between the tables middle and new. F: the slots at the walk's end, each of one vreg; stand: where
--- vregs are when a block is entered, as branches leave them; v: a vreg that is needed, with a slot if it is one of the block's parameters.
+-- A block whose start stores what branches define, between the tables middle and new. F: the slots at the walk's end, each of one vreg; stand: where
+-- vregs are on entry to a block, as branches leave them; v: a vreg that is needed, with a slot if it is one of the block's parameters.
 pub record StoredAtBegin : Type 0 where
   pub f : FunctionValue
   pub once : DefinedOnce f
@@ -96,7 +96,7 @@ module _ (stored : StoredAtBegin) where
         let z : is_memory middle.fixed_stack x.to ≡ true = ends.0 in cc) in
         stays w.number x.to (subst (λ q. slots_at new w.number ≡ Some q) r.to (opt_some (slot_in new w.number) (λ none. there (sym r.to ∙ none))))
 
-    -- a store for v brings what is in a place to v's slot
+    -- a store for v copies a place to v's slot
     brings : (p : Place) → F v.number ≡ Some p → (j : ℕ) → IsStoredFor f e k middle.slots j v →
         ((q : Place) → q ≡ defined_place new.slots (op_at (branch_operands f e) j) →
         q ≢ NoPlace → stand b v ≡ Some q) → (x : Store) × IsOneOf x s.stores × (x.to ≡ p) × (stand b v ≡ Some x.from)
@@ -105,7 +105,7 @@ module _ (stored : StoredAtBegin) where
         let same : Some x.0.to ≡ Some p = sym (goes_to x.0 x.1 j v x.2) ∙ mine in
         (x.0, x.1, (let y : x.0.to ≡ p = cc in y), at x.0.from x.2.from x.2.there)
 
-    -- and stores for others leave it
+    -- and stores for other vregs leave v's slot alone
     avoids : (p : Place) → F v.number ≡ Some p → ((j : ℕ) → IsStoredFor f e k middle.slots j v → ⊥) → (t : Store) → IsOneOf t s.stores → Avoids t p
     avoids p mine none t is =
         let one = s.each t is in
@@ -135,7 +135,7 @@ module _ (stored : StoredAtBegin) where
         (by_operand (last_of (block_at f e)) j (record { inst = lasts e edge.block; operand = d.operand; definition = d.definition; number = refl }) refl)
         made d.number
 
-    -- where the branch defines v
+    -- if the branch defines v
     brought_own : (p : Place) → F v.number ≡ Some p → (j : ℕ) → DefinesNumber (branch_operands f e) v.number j → Brought p
     brought_own p mine j d =
         let used = needed b e k edge (j, d) in
@@ -181,7 +181,7 @@ module _ (stored : StoredAtBegin) where
     to_b : (P : List VirtualRegister → Type 0) → P (block_at f b).params → P params
     to_b P h = subst (λ c. P (block_at f c).params) (sym edge.target) h
 
-    -- where v is a parameter that is given what the branch defines
+    -- if v is a parameter to which what the branch defines is passed
     brought_given : (p : Place) → F v.number ≡ Some p → (n : ℕ) → n < length (block_at f b).params → slice_index_or (block_at f b).params n no_vreg ≡ v →
         (j : ℕ) → DefinesNumber (branch_operands f e) (slice_index_or (arguments_at f e k) n no_vreg).number j → Brought p
     brought_given p mine n lt is j d =
@@ -201,7 +201,7 @@ module _ (stored : StoredAtBegin) where
               stands ∙ ap Some s2.1 ∙ same)
         ]))
 
-    -- where it is neither
+    -- if v is neither
     brought_other : (p : Place) → F v.number ≡ Some p → (IsOwnDef f e v → ⊥) → ((n : ℕ) → n < length (block_at f b).params →
         slice_index_or (block_at f b).params n no_vreg ≡ v → IsOwnDef f e (slice_index_or (arguments_at f e k) n no_vreg) → ⊥) →
         ((d l : ℕ) → IsEdgeInto f b d l → (d ≡ e) × (l ≡ k)) → Brought p

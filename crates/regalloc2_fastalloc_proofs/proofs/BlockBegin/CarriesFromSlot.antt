@@ -1,4 +1,4 @@
--- A block's beginning, for one vreg: its listing carries it from the slot that it has at the end of the whole walk, unless the block writes it.
+-- The start of a block, for one vreg: its listing carries the vreg from its slot at the end of the whole walk, unless the block writes the vreg.
 use Rattle.std.proofs.Common.{ℕ, suc, ◌≡◌, ◌⊎◌, inl, inr, Bool, true, false, List, [], ◌∷◌, ◌++◌, nat_eq, refl, sym, ap, ◌∙◌, subst, eq-eqb}
 use Rattle.std.specs.Prelude.{Option, None, Some, ◌&&◌, is_some}
 use Rattle.std.proofs.lemmas.Bool.{and_right, and_from, and_parts}
@@ -26,7 +26,7 @@ use Rattle.regalloc2_fastalloc_proofs.proofs.Inst.OneInstCarries.{Between}
 use Rattle.regalloc2_fastalloc_proofs.proofs.Moves.StepsAppendEdits.{Pushes, none_pushed, one_pushed}
 use Rattle.regalloc2_fastalloc_proofs.proofs.BlockBegin.ReloadAtBegin.{IsReload, Begun, begun, reloads_at_begin_carried}
 
--- whether that option is this place
+-- whether an option is the given place
 abbrev pub is_there : Option Place → Place → Bool
 is_there None p = false
 is_there (Some q) p = is_place q p
@@ -71,7 +71,7 @@ module _ (insts : ℕ → InstValue) (placesf : ℕ → List Place) (i n : ℕ) 
   module _ (params : List VirtualRegister) (old new : StateValue) (begins : ReloadsAtBegin (before i) params old new) (between : Between i old) (block : Bool)
       (F : Option Place) (slot : (r : Register) → F ≡ Some (InRegister r) → ⊥)
       (stays : (p : Place) → slots_at new v.number ≡ Some p → F ≡ Some p) where
-    -- where the block doesn't write v
+    -- if the block doesn't write v
     unwritten : Carries v (from_first old) (Relied false false (stands_at old v.number) (slots_at old v.number) F) E →
         Carries v (from_first new) (λ p. F ≡ Some p) E
     unwritten c =
@@ -102,7 +102,7 @@ module _ (insts : ℕ → InstValue) (placesf : ℕ → List Place) (i n : ℕ) 
         by_place p (inl none) at = (let x : None ≡ Some p = ap opt (sym none) ∙ at in absurd cc)
         by_place p (inr k) at = ap opt k.2 ∙ ap opt (sym k.1) ∙ at
 
-    -- with a block's beginning in front, its listing carries v from its final slot, or from nowhere if the block writes it
+    -- with the block's start in front, its listing carries v from its final slot, or from nowhere if the block writes it
     pub entered_carried : Carries v (from_first old) (Relied block block (stands_at old v.number) (slots_at old v.number) F) E →
         Carries v (from_first new) (λ p. (block ≡ false) × (F ≡ Some p)) E
     entered_carried = by_test block refl

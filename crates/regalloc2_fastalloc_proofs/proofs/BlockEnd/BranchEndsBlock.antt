@@ -28,7 +28,7 @@ use Rattle.regalloc2_fastalloc_proofs.proofs.BlockEnd.BranchAlone.{IsUseMove, Br
 use Rattle.regalloc2_fastalloc_proofs.proofs.Inst.ProperInsts.{ProperCode}
 use Rattle.regalloc2_fastalloc_proofs.proofs.Changes.InstChanges.{allocs_inst_changes, any_operand}
 
--- what is known of the slots at the end of the whole walk: each has one owner, and those that come after t lie at or above its count
+-- what is known of the slots at the end of the whole walk: each has one owner, and those made after t are at or above its count
 pub record ToCome (F : ℕ → Option Place) (t : StateValue) : Type 0 where
   pub only : (x : ℕ) (p : Place) → F x ≡ Some p → (n : ℕ) × (p ≡ InSlot n)
   pub own : (x y n : ℕ) → F x ≡ Some (InSlot n) → F y ≡ Some (InSlot n) → x ≡ y
@@ -46,7 +46,7 @@ pub cases_opt : (x : Option Place) → (x ≡ None) ⊎ ((p : Place) × (x ≡ S
 cases_opt None = inl refl
 cases_opt (Some p) = inr (p, refl)
 
--- and so the same is known of tables before
+-- and the same is known of earlier tables
 pub to_come-back : (At : ℕ → Type 0) (F : ℕ → Option Place) (a b : StateValue) → ((c : _) → 0 < units_of a.slots c) → Grown At a b → ToCome F b → ToCome F a
 to_come-back At F a b units g h = record {
   only = h.only;
@@ -61,8 +61,8 @@ to_come-back At F a b units g h = record {
   ];
 }
 
--- A branch at the end of its block, which it alone defines the slots of its definitions in: the function and the places of its operands; F: the slots at the
--- walk's end; the branch, allocated between the tables old and middle; u: the registers of the instruction behind it.
+-- A branch at the end of its block, the only writer of the slots of its definitions: the function and the places of its operands; F: the slots at the
+-- walk's end; the branch, allocated between the tables old and middle; u: the registers of the instruction after it.
 pub record EndsBlock : Type 1 where
   pub code : ProperCode
   open code use {Known, f, placesf, proper}
@@ -87,7 +87,7 @@ module _ (at_end : EndsBlock) where
   open at_end use {code, F, last, blank, here, old, middle, within, are_listed, ends, own_defs, between, a, u, br}
   open at_end.code.proper use {knows}
 
-  -- whose slot an operand is in
+  -- the owner of the slot that an operand is in
   pub reads_own : ToCome F middle → (v : VirtualRegister) → Known v → (n j : ℕ) → F v.number ≡ Some (InSlot n) → j < length (inst_at f last).operands →
       is_reading (op_at (inst_at f last).operands j) ≡ true → InSlot n ≡ slice_index_or here j NoPlace →
       (op_at (inst_at f last).operands j).vreg ≡ v
@@ -131,7 +131,7 @@ module _ (at_end : EndsBlock) where
             (none_below (InSlot n.0) (before last) (before (last + 1)) old.edits (omega arith) between.later) br.pushes;
       })
 
-  -- what it carries with its own moves, of a vreg that it doesn't define: from what may be relied on before it to the vreg's slot
+  -- what it carries with its own moves, of a vreg that it doesn't define: from any place that must hold the vreg before it to the vreg's slot
   module _ (h : ToCome F middle) (v : VirtualRegister) (known : Known v) (undefined : defined_by (inst_at f last).operands v.number ≡ false) (block : Bool)
       (E : Place → Type 0) (mine : (p : Place) → E p → F v.number ≡ Some p) (there : block ≡ true → (p : Place) → E p → slots_at old v.number ≡ Some p) where
     abbrev L : List Item

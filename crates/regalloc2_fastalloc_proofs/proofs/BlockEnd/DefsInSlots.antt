@@ -1,5 +1,5 @@
--- At the end of a block, where no vreg is in a register behind it, a definition under `Any` or `Stack` is in no register.
--- The fold in `Changes` doesn't fit: what the listing carries, or the operands' record, differs from step to step.
+-- At the end of a block, with no vreg in a register after it, a definition under `Any` or `Stack` is in no register.
+-- The fold in `Changes` doesn't apply: what the listing carries, or the operands' record, differs from step to step.
 use Rattle.regalloc2_semantics.proofs.Operands.{reads_use}
 use Rattle.std.proofs.Common.{ℕ, ◌≡◌, ◌≢◌, ◌<◌, ◌≤◌, ◌+◌, ◌⊎◌, List, Bool, true, false, refl, sym, ap, ◌∙◌, subst, inl, inr, arith, length, set}
 use Rattle.std.proofs.Common.{get_or-set_same}
@@ -26,7 +26,7 @@ use Rattle.regalloc2_fastalloc_proofs.proofs.BlockEnd.NoMoveInPasses.{Calm}
 use Rattle.regalloc2_fastalloc_proofs.proofs.BlockEnd.NoMoveInLastInst.{LateDone, EarlyDone, late_calm, early_calm, other_pass, calm_start}
 use Rattle.regalloc2_fastalloc_proofs.proofs.Safety.StepsKeepState.{slot_no_register}
 
--- a constraint under which a definition may be anywhere, or in memory
+-- a constraint under which a definition may be anywhere, or on the stack
 abbrev pub IsAnyOrStack : OperandConstraint → Type 0
 IsAnyOrStack c = (c ≡ Any) ⊎ (c ≡ Stack)
 
@@ -49,7 +49,7 @@ module _ (Known : VirtualRegister → Type 0) (ops : List OperandValue) (tame : 
   InNone D there = (k : ℕ) → k < length ops → D k → is_def (op_at ops k).kind ≡ true → IsAnyOrStack (op_at ops k).constraint → (r : Register) →
       at_place there k ≡ InRegister r → ⊥
 
-  -- one of them
+  -- one of these definitions
   placed_none : (j : ℕ) (p : Place) (t u : InstRegs) (old new : StateValue) → j < length ops → is_def (op_at ops j).kind ≡ true →
       ((r : Register) → alloc_of old.places (op_at ops j).vreg.number ≡ InRegister r → ⊥) →
       AllocsDefOp (after i) (def_request (op_at ops j)) is_ret p t u old new →

@@ -1,4 +1,4 @@
--- The last instruction of a block: what is owed behind it, and what a return carries.
+-- The last instruction of a block: what is needed after it, and what a return carries.
 use Rattle.std.proofs.Common.{ℕ, ◌≡◌, ◌≢◌, ◌<◌, ◌⊎◌, inl, inr, Bool, true, false, length, refl, sym, ap, ◌∙◌}
 use Rattle.std.specs.Prelude.{Option, None, Some, ◌||◌}
 use Rattle.std.proofs.lemmas.Bool.{cases_Bool, or_from}
@@ -53,12 +53,12 @@ module _ (code : ProperCode) (F : ℕ → Option Place) where
         )
       ]
 
--- what is owed in v's own slot behind a block that has edges
+-- what is needed in v's own slot after a block that has edges
 abbrev pub OwedOwn : FunctionValue → (ℕ → Option Place) → ℕ → VirtualRegister → Place → Type 0
 OwedOwn f F b v p = ((k : ℕ) → HasEdge f b k → names v (block_at f (target_at f b k)).params ≡ false) × IsWantedBehind f b v × (F v.number ≡ Some p)
 
--- at a block's end, where each vreg is in its slot or nowhere: what is owed in v's own slot may be relied on there, if v has a location
--- where another block uses what this one writes
+-- at a block's end, where each vreg is in its slot or nowhere: what is needed in v's own slot is there, if v has a location
+-- if another block uses what this one writes
 pub owed_there : (f : FunctionValue) (F : ℕ → Option Place) (b : ℕ) (v : VirtualRegister) (block : Bool) (t : StateValue) →
     ((p : Place) → slots_at t v.number ≡ Some p → F v.number ≡ Some p)
     → (place_in t v.number ≡ NoPlace) ⊎ ((k : ℕ) × (place_in t v.number ≡ InSlot k) × (slot_in t v.number ≡ InSlot k))

@@ -1,5 +1,5 @@
 -- At a block's last instruction, where no vreg is in a register, placing operands pushes no move: what one operand does.
--- The fold in `Changes` doesn't fit: what the listing carries, or the operands' record, differs from step to step.
+-- The fold in `Changes` doesn't apply: what the listing carries, or the operands' record, differs from step to step.
 use Rattle.std.proofs.Common.{ℕ, ◌≡◌, ◌≢◌, ◌<◌, List, Bool, true, false, cond, refl, sym, ap, ◌∙◌, inl, inr, length}
 use Rattle.std.specs.Prelude.{Option, None, Some, not, ◌&&◌, ◌||◌}
 use Rattle.std.proofs.lemmas.Bool.{cases_eq, and_right}
@@ -37,20 +37,20 @@ pub record IsOutside (t : StateValue) : Type 0 where
   pub no_register : (n : ℕ) (r : Register) → alloc_of t.places n ≡ InRegister r → ⊥
   pub nobody : (r : Register) → r.number < 64 → vreg_of_preg t.places r ≡ None
 
--- whatever registers were used
+-- the order in which registers were used doesn't matter
 pub outside_used : (t : StateValue) (order : List (List Register)) → IsOutside t → IsOutside (record t { lrus = order })
 outside_used t order o = record { no_register = o.no_register; nobody = o.nobody }
 
--- two operands hold their registers at one time
+-- two operands hold their registers at the same time
 abbrev pub Overlap : Positions → Positions → Type 0
 Overlap p q = ((p.early && q.early) || (p.late && q.late)) ≡ true
 
--- an operand that will get the register: it claims it by its constraint, or a reuse chose it for it
+-- an operand that will get the register: its constraint claims it, or a reuse chose it for the operand
 pub data Asks (ops : List OperandValue) (there : List Place) (k : ℕ) (r : Register) (p : Positions) : Type 0 where
   claims : NeedsFixedReg ops k r p → Asks ops there k r p
   chosen : at_place there k ≡ InRegister r → p ≡ positions_of (op_at ops k) → Asks ops there k r p
 
--- nothing was pushed; registers hold the located vregs there, and are held, in the pass over late operands at both positions; a vreg that is defined is in none
+-- no move was pushed; registers of vregs are held, in the pass over late operands at both positions; a vreg that is defined is in none
 pub record Still (ops : List OperandValue) (pass : Bool) (edits : List (ℕ × MoveValue)) (u : InstRegs) (t : StateValue) : Type 0 where
   pub edits_are : t.edits ≡ edits
   pub early : (r : Register) (v : VirtualRegister) → r.number < 64 → vreg_of_preg t.places r ≡ Some v → has_register u.early r ≡ false
@@ -60,7 +60,7 @@ pub record Still (ops : List OperandValue) (pass : Bool) (edits : List (ℕ × M
       × ((v : VirtualRegister) × (v.number ≡ n) × (vreg_of_preg t.places r ≡ Some v))
   pub away : (k : ℕ) (r : Register) → k < length ops → is_def (op_at ops k).kind ≡ true → alloc_of t.places (op_at ops k).vreg.number ≡ InRegister r → ⊥
 
--- the registers of the operands that aren't done are held, and no vreg is there; two of them that overlap have two registers
+-- the registers of the operands that aren't done are held, and have no vreg; two such operands that overlap have two registers
 pub record Awaiting (ops : List OperandValue) (done : ℕ → Type 0) (there : List Place) (u : InstRegs) (t : StateValue) : Type 0 where
   pub held_early : (k : ℕ) (r : Register) (p : Positions) → k < length ops → (done k → ⊥) → Asks ops there k r p → p.early ≡ true →
       has_register u.early r ≡ false
@@ -71,7 +71,7 @@ pub record Awaiting (ops : List OperandValue) (done : ℕ → Type 0) (there : L
   pub nobody : (k : ℕ) (r : Register) (p : Positions) → k < length ops → (done k → ⊥) → Asks ops there k r p → vreg_of_preg t.places r ≡ None
   pub lates : (k : ℕ) → k < length ops → (done k → ⊥) → is_late (op_at ops k).position ≡ true → at_place there k ≡ NoPlace
 
--- where a place comes from
+-- the origin of an operand's place
 pub data Origin (o : OperandRequest) (p : Place) (t : InstRegs) (old : StateValue) : Type 0 where
   stood_there : alloc_of old.places o.vreg.number ≡ p → p ≢ NoPlace → Origin o p t old
   asked : (q : Register) → p ≡ InRegister q → o.requirement ≡ InPReg q → Origin o p t old
@@ -95,7 +95,7 @@ no_register_slot k r e = cc
 pub none_some : {X : Type 0} (x : Option X) (y : X) → x ≡ None → x ≡ Some y → ⊥
 none_some x y a b = no_some y (sym a ∙ b)
 
--- a place that is there, and is none or a slot below a count, is a slot
+-- a place that isn't none, and is none or a slot below a count, is a slot
 pub slot_number : (count : ℕ) (p : Place) → p ≢ NoPlace → IsSlotOrNone count p → (k : ℕ) × (p ≡ InSlot k)
 slot_number count NoPlace d h = absurd (d refl)
 slot_number count (InRegister r) d h = absurd h
@@ -187,7 +187,7 @@ module _ (point : ℕ) (ops : List OperandValue) (pass : Bool) (edits : List (�
         origin = from;
       }
 
--- tables where the same vregs are located in the same registers
+-- tables where the same vregs are in the same registers
 pub record SamePlaces (old new : StateValue) : Type 0 where
   pub edits : new.edits ≡ old.edits
   pub stood_at : (n : ℕ) (r : Register) → alloc_of new.places n ≡ InRegister r → alloc_of old.places n ≡ InRegister r
@@ -209,7 +209,7 @@ unsent_nothing point v ret b from to t u old new yes_ret (sent made crosses) =
     absurd (let x : (not true && b) ≡ true = ap (λ r. not r && b) (sym yes_ret) ∙ made in cc)
 unsent_nothing point v ret b from to t u old new yes_ret (unsent made eu en) = (eu, en)
 
--- a definition of a return, whose vreg is located in no register, changes no register
+-- a definition of a return, whose vreg is in no register, changes no register
 pub frees_alloc_calm : (point : ℕ) (v : VirtualRegister) (ret : Bool) (p : Place) (t u : InstRegs) (old new : StateValue) → ret ≡ true →
     FreesAlloc point v ret p t u old new → ((r : Register) → alloc_of old.places v.number ≡ InRegister r → ⊥) → (u ≡ t) × SamePlaces old new
 frees_alloc_calm point v ret p t u old new yes_ret d nowhere =

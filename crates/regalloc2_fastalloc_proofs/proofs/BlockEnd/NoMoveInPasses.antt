@@ -1,5 +1,5 @@
 -- At a block's last instruction, where no vreg is in a register, placing operands pushes no move: the passes.
--- The fold in `Changes` doesn't fit: what the listing carries, or the operands' record, differs from step to step.
+-- The fold in `Changes` doesn't apply: what the listing carries, or the operands' record, differs from step to step.
 use Rattle.std.proofs.Common.{ℕ, ◌≡◌, ◌≢◌, ◌<◌, List, Bool, true, false, cond, refl, sym, ap, ◌∙◌, ◌⊎◌, inl, inr, subst, arith, length, set, get_or-set_same}
 use Rattle.std.specs.Prelude.{None, Some, ◌&&◌}
 use Rattle.std.proofs.lemmas.Bool.{cases_eq, and_parts, or_right, both_ways, or_cases}
@@ -44,7 +44,7 @@ still_on ops pass edits t u old new later same s = record {
   away = λ k r less def at. s.away k r less def (same.stood_at (op_at ops k).vreg.number r at);
 }
 
--- and where a vreg has come
+-- and if a vreg got a new location
 settled_still : (ops : List OperandValue) (pass : Bool) (edits : List (ℕ × MoveValue)) (v : VirtualRegister) (p : Place) (t u : InstRegs)
     (old new : StateValue) → Less t u → SetsAlloc old.places new.places v p → new.edits ≡ old.edits
     → alloc_of old.places v.number ≡ NoPlace
@@ -87,7 +87,7 @@ settled_still ops pass edits v p t u old new later z pushed nowhere mine other s
   away = λ k r less def at. s.away k r less def (sym (z.others (op_at ops k).vreg.number (other k less def)) ∙ at);
 }
 
--- a register of whom no vreg comes there
+-- no vreg arrives in a register other than this one
 settled_none : (v : VirtualRegister) (p : Place) (old new : VRegAllocsValue) (r : Register) → r.number < 64 → SetsAlloc old new v p → (p ≡ InRegister r → ⊥) →
     vreg_of_preg old r ≡ None → vreg_of_preg new r ≡ None
 settled_none v p old new r small z ne none = z.holders r small ∙ (let a : is_place p (InRegister r) ≡ false = is_place-other p (InRegister r) ne in
@@ -107,7 +107,7 @@ asks_back : (ops : List OperandValue) (here there : List Place) (k : ℕ) (r : R
 asks_back ops here there k r p e (claims c) = claims c
 asks_back ops here there k r p e (chosen at is) = chosen (sym e ∙ at) is
 
--- operands that wait for their registers go on waiting, if fewer are left, nothing becomes available, and their registers stay empty
+-- operands that wait for their registers go on waiting, if fewer are left, no register becomes available, and their registers stay empty
 pub awaiting_on : (ops : List OperandValue) (D E : ℕ → Type 0) (here there : List Place) (t u : InstRegs) (old new : StateValue) →
     ((j : ℕ) → j < length ops → (E j → ⊥) → D j → ⊥)
     → ((j : ℕ) → j < length ops → (E j → ⊥) → at_place there j ≡ at_place here j) → Less t u
@@ -132,11 +132,11 @@ overlap_cases p q h = elim (or_cases (p.early && q.early) (p.late && q.late) h) 
   | inr e ↦ inr (and_parts p.late q.late e)
 ]
 
--- two operands that both hold a register at the early position hold it at one time
+-- two operands that both hold a register at the early position hold it at the same time
 pub early_overlap : (p q : Positions) → p.early ≡ true → q.early ≡ true → Overlap p q
 early_overlap p q a b = rw (a, b) refl
 
--- two operands that both hold a register at the late position hold it at one time
+-- two operands that both hold a register at the late position hold it at the same time
 pub late_overlap : (p q : Positions) → p.late ≡ true → q.late ≡ true → Overlap p q
 late_overlap p q a b = rw (a, b) (or_right (p.early && q.early) true refl)
 
@@ -216,7 +216,7 @@ awaiting_reuse ops D E n p here there t u old new within reads early_n back at_n
       | inr x ↦ absurd (no_late w e x.0)
     ]
 
--- what a use asks for, and what it holds
+-- what a use requires, and what it holds
 use_asks : (o : OperandValue) (here : Place) (q : Register) → (use_request o here).requirement ≡ InPReg q → (here ≡ InRegister q) ⊎ (o.constraint ≡ FixedReg q)
 use_asks o NoPlace q h = inr (asked_fixed o.constraint q h)
 use_asks o (InRegister r) q h = inl (let e : InPReg r ≡ InPReg q = h in let same : r ≡ q = cc in ap InRegister same)
@@ -232,7 +232,7 @@ free_at t p q r e h = subst (λ (x : Positions). IsAvailableAt t x r) e h
 
 module _ (Known : VirtualRegister → Type 0) (ops : List OperandValue) (tame : IsTame Known ops) (i : ℕ) (is_ret : Bool)
     (ret : (k : ℕ) → k < length ops → is_def (op_at ops k).kind ≡ true → is_ret ≡ true) (pass : Bool) (edits : List (ℕ × MoveValue)) where
-  -- an operand is allocated, and holds its register at a position of the pass at least
+  -- an operand is allocated, and holds its register at least at one position of the pass
   abbrev pub Reaches : Positions → Type 0
   Reaches p = (p.early ≡ true) ⊎ ((pass ≡ true) × (p.late ≡ true))
 
@@ -245,7 +245,7 @@ module _ (Known : VirtualRegister → Type 0) (ops : List OperandValue) (tame : 
   abbrev pub Calm : (ℕ → Type 0) → List Place → InstRegs → StateValue → Type 0
   Calm D there u t = Still ops pass edits u t × Awaiting ops D there u t × (length there ≡ length ops)
 
-  -- where no vreg comes
+  -- if no vreg gets a new location
   same_calm : (D E : ℕ → Type 0) (k : ℕ) (p : Place) (here : List Place) (t u : InstRegs) (old new : StateValue) → NextDone D E k → Less t u →
       SamePlaces old new → Calm D here t old → Calm E (set here k p) u new
   same_calm D E k p here t u old new next later same c = (
@@ -378,7 +378,7 @@ module _ (Known : VirtualRegister → Type 0) (ops : List OperandValue) (tame : 
       early : (positions_of (op_at ops k)).early ≡ true
       early = (let e : is_def (op_at ops k).kind ≡ false = reads_use (op_at ops k) reads in rw e refl)
 
-      -- where the vreg came
+      -- if the vreg got a new location
       mine : (alloc_of old.places (op_at ops k).vreg.number ≡ NoPlace) → (q : Register) → p ≡ InRegister q →
           Origin (use_request (op_at ops k) (at_place here k)) p t old
           → (q.number < 64) × (vreg_of_preg old.places q ≡ None) × ((j : ℕ) (w : Positions) → j < length ops → (E j → ⊥) → Asks ops here j q w → ⊥)

@@ -1,4 +1,4 @@
--- The moves of a branch's arguments, class by class: which places have which values after them.
+-- The moves of a branch's arguments, class by class: which value each place has after them.
 use Rattle.std.proofs.Common.{ℕ, ◌≡◌, ◌≢◌, ◌<◌, ◌≤◌, inl, inr, List, ◌++◌, sym, ap, ◌∙◌, subst, arith}
 use Rattle.std.specs.Prelude.{None, Contains, slice_index_or}
 use Rattle.std.proofs.lemmas.List.{append_assoc}
@@ -18,7 +18,7 @@ use Rattle.regalloc2_fastalloc_proofs.specs.BranchSteps.{IsScratchRegFor, Orders
 use Rattle.regalloc2_fastalloc_proofs.proofs.Branches.ArgMovesPushed.{moves_of, at_pushed, other_pushed, after_append, came_from, AreThereEnds, after_made}
 use Rattle.regalloc2_fastalloc_proofs.proofs.Branches.ArgMovesPushed.{came_own}
 
--- a slot, if it is one, lies below a count
+-- a slot, if it is one, is below a count
 abbrev pub IsLow : ℕ → Place → Type 0
 IsLow count q = (k : ℕ) → q ≡ InSlot k → k < count
 
@@ -42,7 +42,7 @@ pub record Stepped (point : ℕ) (inst_regs : InstRegs) (class : RegClass) (give
   pub high : (n : ℕ) → new.slots.count ≤ n → IsNoTarget given (InSlot n) → came_from made (InSlot n) ≡ InSlot n
   pub assigned : (m : Place × Place × Unit {0}) → Contains given m → came_from made m.1 ≡ m.0
 
--- the ordered moves of one class bring each target what was at its source, and leave all but scratch and temporary places alone
+-- the ordered moves of one class bring each target the value of its source, and leave all but scratch and temporary places alone
 pub stepped : (point : ℕ) (inst_regs : InstRegs) (class : RegClass) (given : Moves) (old new : StateValue) → Pushes point inst_regs class given old new →
     Stepped point inst_regs class given old new
 stepped point inst_regs class given old new p =
@@ -95,7 +95,7 @@ spare_back inst_regs class old new q a d s = (
   ],
 )
 
--- The moves of a branch's arguments, class after class, at a point: the tables before them (g), and those behind the moves of each class.
+-- The moves of a branch's arguments, class after class, at a point: the tables before them (g), and those once the moves of each class are pushed.
 pub record ClassSteps : Type 0 where
   pub point : ℕ
   pub inst_regs : InstRegs
@@ -108,7 +108,7 @@ pub record ClassSteps : Type 0 where
   pub float : Stepped point inst_regs Float (of_class Float given) ints floats
   pub vector : Stepped point inst_regs Vector (of_class Vector given) floats new
 
--- those, of their parts
+-- the record, built from its parts
 abbrev pub steps_of : (point : ℕ) (inst_regs : InstRegs) (given : List ClassMove) (g ints floats new : StateValue) →
     Stepped point inst_regs Int (of_class Int given) g ints → Stepped point inst_regs Float (of_class Float given) ints floats →
     Stepped point inst_regs Vector (of_class Vector given) floats new → ClassSteps
@@ -129,11 +129,11 @@ steps_of point inst_regs given g ints floats new int float vector = record {
 module _ (steps : ClassSteps) where
   open steps use {point, inst_regs, given, g, ints, floats, new, int, float, vector}
 
-  -- the moves of all three classes as they are listed: those that were pushed last come first
+  -- the moves of all three classes as they are listed: those pushed last are first
   pub all_moves : List MoveValue
   all_moves = moves_of vector.made ++ (moves_of float.made ++ moves_of int.made)
 
-  -- from where a place has what it holds after all
+  -- the source of what a place holds after all the moves
   came : Place → Place
   came q = came_from vector.made (came_from float.made (came_from int.made q))
 
@@ -146,7 +146,7 @@ module _ (steps : ClassSteps) where
       ∙ after_made float.made float.ends (after_moves (moves_of vector.made) c) (came_from int.made q)
       ∙ after_made vector.made vector.ends c (came_from float.made (came_from int.made q))
 
-  -- they are in front of what was listed at the point, and nothing else was listed
+  -- the moves are in front of what was listed at the point, and nothing else was listed
   pub all_at : at_point (listed new.edits) point ≡ all_moves ++ at_point (listed g.edits) point
   unfolding all_moves
   all_at =
@@ -168,7 +168,7 @@ module _ (steps : ClassSteps) where
   abbrev pub IsNeverTarget : Place → Type 0
   IsNeverTarget q = (class : RegClass) → IsNoTarget (of_class class given) q
 
-  -- and it is a scratch place of no class
+  -- the place is a scratch place of no class
   abbrev pub IsNeverSpare : Place → Type 0
   IsNeverSpare q = (class : RegClass) → IsScratchRegFor inst_regs g class q → ⊥
 
@@ -196,13 +196,13 @@ module _ (steps : ClassSteps) where
   unfolding came
   three q a b d x y z = ap (λ p. came_from vector.made (came_from float.made p)) x ∙ ap (came_from vector.made) y ∙ z
 
-  -- a place that no move has to do with keeps its value
+  -- a place that no move writes keeps its value
   pub all_kept : (q : Place) → q ≢ NoPlace → IsNeverSpare q → IsLow g.slots.count q → IsNeverTarget q → (c : Cells) → after_moves all_moves c q ≡ c q
   all_kept q real scratch_reserve below other c =
       runs c q ∙ ap c (three q q q q (low_int q real (scratch_reserve Int) below (other Int)) (low_float q real (scratch_reserve Float) below (other Float))
       (low_vector q real (scratch_reserve Vector) below (other Vector)))
 
-  -- and so does a slot that comes later
+  -- and so does a slot that is made later
   pub all_above : (n : ℕ) → new.slots.count ≤ n → IsNeverTarget (InSlot n) → (c : Cells) → after_moves all_moves c (InSlot n) ≡ c (InSlot n)
   all_above n le other c =
       let a : floats.slots.count ≤ new.slots.count = vector.grows in
@@ -213,7 +213,7 @@ module _ (steps : ClassSteps) where
   no_spare_slot : (k : ℕ) (class : RegClass) → IsScratchRegFor inst_regs g class (InSlot k) → ⊥
   no_spare_slot k class s = (let x : InSlot k ≡ InRegister s.0 = s.1 in cc)
 
-  -- a move from slot to slot, of a class, where those of other classes go neither to its source nor to its target
+  -- a slot-to-slot move of a class, if moves of other classes go neither to its source nor to its target
   pub all_moved : (class : RegClass) (from to : ℕ) → Contains (of_class class given) (InSlot from, InSlot to, tt) → from < g.slots.count → to < g.slots.count →
       ((other : RegClass) → other ≢ class → IsNoTarget (of_class other given) (InSlot from)) →
       ((other : RegClass) → other ≢ class → IsNoTarget (of_class other given) (InSlot to)) →
@@ -241,7 +241,7 @@ module _ (steps : ClassSteps) where
           (low_int (InSlot to) (real to) (no_spare_slot to Int) (low to within) (b Int (λ e. cc)))
           (low_float (InSlot to) (real to) (no_spare_slot to Float) (low to within) (b Float (λ e. cc))) (vector.assigned (InSlot from, InSlot to, tt) has)
 
-  -- the tables but for temporary slots
+  -- the tables, except for temporary slots
   pub all_places : new.places ≡ g.places
   all_places = vector.places ∙ float.places ∙ int.places
 
@@ -249,7 +249,7 @@ module _ (steps : ClassSteps) where
   pub all_slots : new.slots.vreg_spillslots ≡ g.slots.vreg_spillslots
   all_slots = vector.vreg_spillslots ∙ float.vreg_spillslots ∙ int.vreg_spillslots
 
-  -- the moves of all classes let the count of units grow
+  -- the moves of all classes only increase the count of units
   pub all_grow : g.slots.count ≤ new.slots.count
   all_grow =
       let a : g.slots.count ≤ ints.slots.count = int.grows in

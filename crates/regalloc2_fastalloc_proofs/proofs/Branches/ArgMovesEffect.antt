@@ -1,4 +1,4 @@
--- The moves of a branch's arguments: which places of a vreg they leave alone, and what they bring to the parameters.
+-- The moves of a branch's arguments: which places of a vreg they leave alone, and which values they bring to the parameters.
 use Rattle.std.proofs.Common.{ℕ, zero, suc, ◌≡◌, ◌≢◌, ◌<◌, ◌≤◌, inl, inr, Bool, true, false, List, [], ◌∷◌, length, refl, sym, ap, ◌∙◌, subst, arith}
 use Rattle.std.specs.Prelude.{Option, None, Some, Contains, slice_index_or}
 use Rattle.std.proofs.lemmas.Bool.{or_left, or_right}
@@ -23,7 +23,7 @@ use Rattle.regalloc2_fastalloc_proofs.proofs.Branches.EdgeArgsGathered.{of_class
 use Rattle.regalloc2_fastalloc_proofs.proofs.BlockEnd.BranchAlone.{IsHeldHere}
 use Rattle.regalloc2_fastalloc_proofs.proofs.BlockEnd.BranchEndsBlock.{ToCome, cases_opt, slot_there}
 
--- a vreg that is listed is named
+-- a list names each vreg in it
 pub names_at : (ps : List VirtualRegister) (j : ℕ) (v : VirtualRegister) → j < length ps → argument_at ps j ≡ v → names v ps ≡ true
 unfolding names
 names_at [] j v lt e = absurd (omega arith)
@@ -34,8 +34,8 @@ pub one_slot : (m n : ℕ) → InSlot m ≡ InSlot n → m ≡ n
 one_slot m n e = cc
 
 -- The moves of the arguments of the block b's branch, class after class. F: the slots at the walk's end, each of one vreg; the parameters of the block's
--- successors are known, of the classes of their arguments; the tables before the moves are whole, with no vreg in a register that is kept for moves; and
--- the moves that are given are those of the arguments, but for those that the branch defines itself.
+-- successors are known, of the classes of their arguments; the tables before the moves are whole, with no vreg in a register reserved for moves; and
+-- the given moves are those of the arguments, except for those that the branch defines itself.
 pub record ArgMoves : Type 1 where
   pub Known : VirtualRegister → Type 0
   pub same : (v w : VirtualRegister) → Known v → Known w → v.number ≡ w.number → v ≡ w
@@ -83,7 +83,7 @@ module _ (args : ArgMoves) where
         class_is = sym (classes o.0 o.1 o.2 arg.0) ∙ sym arg.1 ∙ g0.2;
       }
 
-  -- whose slot it is
+  -- the owner of a slot
   target_is : (v : VirtualRegister) → Known v → (n : ℕ) → F v.number ≡ Some (InSlot n) → (c : RegClass) → (t : Target c n) →
       argument_at (params_on f b t.edge) t.at ≡ v
   target_is v known n mine c t = same (argument_at (params_on f b t.edge) t.at) v (known_params t.edge t.at t.has t.less) known
@@ -96,7 +96,7 @@ module _ (args : ArgMoves) where
       let t : Target c n = whose c m n has to in
       ne (sym t.class_is ∙ ap (λ (w : VirtualRegister). w.class) (target_is v known n mine c t))
 
-  -- nor do those of any, where it is no parameter of a successor
+  -- nor do the moves of any class, if the vreg is no parameter of a successor
   no_parameter : (v : VirtualRegister) → Known v → ((e : ℕ) → HasEdge f b e → names v (params_on f b e) ≡ false) → (n : ℕ) → F v.number ≡ Some (InSlot n) →
       (c : RegClass) → IsNoTarget (of_class c given) (InSlot n)
   no_parameter v known free n mine c m has to =
@@ -104,7 +104,7 @@ module _ (args : ArgMoves) where
       let named : names v (params_on f b t.edge) ≡ true = names_at (params_on f b t.edge) t.at v t.less (target_is v known n mine c t) in
       let not_named : names v (params_on f b t.edge) ≡ false = free t.edge t.has in cc
 
-  -- and none goes to a register
+  -- and no move goes to a register
   no_register : (r : Register) (c : RegClass) → IsNoTarget (of_class c given) (InRegister r)
   no_register r c m has to =
       let g0 = of_class-from c given m has in
@@ -140,7 +140,7 @@ module _ (args : ArgMoves) where
         (all_kept steps (InSlot s.0) (λ e. cc) (slot_not_spare s.0)
         (λ k e. subst (λ x. x < g.slots.count) (one_slot s.0 k e) s.2) (no_parameter v known free s.0 mine) c)
 
-    -- a place where v may be relied on keeps its value
+    -- a place that must hold v keeps its value
     pub relied_kept : ((e : ℕ) → HasEdge f b e → names v (params_on f b e) ≡ false) → (block : Bool) (p : Place) →
         Relied false block (stands_at g v.number) (slots_at g v.number) (F v.number) p → (c : Cells) → after_moves ms c p ≡ c p
     relied_kept free block p h c = elim h.1 [
@@ -165,7 +165,7 @@ module _ (args : ArgMoves) where
             (all_kept steps (InRegister r) (λ e. cc) (not_spare v.number r is) (λ k e. absurd cc) (no_register r) c))
         by_place p (InSlot n) is at = slot_kept free p (ap opt (whole.own_slot v.number n is) ∙ ap opt (sym is) ∙ at) c
 
-    -- a parameter's slot has what was in that of its argument, which the branch doesn't define itself
+    -- a parameter's slot has what was in that of its argument, if the branch doesn't define the argument itself
     pub passed_moved : (IsOwnDef f b v → ⊥) → (q : Place) → PassedTo f (λ w. F w.number) b v q → (r : Place) × (slots_at g v.number ≡ Some r)
         × ((c : Cells) → after_moves ms c q ≡ c r)
     passed_moved foreign q (k, w, edge, passes, slot) =

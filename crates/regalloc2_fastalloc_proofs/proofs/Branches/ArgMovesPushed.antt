@@ -21,7 +21,7 @@ unfoldable pub moves_of : Moves → List MoveValue
 moves_of [] = []
 moves_of (m ∷ ms) = record { from = m.0; to = m.1 } ∷ moves_of ms
 
--- they are in front of what was listed at the point
+-- the moves are in front of what was listed at the point
 pub at_pushed : (point : ℕ) (made : Moves) (es : List (ℕ × MoveValue)) → at_point (listed (es ++ pushed point made)) point ≡ moves_of made
     ++ at_point (listed es) point
 unfolding moves_of
@@ -50,11 +50,11 @@ unfolding after_moves
 after_append [] ns c q = refl
 after_append (m ∷ ms) ns c q = after_append ms ns (stored c m.to (c m.from)) q
 
--- from where a place has what it holds after the moves
+-- the source of what a place holds after the moves
 abbrev pub came_from : Moves → Place → Place
 came_from made q = in_turn (ends_of made) own_names q
 
--- both ends of a move are there
+-- neither end of a move is none
 abbrev pub AreThereEnds : Moves → Type 0
 AreThereEnds made = All (λ m. (m.0 ≢ NoPlace) × (m.1 ≢ NoPlace)) made
 
@@ -72,7 +72,7 @@ came_more : (m : Place × Place × Unit {0}) (ms : Moves) (q : Place) → came_f
 unfolding in_turn
 came_more m ms q = in_turn-any (ends_of ms) (moved own_names m.1 m.0) q
 
--- after a list of moves a place has what was in the place that it came from
+-- after a list of moves a place holds the value of its source
 pub after_made : (made : Moves) → AreThereEnds made → (c : Cells) (q : Place) → after_moves (moves_of made) c q ≡ c (came_from made q)
 unfolding after_moves moves_of in_turn
 after_made [] h c q = refl
@@ -81,7 +81,7 @@ after_made (m ∷ ms) h c q =
     ∙ stored_name c m.1 m.0 (came_from ms q) (h 0 m (omega arith)).1
     ∙ ap c (sym (came_more m ms q))
 
--- where none goes to the place, it has its own
+-- if no move goes to the place, it keeps its value
 pub came_own : (made : Moves) (q : Place) → All (λ m. m.1 ≢ q) made → came_from made q ≡ q
 unfolding in_turn
 came_own [] q h = refl
@@ -90,7 +90,7 @@ came_own (m ∷ ms) q h =
     let other : is_place m.1 q ≡ false = is_place-other m.1 q (h 0 m (omega arith)) in
     came_more m ms q ∙ ap (λ x. cond (is_place m.1 x) m.0 x) rest ∙ ap (λ b. cond b m.0 q) other
 
--- what is listed from the instruction on, whose moves were pushed before it
+-- the listing from the instruction on, with the moves that were pushed before it
 pub walked_made : (insts : ℕ → InstValue) (places : ℕ → List Place) (i : ℕ) (ms : List MoveValue) (es fs : List (ℕ × MoveValue)) →
     at_point (listed fs) (before i) ≡ ms ++ at_point (listed es) (before i) → at_point (listed fs) (after i) ≡ at_point (listed es) (after i) →
     walked insts (at_point (listed fs)) places i 1 ≡ with_moves ms (walked insts (at_point (listed es)) places i 1)

@@ -1,4 +1,4 @@
--- Where the values of vregs are at a block's beginning, and where branches leave what they define.
+-- The places that hold vregs at a block's start, and where branches leave what they define.
 use Rattle.std.proofs.Common.{ℕ, ◌≡◌, ◌≢◌, ◌<◌, ◌⊎◌, inl, inr, true, List, length, refl, sym, ap, ◌∙◌}
 use Rattle.std.specs.Prelude.{Option, None, Some, slice_index_or}
 use Rattle.regalloc2_names.specs.declared.OperandConstraint.TheVariants.{FixedReg}
@@ -23,8 +23,8 @@ left_at f placesf e j = place_at (placesf (last_of (block_at f e))) j
 abbrev pub IsNeeded : FunctionValue → VirtualRegister → Type 0
 IsNeeded f v = (b e k : ℕ) → IsEdgeInto f b e k → IsOwnDef f e v → IsUsedElsewhere f v
 
--- Where the values of vregs are at a block's beginning: those that the branch into it defines in the places of its operands, those of the parameters that
--- are given them too, and all others in their slots. What only its own branch passes is nowhere.
+-- The places that hold vregs at a block's start: those that the branch into it defines in the places of its operands, the parameters to which they
+-- are passed there too, and all others in their slots. A vreg that only its own branch passes is nowhere.
 pub record Arrive (f : FunctionValue) (placesf : ℕ → List Place) (F : ℕ → Option Place) (stand : ℕ → VirtualRegister → Option Place) : Type 0 where
   pub own : (b e k j : ℕ) (v : VirtualRegister) → IsEdgeInto f b e k → DefinesNumber (branch_operands f e) v.number j → IsUsedElsewhere f v →
       stand b v ≡ Some (left_at f placesf e j)
@@ -36,7 +36,7 @@ pub record Arrive (f : FunctionValue) (placesf : ℕ → List Place) (F : ℕ �
       IsOwnDef f e (slice_index_or (arguments_at f e k) n no_vreg) → ⊥) → stand b v ≡ F v.number
   pub unused : (b d e k : ℕ) (v : VirtualRegister) → IsEdgeInto f d e k → IsOwnDef f e v → (IsUsedElsewhere f v → ⊥) → stand b v ≡ None
 
--- where the branch at the end of the block e leaves what it defines: in the register that is named, each in its own, or in the vreg's slot
+-- where the branch at the end of the block e leaves what it defines: in the fixed register, one for each, or in the vreg's slot
 pub record DefsPlaced (f : FunctionValue) (placesf : ℕ → List Place) (F : ℕ → Option Place) (e : ℕ) : Type 0 where
   pub kinds : (j : ℕ) → j < length (branch_operands f e) → is_def (op_at (branch_operands f e) j).kind ≡ true →
       ((r : Register) × ((op_at (branch_operands f e) j).constraint ≡ FixedReg r)) ⊎ IsAnyOrStack (op_at (branch_operands f e) j).constraint
@@ -52,7 +52,7 @@ pub record DefsPlaced (f : FunctionValue) (placesf : ℕ → List Place) (F : �
 module _ (f : FunctionValue) (once : DefinedOnce f) (placesf : ℕ → List Place) (F : ℕ → Option Place)
     (own : (x y n : ℕ) → F x ≡ Some (InSlot n) → F y ≡ Some (InSlot n) → x ≡ y) (e : ℕ) (within : last_of (block_at f e) < length f.insts)
     (p : DefsPlaced f placesf F e) where
-  -- a definition in a slot is in its own
+  -- a definition in a slot is in its own vreg's
   pub own_slot_of : (k : ℕ) → k < length (branch_operands f e) → is_def (op_at (branch_operands f e) k).kind ≡ true → (n : ℕ) →
       left_at f placesf e k ≡ InSlot n → F (op_at (branch_operands f e) k).vreg.number ≡ Some (InSlot n)
   own_slot_of k lt def n at = elim (p.kinds k lt def) [
@@ -60,7 +60,7 @@ module _ (f : FunctionValue) (once : DefinedOnce f) (placesf : ℕ → List Plac
     | inr slot ↦ (let s = p.slotted k lt def slot in s.2 ∙ ap Some (sym s.1 ∙ at))
   ]
 
-  -- a definition is left somewhere, and no two in one place
+  -- each definition has a place, and no two have one place
   pub left_there : (k : ℕ) → k < length (branch_operands f e) → is_def (op_at (branch_operands f e) k).kind ≡ true → left_at f placesf e k ≢ NoPlace
   left_there k lt def none = elim (p.kinds k lt def) [
     | inl r ↦ (let x : InRegister r.0 ≡ NoPlace = sym (p.fixed k r.0 lt def r.1) ∙ none in cc)

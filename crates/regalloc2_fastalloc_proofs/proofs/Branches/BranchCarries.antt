@@ -1,4 +1,4 @@
--- A branch at the end of its block: what it carries of each vreg, and where the vregs are located before it.
+-- A branch at the end of its block: what it carries of each vreg, and the locations of vregs before it.
 use Rattle.std.proofs.Common.{ℕ, zero, suc, ◌≡◌, ◌≢◌, ◌+◌, ◌<◌, ◌≤◌, ◌⊎◌, inl, inr, Bool, true, false, List, length, refl, sym, ap, ◌∙◌, subst, arith}
 use Rattle.std.specs.Prelude.{Option, None, Some, slice_index_or}
 use Rattle.std.proofs.lemmas.Bool.{cases_Bool, cases_eq}
@@ -73,7 +73,7 @@ whole_like old new places slots sizes grows w = record {
     more (InRegister r) h = h
     more (InSlot k) h = omega (arith, h, grows)
 
--- registers that fit go on fitting where the allocatable, the fixed-stack and the dedicated ones stay the same
+-- registers that fit still fit if the allocatable, the fixed-stack and the dedicated ones stay the same
 pub fit_like : (old new : StateValue) → new.allocatable ≡ old.allocatable → new.fixed_stack ≡ old.fixed_stack → new.dedicated_scratch ≡ old.dedicated_scratch
     → Fit old → Fit new
 fit_like old new a s d f = record {
@@ -103,7 +103,7 @@ param_cases f b v (suc k) = elim (param_cases f b v k) [
 ]
 
 -- A branch at the end of the block b, in a function with the places of its operands. F: the slots at the walk's end, in which the branch's definitions are
--- placed as they have them; old, middle and new: the tables behind it, before its arguments are passed, and once they are. It neither defines nor
+-- placed accordingly; old, middle and new: the tables after it, before its arguments are passed, and once they are. It neither defines nor
 -- reads the parameters of the block's successors, which are known, of the classes of their arguments.
 pub record BlockBranch : Type 1 where
   pub code : ProperCode
@@ -146,7 +146,7 @@ module _ (branch : BlockBranch) where
   br : Branched code last here a.ended old middle
   br = branched code last blank here old middle within are_listed tame ends between bare a
 
-  -- so it ends its block
+  -- the branch ends its block
   abbrev at_end : EndsBlock
   at_end = record {
     code = code;
@@ -200,7 +200,7 @@ module _ (branch : BlockBranch) where
   stands_same : (x : ℕ) → stands_at new x ≡ stands_at p.gathered x
   stands_same x = ap (λ (y : VRegAllocsValue). opt (alloc_of y x)) same_places
 
-  -- the slots to come, of each of the tables
+  -- the slots that are made after each of the tables
   above : (x n : ℕ) → F x ≡ Some (InSlot n) → slots_at p.gathered x ≡ None → new.slots.count ≤ n
   above x n comes none = come.fresh x n comes (slots_same x ∙ none)
 
@@ -247,7 +247,7 @@ module _ (branch : BlockBranch) where
     all = part.all;
   }
 
-  -- what was walked before the moves of the arguments
+  -- the listing without the moves of the arguments
   abbrev L : List Item
   L = walked (inst_at f) (at_point (listed p.gathered.edits)) placesf last 1
 
@@ -305,14 +305,14 @@ module _ (branch : BlockBranch) where
       (settled : (place_in old v.number ≡ NoPlace) ⊎ ((k : ℕ) × (place_in old v.number ≡ InSlot k) × (slot_in old v.number ≡ InSlot k)))
       (writes_it : block ≡ true → IsUnwritten f b v → ⊥) (lives : block ≡ true → (c : ℕ) → c < length f.blocks → c ≢ b → IsUsedIn f c v →
       place_in old v.number ≢ NoPlace) where
-    -- where v may be relied on
+    -- the places that must hold v
     abbrev On : StateValue → Place → Type 0
     On t = Relied false block (stands_at t v.number) (slots_at t v.number) (F v.number)
 
     abbrev Own : Place → Type 0
     Own = OwedOwn f F b v
 
-    -- with the reloads
+    -- the listing with the reloads
     reloaded : Carries v L (On p.gathered) Own
     reloaded =
         settled_carries (inst_at f) placesf last v block (F v.number) (λ r e. let n = come.only v.number (InRegister r) e in
@@ -337,7 +337,7 @@ module _ (branch : BlockBranch) where
     moved : (q : Place) → PassedTo f (λ w. F w.number) b v q → (r : Place) × Slot r × ((c : Cells) → after_moves moves c q ≡ c r)
     moved q passed = passed_moved arg_moves v known foreign q passed
 
-    -- where v is no parameter of a successor
+    -- if v is no parameter of a successor
     carries_free : ((e : ℕ) → HasEdge f b e → names v (params_on f b e) ≡ false) →
         Carries v (with_moves moves L) (λ q. On p.gathered q ⊎ Slot q) (StandsAfter f (λ u. F u.number) b v)
     carries_free none =
@@ -345,7 +345,7 @@ module _ (branch : BlockBranch) where
         (λ q h c. relied_kept arg_moves v known none block q h c)
         moved (passed_untouched v) (unwritten v free) (λ q h. h) reloaded
 
-    -- where it is one, the branch doesn't read it
+    -- if it is one, the branch doesn't read it
     carries_param : (e : ℕ) → HasEdge f b e → names v (params_on f b e) ≡ true →
         Carries v (with_moves moves L) (λ q. ⊥ ⊎ Slot q) (StandsAfter f (λ u. F u.number) b v)
     carries_param e edge named =

@@ -24,7 +24,7 @@ use Rattle.regalloc2_fastalloc_proofs.proofs.Branches.ArgsSpilled.{Stage}
 use Rattle.regalloc2_fastalloc_proofs.proofs.Branches.EdgeArgsGathered.{MovesByClass, gathered}
 use Rattle.regalloc2_fastalloc_proofs.proofs.Operands.BlockTail.{tail_of}
 
--- a slot that comes later is needed, where the block doesn't write its vreg
+-- a slot that is made later is needed, if the block doesn't write its vreg
 abbrev pub is_kept : Bool → ℕ → Option Place → Place → ℕ → Bool
 is_kept block v F p x = nat_eq x v && (not block && is_there F p)
 
@@ -43,7 +43,7 @@ module _ (insts : ℕ → InstValue) (placesf : ℕ → List Place) (last : ℕ)
   abbrev pub from_last : StateValue → List Item
   from_last t = walked insts (at_point (listed t.edits)) placesf last 1
 
-  -- where v may be relied on, with the tables t
+  -- the places that must hold v, with the tables t
   abbrev pub On : StateValue → Place → Type 0
   On t = Relied false block (stands_at t v.number) (slots_at t v.number) F
 
@@ -94,13 +94,13 @@ module _ (insts : ℕ → InstValue) (placesf : ℕ → List Place) (last : ℕ)
       (begin_stage t old between scratch_reserve c) k u new given gathers in
       end_stage u new d.stage
 
--- what settling does to the tables
+-- what spilling the arguments does to the tables
 abbrev pub Parted : FunctionValue → ℕ → ℕ → ℕ → InstRegs → InstRegs → StateValue → StateValue → List ClassMove → Type 0
 Parted f b last k t u old new given = MovesByClass (tail_of (λ v. ⊥) (inst_at f) (λ j. []) last 0 (λ v p. ⊥)) (exec_item (inst_at f last) []) (λ p x. false)
     (λ r x. refl)
     f b k t u old new given
 
--- once the arguments of k edges are gathered, each is located, and the gathered moves go from their slots to the parameters' slots
+-- once the arguments of k edges are gathered, each has a location, and the gathered moves go from their slots to the parameters' slots
 pub parted : (f : FunctionValue) (b last : ℕ) (t u : InstRegs) (old new : StateValue) (k : ℕ) (given : List ClassMove) →
     GathersMoves f b (before last) t old k u new given → Between last old → SpareHere t old → Parted f b last k t u old new given
 parted f b last t u old new k given gathers between scratch_reserve =

@@ -1,4 +1,4 @@
--- A branch of a well-formed function, in the walk over its blocks, carries what it has to.
+-- A branch of a well-formed function, in the walk over its blocks, carries what its successors need.
 use Rattle.std.proofs.Common.{ℕ, suc, ◌≡◌, ◌≢◌, ◌+◌, ◌<◌, ◌⊎◌, inl, inr, true, false, List, [], ◌∷◌, length, refl, sym, ap, ◌∙◌, subst, arith}
 use Rattle.std.specs.Prelude.{Option, None, Some}
 use Rattle.std.proofs.lemmas.Bool.{cases_Bool, or_cases}
@@ -57,7 +57,7 @@ kind_is : (k : OperandKind) → is_def k ≡ true → k ≡ Def
 kind_is Def h = refl
 kind_is Use h = absurd cc
 
--- a vreg that parameters name is one of them
+-- a vreg whose number is that of a parameter is that parameter
 named_param : (ps : List VirtualRegister) (v : VirtualRegister) → names v ps ≡ true → (n : ℕ) × (n < length ps) × (argument_at ps n ≡ v)
 unfolding names
 named_param [] v h = absurd cc
@@ -95,7 +95,7 @@ module _ (env : MachineValue) (f : FunctionValue) (limited : IsLimited f) (ok : 
       into : (k j : ℕ) (n : ℕ) → HasEdge f b k → DefinesNumber (branch_operands f b) n j → IsEdgeInto f (target_at f b k) b k
       into k j n edge d = record { block = lb; edge = edge; target = refl; definitions = (branch, (n, j, d)) }
 
-      -- what the branch defines goes out in the operand's place
+      -- what the branch defines is in the operand's place after the block
       own_out : IsNeeded f v ⊎ IsUnused f v → (j : ℕ) → DefinesNumber (branch_operands f b) v.number j → (p : Place) → GoesOut f stand b v p →
           p ≡ left_at f placesf b j
       own_out known j d p (inl h) = elim known [
@@ -112,7 +112,7 @@ module _ (env : MachineValue) (f : FunctionValue) (limited : IsLimited f) (ok : 
           let at = arrive.given (target_at f b h.0) b h.0 n.0 j (into h.0 j v.number h.2 d) n.1 arg in
           let same : Some p ≡ Some (left_at f placesf b j) = sym h.4 ∙ subst (λ w. stand (target_at f b h.0) w ≡ Some (left_at f placesf b j)) n.2 at in cc
 
-      -- and all else in slots
+      -- and everything else is in slots
       foreign_out : IsNeeded f v ⊎ IsUnused f v → (IsOwnDef f b v → ⊥) → (p : Place) → GoesOut f stand b v p → StandsAfter f (λ w. F w.number) b v p
       foreign_out known foreign p (inl h) = elim known [
         | inl needed ↦ (
@@ -177,7 +177,7 @@ module _ (env : MachineValue) (f : FunctionValue) (limited : IsLimited f) (ok : 
         | inr free ↦ free
       ]
 
-      -- behind the branch no move is listed
+      -- no move is listed after the branch
       quiet : at_point (listed new.edits) (after last) ≡ []
       quiet =
           let br = branched (proper_of (Made f) f placesf (all_proper env f limited ok)) last e.allocates.allocates.blank
@@ -203,7 +203,7 @@ module _ (env : MachineValue) (f : FunctionValue) (limited : IsLimited f) (ok : 
         made : Made f v
         made = (let there = used_somewhere f v used in used_made f ok.defined_once ok.follow ok.uses_defined v there.0 there.1 there.2)
 
-        -- what it defines
+        -- the branch carries what it defines
         own_carries : (j : ℕ) → DefinesNumber (branch_operands f b) v.number j → Carries v L On (GoesOut f stand b v)
         own_carries j d =
             let named : (op_at (inst_at f last).operands j).vreg ≡ v = one_made f ok.defined_once (op_at (inst_at f last).operands j).vreg v
@@ -246,7 +246,7 @@ module _ (env : MachineValue) (f : FunctionValue) (limited : IsLimited f) (ok : 
               | inr slot ↦ (let s = (placed b lb branch).slotted k lk def slot in ap (is_clobbered (inst_at f last).clobbers) s.1)
             ]
 
-        -- and what it doesn't
+        -- and what it doesn't define
         foreign_carries : (IsOwnDef f b v → ⊥) → Carries v L On (GoesOut f stand b v)
         foreign_carries foreign =
             carries_weaken v L On On (StandsAfter f (λ u. slots_at final u.number) b v) (GoesOut f stand b v) (λ p h. h)
@@ -287,7 +287,7 @@ module _ (env : MachineValue) (f : FunctionValue) (limited : IsLimited f) (ok : 
             defined_by-number (inst_at f last).operands v.number own.0 own.1 in cc)
       ]
 
-    -- in a well-formed function each branch carries what is wanted behind its block
+    -- in a well-formed function each branch carries what is needed after its block
     pub branches_carry : BranchCarries f placesf (slots_at final) stand
     branches_carry b last old new lb e =
         let end : last + 1 ≡ (block_at f b).range.end = e.end in

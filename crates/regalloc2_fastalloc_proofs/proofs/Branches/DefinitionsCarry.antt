@@ -1,4 +1,4 @@
--- What a branch defines it leaves in the operand's place: its listing carries that from nowhere to there.
+-- A branch leaves what it defines in the operand's place: its listing carries that from nowhere to there.
 use Rattle.std.proofs.Common.{ℕ, ◌≡◌, inl, List, [], ◌∷◌, sym, ap, ◌∙◌, subst}
 use Rattle.regalloc2_names.specs.declared.sets.PRegSet.{PRegSet}
 use Rattle.regalloc2_names.specs.Register.{VirtualRegister}
@@ -16,7 +16,7 @@ use Rattle.regalloc2_semantics.proofs.ListingParts.{walked-one}
 use Rattle.regalloc2_semantics.proofs.MoveInFront.{with_moves-none}
 use Rattle.regalloc2_semantics.proofs.NotRead.{Unread}
 
--- an instruction that makes v in a place, and doesn't read it
+-- an instruction that defines v in a place, and doesn't read it
 pub made_carries : (v : VirtualRegister) (ms : List MoveValue) (ops : List OperandValue) (places : List Place) (clobbers : PRegSet) (q : Place) →
     DefinesVRegAt ops places clobbers q v → Unread ops v → Carries v (with_moves ms (Exec ops places clobbers ∷ [])) (λ p. ⊥) (λ p. p ≡ q)
 made_carries v ms ops places clobbers q makes unread =
@@ -27,7 +27,7 @@ made_carries v ms ops places clobbers q makes unread =
     (λ p e. inl (subst (λ x. DefinesVRegAt ops places clobbers x v) (sym e) makes))
     (carries_nil v (λ p. p ≡ q) (λ p. p ≡ q) (λ p e. e)))
 
--- the same of an instruction behind which no move is listed
+-- the same of an instruction after which no move is listed
 pub made_walked : (v : VirtualRegister) (insts : ℕ → InstValue) (at : ℕ → List MoveValue) (placesf : ℕ → List Place) (i : ℕ) (q : Place) →
     DefinesVRegAt (insts i).operands (placesf i) (insts i).clobbers q v → Unread (insts i).operands v → at (after i) ≡ [] →
     Carries v (walked insts at placesf i 1) (λ p. ⊥) (λ p. p ≡ q)

@@ -26,7 +26,7 @@ contains_cases : {X : Type 0} → (x y : X) (xs : List X) → Contains (x ∷ xs
 contains_cases x y xs (zero, lt, e) = inl e
 contains_cases x y xs (suc k, lt, e) = inr (k, omega (arith, lt), e)
 
--- the classes
+-- comparing two equal classes is true
 is_class-same : (c : RegClass) → is_class c c ≡ true
 unfolding is_class
 is_class-same Int = refl
@@ -40,7 +40,7 @@ is_class-true Float Float h = refl
 is_class-true Vector Vector h = refl
 is_class-true c d h = absurd cc
 
--- one in front, or not
+-- an item of a list is one of the list with or without one more in front
 in_first : {X : Type 0} → (b : Bool) (x : X) (xs : List X) → b ≡ true → Contains (cond b (x ∷ xs) xs) x
 in_first true x xs h = (0, omega arith, refl)
 in_first false x xs h = absurd cc
@@ -190,7 +190,7 @@ module _ (tail : BlockTail) (item : Item) (X : Place → ℕ → Bool) (clear : 
         ];
       }
 
-  -- those of the first k edges
+  -- the arguments of the first k edges
   pub record MovesByClass (f : FunctionValue) (b k : ℕ) (t u : InstRegs) (old new : StateValue) (given : List ClassMove) : Type 0 where
     pub stage : Stage tail item X clear u new
     pub comes : Comes t u old new

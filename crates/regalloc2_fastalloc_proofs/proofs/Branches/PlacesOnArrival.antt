@@ -1,5 +1,5 @@
--- Where each vreg is at a block's beginning, as a function of block and vreg: what the branch into the block defines, and what parameters are given of it, in
--- the operand's place; what only its own branch passes nowhere; and all else in its slot.
+-- Each vreg's location at a block's start, as a function of block and vreg: what the branch into the block defines, and the parameters it is passed to, in
+-- the operand's place; a vreg that only its own branch passes nowhere; every other vreg in its slot.
 use Rattle.std.proofs.Common.{ℕ, ◌≡◌, ◌<◌, ◌⊎◌, inl, inr, true, List, [], length, refl, sym, ap, ◌∙◌, subst, arith}
 use Rattle.std.specs.Prelude.{Option, None, Some, slice_index_or}
 use Rattle.std.proofs.lemmas.Bool.{cases_eq, cases_lt}
@@ -35,7 +35,7 @@ pub record ComesByOwn (f : FunctionValue) (b : ℕ) (v : VirtualRegister) : Type
   pub defines : DefinesNumber (branch_operands f from) v.number index
   pub used : IsUsedElsewhere f v
 
--- v is a parameter of b, and the branch into b gives it what it defines
+-- v is a parameter of b, and the branch into b passes what it defines to v
 pub record ComesByParam (f : FunctionValue) (b : ℕ) (v : VirtualRegister) : Type 0 where
   pub from : ℕ
   pub position : ℕ
@@ -46,14 +46,14 @@ pub record ComesByParam (f : FunctionValue) (b : ℕ) (v : VirtualRegister) : Ty
   pub is : slice_index_or (block_at f b).params param no_vreg ≡ v
   pub defines : DefinesNumber (branch_operands f from) (slice_index_or (arguments_at f from position) param no_vreg).number index
 
--- how a vreg comes to the block b: by the branch, given by it, nowhere, or in its slot
+-- how a vreg enters the block b: defined by the branch, passed by it, nowhere, or in its slot
 pub data Arrival (f : FunctionValue) (b : ℕ) (v : VirtualRegister) : Type 0 where
   by_own : ComesByOwn f b v → Arrival f b v
   by_param : ComesByParam f b v → Arrival f b v
   nowhere : IsUnused f v → Arrival f b v
   in_slot : (IsUnused f v → ⊥) → (ComesByOwn f b v → ⊥) → (ComesByParam f b v → ⊥) → Arrival f b v
 
--- where it is then; F: the slots at the walk's end
+-- its location then; F: the slots at the walk's end
 abbrev pub place_on : (f : FunctionValue) (placesf : ℕ → List Place) (F : ℕ → Option Place) (b : ℕ) (v : VirtualRegister) → Arrival f b v → Option Place
 place_on f placesf F b v (by_own c) = Some (left_at f placesf c.from c.index)
 place_on f placesf F b v (by_param c) = Some (left_at f placesf c.from c.index)
@@ -68,15 +68,15 @@ some_definition f e = elim (below (λ k. is_def (op_at (branch_operands f e) k).
       | inr none ↦ inr (λ d. none (d.1, d.2.operand, d.2.definition))
     ]
 
--- and whether it is a branch that does
+-- and whether that instruction is a branch
 ends_in_definitions : (f : FunctionValue) (e : ℕ) → Decided (EndsInDefinitions f e)
 ends_in_definitions f e = both _ _ (is_so (inst_at f (last_of (block_at f e))).is_branch) (some_definition f e)
 
--- a number is another, or it isn't
+-- two numbers are equal, or they aren't
 same_number : (m n : ℕ) → Decided (m ≡ n)
 same_number m n = elim (cases_eq m n) [ inl e ↦ inl e | inr ne ↦ inr (λ e. ne e) ]
 
--- whether a branch that defines leads into a block
+-- whether a branch with definitions leads into a block
 edge_or_none : (f : FunctionValue) (b : ℕ) → Decided ((e k : ℕ) × IsEdgeInto f b e k)
 edge_or_none f b = elim (below (λ e. ((k : ℕ) × (k < length (block_at f e).succs) × (target_at f e k ≡ b)) × EndsInDefinitions f e)
     (λ e. both _ _ (below (λ k. target_at f e k ≡ b) (λ k. same_number (target_at f e k) b) (length (block_at f e).succs)) (ends_in_definitions f e))
@@ -171,7 +171,7 @@ module _ (env : MachineValue) (f : FunctionValue) (ok : IsWellFormed env f) wher
         ]
   ]
 
-  -- how a vreg comes to a block
+  -- how a vreg enters a block
   pub arrival : (b : ℕ) (v : VirtualRegister) → Arrival f b v
   arrival b v = elim (edge_or_none f b) [
     | inl x ↦ elim (by_edge b v x.0 x.1 x.2) [
@@ -186,7 +186,7 @@ module _ (env : MachineValue) (f : FunctionValue) (ok : IsWellFormed env f) wher
     ]
   ]
 
-  -- where it is there
+  -- its location on entry
   abbrev pub stand_on : (ℕ → List Place) → (ℕ → Option Place) → ℕ → VirtualRegister → Option Place
   stand_on placesf F b v = place_on f placesf F b v (arrival b v)
 
@@ -257,7 +257,7 @@ module _ (env : MachineValue) (f : FunctionValue) (ok : IsWellFormed env f) wher
     on_unused b d e k v edge own un (nowhere u) = refl
     on_unused b d e k v edge own un (in_slot u c g) = absurd (u (d, e, k, edge, own, un))
 
-    -- so vregs are where blocks carry them
+    -- each vreg is at the location from which blocks carry it
     pub arrives : Arrive f placesf F (stand_on placesf F)
     arrives = record {
       own = λ b e k j v edge d used. on_own b e k j v edge d used (arrival b v);
@@ -297,6 +297,6 @@ live_used f v l (passed_there m k way has free) = elim (cases_lt m.block (length
 ]
 live_used f v l (later m w way free aside on) = live_used f v (next_of f m w) on
 
--- and so it is needed
+-- and is therefore needed
 pub live_needed : (f : FunctionValue) (v : VirtualRegister) (l : Location) → IsLive f v l → IsNeeded f v
 live_needed f v l live = λ b e k edge own. live_used f v l live

@@ -17,7 +17,7 @@ use Rattle.regalloc2_fastalloc_proofs.specs.BranchSteps.{MayBranch, ParametersDi
 use Rattle.regalloc2_fastalloc_proofs.specs.InstSteps.{StateValue}
 use Rattle.regalloc2_fastalloc_proofs.specs.BlockSteps.{DefinesBelow}
 
--- a number that is at two positions is there twice
+-- a number at two indexes of a list is counted twice
 counted_twice : (n : ℕ) (xs : List ℕ) (j k : ℕ) → j ≢ k → j < length xs → k < length xs → slice_index_or xs j 0 ≡ n → slice_index_or xs k 0 ≡ n →
     2 ≤ times_in n xs
 counted_twice n [] j k ne lj lk a b = absurd (omega arith)

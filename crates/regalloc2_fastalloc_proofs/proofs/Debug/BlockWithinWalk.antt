@@ -1,4 +1,4 @@
--- One block of the walk, with the tables behind it, before its first instruction and before its beginning.
+-- One block of the walk, with the tables after it, before its first instruction and before its start.
 use Rattle.std.proofs.Common.{ℕ, ◌≡◌, ◌+◌, ◌<◌, ◌≤◌, inl, inr, List, [], ◌∷◌, ◌++◌, length, sym, ap, ◌∙◌, subst, arith}
 use Rattle.std.proofs.lemmas.Bool.{cases_eq}
 use Rattle.std.proofs.lemmas.List.{append-nil, append_assoc}
@@ -19,7 +19,7 @@ use Rattle.regalloc2_fastalloc_proofs.proofs.Walk.BlockCarries.{IsBelow}
 use Rattle.regalloc2_fastalloc_proofs.proofs.Walk.FunctionLaws.{PlacedCode}
 use Rattle.regalloc2_fastalloc_proofs.proofs.Changes.WalkChanges.{begins_block_changes, any_begin}
 
--- the block b in the walk, with what comes after it until final
+-- the block b in the walk, with the rest of the walk until final
 pub record MetBlock (f : FunctionValue) (placesf : ℕ → List Place) (start : List Place) (begin : StateValue) (b : ℕ) (final : StateValue) : Type 0 where
   pub end_places : List Place
   pub end_tables : StateValue
@@ -35,7 +35,7 @@ pub record MetBlock (f : FunctionValue) (placesf : ℕ → List Place) (start : 
 module _ (code : PlacedCode) (start : List Place) (begin final : StateValue) (b : ℕ) (lb : b < length code.f.blocks) where
   open code use {Known, f, proper, kept, follow, ends, placesf}
 
-  -- each block is met
+  -- the walk reaches each block
   pub meet_block : {c : ℕ} {places : List Place} {t : StateValue} → AllocsBlocks f start begin c places t → (e : ℕ) → IsEdge f c e →
       AreListed f placesf e places → Grown (IsBelow e) t final → c ≤ b → MetBlock f placesf start begin b final
   meet_block all_left = λ e edge are rest le. absurd (omega (arith, lb, le))

@@ -1,4 +1,4 @@
--- The debug location of each label that is kept names a proper place that holds its vreg's value.
+-- The debug location of each kept label names a valid place that holds its vreg's value.
 use Rattle.std.proofs.Common.{ℕ, ◌≡◌, ◌<◌, inl, inr, false, length, refl, sym, ap, subst}
 use Rattle.std.specs.Prelude.{Option}
 use Rattle.regalloc2_names.specs.Register.{VirtualRegister}
@@ -31,7 +31,7 @@ use Rattle.regalloc2_fastalloc_proofs.proofs.Debug.SlotAtBlockBegin.{AreAtBegin}
 use Rattle.regalloc2_fastalloc_proofs.proofs.Walk.WholeWalk.{WholeWalk}
 
 module _ (env : MachineValue) (f : FunctionValue) (limited : IsLimited f) (ok : IsWellFormed env f) where
-  -- a vreg that is shown is made
+  -- a vreg that a debug location shows is defined
   pub shown_made : (v : VirtualRegister) {by : Option InstOperand} → IsShownBy f v by → Made f v
   shown_made v (by_late_use o most r) = subst (Made f) r.reader.vreg (((all_proper env f limited ok).knows o.inst r.reader.inst).reading o.index r.reader.index
       r.reader.reading)
@@ -48,7 +48,7 @@ module _ (env : MachineValue) (f : FunctionValue) (limited : IsLimited f) (ok : 
 module _ (walk : WholeWalk) (m : IsMade walk.f walk.env (Made walk.f) (MayInBlocks walk.f) walk.last walk.out) where
   open walk use {env, f, limited, ok, blank, begin, last, out, empty, fit, walks}
 
-  -- an operand's place is proper for its vreg
+  -- an operand's place is valid for its vreg
   operand_proper : (v : VirtualRegister) (o : InstOperand) → o.inst < length f.insts → o.index < length (inst_at f o.inst).operands →
       is_fixed_nonallocatable (op_at (inst_at f o.inst).operands o.index) ≡ false → (op_at (inst_at f o.inst).operands o.index).vreg ≡ v →
       IsProperPlace env out v.class (place_at (allocs_of out o.inst) o.index)
@@ -56,7 +56,7 @@ module _ (walk : WholeWalk) (m : IsMade walk.f walk.env (Made walk.f) (MayInBloc
       subst (λ (w : VirtualRegister). IsProperPlace env out w.class (place_at (allocs_of out o.inst) o.index)) is
       ((made_proper f env (Made f) (MayInBlocks f) last out m).operands o.inst lt o.index no_operand less named)
 
-  -- where there is no slot
+  -- if there is no slot
   by_proper : IsWrittenFirst f → (v : VirtualRegister) {by : Option InstOperand} → IsShownBy f v by → slot_name last.slots v.number ≡ NoPlace →
       IsProperPlace env out v.class (place_of_operand out by)
   by_proper written v (by_late_use o most r) none = operand_proper v o r.reader.inst r.reader.index
@@ -73,7 +73,7 @@ module _ (walk : WholeWalk) (m : IsMade walk.f walk.env (Made walk.f) (MayInBloc
   by_proper written v (by_definition o never d) none = operand_proper v o d.inst d.index
       (((all_proper env f limited ok).orderly o.inst d.inst).allocated o.index d.index d.definition) d.vreg
 
-  -- where the function is written first, the place that a debugger is shown for a vreg is proper for its class
+  -- if each read is definitely assigned (`IsWrittenFirst`), the place that a debugger is shown for a vreg is valid for its class
   pub place_proper : IsWrittenFirst f → (v : VirtualRegister) {by : Option InstOperand} → IsShownBy f v by →
       IsProperPlace env out v.class (shown_place out (slot_name last.slots v.number) by)
   place_proper written v {by} is = by_slot (slot_name last.slots v.number) refl (m.kept.safe.slots v.number)
@@ -83,7 +83,7 @@ module _ (walk : WholeWalk) (m : IsMade walk.f walk.env (Made walk.f) (MayInBloc
       by_slot (InRegister r) e below = absurd below
       by_slot (InSlot n) e below = subst (λ (c : ℕ). n < c) (sym m.count) below
 
-  -- what a debug location has to say of its label
+  -- what a debug location must satisfy for its label
   pub label_shown : MachineFits f env → IsWrittenFirst f → SlotsHaveOneOwner last.slots → ((i : ℕ) → i < length f.insts → IsTame (Made f)
       (inst_at f i).operands) → ReadsAgreeOnPaths f out → (stand : ℕ → VirtualRegister → Option Place) → AreAtBegin env f blank begin last out stand →
       (l : Label) (r : LiveRange) → IsKeptRange f l r →

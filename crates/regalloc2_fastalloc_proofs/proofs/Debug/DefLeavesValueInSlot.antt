@@ -1,5 +1,5 @@
--- An instruction that defines a vreg leaves what it writes in its slot, once the moves behind it have run.
--- The fold in `Changes` of regalloc2_fastalloc_proofs doesn't fit: an operand's place is handed from its selection to the steps that follow.
+-- An instruction that defines a vreg leaves what it writes in its slot, once the moves after it have run.
+-- The fold in `Changes` of regalloc2_fastalloc_proofs doesn't apply: an operand's place is passed from its selection to the steps that follow.
 use Rattle.std.proofs.Common.{ℕ, ◌≡◌, ◌≢◌, ◌+◌, ◌<◌, ◌≤◌, inl, inr, Bool, true, false, List, length, refl, sym, ap, ◌∙◌, subst, arith}
 use Rattle.std.specs.Prelude.{slice_index_or, slice_set}
 use Rattle.std.proofs.lemmas.Bool.{cases_eq}
@@ -37,9 +37,9 @@ use Rattle.regalloc2_fastalloc_proofs.proofs.Debug.DefStoresIntoSlot.{Off, alloc
 use Rattle.regalloc2_fastalloc_proofs.proofs.Debug.DefStoresIntoSlot.{off_none, moves_of}
 use Rattle.regalloc2_fastalloc_proofs.proofs.Operands.BlockTail.{tail_of}
 
--- A definition of an instruction that is no return, and the slot that its vreg has: the vregs that are spoken of; the instructions and the places of their
--- operands, and the instruction i; its operands, which are orderly, with the numbers that had a location and the places that are clobbered; and the
--- operand d, and the slot's number n.
+-- A definition of an instruction that is no return, and its vreg's slot: the known vregs; the instructions and the places of their
+-- operands; the instruction i; its operands, which are orderly, with the numbers that had a location and the clobbered places; the
+-- operand d; and the slot's number n.
 pub record DefSlot : Type 1 where
   pub Known : VirtualRegister → Type 0
   pub insts : ℕ → InstValue
@@ -73,7 +73,7 @@ module _ (def_slot : DefSlot) where
   real : s ≢ NoPlace
   real e = cc
 
-  -- what is asked of the listing: nothing, or that the slot holds the value
+  -- what the listing must establish: nothing, or that the slot holds the value
   abbrev Nothing : VirtualRegister → Place → Type 0
   Nothing u p = ⊥
 
@@ -136,7 +136,7 @@ module _ (def_slot : DefSlot) where
           (subst (λ l. Carries u l (Into u) (Into u)) (sym (walked-none insts (at_point (listed t.edits)) placesf (i + 1)))
           (carries_nil u (Into u) (Into u) (λ p h. h)))
 
-  -- an operand of another number stores nothing there; final: the tables before the instruction
+  -- an operand of another number stores nothing in the slot; final: the tables before the instruction
   module _ (final : StateValue) (whole : IsWhole final) (mine : slot_in final v.number ≡ s) where
     others_slots : (t : StateValue) → Grown AnyPlace t final → (x : ℕ) → x ≢ v.number → slot_in t x ≢ s
     others_slots t g x ne e = ne (whole.own x v.number n (g.stay x (λ z. real (sym e ∙ z)) ∙ e) mine)

@@ -1,4 +1,4 @@
--- What a definition stores into its slot, in the moves behind its instruction: its own moves write the slot, and no others do.
+-- What a definition stores into its slot, in the moves after its instruction: only its own moves write the slot.
 use Rattle.std.proofs.Common.{ℕ, ◌≡◌, ◌≢◌, inl, inr, Bool, true, false, List, [], ◌∷◌, ◌++◌, refl, sym, ap, ◌∙◌, subst}
 use Rattle.std.specs.Prelude.{not, ◌&&◌}
 use Rattle.std.proofs.lemmas.Bool.{cases_eq, and_left, and_right}
@@ -36,7 +36,7 @@ pub allocs_operand_whole : (point : ℕ) (o : OperandRequest) (p : Place) (t u :
 allocs_operand_whole point o p t u old new g h = (changes_steady (allocs_operand_changes (λ q r. tt) tt g) h).whole
 
 module _ (s : Place) (slotted : (r : Register) → s ≡ InRegister r → ⊥) where
-  -- a move that goes elsewhere
+  -- a move with another target
   abbrev pub Off : (ℕ × MoveValue) → Type 0
   Off e = e.1.to ≢ s
 
@@ -47,7 +47,7 @@ module _ (s : Place) (slotted : (r : Register) → s ≡ InRegister r → ⊥) w
   unfolding Untouched with_moves
   off_more m ms ne h = (λ e. ne (sym e), h)
 
-  -- none of the moves at a point goes there
+  -- no move at a point goes to s
   pub off_none : (q : ℕ) (a b : List (ℕ × MoveValue)) → Pushes Off a b → NoMoveTo s (at_point (listed a) q) → NoMoveTo s (at_point (listed b) q)
   off_none q a b none_pushed h = h
   off_none q a b (one_pushed es e prev off) h =
@@ -61,22 +61,22 @@ module _ (s : Place) (slotted : (r : Register) → s ≡ InRegister r → ⊥) w
       ]
 
   module _ (point : ℕ) where
-    -- to allocate an operand's place adds no move to s
+    -- allocating an operand's place adds no move to s
     pub allocs_operand_off : (o : OperandRequest) (p : Place) (t u : InstRegs) (old new : StateValue) → AllocsOperand point o p t u old new
         → Pushes Off old.edits new.edits
     allocs_operand_off o p t u old new g = changes_push Off (allocs_operand_changes (to_register point) tt g)
 
-    -- to locate a use adds no move to s
+    -- locating a use adds no move to s
     pub locates_use_off : (v : VirtualRegister) (p : Place) (old new : StateValue) → LocatesUse v p old new → Pushes Off old.edits new.edits
     locates_use_off v p old new h = changes_push Off (locates_use_changes tt h)
 
-    -- to evict the vregs of fixed registers adds no move to s
+    -- evicting the vregs of fixed registers adds no move to s
     pub evicts_fixed_off : (ops : List OperandValue) (t : InstRegs) (old : StateValue) (k : ℕ) (u : InstRegs) (m : StateValue) →
         EvictsFixed point ops t old k u m →
         Pushes Off old.edits m.edits
     evicts_fixed_off ops t old k u m h = changes_push Off (evicts_fixed_changes (to_register point) h)
 
-    -- to evict the vregs of a list of registers adds no move to s
+    -- evicting the vregs of a list of registers adds no move to s
     pub evicts_each_off : (rs : List Register) (t : InstRegs) (old : StateValue) (u : InstRegs) (new : StateValue) → EvictsEach point rs t old u new
         → Pushes Off old.edits new.edits
     evicts_each_off rs t old u new h = changes_push Off (evicts_each_changes (to_register point) h)
@@ -85,7 +85,7 @@ module _ (s : Place) (slotted : (r : Register) → s ≡ InRegister r → ⊥) w
         AddsMoveIf point class made from to t u old new → Pushes Off old.edits new.edits
     adds_move_if_off class made from to t u old new ne h = changes_push Off (adds_move_if_changes (to_register point) (λ q. ne) h)
 
-    -- the definition of another
+    -- freeing the definition of another vreg adds no move to s
     pub frees_alloc_off : (v : VirtualRegister) (ret : Bool) (p : Place) (t u : InstRegs) (old new : StateValue) → FreesAlloc point v ret p t u old new →
         place_in old v.number ≢ s → slot_in old v.number ≢ s → Pushes Off old.edits new.edits
     frees_alloc_off v ret p t u old new d awaited stored = changes_push Off (frees_alloc_changes (to_register point) (λ q. awaited) (λ q. stored) tt d)
@@ -99,7 +99,7 @@ module _ (s : Place) (slotted : (r : Register) → s ≡ InRegister r → ⊥) w
     pushed_first es from to = ap (λ l. at_point l point) (listed-push es (a_move point from to))
         ∙ at_point-here point (record { from = from; to = to }) (listed es)
 
-    -- what goes to the slot is there once the moves have run
+    -- a value moved to the slot is there once the moves have run
     adds_move_into : (class : RegClass) (p : Place) (t u : InstRegs) (old new : StateValue) → s ≢ NoPlace → AddsMove point class p s t u old new →
         NoMoveTo s (moves_of old) → (c : Cells) → after_moves (moves_of new) c s ≡ c p
     unfolding after_moves
@@ -129,7 +129,7 @@ module _ (s : Place) (slotted : (r : Register) → s ≡ InRegister r → ⊥) w
     is_sent : (ret : Bool) (q p : Place) → ret ≡ false → q ≢ NoPlace → q ≢ p → (not ret && is_another q p) ≡ true
     is_sent ret q p plain real other = rw (plain, is_place-other q NoPlace real, is_place-other q p other) refl
 
-    -- the definition of the slot's own vreg: its own moves leave there what is in its place
+    -- the definition of the slot's own vreg: its moves copy its place to the slot
     pub frees_alloc_into : (v : VirtualRegister) (ret : Bool) (p : Place) (t u : InstRegs) (old new : StateValue) → s ≢ NoPlace → ret ≡ false →
         slot_in old v.number ≡ s → FreesAlloc point v ret p t u old new → NoMoveTo s (moves_of old) →
         (c : Cells) → after_moves (moves_of new) c s ≡ c p
@@ -175,7 +175,7 @@ module _ (s : Place) (slotted : (r : Register) → s ≡ InRegister r → ⊥) w
             (and_left (not (is_place s NoPlace) && false) (not (is_place s c₀)) (and_right (not (is_place s NoPlace)) false refl)) in
             absurd (let y : true ≡ false = sym is ∙ no_move in cc)
 
-        -- it was awaited in its slot
+        -- the vreg was expected in its slot
         by_awaited : s ≢ p → s ≡ c₀ → AddsMoveIf point v.class (not ret && is_another s p) p s t d.inst_regs d.left d.middle → NoMoveTo s (moves_of d.left) →
             AddsMoveIf point v.class (not ret && (is_another s p && not (is_place s c₀))) p s d.inst_regs u d.middle new → (c : Cells) →
             after_moves (moves_of new) c s ≡ c p

@@ -1,4 +1,4 @@
--- An instruction that defines a vreg, with the moves around it: what it wrote is in the slot behind it.
+-- An instruction that defines a vreg, with the moves around it: what it wrote is in the slot after it.
 use Rattle.std.proofs.Common.{ℕ, ◌≡◌, ◌+◌, ◌*◌, ◌<◌, inl, inr, Bool, true, false, List, [], length, refl, sym, ap, ◌∙◌, subst, arith, suc}
 use Rattle.std.specs.Prelude.{None, Some, slice_index_or}
 use Rattle.std.proofs.lemmas.Bool.{cases_Bool}
@@ -94,7 +94,7 @@ module _ (code : ProperCode) where
           apart = b.apart;
         }) a
 
-    -- no move behind it goes to the slot before its operands are allocated
+    -- no move after it goes to the slot before its operands are allocated
     no_moves : NoMoveTo (InSlot n) []
     unfolding Untouched with_moves
     no_moves = tt
@@ -114,7 +114,7 @@ module _ (code : ProperCode) where
         (evicts_each_off (InSlot n) in_slots (after i) (registers_of (inst_at f i).clobbers) a.prepares.cleared a.prepares.middle a.quiet a.after_clobbers
         a.prepares.emptied)) none_old
 
-    -- what comes after its operands
+    -- the steps after its operands
     grown_moved : Grown AnyPlace a.after_early new
     grown_moved = changes_grow AnyPlace (moves_uses_changes (λ q r. tt) (λ j lt reads q. tt) a.moves)
 
@@ -134,7 +134,7 @@ module _ (code : ProperCode) where
     early_done = laid_all (asks_nothing def_slot) false a.half a.late a.after_late
         (length ops) here a.early a.after_early a.earlies (omega arith) early_begun
 
-    -- where the definition is placed late
+    -- if the definition is late
     all_late : is_late (op_at ops d).position ≡ true → FullAt false (length ops) here a.early a.after_early
     all_late late =
         let gone : late_done.out v.number ≡ true = late_done.ready.located.placed.outs d (late_done.all d (within, inl def) (inl (late, within))) def in
@@ -152,7 +152,7 @@ module _ (code : ProperCode) where
         (pass_into def_slot new by_itself.between.whole mine late none_begun begun a.lates (omega arith) within grown_early
         (sym stays.1 ∙ mine)))
 
-    -- or early
+    -- if the definition is early
     all_early : is_late (op_at ops d).position ≡ false → FullAt false (length ops) here a.early a.after_early
     all_early early =
         let gone : early_done.out v.number ≡ true = early_done.ready.located.placed.outs d (early_done.all d (within, inl def) (inr (refl, inr within))) def in
@@ -170,7 +170,7 @@ module _ (code : ProperCode) where
     all_placed : FullAt false (length ops) here a.early a.after_early
     all_placed = elim (cases_Bool (is_late (op_at ops d).position)) [ inl late ↦ all_late late | inr early ↦ all_early early ]
 
-    -- from wherever it runs, the slot holds the value behind it
+    -- wherever the vreg was before it, the slot holds the value after it
     pub stores : Carries v (walked (inst_at f) (at_point (listed new.edits)) placesf i 1) (λ p. ⊥) (λ p. p ≡ InSlot n)
     stores =
         let E : VirtualRegister → Place → Type 0 = Into def_slot in

@@ -1,4 +1,4 @@
--- One instruction of a path, with the moves before it and behind it: what its listing carries holds along the path.
+-- One instruction of a path, with the moves before it and after it: what its listing carries holds along the path.
 use Rattle.std.proofs.Common.{ℕ, suc, ◌≡◌, ◌+◌, ◌≤◌, List, [], ◌∷◌, length, sym, ap, ◌∙◌, subst}
 use Rattle.regalloc2_names.specs.Register.{VirtualRegister}
 use Rattle.regalloc2_names.specs.Place.{Place}
@@ -19,20 +19,20 @@ module _ (f : FunctionValue) (out : OutputValue) (rising : Rising out.edits) whe
   abbrev pub moves_on : ℕ → List MoveValue
   moves_on q = at_point out.edits q
 
-  -- the cells at the end of a path, before the moves at the point before its instruction
+  -- the cells at the end of a path, before the moves in front of its last instruction
   pub data Fronts (ws : List Way) (c : Cells) : Type 0 where
     front : after_moves (moves_at f out (end_of f ws)) (cells_before f out ws) ≡ after_moves (moves_on (before (end_of f ws).inst)) c → Fronts ws c
 
-  -- where a path has just come to a block
+  -- if a path has just entered a block
   pub entered_front : (ws : List Way) → (end_of f ws).inst ≡ (block_at f (end_of f ws).block).range.first → Fronts ws (cells_before f out ws)
   entered_front ws e = front (ap (λ ms. after_moves ms (cells_before f out ws))
       (ap (λ (n : ℕ). moves_before out n (end_of f ws).inst) (sym e) ∙ moves_before-first out (end_of f ws).inst))
 
-  -- the cells behind an instruction, after the moves there
+  -- the cells after an instruction and the moves after it
   abbrev pub behind : List Way → Cells
   behind ws = after_moves (moves_on (after (end_of f ws).inst)) (cells_before f out (Onward ∷ ws))
 
-  -- where a path went on within its block: the cells before its instruction come from those behind the one before
+  -- if a path went on within its block: the cells before its instruction follow from those after the previous one
   pub onward_front : (ws : List Way) → (block_at f (end_of f ws).block).range.first ≤ (end_of f ws).inst → Fronts (Onward ∷ ws) (behind ws)
   onward_front ws le = front (
       ap (λ ms. after_moves ms (cells_before f out (Onward ∷ ws))) (moves_before-later out (block_at f (end_of f ws).block).range.first (end_of f ws).inst le

@@ -1,5 +1,5 @@
--- One instruction of the walk, with the tables behind it and before it; a number that it defines has the same slot from there to the walk's end.
--- The fold in `Changes` of regalloc2_fastalloc_proofs doesn't fit: what holds depends on how far the walk is.
+-- One instruction of the walk, with the tables after and before it; a number that it defines has the same slot from there to the walk's end.
+-- The fold in `Changes` of regalloc2_fastalloc_proofs doesn't apply: what holds depends on how far the walk is.
 use Rattle.std.proofs.Common.{ℕ, ◌≡◌, ◌≢◌, ◌+◌, ◌<◌, ◌≤◌, ◌⊎◌, inl, inr, List, length, refl, ap, ◌∙◌, subst, arith}
 use Rattle.std.specs.Prelude.{slice_index_or}
 use Rattle.std.proofs.lemmas.Bool.{cases_eq, cases_lt}
@@ -28,7 +28,7 @@ use Rattle.regalloc2_fastalloc_proofs.proofs.Changes.WalkChanges.{allocs_inst_in
 abbrev pub IsStart : FunctionValue → ℕ → Type 0
 IsStart f i = (b : ℕ) × (b < length f.blocks) × ((block_at f b).range.first ≡ i)
 
--- points before an instruction; where a block begins there, that before it too
+-- points before an instruction; if a block begins there, the point in front of it too
 abbrev pub IsBefore : FunctionValue → ℕ → ℕ → Type 0
 IsBefore f i p = (p < before i) ⊎ ((p ≡ before i) × IsStart f i)
 
@@ -39,7 +39,7 @@ pub record IsUnnamedBefore (f : FunctionValue) (x i : ℕ) : Type 0 where
   pub params : (b : ℕ) → b < length f.blocks → (k : ℕ) → k < length (block_at f b).params → (slice_index_or (block_at f b).params k no_vreg).number ≢ x
   pub stores : (b : ℕ) → b < length f.blocks → IsUnstored x f b
 
--- the instruction i in the walk, with what comes after it until final
+-- the instruction i in the walk, with the rest of the walk until final
 pub record Met (f : FunctionValue) (placesf : ℕ → List Place) (start : List Place) (begin : StateValue) (i : ℕ) (final : StateValue) : Type 0 where
   pub block : ℕ
   pub within : block < length f.blocks
@@ -142,7 +142,7 @@ module _ (code : PlacedCode) (start : List Place) (begin : StateValue) (i : ℕ)
           out = λ x n. (λ a. (a, refl));
         }
 
-  -- each instruction is met
+  -- the walk reaches each instruction
   pub meet : Between (length f.insts) begin → i < length f.insts → {b : ℕ} {places : List Place} {t : StateValue} → AllocsBlocks f start begin b places t →
       (e : ℕ) → IsEdge f b e → AreListed f placesf e places → e ≤ i → Met f placesf start begin i t
   meet fresh lt all_left = λ e edge are le. (let same : e ≡ length f.insts = edge.1 refl in absurd (omega (arith, same, le, lt)))

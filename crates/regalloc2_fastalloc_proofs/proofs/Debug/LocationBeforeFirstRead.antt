@@ -1,5 +1,5 @@
--- A vreg that had no location behind an instruction that reads it, is before it in the place of the operand that is allocated first, or has a slot.
--- The fold in `Changes` of regalloc2_fastalloc_proofs doesn't fit: an operand's place is handed from its selection to the steps that follow.
+-- A vreg with no location after an instruction that reads it is, before it, in the place of the operand that is allocated first, or has a slot.
+-- The fold in `Changes` of regalloc2_fastalloc_proofs doesn't apply: an operand's place is passed from its selection to the steps that follow.
 use Rattle.std.proofs.Common.{ℕ, ◌≡◌, ◌≢◌, ◌<◌, ◌≤◌, ◌⊎◌, inl, inr, Bool, true, false, List, length, refl, sym, ap, ◌∙◌, subst, arith}
 use Rattle.std.specs.Prelude.{slice_index_or, slice_set}
 use Rattle.std.proofs.lemmas.Bool.{cases_eq}
@@ -65,18 +65,18 @@ module _ (i : ℕ) (ret : Bool) (ops : List OperandValue) (orderly : Orderly ops
       ap (λ (q : List Place). slice_index_or q k NoPlace) e ∙ get_or-set_other (slice_set here j p) n k p NoPlace (λ z. named n reuses (sym z))
       ∙ get_or-set_other here j k p NoPlace (λ z. ne (sym z))
 
-  -- whom a reuse names that is allocated in the same pass, or in the later one
+  -- an operand that a reuse names, where the reuse is allocated in the same pass or in the later one
   not_named : (late : Bool) (j : ℕ) → j < length ops → is_late (op_at ops j).position ≡ late → (late ≡ true → is_late (op_at ops k).position ≡ true) → (m : ℕ) →
       (op_at ops j).constraint ≡ Reuse m → m ≢ k
   not_named true j less inst_regs of_late m reuse e = (let a = (orderly.named j m less reuse).2 in
       let b : is_late (op_at ops m).position ≡ true = ap (λ (z : ℕ). is_late (op_at ops z).position) e ∙ of_late refl in cc)
   not_named false j less inst_regs of_late m reuse e = (let a = (orderly.late_reuse j m less reuse).1 in cc)
 
-  -- where it is
+  -- its location
   abbrev At : StateValue → List Place → Type 0
   At m list = (place_in m x ≡ slice_index_or list k NoPlace) ⊎ (slot_in m x ≢ NoPlace)
 
-  -- its turn
+  -- the operand's turn
   turn_at : (here there : List Place) (t u : InstRegs) (old new : StateValue) → k < length here → Absent x old →
       ProcessesOperand i ret ops k here there t u old new → place_in new x ≡ slice_index_or there k NoPlace
   turn_at here there t u old new less absent (a_register r f c e eu en) = absurd (reads_no_fixed (op_at ops k) reads f)
@@ -127,7 +127,7 @@ module _ (i : ℕ) (ret : Bool) (ops : List OperandValue) (orderly : Orderly ops
         (pass_at late here t old of_pass long absent first j l w s prev (omega (arith, le)) (omega (arith, lt, ne)) (λ q. real (same ∙ q))))
   ]
 
-  -- the pass over early operands, where it was allocated before
+  -- the pass over early operands, if it was allocated before
   over_list : (of_late : is_late (op_at ops k).position ≡ true) (here : List Place) (t : InstRegs) (old : StateValue) (n : ℕ) (list : List Place) (u : InstRegs)
       (m : StateValue) → ProcessesOperandsAt i ret false ops here t old n list u m → n ≤ length ops →
       slice_index_or list k NoPlace ≡ slice_index_or here k NoPlace

@@ -1,4 +1,4 @@
--- Where a vreg without a slot is along the walk: nowhere behind its last use, and from there to its definition in the place of
+-- The location of a vreg without a slot along the walk: none after its last use, and from there to its definition the place of
 -- the operand that reads it last.
 use Rattle.std.proofs.Common.{ℕ, ◌≡◌, ◌≢◌, ◌+◌, ◌<◌, ◌≤◌, inl, inr, true, List, length, sym, ◌∙◌, subst, arith}
 use Rattle.std.specs.Prelude.{slice_index_or}
@@ -40,7 +40,7 @@ pub record IsUnslotted (f : FunctionValue) (placesf : ℕ → List Place) (final
   pub real : place_at (placesf il) ko ≢ NoPlace
   pub unslotted : slot_in final x ≡ NoPlace
 
--- where it is before the instruction j
+-- its location before the instruction j
 pub record Stays (placesf : ℕ → List Place) (x id il ko j : ℕ) (t : StateValue) : Type 0 where
   pub after_it : il < j → Absent x t
   pub there : id < j → j ≤ il → place_in t x ≡ place_at (placesf il) ko
@@ -49,7 +49,7 @@ module _ (code : PlacedCode) (final : StateValue) (x id il ko : ℕ) (un : IsUns
   open code use {Known, f, proper, kept, follow, ends, placesf}
   open code.proper use {orderly}
 
-  -- it had no slot before either
+  -- the vreg had no slot before either
   pub none_before : (t : StateValue) → Grown AnyPlace t final → slot_in t x ≡ NoPlace
   none_before t g = elim (cases_none (slot_in t x)) [
     | inl none ↦ none
@@ -60,14 +60,14 @@ module _ (code : PlacedCode) (final : StateValue) (x id il ko : ℕ) (un : IsUns
     of_function : (j : ℕ) → j < (block_at f b).range.end → j < length f.insts
     of_function j less = (let e = ends_within f follow b lb in omega (arith, less, e))
 
-    -- an instruction behind its last use
+    -- an instruction after its last use
     past : (j : ℕ) (p q : List Place) (s u : StateValue) → (block_at f b).range.first ≤ j → j < (block_at f b).range.end → il < j →
         AllocsInstInBlock f b j p q s u → Absent x s → Absent x u
     past j p q s u ge less behind a absent =
         (allocs_inst_in_block_out x f b j p q s u (un.later j behind (of_function j less))
         (λ is. un.passes b lb (let e = ends_in_branch f ends b j lb ge less is in omega (arith, e, behind))) a absent).0
 
-    -- its last use
+    -- the instruction of its last use
     abbrev Lasts : ℕ → List Place → List Place → StateValue → StateValue → Type 0
     Lasts m p q s u = m < length f.insts → (a : AllocsInstInBlock f b m p q s u) →
         ((k : ℕ) → k < length (inst_at f m).operands → place_at (placesf m) k ≡ slice_index_or a.allocates.here k NoPlace) → Grown AnyPlace u final →
@@ -85,7 +85,7 @@ module _ (code : PlacedCode) (final : StateValue) (x id il ko : ℕ) (un : IsUns
           | inr has ↦ absurd (h.slots has none)
         ]
 
-    -- one between its definition and that
+    -- an instruction between its definition and its last use
     amid : (j : ℕ) (p q : List Place) (s u : StateValue) → id < j → j < length f.insts → AllocsInstInBlock f b j p q s u → Grown AnyPlace u final →
         place_in s x ≡ place_at (placesf il) ko → place_in u x ≡ place_at (placesf il) ko
     amid j p q s u sooner lt a rest at =
@@ -93,7 +93,7 @@ module _ (code : PlacedCode) (final : StateValue) (x id il ko : ℕ) (un : IsUns
         (un.undefined j sooner lt) a.allocates.allocates) (branch_hold x f b j p q s u a) in
         elim (h.same (λ z. un.real (sym at ∙ z))) [ inl e ↦ (e ∙ at) | inr has ↦ absurd (has (none_before u rest)) ]
 
-    -- one instruction of the walk keeps it: from where x is before the next instruction to where it is before this one
+    -- one instruction of the walk keeps this: from x's location before the next instruction to the one before this instruction
     pub step_stays : {j : ℕ} {p q : List Place} {s u : StateValue} → (block_at f b).range.first ≤ j → j < (block_at f b).range.end →
         (a : AllocsInstInBlock f b j p q s u) → ((k : ℕ) → k < length (inst_at f j).operands →
         place_at (placesf j) k ≡ slice_index_or a.allocates.here k NoPlace) →
@@ -124,7 +124,7 @@ module _ (code : PlacedCode) (final : StateValue) (x id il ko : ℕ) (un : IsUns
     walk_absent blank old h j places t (one_in k p q s u ge less prev a) =
         λ behind. past k p q s u ge less behind a (walk_absent blank old h (k + 1) p s prev (omega (arith, behind)))
 
-  -- the blocks behind its last use
+  -- the blocks after its last use
   pub allocs_blocks_absent : {start : List Place} {begin : StateValue} → Absent x begin → {b : ℕ} {places : List Place} {t : StateValue} →
       AllocsBlocks f start begin b places t → (e : ℕ) → IsEdge f b e → il < e → Absent x t
   allocs_blocks_absent h all_left = λ e edge behind. h
@@ -136,10 +136,10 @@ module _ (code : PlacedCode) (final : StateValue) (x id il ko : ℕ) (un : IsUns
       let before_it : Absent x s = allocs_blocks_absent h prev end (edge_next f follow d lt) (omega (arith, some, here)) in
       begins_block_absent x f d u w (un.params d lt) begins (walk_absent d lt p s before_it first q u walk here)
 
-  -- around an instruction that is met
+  -- around an instruction that the walk reaches
   module _ (start : List Place) (begin : StateValue) (absent : Absent x begin) (j : ℕ) (w : Met f placesf start begin j final)
       (upto : il < (block_at f w.block).range.end) where
-    -- in the state that the walk comes with, x is where it is before the next instruction
+    -- in the state with which the walk reaches the instruction, x has its location before the next instruction
     pub old_stays : Stays placesf x id il ko (j + 1) w.old
     old_stays =
         in_stays w.block w.within
@@ -152,7 +152,7 @@ module _ (code : PlacedCode) (final : StateValue) (x id il ko : ℕ) (un : IsUns
         (changes_grow AnyPlace (allocs_inst_in_block_changes (any_inst (λ e. AnyPlace e.0) f w.block j (λ n r. tt) (λ n r. tt)) w.allocates))
         (grown_weaken (IsBefore f j) AnyPlace w.new final (λ n y. tt) w.rest))
 
-    -- in the state that the walk goes on with, x is where it is before this one
+    -- in the state with which the walk leaves the instruction, x has its location before this one
     pub new_stays : Stays placesf x id il ko j w.new
     new_stays = step_stays w.block w.within w.ge w.less w.allocates w.at
         (grown_weaken (IsBefore f j) AnyPlace w.new final (λ n y. tt) w.rest) old_stays

@@ -18,7 +18,7 @@ use Rattle.regalloc2_semantics.proofs.UnwrittenPlaces.{NoMoveTo}
 use Rattle.regalloc2_fastalloc_proofs.specs.Debug.SlotHoldsValue.{ReadsInPlace, IsKeptInSlot}
 use Rattle.regalloc2_fastalloc_proofs.specs.Debug.SlotWrites.{MayWrite, after_definition, before_read, before_branch, at_begin, IsSlotOfValue}
 
--- where a listed point is
+-- the points that are listed before an instruction
 listed_where : (first i q : ℕ) → is_listed_at first i q ≡ true → (q ≡ before i) ⊎ ((first < i) × (q + 1 ≡ before i))
 listed_where first i q h = by (or_cases (nat_eq q (before i)) (nat_lt first i && nat_eq (q + 1) (before i)) h)
   where
@@ -54,7 +54,7 @@ module _ (f : FunctionValue) (out : OutputValue) (v : VirtualRegister) (p : Plac
   abbrev Fine : ℕ → List MoveValue → Type 0
   Fine i ms = NoMoveTo p ms ⊎ ((k : ℕ) × ReadsInPlace f out v p i k)
 
-  -- one more move that doesn't go there
+  -- one more move that doesn't go to the slot
   one_more : (i : ℕ) (m : MoveValue) (ms : List MoveValue) → (p ≡ m.to → ⊥) → Fine i ms → Fine i (m ∷ ms)
   unfolding Untouched with_moves
   one_more i m ms ne (inl h) = inl (ne, h)
@@ -64,7 +64,7 @@ module _ (f : FunctionValue) (out : OutputValue) (v : VirtualRegister) (p : Plac
   unfolding Untouched with_moves
   no_moves = tt
 
-  -- the moves listed before an instruction leave the place alone, or an operand there reads v in it
+  -- the moves listed before an instruction leave the place alone, or an operand of the instruction reads v in it
   pub moves_fine : (first i : ℕ) → (inst_at f i).is_branch ≡ false → Inner i → Quiet first i → (es : List (ℕ × MoveValue)) →
       All (λ e. e.1.to ≡ p → MayWrite f out v p e.0) es → Fine i (map (λ e. e.1) (filter (λ e. is_listed_at first i e.0) es))
   moves_fine first i plain inner quiet [] h = inl no_moves
@@ -79,7 +79,7 @@ module _ (f : FunctionValue) (out : OutputValue) (v : VirtualRegister) (p : Plac
         | inr ne ↦ one_more i e.1 (map (λ x. x.1) (filter (λ x. is_listed_at first i x.0) es)) ne rest
       ])
 
--- no block begins behind another one's first instruction and before its end
+-- no block begins after another block's first instruction and before its end
 pub inside_block : (f : FunctionValue) → BlocksFollow f → (c i : ℕ) → c < length f.blocks → (block_at f c).range.first < i → i < (block_at f c).range.end →
     (b : ℕ) → b < length f.blocks → (block_at f b).range.first ≢ i
 inside_block f follow c i lc ge less b lb is =

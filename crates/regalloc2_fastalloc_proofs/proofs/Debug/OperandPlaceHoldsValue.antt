@@ -1,4 +1,4 @@
--- Where a vreg has no slot, the place of the operand that reads it last shows its value on every path from its definition to each use.
+-- If a vreg has no slot, the place of the operand that reads it last holds its value on every path from its definition to each use.
 use Rattle.std.proofs.Common.{ℕ, ◌≡◌, ◌<◌, ◌≤◌, inl, inr, true, false, List, ◌∷◌, length, refl, sym, ap, ◌∙◌, subst, arith}
 use Rattle.std.specs.Prelude.{None, Some}
 use Rattle.std.proofs.lemmas.Bool.{cases_lt}
@@ -66,7 +66,7 @@ module _ (walk : WholeWalk) (m : IsMade walk.f walk.env (Made walk.f) (MayInBloc
   plain : IsPlain f v
   plain = plain_function env f ok written v
 
-  -- it is live where no path comes to a block
+  -- it is live at no block's start on any path
   never_entered : (ws : List Way) → IsPath f ws → HasEntered f ws → IsLive f v (end_of f ws) → ⊥
   never_entered ws path entered live = used_slots walk (processes_branch_between f) v
       (live_is_used env f ok written ws path entered v live) un.unslotted
@@ -96,7 +96,7 @@ module _ (walk : WholeWalk) (m : IsMade walk.f walk.env (Made walk.f) (MayInBloc
         un.unslotted))
   ]
 
-  -- so all instructions between are there
+  -- so all instructions between are in that block
   upto : (j : ℕ) (w : MetAt j) → id ≤ j → j ≤ il → il < (block_at f w.block).range.end
   upto j w low high =
       let u : MetAt il = meets il il_lt in
@@ -109,7 +109,7 @@ module _ (walk : WholeWalk) (m : IsMade walk.f walk.env (Made walk.f) (MayInBloc
       let same : u.block ≡ w.block = omega (arith, from, to) in
       subst (λ (b : ℕ). il < (block_at f b).range.end) same ends
 
-  -- no block begins behind its definition
+  -- no block begins after its definition
   not_start : (j : ℕ) (w : MetAt j) → id < j → j ≤ il → IsStart f j → ⊥
   not_start j w low high at =
       let u : MetAt il = meets il il_lt in
@@ -157,7 +157,7 @@ module _ (walk : WholeWalk) (m : IsMade walk.f walk.env (Made walk.f) (MayInBloc
     to_place : (w : MetAt j) → place_in w.old v.number ≡ p → (q : Place) → q ≡ p → Needed (λ x. false) w.old v q
     to_place w at q e = parts_needed (λ x. false) w.old v q (inl (ap opt at ∙ opt_some p un.real ∙ ap Some (sym e)))
 
-    -- its definition
+    -- the instruction of its definition
     carries_first : j ≡ id → Carries v (walked (inst_at f) (at_point out.edits) (allocs_of out) j 1) (λ q. ⊥) (λ q. q ≡ p)
     carries_first e =
         let w : MetAt j = meets j lt in
@@ -174,7 +174,7 @@ module _ (walk : WholeWalk) (m : IsMade walk.f walk.env (Made walk.f) (MayInBloc
         ])
         (to_place w (old_at j w (omega (arith, e)) (let s = sooner in omega (arith, e, s)))) (alone_law w))
 
-    -- one after it
+    -- an instruction after it
     carries_next : id < j → j < il → Carries v (walked (inst_at f) (at_point out.edits) (allocs_of out) j 1) (λ q. q ≡ p) (λ q. q ≡ p)
     carries_next low high =
         let w : MetAt j = meets j lt in
@@ -186,7 +186,7 @@ module _ (walk : WholeWalk) (m : IsMade walk.f walk.env (Made walk.f) (MayInBloc
         ])
         (to_place w (old_at j w (omega (arith, low)) high)) (law w (not_start j w low (omega (arith, high))))
 
-  -- the moves before an instruction leave it
+  -- the moves before an instruction leave it in the place
   seen : (j : ℕ) → j < length f.insts → (inst_at f j).is_branch ≡ false → id < j → j ≤ il → (ws : List Way) (c : Cells) → c p ≡ source_before f ws v →
       after_moves (at_point out.edits (before j)) c p ≡ source_before f ws v
   seen j lt flat low high ws c held =
@@ -209,7 +209,7 @@ module _ (walk : WholeWalk) (m : IsMade walk.f walk.env (Made walk.f) (MayInBloc
       let more = path.1 in
       (ok.end (end_of f ws).block (within env f ok written v ws path.0)).1 (end_of f ws).inst place.0 place.1 (omega (arith, more))
 
-  -- what is known at a step behind its definition
+  -- what is known at a step after its definition
   pub record Reached (ws : List Way) : Type 0 where
     pub cells : Cells
     pub fronts : Fronts f out up ws cells
@@ -243,7 +243,7 @@ module _ (walk : WholeWalk) (m : IsMade walk.f walk.env (Made walk.f) (MayInBloc
         behind_it = omega (arith, low);
       }
 
-  -- instructions rise along it
+  -- instruction numbers rise along it
   rises : (here used : List Way) → GoesOn f v here used → IsPath f used → IsLive f v (end_of f used) → (end_of f here).inst ≤ (end_of f used).inst
   rises here used there path live = omega arith
   rises here used (further (ToSuccessor k) ws g not) path live = absurd (never_entered (ToSuccessor k ∷ ws) path refl live)
@@ -254,7 +254,7 @@ module _ (walk : WholeWalk) (m : IsMade walk.f walk.env (Made walk.f) (MayInBloc
       ShowsAt f out v p ws
   by_front ws c (front is) e = ap (λ (x : Cells). x p) is ∙ e
 
-  -- the place of the last use's operand holds v's value, where v has no slot
+  -- the place of the last use's operand holds v's value, if v has no slot
   pub register_shows : HoldsValue f out v p
   register_shows given (ToSuccessor k) here used s path is_given source on later_on uses no_branch =
       let here_path = start_path f out v plain here used later_on path in

@@ -1,4 +1,4 @@
--- What one step of a path leaves: who wrote v last, and what a place holds that the step doesn't write.
+-- What one step of a path preserves: v's last write, and the value of a place that the step doesn't write.
 use Rattle.std.proofs.Common.{ℕ, ◌≡◌, List, ◌∷◌, length, sym, ap, ◌∙◌, ◌⊎◌, inl, inr}
 use Rattle.std.specs.Prelude.{Option}
 use Rattle.regalloc2_names.specs.declared.OperandPos.{OperandPos}
@@ -20,7 +20,7 @@ use Rattle.regalloc2_semantics.proofs.ParamsOnEdge.{passed-other}
 use Rattle.regalloc2_semantics.proofs.BothRuns.{after_defs-other, early-other, late-spared}
 use Rattle.regalloc2_fastalloc_proofs.specs.Debug.SlotHoldsValue.{ReadsInPlace, ShowsAt}
 
--- a step that gives v no write leaves the last one
+-- a step that doesn't write v keeps v's last write
 pub source_on : (f : FunctionValue) (ws : List Way) (w : Way) (v : VirtualRegister) → Undefined (inst_at f (end_of f ws).inst).operands v →
     IsAside f v (end_of f ws) w → source_before f (w ∷ ws) v ≡ source_before f ws v
 unfolding source_before over_edge
@@ -62,7 +62,7 @@ read_shows f out ws v p k agree r undefined spares =
     ∙ (agree k no_operand r.within r.reading).1
     ∙ read_both o.position (source_before f ws o.vreg) (source_after f ws o.vreg) (source_before f ws v) b a
 
--- a place that holds v's last write before the moves holds it after them, where none writes it, or the instruction reads v there
+-- a place that holds v's last write before the moves holds it after them, if no move writes the place, or the instruction reads v there
 pub shows_after : (f : FunctionValue) (out : OutputValue) (ws : List Way) (v : VirtualRegister) (p : Place) → ReadsAgree f out ws →
     Undefined (inst_at f (end_of f ws).inst).operands v →
     Spares (inst_at f (end_of f ws).inst).operands (allocs_of out (end_of f ws).inst) (inst_at f (end_of f ws).inst).clobbers p →

@@ -1,4 +1,4 @@
--- A place where a vreg is located before an instruction, and that is no slot, keeps its value over the moves before the instruction.
+-- A vreg's location before an instruction, if it is no slot, keeps its value over the moves before the instruction.
 use Rattle.std.proofs.Common.{ℕ, zero, suc, ◌≡◌, ◌≢◌, ◌+◌, ◌<◌, inl, inr, true, false, List, [], ◌∷◌, length, refl, sym, ap, ◌∙◌, subst, arith}
 use Rattle.std.specs.Prelude.{None, Some}
 use Rattle.regalloc2_names.specs.declared.OperandConstraint.TheVariants.{Any}
@@ -91,11 +91,11 @@ module _ (code : ProperCode) where
           apart = b.apart;
         }) a)
 
-    -- how far the operands are
+    -- the progress of the operands
     abbrev far : Progress
     far = progress (lives_in old) (is_clobbered (inst_at f i).clobbers) laid.here laid.claimed laid.done laid.out laid.X
 
-    -- it was there before the moves
+    -- the vreg was there before the moves
     stood_then : place_in t v.number ≡ p
     stood_then = elim (cases_none (place_in t v.number)) [
       | inl none ↦ (
@@ -154,7 +154,7 @@ module _ (code : ProperCode) where
           kept = kept_all t;
         }) (length ops) a.ended new a.moves (omega arith)
 
-    -- what it held before the moves, it holds behind them
+    -- what it held before the moves, it holds after them
     pub observed : (s : Source) (c : Cells) → c p ≡ s v → after_moves (at_point (listed new.edits) (before i)) c p ≡ s v
     unfolding Carries CarriesFrom
     observed s c held =

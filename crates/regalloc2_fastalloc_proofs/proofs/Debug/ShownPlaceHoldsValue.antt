@@ -1,4 +1,4 @@
--- The place by which a vreg is shown holds its value: its slot, or that of the operand which reads it last.
+-- The place that debug locations name for a vreg holds its value: its slot, or the place of the operand that reads it last.
 use Rattle.std.proofs.Common.{ℕ, ◌≡◌, ◌<◌, ◌≤◌, inl, inr, true, false, List, length, refl, sym, ap, subst, arith}
 use Rattle.std.specs.Prelude.{Option, Contains, slice_index_or}
 use Rattle.std.proofs.lemmas.List.{get_or_default}
@@ -79,14 +79,14 @@ module _ (walk : WholeWalk) (m : IsMade walk.f walk.env (Made walk.f) (MayInBloc
   some_block : 0 < length f.blocks
   some_block = (let e : f.entry < length f.blocks = ok.successors.0 in omega (arith, e))
 
-  -- an operand that reads it, where it has no slot
+  -- an operand that reads it, if it has no slot
   module _ (il ko : ℕ) (lt : il < length f.insts) (within : ko < length (inst_at f il).operands) (reads : is_reading (op_at (inst_at f il).operands ko) ≡ true)
       (is : (op_at (inst_at f il).operands ko).vreg ≡ v)
       (greatest : (j : ℕ) → UsesAt f v j → j ≤ il) (none : slot_in last v.number ≡ NoPlace) where
     number : (op_at (inst_at f il).operands ko).vreg.number ≡ v.number
     number = ap (λ (u : VirtualRegister). u.number) is
 
-    -- by number
+    -- an operand that reads the vreg's number reads the vreg
     read_is : (j k : ℕ) → j < length f.insts → k < length (inst_at f j).operands → is_reading (op_at (inst_at f j).operands k) ≡ true →
         (op_at (inst_at f j).operands k).vreg.number ≡ v.number → (op_at (inst_at f j).operands k).vreg ≡ v
     read_is j k jl less rd e = one_made f ok.defined_once (op_at (inst_at f j).operands k).vreg v (((all_proper env f limited ok).knows j jl).reading k less
@@ -188,7 +188,7 @@ module _ (walk : WholeWalk) (m : IsMade walk.f walk.env (Made walk.f) (MayInBloc
           })
         ]))
 
-  -- where it has no slot
+  -- if it has no slot
   operand_shows : {by : Option InstOperand} → IsShownBy f v by → slot_in last v.number ≡ NoPlace → HoldsValue f out v (place_of_operand out by)
   operand_shows (by_late_use o most r) none = late_shows o.inst o.index r.reader.inst r.reader.index r.reader.reading r.reader.vreg most.1 none
       r.reader.position r.first
@@ -205,7 +205,7 @@ module _ (walk : WholeWalk) (m : IsMade walk.f walk.env (Made walk.f) (MayInBloc
       ])
   operand_shows (by_definition o never d) none = λ given w here used s path is_given source on later_on uses no_branch. absurd (never (end_of f used).inst uses)
 
-  -- so the place by which it is shown holds its value
+  -- the place that debug locations name for it holds its value
   pub shown : MachineFits f env → SlotsHaveOneOwner last.slots → ((i : ℕ) → i < length f.insts → IsTame (Made f) (inst_at f i).operands) →
       ReadsAgreeOnPaths f out → (stand : ℕ → VirtualRegister → Option Place) → AreAtBegin env f blank begin last out stand → {by : Option InstOperand} →
       IsShownBy f v by →

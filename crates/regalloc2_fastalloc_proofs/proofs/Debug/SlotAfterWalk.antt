@@ -1,4 +1,4 @@
--- What the walk leaves of a vreg's slot: who is in it, and which moves write it.
+-- What the walk guarantees of a vreg's slot: which vreg is in it, and which moves write it.
 use Rattle.regalloc2_parts.proofs.Resolving.{All-reversed}
 use Rattle.std.proofs.Common.{ℕ, ◌≡◌, ◌+◌, ◌<◌, length, sym, ap, ◌∙◌, inl, inr, subst}
 use Rattle.std.specs.Prelude.{All, false, List, ◌∷◌, slice_index_or}
@@ -64,17 +64,17 @@ module _ (env : MachineValue) (f : FunctionValue) (once : DefinedOnce f) (t : St
       let x = owner_known f env (Made f) (MayInBlocks f) t out m owned tame w n located in
       one_made f once w v x.0 known (owned.own w.number v.number n x.1 mine)
 
--- behind a definition of v, once the moves before the next instruction have run, the slot holds v's value, if v is live there and it is no branch
+-- after a definition of v, once the moves before the next instruction have run, the slot holds v's value, if v is live there and it is no branch
 abbrev pub DefinedShows : FunctionValue → OutputValue → VirtualRegister → ℕ → Type 0
 DefinedShows f out v n = (ws : List Way) → IsPath f (Onward ∷ ws) → DefinesAt f v (end_of f ws).inst → IsLive f v (end_of f (Onward ∷ ws)) →
     (inst_at f ((end_of f ws).inst + 1)).is_branch ≡ false → ShowsAt f out v (InSlot n) (Onward ∷ ws)
 
--- where a path has come to a block at which v is live, and its first instruction is no branch and doesn't define v
+-- if a path has entered a block with v live, and its first instruction is no branch and doesn't define v
 abbrev pub EnteredShows : FunctionValue → OutputValue → VirtualRegister → ℕ → Type 0
 EnteredShows f out v n = (ws : List Way) → IsPath f ws → HasEntered f ws → IsLive f v (end_of f ws) → Undefined (inst_at f (end_of f ws).inst).operands v →
     (inst_at f (end_of f ws).inst).is_branch ≡ false → ShowsAt f out v (InSlot n) ws
 
--- so the slot that a vreg has at the walk's end shows its value, where it does behind each definition, and at each block's beginning
+-- a vreg's slot at the walk's end holds its value, if it does after each definition and at each block's start
 pub left_slot_shows : (env : MachineValue) (f : FunctionValue) → IsWellFormed env f → IsWrittenFirst f → (t : StateValue) (out : OutputValue) →
     IsMade f env (Made f) (MayInBlocks f) t out → SlotsHaveOneOwner t.slots → ((i : ℕ) → i < length f.insts → IsTame (Made f) (inst_at f i).operands) →
     ReadsAgreeOnPaths f out → (v : VirtualRegister) → Made f v → (n : ℕ) → slot_name t.slots v.number ≡ InSlot n →

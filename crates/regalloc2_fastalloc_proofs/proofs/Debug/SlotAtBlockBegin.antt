@@ -1,4 +1,4 @@
--- Where a path comes to a block: once the moves before its first instruction have run, the slot of a vreg that is live there shows its value.
+-- A path enters a block: once the moves before its first instruction have run, the slot of a vreg that is live there holds its value.
 use Rattle.regalloc2_parts.proofs.Resolving.{All-reversed}
 use Rattle.std.proofs.Common.{ℕ, ◌≡◌, ◌≢◌, ◌+◌, ◌<◌, ◌⊎◌, inl, inr, true, false, List, length, refl, sym, ap, ◌∙◌, subst, arith}
 use Rattle.std.specs.Prelude.{All, Option, Some, slice_index_or}
@@ -67,7 +67,7 @@ use Rattle.regalloc2_fastalloc_proofs.proofs.Safety.StepsKeepSafe.{rules_of}
 use Rattle.regalloc2_fastalloc_proofs.proofs.Walk.WholeWalk.{WholeWalk}
 use Rattle.regalloc2_fastalloc_proofs.proofs.Walk.FunctionLaws.{laws_of, code_of}
 
--- What is known where blocks begin: where the values of vregs are then, on every path, and that the tables are safe all along the walk.
+-- What is known at block starts: the places that hold vregs, on every path, and that the tables are safe along the whole walk.
 pub record AreAtBegin (env : MachineValue) (f : FunctionValue) (blank : List Place) (begin last : StateValue) (out : OutputValue)
     (stand : ℕ → VirtualRegister → Option Place) : Type 0 where
   pub arrive : Arrive f (allocs_of out) (slots_at last) stand
@@ -75,7 +75,7 @@ pub record AreAtBegin (env : MachineValue) (f : FunctionValue) (blank : List Pla
   pub live : LiveStandInPlaces f out stand
   pub safe : SafeWithin env f blank begin out.allocs
 
--- A path comes to a block where v is live, which its first instruction, no branch, doesn't define.
+-- A path enters a block with v live; its first instruction is no branch and doesn't define v.
 pub record EntersWhereLive (f : FunctionValue) (v : VirtualRegister) (ws : List Way) : Type 0 where
   pub path : IsPath f ws
   pub entered : HasEntered f ws
@@ -145,7 +145,7 @@ module _ (walk : WholeWalk) (fits : MachineFits walk.f walk.env) (m : IsMade wal
           | inr there ↦ inl (sym (grows.stay x there) ∙ opt_from (slot_in last x) (InSlot k) is)
         ]) n v known mine_there)
 
-    -- so the first instruction reads v there, if one does
+    -- so the first instruction reads v there, if one of these moves exists
     read_first : (inst_at f first).is_branch ≡ false → WritesFrom f out.allocs (b + 1) (before first) v n → (k : ℕ) × ReadsInPlace f out v (InSlot n) first k
     read_first plain (inl x) =
         let r = (writes_sound f (allocs_of out) out.allocs places_listed first plain).sooner v n x in
@@ -161,7 +161,7 @@ module _ (walk : WholeWalk) (fits : MachineFits walk.f walk.env) (m : IsMade wal
     later_fine plain = no_move_or (InSlot n) (before first) (listed reloaded.edits) ((k : ℕ) × ReadsInPlace f out v (InSlot n) first k)
         (λ k d less is to. read_first plain (subst (λ q. WritesFrom f out.allocs (b + 1) q v n) is (so_far k d less to)))
 
-    -- the moves there are those of the stores, and then the others
+    -- the moves there are those of the stores, followed by the others
     moves_there : at_point out.edits (before first) ≡ at_point (listed w.begun.edits) (before first)
     moves_there = ap (λ es. at_point es (before first)) m.edits
         ∙ pushed_at (λ e. IsBelow first e.0) (before first) w.begun.edits last.edits (λ e h is. omega (arith, h, is)) (grown_pushes
@@ -186,7 +186,7 @@ module _ (walk : WholeWalk) (fits : MachineFits walk.f walk.env) (m : IsMade wal
           (param_before f ok.defined_once ok.follow ok.uses_defined b j v
           (record { block = lb; param = less; number = ap (λ (x : VirtualRegister). x.number) is }) lb somewhere.block somewhere.within somewhere.used)
 
-      -- what is where v is when the block is entered, is in its slot once the moves have run
+      -- what v's location on entry holds, is in v's slot once the moves have run
       comes_there : (c : Cells) (x : Option Stamp) → ((q : Place) → stand b v ≡ Some q → c q ≡ x) →
           NoMoveTo (InSlot n) (at_point (listed reloaded.edits) (before first)) → StoresBranchDefs f b reloaded w.begun →
           after_moves (at_point (listed w.begun.edits) (before first)) c (InSlot n) ≡ x
@@ -233,7 +233,7 @@ module _ (walk : WholeWalk) (fits : MachineFits walk.f walk.env) (m : IsMade wal
 
   module _ (agree : ReadsAgreeOnPaths f out) (owned : SlotsHaveOneOwner last.slots)
       (tame : (i : ℕ) → i < length f.insts → IsTame (Made f) (inst_at f i).operands) where
-    -- a path has come to a block where v is live
+    -- a path has entered a block with v live
     pub entered_shows : (ws : List Way) → EntersWhereLive f v ws → ShowsAt f out v (InSlot n) ws
     entered_shows ws enters =
         let path : IsPath f ws = enters.path in

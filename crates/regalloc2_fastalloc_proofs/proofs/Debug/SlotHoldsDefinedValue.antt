@@ -1,4 +1,4 @@
--- Behind a definition, the slot that its vreg has at the walk's end shows its value.
+-- After a definition, the slot that its vreg has at the walk's end holds its value.
 use Rattle.std.proofs.Common.{ℕ, ◌≡◌, ◌+◌, ◌<◌, inl, inr, true, false, List, [], ◌∷◌, ◌++◌, length, refl, sym, ap, ◌∙◌, subst, arith}
 use Rattle.std.specs.Prelude.{slice_index_or}
 use Rattle.std.proofs.lemmas.List.{get_or_default}
@@ -118,11 +118,11 @@ module _ (walk : WholeWalk) (m : IsMade walk.f walk.env (Made walk.f) (MayInBloc
   pub are_listed : AreListed f (allocs_of out) 0 out.allocs
   are_listed j le lt k less = place_is f env (Made f) (MayInBlocks f) last out m j lt k less
 
-  -- the output's edits are in the order of their points
+  -- the output's edits are sorted by their points
   pub rising : Rising out.edits
   rising = rising_by out.edits (made_in_order f env (Made f) (MayInBlocks f) last out m).points_never_fall
 
-  -- the walk comes to each instruction
+  -- the walk reaches each instruction
   pub met_at : (i : ℕ) → i < length f.insts → Met f (allocs_of out) blank begin i last
   met_at i lt = meet (code_of (Made f) f (all_proper env f limited ok) (branch env f limited ok) ok.follow ok.end (allocs_of out)) blank begin i
       (begin_between f begin empty fit) lt
@@ -136,7 +136,7 @@ module _ (walk : WholeWalk) (m : IsMade walk.f walk.env (Made walk.f) (MayInBloc
       (λ e h. elim h [ inl before_it ↦ before_it | inr at ↦ absurd (never at.1) ]) (grown_pushes (IsBefore f i) w.new last w.rest))
       ∙ ap (λ es. walked (inst_at f) (at_point es) (allocs_of out) i 1) (sym m.edits)
 
-  -- what the listing carries from nowhere, it carries whatever a block's beginning puts in front
+  -- what the listing carries from nowhere, it carries with any reloads and stores of a block's start in front
   pub from_nowhere : (v : VirtualRegister) (E : Place → Type 0) (i : ℕ) (w : Met f (allocs_of out) blank begin i last) →
       Carries v (walked (inst_at f) (at_point (listed w.new.edits)) (allocs_of out) i 1) (λ p. ⊥) E →
       Carries v (walked (inst_at f) (at_point out.edits) (allocs_of out) i 1) (λ p. ⊥) E
@@ -228,7 +228,7 @@ module _ (walk : WholeWalk) (m : IsMade walk.f walk.env (Made walk.f) (MayInBloc
           fr.1
           (λ p h. absurd h) (InSlot n) refl
 
-      -- and once they have run
+      -- and once these moves have run
       pub defined_shows : DefinedShows f out v n
       defined_shows ws path defines live plain =
           let i : ℕ = (end_of f ws).inst in

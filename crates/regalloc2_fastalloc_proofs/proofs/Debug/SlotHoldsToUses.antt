@@ -1,4 +1,4 @@
--- A vreg's slot shows its value at every step from its definition to each later use: step by step along the path.
+-- A vreg's slot holds its value at every step from its definition to each later use, by induction along the path.
 use Rattle.std.proofs.Common.{◌≡◌, false, List, ◌∷◌, refl, sym, ◌∙◌, inl, inr}
 use Rattle.regalloc2_names.specs.Register.{VirtualRegister}
 use Rattle.regalloc2_names.specs.Place.{Place}
@@ -14,8 +14,8 @@ use Rattle.regalloc2_semantics.specs.Live.{IsLive, later, IsAside}
 use Rattle.regalloc2_fastalloc_proofs.specs.Debug.SlotHoldsValue.{IsKeptInSlot, ShowsAt}
 use Rattle.regalloc2_fastalloc_proofs.proofs.Debug.PathStepLeaves.{source_on, cells_on, shows_after}
 
--- What is asked of the function, which each well-formed one has: a step that gives v no write neither defines it nor goes on to a block
--- that has it as a parameter; a branch has no next instruction in its block; and who uses v doesn't define it, and finds it live.
+-- Requirements on the function, which each well-formed one meets: a step that doesn't write v neither defines it nor enters a block
+-- that has it as a parameter; a branch has no next instruction in its block; and an instruction that uses v doesn't define it, and v is live there.
 pub record IsPlain (f : FunctionValue) (v : VirtualRegister) : Type 0 where
   pub undefined : (ws : List Way) (w : Way) → IsPath f (w ∷ ws) → (IsGiven f v ws w → ⊥) → Undefined (inst_at f (end_of f ws).inst).operands v
   pub aside : (ws : List Way) (w : Way) → IsPath f (w ∷ ws) → (IsGiven f v ws w → ⊥) → IsAside f v (end_of f ws) w
@@ -23,31 +23,31 @@ pub record IsPlain (f : FunctionValue) (v : VirtualRegister) : Type 0 where
   pub uses : (ws : List Way) → IsPath f ws → UsesAt f v (end_of f ws).inst → Undefined (inst_at f (end_of f ws).inst).operands v × IsLive f v (end_of f ws)
 
 module _ (f : FunctionValue) (out : OutputValue) (v : VirtualRegister) (plain : IsPlain f v) where
-  -- a path that goes on from another has it as its beginning
+  -- a path that continues another has it as a prefix
   pub start_path : (start ws : List Way) → GoesOn f v start ws → IsPath f ws → IsPath f start
   start_path start ws there path = path
   start_path start ws (further w us g not) path = start_path start us g path.0
 
-  -- v is live all the way to where it is
+  -- v is live along the whole path
   pub goes_live : (start ws : List Way) → GoesOn f v start ws → IsPath f ws → IsLive f v (end_of f ws) → IsLive f v (end_of f start)
   goes_live start ws there path live = live
   goes_live start ws (further w us g not) path live = goes_live start us g path.0
       (later (end_of f us) w path.1 (plain.undefined us w path not) (plain.aside us w path not) live)
 
-  -- and not defined at the first step, if not at the last
+  -- and isn't defined at the first step, unless at the last
   goes_undefined : (start ws : List Way) → GoesOn f v start ws → IsPath f ws → Undefined (inst_at f (end_of f ws).inst).operands v →
       Undefined (inst_at f (end_of f start).inst).operands v
   goes_undefined start ws there path h = h
   goes_undefined start ws (further w us g not) path h = goes_undefined start us g path.0 (plain.undefined us w path not)
 
-  -- and its last write stays
+  -- and its last write stays the same
   pub goes_source : (start ws : List Way) → GoesOn f v start ws → IsPath f ws → source_before f ws v ≡ source_before f start v
   goes_source start ws there path = refl
   goes_source start ws (further w us g not) path = source_on f us w v (plain.undefined us w path not) (plain.aside us w path not)
       ∙ goes_source start us g path.0
 
   module _ (p : Place) (agree : ReadsAgreeOnPaths f out) (kept : IsKeptInSlot f out v p) where
-    -- from the step that gives v its write on
+    -- from the step that writes v on
     pub slot_shows : (given : List Way) (w : Way) → IsGiven f v given w → (here : List Way) → GoesOn f v (w ∷ given) here → IsPath f here →
         IsLive f v (end_of f here) → Undefined (inst_at f (end_of f here).inst).operands v →
         (inst_at f (end_of f here).inst).is_branch ≡ false → ShowsAt f out v p here
@@ -66,7 +66,7 @@ module _ (f : FunctionValue) (out : OutputValue) (v : VirtualRegister) (plain : 
         (cells_on f out ws Onward p (kept.spared ws path.0 before_it) ∙ shown ∙ sym (source_on f ws Onward v before_it aside))
         (kept.written ws path before_it undefined no_branch)
 
-    -- so the slot holds v's value as debug locations are to
+    -- the slot holds v's value, as required of debug locations
     pub slot_holds : HoldsValue f out v p
     slot_holds given w here used s path is_given source on later_on uses no_branch =
         let at_use = plain.uses used path uses in

@@ -1,4 +1,4 @@
--- Where a vreg has a slot, the slot shows its value on every path from its definition to each later use.
+-- If a vreg has a slot, the slot holds its value on every path from its definition to each later use.
 use Rattle.std.proofs.Common.{ℕ}
 use Rattle.regalloc2_names.specs.Register.{VirtualRegister}
 use Rattle.regalloc2_names.specs.Place.{InSlot}

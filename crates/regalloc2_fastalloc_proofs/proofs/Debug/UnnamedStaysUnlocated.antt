@@ -1,4 +1,4 @@
--- A number that has no location, and that nothing on the way names, stays without a location, and its slot stays as it is.
+-- A number that has no location, and that nothing in the walked part names, stays without a location, and its slot stays.
 use Rattle.std.proofs.Common.{ℕ, ◌≡◌, ◌≢◌, ◌<◌, ◌≤◌, inl, inr, Bool, true, List, length, refl, sym, ap, ◌∙◌, arith}
 use Rattle.std.specs.Prelude.{None, Some, slice_index_or}
 use Rattle.regalloc2_names.specs.Register.{Register, VirtualRegister, no_vreg}
@@ -24,20 +24,20 @@ use Rattle.regalloc2_fastalloc_proofs.proofs.Changes.InstChanges.{MayBePlaced, p
 use Rattle.regalloc2_fastalloc_proofs.proofs.Changes.WalkChanges.{allocs_inst_in_block_changes, begins_block_changes}
 
 module _ (x : ℕ) where
-  -- it has no location, and no register holds it
+  -- the number has no location, and no register holds it
   pub record Absent (t : StateValue) : Type 0 where
     pub nowhere : alloc_of t.places x ≡ NoPlace
     pub unheld : (r : Register) (v : VirtualRegister) → r.number < 64 → vreg_of_preg t.places r ≡ Some v → v.number ≢ x
 
-  -- it is so still, and its slot is as it was
+  -- the number is still absent, and its slot is unchanged
   abbrev pub StaysOut : StateValue → StateValue → Type 0
   StaysOut old new = Absent old → Absent new × (slot_name new.slots x ≡ slot_name old.slots x)
 
-  -- those that aren't x
+  -- vregs other than x
   abbrev pub Other : VirtualRegister → Type 0
   Other v = v.number ≢ x
 
-  -- what gives x no location
+  -- changes that don't give x a location
   abbrev pub Sets : Act → Type 0
   Sets (slot_for v) = Unit {0}
   Sets (spill_of v) = Other v
@@ -45,7 +45,7 @@ module _ (x : ℕ) where
   Sets (start_of v p) = Other v
   Sets (move e) = Unit {0}
 
-  -- nor a slot
+  -- changes that don't give x a slot
   abbrev pub Names : Act → Type 0
   Names (slot_for v) = Other v
   Names (spill_of v) = Other v
@@ -77,7 +77,7 @@ module _ (x : ℕ) where
     ];
   }
 
-  -- any change keeps it absent that gives it no location itself
+  -- any change that doesn't give it a location keeps it absent
   one_absent : (old new : StateValue) → Change Sets old new → Absent old → Absent new
   one_absent old new (evicted r v s lt held gives settles edits machine) a = absent_settled old new v s settles (a.unheld r v lt held) a
   one_absent old new (slot_given v s may gives places edits machine) a = absent_still old new places a
@@ -92,7 +92,7 @@ module _ (x : ℕ) where
   other_slot : (old new : SpillSlotsValue) (v : VirtualRegister) (s : Place) → GetsSpillSlot old new v s → Other v → slot_name new x ≡ slot_name old x
   other_slot old new v s g ne = g.others x (λ e. ne (sym e))
 
-  -- and its slot as it is, if it gives it none
+  -- and keeps its slot, if it doesn't give it one
   one_slot : (old new : StateValue) → Change Names old new → Absent old → slot_name new.slots x ≡ slot_name old.slots x
   one_slot old new (evicted r v s lt held gives settles edits machine) a = other_slot old.slots new.slots v s gives (a.unheld r v lt held)
   one_slot old new (slot_given v s may gives places edits machine) a = other_slot old.slots new.slots v s gives may
@@ -107,7 +107,7 @@ module _ (x : ℕ) where
   pub changes_absent : {old new : StateValue} → Changes Sets old new → Absent old → Absent new
   changes_absent = changes_keep (record { same = λ t a. a; over = λ a b c f g h. g (f h); each = one_absent })
 
-  -- two steps keep x out if each does
+  -- two steps keep x absent if each does
   pub out_then : (a b c : StateValue) → StaysOut a b → StaysOut b c → StaysOut a c
   out_then a b c f g h = (let p = f h in let q = g p.0 in (q.0, q.1 ∙ p.1))
 
@@ -129,12 +129,12 @@ module _ (x : ℕ) where
   processes_operands_at_out {ops} most few ne h le = changes_out (processes_operands_at_changes (λ p q. tt)
       (λ j lt at. other_placed ops j (omega (arith, lt, le, few)) (λ c. ne j (omega (arith, lt, le)) c at)) h)
 
-  -- neither parameters nor arguments of the edges out of a block have it
+  -- no parameter or argument of the edges out of a block has the number
   abbrev pub IsUnpassed : FunctionValue → ℕ → Type 0
   IsUnpassed f b = (k : ℕ) → k < length (block_at f b).succs → (j : ℕ) → j < length (block_at f (target_at f b k)).params →
       ((slice_index_or (block_at f (target_at f b k)).params j no_vreg).number ≢ x) × ((slice_index_or (arguments_at f b k) j no_vreg).number ≢ x)
 
-  -- what a block's beginning stores isn't for it
+  -- no store of a block's start is for the number
   abbrev pub IsUnstored : FunctionValue → ℕ → Type 0
   IsUnstored f b = (e k : ℕ) (v : VirtualRegister) → IsEdgeInto f b e k → IsConcerned f e k v → v.number ≢ x
 
@@ -144,7 +144,7 @@ module _ (x : ℕ) where
   begins_block_out f b old new ne unstored h =
       changes_out (begins_block_changes (record { moves = λ p q. tt; params = ne; stored = λ e k v edge is. unstored e k v edge is }) h)
 
-  -- it stays absent over a block's beginning, whatever is stored
+  -- it stays absent over a block's start, whatever is stored
   pub begins_block_absent : (f : FunctionValue) (b : ℕ) (old new : StateValue) →
       ((k : ℕ) → k < length (block_at f b).params → (slice_index_or (block_at f b).params k no_vreg).number ≢ x) → BeginsBlock f b old new → Absent old
       → Absent new

@@ -1,4 +1,4 @@
--- Well-formed functions have what the way of a value along a path needs.
+-- Well-formed functions meet the requirements of `IsPlain`, and their paths are in their blocks.
 use Rattle.std.proofs.Common.{ℕ, suc, ◌≡◌, ◌≢◌, ◌+◌, ◌<◌, ◌≤◌, Bool, true, false, List, [], ◌∷◌, length, refl, ap, ◌∙◌, inl, inr, subst, arith}
 use Rattle.std.specs.Prelude.{slice_index_or, Contains}
 use Rattle.std.proofs.lemmas.List.{get_or_default}
@@ -24,11 +24,11 @@ use Rattle.regalloc2_semantics.proofs.Soundness.{well_formed_are_sound}
 use Rattle.regalloc2_fastalloc_proofs.proofs.Debug.MovesLeaveSlot.{inside_block}
 use Rattle.regalloc2_fastalloc_proofs.proofs.Debug.SlotHoldsToUses.{IsPlain}
 
--- an operand that is read from a list at an index in range is the operand of that index
+-- reading a list of operands at an index in range gives the operand at that index
 pub op_is : (ops : List OperandValue) (k : ℕ) (o : OperandValue) → k < length ops → slice_index_or ops k o ≡ o → op_at ops k ≡ o
 op_is ops k o lt is = get_or_default ops k no_operand o lt ∙ is
 
--- a list names what it has
+-- a list names its elements
 named_by : (b : Bool) (v p : VirtualRegister) (ps : List VirtualRegister) → is_vreg p v ≡ b → (names v ps ≡ true → Contains ps v) → names v (p ∷ ps) ≡ true →
     Contains (p ∷ ps) v
 unfolding names
@@ -55,7 +55,7 @@ module _ (env : MachineValue) (f : FunctionValue) (ok : IsWellFormed env f) (wri
   pub within : (ws : List Way) → IsPath f ws → (end_of f ws).block < length f.blocks
   within ws path = block_within f sound written ws path
 
-  -- where the instructions of all paths are
+  -- the instruction of each path is in its block
   pub inst_in : (ws : List Way) → IsPath f ws → ((block_at f (end_of f ws).block).range.first ≤ (end_of f ws).inst)
       × ((end_of f ws).inst < (block_at f (end_of f ws).block).range.end)
   inst_in [] path = (omega arith, (ok.follow f.entry (within [] path)).0)
@@ -67,7 +67,7 @@ module _ (env : MachineValue) (f : FunctionValue) (ok : IsWellFormed env f) (wri
   inst_lt ws path = (let h = inst_in ws path in let lt = h.1 in let most = ends_within f ok.follow (end_of f ws).block (within ws path) in
       omega (arith, lt, most))
 
-  -- where a path goes on within its block, no block begins
+  -- where a path continues within its block, no block begins
   pub next_inside : (ws : List Way) → IsPath f (Onward ∷ ws) → (b : ℕ) → b < length f.blocks → (block_at f b).range.first ≢ (end_of f ws).inst + 1
   next_inside ws path = (let h = inst_in ws path.0 in let ge = h.0 in
       inside_block f ok.follow (end_of f ws).block ((end_of f ws).inst + 1) (within ws path.0) (omega (arith, ge)) path.1)
@@ -103,7 +103,7 @@ module _ (env : MachineValue) (f : FunctionValue) (ok : IsWellFormed env f) (wri
         read_there (end_of f ws) k less r u,
       )
 
-  -- nor what passes it
+  -- and what passes v doesn't define it
   passes : (ws : List Way) → IsPath f ws → PassesAt f v (end_of f ws).inst → Undefined (inst_at f (end_of f ws).inst).operands v × IsLive f v (end_of f ws)
   passes ws path (b, k, lb, last, edge, has, other) =
       let i : ℕ = (end_of f ws).inst in
@@ -130,6 +130,6 @@ module _ (env : MachineValue) (f : FunctionValue) (ok : IsWellFormed env f) (wri
   use_finds ws path (inr (inl r)) = reads Late ws path r
   use_finds ws path (inr (inr p)) = passes ws path p
 
-  -- a well-formed function that is written first is as `IsPlain` asks
+  -- a well-formed, definitely assigned function satisfies `IsPlain`
   pub plain_function : IsPlain f v
   plain_function = record { undefined = not_given; aside = goes_aside; onward = no_branch; uses = use_finds }

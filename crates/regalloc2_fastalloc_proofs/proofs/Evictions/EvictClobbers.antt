@@ -4,7 +4,7 @@ use Rattle.regalloc2_names.specs.Register.{Register}
 use Rattle.regalloc2_fastalloc_state.specs.declared.inst_regs.InstRegs.{InstRegs}
 use Rattle.regalloc2_fastalloc_proofs.specs.InstSteps.{StateValue, EvictsPReg, EvictsEach, none_left, one_more}
 
--- where nothing of a list is left, the registers of all of it were evicted
+-- if nothing of a list is left, all its registers were evicted
 pub evicts_each_step : (point : ℕ) (xs rest rs : List Register) (t u : InstRegs) (old new : StateValue) → rest ≡ [] → xs ++ rest ≡ rs →
     EvictsEach point xs t old u new → EvictsEach point rs t old u new
 evicts_each_step point xs rest rs t u old new none e h = subst (λ ys. EvictsEach point ys t old u new) (sym (ap (λ ys. xs ++ ys) none ∙ append-nil xs) ∙ e) h

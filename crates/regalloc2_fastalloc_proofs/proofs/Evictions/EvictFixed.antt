@@ -1,5 +1,5 @@
 -- Fixed registers are emptied and claimed, before operands are allocated.
--- The fold in `Changes` doesn't fit: what the listing carries, or the operands' record, differs from step to step.
+-- The fold in `Changes` doesn't apply: what the listing carries, or the operands' record, differs from step to step.
 use Rattle.std.proofs.Common.{ℕ, ◌≡◌, ◌≢◌, ◌+◌, ◌<◌, ◌≤◌, Bool, true, false, List, length, refl, arith, sym, ap, ◌∙◌, subst, inl, inr, ◌⊎◌, ⊎_elim}
 use Rattle.std.specs.Prelude.{None, Some, not, ◌&&◌, ◌||◌, slice_index_or}
 use Rattle.std.proofs.lemmas.Bool.{cases_Bool, cases_eq}
@@ -32,7 +32,7 @@ use Rattle.regalloc2_fastalloc_proofs.proofs.Safety.OperandAssumptions.{defines_
 use Rattle.regalloc2_fastalloc_proofs.proofs.Operands.AllocsSoFar.{reads_allocated}
 use Rattle.regalloc2_fastalloc_proofs.proofs.Operands.AllocOperand.{set_at, and_one, puts_one}
 
--- operands that hold no position together may be in one place
+-- operands that share no position may have one place
 share_apart : (a b : ℕ) (d l e k : Bool) → (((not d || not l) && (not e || not k)) || ((d || l) && (e || k))) ≡ false →
     Share (record { number = a; is_def = d; is_late = l }) (record { number = b; is_def = e; is_late = k })
 share_apart a b true true false false h = written_after refl refl refl refl
@@ -48,7 +48,7 @@ share_apart a b false true false k h = absurd cc
 share_apart a b false false true false h = absurd cc
 share_apart a b false false false k h = absurd cc
 
--- what an operand claims before it is placed, it claims at its positions
+-- an operand that claims its register before it is placed claims it at its own positions
 abbrev positions_by : Bool → Bool → Positions
 positions_by a b = record { early = a; late = b }
 
@@ -57,7 +57,7 @@ late_positions true true h g = refl
 late_positions true false h g = absurd cc
 late_positions false l h g = absurd cc
 
--- what is reserved for an operand is reserved at the positions at which that operand holds its register
+-- a register is reserved for an operand at the positions at which the operand holds it
 pub claims_at : (ops : List OperandValue) (j : ℕ) (r : Register) (p : Positions) → Orderly ops → j < length ops → NeedsFixedReg ops j r p →
     p ≡ positions_of (op_at ops j)
 claims_at ops j r p o lt (of_its_own able fixed e) = e
@@ -108,7 +108,7 @@ pub evicts_other_vregs_free : (b : InstRegs) (point : ℕ) (r : Register) (v : V
 evicts_other_vregs_free b point r v t u old new (own w there same eu en) less f = free_same b t u eu f
 evicts_other_vregs_free b point r v t u old new (others other c) less f = evicts_preg_free b point r t u old new c less f
 
--- The registers that operands claim before they are placed, in the registers b from which all are removed.
+-- The registers that operands claim before they are placed, removed from the available registers b.
 pub record Reserved (ops : List OperandValue) (b : InstRegs) (t : StateValue) : Type 0 where
   pub known : (k : ℕ) (r : Register) (p : Positions) → k < length ops → NeedsFixedReg ops k r p → (has_register t.allocatable r ≡ true)
       ⊎ (has_register t.fixed_stack r ≡ true)
@@ -124,7 +124,7 @@ pub record AllocsAnyReg (ops : List OperandValue) (j : ℕ) (r : Register) : Typ
   pub at : Positions
   pub claims : NeedsFixedReg ops j r at
 
--- two that take one register may share it
+-- two operands that take one register may share it
 takes_share : (ops : List OperandValue) (b : InstRegs) (t : StateValue) (j k : ℕ) (r : Register) → Orderly ops → Reserved ops b t → AllocsAnyReg ops j r →
     AllocsAnyReg ops k r → (j ≡ k) ⊎ Share (what_of ops j) (what_of ops k)
 takes_share ops b t j k r o s x y =
@@ -138,7 +138,7 @@ takes_share ops b t j k r o s x y =
     (is_def (op_at ops j).kind) (is_late (op_at ops j).position) (is_def (op_at ops k).kind) (is_late (op_at ops k).position) h))
     (cases_Bool ((p.early && q.early) || (p.late && q.late)))
 
--- it is held at its positions, which are early or late
+-- the register is held at the operand's positions, early or late
 takes_held : (ops : List OperandValue) (b u : InstRegs) (t : StateValue) (k : ℕ) (r : Register) → Orderly ops → Reserved ops b t → Less b u →
     AllocsAnyReg ops k r → Grips u u (InRegister r) (positions_of (op_at ops k))
 takes_held ops b u t k r o s less x =
@@ -154,7 +154,7 @@ some_position : (d l : Bool) → ((not d || not l) ≡ true) ⊎ ((d || l) ≡ t
 some_position true l = inr refl
 some_position false l = inl refl
 
--- it is no scratch register
+-- the register is no scratch register
 takes_away : (ops : List OperandValue) (b u : InstRegs) (old t : StateValue) (k : ℕ) (r : Register) → Orderly ops → Reserved ops b old → SameMachine old t →
     Fit t → WereFree b u → AllocsAnyReg ops k r → (c : RegClass) (q : Register) → IsScratch c u t q → InRegister r ≢ InRegister q
 takes_away ops b u old t k r o s m f free x c q (of_machine e) h =
@@ -181,7 +181,7 @@ takes_away ops b u old t k r o s m f free x c q (taken e) h =
 abbrev pub begun : (ℕ → Place) → (ℕ → Bool) → (ℕ → Bool) → Progress
 begun here claimed lived = record (at_begin here lived) { claimed = claimed }
 
--- what lives, while no operand is allocated: any vreg that has a location
+-- the live vregs, while no operand is allocated: those that have a location
 pub all_lived : (what : ℕ → What) (here : ℕ → Place) (claimed lived : ℕ → Bool) (t : StateValue) →
     Located what (begun here claimed lived) t → (x : ℕ) (p : Place) → stands_at t x ≡ Some p → lived x ≡ true
 all_lived what here claimed lived t st x p e = ⊎_elim
@@ -206,7 +206,7 @@ module _ (tail : BlockTail) where
   abbrev pub Start : List OperandValue → (ℕ → Place) → (ℕ → Bool) → (ℕ → Bool) → Bool → InstRegs → StateValue → Type 0
   Start ops here claimed lived ret u t = Ready tail ops (begun here claimed lived) ret u t
 
-  -- The fixed registers of the first k operands are emptied and claimed; b has the registers from which all are removed.
+  -- The fixed registers of the first k operands are emptied and claimed; b has the available registers from which all are removed.
   pub record FixedUpTo (ops : List OperandValue) (lived : ℕ → Bool) (ret : Bool) (b : InstRegs) (old : StateValue) (k : ℕ) (u : InstRegs)
       (t : StateValue) : Type 0 where
     pub here : ℕ → Place

@@ -1,5 +1,5 @@
--- A register or fixed stack slot is emptied, by way of a scratch register where both ends of the reload are on the stack.
--- The fold in `Changes` doesn't fit: what the listing carries, or the operands' record, differs from step to step.
+-- A register or fixed stack slot is emptied, through a scratch register if both ends of the reload are on the stack.
+-- The fold in `Changes` doesn't apply: what the listing carries, or the operands' record, differs from step to step.
 use Rattle.std.proofs.Common.{ℕ, ◌≡◌, ◌≢◌, true, false, List, [], ◌∷◌, ◌++◌, refl, sym, ap, ◌∙◌, subst, inl, inr}
 use Rattle.std.specs.Prelude.{Option, None, Some}
 use Rattle.std.proofs.lemmas.Bool.{cases_eq, and_parts}
@@ -29,7 +29,7 @@ use Rattle.regalloc2_fastalloc_proofs.proofs.Moves.ScratchRegMidMove.{put, put_s
 use Rattle.regalloc2_fastalloc_proofs.proofs.Moves.ScratchRegMidMove.{through_later}
 use Rattle.regalloc2_fastalloc_proofs.proofs.Operands.BlockTail.{BlockTail}
 
--- what no eviction changes stays over two steps that each leave it alone
+-- what no eviction changes, two steps keep if each does
 pub kept_then : (a b c : StateValue) → Kept a b → Kept b c → Kept a c
 kept_then a b c x y = record {
   slots = λ v p e. y.slots v p (x.slots v p e);
@@ -117,7 +117,7 @@ module _ (tail : BlockTail) where
             (sym (through_items tail s (InRegister by) (InRegister r) t.edits)) moves;
       }
 
-  -- scratch registers are no fixed stack slots
+  -- scratch registers aren't fixed stack slots
   pub evicts_preg_step : (what : ℕ → What) (far : Progress) (r : Register)
       (t u : InstRegs) (old new : StateValue) → EvictsPReg (after i) r t u old new →
       ((x : ℕ) → stands_at old x ≡ Some (InRegister r) → (far.lived x ≡ true) × ((w : ℕ) → far.made_at (InRegister r) w ≡ false)) →

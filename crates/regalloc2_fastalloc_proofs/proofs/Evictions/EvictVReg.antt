@@ -1,5 +1,5 @@
 -- Registers are emptied, and scratch registers are taken.
--- The fold in `Changes` doesn't fit: what the listing carries, or the operands' record, differs from step to step.
+-- The fold in `Changes` doesn't apply: what the listing carries, or the operands' record, differs from step to step.
 use Rattle.std.proofs.Common.{ℕ, ◌≡◌, ◌≢◌, Bool, true, false, List, refl, sym, ap, ◌∙◌, subst, inl, inr}
 use Rattle.std.specs.Prelude.{None, Some, not}
 use Rattle.std.proofs.lemmas.Bool.{cases_eq}
@@ -17,7 +17,7 @@ use Rattle.regalloc2_fastalloc_proofs.proofs.Operands.RecordOverState.{stands_at
 use Rattle.regalloc2_fastalloc_proofs.proofs.Operands.RecordOverState.{shift_owes}
 use Rattle.regalloc2_fastalloc_proofs.proofs.Operands.BlockTail.{BlockTail}
 
--- what is held at the two positions: registers that are not free; no slot is free
+-- what is held at the two positions: registers that aren't free; slots always are
 abbrev pub held_early : InstRegs → Place → Bool
 held_early u NoPlace = true
 held_early u (InRegister r) = not (has_register u.early r)
@@ -49,7 +49,7 @@ kept_all t = record {
   machine = record { allocatable = refl; fixed_stack = refl; dedicated_scratch = refl; sizes = refl; vregs = refl; num_temp_slots = refl };
 }
 
--- nor does it matter whatever registers were used
+-- the order in which registers were used doesn't matter
 pub kept_used : (s t : StateValue) (order : List (List Register)) → Kept s t → Kept s (record t { lrus = order })
 kept_used s t order k = record {
   slots = k.slots;
@@ -67,7 +67,7 @@ kept_used s t order k = record {
   };
 }
 
--- edits are none of what no eviction changes, so other ones may take their place
+-- what no eviction changes excludes the edits, so they may be replaced
 pub kept_edits : (s t : StateValue) (es : List (ℕ × MoveValue)) → Kept s t → Kept s (record t { edits = es })
 kept_edits s t es k = record {
   slots = k.slots;
@@ -85,7 +85,7 @@ kept_edits s t es k = record {
   };
 }
 
--- moving one vreg from its register to its spill slot is no change to what evictions keep
+-- moving one vreg from its register to its spill slot preserves what evictions keep
 pub shift_kept : (old new : StateValue) (v : VirtualRegister) (r : Register) (s : Place) → Shifts old new v r s →
     ((x : ℕ) → x ≢ v.number → place_in new x ≡ place_in old x) → place_in new v.number ≡ s → ((x : ℕ) → x ≢ v.number → slot_in new x ≡ slot_in old x) →
     SameMachine old new → Kept old new
@@ -112,7 +112,7 @@ shift_kept old new v r s h others here slots machine =
 module _ (tail : BlockTail) where
   open tail use {Known, insts, placesf, i, n, E}
 
-  -- a register is emptied whose vreg lived, and in which no definition is placed; what the listing carries may be told of tables in which
+  -- a register is emptied whose vreg was live, and in which no definition is placed; what the listing carries may be stated of tables in which
   -- another vreg is elsewhere
   pub record Emptied (what : ℕ → What) (far : Progress) (r : Register)
       (old new : StateValue) : Type 0 where

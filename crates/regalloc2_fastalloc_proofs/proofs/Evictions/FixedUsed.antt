@@ -6,12 +6,12 @@ use Rattle.regalloc2_fastalloc_state.specs.declared.inst_regs.InstRegs.{InstRegs
 use Rattle.regalloc2_fastalloc_proofs.specs.InstSteps.{StateValue, SameMachine, NoneUsed, EvictsFixed, none_cleared, not_fixed, of_fixed, of_reuse}
 use Rattle.regalloc2_fastalloc_proofs.specs.InstSteps.{EvictFixed, no_register}
 
--- whatever registers were used, the machine stays
+-- the order in which registers were used doesn't change the machine
 pub same_used : (a b : StateValue) (order : List (List Register)) → b ≡ record a { lrus = order } → SameMachine a b
 same_used a b order e = subst (SameMachine a) (sym e)
     (record { allocatable = refl; fixed_stack = refl; dedicated_scratch = refl; sizes = refl; vregs = refl; num_temp_slots = refl })
 
--- registers are used, and then fixed ones are emptied
+-- the order of use changes, and then fixed registers are emptied
 pub evicts_fixed_from : {point : ℕ} {operands : List OperandValue} {t : InstRegs} {old : StateValue} {order : List (List Register)} {k : ℕ} {u : InstRegs}
     {new : StateValue} → NoneUsed operands old.lrus order → EvictsFixed point operands t (record old { lrus = order }) k u new →
     EvictsFixed point operands t old k u new
@@ -20,7 +20,7 @@ evicts_fixed_from first (not_fixed j w m prev a b) = not_fixed j w m (evicts_fix
 evicts_fixed_from first (of_fixed j r w x m n prev is clears) = of_fixed j r w x m n (evicts_fixed_from first prev) is clears
 evicts_fixed_from first (of_reuse j l r w x m n prev a b c clears) = of_reuse j l r w x m n (evicts_fixed_from first prev) a b c clears
 
--- or one of them can't be
+-- or one of the fixed registers can't be emptied
 pub fails_from : {point : ℕ} {operands : List OperandValue} {t : InstRegs} {old : StateValue} {order : List (List Register)} →
     NoneUsed operands old.lrus order → EvictFixed point operands t (record old { lrus = order }) no_register → EvictFixed point operands t old no_register
 fails_from first s = record {

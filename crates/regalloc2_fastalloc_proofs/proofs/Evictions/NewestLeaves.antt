@@ -1,5 +1,5 @@
--- The list of the vregs that are in registers gets shorter with each reload of the newest.
--- The fold in `Changes` doesn't fit: it takes two to four relations apart, fewer than there are kinds of change.
+-- The list of the vregs in registers gets shorter with each reload of the last filled register.
+-- The fold in `Changes` doesn't apply: the proof splits two to four relations, fewer than the kinds of change.
 use Rattle.std.proofs.Common.{ℕ, ◌≡◌, ◌<◌, ◌≤◌, ◌∙◌, false, not, length, refl, sym, ap, arith, nat_eq, eq-eqb, true}
 use Rattle.std.specs.Prelude.{Contains, Some}
 use Rattle.regalloc2_names.specs.Register.{Register, VirtualRegister}
@@ -17,7 +17,7 @@ slot_only count NoPlace h = refl
 slot_only count (InRegister r) h = absurd h
 slot_only count (InSlot n) h = refl
 
--- where a vreg goes to its slot, nobody comes in front
+-- moving a vreg to its slot adds no vreg to the front of the list
 left_alone : (old new : VRegAllocsValue) (v : VirtualRegister) (s : Place) (count : ℕ) → IsSlotOrNone count s → SetsAlloc old new v s →
     new.in_registers ≡ without v.number old.in_registers
 left_alone old new v s count slot z = z.order
@@ -27,7 +27,7 @@ no_longer : (old new : VRegAllocsValue) (v : VirtualRegister) (s : Place) (count
     length new.in_registers ≤ length old.in_registers
 no_longer old new v s count slot z = rw (left_alone old new v s count slot z) (length_kept (λ w. not (nat_eq w.number v.number)) old.in_registers)
 
--- an eviction makes it no longer
+-- an eviction doesn't make the list longer
 evicts_vreg_no_longer : (point : ℕ) (by : Register) (old new : StateValue) → EvictsVReg point by old new →
     length new.places.in_registers ≤ length old.places.in_registers
 evicts_vreg_no_longer point by old new (nobody h e) = rw e (omega arith)
@@ -41,13 +41,13 @@ allocs_scratch_reg_no_longer point class t u by old new (dedicated_scratch d e f
 allocs_scratch_reg_no_longer point class t u by old new (had d h e f) = rw f (omega arith)
 allocs_scratch_reg_no_longer point class t u by old new (found d n may e l he hl s evicts) = evicts_vreg_no_longer point by old new evicts
 
--- nor does a move
+-- nor does adding a move
 adds_move_no_longer : (point : ℕ) (class : RegClass) (from to : Place) (t u : InstRegs) (old new : StateValue) → AddsMove point class from to t u old new →
     length new.places.in_registers ≤ length old.places.in_registers
 adds_move_no_longer point class from to t u old new (direct b e f) = rw f (omega arith)
 adds_move_no_longer point class from to t u old new (through by m b s e) = rw e (allocs_scratch_reg_no_longer point class t u by old m s)
 
--- and the newest leaves it
+-- evicting the last filled register makes the list of vregs in registers shorter
 pub newest_leaves : (point : ℕ) (by : Register) (t u : InstRegs) (old new : StateValue) → EvictsPReg point by t u old new → IsNewest old.places by →
     length new.places.in_registers < length old.places.in_registers
 newest_leaves point by t u old new (empty h e f) n = absurd (let held = n.held in cc)

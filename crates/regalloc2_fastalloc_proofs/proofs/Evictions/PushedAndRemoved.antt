@@ -1,5 +1,5 @@
 -- Moves that are pushed, and the registers that are taken.
--- The fold in `Changes` doesn't fit: it takes two to four relations apart, fewer than there are kinds of change.
+-- The fold in `Changes` doesn't apply: the proof splits two to four relations, fewer than the kinds of change.
 use Rattle.std.proofs.Common.{ℕ, ◌≡◌, Bool, true, false, List, [], ◌∷◌, ◌++◌, refl, sym, ap, ◌∙◌, subst}
 use Rattle.std.specs.Prelude.{Option, None, Some, ◌&&◌, not, ◌<◌, if◌then◌else◌}
 use Rattle.regalloc2_names.specs.Register.{Register, VirtualRegister, is_register}
@@ -25,20 +25,20 @@ sets_alloc_stays_empty old new v s r lt slot settles none =
     either true o e = refl
     either false o e = e
 
--- and its own register is empty then
+-- and its own register is empty afterwards
 pub sets_alloc_empties : (old new : VRegAllocsValue) (v : VirtualRegister) (s : Place) (r : Register) → r.number < 64 → (s ≡ InRegister r → ⊥) →
     alloc_of old v.number ≡ InRegister r → SetsAlloc old new v s → vreg_of_preg new r ≡ None
 sets_alloc_empties old new v s r lt slot there settles =
     settles.holders r lt ∙ rw (is_place-other s (InRegister r) slot, ap (λ (p : Place). is_place p (InRegister r)) there ∙ is_place-same (InRegister r)) refl
 
--- a register leaves a set at both positions
+-- a register is removed from the sets of both positions
 pub left_of_both : (set mid new : PRegSet) (by : Register) (b : Bool) → b ≡ true →
     ((q : Register) → has_register mid q ≡ (not (b && is_register by q) && has_register set q)) → new ≡ mid
     → (q : Register) → has_register new q ≡ (not (is_register by q) && has_register set q)
 left_of_both set mid new by b e h same = λ q. ap (λ (s : PRegSet). has_register s q) same ∙ h q
     ∙ ap (λ (x : Bool). not (x && is_register by q) && has_register set q) e
 
--- two vregs that one entry of the table of pregs holds have one number
+-- two vregs in one entry of the table of registers have one number
 pub same_held : (v w : VirtualRegister) (o : Option VirtualRegister) → o ≡ Some v → o ≡ Some w → v.number ≡ w.number
 same_held v w o e f = let s : Some v ≡ Some w = sym e ∙ f in let same : v ≡ w = cc in ap (λ (x : VirtualRegister). x.number) same
 

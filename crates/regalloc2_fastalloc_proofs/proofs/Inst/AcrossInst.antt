@@ -1,4 +1,4 @@
--- A vreg that had no location is in its use's place; where an instruction begins, and across it.
+-- A vreg that had no location is in its use's place; the record at an instruction's start, and across the instruction.
 use Rattle.std.proofs.Common.{ℕ, ◌≡◌, ◌≢◌, ◌+◌, ◌<◌, Bool, true, false, List, ◌∷◌, refl, arith, sym, ap, ◌∙◌, subst, inl, inr}
 use Rattle.std.specs.Prelude.{is_some}
 use Rattle.std.proofs.lemmas.Bool.{cases_eq}
@@ -40,7 +40,7 @@ module _ (old new : StateValue) (v : VirtualRegister) (nowhere : place_in old v.
   units_same : (c : RegClass) → 0 < units_of new.slots c
   units_same c = subst (λ (s : SpillSlotsValue). 0 < units_of s c) (sym slots) (w.units c)
 
-  -- the vreg is located in a register where no vreg was
+  -- the vreg's location becomes a register that had no vreg
   pub arrive_register : (r : Register) → r.number < 64 → ((x : ℕ) → place_in old x ≡ InRegister r → ⊥) → SetsAlloc old.places new.places v (InRegister r) →
       IsWhole new
   arrive_register r lt empty z = record {
@@ -55,7 +55,7 @@ module _ (old new : StateValue) (v : VirtualRegister) (nowhere : place_in old v.
     units = units_same;
   }
 
-  -- or in its slot
+  -- the vreg's location becomes its slot
   pub arrive_slot : (m : ℕ) → slot_in old v.number ≡ InSlot m → SetsAlloc old.places new.places v (InSlot m) → IsWhole new
   arrive_slot m slot z = record {
     holds = away_holds old new v (InSlot m) (λ q. refl) z w;
@@ -88,11 +88,11 @@ use_arrives what far done2 old new k v u same real nowhere unmade z slots w st =
   calm = st.calm;
 }
 
--- what lives when an instruction begins: what has a location
+-- the live vregs when an instruction begins: those that have a location
 abbrev pub lives_in : StateValue → ℕ → Bool
 lives_in t x = is_some (stands_at t x)
 
--- before any operand of an instruction is allocated, the record of its operands holds, and what is located is live
+-- before any operand of an instruction is allocated, the record of its operands holds, and vregs with a location are live
 pub begin_stands : (what : ℕ → What) (here : ℕ → Place) (t : StateValue) → IsWhole t →
     Located what (at_begin here (lives_in t)) t
 begin_stands what here t w = record {

@@ -34,7 +34,7 @@ use Rattle.regalloc2_fastalloc_proofs.proofs.Evictions.EvictKeepsRecord.{ready_e
 use Rattle.regalloc2_fastalloc_proofs.proofs.Evictions.EvictFixed.{begun, Reserved, claims_at, Start, FixedUpTo, evicts_fixed_done, all_lived}
 use Rattle.regalloc2_fastalloc_proofs.proofs.Operands.BlockTail.{BlockTail}
 
--- as a well-formed function has them: the fixed register of a definition, a late use or a reuse is no clobber
+-- in a well-formed function the fixed register of a definition, a late use or a reuse is no clobber
 abbrev pub AvoidClobbers : List OperandValue → PRegSet → Type 0
 AvoidClobbers ops clobbers = (k : ℕ) (r : Register) (p : Positions) → k < length ops → NeedsFixedReg ops k r p → p.late ≡ true → has_register clobbers r ≡ false
 
@@ -60,7 +60,7 @@ no_scratch u Int q e h = let x : None ≡ Some q = ap (λ l. slice_index_or l 0 
 no_scratch u Float q e h = let x : None ≡ Some q = ap (λ l. slice_index_or l 1 None) (sym e) ∙ h in cc
 no_scratch u Vector q e h = let x : None ≡ Some q = ap (λ l. slice_index_or l 2 None) (sym e) ∙ h in cc
 
--- clobbers, where no vreg who lived is in one, and no operand has claimed one that it writes or reads late
+-- clobbers: no live vreg is in one, and no operand has claimed one that it writes or reads late
 pub clob_stands : (what : ℕ → What) (far : Progress) (clob2 : Place → Bool) (t : StateValue) →
     ((j : ℕ) → far.claimed j ≡ true → ((what j).is_def ≡ true) ⊎ ((what j).is_late ≡ true) → clob2 (far.here j) ≡ false) →
     ((w : ℕ) (p : Place) → stands_at t w ≡ Some p → clob2 p ≡ false) → ((k : ℕ) → clob2 (InSlot k) ≡ false) →
@@ -92,9 +92,9 @@ late_by : (d l : Bool) → (d ≡ true) ⊎ (l ≡ true) → (d || l) ≡ true
 late_by d l h = elim h [ inl e ↦ or_left d l e | inr e ↦ or_right d l e ]
 
 module _ (Known : VirtualRegister → Type 0) (insts : ℕ → InstValue) (placesf : ℕ → List Place) (E : VirtualRegister → Place → Type 0) where
-  -- What holds before the instruction i, with n from it on: no move is before it, the listing carries each known vreg from where it is and,
-  -- where out doesn't say otherwise, from its slot,
-  -- and no vreg is in a register that is kept for moves.
+  -- What holds before the instruction i, with n instructions from it on: no move is before it, the listing carries each known vreg from its location and,
+  -- unless out excludes it, from its slot,
+  -- and no vreg is in a register reserved for moves.
   pub record CarriedBut (out : ℕ → Bool) (i n : ℕ) (t : StateValue) : Type 0 where
     pub whole : IsWhole t
     pub later : AllFrom (before i) (listed t.edits)
@@ -102,18 +102,18 @@ module _ (Known : VirtualRegister → Type 0) (insts : ℕ → InstValue) (place
     pub fit : Fit t
     pub apart : (c : RegClass) (b : Register) → slice_index_or t.dedicated_scratch (class_code c) None ≡ Some b → (x : ℕ) → place_in t x ≡ InRegister b → ⊥
 
-  -- from every slot
+  -- the same, from every slot
   abbrev pub Carried : ℕ → ℕ → StateValue → Type 0
   Carried = CarriedBut (λ x. false)
 
-  -- What is listed behind a return carries each known vreg from nowhere.
+  -- What is listed after a return carries each known vreg from nowhere.
   abbrev pub EndsHere : ℕ → ℕ → Bool → StateValue → Type 0
   EndsHere i n ret t = ret ≡ true → Claims Known (walked insts (at_point (listed t.edits)) placesf i n) (λ x p. ⊥) E
 
 module _ (tail : BlockTail) where
   open tail use {Known, insts, placesf, i, n, E}
 
-  -- behind an instruction, with nothing reserved or claimed, the record of its operands holds
+  -- after an instruction, with nothing reserved or claimed, the record of its operands holds
   pub start : (ops : List OperandValue) (ret : Bool) (b : InstRegs) (t : StateValue) → Carried Known insts placesf E (i + 1) n t → EndsHere Known insts
       placesf E (i + 1) n ret t →
       b.scratch ≡ None ∷ None ∷ None ∷ [] →
@@ -158,7 +158,7 @@ module _ (tail : BlockTail) where
     pub less : Less t u
     pub emptied : (r : Register) → Contains rs r → (x : ℕ) → place_in new x ≡ InRegister r → ⊥
 
-  -- evicting a list of registers, the clobbers say, keeps the record, and leaves no vreg in any of them
+  -- evicting a list of registers, such as the clobbers, keeps the record, and leaves no vreg in any of them
   pub all_cleared : (ops : List OperandValue) (here : ℕ → Place) (claimed lived : ℕ → Bool) (ret : Bool) (rs : List Register) (t u : InstRegs)
       (old new : StateValue) → EvictsEach (after i) rs t old u new →
       Start tail ops here claimed lived ret t old → Quieted ops here claimed lived ret rs t u old new

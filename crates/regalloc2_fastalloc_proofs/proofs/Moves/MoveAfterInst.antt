@@ -1,5 +1,5 @@
--- A move after the instruction from a place to another one, by way of a scratch register where both are on the stack.
--- The fold in `Changes` doesn't fit: what the listing carries, or the operands' record, differs from step to step.
+-- A move after the instruction from one place to another, through a scratch register if both are on the stack.
+-- The fold in `Changes` doesn't apply: what the listing carries, or the operands' record, differs from step to step.
 use Rattle.std.proofs.Common.{ℕ, ◌≡◌, ◌≢◌, ◌<◌, Bool, true, false, List, [], ◌∷◌, ◌++◌, refl, sym, ap, ◌∙◌, subst, inl, inr, ◌⊎◌}
 use Rattle.std.specs.Prelude.{Option, None, Some}
 use Rattle.std.proofs.lemmas.Bool.{cases_eq, and_parts}
@@ -29,7 +29,7 @@ use Rattle.regalloc2_fastalloc_proofs.proofs.Operands.RecordOfInst.{Ready}
 use Rattle.regalloc2_fastalloc_proofs.proofs.Evictions.EvictKeepsRecord.{Nothing, none_adds_move}
 use Rattle.regalloc2_fastalloc_proofs.proofs.Operands.BlockTail.{BlockTail}
 
--- scratch registers stay idle where edits alone change
+-- scratch registers stay idle if only edits change
 pub spare_edits : (here : ℕ → Place) (claimed : ℕ → Bool) (X : Place → ℕ → Bool) (u : InstRegs) (t : StateValue) (es : List (ℕ × MoveValue)) →
     Spare here claimed X u t → Spare here claimed X u (record t { edits = es })
 spare_edits here claimed X u t es s = record {
@@ -40,14 +40,14 @@ spare_edits here claimed X u t es s = record {
   late = s.late;
 }
 
--- registers that fit go on fitting where edits alone change
+-- registers that fit still fit if only edits change
 pub fit_edits : (t : StateValue) (es : List (ℕ × MoveValue)) → Fit t → Fit (record t { edits = es })
 fit_edits t es f = record { small = f.small; stack_apart = f.stack_apart; own_apart = f.own_apart }
 
 module _ (tail : BlockTail) where
   open tail use {Known, insts, placesf, i, n, E}
 
-  -- the record but for what the listing carries
+  -- the record without what the listing carries
   pub record Steady (ops : List OperandValue) (far : Progress) (ret : Bool)
       (u : InstRegs) (t : StateValue) : Type 0 where
     pub located : Located (what_of ops) far t
@@ -59,7 +59,7 @@ module _ (tail : BlockTail) where
     pub within : (j : ℕ) → far.claimed j ≡ true → Counts ops j
     pub small : (j : ℕ) (r : Register) → far.claimed j ≡ true → far.here j ≡ InRegister r → r.number < 64
 
-  -- the record but for what the listing carries, together with that, is the record
+  -- the record without what the listing carries, together with that, is the record
   pub ready_of : (ops : List OperandValue) (far : Progress) (ret : Bool)
       (u : InstRegs) (t : StateValue) →
       Steady ops far ret u t → Owes tail far.lived far.out far.made_at (stands_at t) (slots_at t) t.edits →
@@ -84,7 +84,7 @@ module _ (tail : BlockTail) where
     pub owes : Owes tail far.lived need far.made_at (stands_at new) (slots_at new) new.edits
     pub kept : Kept old new
 
-  -- What is needed of a vreg that is on its way to a place comes from the place that it is sent from. The vreg has no location in the tables.
+  -- The target needs a vreg that is being moved; with the move, its source does. The vreg has no location in the tables.
   pub record Moves (lived need need2 : ℕ → Bool) (X : Place → ℕ → Bool) (v : ℕ) (c : Option Place) (from to : Place) (m : StateValue) : Type 0 where
     pub moved : (x : ℕ) → Need lived need X (put (stands_at m) v c) (slots_at m) x to → Need lived need2 X (stands_at m) (slots_at m) x from
     pub others : (x : ℕ) (q : Place) → (q ≡ to → ⊥) → Need lived need X (put (stands_at m) v c) (slots_at m) x q →
@@ -108,7 +108,7 @@ module _ (tail : BlockTail) where
     small = small;
   }
 
-  -- a move added after the instruction for a vreg on its way keeps the record: its value is needed at the source from then on
+  -- a move added after the instruction for a vreg that is being moved keeps the record: its value is needed at the source from then on
   pub adds_move_step : {ops : List OperandValue} {far : Progress} {need need2 : ℕ → Bool}
       {ret : Bool} (v : ℕ) (c : Option Place) {class : RegClass} {from to : Place} {t u : InstRegs} {old new : StateValue} →
       AddsMove (after i) class from to t u old new → to ≢ NoPlace → place_in old v ≡ NoPlace → (c ≡ Some to) ⊎ (c ≡ None) →

@@ -1,4 +1,4 @@
--- One move from slot to slot, made by way of a scratch register.
+-- One slot-to-slot move, made through a scratch register.
 use Rattle.std.proofs.Common.{List, ℕ, zero, suc, ◌≡◌, ◌≢◌, ◌++◌, [], ◌∷◌, false, refl, sym, ap, ◌∙◌, subst, inl, inr, ⊎_elim, arith}
 use Rattle.std.specs.Prelude.{Contains}
 use Rattle.std.proofs.lemmas.List.Elements.{All-cons, All-nil}
@@ -19,7 +19,7 @@ use Rattle.regalloc2_fastalloc_proofs.proofs.Moves.ParallelMovesOrdered.{none_ta
 abbrev from_to : Place → Place → Place × Place × Unit {0}
 from_to p q = (p, q, tt)
 
--- the move from p to q, made by way of a third place
+-- the move from p to q, made through a third place
 abbrev passed : Place → Place → Place → Moves
 passed p q by = from_to p by ∷ from_to by q ∷ []
 
@@ -44,7 +44,7 @@ module _ (inst_regs : InstRegs) (class : RegClass) (t : StateValue) (from to : P
   plain : has_register t.fixed_stack by ≡ false
   plain = ⊎_elim (λ own. apart.dedicated_scratch class by own) (λ free. apart.allocatable by free.0.allocatable) scratch
 
-  -- made by way of the scratch register, it is what the moves given are at once
+  -- made through the scratch register, it does what the given parallel moves do
   orders_one : OrdersMoves inst_regs class (from_to from to ∷ []) (passed from to (InRegister by)) t t
   orders_one = record {
     places = refl;
@@ -78,7 +78,7 @@ module _ (inst_regs : InstRegs) (class : RegClass) (t : StateValue) (from to : P
     idle = λ e. absurd cc;
   }
 
--- so the two moves that are pushed for the only one that is given, the one that is made last before the other, are what it is to do
+-- the two moves that are pushed for the only given one, the later one first, do what it does
 pub pushes_one : (inst_regs : InstRegs) (class : RegClass) (t new : StateValue) (given : Moves) (from to : Place) (by : Register) (point : ℕ) →
     given ≡ (from, to, tt) ∷ [] → AreBetweenSlots t.slots.count given → RegsAvoidStack t → MayBeScratch inst_regs t class by
     → new ≡ record t { edits = new.edits } → new.edits ≡ t.edits ++ a_move point (InRegister by) to ∷ a_move point from (InRegister by) ∷ []

@@ -1,4 +1,4 @@
--- Moves of one class, put in an order in which they can be made.
+-- Parallel moves of one class, put in an order in which they can be run.
 use Rattle.std.proofs.Common.{ℕ, ◌≡◌, ◌≢◌, ◌+◌, ◌-◌, ◌*◌, ◌<◌, ◌≤◌, Bool, true, false, if◌then◌else◌, [], length, get_or, Option, None, Some}
 use Rattle.std.proofs.Common.{refl, sym, ap, ◌∙◌, subst, inl, inr, ◌⊎◌, ⊎_elim, arith}
 use Rattle.std.specs.Prelude.{Contains, IfSome, IfNone, ◌&&◌, not, slice_index_or}
@@ -32,7 +32,7 @@ use Rattle.regalloc2_fastalloc_proofs.specs.BranchSteps.{IsScratchPlace, IsScrat
 use Rattle.regalloc2_semantics.proofs.Cells.{is_register-same}
 use Rattle.regalloc2_semantics.proofs.Plain.{end_near}
 
--- the name of a slot is one of its units
+-- a slot is named by one of its units
 named_within : (b : Bool) (start size : ℕ) → 0 < size → (start ≤ (if b then start + size - 1 else start))
     × ((if b then start + size - 1 else start) < start + size)
 named_within true start size some = (omega (arith, some), omega (arith, some))
@@ -42,7 +42,7 @@ module _ (s : SpillSlotsValue) (class : RegClass) (owned : SlotsHaveOneOwner s) 
   some_units : 0 < units_of s class
   some_units = (owned.sizes (class_code class) (class_code-lt class)).0
 
-  -- a later slot lies past the count, and past the end of those before it
+  -- a later slot is past the count, and past the end of the slots before it
   pub later_from : (k : ℕ) → (next_multiple_of s.count (units_of s class) + k * units_of s class ≤ later_slot s class k)
       × (later_slot s class k < later_end s class k)
   later_from k = named_within s.by_last (next_multiple_of s.count (units_of s class) + k * units_of s class) (units_of s class) some_units
@@ -63,7 +63,7 @@ module _ (s : SpillSlotsValue) (class : RegClass) (owned : SlotsHaveOneOwner s) 
   first_end = omega arith
 
 module _ (s : SpillSlotsValue) (class : RegClass) (pair : ScratchPair) (next : AreNextTempSlots s class pair) where
-  -- where the first isn't there, neither is the second
+  -- if there is no first temporary slot, there is no second
   pub next_in_order : pair.first ≡ None → pair.second ≡ None
   next_in_order none = by_second pair.second refl
     where
@@ -87,7 +87,7 @@ module _ (s : SpillSlotsValue) (class : RegClass) (pair : ScratchPair) (next : A
   next_new p (inl a) = (later_slot s class 0, (next.first p a).0, later_past s class next.owned 0)
   next_new p (inr a) = (later_slot s class 1, (next.second p a).0, later_past s class next.owned 1)
 
-  -- what is taken ends within the greatest number of units
+  -- temporary slots that are taken end within the greatest number of units
   pub taken_fits : (taken : ℕ) → AreThere pair taken → (k : ℕ) → taken ≡ k + 1 → later_end s class k ≤ most_units
   taken_fits taken there k e = elim (cases_eq k 0) [
     | inl z ↦ (let x = there.1 (omega (arith, e)) in subst (λ n. later_end s class n ≤ most_units) (sym z) (next.first x.0 x.1).1)
@@ -99,14 +99,14 @@ module _ (s : SpillSlotsValue) (class : RegClass) (pair : ScratchPair) (next : A
   ]
 
   module _ (new : SpillSlotsValue) (taken : ℕ) (lends : AddsTempSlots s new class taken) (few : taken ≤ 2) where
-    -- adding temporary slots lets the count of units grow
+    -- adding temporary slots only increases the count of units
     pub lends_grows : s.count ≤ new.count
     lends_grows = elim (cases_eq taken 0) [
       | inl z ↦ (let e = lends.none z in omega (arith, e))
       | inr nz ↦ (let e = lends.some (taken - 1) (omega (arith, nz)) in omega (arith, e))
     ]
 
-    -- and one that is taken lies below the new count
+    -- and a temporary slot that is taken is below the new count
     pub taken_below : (p : Place) → IsScratchTaken pair taken p → (k : ℕ) × (p ≡ InSlot k) × (s.count ≤ k) × (k < new.count) × (j : ℕ)
         × (k ≡ later_slot s class j)
         × (later_end s class j ≤ new.count)
@@ -122,11 +122,11 @@ module _ (s : SpillSlotsValue) (class : RegClass) (pair : ScratchPair) (next : A
         let e = lends.some 1 (omega (arith, some, few)) in
         (later_slot s class 1, (next.second p a).0, later_past s class next.owned 1, omega (arith, e, low), 1, refl, omega (arith, e))
 
--- the slots that the tables give next
+-- a property that an option's item has if it is there holds of its item
 if_some : {T : Type 0} (P : T → Type 0) (o : Option T) (x : T) → IfSome o P → o ≡ Some x → P x
 if_some P o x h e = subst (λ z. IfSome z P) e h
 
--- two answers to a request for temporary slots, each one in its range or out of room, are the next two slots of the class
+-- two results of requesting temporary slots, each in its range or out of room, are the next two slots of the class
 pub are_next : (s : SpillSlotsValue) (class : RegClass) (a b : Option Place) → IfSome a (λ p. p ≡ InSlot (later_slot s class 0)) →
     IfSome a (λ p. later_end s class 0 ≤ most_units) → IfNone a (most_units < later_end s class 0)
     → IfSome b (λ p. p ≡ InSlot (later_slot s class 1)) → IfSome b (λ p. later_end s class 1 ≤ most_units) → IfNone b (most_units < later_end s class 1) →
@@ -141,7 +141,7 @@ are_next s class a b slot room full slot2 room2 full2 owned = record {
   owned = owned;
 }
 
--- a register that was found among the available ones may be a scratch register, as the class's dedicated one may
+-- a register that was found among the available ones may be a scratch register, and so may the class's dedicated one
 pub found_or : (regs : AllocatableRegsValue) (class : RegClass) (free : PRegSet) (o : Option Register) → IfSome o (IsLeastRecentIn regs class free) →
     IfSome o (λ r. (slice_index_or regs.dedicated_scratch (class_code class) None ≡ Some r) ⊎ IsLeastRecentIn regs class free r)
 found_or regs class free None h = h
@@ -208,14 +208,14 @@ module _ (pair : PairFound) where
       let r : first ≡ x.0 = cc in
       not_with_itself (is_register first x.0) (parts x.0 x.2).0 (ap (λ z. is_register first z) (sym r) ∙ is_register-same first)
 
--- full: a second slot would end past the greatest number of units
+-- slots are full if a second slot would end past the greatest number of units
 two_fit : (owners pair vregs count size most start end : ℕ) → count ≤ (owners + pair) * (2 * most) → owners ≤ vregs → start + size < count + 2 * size →
     size ≤ most → end ≡ start + 1 * size + size → end < (vregs + (pair + 2)) * (2 * most) + 1
 two_fit owners pair vregs count size most start end room less near small is =
     let a : (owners + pair) * (2 * most) ≤ (vregs + pair) * (2 * most) = mul-le-mul_right (2 * most) (omega (arith, less)) in
     omega (arith, room, a, near, small, is)
 
--- where not both of a class's next two slots fit, slots are exhausted with two temporary ones more
+-- if a class's next two slots don't both fit, two more temporary slots exhaust the slots
 pub short_full : (s : SpillSlotsValue) (class : RegClass) (pair : ScratchPair) → AreNextTempSlots s class pair → HasTooFewSlots pair
     → SlotsExhaustedWith s (s.num_temp_slots + 2)
 short_full s class pair next short most upto =
@@ -280,7 +280,7 @@ none_taken s class = record {
   some = λ k e. absurd (omega (arith, e));
 }
 
--- no moves, where there are none
+-- ordering no moves gives no moves
 pub orders_none : (inst_regs : InstRegs) (class : RegClass) (old : StateValue) (given listed made : Moves) (scratch : Bool) →
     IsResolution given scratch listed → listed ≡ [] → made ≡ listed → OrdersMoves inst_regs class given made old old
 orders_none inst_regs class old given listed made scratch is none same = record {
@@ -299,7 +299,7 @@ orders_none inst_regs class old given listed made scratch is none same = record 
   idle = λ e. (same ∙ none, refl);
 }
 
--- Moves of a class that are given, between slots, and what serves to make them: a scratch pair of two places, the next temporary slots, and a register that
+-- Given slot-to-slot moves of a class, and the scratch resources to make them: a scratch pair of two places, the next temporary slots, and a register that
 -- is borrowed.
 pub record GivenMoves : Type 0 where
   pub inst_regs : InstRegs
@@ -315,7 +315,7 @@ pub record GivenMoves : Type 0 where
   pub fixed : l.fixed_stack ≡ old.fixed_stack
   pub borrowed : MayHold old class l.borrowed
 
--- What was made of them: the tables, with the temporary slots that were taken, two at most; the moves that the resolver lists, and the moves that were made.
+-- The result: the tables, with the temporary slots that were taken, two at most; the moves that the resolver lists, and the moves that were made.
 pub record MadeMoves (moves : GivenMoves) : Type 0 where
   pub new : StateValue
   pub taken : ℕ
@@ -394,7 +394,7 @@ module _ (moves : GivenMoves) where
     kept_all q real other none =
         at_q q real other ∙ is.at_once.kept q real (λ m c e. let x = ends_from given m c in none x.0 x.1 (ap (λ (y : Ends). y.to) x.2 ∙ e))
 
-    -- each ordered move is between places, not both on the stack, of which each is a scratch place or an end of a given move
+    -- each ordered move is between places, not both on the stack, each a scratch place or an end of a given move
     pub each_ordered : All (IsOrdered inst_regs class given old new) made
     each_ordered k d lt =
         let x = made_so.each k d lt in
@@ -416,7 +416,7 @@ module _ (moves : GivenMoves) where
         target_of p real n c e = ⊎_elim (λ none. absurd (real (e ∙ none))) (λ x. inr (x.0, x.1, e ∙ x.2))
             (resolved_to given n (All-contains (IsOfMoves given) listed n is.of_moves c))
 
-    -- where only temporary slots were added, the moves made are the given ones in an order in which they can be made
+    -- if only temporary slots were added, the moves made are the given ones in an order in which they can be run
     pub orders : new.places ≡ old.places → new.edits ≡ old.edits → new.allocatable ≡ old.allocatable → new.fixed_stack ≡ old.fixed_stack →
         new.dedicated_scratch ≡ old.dedicated_scratch → new.lrus ≡ old.lrus → (given ≡ [] → ⊥) →
         OrdersMoves inst_regs class given made old new

@@ -1,5 +1,5 @@
--- A scratch register is taken while a vreg is on its way: the tables have it elsewhere than the listing needs it.
--- The fold in `Changes` doesn't fit: what the listing carries, or the operands' record, differs from step to step.
+-- A scratch register is taken while a vreg is being moved: the tables have it elsewhere than the listing needs it.
+-- The fold in `Changes` doesn't apply: what the listing carries, or the operands' record, differs from step to step.
 use Rattle.std.proofs.Common.{ℕ, ◌≡◌, Bool, true, false, cond, List, [], ◌∷◌, ◌++◌, refl, sym, ap, ◌∙◌, subst, inl, inr, nat_eq, eq-eqb}
 use Rattle.std.specs.Prelude.{Option, None, Some, not}
 use Rattle.std.proofs.lemmas.Bool.{cases_eq, ne_eqb}
@@ -39,7 +39,7 @@ put_same T v c x e = ap (λ b. cond b c (T x)) (eq-eqb x v e)
 pub put_other : (T : ℕ → Option Place) (v : ℕ) (c : Option Place) (x : ℕ) → (x ≡ v → ⊥) → put T v c x ≡ T x
 put_other T v c x n = ap (λ b. cond b c (T x)) (ne_eqb x v n)
 
--- a vreg goes from its register to its slot while another one is put elsewhere
+-- a vreg moves from its register to its slot while another one is put elsewhere
 pub shift_but : (old new : StateValue) (u : VirtualRegister) (r : Register) (s : Place) (v : ℕ) (c : Option Place) → Shifts old new u r s →
     (u.number ≡ v → ⊥) → (c ≡ Some (InRegister r) → ⊥) →
     GoesToSlot (put (stands_at old) v c) (put (stands_at new) v c) (slots_at new) u.number (InRegister r) s
@@ -64,7 +64,7 @@ shift_but old new u r s v c h apart other = record {
 module _ (tail : BlockTail) where
   open tail use {Known, insts, placesf, i, n, E}
 
-  -- what is needed where numbers are alike
+  -- what is needed depends only on numbers
   pub owes_same : (lived out : ℕ → Bool) (X : Place → ℕ → Bool) (T U S : ℕ → Option Place) (edits : List (ℕ × MoveValue)) → ((x : ℕ) → U x ≡ T x) →
       Owes tail lived out X T S edits → Owes tail lived out X U S edits
   owes_same lived out X T U S edits same o = record {
@@ -73,7 +73,7 @@ module _ (tail : BlockTail) where
         (λ v q z. elim z [ located l e ↦ located l (same v ∙ e) | in_slot f e ↦ in_slot f e | made x ↦ made x ]) o.claims;
   }
 
-  -- another register is emptied meanwhile
+  -- another register is emptied while the vreg is being moved
   pub evict_but : (lived out : ℕ → Bool) (X : Place → ℕ → Bool) (r : Register) (old new : StateValue) (v : ℕ) (c : Option Place) →
       EvictsVReg (after i) r old new → IsWhole old →
       (c ≡ Some (InRegister r) → ⊥) → (place_in old v ≡ InRegister r → ⊥) → ((u : ℕ) → X (InRegister r) u ≡ false) →
@@ -99,7 +99,7 @@ module _ (tail : BlockTail) where
             ∙ after_part-more insts (record { from = s; to = InRegister r }) old.edits placesf i n)) moves;
       }
 
-  -- a scratch register, while the number v is on its way from c, which isn't the scratch register; need: whose slots aren't needed
+  -- a scratch register, while the number v is being moved from c, which isn't the scratch register; need: whose slots aren't needed
   pub record ScratchedBut (what : ℕ → What) (far : Progress) (need : ℕ → Bool)
       (u : InstRegs) (by : Register) (v : ℕ) (c : Option Place) (old new : StateValue) : Type 0 where
     pub located : Located what far new
@@ -117,7 +117,7 @@ module _ (tail : BlockTail) where
     pub others : (x : ℕ) → (place_in old x ≡ InRegister r → ⊥) → place_in new x ≡ place_in old x
     pub kept : Kept old new
 
-  -- evicting an allocatable register empties it and moves no other vreg, whatever the listing carries meanwhile
+  -- evicting an allocatable register empties it and moves no other vreg, independent of what the listing carries
   pub evict_tables : (what : ℕ → What) (far : Progress) (r : Register)
       (old new : StateValue) → EvictsVReg (after i) r old new →
       ((x : ℕ) → stands_at old x ≡ Some (InRegister r) → far.lived x ≡ true) →
@@ -154,7 +154,7 @@ module _ (tail : BlockTail) where
         others = λ x g. refl;
       })
 
-  -- taking a scratch register while one vreg is on its way keeps what is owed of it there, and of all others
+  -- taking a scratch register while one vreg is being moved keeps what is needed of it there, and of all others
   pub scratch_but : {what : ℕ → What} {far : Progress} {need : ℕ → Bool}
       {class : RegClass} {t u : InstRegs} {by : Register} {v : ℕ} {c : Option Place} {old new : StateValue} → AllocsScratchReg (after i) class t u by old new →
       ((b : Register) → IsScratch class t old b → IsIdle far.here far.claimed far.made_at b old) → Held what far.here far.claimed (held_early t) (held_late t) →
@@ -182,7 +182,7 @@ module _ (tail : BlockTail) where
         others = e.others;
       }
 
-  -- two moves by way of the scratch register are pushed
+  -- two moves through the scratch register are pushed
   pub through_items : (from by to : Place) (es : List (ℕ × MoveValue)) →
       after_part insts (listed (es ++ a_move (after i) by to ∷ a_move (after i) from by ∷ [])) placesf i n ≡ Move (record { from = from; to = by }) ∷
       (Move (record { from = by; to = to }) ∷ after_part insts (listed es) placesf i n)
@@ -191,7 +191,7 @@ module _ (tail : BlockTail) where
       ∙ after_part-more insts (record { from = from; to = by }) (es ++ a_move (after i) by to ∷ []) placesf i n
       ∙ ap (λ l. Move (record { from = from; to = by }) ∷ l) (after_part-more insts (record { from = by; to = to }) es placesf i n)
 
-  -- a move in two parts, by way of a register, adds no edit before the point after the instruction
+  -- a move in two parts, through a register, adds no edit before the point after the instruction
   pub through_later : (from by to : Place) (es : List (ℕ × MoveValue)) → AllFrom (after i) (listed es) →
       AllFrom (after i) (listed (es ++ a_move (after i) by to ∷ a_move (after i) from by ∷ []))
   through_later from by to es h =

@@ -1,5 +1,5 @@
 -- A scratch register is taken: no vreg is needed in it, and no operand claims it.
--- The fold in `Changes` doesn't fit: what the listing carries, or the operands' record, differs from step to step.
+-- The fold in `Changes` doesn't apply: what the listing carries, or the operands' record, differs from step to step.
 use Rattle.std.proofs.Common.{ℕ, ◌≡◌, ◌<◌, Bool, true, false, List, [], ◌∷◌, zero, suc, refl, sym, ap, ◌∙◌, subst, inl, inr, ◌⊎◌, ⊎_elim}
 use Rattle.std.specs.Prelude.{Option, None, Some, not, ◌&&◌, slice_index_or, slice_set}
 use Rattle.std.proofs.lemmas.Bool.{cases_Bool}
@@ -20,12 +20,12 @@ pub record IsIdle (here : ℕ → Place) (claimed : ℕ → Bool) (X : Place →
   pub clear : (u : ℕ) → X (InRegister by) u ≡ false
   pub unclaimed : (j : ℕ) → claimed j ≡ true → here j ≡ InRegister by → ⊥
 
--- the register that was taken at this instruction, or is kept for all
+-- the register that was taken for moves at this instruction, or is reserved for all
 pub data IsScratch (class : RegClass) (u : InstRegs) (t : StateValue) (by : Register) : Type 0 where
   of_machine : slice_index_or t.dedicated_scratch (class_code class) None ≡ Some by → IsScratch class u t by
   taken : slice_index_or u.scratch (class_code class) None ≡ Some by → IsScratch class u t by
 
--- the machine's registers: allocatable ones, fixed stack slots and the ones kept for moves are apart, and have numbers below 64
+-- the machine's registers: allocatable ones, fixed stack slots and those reserved for moves are disjoint, and have numbers below 64
 pub record Fit (t : StateValue) : Type 0 where
   pub small : (r : Register) → (has_register t.allocatable r ≡ true) ⊎ (has_register t.fixed_stack r ≡ true) → r.number < 64
   pub stack_apart : (r : Register) → has_register t.allocatable r ≡ true → has_register t.fixed_stack r ≡ false
@@ -39,7 +39,7 @@ pub record Spare (here : ℕ → Place) (claimed : ℕ → Bool) (X : Place → 
   pub early : (c : RegClass) (b : Register) → slice_index_or u.scratch (class_code c) None ≡ Some b → has_register u.early b ≡ false
   pub late : (c : RegClass) (b : Register) → slice_index_or u.scratch (class_code c) None ≡ Some b → has_register u.late b ≡ false
 
--- whatever registers were used
+-- the order in which registers were used doesn't matter
 pub fit_used : (t : StateValue) (order : List (List Register)) → Fit t → Fit (record t { lrus = order })
 fit_used t order f = record { small = f.small; stack_apart = f.stack_apart; own_apart = f.own_apart }
 
@@ -57,7 +57,7 @@ spare_used here claimed X u t order s = record {
   late = s.late;
 }
 
--- more is held
+-- at least as many registers are held
 pub record Less (t u : InstRegs) : Type 0 where
   pub early : (q : Register) → has_register t.early q ≡ false → has_register u.early q ≡ false
   pub late : (q : Register) → has_register t.late q ≡ false → has_register u.late q ≡ false
@@ -70,7 +70,7 @@ less_same t u e = record {
       ∙ h;
 }
 
--- where no register becomes available in either of two steps, none does over both
+-- if no register becomes available in either of two steps, none does over both
 pub less_then : (t u w : InstRegs) → Less t u → Less u w → Less t w
 less_then t u w a b = record { early = λ q h. b.early q (a.early q h); late = λ q h. b.late q (a.late q h) }
 
@@ -93,7 +93,7 @@ allocs_scratch_reg_less point class t u by old new (found none unset may early l
   late = λ q h. and_false (not (is_register by q)) (has_register t.late q) (has_register u.late q) (less_l q) h;
 }
 
--- an item of a table in which one entry was set is the item set, or was there before
+-- an item of a table in which one entry was set is the new item, or was there before
 pub set_found : (xs : List (Option Register)) (k j : ℕ) (v b : Register) → slice_index_or (slice_set xs k (Some v)) j None ≡ Some b → (b ≡ v)
     ⊎ (slice_index_or xs j None ≡ Some b)
 set_found [] k j v b e = absurd cc
@@ -102,7 +102,7 @@ set_found (x ∷ xs) zero (suc j) v b e = inr e
 set_found (x ∷ xs) (suc k) zero v b e = inr e
 set_found (x ∷ xs) (suc k) (suc j) v b e = set_found xs k j v b e
 
--- a register that no vreg, definition or claim is in stays so over evictions
+-- a register with no vreg, definition or claim stays so over evictions
 pub idle_kept : (here : ℕ → Place) (claimed : ℕ → Bool) (X : Place → ℕ → Bool) (b : Register) (old new : StateValue) → Kept old new →
     IsIdle here claimed X b old → IsIdle here claimed X b new
 idle_kept here claimed X b old new k s = record { no_allocs = λ x e. s.no_allocs x (k.registers x b e); clear = s.clear; unclaimed = s.unclaimed }
@@ -168,7 +168,7 @@ scratch_off here claimed X point class t u by old new (dedicated_scratch o eu en
 scratch_off here claimed X point class t u by old new (had none o eu en) f s = f.stack_apart by (s.own class by o)
 scratch_off here claimed X point class t u by old new (found none unset may early late less_e less_l set evicts) f s = f.stack_apart by may.allocatable
 
--- registers that fit go on fitting over a step that keeps the machine
+-- registers that fit still fit after a step that keeps the machine
 pub fit_same : (old new : StateValue) → SameMachine old new → Fit old → Fit new
 fit_same old new m f = record {
   small = λ r h. f.small r (⊎_elim (λ (e : has_register new.allocatable r ≡ true). inl (ap (λ l. has_register l r) (sym m.allocatable) ∙ e))
@@ -178,7 +178,7 @@ fit_same old new m f = record {
       (ap (λ l. has_register l b) m.allocatable ∙ x.0, ap (λ l. has_register l b) m.fixed_stack ∙ x.1);
 }
 
--- a held register stays held where less is free
+-- a held register stays held if fewer are free
 held_less : (a b c : Bool) → b ≡ (c && a) → not a ≡ true → not b ≡ true
 held_less true b c e h = absurd cc
 held_less false b true e h = subst (λ x. not x ≡ true) (sym e) refl
@@ -198,7 +198,7 @@ less_late t u by e NoPlace h = refl
 less_late t u by e (InRegister q) h = held_less (has_register t.late q) (has_register u.late q) (not (is_register by q)) (e q) h
 less_late t u by e (InSlot k) h = refl
 
--- places that operands claimed stay held where more is held at each position
+-- places that operands claimed stay held if more is held at each position
 pub held_keeps : (what : ℕ → What) (here : ℕ → Place) (claimed : ℕ → Bool) (early late early2 late2 : Place → Bool) →
     ((p : Place) → early p ≡ true → early2 p ≡ true) → ((p : Place) → late p ≡ true → late2 p ≡ true) →
     Held what here claimed early late → Held what here claimed early2 late2

@@ -1,5 +1,5 @@
 -- Before an instruction: scratch registers are taken, and uses are moved to their places.
--- The fold in `Changes` doesn't fit: what the listing carries, or the operands' record, differs from step to step.
+-- The fold in `Changes` doesn't apply: what the listing carries, or the operands' record, differs from step to step.
 use Rattle.std.proofs.Common.{ℕ, ◌≡◌, ◌+◌, ◌≤◌, Bool, true, false, List, [], ◌∷◌, ◌++◌, length, refl, arith, sym, ap, ◌∙◌, subst, inr, ⊎_elim}
 use Rattle.std.specs.Prelude.{Option, None, Some, not}
 use Rattle.std.proofs.lemmas.Bool.{and_parts, not-false}
@@ -39,7 +39,7 @@ use Rattle.regalloc2_fastalloc_proofs.proofs.Operands.BlockTail.{BlockTail}
 module _ (tail : BlockTail) (item : Item) where
   open tail use {Known, insts, placesf, i, n, E}
 
-  -- what the listing carries with the instruction in front, while the moves of the uses from k on are not listed
+  -- what the listing carries with the instruction in front, while the moves of the uses from k on aren't listed yet
   pub record Pends (what : ℕ → What) (here : ℕ → Place) (done out : ℕ → Bool) (T S : ℕ → Option Place) (k : ℕ) (edits : List (ℕ × MoveValue)) : Type 0 where
     pub later : AllFrom (before i) (listed edits)
     pub claims : Claims Known (before_part insts (listed edits) placesf i n item) (Pending what here done out T S k) E
@@ -146,7 +146,7 @@ module _ (tail : BlockTail) (item : Item) where
         others = e.others;
       }
 
-  -- uses are moved, those from k on not yet
+  -- uses are moved, except for those from k on
   pub record Moves (what : ℕ → What) (far : Progress) (k : ℕ) (u : InstRegs)
       (base t : StateValue) : Type 0 where
     pub located : Located what far t
@@ -172,7 +172,7 @@ module _ (tail : BlockTail) (item : Item) where
     kept = m.kept;
   }
 
-  -- a use that is placed is where its vreg may be moved
+  -- a placed use has a place to which its vreg may be moved
   use_facts : (what : ℕ → What) (far : Progress) (k : ℕ) (t : StateValue) → far.done k ≡ true → (what k).is_def ≡ false →
       Located what far t → IsMoved what far (stands_at t) (slots_at t) k (place_in t (what k).number)
   use_facts what far k t d u st =

@@ -1,5 +1,5 @@
 -- All operands are allocated: the late ones, then the early ones.
--- The fold in `Changes` doesn't fit: what the listing carries, or the operands' record, differs from step to step.
+-- The fold in `Changes` doesn't apply: what the listing carries, or the operands' record, differs from step to step.
 use Rattle.std.proofs.Common.{ℕ, ◌≡◌, ◌+◌, ◌<◌, ◌≤◌, Bool, true, false, List, length, refl, arith, sym, subst, inl, inr}
 use Rattle.std.specs.Prelude.{slice_set}
 use Rattle.regalloc2_names.specs.Operand.{is_late, is_fixed_nonallocatable}

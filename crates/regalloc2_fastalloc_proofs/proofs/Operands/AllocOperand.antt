@@ -1,5 +1,5 @@
--- An operand gets its place: it keeps that of its vreg, or its slot, or takes a free register, or the one that it claimed before.
--- The fold in `Changes` doesn't fit: what the listing carries, or the operands' record, differs from step to step.
+-- An operand gets its place: its vreg's location, or its vreg's slot, or a free register, or the register that it claimed before.
+-- The fold in `Changes` doesn't apply: what the listing carries, or the operands' record, differs from step to step.
 use Rattle.std.proofs.Common.{ℕ, ◌≡◌, ◌≢◌, ◌<◌, Bool, true, false, cond, List, refl, sym, ap, ◌∙◌, subst, inl, inr, ◌⊎◌, ⊎_elim, nat_eq, eq-eqb}
 use Rattle.std.specs.Prelude.{None, Some, not, slice_index_or}
 use Rattle.std.proofs.lemmas.Bool.{cases_Bool, cases_eq, ne_eqb}
@@ -36,11 +36,11 @@ use Rattle.regalloc2_fastalloc_proofs.proofs.Operands.ClaimKeepsRecord.{Grips, g
 use Rattle.regalloc2_fastalloc_proofs.proofs.Operands.BlockTail.{BlockTail}
 use Rattle.regalloc2_fastalloc_proofs.proofs.Changes.OneChange.{uses_rest}
 
--- the operand k is at p from now on, and is claimed
+-- the operand k has the place p from now on
 abbrev pub set_at : (ℕ → Place) → ℕ → Place → ℕ → Place
 set_at here k p = λ j. cond (nat_eq j k) p (here j)
 
--- operand k is marked, beside those that were, by a test of its index
+-- operand k is marked, in addition to those that were
 abbrev pub and_one : (ℕ → Bool) → ℕ → ℕ → Bool
 and_one claimed k = λ j. cond (nat_eq j k) true (claimed j)
 
@@ -84,7 +84,7 @@ pub data Due (here : ℕ → Place) (claimed : ℕ → Bool) (k : ℕ) (requirem
   owed : (r : Register) → claimed k ≡ true → here k ≡ InRegister r → requirement ≡ InPReg r → Due here claimed k requirement
   fresh : claimed k ≡ false → ((r : Register) → requirement ≡ InPReg r → ⊥) → Due here claimed k requirement
 
--- the place that the vreg keeps meets what is asked
+-- the place that the vreg keeps meets the requirement
 pub meets_requirement_at : (t : StateValue) (w : Requirement) (p : Place) (r : Register) → w ≡ InPReg r → MeetsRequirement t w p → p ≡ InRegister r
 unfolding MeetsRequirement
 meets_requirement_at t w p r e s = subst (λ x. MeetsRequirement t x p) e s
@@ -102,7 +102,7 @@ pub evicts_other_vregs_own : (point : ℕ) (r : Register) (v : VirtualRegister) 
 evicts_other_vregs_own point r v t u old new (own w there same eu en) whole at = (eu, en)
 evicts_other_vregs_own point r v t u old new (others other c) whole at = let x = whole.stands_in v.number r at in absurd (other x.1.0 x.1.2 x.1.1)
 
--- It is the turn of the operand k, which isn't placed yet: the request made for it, at positions that cover its own; the registers and the tables before it
+-- The operand k is next, and isn't placed yet: its request, at positions that cover its own; the registers and the tables before it
 -- (t, old); and the registers (u) and the place (p) that it ends with. Once late uses are placed, no early use is.
 pub record NextOperand (tail : BlockTail) (ops : List OperandValue) (far : Progress) (ret : Bool) : Type 0 where
   pub k : ℕ
@@ -123,7 +123,7 @@ pub record NextOperand (tail : BlockTail) (ops : List OperandValue) (far : Progr
 module _ (tail : BlockTail) (ops : List OperandValue) (far : Progress) (ret : Bool) where
   open tail use {Known, insts, placesf, i, n, E}
 
-  -- a register is held from now on, and claimed no more than before
+  -- a register is held from now on, and the claims stay
   pub ready_grip : (t u : InstRegs) (p : Place) (k : ℕ) (o : OperandRequest) (m : StateValue) → Grips t u p o.positions →
       Ready tail ops far ret t m →
       Ready tail ops far ret u m
@@ -170,7 +170,7 @@ module _ (tail : BlockTail) (ops : List OperandValue) (far : Progress) (ret : Bo
     fresh_same : far.claimed k ≡ false → (j : ℕ) → far.claimed j ≡ true → set_at far.here k p j ≡ far.here j
     fresh_same f j c = set_at_other far.here k j p (λ e. let x : far.claimed k ≡ true = ap far.claimed (sym e) ∙ c in cc)
 
-    -- the vreg that the operand evicts from a register where it may be
+    -- the operand may evict a vreg from the register
     may_evict : (r : Register) → Clear (what_of ops) far.here far.claimed k (InRegister r) → (x : ℕ) → stands_at old x ≡ Some (InRegister r) →
         (x ≡ o.vreg.number → ⊥) →
         (far.lived x ≡ true) × ((w : ℕ) → far.made_at (InRegister r) w ≡ false)
@@ -198,7 +198,7 @@ module _ (tail : BlockTail) (ops : List OperandValue) (far : Progress) (ret : Bo
           own_slot = λ q eq. (let x : InRegister r ≡ InSlot q = sym pr ∙ eq in absurd cc);
         }
 
-    -- a register is claimed now, of which others were cleared without a scratch register
+    -- a register is claimed now, after other vregs were evicted from it without a scratch register
     got_register : (r : Register) (new : StateValue) → far.claimed k ≡ false → p ≡ InRegister r → r.number < 64 → Clear (what_of ops) far.here far.claimed k
         (InRegister r)
         →
@@ -250,7 +250,7 @@ module _ (tail : BlockTail) (ops : List OperandValue) (far : Progress) (ret : Bo
           own_slot = λ g eq. at ∙ sym pr ∙ eq;
         }
 
-    -- the vreg's own place is no clobber, for whom that matters
+    -- the vreg's own place is no clobber, for operands where that matters
     calm_kept : (q : Place) → stands_at old num ≡ Some q → ((what_of ops k).is_def ≡ true) ⊎ ((what_of ops k).is_late ≡ true) → far.clobbered q ≡ false
     calm_kept q at h = ⊎_elim
         (λ (l : far.lived num ≡ true). s.located.placed.cleared num q l at)
@@ -285,7 +285,7 @@ module _ (tail : BlockTail) (ops : List OperandValue) (far : Progress) (ret : Bo
         (λ c b is same. (s.scratch_reserve.idle c b is).no_allocs num (num_is ∙ ap InRegister same)) grips
         (λ y ey. (whole_tidy old s.located.whole).apart y num r ey num_is) s)
 
-    -- a register that is free where the operand is
+    -- a register that is free at the operand's positions
     get_free : (new : StateValue) (r : Register) → far.claimed k ≡ false → MayHold old o.vreg.class r → IsAvailableAt t o.positions r → p ≡ InRegister r →
         ClaimsPlace (after i) o p t u old new → Got k p u new
     get_free new r f may fr pr (in_slot q e same en) = let x : InRegister r ≡ InSlot q = sym pr ∙ e in absurd cc
@@ -326,7 +326,7 @@ module _ (tail : BlockTail) (ops : List OperandValue) (far : Progress) (ret : Bo
         ]) grips
         (λ x ex. c.1 x (ex ∙ ap InRegister (sym same)) ∙ nv) rd
 
-    -- its slot, which it had or which is made
+    -- the vreg's slot, which it had or which is made
     ready_given : (middle : StateValue) → GetsSpillSlot old.slots middle.slots o.vreg p → middle.places ≡ old.places → middle.edits ≡ old.edits →
         SameMachine old middle →
         Ready tail ops far ret t middle
@@ -369,7 +369,7 @@ module _ (tail : BlockTail) (ops : List OperandValue) (far : Progress) (ret : Bo
         let x = given old.slots middle.slots o.vreg p g s.located.whole.units s.located.whole.below s.located.whole.own in
         let y : InSlot x.0 ≡ InRegister r = sym x.1 ∙ at in absurd cc
 
-    -- the four ways
+    -- the four cases
     allocs_operand_by : (middle new : StateValue) → Due far.here far.claimed k o.requirement → SelectsPlace t o p old middle →
         ClaimsPlace (after i) o p t u middle new
         → Got k p u new
@@ -386,7 +386,7 @@ module _ (tail : BlockTail) (ops : List OperandValue) (far : Progress) (ret : Bo
     allocs_operand_by middle new (fresh f other) (free g h away may fr first pg en) occ =
         get_free new g f may fr pg (subst (λ m. ClaimsPlace (after i) o p t u m new) en occ)
 
-    -- whatever registers were used
+    -- the order in which registers were used doesn't matter
     got_used : (new : StateValue) (order : List (List Register)) → Got k p u new → Got k p u (record new { lrus = order })
     got_used new order x = record {
       there = x.there;

@@ -28,8 +28,8 @@ use Rattle.regalloc2_fastalloc_proofs.proofs.Safety.OperandKeepsSafe.{IsAnswer}
 abbrev pub at_place : List Place → ℕ → Place
 at_place places k = slice_index_or places k NoPlace
 
--- The operands of an instruction, as a well-formed function has them: a number isn't read where it is defined;
--- a reuse is a late definition that names an early use of its class, under Reg or FixedReg, which no other one names.
+-- The operands of an instruction of a well-formed function: a number isn't read where it is defined;
+-- a reuse is a late definition that names an early use of its class, under Reg or FixedReg, which no other reuse names.
 pub record IsTame (Known : VirtualRegister → Type 0) (ops : List OperandValue) : Type 0 where
   pub same : (v w : VirtualRegister) → Known v → Known w → v.number ≡ w.number → v ≡ w
   pub known : (k : ℕ) → k < length ops → is_fixed_nonallocatable (op_at ops k) ≡ false → Known (op_at ops k).vreg
@@ -52,7 +52,7 @@ IsInRegister NoPlace = ⊥
 IsInRegister (InRegister r) = Unit {0}
 IsInRegister (InSlot n) = ⊥
 
--- what a constraint says of the operand's own place
+-- what a constraint requires of the operand's own place
 abbrev pub MeetsAlone : MachineValue → OperandConstraint → Place → Type 0
 MeetsAlone env Any p = p ≢ NoPlace
 MeetsAlone env Reg p = IsPlainRegister env p
@@ -61,7 +61,7 @@ MeetsAlone env (FixedReg r) p = p ≡ InRegister r
 MeetsAlone env (Reuse n) p = IsInRegister p
 MeetsAlone env (Limit n) p = ⊥
 
--- a proper place, which meets the operand's constraint
+-- a valid place, which meets the operand's constraint
 pub record IsGood (env : MachineValue) (slots : SpillSlotsValue) (o : OperandValue) (p : Place) : Type 0 where
   pub place : is_fixed_nonallocatable o ≡ false → MayBeLocatedAt env slots o.vreg p
   pub meets : MeetsAlone env o.constraint p
@@ -74,7 +74,7 @@ good_grows env s t o p stay g = record { place = λ a. stand_grows env s t o.vre
 pub reads_allocated : (o : OperandValue) → is_reading o ≡ true → is_fixed_nonallocatable o ≡ false
 reads_allocated o h = not-true (is_fixed_nonallocatable o) (and_parts (not (is_def o.kind)) (not (is_fixed_nonallocatable o)) h).1
 
--- an answer meets the constraint
+-- a place that meets the requirement meets the constraint
 pub answer_meets : (env : MachineValue) (c : OperandConstraint) (p : Place) → ((n : ℕ) → c ≡ Reuse n → ⊥) → ((n : ℕ) → c ≡ Limit n → ⊥) →
     IsAnswer env (requirement_of c) p → MeetsAlone env c p
 answer_meets env (Reuse n) p r l h = absurd (r n refl)
@@ -89,7 +89,7 @@ plain_in_register env (InSlot n) h = h
 fixed_in_register : (p : Place) (r : Register) → p ≡ InRegister r → IsInRegister p
 fixed_in_register p r e = subst IsInRegister (sym e) tt
 
--- the answer of a reuse meets the constraint of the use that it names, and is a register
+-- the place of a reuse meets the constraint of the use that it names, and is a register
 pub answer_named : (env : MachineValue) (c : OperandConstraint) (p : Place) → (c ≡ Reg) ⊎ ((r : Register) × (c ≡ FixedReg r)) →
     IsAnswer env (reuse_requirement_of c) p → MeetsAlone env c p × IsInRegister p
 answer_named env c p (inl e) h =
@@ -99,25 +99,25 @@ answer_named env c p (inr e) h =
     let a : p ≡ InRegister e.0 = subst (λ x. IsAnswer env (reuse_requirement_of x) p) e.1 h in
     (subst (λ x. MeetsAlone env x p) (sym e.1) a, fixed_in_register p e.0 a)
 
--- any register meets a reuse, as far as its own place goes
+-- any register meets a reuse constraint, as far as its own place goes
 pub reuse_meets : (env : MachineValue) (c : OperandConstraint) (n : ℕ) (p : Place) → c ≡ Reuse n → IsInRegister p → MeetsAlone env c p
 reuse_meets env c n p e h = subst (λ x. MeetsAlone env x p) (sym e) h
 
--- a preg meets the constraint that fixes an operand to it
+-- a register meets the constraint that fixes an operand to it
 pub fixed_meets : (env : MachineValue) (c : OperandConstraint) (r : Register) → c ≡ FixedReg r → MeetsAlone env c (InRegister r)
 fixed_meets env c r e = subst (λ x. MeetsAlone env x (InRegister r)) (sym e) refl
 
--- an operand that asks for a register by name is fixed to it
+-- an operand that requires a specific register is fixed to it
 pub asked_fixed : (c : OperandConstraint) (r : Register) → requirement_of c ≡ InPReg r → c ≡ FixedReg r
 asked_fixed (FixedReg q) r h = (let x : InPReg q ≡ InPReg r = h in let same : q ≡ r = cc in ap FixedReg same)
 asked_fixed c r h = absurd cc
 
--- where a reuse requires one preg, the operand that it names is fixed to that preg
+-- if a reuse requires a specific register, the operand that it names is fixed to that register
 pub asked_as_fixed : (c : OperandConstraint) (r : Register) → reuse_requirement_of c ≡ InPReg r → c ≡ FixedReg r
 asked_as_fixed (FixedReg q) r h = (let x : InPReg q ≡ InPReg r = h in let same : q ≡ r = cc in ap FixedReg same)
 asked_as_fixed c r h = absurd cc
 
--- the preg to which an operand may be fixed is of the operand's class
+-- the register to which an operand may be fixed is of the operand's class
 pub fixed_class : (class : RegClass) (c : OperandConstraint) (r : Register) → IsConstraintOf class c → c ≡ FixedReg r → r.class ≡ class
 fixed_class class c r h e = (let x : IsConstraintOf class (FixedReg r) = subst (IsConstraintOf class) e h in x.1)
 
@@ -129,7 +129,7 @@ abbrev pub FixedAreKnown : MachineValue → List OperandValue → Type 0
 FixedAreKnown env ops = (k : ℕ) (r : Register) → k < length ops → is_fixed_nonallocatable (op_at ops k) ≡ false → (op_at ops k).constraint ≡ FixedReg r →
     IsOfMachine env r
 
--- the operands that are done have good places; each other one has none yet, or the one that a reuse chose for it
+-- the operands that are done have good places; every other operand has none yet, or the one that a reuse chose for it
 pub record Filled (env : MachineValue) (Known : VirtualRegister → Type 0) (Writes : ℕ → VirtualRegister → ℕ → Type 0) (May : ℕ → Type 0)
     (ops : List OperandValue) (done : ℕ → Type 0) (there : List Place) (u : InstRegs) (t : StateValue) : Type 0 where
   pub safe : IsSafe env Known Writes May t
@@ -141,7 +141,7 @@ pub record Filled (env : MachineValue) (Known : VirtualRegister → Type 0) (Wri
       ⊎ (IsGood env t.slots (op_at ops j) (at_place there j) × IsInRegister (at_place there j))
   pub found : (j : ℕ) → j < length ops → done j → is_reading (op_at ops j) ≡ true → alloc_of t.places (op_at ops j).vreg.number ≢ NoPlace
 
--- what an instruction may write to slots: after it, those of the vregs that it defines; before it, those in which it reads
+-- the slots that an instruction may write: after it, those of the vregs that it defines; before it, those in which it reads
 abbrev pub DefsAreWritten : (ℕ → VirtualRegister → ℕ → Type 0) → ℕ → List OperandValue → Type 0
 DefsAreWritten Writes i ops = (k n : ℕ) → k < length ops → is_def (op_at ops k).kind ≡ true → Writes (after i) (op_at ops k).vreg n
 
@@ -150,15 +150,15 @@ abbrev pub UsesAreWritten : (ℕ → VirtualRegister → ℕ → Type 0) → ℕ
 UsesAreWritten Writes i ops places = (k n : ℕ) → k < length ops → is_reading (op_at ops k) ≡ true → at_place places k ≡ InSlot n →
     Writes (before i) (op_at ops k).vreg n
 
--- a place that meets a reuse is a register
+-- a place that meets a reuse constraint is a register
 pub reuse_register : (env : MachineValue) (c : OperandConstraint) (n : ℕ) (p : Place) → c ≡ Reuse n → MeetsAlone env c p → IsInRegister p
 reuse_register env c n p e h = subst (λ x. MeetsAlone env x p) e h
 
--- no place at all isn't a register
+-- `NoPlace` isn't a register
 pub no_place_register : (p : Place) → p ≡ NoPlace → IsInRegister p → ⊥
 no_place_register p e h = subst IsInRegister e h
 
--- An instruction's operands, which get their places one after another: the machine; the vregs that are known; the slots into which the walk may write a
+-- An instruction's operands, which get their places one after another: the machine; the known vregs; the slots into which the walk may write a
 -- vreg's value, and the points where moves may be; and the operands, which are tame.
 pub record FillingContext : Type 1 where
   pub env : MachineValue
@@ -168,7 +168,7 @@ pub record FillingContext : Type 1 where
   pub ops : List OperandValue
   pub tame : IsTame Known ops
 
--- those, of their parts
+-- the record, built from its parts
 abbrev pub filling_of : MachineValue → (Known : VirtualRegister → Type 0) → (ℕ → VirtualRegister → ℕ → Type 0) → (ℕ → Type 0) →
     (ops : List OperandValue) → IsTame Known ops → FillingContext
 filling_of env Known Writes May ops tame = record { env = env; Known = Known; Writes = Writes; May = May; ops = ops; tame = tame }
@@ -190,7 +190,7 @@ module _ (filling : FillingContext) where
     found = λ j less e. h.found j less (back j less e);
   }
 
-  -- other tables, in which all uses that are done still have a location
+  -- the same with other tables, in which the vregs of all uses that are done still have a location
   pub filled_on : (D : ℕ → Type 0) (there : List Place) (t u : InstRegs) (old new : StateValue) → IsSafe env Known Writes May new → AreSafeRegs env u →
       SlotsStay old.slots new.slots
       → ((j : ℕ) → j < length ops → is_reading (op_at ops j) ≡ true → alloc_of old.places (op_at ops j).vreg.number ≢ NoPlace →
@@ -209,7 +209,7 @@ module _ (filling : FillingContext) where
     found = λ j less d reads. standing j less reads (h.found j less d reads);
   }
 
-  -- one more is done
+  -- one more operand is done
   pub record OneMore (D E : ℕ → Type 0) (k : ℕ) : Type 0 where
     pub before_it : D k → ⊥
     pub at_it : E k
@@ -258,7 +258,7 @@ module _ (filling : FillingContext) where
       not_k : (j : ℕ) → D j → j ≢ k
       not_k j d same = more.before_it (subst D same d)
 
-  -- the place of a reuse, which is that of the use that it names too
+  -- the place of a reuse, which is also that of the use that it names
   pub written_twice : {D E : ℕ → Type 0} {k : ℕ} (n : ℕ) {p : Place} {here : List Place} {u : InstRegs} {t : StateValue} → k < length ops → OneMore D E k →
       (op_at ops k).constraint ≡ Reuse n → (D n → ⊥)
       → IsGood env t.slots (op_at ops k) p → IsGood env t.slots (op_at ops n) p → IsInRegister p

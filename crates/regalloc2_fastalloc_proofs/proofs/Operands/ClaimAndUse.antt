@@ -11,18 +11,18 @@ use Rattle.regalloc2_fastalloc_proofs.specs.InstSteps.{StateValue}
 use Rattle.regalloc2_fastalloc_proofs.proofs.Safety.StepsKeepState.{place_in, slot_in, slot_no_register}
 use Rattle.regalloc2_fastalloc_proofs.proofs.Operands.RecordOverState.{opt, opt_some, opt_from, stands_at, slots_at, slot_below, Located}
 
--- the positions at which an operand holds its register are its own
+-- the positions at which an operand holds its register cover its own
 pub covers_at : (number : ℕ) (d l : Bool) → Covers (record { number = number; is_def = d; is_late = l }) (not d || not l) (d || l)
 covers_at number true true = record { early_use = λ e. absurd cc; early_def = λ e. absurd cc; late_def = λ e. refl; late_use = λ e. refl }
 covers_at number true false = record { early_use = λ e. refl; early_def = λ e. refl; late_def = λ e. refl; late_use = λ e. refl }
 covers_at number false true = record { early_use = λ e. refl; early_def = λ e. refl; late_def = λ e. refl; late_use = λ e. refl }
 covers_at number false false = record { early_use = λ e. refl; early_def = λ e. refl; late_def = λ e. absurd cc; late_use = λ e. absurd cc }
 
--- both positions are those of every operand
+-- both positions cover those of every operand
 pub covers_both : (w : What) → Covers w true true
 covers_both w = record { early_use = λ e. refl; early_def = λ e. refl; late_def = λ e. refl; late_use = λ e. refl }
 
--- the slot of an operand's vreg is its own: any vreg that claims it is an operand of that vreg
+-- the slot of an operand's vreg is its own: any operand that claims it is an operand of that vreg
 pub clear_slot : (counts : ℕ → Type 0) (what : ℕ → What) (far : Progress)
     (T S : ℕ → Option Place) (k : ℕ) (p : Place)
     → Placed what far T S → Once counts what → ((j : ℕ) → far.claimed j ≡ true → counts j) → counts k
@@ -49,7 +49,7 @@ puts_below here there claimed claimed2 k r count u lt below j m c e = elim (case
   | inr n ↦ elim (u.grows j c) [ inl i ↦ absurd (n i) | inr d ↦ below j m d (sym (u.at_j j n) ∙ e) ]
 ]
 
--- a register from which all others were evicted
+-- a register from which all other vregs were evicted
 pub claim_register : (what : ℕ → What) (far : Progress) (there : ℕ → Place) (claimed2 : ℕ → Bool)
     (t : StateValue) (k : ℕ) (r : Register)
     → Puts far.here there far.claimed claimed2 k (InRegister r) → Clear what far.here far.claimed k (InRegister r) →
@@ -69,7 +69,7 @@ claim_register what far there claimed2 t k r u clear alone calm st = record {
   calm = st.calm;
 }
 
--- the slot of its vreg
+-- the slot of the operand's vreg
 pub claim_slot : (counts : ℕ → Type 0) (what : ℕ → What) (far : Progress) (there : ℕ → Place) (claimed2 : ℕ → Bool) (t : StateValue) (k m : ℕ)
     → Puts far.here there far.claimed claimed2 k (InSlot m) → Once counts what → ((j : ℕ) → far.claimed j ≡ true → counts j) → counts k →
     slot_in t (what k).number ≡ InSlot m

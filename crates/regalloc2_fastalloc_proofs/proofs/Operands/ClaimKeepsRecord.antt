@@ -72,7 +72,7 @@ grips_register t u r pos h = record {
     late_keeps (InRegister q) e = held_set pos.late (has_register t.late q) (has_register u.late q) (is_register r q) (h.late q) e
     late_keeps (InSlot m) e = refl
 
--- a claimed spill slot is held at all positions anyway, and no register is taken for it
+-- a claimed spill slot counts as held at all positions, and no register is taken for it
 pub grips_slot : (t u : InstRegs) (m : ℕ) (pos : Positions) → SameAvailable t u → Grips t u (InSlot m) pos
 grips_slot t u m pos s = record {
   early = record { keeps = early_keeps; holds = λ a. refl };

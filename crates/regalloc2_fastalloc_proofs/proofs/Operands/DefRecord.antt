@@ -1,5 +1,5 @@
--- A definition is placed: its vreg has no location before it, and is moved to where it was awaited and to its slot.
--- The fold in `Changes` doesn't fit: what the listing carries, or the operands' record, differs from step to step.
+-- A definition is placed: its vreg has no location before it, and is moved to where it is expected and to its slot.
+-- The fold in `Changes` doesn't apply: what the listing carries, or the operands' record, differs from step to step.
 use Rattle.std.proofs.Common.{ℕ, ◌≡◌, ◌≢◌, Bool, true, false, List, refl, sym, ap, ◌∙◌, subst, inl, inr, ◌⊎◌, ⊎_elim}
 use Rattle.std.specs.Prelude.{None, Some, not, ◌&&◌}
 use Rattle.std.proofs.lemmas.Bool.{cases_Bool, cases_eq, and_parts, not-true}
@@ -29,7 +29,7 @@ use Rattle.regalloc2_fastalloc_proofs.proofs.Evictions.EvictKeepsRecord.{Nothing
 use Rattle.regalloc2_fastalloc_proofs.proofs.Moves.MoveAfterInst.{Steady, Sent, Moves, ready_of, adds_move_step}
 use Rattle.regalloc2_fastalloc_proofs.proofs.Operands.BlockTail.{BlockTail}
 
--- a place that is there and isn't the other, and one that isn't
+-- a place that counts as another one isn't none, and differs from it
 pub another_is : (p q : Place) → is_another p q ≡ true → (p ≢ NoPlace) × (p ≢ q)
 another_is p q e =
     let x = and_parts (not (is_place p NoPlace)) (not (is_place p q)) e in (
@@ -87,7 +87,7 @@ module _ (tail : BlockTail) (ops : List OperandValue) (far : Progress) (done2 ou
   others_in x ne f = ⊎_elim (λ (a : out2 x ≡ true). elim (pd.makes.out_grows x a) [ inl h ↦ absurd (ne h) | inr h ↦ absurd cc ]) (λ (a : out2 x ≡ false). a)
       (cases_Bool (out2 x))
 
-  -- the vreg has left
+  -- the vreg has left the tables
   module _ (t : InstRegs) (old left : StateValue) (z : SetsAlloc old.places left.places v NoPlace) (slots : left.slots ≡ old.slots)
       (edits : left.edits ≡ old.edits) (machine : SameMachine old left)
       (r : Ready tail ops far ret t old) where
@@ -149,7 +149,7 @@ module _ (tail : BlockTail) (ops : List OperandValue) (far : Progress) (done2 ou
     ]
     alone_at (InSlot g) at ne m w k2 x e = own_at (InSlot g) at ne m w k2 x (w.own_slot x g e)
 
-    -- which vregs are out once the first move is there: one whose slot is where it was awaited is out at once
+    -- which vregs' slots aren't needed once the first move is added: the vreg's own if that is where it is expected
     abbrev Which : (ℕ → Bool) → Type 0
     Which need = (need ≡ far.out) ⊎ ((need ≡ out2) × (s ≡ c))
 
@@ -187,7 +187,7 @@ module _ (tail : BlockTail) (ops : List OperandValue) (far : Progress) (done2 ou
           ];
         }
 
-    -- what was needed before the vreg left, while it is on its way
+    -- what was needed before the vreg left, while it is being moved
     on_its_way : c ≢ NoPlace → Owes tail far.lived far.out Y (put (stands_at left) v.number (Some c)) (slots_at left) left.edits
     on_its_way real = subst (Owes tail far.lived far.out Y (put (stands_at left) v.number (Some c)) (slots_at left)) (sym edits) (record {
       later = r.owes.later;
@@ -210,7 +210,7 @@ module _ (tail : BlockTail) (ops : List OperandValue) (far : Progress) (done2 ou
           (λ x p y. absurd y) (left_steady.nothing e);
     }
 
-    -- it isn't sent where it was awaited nowhere, or in its place
+    -- no move is added if the vreg is expected nowhere or in its place
     stays_owed : (need : ℕ → Bool) → Which need → (c ≡ NoPlace) ⊎ (c ≡ far.here k) →
         Owes tail far.lived need Y (stands_at left) (slots_at left) left.edits
     stays_owed need which at = subst (Owes tail far.lived need Y (stands_at left) (slots_at left)) (sym edits) (record {
@@ -319,7 +319,7 @@ module _ (tail : BlockTail) (ops : List OperandValue) (far : Progress) (done2 ou
           (subst (Ready tail ops next ret inst_regs) (sym en)
           (ready_of tail ops next ret inst_regs middle f.steady f.owes))
 
-      -- its slot is where it was awaited
+      -- the vreg is expected in its slot
       stored_there : s ≡ c → AddsMoveIf (after i) v.class (not ret && (is_another s (far.here k) && not (is_place s c))) (far.here k) s inst_regs u middle new →
           Sent tail ops next out2 ret inst_regs left middle →
           Ready tail ops next ret u new

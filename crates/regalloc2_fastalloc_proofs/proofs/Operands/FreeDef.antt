@@ -1,4 +1,4 @@
--- A definition is placed: its vreg has no location before it, and is moved to where it was awaited and to its slot.
+-- A definition is placed: its vreg has no location before it, and is moved to where it is expected and to its slot.
 use Rattle.std.proofs.Common.{ℕ, ◌≡◌, ◌<◌, Bool, true, false, refl, sym, ap, ◌∙◌, subst, inl, inr, ⊎_elim}
 use Rattle.std.specs.Prelude.{Option, None, Some}
 use Rattle.std.proofs.lemmas.Bool.{cases_Bool, cases_eq}
@@ -12,7 +12,7 @@ use Rattle.regalloc2_fastalloc_proofs.specs.Safety.{IsWhole}
 use Rattle.regalloc2_fastalloc_proofs.proofs.Safety.StepsKeepState.{place_in, away_holds, away_stands}
 use Rattle.regalloc2_fastalloc_proofs.proofs.Operands.RecordOverState.{opt, stands_at, slots_at, Located}
 
--- the tables stay whole where a vreg leaves
+-- the tables stay whole when a vreg leaves
 pub leave_whole : (old new : StateValue) (v : VirtualRegister) → SetsAlloc old.places new.places v NoPlace → new.slots ≡ old.slots → IsWhole old → IsWhole new
 leave_whole old new v z slots w = record {
   holds = away_holds old new v NoPlace (λ q. refl) z w;
@@ -51,7 +51,7 @@ leave_stands counts what far done2 out2 Y old new k v d within same z slots st =
   calm = st.calm;
 }
 
--- where a vreg is located that is defined next, no definition is placed
+-- no definition is placed at the location of the vreg that is defined next
 pub defs_elsewhere : (counts : ℕ → Type 0) (what : ℕ → What) (far : Progress)
     (T S : ℕ → Option Place) (k : ℕ) (p : Place) (u : ℕ)
     → Once counts what → ((j : ℕ) → far.claimed j ≡ true → counts j) → far.claimed k ≡ true → (what k).is_def ≡ true

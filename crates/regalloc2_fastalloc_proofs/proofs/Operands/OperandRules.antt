@@ -28,7 +28,7 @@ unmarked false k e = and_right (is_fixed k) false refl
 pub is_unmarked : (o : OperandValue) → nonallocatable_register o ≡ None → is_fixed_nonallocatable o ≡ false
 is_unmarked o e = unmarked (nat_eq o.vreg.number 1073741823) o.constraint e
 
--- its vreg is in the tables, however it is placed
+-- an operand's vreg is in the tables
 pub op_in_tables : (operands : List OperandValue) (k : ℕ) (o : OperandValue) (t : StateValue) → k < length operands → o ≡ op_at operands k →
     is_fixed_nonallocatable o ≡ false → InTables operands t
     → o.vreg.number < length t.places.vreg_allocs
@@ -41,7 +41,7 @@ use_vreg o NoPlace = refl
 use_vreg o (InRegister r) = refl
 use_vreg o (InSlot n) = refl
 
--- the vreg that a use asks a place for has an entry in the table of locations
+-- the vreg of a use has an entry in the table of locations
 pub use_in_tables : (operands : List OperandValue) (k : ℕ) (o : OperandValue) (h : Place) (request : OperandRequest) (t : StateValue) → k < length operands →
     o ≡ op_at operands k → request ≡ use_request o h
     → is_fixed_nonallocatable o ≡ false → InTables operands t → request.vreg.number < length t.places.vreg_allocs
@@ -50,7 +50,7 @@ use_in_tables operands k o h request t lt e p not_it within =
     (sym (ap (λ (x : OperandRequest). x.vreg.number) p ∙ ap (λ (v : VirtualRegister). v.number) (use_vreg o h)))
     (op_in_tables operands k o t lt e not_it within)
 
--- the four ways
+-- the four cases
 pub processes_operand_register : (i : ℕ) (is_ret : Bool) (operands : List OperandValue) (k : ℕ) (here : List Place) (t : InstRegs) (m : StateValue)
     (o : OperandValue)
     (r : Register) (q : Place)

@@ -1,4 +1,4 @@
--- An operand that got its place is placed: a use is there if it had no location, a definition leaves the tables.
+-- An operand that got its place is placed: a use's vreg is there if it had no location, a definition's vreg leaves the tables.
 use Rattle.std.proofs.Common.{ℕ, ◌≡◌, ◌≢◌, Bool, true, false, cond, List, refl, sym, ap, ◌∙◌, subst, inl, inr, ◌⊎◌, ⊎_elim, nat_eq, eq-eqb}
 use Rattle.std.specs.Prelude.{None, ◌&&◌}
 use Rattle.std.proofs.lemmas.Bool.{cases_Bool, cases_eq, eqb-true}
@@ -32,7 +32,7 @@ use Rattle.regalloc2_fastalloc_proofs.proofs.Operands.BlockTail.{BlockTail}
 pub places_one : (done : ℕ → Bool) (k : ℕ) → Places done (and_one done k) k
 places_one done k = record { grows = and_one_grows done k; keeps = and_one_keeps done k; places = and_one_same done k k refl }
 
--- the definition k is made at p
+-- the definition k writes p
 abbrev pub made_one : (Place → ℕ → Bool) → Place → ℕ → Place → ℕ → Bool
 made_one X p v = λ q w. cond (is_place q p && nat_eq w v) true (X q w)
 
@@ -45,7 +45,7 @@ keeps_true : (a c : Bool) → c ≡ true → cond a true c ≡ true
 keeps_true true c e = refl
 keeps_true false c e = e
 
--- with operand k's definition its number is among those defined, and its value among those made, in its place; nothing else is added
+-- operand k's definition adds its number to those defined, and its value to those written, in its place; nothing else is added
 pub makes_one : (ops : List OperandValue) (here : ℕ → Place) (out : ℕ → Bool) (X : Place → ℕ → Bool) (k : ℕ) →
     PlacesDefinition (what_of ops) here out (and_one out (op_at ops k).vreg.number) X (made_one X (here k) (op_at ops k).vreg.number) k
 makes_one ops here out X k = record {
@@ -139,7 +139,7 @@ module _ (tail : BlockTail) (ops : List OperandValue) (far : Progress) (ret : Bo
             small = g.ready.small;
           }
 
-      -- once a use is located, all holds with its operand among those that are placed
+      -- once a use's vreg has its location, the record holds with its operand among those that are placed
       pub use_step : (new : StateValue) → LocatesUse v p old new
           → Ready tail ops (record far { here = g.there; claimed = g.claimed2; done = and_one far.done k }) ret u new
       use_step new (stays there en) = subst (Ready tail ops (record far { here = g.there; claimed = g.claimed2; done = and_one far.done k }) ret u) (sym en)

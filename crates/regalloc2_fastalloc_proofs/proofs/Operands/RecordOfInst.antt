@@ -17,8 +17,8 @@ use Rattle.regalloc2_fastalloc_proofs.proofs.Evictions.EvictVReg.{held_early, he
 use Rattle.regalloc2_fastalloc_proofs.proofs.Moves.ScratchRegTaken.{Fit, Spare, fit_used, spare_used}
 use Rattle.regalloc2_fastalloc_proofs.proofs.Operands.BlockTail.{BlockTail}
 
--- The operands of an instruction, as a well-formed function has them. A number is defined once, and isn't read where it is defined;
--- a reuse is a late definition that names an early use, which no other one names, under Reg or FixedReg.
+-- The operands of an instruction of a well-formed function. A number is defined once, and isn't read where it is defined;
+-- a reuse is a late definition that names an early use, which no other reuse names, under Reg or FixedReg.
 pub record Orderly (ops : List OperandValue) : Type 0 where
   pub once : Once (Counts ops) (what_of ops)
   pub allocated : (k : ℕ) → k < length ops → is_def (op_at ops k).kind ≡ true → is_fixed_nonallocatable (op_at ops k) ≡ false
@@ -34,14 +34,14 @@ pub record Orderly (ops : List OperandValue) : Type 0 where
 abbrev pub Turned : List OperandValue → Bool → ℕ → ℕ → Type 0
 Turned ops late k j = ((is_late (op_at ops j).position ≡ true) × (j < k)) ⊎ ((late ≡ false) × ((is_late (op_at ops j).position ≡ true) ⊎ (j < k)))
 
--- An operand that is claimed before it is allocated: it is fixed, or a reuse of a fixed one, or a use for which a reuse has chosen the register.
+-- An operand whose register is claimed before it is allocated: it is fixed, or a reuse of a fixed use, or a use for which a reuse has chosen the register.
 pub data Waits (ops : List OperandValue) (list : List Place) (j : ℕ) (r : Register) : Type 0 where
   of_fixed : (op_at ops j).constraint ≡ FixedReg r → Waits ops list j r
   of_reuse : (m : ℕ) → (op_at ops j).constraint ≡ Reuse m → (op_at ops m).constraint ≡ FixedReg r → Waits ops list j r
   of_named : (d : ℕ) → is_def (op_at ops j).kind ≡ false → d < length ops → (op_at ops d).constraint ≡ Reuse j → slice_index_or list d NoPlace ≢ NoPlace →
       slice_index_or list j NoPlace ≡ InRegister r → Waits ops list j r
 
--- how far the operands are, from what stays as it was when the instruction began, and what changes
+-- the progress of the operands, from what is constant during the instruction, and what changes
 abbrev pub progress : (ℕ → Bool) → (Place → Bool) → (ℕ → Place) → (ℕ → Bool) → (ℕ → Bool) → (ℕ → Bool) → (Place → ℕ → Bool) → Progress
 progress lived clob here claimed done out X =
     record { here = here; claimed = claimed; done = done; lived = lived; out = out; made_at = X; clobbered = clob }
@@ -49,7 +49,7 @@ progress lived clob here claimed done out X =
 module _ (tail : BlockTail) where
   open tail use {Known, insts, placesf, i, n, E}
 
-  -- What each step on the tables and on the instruction's registers keeps. far: how far its operands are;
+  -- What each step on the tables and on the instruction's registers keeps. far: the progress of its operands;
   -- ret: the instruction is a return, after which nothing is needed.
   pub record Ready (ops : List OperandValue) (far : Progress) (ret : Bool) (u : InstRegs) (t : StateValue) : Type 0 where
     pub located : Located (what_of ops) far t
@@ -62,7 +62,7 @@ module _ (tail : BlockTail) where
     pub within : (j : ℕ) → far.claimed j ≡ true → Counts ops j
     pub small : (j : ℕ) (r : Register) → far.claimed j ≡ true → far.here j ≡ InRegister r → r.number < 64
 
-  -- whatever registers were used
+  -- the order in which registers were used doesn't matter
   pub ready_used : (ops : List OperandValue) (far : Progress) (ret : Bool) (u : InstRegs) (t : StateValue) (order : List (List Register)) →
       Ready ops far ret u t → Ready ops far ret u (record t { lrus = order })
   ready_used ops far ret u t order h = record {
@@ -77,7 +77,7 @@ module _ (tail : BlockTail) where
     small = h.small;
   }
 
-  -- Before the operand k is allocated in the pass over late operands, or in that over early ones; list has the places of the instruction so far.
+  -- The record before the operand k is allocated in the pass over late or early operands; list has the places of the instruction so far.
   pub record Laid (ops : List OperandValue) (lived : ℕ → Bool) (clob : Place → Bool) (ret late : Bool) (k : ℕ) (list : List Place) (u : InstRegs)
       (t : StateValue) : Type 0 where
     pub here : ℕ → Place
@@ -88,7 +88,7 @@ module _ (tail : BlockTail) where
     pub ready : Ready ops (progress lived clob here claimed done out X) ret u t
     pub turned : (j : ℕ) → done j ≡ true → Turned ops late k j
     pub all : (j : ℕ) → Counts ops j → Turned ops late k j → done j ≡ true
-    -- fixed operands, and reuses of fixed ones, claimed before
+    -- fixed operands, and reuses of fixed ones, claimed their registers before
     pub fixed : (j : ℕ) (r : Register) → Counts ops j → (op_at ops j).constraint ≡ FixedReg r → (claimed j ≡ true) × (here j ≡ InRegister r)
     pub fixed_reuse : (j m : ℕ) (r : Register) → Counts ops j → (op_at ops j).constraint ≡ Reuse m → (op_at ops m).constraint ≡ FixedReg r → (claimed j ≡ true)
         × (here j ≡ InRegister r)
@@ -97,11 +97,11 @@ module _ (tail : BlockTail) where
     pub long : length list ≡ length ops
     pub listed_here : (j : ℕ) → Counts ops j → slice_index_or list j NoPlace ≢ NoPlace → (claimed j ≡ true) × (slice_index_or list j NoPlace ≡ here j)
     pub placed : (j : ℕ) → done j ≡ true → slice_index_or list j NoPlace ≡ here j
-    -- a definition that is placed is made at its place
+    -- a definition that is placed writes its place
     pub written : (j : ℕ) → done j ≡ true → is_def (op_at ops j).kind ≡ true → X (here j) (op_at ops j).vreg.number ≡ true
 
--- What the passes over an instruction's operands are under: the tail of the block; the operands, which are orderly; the numbers that had a location when
--- the instruction began; the places that are clobbered; and whether it is a return.
+-- The context of the passes over an instruction's operands: the tail of the block; the operands, which are orderly; the numbers that had a location when
+-- the instruction began; the clobbered places; and whether the instruction is a return.
 pub record LayingContext : Type 1 where
   pub tail : BlockTail
   pub ops : List OperandValue
@@ -110,6 +110,6 @@ pub record LayingContext : Type 1 where
   pub ret : Bool
   pub orderly : Orderly ops
 
--- those, of their parts
+-- the record, built from its parts
 abbrev pub laying_of : BlockTail → (ops : List OperandValue) → (ℕ → Bool) → (Place → Bool) → Bool → Orderly ops → LayingContext
 laying_of tail ops lived clob ret orderly = record { tail = tail; ops = ops; lived = lived; clob = clob; ret = ret; orderly = orderly }

@@ -24,13 +24,13 @@ use Rattle.regalloc2_fastalloc_proofs.proofs.Operands.BlockTail.{BlockTail}
 use Rattle.regalloc2_fastalloc_proofs.proofs.Slots.StepsKeepSlots.{Grown, changes_grow}
 use Rattle.regalloc2_fastalloc_proofs.proofs.Changes.OneChange.{Anything, Changes}
 
--- a place, unless it is none
+-- a place as an option: `NoPlace` is none
 abbrev pub opt : Place → Option Place
 opt NoPlace = None
 opt (InRegister r) = Some (InRegister r)
 opt (InSlot k) = Some (InSlot k)
 
--- a place that is there is itself as an option
+-- a place that isn't none is itself as an option
 pub opt_some : (p : Place) → p ≢ NoPlace → opt p ≡ Some p
 opt_some NoPlace h = absurd (h refl)
 opt_some (InRegister r) h = refl
@@ -48,13 +48,13 @@ opt_none NoPlace h = refl
 opt_none (InRegister r) h = absurd cc
 opt_none (InSlot k) h = absurd cc
 
--- what a place is as an option is there
+-- the place that an option holds isn't none
 pub opt_real : (p q : Place) → opt p ≡ Some q → q ≢ NoPlace
 opt_real NoPlace q h e = cc
 opt_real (InRegister r) q h e = let x : Some (InRegister r) ≡ Some NoPlace = h ∙ ap Some e in cc
 opt_real (InSlot k) q h e = let x : Some (InSlot k) ≡ Some NoPlace = h ∙ ap Some e in cc
 
--- where numbers are, and their slots
+-- the location of a number's vreg, and its slot
 abbrev pub stands_at : StateValue → ℕ → Option Place
 stands_at t n = opt (place_in t n)
 
@@ -76,12 +76,12 @@ pub record Located (what : ℕ → What) (far : Progress) (t : StateValue) : Typ
   pub below : (j k : ℕ) → far.claimed j ≡ true → far.here j ≡ InSlot k → k < t.slots.count
   pub calm : (k : ℕ) → far.clobbered (InSlot k) ≡ false
 
--- whatever registers were used
+-- the order in which registers were used doesn't matter
 pub located_used : (what : ℕ → What) (far : Progress) (t : StateValue) (order : List (List Register)) → Located what far t →
     Located what far (record t { lrus = order })
 located_used what far t order l = record { whole = whole_used t order l.whole; placed = l.placed; below = l.below; calm = l.calm }
 
--- a vreg goes from its register to its slot, which it had or which is made
+-- a vreg moves from its register to its slot, which it had or which is made
 pub record Shifts (old new : StateValue) (v : VirtualRegister) (r : Register) (s : Place) : Type 0 where
   pub real : s ≢ NoPlace
   pub number : ℕ
@@ -97,16 +97,16 @@ pub record Shifts (old new : StateValue) (v : VirtualRegister) (r : Register) (s
   pub fresh : (x : ℕ) (p : Place) → slots_at new x ≡ Some p → (slots_at old x ≡ Some p) ⊎ ((k : ℕ) × (p ≡ InSlot k) × (old.slots.count ≤ k))
   pub count : old.slots.count ≤ new.slots.count
 
--- slots that are there stay where slots grow
+-- existing slots stay when slots grow
 pub grown_slots : (At : ℕ → Type 0) (old new : StateValue) → Grown At old new → (x : ℕ) (p : Place) → slots_at old x ≡ Some p → slots_at new x ≡ Some p
 grown_slots At old new g x p e = ap opt (g.stay x (λ none. opt_real (slot_in old x) p e (sym (opt_from (slot_in old x) p e) ∙ none))) ∙ e
 
--- and over any changes
+-- and over any sequence of changes
 pub changes_slots : {old new : StateValue} → Changes Anything old new → (x : ℕ) (p : Place) → slots_at old x ≡ Some p → slots_at new x ≡ Some p
 changes_slots {old} {new} c = grown_slots (λ q. Unit {0}) old new (changes_grow (λ q. Unit {0}) c)
 
 module _ (old new : StateValue) (v : VirtualRegister) (s : Place) (g : GetsSpillSlot old.slots new.slots v s) (w : IsWhole old) where
-  -- slots that are there stay where v gets its own
+  -- existing slots stay when v gets its own
   pub slots_grow : (x : ℕ) (p : Place) → slots_at old x ≡ Some p → slots_at new x ≡ Some p
   slots_grow x p e = elim (cases_eq x v.number) [
     | inl i ↦ (
@@ -115,7 +115,7 @@ module _ (old new : StateValue) (v : VirtualRegister) (s : Place) (g : GetsSpill
     | inr n ↦ (ap opt (g.others x n) ∙ e)
   ]
 
-  -- a slot that is there once v has its own was there before, or is new, at or past the count
+  -- a slot that exists once v has its own existed before, or is new, at or past the count
   pub slots_fresh : (x : ℕ) (p : Place) → slots_at new x ≡ Some p → (slots_at old x ≡ Some p) ⊎ ((k : ℕ) × (p ≡ InSlot k) × (old.slots.count ≤ k))
   slots_fresh x p e = elim (cases_eq x v.number) [
     | inl i ↦ (
@@ -128,7 +128,7 @@ module _ (old new : StateValue) (v : VirtualRegister) (s : Place) (g : GetsSpill
     | inr n ↦ inl (sym (ap opt (g.others x n)) ∙ e)
   ]
 
-  -- only the slot is made
+  -- if only the slot is made
   pub whole_given : new.places ≡ old.places → IsWhole new
   whole_given e = record {
     holds = λ r u lt h. ap (λ (x : VRegAllocsValue). alloc_of x u.number) e ∙ w.holds r u lt (ap (λ (x : VRegAllocsValue). vreg_of_preg x r) (sym e) ∙ h);
@@ -155,7 +155,7 @@ module _ (old new : StateValue) (v : VirtualRegister) (s : Place) (g : GetsSpill
         ]
       ]
 
-  -- where v gets a slot and no location changes, the record of the operands' places is kept
+  -- if v gets a slot and no location changes, the record of the operands' places is kept
   pub give_stands : new.places ≡ old.places → (what : ℕ → What) (far : Progress) →
       Located what far old → Located what far new
   give_stands e what far st =
@@ -169,7 +169,7 @@ module _ (old new : StateValue) (v : VirtualRegister) (s : Place) (g : GetsSpill
         calm = st.calm;
       }
 
--- a vreg of a register is evicted, or is to be reloaded otherwise
+-- a vreg is evicted from a register, or leaves it for another reason
 module _ (old new : StateValue) (v : VirtualRegister) (r : Register) (s : Place) (lt : r.number < 64) (held : vreg_of_preg old.places r ≡ Some v)
     (g : GetsSpillSlot old.slots new.slots v s) (z : SetsAlloc old.places new.places v s) (w : IsWhole old) where
   there : place_in old v.number ≡ InRegister r
@@ -193,7 +193,7 @@ module _ (old new : StateValue) (v : VirtualRegister) (r : Register) (s : Place)
     ]
   ]
 
-  -- a vreg that goes from its register to its slot leaves the state whole
+  -- moving a vreg from its register to its slot leaves the state whole
   pub shift_whole : IsWhole new
   shift_whole = record {
     holds = away_holds old new v s away z w;
@@ -207,7 +207,7 @@ module _ (old new : StateValue) (v : VirtualRegister) (r : Register) (s : Place)
     units = given_units old.slots new.slots v s g w.units w.below w.own;
   }
 
-  -- a vreg that is evicted from its register goes to its slot, and no other one is moved
+  -- a vreg that is evicted from its register moves to its slot, and no other vreg moves
   pub shifts : Shifts old new v r s
   shifts = record {
     real = g.there;
@@ -229,7 +229,7 @@ module _ (old new : StateValue) (v : VirtualRegister) (r : Register) (s : Place)
     count = g.grows;
   }
 
--- the vreg goes from its register to its slot
+-- the vreg moves from its register to its slot
 pub shift_goes : (old new : StateValue) (v : VirtualRegister) (r : Register) (s : Place) → Shifts old new v r s →
     GoesToSlot (stands_at old) (stands_at new) (slots_at new) v.number (InRegister r) s
 shift_goes old new v r s h = record {
@@ -241,7 +241,7 @@ shift_goes old new v r s h = record {
   no_slot = λ x e. h.no_slot x r e;
 }
 
--- the record is kept where the vreg lived
+-- the record is kept if the vreg was live
 pub shift_stands : (old new : StateValue) (v : VirtualRegister) (r : Register) (s : Place) → IsWhole new → Shifts old new v r s →
     (what : ℕ → What) (far : Progress) → far.lived v.number ≡ true →
     Located what far old → Located what far new
@@ -257,7 +257,7 @@ shift_stands old new v r s w h what far l st =
       calm = st.calm;
     }
 
--- what the moves after the instruction, and what follows them, carry
+-- what the moves after the instruction, and the rest of the listing, carry
 module _ (tail : BlockTail) where
   open tail use {Known, insts, placesf, i, n, E}
 
@@ -266,7 +266,7 @@ module _ (tail : BlockTail) where
     pub later : AllFrom (after i) (listed edits)
     pub claims : Claims Known (after_part insts (listed edits) placesf i n) (Need lived out X T S) E
 
-  -- one more edit at a point leaves all edits at or after that point, if they were
+  -- adding an edit at a point keeps all edits at or after that point
   pub later_push : (p : ℕ) (m : MoveValue) (es : List (ℕ × MoveValue)) → AllFrom p (listed es) → AllFrom p (listed (es ++ (p, m) ∷ []))
   unfolding AllFrom
   later_push p m es h = subst (AllFrom p) (sym (listed-push es (p, m))) (omega arith, h)
@@ -286,7 +286,7 @@ module _ (tail : BlockTail) where
             (sym (after_part-more insts (record { from = s; to = InRegister r }) edits placesf i n)) c;
       }
 
--- of the tables, all but the moves matter
+-- the record doesn't depend on the edits of the tables
 pub stands_edits : (what : ℕ → What) (far : Progress) (t : StateValue)
     (es : List (ℕ × MoveValue)) →
     Located what far t → Located what far (record t { edits = es })

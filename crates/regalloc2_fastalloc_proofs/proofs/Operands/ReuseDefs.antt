@@ -1,5 +1,5 @@
--- A reuse is allocated: its place is that of the use that it names too, which claims it at once.
--- The fold in `Changes` doesn't fit: what the listing carries, or the operands' record, differs from step to step.
+-- A reuse is allocated: its place is also that of the use that it names, which claims it immediately.
+-- The fold in `Changes` doesn't apply: what the listing carries, or the operands' record, differs from step to step.
 use Rattle.std.proofs.Common.{ℕ, ◌≡◌, ◌≢◌, ◌+◌, ◌<◌, Bool, true, false, List, length, refl, arith, sym, ap, ◌∙◌, subst, inl, inr, ◌⊎◌, ⊎_elim}
 use Rattle.std.specs.Prelude.{Some, not, ◌&&◌, slice_index_or, slice_set}
 use Rattle.std.proofs.lemmas.Bool.{cases_Bool, cases_eq}
@@ -37,7 +37,7 @@ use Rattle.regalloc2_fastalloc_proofs.proofs.Operands.RecordAfterOperand.{def_st
 use Rattle.regalloc2_fastalloc_proofs.proofs.Operands.UsesAndPlainDefs.{waits_set, fresh_turn, phase_turn, laid_next}
 use Rattle.regalloc2_fastalloc_proofs.proofs.Operands.AllocsSoFar.{asked_as_fixed}
 
--- what is held stays held while a definition is sent
+-- what is held stays held while the moves of a definition are added
 pub adds_move_if_less : (point : ℕ) (class : RegClass) (is_made : Bool) (from to : Place) (t u : InstRegs) (old new : StateValue) →
     AddsMoveIf point class is_made from to t u old new → Less t u
 adds_move_if_less point class is_made from to t u old new (sent e c) = adds_move_less point class from to t u old new c
@@ -66,7 +66,7 @@ meets_requirement_register : (t : StateValue) (w : Requirement) (p : Place) → 
 unfolding MeetsRequirement
 meets_requirement_register t w p e s = let x = subst (λ y. MeetsRequirement t y p) e s in (x.0, x.1)
 
--- an operand that asks for a register is in one
+-- an operand that requires a register is in one
 pub selects_place_register : (t : InstRegs) (o : OperandRequest) (p : Place) (old new : StateValue) → (o.requirement ≡ AnyReg)
     ⊎ ((r : Register) × (o.requirement ≡ InPReg r)) → SelectsPlace t o p old new → (r : Register) × (p ≡ InRegister r)
 selects_place_register t o p old new w (stays x su en) = elim w [
@@ -87,7 +87,7 @@ module _ (laying : LayingContext) (late : Bool) (k : ℕ) (list : List Place) (u
   open laying use {tail, ops, lived, clob, ret, orderly}
   open laying.tail use {Known, insts, placesf, i, n, E}
 
-  -- how far the operands are
+  -- the progress of the operands
   abbrev now : Progress
   now = progress lived clob L.here L.claimed L.done L.out L.X
 
@@ -121,7 +121,7 @@ module _ (laying : LayingContext) (late : Bool) (k : ℕ) (list : List Place) (u
   named_waits : L.done q ≡ false
   named_waits = ⊎_elim (λ (a : L.done q ≡ true). let x = phase q a use_q in let y = early_q in absurd cc) (λ (a : L.done q ≡ false). a) (cases_Bool (L.done q))
 
-  -- it claimed before only where the named use is fixed
+  -- the reuse claimed its register before only if the named use is fixed
   claimed_fixed : L.claimed k ≡ true → (r : Register) × (L.here k ≡ InRegister r) × ((op_at ops q).constraint ≡ FixedReg r)
   claimed_fixed ck =
       let w = L.waiting k ck not_done in (
@@ -140,7 +140,7 @@ module _ (laying : LayingContext) (late : Bool) (k : ℕ) (list : List Place) (u
       (λ (f : L.claimed k ≡ false). fresh f (λ r w. let x = (L.fixed_reuse k q r counts_k reuse (asked_as_fixed (op_at ops q).constraint r w)).0 in cc))
       (cases_Bool (L.claimed k))
 
-  -- under Reg neither claimed before
+  -- under Reg neither operand claimed a register before
   module _ (any : (op_at ops q).constraint ≡ Reg) where
     free_reuse : L.claimed k ≡ false
     free_reuse = ⊎_elim

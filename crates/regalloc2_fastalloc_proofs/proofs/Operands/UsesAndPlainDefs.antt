@@ -102,7 +102,7 @@ module _ (laying : LayingContext) where
 
   module _ (late : Bool) (k : ℕ) (list : List Place) (u : InstRegs) (t : StateValue)
       (L : Laid tail ops lived clob ret late k list u t) where
-    -- how far the operands are
+    -- the progress of the operands
     abbrev now : Progress
     now = progress lived clob L.here L.claimed L.done L.out L.X
 
@@ -126,7 +126,7 @@ module _ (laying : LayingContext) where
       written = L.written;
     }
 
-    -- an operand has no place that counts
+    -- an operand has no place that matters
     pub laid_aside : (q : Place) → (Counts ops k → ⊥) → Laid tail ops lived clob ret late (k + 1) (slice_set list k q) u t
     laid_aside q out_of =
         let other : (j : ℕ) → Counts ops j → j ≡ k → ⊥ = λ j c e. out_of (subst (Counts ops) e c) in

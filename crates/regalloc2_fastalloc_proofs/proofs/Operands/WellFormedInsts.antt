@@ -1,4 +1,4 @@
--- What a well-formed function's instructions bring to the laws on placing operands.
+-- The premises of the lemmas on placing operands, for a well-formed function's instructions.
 use Rattle.std.proofs.Common.{ℕ, ◌≡◌, ◌<◌, false, length, refl, arith, ap, nat_eq}
 use Rattle.std.proofs.lemmas.Bool.{ne_eqb, and_right}
 use Rattle.std.proofs.lemmas.List.Elements.{All-get_or}

@@ -1,4 +1,4 @@
--- At a block's beginning registers suffice: all registers are available, and nothing is needed but the scratch reserve.
+-- At a block's start registers suffice: all registers are available, and nothing is needed but the reserved scratch register.
 use Rattle.std.proofs.Common.{ℕ, ◌≡◌, ◌≢◌, ◌<◌, true, List, length, slice_index_or}
 use Rattle.std.specs.Prelude.{not}
 use Rattle.regalloc2_names.specs.Register.{VirtualRegister, no_vreg}
@@ -26,7 +26,7 @@ use Rattle.regalloc2_fastalloc_proofs.proofs.Pressure.EnoughAtStart.{StartsFree,
 use Rattle.regalloc2_fastalloc_proofs.proofs.Changes.WalkChanges.{reloads_params_changes}
 use Rattle.regalloc2_fastalloc_proofs.proofs.Changes.Evictions.{regs_evict}
 
--- where the available registers are fresh, all of the machine's are available, and no scratch register is taken
+-- if the available registers are fresh, all of the machine's are available, and no scratch register is taken
 pub starts_fresh : (inst_regs : InstRegs) (t : StateValue) → IsFresh inst_regs t → StartsFree inst_regs t
 starts_fresh inst_regs t f = record { early = f.early; late = f.late; scratch = f.scratch }
 
@@ -60,7 +60,7 @@ module _ (demand : Demand) where
     pub reloads_params_part : {k : ℕ} {u : InstRegs} {m : StateValue} → ReloadsParams point params t old k u m → StepKept env Known AllWrite AllMay u m
     reloads_params_part {k} {u} {m} begun = reloads_params_kept (rules_of env apart Known AllWrite AllMay point tt) params known t old h ht k u m begun
 
-    -- reloading a block's first k parameters leaves registers enough
+    -- reloading a block's first k parameters leaves enough registers
     pub ample_reloads_params : {k : ℕ} {u : InstRegs} {m : StateValue} → ReloadsParams point params t old k u m → HasEnoughRegs Named needed u m
     ample_reloads_params none_begun = a
     ample_reloads_params {u} {m = new} (one_begun j w x m n lt prev one) =
@@ -68,7 +68,7 @@ module _ (demand : Demand) where
         ample_reload_param one (known j lt) p.safe
         (all_kept env old m (machine_stays (reloads_params_changes (λ q r. tt) (λ n lt. tt) prev)) all) p.inst_regs (ample_reloads_params prev)
 
-    -- where registers are enough, no parameter's reload lacks one
+    -- if registers are enough, no parameter's reload lacks one
     pub never_reload_params : ReloadParams point params t old no_register → ⊥
     never_reload_params s =
         let p = reloads_params_part s.done in
@@ -77,11 +77,11 @@ module _ (demand : Demand) where
 
   -- all registers
   module _ (t : InstRegs) (old : StateValue) (h : AreSafe env Known old) (ht : AreSafeRegs env t) (a : HasEnoughRegs Named needed t old) where
-    -- where registers are enough, no reload at a block's beginning lacks one
+    -- if registers are enough, no reload at a block's start lacks one
     pub never_reload_regs : ReloadRegs point t old no_register → ⊥
     never_reload_regs s = never_after demand (regs_evict s.empties) s.stops h ht a
 
--- a beginning never stops
+-- a block's start never fails
 pub never_reload_at_begin : (f : FunctionValue) (env : MachineValue) → MachineFits f env →
     (apart : IsApart env) (Known : VirtualRegister → Type 0) (named : (v : VirtualRegister) → Known v → NamesClass f v.class) (point : ℕ)
     (params : List VirtualRegister)

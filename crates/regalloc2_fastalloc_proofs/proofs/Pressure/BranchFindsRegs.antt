@@ -1,4 +1,4 @@
--- A branch passes its arguments: the scratch reserve is left, and where there are moves of a class it has a register.
+-- A branch passes its arguments: the reserved scratch register is left, and where there are moves of a class it has a register.
 use Rattle.std.proofs.Common.{ℕ, suc, ◌≡◌, ◌<◌, true, false, List, [], ◌∷◌, length, refl, sym, subst, inl, inr, arith, slice_index_or}
 use Rattle.std.specs.Prelude.{All}
 use Rattle.std.proofs.lemmas.Bool.{cases_Bool}
@@ -33,7 +33,7 @@ use Rattle.regalloc2_fastalloc_proofs.proofs.Changes.WalkChanges.{any_passed, ga
 use Rattle.regalloc2_fastalloc_proofs.proofs.Pressure.WalkKeepsSafe.{every_write}
 use Rattle.regalloc2_fastalloc_proofs.proofs.Branches.EdgeArgsGathered.{is_class-true}
 
--- of a class that no move names there is none
+-- of a class that no move names there is no move
 none_of_class : (P : RegClass → Type 0) (c : RegClass) (given : List ClassMove) → All (λ g. P g.class) given → (P c → ⊥) → of_class c given ≡ []
 unfolding of_class
 none_of_class P c [] h no_one = refl
@@ -42,7 +42,7 @@ none_of_class P c (g ∷ gs) h no_one = elim (cases_Bool (is_class c g.class)) [
   | inr other ↦ rw other (none_of_class P c gs (λ k d lt. h (suc k) d (omega (arith, lt))) no_one)
 ]
 
--- where a class is named, an allocatable register is there
+-- a named class has an allocatable register
 pub some_from : (f : FunctionValue) (env : MachineValue) → MachineFits f env → (t : StateValue) → HasAll env t → (c : RegClass) → NoneIsFrom t.allocatable c 0 →
     NamesClass f c → ⊥
 some_from f env fits t all c none named =
@@ -71,11 +71,11 @@ module _ (demand : Demand) where
       ample_evict_preg demand s.stops (held_same Known old s.middle s.places held) ht
       (ample_kept Named needed t old s.middle (keeps_of old s.middle s.machine) h)
 
-  -- whatever parameter an argument is passed to
+  -- any parameter that an argument is passed to
   abbrev AnyPasses : VirtualRegister → Type 0
   AnyPasses v = Unit {0}
 
-  -- those of an edge
+  -- the arguments of an edge
   module _ (Own : VirtualRegister → Type 0) (params arguments : List VirtualRegister)
       (known : (j : ℕ) → j < length params → Known (slice_index_or params j no_vreg) × Unit {0}) (t : InstRegs)
       (old : StateValue) (before_it : List ClassMove)
@@ -107,7 +107,7 @@ module _ (demand : Demand) where
         (held_same Known s.middle n s.stops.1 (safe_held env Known s.middle p.safe)) p.inst_regs
         (ample_kept Named needed s.given.0 s.middle n (keeps_of s.middle n s.stops.2) (ample_gathers_edge_moves s.index s.given.0 s.middle s.given.1 s.done))
 
-  -- those of all edges
+  -- the arguments of all edges
   module _ (f : FunctionValue) (b : ℕ) (known : (k j : ℕ) → k < length (block_at f b).succs → j < length (block_at f (target_at f b k)).params →
       Known (slice_index_or (block_at f (target_at f b k)).params j no_vreg) × Unit {0})
       (t : InstRegs) (old : StateValue) (h : AreSafe env Known old) (ht : AreSafeRegs env t) (a : HasEnoughRegs Named needed t old) where
@@ -118,7 +118,7 @@ module _ (demand : Demand) where
         u m given
         gathers
 
-    -- gathering the arguments of a block's first k edges leaves registers enough
+    -- gathering the arguments of a block's first k edges leaves enough registers
     pub ample_gathers_moves : {k : ℕ} {u : InstRegs} {m : StateValue} {given : List ClassMove} → GathersMoves f b point t old k u m given
         → HasEnoughRegs Named needed u m
     ample_gathers_moves no_edge = a
@@ -160,7 +160,7 @@ module _ (P : RegClass → Type 0) (point : ℕ) where
       (all_classes f b each t old j w n some prev)
       (length (block_at f (target_at f b j)).params) u m given edge
 
--- a branch never stops
+-- a branch never fails
 pub never_process_branch : {f : FunctionValue} {env : MachineValue} (fits : MachineFits f env) (apart : IsApart env) (Known : VirtualRegister → Type 0)
     (named : (v : VirtualRegister) → Known v → NamesClass f v.class) (needed : RegClass → ℕ) {b i : ℕ}
     → ((k j : ℕ) → k < length (block_at f b).succs → j < length (block_at f (target_at f b k)).params →

@@ -14,7 +14,7 @@ use Rattle.regalloc2_fastalloc_proofs.specs.Safety.{HasMachine, IsOfMachine}
 use Rattle.regalloc2_fastalloc_proofs.proofs.Operands.AllocsSoFar.{IsTame}
 use Rattle.regalloc2_fastalloc_proofs.proofs.Safety.WalkKeepsMachine.{constraint_fixed}
 
--- all below a number, or one that isn't
+-- either all numbers below a bound satisfy P, or one satisfies Q
 all_or_one : (P Q : ℕ → Type 0) (n : ℕ) → ((i : ℕ) → i < n → P i ⊎ Q i) → ((i : ℕ) → i < n → P i) ⊎ ((i : ℕ) × (i < n) × Q i)
 all_or_one P Q zero each = inl (λ i lt. absurd (omega (arith, lt)))
 all_or_one P Q (suc n) each = elim (all_or_one P Q n (λ i lt. each i (omega (arith, lt)))) [
@@ -62,7 +62,7 @@ module _ (env : MachineValue) (f : FunctionValue) (Known : VirtualRegister → T
         | inr one ↦ inr one.2
       ]
 
-  -- of all instructions, or one doesn't fit
+  -- these registers are known for all instructions, or one instruction doesn't fit
   pub all_known_or : ((i : ℕ) → i < length f.insts → IsTame Known (inst_at f i).operands) → ((i : ℕ) → i < length f.insts → FixedKnown env f i)
       ⊎ ((i : ℕ) × (i < length f.insts) × (Fits f env (inst_at f i) → ⊥))
   all_known_or tame = all_or_one (FixedKnown env f) (λ i. Fits f env (inst_at f i) → ⊥) (length f.insts) (λ i lt. inst_known i (tame i lt))

@@ -1,4 +1,4 @@
--- An operand gets its place, and enough registers are left for those that come.
+-- An operand gets its place, and enough registers are left for the remaining operands.
 use Rattle.regalloc2_parts.proofs.RegisterLaws.{class_codes}
 use Rattle.std.proofs.Common.{ℕ, ◌≡◌, ◌+◌, ◌<◌, ◌≤◌, Bool, true, false, refl, sym, ap, ◌∙◌, subst, arith, inl, inr}
 use Rattle.std.specs.Prelude.{not, ◌&&◌, Some}
@@ -34,7 +34,7 @@ use Rattle.regalloc2_fastalloc_proofs.proofs.Pressure.OneRegTaken.{free_but_one,
 use Rattle.regalloc2_fastalloc_proofs.proofs.Pressure.StepsLeaveEnough.{AreHeld, ample_evict_other_vregs, ample_add_move_if, demand_of}
 use Rattle.regalloc2_fastalloc_proofs.proofs.Changes.OneChange.{uses_rest}
 
--- a register that isn't on the stack is emptied without a scratch register
+-- a register that isn't a fixed stack slot is emptied without a scratch register
 plain_evicts_preg : (point : ℕ) (r : Register) (t u : InstRegs) (old new : StateValue) → EvictsPReg point r t u old new → has_register old.fixed_stack r ≡ false
     → u ≡ t
 plain_evicts_preg point r t u old new (empty none eu en) plain = eu
@@ -54,17 +54,17 @@ selects_place_places t o p old new (fixed r wants is en) = ap (λ (x : StateValu
 selects_place_places t o p old new (slot wants gives places edits machine order) = places
 selects_place_places t o p old new (free r wants away may is_free first is en) = ap (λ (x : StateValue). x.places) en
 
--- where locations stay, each register goes on having only a known vreg of its class, or none
+-- if locations stay, each register still has only a known vreg of its class, or none
 pub held_same : (Known : VirtualRegister → Type 0) (old new : StateValue) → new.places ≡ old.places → AreHeld Known old → AreHeld Known new
 held_same Known old new e h = subst (λ (x : VRegAllocsValue). (r : Register) (v : VirtualRegister) → r.number < 64 → vreg_of_preg x r ≡ Some v → Known v
     × (r.class ≡ v.class)) (sym e) h
 
--- What an operand takes is paid for: where its place is a register that is free at both positions, enough are left without it.
+-- An operand's register is paid for: if its place is a register that is free at both positions, enough are left without it.
 abbrev pub IsPaid : (RegClass → ℕ) → OperandRequest → Place → InstRegs → StateValue → Type 0
 IsPaid needed o p t old = (r : Register) → p ≡ InRegister r → is_free old.allocatable t r ≡ true →
     needed r.class + scratch_reserve_left old.fixed_stack old.dedicated_scratch t r.class + 1 ≤ free_count old.allocatable t r.class
 
--- The classes that are named; a machine, whose kinds of registers are apart; the vregs that are known, of such classes; and the point where moves go.
+-- The named classes; a machine, whose kinds of registers are disjoint; the known vregs, of such classes; and the point of the moves.
 pub record Naming : Type 1 where
   pub Named : RegClass → Type 0
   pub env : MachineValue
@@ -73,7 +73,7 @@ pub record Naming : Type 1 where
   pub named : (v : VirtualRegister) → Known v → Named v.class
   pub point : ℕ
 
--- those, of their parts
+-- the record, built from its parts
 abbrev pub naming_of : (Named : RegClass → Type 0) (env : MachineValue) → IsApart env → (Known : VirtualRegister → Type 0) →
     ((v : VirtualRegister) → Known v → Named v.class) → ℕ → Naming
 naming_of Named env apart Known named point = record { Named = Named; env = env; apart = apart; Known = Known; named = named; point = point }
@@ -155,7 +155,7 @@ module _ (naming : Naming) where
                 let b = free_kept claimed.allocatable r m u c (holds_loses r o.positions m u holds) (λ k. f) in omega (arith, a, b, s, w))
           ]
 
-  -- and it finds one
+  -- and the operand finds a place
   pub never_alloc_operand : (needed : RegClass → ℕ) (o : OperandRequest) (t : InstRegs) (old : StateValue) → AllocOperand point o t old no_register →
       Known o.vreg →
       (o.requirement ≡ AnyReg → 0 < needed o.vreg.class) → AreHeld Known old → AreSafeRegs env t → HasEnoughRegs Named needed t old → ⊥
@@ -225,7 +225,7 @@ module _ (naming : Naming) (same : (v w : VirtualRegister) → naming.Known v �
             another_differs s p other,
           )
 
-      -- behind the first move
+      -- once the first move is added
       record Sent (inst_regs : InstRegs) (middle : StateValue) : Type 0 where
         stay_too : SlotsStay left.slots middle.slots
         all : HasAll env middle
@@ -248,7 +248,7 @@ module _ (naming : Naming) (same : (v w : VirtualRegister) → naming.Known v �
         (λ made. let e = first_ends left slots machine made in (e.0, e.1, λ n x. tt))
         (leaves_safe (rules_of env apart Known AllWrite AllMay point tt) same v old left settles slots edits machine h) ht).inst_regs
 
-    -- where registers are enough, the moves of a definition lack none
+    -- if registers are enough, the moves of a definition lack none
     pub never_free_alloc : FreeAlloc point v is_ret p t old no_register → ⊥
     never_free_alloc (to_awaited left settles slots edits machine stops) =
         ample_add_move_if (demand_of Named needed point env apart Known named) v stops known (first_ends left slots machine) (left_all left slots machine) ht
@@ -258,7 +258,7 @@ module _ (naming : Naming) (same : (v w : VirtualRegister) → naming.Known v �
         ample_add_move_if (demand_of Named needed point env apart Known named) v stops known (second_ends left slots machine middle s.stay_too) s.all
         (first_safe left settles slots edits machine inst_regs middle sends) s.ample
 
-    -- freeing a definition and adding its moves leaves registers enough
+    -- freeing a definition and adding its moves leaves enough registers
     pub ample_frees_alloc : {u : InstRegs} {new : StateValue} → FreesAlloc point v is_ret p t u old new → HasEnoughRegs Named needed u new
     ample_frees_alloc {u} {new} d =
         let s = first_sent d.left d.slots d.machine d.inst_regs d.middle d.awaited in

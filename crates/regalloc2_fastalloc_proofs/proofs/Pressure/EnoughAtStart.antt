@@ -36,7 +36,7 @@ starts_free inst_regs t s r h = and_from (has_register inst_regs.early r) (has_r
     first : has_register t.allocatable r ≡ true → (has_register t.allocatable r || has_register t.fixed_stack r) ≡ true
     first e = rw e refl
 
--- at most one is kept for moves from stack to stack
+-- at most one register is reserved for stack-to-stack moves
 spare_small : (t : StateValue) (inst_regs : InstRegs) (c : RegClass) → scratch_reserve_left t.fixed_stack t.dedicated_scratch inst_regs c ≤ 1
 spare_small t inst_regs c = by_test (needs_scratch_reserve t.fixed_stack t.dedicated_scratch c && is_none
     (slice_index_or inst_regs.scratch (class_code c) None))
@@ -45,7 +45,7 @@ spare_small t inst_regs c = by_test (needs_scratch_reserve t.fixed_stack t.dedic
     by_test true = omega arith
     by_test false = omega arith
 
--- where a class is named, its scratch reserve is there at the start
+-- a named class has its reserved scratch register at the start
 pub fresh_ample : (f : FunctionValue) (env : MachineValue) → MachineFits f env → (inst_regs : InstRegs) (t : StateValue) → HasAll env t →
     StartsFree inst_regs t → HasEnoughRegs (NamesClass f) none_needed inst_regs t
 fresh_ample f env fits inst_regs t all s c named =
@@ -61,7 +61,7 @@ fresh_ample f env fits inst_regs t all s c named =
     let one = spare_small t inst_regs c in
     omega (arith, here, one)
 
--- what is kept for moves is what the instruction is to leave for them
+-- the registers reserved for moves are no more than the instruction must leave for them
 spare_below : (env : MachineValue) (inst_regs : InstRegs) (t : StateValue) (c : RegClass) → HasAll env t
     → scratch_reserve_left t.fixed_stack t.dedicated_scratch inst_regs c ≤ spare_of env c
 spare_below env inst_regs t c all = by_test in_tables in_machine (is_none (slice_index_or t.dedicated_scratch (class_code c) None)) (is_none (scratch_of env c))
@@ -136,7 +136,7 @@ module _ (f : FunctionValue) (env : MachineValue) (inst : InstValue) (fits : Fit
         | inr gone ↦ absurd (no_fixed (reserves.only r (starts_free began old s r there) gone))
       ]
 
-  -- so enough are free for all operands that wait
+  -- enough registers are free for all operands that wait
   pub held_ample : (blank : List Place) → ((k : ℕ) → slice_index_or blank k NoPlace ≡ NoPlace)
       → HasEnoughRegs (NamesClass f) (waiting inst.operands blank) held old
   held_ample blank none c named =

@@ -23,7 +23,7 @@ use Rattle.regalloc2_fastalloc_proofs.proofs.Pressure.StepsKeepMachine.{HasAll, 
 use Rattle.regalloc2_fastalloc_proofs.proofs.Pressure.StepsLeaveEnough.{ample_evict_preg, ample_add_move_if, Demand}
 use Rattle.regalloc2_fastalloc_proofs.proofs.Pressure.ClaimLeavesEnough.{safe_held}
 
--- a move that is made goes somewhere
+-- a move that is made has a place as its target
 pub goes_away : (p q : Place) → not (is_place p q) ≡ true → p ≡ q → ⊥
 goes_away p q made e = (let same : is_place p q ≡ true = subst (λ (x : Place). is_place p x ≡ true) e (is_place-same p) in
     let none : not (is_place p q) ≡ false = rw same refl in cc)
@@ -31,7 +31,7 @@ goes_away p q made e = (let same : is_place p q ≡ true = subst (λ (x : Place)
 module _ (demand : Demand) where
   open demand use {Named, needed, point, env, apart, Known, named}
 
-  -- what evictions leave: safe tables, safe registers, and enough of them
+  -- what evictions guarantee: safe tables, safe registers, and enough of them
   pub record LeavesEnough (u : InstRegs) (new : StateValue) : Type 0 where
     pub kept : StepKept env Known AllWrite AllMay u new
     pub ample : HasEnoughRegs Named needed u new
@@ -39,7 +39,7 @@ module _ (demand : Demand) where
   abbrev pub KeepsEnough : InstRegs → StateValue → InstRegs → StateValue → Type 0
   KeepsEnough t old u new = AreSafe env Known old → AreSafeRegs env t → HasEnoughRegs Named needed t old → LeavesEnough u new
 
-  -- any evictions leave registers enough
+  -- any sequence of evictions leaves enough registers
   pub evictions_ample : {t u : InstRegs} {old new : StateValue} → Evictions point t old u new → KeepsEnough t old u new
   evictions_ample = evictions_keep {R = KeepsEnough} (record {
     same = λ t u old new eu en h ht a. record {
@@ -53,7 +53,7 @@ module _ (demand : Demand) where
     };
   })
 
-  -- where registers are enough, no eviction after others lacks one
+  -- if registers are enough, no eviction after others lacks one
   pub never_after : {r : Register} {t u : InstRegs} {old m : StateValue} → Evictions point t old u m → EvictPReg point r u m no_register →
       AreSafe env Known old →
       AreSafeRegs env t → HasEnoughRegs Named needed t old → ⊥
@@ -86,7 +86,7 @@ module _ (demand : Demand) where
           goes_away from (at_place here j) made,
         )
 
-    -- moving the uses among the first k operands leaves registers enough
+    -- moving the uses among the first k operands leaves enough registers
     pub ample_moves_uses : {k : ℕ} {u : InstRegs} {m : StateValue} → MovesUses point ops here t old k u m → k ≤ length ops → HasEnoughRegs Named needed u m
     ample_moves_uses none_moved le = a
     ample_moves_uses {u} {m} (not_moved j x s prev silent) le = ample_moves_uses prev (omega arith)
@@ -96,7 +96,7 @@ module _ (demand : Demand) where
         (ends j j s x prev (omega arith) (omega arith) reads)
         (all_kept env old s (machine_stays (moves_uses_changes (λ q r. tt) (λ n lt reads q. tt) prev)) all) p.inst_regs (ample_moves_uses prev (omega arith))
 
-    -- where registers are enough, moving uses before the instruction lacks none
+    -- if registers are enough, moving uses before the instruction lacks none
     pub never_move_uses : MoveUses point ops here t old no_register → ⊥
     never_move_uses s =
         let lt : s.index < length ops = s.inside in

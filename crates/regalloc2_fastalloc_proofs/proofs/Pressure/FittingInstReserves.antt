@@ -17,7 +17,7 @@ use Rattle.regalloc2_fastalloc_proofs.proofs.Operands.AllocsSoFar.{IsTame, reads
 use Rattle.regalloc2_fastalloc_proofs.proofs.BlockEnd.NoMoveInPasses.{overlap_cases}
 use Rattle.regalloc2_fastalloc_proofs.proofs.Pressure.StepsKeepMachine.{HasAll}
 
--- an operand that claims its register early holds the early part, and one that claims it late the late part
+-- an operand that claims its register early holds the early position, and one that claims it late the late position
 holds_early : (o : OperandValue) → (positions_of o).early ≡ true → HoldsEarly o
 holds_early o h = by_test (is_def o.kind) (is_late o.position) (not (is_reuse o.constraint)) h
   where
@@ -61,7 +61,7 @@ module _ (f : FunctionValue) (env : MachineValue) (inst : InstValue) (fits : Fit
     late = λ e. holds_late inst k (op_at ops k) (ap (λ (q : Positions). q.late) (sym at) ∙ e);
   }
 
-  -- a reuse claims the late part of the register of the use that it names
+  -- a reuse claims the register of the use that it names at the late position
   named_at : (k n : ℕ) (r : Register) (p : Positions) → k < length ops → (op_at ops k).constraint ≡ Reuse n → n < length ops →
       (op_at ops n).constraint ≡ FixedReg r → p ≡ record { early = false; late = true } → ClaimAt n r p
   named_at k n r p lt reuses within is at = record {
@@ -72,7 +72,7 @@ module _ (f : FunctionValue) (env : MachineValue) (inst : InstValue) (fits : Fit
     late = λ e x. (k, no_operand, lt, reuses);
   }
 
-  -- each is the machine's
+  -- each claimed register is the machine's
   claim_known : (m : ℕ) (r : Register) (p : Positions) → ClaimAt m r p → (is_allocatable env r.class r ≡ true) ⊎ IsFixedStackSlot env r
   claim_known m r p c = fits.fixed m no_operand c.within c.allocated r c.is_fixed
 
@@ -80,7 +80,7 @@ module _ (f : FunctionValue) (env : MachineValue) (inst : InstValue) (fits : Fit
   known k r p lt (own allocated is at) = claim_known k r p (own_at k r p lt allocated is at)
   known k r p lt (named n reuses within is at) = claim_known n r p (named_at k n r p lt reuses within is at)
 
-  -- no two are one
+  -- no two claims share a register at a position
   apart_in_order : (m n : ℕ) (r : Register) (p q : Positions) → m < n → ClaimAt m r p → ClaimAt n r q → ((p.early ≡ true) × (q.early ≡ true))
       ⊎ ((p.late ≡ true) × (q.late ≡ true)) → ⊥
   apart_in_order m n r p q less a b both = (let x = fits.apart m n no_operand no_operand r less b.within a.allocated b.allocated a.is_fixed b.is_fixed in
@@ -101,7 +101,7 @@ module _ (f : FunctionValue) (env : MachineValue) (inst : InstValue) (fits : Fit
     | inr le ↦ apart_in_order n m r q p (omega (arith, le, ne)) b a (swapped p q both)
   ]
 
-  -- an early use has nothing late
+  -- an early use holds no register at the late position
   early_use : (k n : ℕ) → k < length ops → (op_at ops k).constraint ≡ Reuse n → (positions_of (op_at ops n)).late ≡ true → ⊥
   early_use k n lt reuses h = both_ways (positions_of (op_at ops n)).late (or_from (is_def (op_at ops n).kind) (is_late (op_at ops n).position)
       (reads_use (op_at ops n) (tame.named k n lt reuses).2) (tame.named k n lt reuses).1) h

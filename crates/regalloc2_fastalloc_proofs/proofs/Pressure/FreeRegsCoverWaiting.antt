@@ -1,4 +1,4 @@
--- While operands are allocated, as many registers are free as operands still wait for one; each that is placed takes its own, or one that can be spared.
+-- While operands are allocated, at least as many registers are free as operands wait for one; each takes its own, or one that can be spared.
 use Rattle.regalloc2_parts.proofs.RegisterLaws.{class_codes}
 use Rattle.std.proofs.Common.{ℕ, zero, suc, [], ◌∷◌, ◌≡◌, ◌+◌, ◌-◌, ◌<◌, ◌≤◌, Bool, true, false, List, length, refl, sym, ap, ◌∙◌, subst, arith, inl}
 use Rattle.std.proofs.Common.{inr, ◌⊎◌, get_or-set_same, set}
@@ -29,8 +29,8 @@ use Rattle.regalloc2_fastalloc_proofs.specs.Pressure.EnoughRegs.{HasEnoughRegs, 
 use Rattle.regalloc2_fastalloc_proofs.proofs.Pressure.StepsKeepMachine.{HasAll}
 use Rattle.regalloc2_fastalloc_proofs.proofs.Pressure.ClaimLeavesEnough.{IsPaid}
 
--- While operands are allocated: enough are free for those that wait, which are counted. A register that an operand has, or is fixed to, is
--- free no more. Where one that isn't done has a register already, a reuse that is done names it.
+-- While operands are allocated: enough registers are free for the waiting operands, which are counted. A register that an operand has, or is fixed to, is
+-- no longer free. If an operand that isn't done has a register already, a reuse that is done names it.
 pub record Paying (Named : RegClass → Type 0) (ops : List OperandValue) (done : ℕ → Type 0) (here : List Place) (u : InstRegs) (t : StateValue) : Type 0 where
   pub ample : HasEnoughRegs Named (waiting ops here) u t
   pub awaited : (c : RegClass) → awaited_of u c ≡ waiting ops here c
@@ -50,7 +50,7 @@ unfree_kept old new t u r same less h = elim (cases_Bool (has_register old r)) [
   | inr away ↦ (let gone : has_register new r ≡ false = ap (λ (x : PRegSet). has_register x r) same ∙ away in rw gone refl)
 ]
 
--- so it is free no more
+-- and is therefore no longer free
 pub allocs_operand_settled : (point : ℕ) (o : OperandRequest) (p : Place) (t u : InstRegs) (old new : StateValue) → AllocsOperand point o p t u old new →
     (o.positions.early ≡ true) ⊎ (o.positions.late ≡ true) → (set : PRegSet) (r : Register) → p ≡ InRegister r → is_free set u r ≡ false
 allocs_operand_settled point o p t u old new g some set r is = by_case g.takes.occupies
@@ -71,7 +71,7 @@ allocs_operand_settled point o p t u old new g some set r is = by_case g.takes.o
               (held o.positions.late (is_register q r) (has_register m.late r) (has_register u.late r) (holds.late r) late it))
         ]
 
--- How those that wait change by an operand's place: an operand that asks for any register waits no more, and others change nothing.
+-- How an operand's place changes the waiting operands: an operand that requires any register no longer waits, and other operands change nothing.
 pub data Pays (ops : List OperandValue) (here there : List Place) (v : VirtualRegister) (w : Requirement) (t : InstRegs) (old : StateValue) : Type 0 where
   waited : w ≡ AnyReg → waiting ops here v.class ≡ waiting ops there v.class + 1 →
       ((c : RegClass) → (class_code c ≡ class_code v.class → ⊥) → waiting ops there c ≡ waiting ops here c) → Pays ops here there v w t old
@@ -80,7 +80,7 @@ pub data Pays (ops : List OperandValue) (here there : List Place) (v : VirtualRe
   at_one : (r : Register) → w ≡ InPReg r → is_free old.allocatable t r ≡ false → ((c : RegClass) → waiting ops there c ≡ waiting ops here c) →
       Pays ops here there v w t old
 
--- no more wait then
+-- at most as many operands wait then
 pub pays_fewer : (ops : List OperandValue) (here there : List Place) (v : VirtualRegister) (w : Requirement) (t : InstRegs) (old : StateValue) →
     Pays ops here there v w t old → (c : RegClass) → waiting ops there c ≤ waiting ops here c
 pays_fewer ops here there v w t old (waited wants one rest) c = elim (cases_eq (class_code c) (class_code v.class)) [
@@ -91,7 +91,7 @@ pays_fewer ops here there v w t old (anywhere wants same) c = (let e = same c in
 pays_fewer ops here there v w t old (memory wants same) c = (let e = same c in omega (arith, e))
 pays_fewer ops here there v w t old (at_one r wants unfree same) c = (let e = same c in omega (arith, e))
 
--- one less of a class is counted
+-- the count of one class falls by one
 awaited_fell : (awaited : List ℕ) (code : ℕ) → 0 < slice_index awaited code →
     slice_index (slice_set awaited code (slice_index awaited code - 1)) code ≡ slice_index awaited code - 1
 awaited_fell awaited code some = get_or-set_same awaited code (slice_index awaited code - 1) 0 (within awaited code some)
@@ -101,7 +101,7 @@ awaited_fell awaited code some = get_or-set_same awaited code (slice_index await
     within (x ∷ xs) zero h = omega arith
     within (x ∷ xs) (suc k) h = let r = within xs k h in omega (arith, r)
 
--- and they are counted
+-- and the waiting operands are counted
 pub pays_awaited : (ops : List OperandValue) (here there : List Place) (v : VirtualRegister) (w : Requirement) (t u : InstRegs) (old : StateValue) →
     Pays ops here there v w t old → ((c : RegClass) → awaited_of t c ≡ waiting ops here c)
     → u.awaited ≡ awaited_less w v.class t.awaited → (c : RegClass) → awaited_of u c ≡ waiting ops there c
@@ -125,7 +125,7 @@ pays_awaited ops here there v w t u old (memory wants same) counted less c =
 pays_awaited ops here there v w t u old (at_one r wants unfree same) counted less c =
     ap (λ (l : List ℕ). slice_index l (class_code c)) (less ∙ ap (λ (x : Requirement). awaited_less x v.class t.awaited) wants) ∙ counted c ∙ sym (same c)
 
--- a register that is free isn't on the stack
+-- a free register isn't a fixed stack slot
 memory_unfree : (env : MachineValue) (t : StateValue) (u : InstRegs) (p : Place) (r : Register) → HasAll env t → IsStackPlace env p → p ≡ InRegister r →
     is_free t.allocatable u r ≡ true → ⊥
 memory_unfree env t u p r all stack is free =
@@ -133,7 +133,7 @@ memory_unfree env t u p r all stack is free =
     let yes : has_register t.fixed_stack r ≡ true = all.machine.memory r at in
     let nay : has_register t.fixed_stack r ≡ false = all.fit.stack_apart r ((and_parts (has_register t.allocatable r) _ free).0) in cc
 
--- so what an operand takes is paid for
+-- and an operand's register is paid for
 pub pays_paid : (Named : RegClass → Type 0) {env : MachineValue} {ops : List OperandValue} {here there : List Place} {o : OperandRequest} {p : Place}
     {point : ℕ} {t u : InstRegs} {old new : StateValue} → Pays ops here there o.vreg o.requirement t old → AllocsOperand point o p t u old new
     → HasAll env old → Named o.vreg.class → MayBeLocatedAt env new.slots o.vreg p → IsAnswer env o.requirement p →

@@ -1,4 +1,4 @@
--- An instruction that fits is allocated: registers suffice at each of its stages, and its scratch reserve is left for its branch.
+-- An instruction that fits is allocated: registers suffice at each of its stages, and its reserved scratch register is left for its branch.
 use Rattle.std.proofs.Common.{ℕ, ◌≡◌, ◌<◌, true, false, List, length, refl, sym, ◌∙◌, inl, inr, arith}
 use Rattle.std.specs.Prelude.{not, slice_index_or}
 use Rattle.std.proofs.lemmas.Bool.{and_left, and_right}
@@ -50,8 +50,8 @@ holds_less clobbers t u h = record {
   late = λ q e. h.late q ∙ rw e (and_right (not (has_register clobbers q)) false refl);
 }
 
--- The instruction i, which fits: the function and a machine, whose kinds of registers are apart; the vregs that are known, of classes that the function names;
--- the tables behind the instruction, safe and with all registers; and the registers and the list of places with which it begins.
+-- The instruction i, which fits: the function and a machine, whose kinds of registers are disjoint; the known vregs, of classes that the function names;
+-- the tables after the instruction, safe and with all registers; and the registers and the list of places with which it begins.
 pub record FittingInst : Type 1 where
   pub f : FunctionValue
   pub env : MachineValue
@@ -130,7 +130,7 @@ module _ (fitting : FittingInst) where
     quiet_less : Less r.reserved quiet
     quiet_less = less_then r.reserved r.held quiet (holds_less inst.clobbers r.reserved r.held r.holds) (evictions_less evicts)
 
-    -- a fixed register is free no more
+    -- a fixed register is no longer free
     fixed_settled : (j : ℕ) (q : Register) → j < length ops → is_fixed_nonallocatable (op_at ops j) ≡ false → (op_at ops j).constraint ≡ FixedReg q →
         is_free m.allocatable quiet q ≡ false
     fixed_settled j q lt allocated is = unfree_kept old.allocatable m.allocatable r.reserved quiet q quiet_keeps.allocatable quiet_less
@@ -228,7 +228,7 @@ module _ (fitting : FittingInst) where
   never_prepare_regs (in_fixed reserved held reserves holds stops) = never_in_fixed reserved held reserves holds stops
   never_prepare_regs (in_clobbers reserved held cleared m reserves holds clears stops) = never_in_clobbers reserved held reserves holds cleared m clears stops
 
-  -- an instruction that fits never stops
+  -- an instruction that fits never fails
   pub never_alloc_inst : AllocInst i ops inst.clobbers (ends_block inst) blank began old no_register → ⊥
   never_alloc_inst (in_prepare stops) = never_prepare_regs stops
   never_alloc_inst (in_lates quiet m r stops) = never_in_lates quiet m r stops

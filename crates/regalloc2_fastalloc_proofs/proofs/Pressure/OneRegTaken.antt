@@ -31,12 +31,12 @@ stays_free set by q t u l other h =
     (and_from (has_register u.early q) (has_register u.late q) (l.early q other ∙ (and_parts (has_register t.early q) _ both).0)
     (l.late q other ∙ (and_parts (has_register t.early q) _ both).1))
 
--- at most that one is free no more
+-- at most that register is no longer free
 pub free_but_one : (set : PRegSet) (by : Register) (t u : InstRegs) (c : RegClass) → TakesAtMost by t u → free_count set t c ≤ free_count set u c + 1
 free_but_one set by t u c l = count_but_one (λ n. is_free set t (register_number c n)) (λ n. is_free set u (register_number c n)) by.number 64
     (λ k lt ne h. stays_free set by (register_number c k) t u l (other_register by (register_number c k) (λ e. ne (sym (ap (λ (r : Register). r.number) e)))) h)
 
--- and none is lost where that one wasn't free, or is of another class
+-- and none is lost if that register wasn't free, or is of another class
 pub free_kept : (set : PRegSet) (by : Register) (t u : InstRegs) (c : RegClass) → TakesAtMost by t u → (by.class ≡ c → is_free set t by ≡ false) →
     free_count set t c ≤ free_count set u c
 free_kept set by t u c l unfree = count_le (λ n. is_free set t (register_number c n)) (λ n. is_free set u (register_number c n)) 64
@@ -77,7 +77,7 @@ pub ample_less : (Named : RegClass → Type 0) (needed less : RegClass → ℕ) 
     HasEnoughRegs Named needed u t → HasEnoughRegs Named less u t
 ample_less Named needed less u t fewer h c named = (let a = h c named in let b = fewer c in omega (arith, a, b))
 
--- where some are needed, or a scratch reserve is, one is free
+-- if some registers are needed, or a scratch register is reserved, one is free
 pub ample_some : (Named : RegClass → Type 0) (needed : RegClass → ℕ) (u : InstRegs) (t : StateValue) (c : RegClass) → Named c →
     0 < needed c + scratch_reserve_left t.fixed_stack t.dedicated_scratch u c → HasEnoughRegs Named needed u t
     → (n : ℕ) × (n < 64) × (is_free t.allocatable u (register_number c n) ≡ true)
@@ -95,14 +95,14 @@ has_stack stack r lt h =
     lt-ltb 0 (count_below (λ n. has_register stack (register_number r.class n)) 64)
     (some_count (λ n. has_register stack (register_number r.class n)) 64 r.number lt h)
 
--- what is kept for moves from stack to stack, where there are such slots and none was taken
+-- the register reserved for stack-to-stack moves, if there are fixed stack slots and none was taken
 pub spare_is_one : (stack : PRegSet) (dedicated_scratch : List (Option Register)) (u : InstRegs) (c : RegClass) →
     nat_lt 0 (count_below (λ n. has_register stack (register_number c n)) 64) ≡ true
     → slice_index_or dedicated_scratch (class_code c) None ≡ None → slice_index_or u.scratch (class_code c) None ≡ None
     → scratch_reserve_left stack dedicated_scratch u c ≡ 1
 spare_is_one stack dedicated_scratch u c some none unset = rw (some, none, unset) refl
 
--- a class whose scratch register is taken has none left to keep for it
+-- a class whose scratch register is taken reserves no further one
 pub spare_is_none : (stack : PRegSet) (dedicated_scratch : List (Option Register)) (u : InstRegs) (c : RegClass) (by : Register) →
     slice_index_or u.scratch (class_code c) None ≡ Some by → scratch_reserve_left stack dedicated_scratch u c ≡ 0
 spare_is_none stack dedicated_scratch u c by is = rw is (by_test (needs_scratch_reserve stack dedicated_scratch c))

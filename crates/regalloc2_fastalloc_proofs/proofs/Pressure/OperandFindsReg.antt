@@ -1,4 +1,4 @@
--- An operand that is allocated leaves registers enough for those that wait, and finds one where it waits itself.
+-- An operand that is allocated leaves enough registers for the waiting operands, and finds one if it waits itself.
 use Rattle.regalloc2_semantics.proofs.Operands.{reads_use}
 use Rattle.std.proofs.Common.{ℕ, ◌≡◌, ◌≢◌, ◌+◌, ◌<◌, true, false, List, length, refl, sym, ap, ◌∙◌, subst, inl, inr, ◌⊎◌, arith, get_or-set_same, set}
 use Rattle.std.proofs.lemmas.List.{get_or-set_other}
@@ -26,24 +26,24 @@ use Rattle.regalloc2_fastalloc_proofs.specs.Pressure.EnoughRegs.{waits, waiting,
 use Rattle.regalloc2_fastalloc_proofs.proofs.Pressure.WaitingOperands.{waits_no_more, waits_as_before, waits_not, waits_elsewhere, waits_placed, waits_here, some_wait}
 use Rattle.regalloc2_fastalloc_proofs.proofs.Pressure.FreeRegsCoverWaiting.{Paying, Pays, waited, anywhere, memory, at_one}
 
--- a register that isn't on the stack
+-- a register that isn't a fixed stack slot
 plain_at : (env : MachineValue) (p : Place) → IsPlainRegister env p → (r : Register) × (p ≡ InRegister r)
 plain_at env NoPlace h = absurd h
 plain_at env (InRegister r) h = (r, refl)
 plain_at env (InSlot n) h = absurd h
 
--- the constraint of an operand that asks for any register, and is no reuse
+-- the constraint of an operand that requires any register, and is no reuse
 asks_reg : (c : OperandConstraint) → ((n : ℕ) → c ≡ Reuse n → ⊥) → ((n : ℕ) → c ≡ Limit n → ⊥) → requirement_of c ≡ AnyReg → is_under_reg c ≡ true
 asks_reg Reg r l e = refl
 asks_reg (Reuse n) r l e = absurd (r n refl)
 asks_reg (Limit n) r l e = absurd (l n refl)
 asks_reg c r l e = absurd cc
 
--- an operand that waits is told by the constraint
+-- the constraint determines whether an operand waits
 not_under : (c d : OperandConstraint) → c ≡ d → is_under_reg d ≡ false → is_under_reg c ≡ false
 not_under c d e h = ap is_under_reg e ∙ h
 
--- It is the turn of the operand k: those that D holds of have places, which are paid for by registers that are left in the classes that are named.
+-- The operand k is next: the operands that satisfy D have places, paid for by the registers that are left in the named classes.
 pub record CountedOperand (env : MachineValue) (Known : VirtualRegister → Type 0) (ops : List OperandValue) : Type 1 where
   pub Named : RegClass → Type 0
   pub fixed : FixedAreKnown env ops
@@ -58,7 +58,7 @@ pub record CountedOperand (env : MachineValue) (Known : VirtualRegister → Type
   pub p : Paying Named ops D here t old
 
 module _ (env : MachineValue) (Known : VirtualRegister → Type 0) (ops : List OperandValue) (tame : IsTame Known ops) where
-  -- what an operand that asks so brings, before it gets a place
+  -- what holds of an operand with this request, before it gets a place
   pub record Ready (v : VirtualRegister) (w : Requirement) (here : List Place) (there : Place → List Place) (t : InstRegs) (old : StateValue) : Type 0 where
     pub known : Known v
     pub asks_well : (r : Register) → w ≡ InPReg r → IsOfMachine env r × (r.class ≡ v.class)
@@ -135,7 +135,7 @@ module _ (env : MachineValue) (Known : VirtualRegister → Type 0) (ops : List O
           absurd (both_ways (is_def (op_at ops k).kind) (reads_use (op_at ops k) (tame.named m.0 k m.1 m.3).2) def))
     ]
 
-    -- a definition that is no reuse brings what it has to before it gets a place
+    -- a definition that is no reuse meets this before it gets a place
     pub def_ready : is_def (op_at ops k).kind ≡ true → ((n : ℕ) → (op_at ops k).constraint ≡ Reuse n → ⊥) →
         Ready (op_at ops k).vreg (requirement_of (op_at ops k).constraint) here (λ q. set here k q) t old
     def_ready def no_reuse = asked_ready (tame.allocated k lt def) no_reuse (def_blank def)
@@ -191,7 +191,7 @@ module _ (env : MachineValue) (Known : VirtualRegister → Type 0) (ops : List O
           (some_wait ops here (op_at ops n).vreg.class n (tame.named k n lt reuses).0 (waits_here ops here n (ap is_under_reg (e ∙ reg)) named_blank))
       asks_some c e (inr f) any = (let x : InPReg f.0 ≡ AnyReg = ap reuse_requirement_of (sym f.1) ∙ any in absurd cc)
 
-      -- a reuse brings what it has to before it gets a place, which its use gets too
+      -- a reuse meets this before it gets a place, which its use gets too
       pub reuse_ready : Ready (op_at ops k).vreg (reuse_requirement_of (op_at ops n).constraint) here (λ q. set (set here k q) n q) t old
       reuse_ready = record {
         known = tame.known k lt (tame.allocated k lt def);

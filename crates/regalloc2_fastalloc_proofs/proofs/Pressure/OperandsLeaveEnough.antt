@@ -1,5 +1,5 @@
--- One operand after another is placed, and enough registers are left for those that wait.
--- The fold in `Changes` of regalloc2_fastalloc_proofs doesn't fit: an operand's place is handed from its selection to the steps that follow.
+-- One operand after another is placed, and enough registers are left for the waiting operands.
+-- The fold in `Changes` of regalloc2_fastalloc_proofs doesn't apply: an operand's place is passed from its selection to the steps that follow.
 use Rattle.std.proofs.Common.{ℕ, ◌≡◌, ◌≢◌, ◌<◌, Bool, true, false, List, length, refl, sym, ap, ◌∙◌, subst, inl, inr, ◌⊎◌, arith, get_or-set_same, set}
 use Rattle.std.specs.Prelude.{not, ◌&&◌}
 use Rattle.std.proofs.lemmas.Bool.{cases_eq, and_right, both_ways}
@@ -57,7 +57,7 @@ use_position o NoPlace = some_position o
 use_position o (InRegister r) = some_position o
 use_position o (InSlot n) = some_position o
 
--- a place that is written is there, and others stay
+-- a place that is set in the list is there, and other places stay
 written_or : (here : List Place) (k : ℕ) (q : Place) → k < length here → (j : ℕ) → (at_place (set here k q) j ≡ at_place here j)
     ⊎ (at_place (set here k q) j ≡ q)
 written_or here k q lt j = elim (cases_eq j k) [
@@ -65,8 +65,8 @@ written_or here k q lt j = elim (cases_eq j k) [
   | inr ne ↦ inl (get_or-set_other here k j q NoPlace ne)
 ]
 
--- The operands of the instruction i, a return or not, tame and fixed to registers of the machine, whose kinds of registers are apart; the classes that are
--- named; the vregs that are known, of such classes; and slots that are there at least.
+-- The operands of the instruction i, a return or not, tame and fixed to registers of the machine, whose kinds of registers are disjoint; the named
+-- classes; the known vregs, of such classes; and slots that exist at least.
 pub record NamedOperands : Type 1 where
   pub Named : RegClass → Type 0
   pub env : MachineValue
@@ -79,7 +79,7 @@ pub record NamedOperands : Type 1 where
   pub i : ℕ
   pub is_ret : Bool
 
--- those, of their parts
+-- the record, built from its parts
 abbrev pub named_operands : (Named : RegClass → Type 0) (env : MachineValue) → IsApart env → (Known : VirtualRegister → Type 0) →
     ((v : VirtualRegister) → Known v → Named v.class) → (ops : List OperandValue) → IsTame Known ops → FixedAreKnown env ops → ℕ → Bool →
     NamedOperands
@@ -102,7 +102,7 @@ module _ (operands : NamedOperands) where
   module _ (D : ℕ → Type 0) (k : ℕ) (here : List Place) (t : InstRegs) (old : StateValue) (lt : k < length ops) (undone : D k → ⊥)
       (not_n : (n : ℕ) → (op_at ops k).constraint ≡ Reuse n → D n → ⊥)
       (h : Filled env Known AllWrite AllMay ops D here t old) (p : Paying Named ops D here t old) (all : HasAll env old) where
-    -- its turn
+    -- the operand's turn
     abbrev turn : CountedOperand env Known ops
     turn = record {
       Named = Named;
@@ -118,7 +118,7 @@ module _ (operands : NamedOperands) where
       p = p;
     }
 
-    -- what an operand's place leaves
+    -- what an operand's place keeps
     record Got (v : VirtualRegister) (w : Requirement) (there : List Place) (q : Place) (u : InstRegs) (new : StateValue) : Type 0 where
       pays : Pays ops here there v w t old
       kept : PlaceKept env Known AllWrite AllMay v w q u new
@@ -167,7 +167,7 @@ module _ (operands : NamedOperands) where
         (reuse_ready env Known ops tame turn n def reuses (not_n n reuses)) s
 
     module _ (E : ℕ → Type 0) (at_it : E k) (forth : (j : ℕ) → D j → E j) where
-      -- what is paid with one place more
+      -- the accounting with one more place
       paid : (there : List Place) (q : Place) (u : InstRegs) (new : StateValue) → HasEnoughRegs Named (waiting ops there) u new →
           ((c : RegClass) → awaited_of u c ≡ waiting ops there c) → Less t u → KeepsMachine old new
           → ((j : ℕ) → (at_place there j ≡ at_place here j) ⊎ (at_place there j ≡ q)) →
@@ -281,7 +281,7 @@ module _ (operands : NamedOperands) where
                 (sym (get_or-set_other (set here k q) n j q NoPlace ne) ∙ at)
           ])
 
-      -- a register that no vreg stands for
+      -- an operand that names a register and no vreg
       register_pays : (r : Register) → is_fixed_nonallocatable (op_at ops k) ≡ true → (op_at ops k).constraint ≡ FixedReg r →
           Paying Named ops E (set here k (InRegister r)) t old
       register_pays r silent is =

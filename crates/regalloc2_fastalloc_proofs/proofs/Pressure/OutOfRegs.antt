@@ -1,4 +1,4 @@
--- A walk that runs out of registers stops at an instruction that doesn't fit.
+-- A walk that runs out of registers does so at an instruction that doesn't fit.
 use Rattle.std.proofs.Common.{ℕ, zero, suc, ◌≡◌, ◌<◌, Bool, true, false, List, [], ◌∷◌, length, refl, ap, inl, inr, arith, slice_index_or}
 use Rattle.std.specs.Prelude.{Any as SomeIn}
 use Rattle.std.proofs.lemmas.List.Elements.{All-get_or}
@@ -45,7 +45,7 @@ use Rattle.regalloc2_fastalloc_proofs.proofs.Pressure.WalkKeepsSafe.{IsSound, in
 use Rattle.regalloc2_fastalloc_proofs.proofs.Pressure.BranchFindsRegs.{never_process_branch, some_from}
 use Rattle.regalloc2_fastalloc_proofs.proofs.Pressure.BlockStartFindsRegs.{starts_fresh, never_reload_at_begin}
 
--- what holds of an element at an index holds of some
+-- a property of the element at an index holds of some element
 some_at : {X : Type 0} (P : X → Type 0) (xs : List X) (k : ℕ) (d : X) → k < length xs → P (slice_index_or xs k d) → SomeIn P xs
 some_at P [] k d lt p = absurd (omega arith)
 some_at P (x ∷ xs) zero d lt p = (0, x, omega arith, refl, p)
@@ -129,7 +129,7 @@ module _ (f : FunctionValue) (env : MachineValue) (fits : MachineFits f env) (li
       none = none;
     }
 
-    -- the scratch reserve is left for the branch
+    -- the reserved scratch register is left for the branch
     left_ample : (blank places : List Place) (new : StateValue) → (a : AllocsInst i (inst_at f i) blank places old new) →
         HasEnoughRegs (NamesClass f) none_needed a.ended new
     left_ample blank places new a =
@@ -148,7 +148,7 @@ module _ (f : FunctionValue) (env : MachineValue) (fits : MachineFits f env) (li
         s.all) k.inst_regs
         (left_ample a.blank a.here m a.allocates) stops
 
-  -- the beginning of a block
+  -- the start of a block
   never_begin_block : (b : ℕ) → b < length f.blocks → (old : StateValue) → IsSound env (Made f) old → BeginBlock f b old no_register → ⊥
   never_begin_block b lt old s (at_reloads stops) = never_reload_at_begin f env fits apart (Made f) named (before (block_at f b).range.first)
       (block_at f b).params
@@ -160,7 +160,7 @@ module _ (f : FunctionValue) (env : MachineValue) (fits : MachineFits f env) (li
       (inl (stops.index, d, refl)) in
       some_from f env fits m all (op_at (branch_operands f stops.from) stops.index).vreg.class stops.none (named _ made)
 
-  -- where the walk stops
+  -- the instruction at which the walk fails
   stops_there : (blank : List Place) (old : StateValue) → IsSound env (Made f) old → AllocBlocks f blank old no_register → (i : ℕ) × (i < length f.insts)
       × (Fits f env (inst_at f i) → ⊥)
   stops_there blank old s (in_block b places m lt walks stops) =
@@ -192,7 +192,7 @@ pub record AreFresh (env : MachineValue) (old : StateValue) : Type 0 where
   pub allocatable : (r : Register) → is_allocatable env r.class r ≡ true → has_register old.allocatable r ≡ true
   pub dedicated_scratch : old.dedicated_scratch ≡ env.scratch
 
--- From the tables with which the walk begins: where it stops because registers run out, it stops at an instruction that doesn't fit.
+-- From the tables with which the walk begins: if the walk runs out of registers, it does so at an instruction that doesn't fit.
 pub walk_stops : {f : FunctionValue} {env : MachineValue} → MachineFits f env → IsLimited f → IsWellFormed env f → AreTaken f
     → {blank : List Place} {old : StateValue} → AreFresh env old → AllocBlocks f blank old no_register →
     (i : ℕ) × (i < length f.insts) × (Fits f env (inst_at f i) → ⊥)

@@ -1,5 +1,5 @@
 -- In both passes over an instruction's operands enough registers are left, and each operand finds its place.
--- The fold in `Changes` of regalloc2_fastalloc_proofs doesn't fit: an operand's place is handed from its selection to the steps that follow.
+-- The fold in `Changes` of regalloc2_fastalloc_proofs doesn't apply: an operand's place is passed from its selection to the steps that follow.
 use Rattle.std.proofs.Common.{ℕ, ◌≡◌, ◌+◌, ◌<◌, ◌≤◌, true, false, List, length, inl, inr, arith}
 use Rattle.std.proofs.lemmas.Bool.{both_ways}
 use Rattle.regalloc2_names.specs.declared.RegClass.{RegClass}
@@ -29,7 +29,7 @@ paying_more Named ops D E here u t forth p = record {
   named = λ j r less not_e at. let x = p.named j r less (λ d. not_e (forth j less d)) at in (x.0, x.1, forth x.0 x.1 x.2, x.3);
 }
 
--- definitions may write whatever slot they will
+-- definitions may write any slot
 pub defs_write : (i : ℕ) (ops : List OperandValue) → DefsAreWritten AllWrite i ops
 defs_write i ops k n less def = tt
 
@@ -40,7 +40,7 @@ module _ (operands : NamedOperands) where
   abbrev passes : PassesContext
   passes = passes_of (filling_of env Known AllWrite AllMay ops tame) apart fixed i is_ret tt (defs_write i ops)
 
-  -- which are done in each pass
+  -- which operands are done in each pass
   abbrev pub Late : ℕ → ℕ → Type 0
   Late k = InLate passes k
 
@@ -71,7 +71,7 @@ module _ (operands : NamedOperands) where
           (all_kept env old s (machine_stays (processes_operands_at_changes (λ p q. tt) (λ n lt at. free_operand _) prev)) all) (Late (j + 1))
           more.at_it more.forth there u m one
 
-      -- where registers are enough, the pass over late operands lacks none
+      -- if registers are enough, the pass over late operands lacks none
       pub never_late : ProcessOperandsAt i is_ret true ops blank t old no_register → ⊥
       never_late s =
           let more = late_more passes s.index s.stops.0 in
@@ -91,7 +91,7 @@ module _ (operands : NamedOperands) where
       not_early : (k : ℕ) → k < length ops → is_late (op_at ops k).position ≡ false → (n : ℕ) → (op_at ops k).constraint ≡ Reuse n → Early k n → ⊥
       not_early k lt early n reuses d = both_ways (is_late (op_at ops k).position) early (tame.late_reuse k n lt reuses).1
 
-      -- and that over early ones
+      -- the pass over early operands
       pub early_operands_pay : (k : ℕ) (there : List Place) (u : InstRegs) (m : StateValue) → ProcessesOperandsAt i is_ret false ops blank t old k there u m →
           k ≤ length ops → Paying Named ops (Early k) there u m
       early_operands_pay k there u m none_placed le = p
@@ -104,7 +104,7 @@ module _ (operands : NamedOperands) where
           (all_kept env old s (machine_stays (processes_operands_at_changes (λ p q. tt) (λ n lt at. free_operand _) prev)) all) (Early (j + 1))
           more.at_it more.forth there u m one
 
-      -- where registers are enough, the pass over early operands lacks none
+      -- if registers are enough, the pass over early operands lacks none
       pub never_early : ProcessOperandsAt i is_ret false ops blank t old no_register → ⊥
       never_early s =
           let more = early_more passes s.index s.stops.0 in

@@ -1,4 +1,4 @@
--- The steps of the walk leave registers enough, and don't stop where there are.
+-- The steps of the walk leave enough registers, and don't fail if there are enough.
 use Rattle.regalloc2_parts.proofs.RegisterLaws.{class_codes}
 use Rattle.std.proofs.Common.{ℕ, ◌≡◌, ◌<◌, Bool, true, false, List, length, refl, sym, ap, ◌∙◌, subst, arith, inl, inr, get_or-set_same, set}
 use Rattle.std.specs.Prelude.{not, ◌&&◌, Option, None, Some, slice_index_or, slice_set}
@@ -30,7 +30,7 @@ abbrev pub AreHeld : (VirtualRegister → Type 0) → StateValue → Type 0
 AreHeld Known t = (r : Register) (v : VirtualRegister) → r.number < 64 → vreg_of_preg t.places r ≡ Some v → Known v × (r.class ≡ v.class)
 
 module _ (Named : RegClass → Type 0) (needed : RegClass → ℕ) (point : ℕ) where
-  -- a register through which moves from stack to stack go takes the place of the scratch reserve
+  -- a register taken for stack-to-stack moves is the reserved scratch register
   pub ample_allocs_scratch_reg : (class : RegClass) (t u : InstRegs) (by : Register) (old new : StateValue) → AllocsScratchReg point class t u by old new →
       length t.scratch ≡ 3 → HasStack old.fixed_stack class → HasEnoughRegs Named needed t old → HasEnoughRegs Named needed u new
   ample_allocs_scratch_reg class t u by old new (dedicated_scratch o eu en) three stack h = ample_none Named needed t u old new eu en h
@@ -74,7 +74,7 @@ module _ (Named : RegClass → Type 0) (needed : RegClass → ℕ) (point : ℕ)
             omega (arith, scratch_reserve, kept, was))
       ]
 
-  -- and there is one
+  -- and the class has a scratch register
   some_scratch : (class : RegClass) (t : InstRegs) (old : StateValue) → LacksScratchReg class t old → Named class → HasStack old.fixed_stack class →
       HasEnoughRegs Named needed t old → ⊥
   some_scratch class t old s named stack h =
@@ -85,7 +85,7 @@ module _ (Named : RegClass → Type 0) (needed : RegClass → ℕ) (point : ℕ)
       let b = (and_parts (has_register old.allocatable (register_number class r.0)) _ r.2).1 in
       s.none_free (register_number class r.0) (record { of_class = refl; small = r.1; allocatable = a }) b
 
-  -- a move, where the class has fixed stack slots if both ends are on the stack
+  -- a move; if both ends are on the stack, its class has fixed stack slots
   pub ample_add_move : {class : RegClass} {from to : Place} {t : InstRegs} {old : StateValue} {o : Outcome InstRegs} → AddMove point class from to t old o
       → Named class → length t.scratch ≡ 3
       → ((is_stack_in old from && is_stack_in old to) ≡ true → HasStack old.fixed_stack class) → HasEnoughRegs Named needed t old →
@@ -96,8 +96,8 @@ module _ (Named : RegClass → Type 0) (needed : RegClass → ℕ) (point : ℕ)
       subst (HasEnoughRegs Named needed u) (sym en) (ample_allocs_scratch_reg class t u by old m scratches three (stack two) h)
   ample_add_move {class} {t} {old} (no_scratch two none) named three stack h = some_scratch class t old none named (stack two) h
 
--- What the registers that are left are counted for: the classes that are named; how many registers of each are needed; the point where moves go; a machine,
--- whose kinds of registers are apart; and the vregs that are known, of classes that are named.
+-- The demand for registers: the named classes; how many registers of each are needed; the point of the moves; a machine,
+-- whose kinds of registers are disjoint; and the known vregs, of named classes.
 pub record Demand : Type 1 where
   pub Named : RegClass → Type 0
   pub needed : RegClass → ℕ
@@ -107,7 +107,7 @@ pub record Demand : Type 1 where
   pub Known : VirtualRegister → Type 0
   pub named : (v : VirtualRegister) → Known v → Named v.class
 
--- those, of their parts
+-- the record, built from its parts
 abbrev pub demand_of : (Named : RegClass → Type 0) → (RegClass → ℕ) → ℕ → (env : MachineValue) → IsApart env → (Known : VirtualRegister → Type 0) →
     ((v : VirtualRegister) → Known v → Named v.class) → Demand
 demand_of Named needed point env apart Known named =
@@ -116,7 +116,7 @@ demand_of Named needed point env apart Known named =
 module _ (demand : Demand) where
   open demand use {Named, needed, point, env, apart, Known, named}
 
-  -- a vreg's slot is no register: a move between it and a register in memory is one of a class with fixed stack slots
+  -- a vreg's slot is no register: a move between it and a fixed stack slot is of a class with fixed stack slots
   slot_or_stack : (t : StateValue) (v : VirtualRegister) (from to : Place) → HasAll env t → IsEndOfMove env t.slots v from → IsEndOfMove env t.slots v to →
       (from ≡ to → ⊥)
       → (is_stack_in t from && is_stack_in t to) ≡ true → HasStack t.fixed_stack v.class
@@ -163,7 +163,7 @@ module _ (demand : Demand) where
   ample_evict_other_vregs {t} {old} (own {u} {new} w held same eu en) held_by ht h = ample_none Named needed t u old new eu en h
   ample_evict_other_vregs (others not_own clears) held_by ht h = ample_evict_preg clears held_by ht h
 
-  -- a move that is made unless it goes nowhere
+  -- a move, unless its target is none or its source
   pub ample_add_move_if : (v : VirtualRegister) {is_made : Bool} {from to : Place} {t : InstRegs} {old : StateValue} {o : Outcome InstRegs}
       → AddMoveIf point v.class is_made from to t old o → Known v
       → (is_made ≡ true → IsEndOfMove env old.slots v from × IsEndOfMove env old.slots v to × (from ≡ to → ⊥)) → HasAll env old → AreSafeRegs env t

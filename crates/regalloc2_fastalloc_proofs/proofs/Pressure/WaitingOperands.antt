@@ -29,7 +29,7 @@ waits_no_more ops here c k r lt long h = count_more (waits ops (slice_set here k
     (λ j less ne. let e : slice_index_or (slice_set here k (InRegister r)) j NoPlace ≡ slice_index_or here j NoPlace = get_or-set_other here k j (InRegister r)
     NoPlace ne in rw e refl)
 
--- one that doesn't may get any place
+-- an operand that doesn't wait may get any place
 pub waits_as_before : (ops : List OperandValue) (here : List Place) (c : RegClass) (k : ℕ) (p : Place) → length here ≡ length ops →
     ((k < length ops) → waits ops here c k ≡ waits ops (slice_set here k p) c k)
     → waiting ops (slice_set here k p) c ≡ waiting ops here c
@@ -38,12 +38,12 @@ waits_as_before ops here c k p long same = count_same (waits ops (slice_set here
   | inr ne ↦ (let e : slice_index_or (slice_set here k p) j NoPlace ≡ slice_index_or here j NoPlace = get_or-set_other here k j p NoPlace ne in rw e refl)
 ])
 
--- an operand under another constraint waits for nothing
+-- an operand under another constraint doesn't wait
 pub waits_not : (ops : List OperandValue) (here : List Place) (c : RegClass) (k : ℕ) → is_under_reg (op_at ops k).constraint ≡ false →
     waits ops here c k ≡ false
 waits_not ops here c k e = rw e refl
 
--- nor does one of another class
+-- nor does an operand of another class
 pub waits_elsewhere : (ops : List OperandValue) (here : List Place) (c : RegClass) (k : ℕ) → (class_code c ≡ class_code (op_at ops k).vreg.class → ⊥) →
     waits ops here c k ≡ false
 waits_elsewhere ops here c k ne =
@@ -52,17 +52,17 @@ waits_elsewhere ops here c k ne =
     rw e (and_left (is_under_reg (op_at ops k).constraint && false) (not (is_in_register (slice_index_or here k NoPlace)))
     (and_right (is_under_reg (op_at ops k).constraint) false refl))
 
--- one that has its place already doesn't either
+-- nor does an operand that has its place already
 pub waits_placed : (ops : List OperandValue) (here : List Place) (c : RegClass) (k : ℕ) (r : Register) → slice_index_or here k NoPlace ≡ InRegister r →
     waits ops here c k ≡ false
 waits_placed ops here c k r e = rw e (and_right (asks_reg_of_class c (op_at ops k)) false refl)
 
--- one without a place waits for a register of its class
+-- an operand without a place waits for a register of its class
 pub waits_here : (ops : List OperandValue) (here : List Place) (k : ℕ) → is_under_reg (op_at ops k).constraint ≡ true →
     slice_index_or here k NoPlace ≡ NoPlace → waits ops here (op_at ops k).vreg.class k ≡ true
 waits_here ops here k e f = rw (e, f, eq-eqb (class_code (op_at ops k).vreg.class) (class_code (op_at ops k).vreg.class) refl) refl
 
--- where some operand waits for a register of a class, the count of those that wait isn't 0
+-- where some operand waits for a register of a class, the count of waiting operands isn't 0
 pub some_wait : (ops : List OperandValue) (here : List Place) (c : RegClass) (k : ℕ) → k < length ops → waits ops here c k ≡ true → 0 < waiting ops here c
 some_wait ops here c k lt h = some_count (waits ops here c) (length ops) k lt h
 
@@ -82,7 +82,7 @@ rest_is_free env class i is_left h = count_union (λ n. is_allocatable env class
       | inr f ↦ inl (h n lt e f)
     ])
 
--- so what fits leaves enough
+-- an instruction that fits leaves enough registers
 pub fits_enough : (env : MachineValue) (class : RegClass) (i : InstValue) (is_left : ℕ → Bool) (scratch_reserve : ℕ) →
     ((n : ℕ) → n < 64 → is_allocatable env class (register_number class n) ≡ true → is_taken_first env class i n ≡ false → is_left n ≡ true)
     → need_of env class i + scratch_reserve ≤ allocatable_count env class
@@ -105,7 +105,7 @@ counted_by P ops (suc n) le =
       | inr e ↦ (let more = count_by_more_no P ops n no_operand (omega arith) e in rw e (omega (arith, rest, next, more)))
     ]
 
--- before any operand has a place, all that ask for a register wait
+-- before any operand has a place, all that require a register wait
 pub all_wait : (ops : List OperandValue) (blank : List Place) (c : RegClass) → ((k : ℕ) → slice_index_or blank k NoPlace ≡ NoPlace) →
     waiting ops blank c ≡ asking ops c
 all_wait ops blank c none =

@@ -31,7 +31,7 @@ pub record IsSound (env : MachineValue) (Known : VirtualRegister → Type 0) (t 
   pub all : HasAll env t
   pub safe : AreSafe env Known t
 
--- reads may write whatever slot they will
+-- reads may write any slot
 uses_write : (i : ℕ) (inst : InstValue) (places : List Place) → UsesAreWritten AllWrite i inst.operands places
 uses_write i inst places k n less reads is = tt
 

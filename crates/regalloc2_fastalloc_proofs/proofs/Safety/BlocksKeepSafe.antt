@@ -1,5 +1,5 @@
 -- What the walk over all blocks keeps.
--- The fold in `Changes` doesn't fit: what holds depends on how far the walk is.
+-- The fold in `Changes` doesn't apply: what holds depends on how far the walk is.
 use Rattle.std.proofs.Common.{ℕ, ◌≡◌, ◌+◌, ◌-◌, ◌<◌, ◌≤◌, ◌⊎◌, List, true, length, slice_index_or, refl, sym, ap, ◌∙◌, inl, inr, subst, arith}
 use Rattle.std.proofs.lemmas.Bool.{cases_eq, cases_Bool}
 use Rattle.regalloc2_names.specs.Register.{VirtualRegister, no_vreg}
@@ -32,7 +32,7 @@ use Rattle.regalloc2_fastalloc_proofs.proofs.Safety.BlockStartKeepsSafe.{reloads
 use Rattle.regalloc2_fastalloc_proofs.proofs.Safety.StoresKeepSafe.{IsAlike, more_safe, stores_branch_defs_kept}
 use Rattle.regalloc2_fastalloc_proofs.proofs.Safety.BranchKeepsSafe.{processes_branch_kept}
 
--- where moves may be: before an instruction of a block, or behind one that isn't its last
+-- where moves may be: before an instruction of a block, or after one that isn't its last
 abbrev pub MayInBlocks : FunctionValue → ℕ → Type 0
 MayInBlocks f q =
     (b i : ℕ) × (b < length f.blocks) × ((block_at f b).range.first ≤ i) × (i < (block_at f b).range.end)
@@ -50,7 +50,7 @@ start_next f follow b lt = record {
   end = λ e. (follow b lt).3 e;
 }
 
--- where all instructions of a block are left, nothing has been done
+-- if all instructions of a block are left, nothing was allocated
 pub block_start : (f : FunctionValue) (b : ℕ) (blank : List Place) (old : StateValue) (i : ℕ) (places : List Place) (t : StateValue) →
     AllocsBlockInsts f b blank old i places t → i ≡ (block_at f b).range.end → t ≡ old
 block_start f b blank old i places t at_end e = refl
@@ -71,9 +71,9 @@ later_blocks_same f b within blank old i places t (one_in n before_it p s u ge l
     later_same f n before_it places s a.middle (omega (arith, lt, within)) a.allocates j (omega (arith, lt, le)) less k
     ∙ later_blocks_same f b within blank old (n + 1) before_it s prev j k le less
 
--- What a function's walk is judged by: a machine, whose kinds of registers are apart; the vregs that are known, among them parameters and what stores are
--- of; the function, with tame operands; and the places at the walk's end. Blocks follow one another, definitions that need a return have one, branches end
--- their blocks, and go to blocks of the function.
+-- The context of a function's walk: a machine, whose kinds of registers are disjoint; the known vregs, among them parameters and the vregs that stores
+-- are for; the function, with tame operands; and the places at the walk's end. Blocks follow one another, definitions that need a return have one, branches end
+-- their blocks, and lead to blocks of the function.
 pub record WalkRules : Type 1 where
   pub env : MachineValue
   pub apart : IsApart env
@@ -94,7 +94,7 @@ pub record WalkRules : Type 1 where
 module _ (rules : WalkRules) where
   open rules use {env, apart, Known, f, tame, last, follow, returns, branches, params, targets, concerned, alike}
 
-  -- what is known of safe tables with the same slots, and more
+  -- safe tables stay safe with the same slots and more
   kept_grows : (c d i : ℕ) (places : List Place) (t u : StateValue) → IsSafe env Known (WritesFrom f last d) (MayInBlocks f) u → SlotsStay t.slots u.slots →
       WalkKept env Known f (MayInBlocks f) last c i places t → WalkKept env Known f (MayInBlocks f) last d i places u
   kept_grows c d i places t u safe stay w = record {
@@ -162,7 +162,7 @@ module _ (rules : WalkRules) where
         | inr none ↦ subst (WalkKept env Known f (MayInBlocks f) last (b + 1) n places) (sym (a.no_branch none)) m
       ]
 
-  -- all blocks, where no vreg is in a register at the boundaries between them
+  -- all blocks, if no vreg is in a register at the boundaries between them
   pub allocs_blocks_kept : (blank : List Place) (old : StateValue) → IsSafe env Known (WritesFrom f last (length f.blocks)) (MayInBlocks f) old →
       ((c : ℕ) (places : List Place) (t : StateValue) → AllocsBlocks f blank old c places t → IsOutside t)
       → (c : ℕ) (places : List Place) (t : StateValue) → AllocsBlocks f blank old c places t → (i : ℕ) → StartsAt f c i → AreLast f last i places →
@@ -193,7 +193,7 @@ module _ (rules : WalkRules) where
       subst (λ n. WalkKept env Known f (MayInBlocks f) last b n places t) (sym e) (kept_grows (b + 1) b B.range.first places u t stored
       (changes_stay (begins_block_changes (free_begin f b) begins)) second)
 
-  -- and so at each instruction of a block, with the blocks behind it walked
+  -- and therefore at each instruction of a block, with the blocks after it walked
   pub within_kept : (blank : List Place) (old : StateValue) → IsSafe env Known (WritesFrom f last (length f.blocks)) (MayInBlocks f) old →
       ((c : ℕ) (places : List Place) (t : StateValue) → AllocsBlocks f blank old c places t → IsOutside t)
       → (b : ℕ) → b < length f.blocks → (p : List Place) (s : StateValue) → AllocsBlocks f blank old (b + 1) p s → (i : ℕ) (q : List Place) (u : StateValue) →

@@ -33,7 +33,7 @@ use Rattle.regalloc2_fastalloc_proofs.proofs.Changes.InstChanges.{evicts_preg_ch
 use Rattle.regalloc2_fastalloc_proofs.proofs.Changes.WalkChanges.{spills_argument_changes, pushes_changes}
 use Rattle.regalloc2_fastalloc_proofs.proofs.Operands.RecordOverState.{slot_below}
 
--- the value of a move that is given: it goes from some vreg's slot to that of a known vreg whose value may be written
+-- a given move goes from some vreg's slot to that of a known vreg whose value may be written
 pub record IsGiven (Known : VirtualRegister → Type 0) (Passed : VirtualRegister → Type 0) (slots : SpillSlotsValue) (from to : Place) : Type 0 where
   pub source : ℕ
   pub argument : ℕ
@@ -76,7 +76,7 @@ perhaps_all P true x xs p h zero d lt = p
 perhaps_all P true x xs p h (suc k) d lt = h k d (omega arith)
 perhaps_all P false x xs p h k d lt = h k d lt
 
--- what holds of each holds of those of one class
+-- what holds of each move holds of those of one class
 of_class_all : (P : Place × Place × Unit {0} → Type 0) (c : RegClass) (given : List ClassMove) → All (λ g. P (g.from, g.to, tt)) given →
     All P (of_class c given)
 unfolding of_class
@@ -90,13 +90,13 @@ pushed_all P point [] h = λ k d lt. absurd (omega arith)
 pushed_all P point (m ∷ ms) h = All-push P (pushed point ms) (point, record { from = m.0; to = m.1 })
     (pushed_all P point ms (λ k d lt. h (suc k) d (omega arith))) (h 0 m (omega arith))
 
--- memory, as the tables see it
+-- a stack place, according to the tables
 in_memory : (env : MachineValue) (t : StateValue) (p : Place) → HasMachine env t → IsStackPlace env p → is_memory t.fixed_stack p ≡ true
 in_memory env t NoPlace m h = absurd h
 in_memory env t (InRegister r) m h = m.memory r h
 in_memory env t (InSlot k) m h = refl
 
--- a scratch register or the borrowed one is one through which moves of the class go
+-- moves of the class may go through a scratch register or the borrowed one
 lent_through : (env : MachineValue) (inst_regs : InstRegs) (t : StateValue) (class : RegClass) (r : Register) → HasMachine env t →
     MayBeScratch inst_regs t class r → IsMoveReg env class r
 lent_through env inst_regs t class r m (inl own) = inr (m.dedicated_scratch class r own)
@@ -233,7 +233,7 @@ module _ (rules : StepRules) where
       target_end p (inl hand) = in_hand_end p hand
       target_end p (inr (x, c, is)) = (let g = is_given x c in named_end g.parameter.number g.target p g.goes (is ∙ g.to_there))
 
-      -- whose slot is written
+      -- the owner of the slot that is written, if any
       abbrev IsOwnedOrNone : ℕ → Type 0
       IsOwnedOrNone n = ((v : VirtualRegister) × Known v × (slot_name middle.slots v.number ≡ InSlot n) × Writes point v n)
           ⊎ ((v : VirtualRegister) → Known v → slot_name middle.slots v.number ≢ InSlot n)

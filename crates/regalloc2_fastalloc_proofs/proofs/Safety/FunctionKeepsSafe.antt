@@ -1,4 +1,4 @@
--- The whole walk over a well-formed function of any blocks keeps the tables safe, and what its end gives.
+-- The whole walk over a well-formed function with any number of blocks keeps the tables safe, and what holds at its end.
 use Rattle.std.proofs.Common.{ℕ, ◌≡◌, ◌≢◌, ◌+◌, ◌<◌, ◌≤◌, ◌⊎◌, ◌||◌, ◌&&◌, Bool, true, false, List, [], length, nat_eq, nat_lt, eq-eqb, refl, sym, ap}
 use Rattle.std.proofs.Common.{inl, inr, subst, arith}
 use Rattle.std.specs.Prelude.{slice_index_or}
@@ -34,7 +34,7 @@ use Rattle.regalloc2_fastalloc_proofs.proofs.Safety.StoredDefs.{concerned_made, 
 is_last : (f : FunctionValue) (b i : ℕ) → i + 1 ≡ (block_at f b).range.end → i ≡ last_of (block_at f b)
 is_last f b i e = omega (arith, e)
 
--- it ends its block
+-- the last instruction ends its block
 last_ends : (env : MachineValue) (f : FunctionValue) → IsWellFormed env f → (b i : ℕ) → b < length f.blocks → i + 1 ≡ (block_at f b).range.end →
     ends_block (inst_at f i) ≡ true
 last_ends env f ok b i lt e =
@@ -51,14 +51,14 @@ branch_last env f ok b i lt ge less branch = elim (cases_eq (i + 1) (block_at f 
   | inr d ↦ absurd (let none : (inst_at f i).is_branch ≡ false = ((ok.end b lt).1 i ge less (omega (arith, d, less))).0 in cc)
 ]
 
--- The tables are safe at each instruction of the walk, where stores are written at the beginnings of the blocks behind.
+-- The tables are safe at each instruction of the walk, with stores written at the starts of later blocks.
 abbrev pub SafeWithin : MachineValue → FunctionValue → List Place → StateValue → List Place → Type 0
 SafeWithin env f blank old places = (b : ℕ) → b < length f.blocks → (p : List Place) (s : StateValue) → AllocsBlocks f blank old (b + 1) p s → (i : ℕ)
     (q : List Place) (u : StateValue) → AllocsBlockInsts f b p s i q u → AreLast f places i q →
     IsSafe env (Made f) (WritesFrom f places (b + 1)) (MayInBlocks f) u
 
 -- A walk over all blocks of a well-formed function whose machine fits, from the tables at the start: no vreg has a place or a slot and no move is listed, slots
--- take some units, and registers are the machine's.
+-- have at least one unit, and registers are the machine's.
 pub record FreshWalk : Type 0 where
   pub env : MachineValue
   pub f : FunctionValue
@@ -94,7 +94,7 @@ module _ (fresh : FreshWalk) (outside : (c : ℕ) (ps : List Place) (u : StateVa
   targets : (b k : ℕ) → b < length f.blocks → k < length (block_at f b).succs → target_at f b k < length f.blocks
   targets b k lt less = All-get_or (λ s. s < length f.blocks) (block_at f b).succs k 0 less (ok.successors.1 b lt)
 
-  -- what the walk is judged by
+  -- the context of the walk
   abbrev walk_rules : WalkRules
   walk_rules = record {
     env = env;
@@ -121,7 +121,7 @@ module _ (fresh : FreshWalk) (outside : (c : ℕ) (ps : List Place) (u : StateVa
       (record { block = λ lt. sym ((ok.follow 0 some).1 refl); end = λ e. absurd (omega (arith, e, some)) })
       (λ j k le less within. refl)
 
-  -- and its states are safe
+  -- and all its states are safe
   pub walk_safe : SafeWithin env f blank begin places
   walk_safe b lt p s prev i q u walk are_last = (within_kept walk_rules blank begin begun outside b lt p s prev i q u walk are_last).safe
 
@@ -132,7 +132,7 @@ cases_order b c = elim (cases_lt b c) [
   | inr le ↦ elim (cases_eq b c) [ inl e ↦ inr (inl e) | inr d ↦ inr (inr (omega (arith, le, d))) ]
 ]
 
--- a move of a block's instructions is listed there
+-- a move at a point of a block's instructions is in the block's listing
 listed_in_blocks : (f : FunctionValue) (p : ℕ) → MayInBlocks f p → (b i : ℕ) × (b < length f.blocks) × ((block_at f b).range.first ≤ i)
     × (i < (block_at f b).range.end) × (is_listed_at (block_at f b).range.first i p ≡ true)
 listed_in_blocks f p (b, i, lt, ge, less, inl e) = (
@@ -154,7 +154,7 @@ listed_in_blocks f p (b, i, lt, ge, less, inr (e, next)) = (
       (lt-ltb (block_at f b).range.first (i + 1) (omega (arith, ge))) (eq-eqb (p + 1) (before (i + 1)) (omega (arith, e)))),
 )
 
--- and not behind a block's last one
+-- and isn't after a block's last instruction
 not_behind : (f : FunctionValue) → BlocksFollow f → (p : ℕ) → MayInBlocks f p → (b : ℕ) → b < length f.blocks → p + 1 ≢ before (block_at f b).range.end
 not_behind f follow p (c, i, lt, ge, less, inl e) b small at = omega (arith, e, at)
 not_behind f follow p (c, i, lt, ge, less, inr (e, next)) b small at =
@@ -166,7 +166,7 @@ not_behind f follow p (c, i, lt, ge, less, inr (e, next)) b small at =
       | inr (inr behind) ↦ (let h = ends_before f follow c b behind small in omega (arith, h, some, end, next))
     ]
 
--- an output made of the final state has no edit behind a block's last instruction, and each of its edits is in a block's listing
+-- an output made of the final state has no edit after a block's last instruction, and each of its edits is in a block's listing
 pub made_listed_blocks : (f : FunctionValue) (env : MachineValue) (Known : VirtualRegister → Type 0) (t : StateValue) (o : OutputValue) → BlocksFollow f →
     IsMade f env Known (MayInBlocks f) t o → EditsAreListed f o
 made_listed_blocks f env Known t o follow m = record {
@@ -183,6 +183,6 @@ no_branch_writes f i v none (b, j, k, l, lt, end, branch, at, edge, within, is) 
     let same : j ≡ i = omega (arith, at) in
     let yes_branch : (inst_at f i).is_branch ≡ true = subst (λ n. (inst_at f n).is_branch ≡ true) same branch in cc
 
--- nor does one write them behind it
+-- and no parameters are written after an instruction
 pub none_written_behind : (f : FunctionValue) (i : ℕ) (v : VirtualRegister) → WritesByBranch f (after i) v → ⊥
 none_written_behind f i v (b, j, k, l, lt, end, branch, at, edge, within, is) = omega (arith, at)

@@ -1,4 +1,4 @@
--- What the walk begins with, with operands of every kind but `Limit`.
+-- The state with which the walk begins.
 use Rattle.std.proofs.Common.{ℕ, ◌≡◌, ◌<◌, true, List, [], sym, ap, ◌∙◌, subst, arith}
 use Rattle.std.specs.Prelude.{Bool, Option, None, slice_index_or}
 use Rattle.regalloc2_names.specs.declared.RegClass.{RegClass}
@@ -21,7 +21,7 @@ begun_empty t n places = record {
   nobody = λ r small. ap (λ (p : VRegAllocsValue). vreg_of_preg p r) places ∙ always 256 (bits_of_register r) None;
 }
 
--- the machine's registers, as State::new has them
+-- the machine's registers, as State::new sets them
 pub begun_machine : (env : MachineValue) (t : StateValue) → ((r : Register) → r.number < 64 → has_register t.allocatable r ≡ true →
     is_allocatable env r.class r ≡ true)
     → ((r : Register) → has_register t.fixed_stack r ≡ true → IsFixedStackSlot env r) →

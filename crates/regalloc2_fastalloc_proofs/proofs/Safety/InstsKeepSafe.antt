@@ -1,4 +1,4 @@
--- What the walk over all instructions keeps, with operands of every kind but `Limit`.
+-- What the walk over all instructions keeps, for operands under every constraint but `Limit`.
 use Rattle.std.proofs.Common.{ℕ, zero, suc, ◌≡◌, ◌+◌, ◌-◌, ◌<◌, ◌≤◌, ◌⊎◌, List, length, refl, sym, ap, ◌∙◌, inl, inr, subst, arith}
 use Rattle.std.specs.Prelude.{true, slice_index_or}
 use Rattle.std.proofs.lemmas.Bool.{cases_eq}
@@ -39,7 +39,7 @@ offset_rises f i (suc n) le =
 abbrev pub place_of : FunctionValue → List Place → ℕ → ℕ → Place
 place_of f places j k = at_place places (offset_of f j + k)
 
--- what the walk writes to slots: after an instruction those of the vregs that it defines, and before it those in which it reads
+-- the slots that the walk writes: after an instruction those of the vregs that it defines, and before it those in which it reads
 abbrev pub WritesByOperand : FunctionValue → List Place → ℕ → VirtualRegister → ℕ → Type 0
 WritesByOperand f places point v n =
     (i k : ℕ) × (i < length f.insts) × (k < length (inst_at f i).operands) × ((op_at (inst_at f i).operands k).vreg ≡ v)
@@ -57,11 +57,11 @@ WritesByBranch f point v =
 abbrev pub WritesAt : FunctionValue → List Place → ℕ → VirtualRegister → ℕ → Type 0
 WritesAt f places point v n = WritesByOperand f places point v n ⊎ WritesByBranch f point v
 
--- at the beginnings of the blocks from c on what branches define
+-- at the starts of the blocks from c on, the slots for what branches define
 abbrev pub WritesByStore : FunctionValue → ℕ → ℕ → VirtualRegister → Type 0
 WritesByStore f c point v = (b : ℕ) × (c ≤ b) × (b < length f.blocks) × (point ≡ before (block_at f b).range.first) × IsStoredAt f b v
 
--- so once the blocks from c on were walked
+-- the slots that are written once the blocks from c on were walked
 abbrev pub WritesFrom : FunctionValue → List Place → ℕ → ℕ → VirtualRegister → ℕ → Type 0
 WritesFrom f places c point v n = WritesAt f places point v n ⊎ WritesByStore f c point v
 
@@ -71,14 +71,14 @@ pub more_written : (f : FunctionValue) (places : List Place) (c d : ℕ) → d �
 more_written f places c d le point v n (inl w) = inl w
 more_written f places c d le point v n (inr (b, ge, lt, at, stored)) = inr (b, omega (arith, le, ge), lt, at, stored)
 
--- an operand has a good place, and a reuse that of the operand that it names
+-- an operand has a good place, and a reuse has the place of the operand that it names
 pub record HasGood (env : MachineValue) (slots : SpillSlotsValue) (f : FunctionValue) (places : List Place) (j k : ℕ) : Type 0 where
   pub good : IsGood env slots (op_at (inst_at f j).operands k) (place_of f places j k)
   pub shared : (n : ℕ) → (op_at (inst_at f j).operands k).constraint ≡ Reuse n → (n < length (inst_at f j).operands)
       × (place_of f places j k ≡ place_of f places j n)
 
 -- the tables are safe while the block before c is walked, and the operands of the instructions from i on have good places; at the walk's end all places
--- are the last ones
+-- are final
 pub record WalkKept (env : MachineValue) (Known : VirtualRegister → Type 0) (f : FunctionValue) (May : ℕ → Type 0) (last : List Place) (c i : ℕ)
     (places : List Place) (t : StateValue) : Type 0 where
   pub safe : IsSafe env Known (WritesFrom f last c) May t
@@ -94,7 +94,7 @@ later_same f i b p t u lt a j le less k =
     let s : offset_of f (i + 1 + m) ≡ offset_of f j = ap (offset_of f) (omega arith) in
     a.outside (offset_of f j + k) (inr (omega arith))
 
--- the instructions from i on have their last places
+-- the instructions from i on have their final places
 abbrev pub AreLast : FunctionValue → List Place → ℕ → List Place → Type 0
 AreLast f last i places = (j k : ℕ) → i ≤ j → j < length f.insts → k < length (inst_at f j).operands → place_of f last j k ≡ place_of f places j k
 

@@ -1,4 +1,4 @@
--- The registers of a machine that suits the function, as the walk's tables have them.
+-- The registers of a machine that fits the function, as the walk's tables have them.
 use Rattle.std.proofs.Common.{◌≡◌, ◌≢◌, ◌<◌, true, false, subst, inl, ◌⊎◌}
 use Rattle.std.specs.Prelude.{None, Some, slice_index_or}
 use Rattle.std.proofs.lemmas.Bool.{false_from_ne_true}
@@ -13,7 +13,7 @@ use Rattle.regalloc2_fastalloc_proofs.specs.BranchSteps.{RegsAvoidStack}
 use Rattle.regalloc2_fastalloc_proofs.specs.InstSteps.{StateValue}
 use Rattle.regalloc2_fastalloc_proofs.proofs.Moves.ScratchRegTaken.{Fit}
 
--- registers that a machine that suits the function has, with numbers below 64, fit: the three kinds of them are apart
+-- the registers of a machine that fits the function, with numbers below 64, fit: their three kinds are disjoint
 pub machine_fit : (f : FunctionValue) (env : MachineValue) (t : StateValue) → MachineFits f env →
     ((r : Register) → (has_register t.allocatable r ≡ true) ⊎ (has_register t.fixed_stack r ≡ true) → r.number < 64) →
     ((r : Register) → r.number < 64 → has_register t.allocatable r ≡ true → is_allocatable env r.class r ≡ true) →
@@ -38,6 +38,6 @@ machine_fit f env t fits small allocatable fixed dedicated_scratch = record {
     slot_apart c r is = All-contains (λ (q : Register). (is_allocatable env c q ≡ false) × (scratch_of env c ≢ Some q) × (q ≢ invalid_register))
         env.fixed_stack_slots r (fits c).slots_apart is
 
--- no register in memory is allocatable or kept for moves
+-- no fixed stack slot is allocatable or reserved for moves
 pub fit_apart : (t : StateValue) → Fit t → RegsAvoidStack t
 fit_apart t fit = record { allocatable = fit.stack_apart; dedicated_scratch = λ c r has. (fit.own_apart c r has).1 }

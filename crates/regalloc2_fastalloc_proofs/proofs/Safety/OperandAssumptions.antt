@@ -1,4 +1,4 @@
--- What a well-formed function's operands bring to the places that they get.
+-- The premises on operands, for a well-formed function.
 use Rattle.std.proofs.Common.{ℕ, ◌≡◌, ◌<◌, Bool, true, false, ◌&&◌, List, length, refl, sym, ap, inl, inr, ◌⊎◌}
 use Rattle.std.specs.Prelude.{not}
 use Rattle.regalloc2_names.specs.declared.OperandConstraint.{OperandConstraint}
@@ -15,13 +15,13 @@ use Rattle.regalloc2_semantics.specs.OperandsPlaced.{Once, Counts, what_of}
 use Rattle.regalloc2_semantics.proofs.Operands.{reads_use}
 use Rattle.regalloc2_fastalloc_proofs.proofs.Operands.AllocsSoFar.{IsTame}
 
--- under a constraint that may be reused
+-- a constraint that may be reused is `Reg` or `FixedReg`
 pub reusable : (env : MachineValue) (class : RegClass) (c : OperandConstraint) → MayBeReused env class c → (c ≡ Reg) ⊎ ((r : Register) × (c ≡ FixedReg r))
 reusable env class Reg h = inl refl
 reusable env class (FixedReg r) h = inr (r, refl)
 reusable env class c h = absurd h
 
--- an operand that stands for a vreg defines it or reads it
+-- an operand that names a vreg defines it or reads it
 pub defines_or_reads : (o : OperandValue) → is_fixed_nonallocatable o ≡ false → (is_def o.kind ≡ true) ⊎ (is_reading o ≡ true)
 defines_or_reads o h = by_test (is_def o.kind) (is_fixed_nonallocatable o) h
   where

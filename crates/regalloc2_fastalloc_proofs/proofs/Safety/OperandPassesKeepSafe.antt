@@ -1,5 +1,5 @@
 -- The passes over an instruction's operands keep the tables safe and fill the places.
--- The fold in `Changes` serves its evictions alone: an operand's place is handed from its selection to the steps that follow.
+-- The fold in `Changes` serves its evictions alone: an operand's place is passed from its selection to the steps that follow.
 use Rattle.regalloc2_semantics.proofs.Operands.{reads_use}
 use Rattle.std.proofs.Common.{ℕ, ◌≡◌, ◌≢◌, ◌+◌, ◌<◌, ◌≤◌, List, Bool, true, false, refl, sym, ap, ◌∙◌, ◌⊎◌, inl, inr, subst, arith, length, set}
 use Rattle.std.proofs.lemmas.Bool.{cases_eq, false_from_ne_true, true_from_ne_false, both_ways}
@@ -34,15 +34,15 @@ a_place_of (InSlot n) h = absurd h
 same_at : (q r : Register) → InPReg q ≡ InPReg r → q ≡ r
 same_at q r e = cc
 
--- a register where a vreg may be may hold each other one of its class
+-- a register that may hold a vreg may hold every vreg of its class
 shared_register : (env : MachineValue) (slots : SpillSlotsValue) (v w : VirtualRegister) (p : Place) → IsInRegister p → v.class ≡ w.class →
     MayBeLocatedAt env slots v p → MayBeLocatedAt env slots w p
 shared_register env slots v w NoPlace h e place = place
 shared_register env slots v w (InRegister r) h e place = (place.0, place.1 ∙ e)
 shared_register env slots v w (InSlot n) h e place = absurd h
 
--- The two passes over an instruction's operands, on a machine whose kinds of registers are apart: the operands are fixed to registers of the machine alone;
--- the instruction, a return or not, after which moves may be and its definitions may be written.
+-- The two passes over an instruction's operands, on a machine whose kinds of registers are disjoint: the operands are fixed to registers of the machine only;
+-- moves may follow the instruction, a return or not, and its definitions may be written.
 pub record PassesContext : Type 1 where
   pub filling : FillingContext
   pub apart : IsApart filling.env
@@ -52,7 +52,7 @@ pub record PassesContext : Type 1 where
   pub can : filling.May (after i)
   pub writes : DefsAreWritten filling.Writes i filling.ops
 
--- those, of their parts
+-- the record, built from its parts
 abbrev pub passes_of : (filling : FillingContext) → IsApart filling.env → FixedAreKnown filling.env filling.ops → (i : ℕ) → Bool → filling.May (after i) →
     DefsAreWritten filling.Writes i filling.ops → PassesContext
 passes_of filling apart fixed i is_ret can writes =
@@ -62,7 +62,7 @@ module _ (passes : PassesContext) where
   open passes use {filling, apart, fixed, i, is_ret, can, writes}
   open passes.filling use {env, Known, Writes, May, ops, tame}
 
-  -- a register that no vreg stands for
+  -- an operand that names a register and no vreg
   register_kept : (D E : ℕ → Type 0) (k : ℕ) (r : Register) (here : List Place) (t : InstRegs) (old : StateValue) → k < length ops →
       OneMore filling D E k
       → is_fixed_nonallocatable (op_at ops k) ≡ true → (op_at ops k).constraint ≡ FixedReg r → Filled env Known Writes May ops D here t old →
@@ -100,7 +100,7 @@ module _ (passes : PassesContext) where
       (reuse_register env (op_at ops j).constraint k (at_place here j) names (h.good j within d).meets)))
       f
 
-  -- and one that has it
+  -- a use for which a reuse has chosen a register
   chosen_kept : (D E : ℕ → Type 0) (k : ℕ) (p : Place) (r : Register) (here : List Place) (t u : InstRegs) (old new : StateValue) → k < length ops →
       OneMore filling D E k
       → is_reading (op_at ops k) ≡ true → at_place here k ≡ InRegister r → IsGood env old.slots (op_at ops k) (at_place here k) →
@@ -253,7 +253,7 @@ module _ (passes : PassesContext) where
       (λ y reuses d. both_ways (is_late (op_at ops y).position) (tame.named j y (omega arith) reuses).1 d.1)
       (late_operands_kept blank t old h j l w s prev (omega arith))
 
-  -- and that over early ones
+  -- the pass over early operands
   pub early_operands_kept : (half : List Place) (t : InstRegs) (old : StateValue) → Filled env Known Writes May ops (InEarly 0) half t old
       → (k : ℕ) (there : List Place) (u : InstRegs) (m : StateValue) → ProcessesOperandsAt i is_ret false ops half t old k there u m → k ≤ length ops →
       Filled env Known Writes May ops (InEarly k) there u m

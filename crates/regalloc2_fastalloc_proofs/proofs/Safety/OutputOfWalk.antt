@@ -1,4 +1,4 @@
--- What the walk's end gives, with operands of every kind but `Limit`.
+-- What holds at the walk's end, for operands under every constraint but `Limit`.
 use Rattle.regalloc2_parts.proofs.Resolving.{All-reversed}
 use Rattle.std.proofs.Common.{ℕ, ◌≡◌, ◌≢◌, ◌+◌, ◌-◌, ◌<◌, ◌≤◌, ⊎_elim, inl, inr, Bool, true, false, cond, List, length, drop, reverse, refl, sym, ap}
 use Rattle.std.proofs.Common.{◌∙◌, subst, arith, nat_eq, eq-eqb, slice_index_or, slice_index}
@@ -29,7 +29,7 @@ use Rattle.regalloc2_fastalloc_proofs.proofs.Operands.AllocsSoFar.{MeetsAlone, I
 use Rattle.regalloc2_fastalloc_proofs.proofs.Safety.StepsKeepSafe.{IsApart}
 use Rattle.regalloc2_fastalloc_proofs.proofs.Safety.InstsKeepSafe.{WalkKept, WritesFrom, offset_next, offset_rises}
 
--- what the machine keeps apart
+-- the machine's kinds of registers are disjoint
 pub machine_apart : (f : FunctionValue) (env : MachineValue) → MachineFits f env → IsApart env
 machine_apart f env fits = record {
   slots = λ r allowed is. (let apart = at_slot r.class r is in let nay : is_allocatable env r.class r ≡ false = apart.0 in cc);
@@ -41,7 +41,7 @@ machine_apart f env fits = record {
     at_slot c r is = All-contains (λ (q : Register). (is_allocatable env c q ≡ false) × (scratch_of env c ≢ Some q) × (q ≢ invalid_register))
         env.fixed_stack_slots r (fits c).slots_apart is
 
--- a debug location is that of a label that is kept, and is where the label's vreg may
+-- a debug location is that of a kept label, and is a place where the label's vreg may be
 abbrev pub IsOfLabel : FunctionValue → MachineValue → (VirtualRegister → Type 0) → SpillSlotsValue → DebugLocation → Type 0
 IsOfLabel f env Known slots d = SomeIn (λ l. (l.label ≡ d.label) × IsKept f l d.start d.end × Known l.vreg × MayBeLocatedAt env slots l.vreg d.place) f.labels
 
@@ -67,7 +67,7 @@ pub each_edit : (f : FunctionValue) (env : MachineValue) (Known : VirtualRegiste
 each_edit f env Known May t o Q m g =
     subst (All Q) (sym m.edits) (All-reversed Q t.edits (all_weaker (IsSafeEdit env Known (WritesFrom f o.allocs 0) t.slots May) Q t.edits g m.kept.safe.edits))
 
--- the places of all operands end where those of the last instruction do
+-- the list of all operands' places ends with those of the last instruction
 last_offset : (f : FunctionValue) (n : ℕ) → n ≡ length f.insts → offset_of f n ≡ operand_count f
 last_offset f n e = ap (sum_by (λ i. length i.operands)) (take_all n f.insts (omega arith))
 
@@ -96,7 +96,7 @@ pass_is_no_place env s class NoPlace h = absurd h
 pass_is_no_place env s class (InRegister r) h = λ e. cc
 pass_is_no_place env s class (InSlot k) h = λ e. cc
 
--- an output made of the final state is in order: one offset for each instruction, edits by rising points, both ends of each a place
+-- an output made of the final state is well-ordered: one offset for each instruction, edits by rising points, both ends of each a place
 pub made_in_order : (f : FunctionValue) (env : MachineValue) (Known : VirtualRegister → Type 0) (May : ℕ → Type 0) (t : StateValue) (o : OutputValue) →
     IsMade f env Known May t o → IsInOrder f o
 made_in_order f env Known May t o m = record {
@@ -133,7 +133,7 @@ pub operand_good : (f : FunctionValue) (env : MachineValue) (Known : VirtualRegi
 operand_good f env Known May t o m i lt k less = subst (IsGood env t.slots (op_at (inst_at f i).operands k)) (sym (place_is f env Known May t o m i lt k less))
     (m.kept.good i k (omega arith) lt less).good
 
--- what a constraint says of the operand's own place, and of that which a reuse shares
+-- what a constraint requires of the operand's own place, and of the place that a reuse shares
 meets_all : (env : MachineValue) (count : ℕ) (places : List Place) (c : OperandConstraint) (p : Place) → MeetsAlone env c p →
     ((n : ℕ) → c ≡ Reuse n → (n < count) × (p ≡ place_at places n)) → Meets env count places c p
 meets_all env count places Any p h s = λ e. h e
@@ -163,7 +163,7 @@ AreBelow s count = (n : ℕ) → IsSlotOrNone count (slot_name s n)
 own_below : (s : SpillSlotsValue) (count n k : ℕ) → AreBelow s count → slot_name s n ≡ InSlot k → k < count
 own_below s count n k below e = subst (IsSlotOrNone count) e (below n)
 
--- each end of a move is proper
+-- each end of a move is valid
 move_end : (env : MachineValue) (o : OutputValue) (s : SpillSlotsValue) (v : VirtualRegister) (p : Place) → AreBelow s o.num_spillslots →
     IsEndOfMove env s v p → IsMoveEnd env o p
 move_end env o s v NoPlace below h = absurd h
@@ -179,7 +179,7 @@ pass_end env o s class (InRegister r) count (inl a) = (r.class, inl (inl a.0))
 pass_end env o s class (InRegister r) count (inr own) = (class, inr (r, own, refl))
 pass_end env o s class (InSlot k) count h = (class, inl (omega arith))
 
--- where a vreg may be located, and slots lie below the output's count, is a proper place for a value of its class
+-- a place where a vreg may be is a valid place for its class, if slots are below the output's count
 pub proper_place : (env : MachineValue) (o : OutputValue) (s : SpillSlotsValue) (v : VirtualRegister) (p : Place) → AreBelow s o.num_spillslots →
     MayBeLocatedAt env s v p → IsProperPlace env o v.class p
 proper_place env o s v NoPlace below h = h
@@ -197,7 +197,7 @@ names_register : (b : Bool) (c : OperandConstraint) (r : Register) → cond b (f
 names_register true (FixedReg q) r e = (let same : q ≡ r = cc in ap FixedReg same)
 names_register b c r e = absurd cc
 
--- in an output made of the final state operands, moves and debug locations have proper places
+-- in an output made of the final state operands, moves and debug locations have valid places
 pub made_proper : (f : FunctionValue) (env : MachineValue) (Known : VirtualRegister → Type 0) (May : ℕ → Type 0) (t : StateValue) (o : OutputValue) →
     IsMade f env Known May t o → PlacesAreProper f env o
 made_proper f env Known May t o m = record {
@@ -225,7 +225,7 @@ made_proper f env Known May t o m = record {
       (h.0, h.1, h.2, h.3, (h.4.0, h.4.1, proper_place env o t.slots h.1.vreg _ (slots_below f env Known May t o m) h.4.3));
 }
 
--- no move of an output made of the final state goes from a stack place to another
+-- no move of an output made of the final state is stack-to-stack
 pub made_in_registers : (f : FunctionValue) (env : MachineValue) (Known : VirtualRegister → Type 0) (May : ℕ → Type 0) (t : StateValue) (o : OutputValue) →
     IsMade f env Known May t o → HasNoStackToStack env o
 made_in_registers f env Known May t o m = each_edit f env Known May t o (λ e. IsStackToStack env e.1 → ⊥) m (λ e s. s.not_both)

@@ -1,4 +1,4 @@
--- What stays of the tables over several steps, where temporary slots are added; and an instruction whose fields are known, with the registers that it leaves.
+-- What several steps that add temporary slots keep of the tables; and an instruction whose fields are known, with the registers that it leaves.
 use Rattle.std.proofs.Common.{ℕ, ◌≡◌, ◌+◌, ◌-◌, ◌*◌, ◌<◌, ◌≤◌, Bool, true, false, List, length, refl, sym, ap, ◌∙◌, subst, inl, inr, arith}
 use Rattle.std.specs.Prelude.{if◌then◌else◌, All, Option, None, slice_index_or}
 use Rattle.std.proofs.Math.Nat.{mul-le-mul_right}
@@ -28,7 +28,7 @@ use Rattle.regalloc2_fastalloc_state.proofs.SpillSlotUnits.{lacks_then}
 pub none_lends : (most : ℕ) (a : StateValue) → AddsTempSlotsAtMost most a a
 none_lends most a = record { allocatable = refl; fixed_stack = refl; dedicated_scratch = refl; sizes = refl; vregs = refl; num_temp_slots = omega arith }
 
--- nor where the machine stays
+-- nor if the machine stays
 pub same_lends : (most : ℕ) (a b : StateValue) → SameMachine a b → AddsTempSlotsAtMost most a b
 same_lends most a b h = record {
   allocatable = h.allocatable;
@@ -50,7 +50,7 @@ lends_then j k most a b c few f g = record {
   num_temp_slots = (let p = f.num_temp_slots in let q = g.num_temp_slots in omega (arith, p, q, few));
 }
 
--- slots that are full with some are so with more, where sizes and vregs are the same
+-- slots that are full with some temporary slots are full with more, if sizes and vregs are the same
 pub full_kept : (s t : SpillSlotsValue) (more most : ℕ) → s.sizes ≡ t.sizes → length s.vreg_spillslots ≡ length t.vreg_spillslots → more ≤ most →
     SlotsExhaustedWith s more → SlotsExhaustedWith t most
 full_kept s t more most sizes vregs few full = λ size upto.
@@ -59,7 +59,7 @@ full_kept s t more most sizes vregs few full = λ size upto.
     (omega (arith, vregs, few)) in
     omega (arith, past, fits)
 
--- what lacks at a step, as it lacks in all
+-- a resource error at a step, as one of all steps
 pub lacks_all : (k j most : ℕ) (a b : StateValue) → AddsTempSlotsAtMost k a b → k + j ≤ most → (e : RegAllocError) →
     IsResourceError (SlotsExhaustedWith b.slots (b.slots.num_temp_slots + j)) e → IsResourceError (SlotsExhaustedWith a.slots (a.slots.num_temp_slots + most)) e
 lacks_all k j most a b h few e = lacks_then (SlotsExhaustedWith b.slots (b.slots.num_temp_slots + j))
@@ -73,7 +73,7 @@ pub lack_all : (k most : ℕ) (a b : StateValue) → AddsTempSlotsAtMost k a b �
 lack_all k most a b h few e = lacks_then (SlotsExhaustedWith b.slots b.slots.num_temp_slots) (SlotsExhaustedWith a.slots (a.slots.num_temp_slots + most))
     (full_kept b.slots a.slots b.slots.num_temp_slots (a.slots.num_temp_slots + most) h.sizes h.vregs (let l = h.num_temp_slots in omega (arith, l, few))) e
 
--- no register in memory is allocatable or kept for moves, as long as the machine stays
+-- no fixed stack slot is allocatable or reserved for moves, as long as the machine stays
 pub apart_kept : (k : ℕ) (a b : StateValue) → AddsTempSlotsAtMost k a b → RegsAvoidStack a → RegsAvoidStack b
 apart_kept k a b h apart = record {
   allocatable = λ r has.
@@ -90,7 +90,7 @@ lent_few f i = few (inst_at f i).is_branch
     few true = omega arith
     few false = omega arith
 
--- no instruction of a block but its last one is a branch, which adds temporary slots
+-- no instruction of a block but its last one is a branch; only branches add temporary slots
 lent_none : (f : FunctionValue) → BlocksEnd f → (b i : ℕ) → b < length f.blocks → (block_at f b).range.first ≤ i → i + 1 < (block_at f b).range.end →
     temp_slots_at f i ≡ 0
 lent_none f ends b i lt from upto =
@@ -122,13 +122,13 @@ lent_so_far f ends b i lt from upto old new all none = elim (cases_eq (i + 1) (b
 pub joins_at : (f : FunctionValue) → BlocksFollow f → (b : ℕ) → b < length f.blocks → 0 < b → (block_at f (b - 1)).range.end ≡ (block_at f b).range.first
 joins_at f follow b lt some = sym ((follow b lt).2 some)
 
--- what is made has a number below that bound
+-- every defined vreg has a number below that bound
 pub made_below : (f : FunctionValue) (n : ℕ) → DefinesBelow f n → (v : VirtualRegister) → Made f v → v.number < n
 made_below f n below v (by_operand i k x e) = below v (after i) (inr (i, k, no_operand, omega arith, x.operand, x.definition, e))
 made_below f n below v (Made.by_param b k x e) = below v (before (block_at f b).range.first)
     (inl (b, x.block, omega arith, (k, x.param, get_or_default (block_at f b).params k v no_vreg x.param ∙ e)))
 
--- a block's parameters are vregs of the tables
+-- a block's parameters are in the tables
 pub params_known : (f : FunctionValue) (n b : ℕ) → DefinesBelow f n → b < length f.blocks → All (λ v. v.number < n) (block_at f b).params
 params_known f n b below lt = All-from_get_or (λ (v : VirtualRegister). v.number < n) (block_at f b).params no_vreg
     (λ k less. let v : VirtualRegister = slice_index_or (block_at f b).params k no_vreg in

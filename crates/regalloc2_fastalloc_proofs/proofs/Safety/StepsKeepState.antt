@@ -13,7 +13,7 @@ use Rattle.regalloc2_fastalloc_proofs.specs.Safety.{IsWhole}
 use Rattle.regalloc2_semantics.specs.Instruction.{IsTidy}
 use Rattle.regalloc2_semantics.proofs.Cells.{is_place-true, is_place-same, is_place-other}
 
--- where the vregs are located, and their slots, as functions of the number
+-- the vregs' locations and slots, as functions of the number
 abbrev pub place_in : StateValue → ℕ → Place
 place_in t n = alloc_of t.places n
 
@@ -21,7 +21,7 @@ place_in t n = alloc_of t.places n
 abbrev pub slot_in : StateValue → ℕ → Place
 slot_in t n = slot_name t.slots n
 
--- whatever registers were used
+-- the order in which registers were used doesn't matter
 pub whole_used : (t : StateValue) (order : List (List Register)) → IsWhole t → IsWhole (record t { lrus = order })
 whole_used t order w =
     record { holds = w.holds; stands_in = w.stands_in; own_slot = w.own_slot; below = w.below; own = w.own; units = w.units }
@@ -105,7 +105,7 @@ new_slot_from s c u = by_test s.by_last
 
 module _ (old new : SpillSlotsValue) (v : VirtualRegister) (s : Place) (g : GetsSpillSlot old new v s) (units : (c : RegClass) → 0 < units_of old c)
     (below : (n : ℕ) → IsSlotOrNone old.count (slot_name old n)) (own : (m n k : ℕ) → slot_name old m ≡ InSlot k → slot_name old n ≡ InSlot k → m ≡ n) where
-  -- it is a slot below the count, and either it was the vreg's or no vreg's
+  -- the given slot is below the count, and was either the vreg's or no vreg's
   pub given : (k : ℕ) × (s ≡ InSlot k) × (k < new.count) × ((slot_name old v.number ≡ s) ⊎ ((slot_name old v.number ≡ NoPlace) × (old.count ≤ k)))
   given = by_place (slot_name old v.number) refl
     where
@@ -135,7 +135,7 @@ module _ (old new : SpillSlotsValue) (v : VirtualRegister) (s : Place) (g : Gets
         ])
   ]
 
-  -- once a vreg has got its slot, all slots lie below the count
+  -- once a vreg has got its slot, all slots are below the count
   pub given_below : (n : ℕ) → IsSlotOrNone new.count (slot_name new n)
   given_below n = elim (cases_eq n v.number) [
     | inl e ↦ subst (IsSlotOrNone new.count) (sym (ap (slot_name new) e ∙ g.gives ∙ given.1)) given.2
@@ -147,7 +147,7 @@ module _ (old new : SpillSlotsValue) (v : VirtualRegister) (s : Place) (g : Gets
       grows (InRegister r) h = h
       grows (InSlot k) h = omega (arith, g.grows)
 
-  -- once a vreg has got its slot, each class's slots still take a unit at least
+  -- once a vreg has got its slot, each class's slots still have at least one unit
   pub given_units : (c : RegClass) → 0 < units_of new c
   given_units c = subst (λ xs. 0 < slice_index_or xs (class_code c) 0) (sym g.sizes) (units c)
 
@@ -158,7 +158,7 @@ module _ (old new : StateValue) (v : VirtualRegister) (r : Register) (lt : r.num
   arrived q less = s.holders q less ∙ ap (λ p. cond (is_place (InRegister r) (InRegister q)) (Some v)
       (cond (is_place p (InRegister q)) None (vreg_of_preg old.places q))) nowhere
 
-  -- once a vreg has come to an empty register, each vreg that a register has is located there
+  -- once a vreg has moved to an empty register, each vreg that a register has is located there
   pub arrive_holds : (q : Register) (u : VirtualRegister) → q.number < 64 → vreg_of_preg new.places q ≡ Some u → place_in new u.number ≡ InRegister q
   arrive_holds q u less h = by_test (is_place (InRegister r) (InRegister q)) refl (sym (arrived q less) ∙ h)
     where
@@ -171,7 +171,7 @@ module _ (old new : StateValue) (v : VirtualRegister) (r : Register) (lt : r.num
           let ne : u.number ≢ v.number = λ y. let z : NoPlace ≡ InRegister q = sym nowhere ∙ ap (place_in old) (sym y) ∙ there in cc in
           s.others u.number ne ∙ there
 
-  -- once a vreg has come to an empty register, each vreg that is located in a register is the one that this register has
+  -- once a vreg has moved to an empty register, each vreg that is located in a register is the one that this register has
   pub arrive_stands : (n : ℕ) (q : Register) → place_in new n ≡ InRegister q → (q.number < 64)
       × ((u : VirtualRegister) × (u.number ≡ n) × (vreg_of_preg new.places q ≡ Some u))
   arrive_stands n q h = elim (cases_eq n v.number) [

@@ -1,4 +1,4 @@
--- In a well-formed function on a fitting machine: what is stored at a block's beginning is made, of one class, and fixed to a register of that class.
+-- In a well-formed function on a machine that fits: what a block's start stores is defined, of one class, and fixed to a register of that class.
 use Rattle.std.proofs.Common.{ℕ, ◌≡◌, ◌+◌, ◌<◌, List, true, inl, inr, length, map, refl, sym, ap, ◌∙◌, subst, arith}
 use Rattle.std.specs.Prelude.{None, Some, slice_index_or, if◌then◌else◌}
 use Rattle.std.proofs.lemmas.List.{get_or-map}
@@ -88,7 +88,7 @@ pub record IsOfClass (f : FunctionValue) (e j : ℕ) (v : VirtualRegister) : Typ
 in_definition : (o : OperandValue) → is_def o.kind ≡ true → (r : Register) → fixed_definition o ≡ Some r → fixed_register o.constraint ≡ Some r
 in_definition o def r h = subst (λ x. (if x then fixed_register o.constraint else None) ≡ Some r) def h
 
--- what is stored at a block's beginning keeps to its class
+-- what a block's start stores keeps to its class
 pub stored_of_class : (env : MachineValue) (f : FunctionValue) → IsLimited f → IsWellFormed env f → AreTaken f → (b e k j : ℕ) (v : VirtualRegister)
     (slots : SpillSlotsValue) → IsEdgeInto f b e k → IsStoredFor f e k slots j v → IsOfClass f e j v
 stored_of_class env f limited ok taken b e k j v slots edge is = record {
@@ -118,7 +118,7 @@ stored_of_class env f limited ok taken b e k j v slots edge is = record {
         alike.1 defines.number in
         ap (λ (w : VirtualRegister). w.class) same ∙ sym alike.2 ∙ ap (λ (w : VirtualRegister). w.class) at
 
--- and, where all blocks are walked, it is of the machine
+-- and, once all blocks are walked, its register is the machine's
 pub stored_alike : {env : MachineValue} {f : FunctionValue} → IsLimited f → IsWellFormed env f → AreTaken f → {blank places : List Place}
     {old t : StateValue} → HasMachine env old → AllocsBlocks f blank old 0 places t → (b e k j : ℕ)
     (v : VirtualRegister) (slots : SpillSlotsValue) → IsEdgeInto f b e k → IsStoredFor f e k slots j v → IsAlike env f e j v

@@ -1,4 +1,4 @@
--- What a block's beginning stores of a branch's definitions keeps the tables safe.
+-- What a block's start stores of a branch's definitions keeps the tables safe.
 use Rattle.std.proofs.Common.{ℕ, suc, ◌≡◌, ◌≢◌, ◌<◌, ◌⊎◌, List, [], ◌∷◌, Bool, true, false, refl, sym, ap, ◌∙◌, subst, inl, inr, arith}
 use Rattle.std.specs.Prelude.{All, Option, None, Some, slice_index_or}
 use Rattle.std.proofs.lemmas.List.Elements.{All-append, All-push, All-cons, All-nil}
@@ -75,7 +75,7 @@ module _ (env : MachineValue) (Known : VirtualRegister → Type 0) (Writes : ℕ
       All-push (IsSafeEdit env Known Writes slots May) (pushed_moves point ms) (point, m)
       (pushed_safe slots point ms (λ k d lt. h (suc k) d (omega (arith, lt)))) (h 0 m (omega arith))
 
--- ends of stores that are in order: they go to the stack, by way of registers that aren't
+-- ends of ordered stores: they go to the stack, through registers that aren't on it
 pub order_each : (M : Place → Bool) (ss : List Store) → AreInOrder M ss → (x : Store) → IsOneOf x ss → (M x.to ≡ true)
     × ((q : Place) → x.by ≡ Some q → M q ≡ false)
 unfolding AreInOrder
@@ -114,7 +114,7 @@ stack_memory env t h (InRegister r) s = h.memory r s
 stack_memory env t h (InSlot n) s = refl
 
 -- A store x at a point, into the slot of the known vreg v, of what the operand j of the branch of the block e defines; old and new: the tables before it and
--- behind it. The operand's vreg is known, and alike; it goes to the stack, and by way of a register.
+-- after it. The operand's vreg is known, and of v's class; the store goes to the stack, through a register.
 pub record OneStore (env : MachineValue) (Known : VirtualRegister → Type 0) (Writes : ℕ → VirtualRegister → ℕ → Type 0) (May : ℕ → Type 0) : Type 0 where
   pub f : FunctionValue
   pub e : ℕ
@@ -171,7 +171,7 @@ module _ (env : MachineValue) (Known : VirtualRegister → Type 0) (Writes : ℕ
     by_end g (inl own) u same = inr (subst (λ c. scratch_of env c ≡ Some g) same (machine.dedicated_scratch o.vreg.class g own))
     by_end g (inr may) u same = inl (inl (machine.allocatable g may.small may.allocatable), may.of_class ∙ same)
 
-    -- its moves
+    -- the moves of a store
     pub store_safe : (by : Option Place) → x.by ≡ by → All (λ m. IsSafeEdit env Known Writes new.slots May (point, m)) (moves_by x.from by x.to)
     store_safe None is =
         let flat : is_memory old.fixed_stack x.from ≡ false = r.by_way.direct is in
@@ -221,7 +221,7 @@ module _ (env : MachineValue) (Known : VirtualRegister → Type 0) (Writes : ℕ
       All-append (λ m. IsSafeEdit env Known Writes slots May (point, m)) (moves_by s.from s.by s.to) (store_moves ss) (h s (first refl))
       (all_stores slots point ss (λ x is. h x (later is)))
 
-  -- all that a block's beginning stores
+  -- all that a block's start stores
   pub stores_branch_defs_kept : (f : FunctionValue) (b : ℕ) → May (before (block_at f b).range.first) →
       ((e k : ℕ) (v : VirtualRegister) → IsEdgeInto f b e k → IsConcerned f e k v → Known v) →
       ((e k j : ℕ) (v : VirtualRegister) (slots : SpillSlotsValue) → IsEdgeInto f b e k → IsStoredFor f e k slots j v → IsAlike env f e j v) →

@@ -1,4 +1,4 @@
--- Slots that lie apart are owned: each name that is in an output has one owner, and units of its own.
+-- Disjoint slots are owned: each slot name in an output has one owner, and units of its own.
 use Rattle.std.proofs.Common.{if◌then◌else◌, ℕ, zero, suc, ◌≡◌, ◌≢◌, ◌+◌, ◌%◌, ◌<◌, ◌≤◌, Bool, true, false, List, [], ◌∷◌, refl, sym, ap, ◌∙◌, ◌⊎◌}
 use Rattle.std.proofs.Common.{inl, inr, ⊎_elim, subst, arith, length, slice_index_or, nat_eq, eq-eqb}
 use Rattle.std.specs.Prelude.{All, Contains}
@@ -30,8 +30,8 @@ abbrev pub IsBeforeBranch : (ℕ → Owner) → ℕ × MoveValue → Type 0
 IsBeforeBranch owner e = (n i : ℕ) (class : RegClass) (time : ℕ) → owner n ≡ OfBranch i class time → (e.1.from ≡ InSlot n) ⊎ (e.1.to ≡ InSlot n) →
     e.0 ≡ before i
 
--- Slots are owned: that of a known vreg by that vreg. A branch has two for a class at most, which are the places of no operand and of no debug location, and
--- which the moves before it name alone.
+-- Slots are owned: that of a known vreg by that vreg. A branch has at most two for a class, which aren't the place of any operand or debug location, and
+-- which only the moves before it name.
 pub record OwnsSlots (Known : VirtualRegister → Type 0) (f : FunctionValue) (s : SpillSlotsValue) (out : OutputValue) : Type 0 where
   pub owned : AreSlotsOwned f out
   pub vregs : (v : VirtualRegister) (n : ℕ) → Known v → slot_name s v.number ≡ InSlot n → owned.owner n ≡ OfVReg v
@@ -85,7 +85,7 @@ owner_at (c ∷ made) differ (suc k) d lt =
     ∙ owner_at made (λ i j x less small. differ (suc i) (suc j) x (omega (arith, less)) (omega (arith, small))) k d (omega (arith, lt))
 
 module _ (Known : VirtualRegister → Type 0) (f : FunctionValue) (s : SpillSlotsValue) (made : List OwnedSlot) (h : AreLaidOut Known s made) where
-  -- a slot that was made is found by its name to have the owner for whom it was made
+  -- a slot that was made is found by its name to have the owner for which it was made
   pub owner_found : (c : OwnedSlot) → Contains made c → owner_in made c.name ≡ c.owner
   owner_found c (k, lt, e) = subst (λ (x : OwnedSlot). owner_in made x.name ≡ x.owner) e
       (owner_at made (names_differ s.sizes s.by_last s.count made h.each h.apart) k c lt)
@@ -99,7 +99,7 @@ module _ (Known : VirtualRegister → Type 0) (f : FunctionValue) (s : SpillSlot
   apart_or (suc i) zero d = inr (omega arith)
   apart_or (suc i) (suc j) d = ⊎_elim (λ l. inl (omega (arith, l))) (λ g. inr (omega (arith, g))) (apart_or i j (λ e. d (ap suc e)))
 
-  -- two slots are one, or lie apart and have two owners
+  -- two slots are one, or have disjoint units and two owners
   abbrev AreTwo : OwnedSlot → OwnedSlot → Type 0
   AreTwo c x = (c.owner ≢ x.owner) × ((end_of_slot s.sizes s.by_last c ≤ start_of_slot s.sizes s.by_last x)
       ⊎ (end_of_slot s.sizes s.by_last x ≤ start_of_slot s.sizes s.by_last c))
@@ -112,7 +112,7 @@ module _ (Known : VirtualRegister → Type 0) (f : FunctionValue) (s : SpillSlot
       (subst (λ y. end_of_slot s.sizes s.by_last (slice_index_or made j d) ≤ start_of_slot s.sizes s.by_last y) a (h.apart i j d lt less)) in
       ((differ, inr behind), (λ e. differ (sym e), inl behind))
 
-  -- two slots that were made are one, or have two owners and units apart
+  -- two slots that were made are one, or have two owners and disjoint units
   pub one_or_two : (c x : OwnedSlot) → Contains made c → Contains made x → (c ≡ x) ⊎ AreTwo c x
   one_or_two c x (i, lt, a) (j, less, b) =
       let b2 : slice_index_or made j c ≡ x = get_or_default made j c x less ∙ b in
@@ -136,7 +136,7 @@ module _ (Known : VirtualRegister → Type 0) (f : FunctionValue) (s : SpillSlot
     known_named : (n : ℕ) → IsSlotOfKnown Known s n → IsNameOfSlot made n
     known_named n (v, known, is) = (record { owner = OfVReg v; name = n }, h.known v known n is, refl)
 
-    -- and is that vreg's
+    -- and its owner is that vreg
     own_slot : (v : VirtualRegister) (n : ℕ) → Known v → slot_name s v.number ≡ InSlot n → owner_in made n ≡ OfVReg v
     own_slot v n known is = owner_found _ (h.known v known n is)
 
@@ -154,7 +154,7 @@ module _ (Known : VirtualRegister → Type 0) (f : FunctionValue) (s : SpillSlot
         let point : ℕ = (slice_index_or out.edits k d).0 in
         subst (ServesAt point) of (⊎_elim (λ from. (end_named point m.0 _ n m.1 from).1) (λ to. (end_named point m.0 _ n m.2 to).1) names)
 
-    -- so does whatever is in the output
+    -- and so does every place in the output
     named : (n : ℕ) → IsSlotOf f out n → IsNameOfSlot made n
     named n (inl (k, x, lt, at, is)) = known_named n (allocs k x lt n (at ∙ is))
     named n (inr (inl (k, x, lt, at, is))) = (let m = subst (IsOfOneClass made) at (moves k x lt) in
@@ -184,7 +184,7 @@ module _ (Known : VirtualRegister → Type 0) (f : FunctionValue) (s : SpillSlot
     end_of_class point class (InRegister r) h = h
     end_of_class point class (InSlot n) (c, there, is, of, serves) = ap class_of_owner (ap (owner_in made) (sym is) ∙ owner_found c there) ∙ of
 
-    -- the slots of an output are owned, where they lie apart and its moves keep to a class
+    -- the slots of an output are owned, if they are disjoint and its moves keep to a class
     pub slots_owned : OwnsSlots Known f s out
     slots_owned = record {
       owned = record {

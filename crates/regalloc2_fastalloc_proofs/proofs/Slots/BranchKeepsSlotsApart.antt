@@ -1,4 +1,4 @@
--- A branch that passes its arguments, and the beginning of a block, keep slots apart and move within a class.
+-- A branch that passes its arguments, and the start of a block, keep slots disjoint and move within a class.
 -- The fold in `Changes` serves its evictions alone: the list of gathered moves grows with the state.
 use Rattle.std.proofs.Common.{ℕ, zero, suc, ◌≡◌, ◌+◌, ◌*◌, ◌<◌, ◌≤◌, List, ◌++◌, Bool, refl, sym, ap, ◌∙◌, ◌⊎◌, inl, inr, subst, arith, length, slice_index_or}
 use Rattle.std.specs.Prelude.{All, Contains, Some}
@@ -70,11 +70,11 @@ passed_of Known s class given h m has =
       subst (IsPassed Known s class) (sym g.4) (subst (λ c. IsPassed Known s c g.0.to) g.2 both_ends.1),
     )
 
--- one more class of a branch was met
+-- the moves of one more class of a branch were added
 abbrev AndMet : (ℕ → RegClass → Type 0) → ℕ → RegClass → ℕ → RegClass → Type 0
 AndMet Met branch class b c = Met b c ⊎ ((b ≡ branch) × (c ≡ class))
 
--- tables where more branches were met
+-- the tables stay valid with more branches added
 pub met_more : (Known : VirtualRegister → Type 0) (named : Bool) (Met More : ℕ → RegClass → Type 0) (t : StateValue) →
     ((b : ℕ) (c : RegClass) → Met b c → More b c) → IsClassed Known named Met t → IsClassed Known named More t
 met_more Known named Met More t more h = record {
@@ -94,7 +94,7 @@ met_more Known named Met More t more h = record {
 branch_of : (a b : ℕ) (c d : RegClass) (j k : ℕ) → OfBranch a c j ≡ OfBranch b d k → (b ≡ a) × (d ≡ c) × (k ≡ j)
 branch_of a b c d j k e = ((let x : b ≡ a = cc in x), (let x : d ≡ c = cc in x), (let x : k ≡ j = cc in x))
 
--- how many temporary slots there are, of which one ends below the count
+-- a temporary slot that ends below the new count is one of those taken
 lent_below : (s t : SpillSlotsValue) (class : RegClass) (taken j : ℕ) → 0 < units_of s class → AddsTempSlots s t class taken → later_end s class j ≤ t.count
     → j < taken
 lent_below s t class zero j some lends upto = (let same = lends.none refl in absurd (omega (arith, same, upto, some)))
@@ -181,7 +181,7 @@ module _ (Known : VirtualRegister → Type 0) (same : (v w : VirtualRegister) �
         p.step.inst_regs
         p.passed (length (block_at f (target_at f b j)).params) u new given edge
 
-    -- a block's beginning
+    -- a block's start
     reloads_param_classed : (v : VirtualRegister) (t u : InstRegs) (old new : StateValue) → ReloadsParam point v t u old new → Known v →
         IsClassed Known named Met old → IsClassedTurn t → StepClassed Known named Met u new
     reloads_param_classed v t u old new (nowhere none eu en) known h ht = classed_same Known same named Met old new t u en eu h ht
@@ -199,7 +199,7 @@ module _ (Known : VirtualRegister → Type 0) (same : (v w : VirtualRegister) �
         let p = reloads_params_classed params known t old h ht j w m prev in
         reloads_param_classed (slice_index_or params j no_vreg) w u m new one (known j lt) p.classed p.inst_regs
 
-    -- a block's beginning keeps slots apart and moves within a class
+    -- a block's start keeps slots disjoint and moves within a class
     pub reloads_at_begin_classed : (params : List VirtualRegister) → ((k : ℕ) → k < length params → Known (slice_index_or params k no_vreg)) →
         (old new : StateValue) → ReloadsAtBegin point params old new → IsClassed Known named Met old → IsClassed Known named Met new
     reloads_at_begin_classed params known old new b h =

@@ -1,4 +1,4 @@
--- An instruction leaves a slot to the vreg whose own it is: nothing is written there but that vreg's value.
+-- An instruction leaves a slot to its owner: only the owner's value is written there.
 use Rattle.std.proofs.Common.{ℕ, suc, ◌≡◌, ◌<◌, ◌≤◌, ◌⊎◌, inl, inr, List, [], ◌∷◌, sym, ap, subst, arith}
 use Rattle.std.specs.Prelude.{All, Option, Some, slice_index_or}
 use Rattle.std.proofs.lemmas.Bool.{cases_eq}
@@ -17,7 +17,7 @@ use Rattle.regalloc2_fastalloc_proofs.specs.InstSteps.{StateValue}
 use Rattle.regalloc2_fastalloc_proofs.specs.Safety.{IsEndOfMove, IsEndOfArgMove, IsSafeEdit}
 use Rattle.regalloc2_fastalloc_proofs.proofs.Operands.RecordOverState.{opt, opt_from, slots_at}
 
--- no move at a point goes to a place, where none can, or what one would bring
+-- no move at a point goes to a place, or one with a known property does
 pub no_move_or : (p : Place) (q : ℕ) (es : List (ℕ × MoveValue)) (R : Type 0) → All (λ e. e.0 ≡ q → e.1.to ≡ p → R) es → NoMoveTo p (at_point es q) ⊎ R
 unfolding Untouched with_moves
 no_move_or p q [] R h = inl tt
@@ -57,7 +57,7 @@ module _ (env : MachineValue) (Known : VirtualRegister → Type 0) (same : (v w 
         ]
       ]
 
--- the same with the slots that there are
+-- the same for the slots of the tables
 pub own_written : (env : MachineValue) (Known : VirtualRegister → Type 0) → ((v w : VirtualRegister) → Known v → Known w → v.number ≡ w.number → v ≡ w) →
     (Writes : ℕ → VirtualRegister → ℕ → Type 0) (May : ℕ → Type 0) (t : StateValue)
     → ((x y n : ℕ) → slot_name t.slots x ≡ InSlot n → slot_name t.slots y ≡ InSlot n → x ≡ y) → All (IsSafeEdit env Known Writes t.slots May) t.edits

@@ -1,4 +1,4 @@
--- Where the moves of the walk write only what they may and places are good, each instruction but a block's last one leaves slots to their own vregs.
+-- If the moves of the walk write only what they may and places are good, each instruction but a block's last one leaves slots to their owners.
 use Rattle.regalloc2_parts.proofs.Resolving.{All-reversed}
 use Rattle.std.proofs.Common.{ℕ, ◌≡◌, ◌+◌, ◌<◌, ◌≤◌, inl, inr, true, false, List, [], length, refl, sym, ap, ◌∙◌, subst, arith}
 use Rattle.std.specs.Prelude.{All, Some}
@@ -27,13 +27,13 @@ use Rattle.regalloc2_fastalloc_proofs.proofs.Safety.FunctionKeepsSafe.{no_branch
 use Rattle.regalloc2_fastalloc_proofs.proofs.Walk.LastInstAndRest.{KeepsSlots}
 use Rattle.regalloc2_fastalloc_proofs.proofs.Walk.FunctionLaws.{PlacedCode}
 
--- What may be written to slots around an instruction: before it where it reads a vreg in its slot, and after it where it defines the vreg.
+-- The slots that may be written around an instruction: before it those in which it reads a vreg, and after it those of the vregs that it defines.
 pub record WritesSound (f : FunctionValue) (placesf : ℕ → List Place) (Writes : ℕ → VirtualRegister → ℕ → Type 0) (i : ℕ) : Type 0 where
   pub sooner : (v : VirtualRegister) (n : ℕ) → Writes (before i) v n → IsReadAt (inst_at f i).operands (placesf i) v (InSlot n)
   pub later : (v : VirtualRegister) (n : ℕ) → Writes (after i) v n → (k : ℕ) × (k < length (inst_at f i).operands)
       × (is_def (op_at (inst_at f i).operands k).kind ≡ true) × ((op_at (inst_at f i).operands k).vreg ≡ v)
 
--- those that the walk writes, at an instruction that is no branch
+-- the slots that the walk writes are such, at an instruction that is no branch
 pub writes_sound : (f : FunctionValue) (placesf : ℕ → List Place) (places : List Place) → AreListed f placesf 0 places → (i : ℕ) →
     (inst_at f i).is_branch ≡ false → WritesSound f placesf (WritesAt f places) i
 writes_sound f placesf places are_listed i plain = record {
@@ -61,7 +61,7 @@ writes_sound f placesf places are_listed i plain = record {
   ];
 }
 
--- nor does a store: it comes before another block's first instruction
+-- the same with stores: a store is before another block's first instruction
 pub writes_sound_in : (f : FunctionValue) → BlocksFollow f → (placesf : ℕ → List Place) (places : List Place) → AreListed f placesf 0 places → (b i : ℕ) →
     b < length f.blocks → (block_at f b).range.first ≤ i → i < last_of (block_at f b) → (inst_at f i).is_branch ≡ false →
     WritesSound f placesf (WritesFrom f places (b + 1)) i
@@ -89,7 +89,7 @@ module _ (env : MachineValue) (code : PlacedCode) (final : StateValue) (Writes :
     open code use {Known, f, proper, kept, follow, ends, placesf}
     open code.proper use {orderly}
 
-    -- a definition in a slot is in its own
+    -- a definition in a slot is in its own vreg's
     own_definition : (i : ℕ) → i < length f.insts → (k : ℕ) → k < length (inst_at f i).operands → is_def (op_at (inst_at f i).operands k).kind ≡ true →
         (n : ℕ) →
         place_at (placesf i) k ≡ InSlot n →

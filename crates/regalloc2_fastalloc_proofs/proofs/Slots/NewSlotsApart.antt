@@ -1,4 +1,4 @@
--- New slots lie behind all others, at units of their own.
+-- New slots are above all others, at units of their own.
 use Rattle.regalloc2_parts.proofs.Tidying.{contains_here, contains_there}
 use Rattle.std.proofs.Common.{if◌then◌else◌, ℕ, zero, suc, ◌≡◌, ◌≢◌, ◌+◌, ◌-◌, ◌*◌, ◌/◌, ◌%◌, ◌<◌, ◌≤◌, Bool, true, false, List, [], ◌∷◌, refl, sym}
 use Rattle.std.proofs.Common.{ap, ◌∙◌, ⊎_elim, subst, arith, slice_index_or}
@@ -19,7 +19,7 @@ use Rattle.regalloc2_fastalloc_proofs.proofs.Slots.SlotsGrow.{gives_stay}
 use Rattle.regalloc2_fastalloc_proofs.proofs.Slots.StepsKeepSlots.{cases_none}
 use Rattle.regalloc2_fastalloc_proofs.proofs.Branches.ArgMovesEffect.{one_slot}
 
--- the next multiple is one
+-- the next multiple is a multiple
 next_is_multiple : (x y : ℕ) → 0 < y → next_multiple_of x y % y ≡ 0
 next_is_multiple x y some = ⊎_elim
     (λ (none : x % y ≡ 0).
@@ -33,7 +33,7 @@ next_is_multiple x y some = ⊎_elim
     ap (λ r. (x + r) % y) (mod-eq_of_lt less) ∙ ap (λ n. n % y) whole ∙ mul-mod_left (x / y + 1) y)
     (cases_eq (x % y) 0)
 
--- the first unit of a slot that begins at a place, whichever unit names it
+-- the first unit of a slot is where it begins, whichever unit names it
 named_start : (by_last : Bool) (start size : ℕ) → 0 < size → start_in by_last size (if by_last then start + size - 1 else start) ≡ start
 named_start true start size some = omega (arith, some)
 named_start false start size some = refl
@@ -42,7 +42,7 @@ named_reach : (by_last : Bool) (start size : ℕ) → 0 < size → by_last ≡ t
 named_reach true start size some is = omega (arith, some)
 named_reach false start size some is = absurd cc
 
--- a new slot lies at its units, once the count is at its end or past it
+-- a new slot is laid out at its units, once the count is at or past its end
 pub later_laid : (s : SpillSlotsValue) (owner : Owner) (k count : ℕ) → 0 < units_of s (class_of_owner owner) → later_end s (class_of_owner owner) k ≤ count
     → IsLaidOut s.sizes s.by_last count (record { owner = owner; name = later_slot s (class_of_owner owner) k })
 later_laid s owner k count some upto =
@@ -56,14 +56,14 @@ later_laid s owner k count some upto =
       within = omega (arith, at, upto);
     }
 
--- where it starts
+-- the first unit of a new slot
 pub later_start : (s : SpillSlotsValue) (owner : Owner) (k : ℕ) → 0 < units_of s (class_of_owner owner)
     → start_of_slot s.sizes s.by_last (record { owner = owner; name = later_slot s (class_of_owner owner) k }) ≡ next_multiple_of s.count
     (units_of s (class_of_owner owner)) + k * units_of s (class_of_owner owner)
 later_start s owner k some = named_start s.by_last (next_multiple_of s.count (units_of s (class_of_owner owner)) + k * units_of s (class_of_owner owner))
     (units_of s (class_of_owner owner)) some
 
--- one more of a list
+-- adding one more slot to a list
 apart_more : (sizes : List ℕ) (by_last : Bool) (c : OwnedSlot) (made : List OwnedSlot) →
     All (λ x. end_of_slot sizes by_last x ≤ start_of_slot sizes by_last c) made →
     AreSlotsApart sizes by_last made → AreSlotsApart sizes by_last (c ∷ made)
@@ -169,7 +169,7 @@ module _ (Known : VirtualRegister → Type 0) (same : (v w : VirtualRegister) �
 lent_sooner : (branch : ℕ) (class : RegClass) (k : ℕ) → OfBranch branch class (suc k) ≡ OfBranch branch class 0 → ⊥
 lent_sooner branch class k e = cc
 
--- a branch's moves take slots of a class, for the first time that they do
+-- a branch's moves take temporary slots of a class for the first time
 pub record LaysOutTempSlots (Known : VirtualRegister → Type 0) (Holds : OwnedSlot → Type 0) (branch : ℕ) (class : RegClass) (taken : ℕ) (s t : SpillSlotsValue)
     (before_it : List OwnedSlot) : Type 0 where
   pub lays : LaysOut Known Holds t before_it
@@ -185,7 +185,7 @@ module _ (Known : VirtualRegister → Type 0) (Holds : OwnedSlot → Type 0) (br
   one_holds : All Holds (temp_slots_at 0 ∷ made)
   one_holds = All-cons Holds (temp_slots_at 0) made (holds 0 (later_slot s class 0) (omega arith)) all
 
-  -- the slots with so many temporary ones
+  -- the slots with a given number of temporary ones
   abbrev with_lent : ℕ → ℕ → SpillSlotsValue
   with_lent count num_temp_slots = record {
     vreg_spillslots = s.vreg_spillslots;
@@ -215,7 +215,7 @@ module _ (Known : VirtualRegister → Type 0) (Holds : OwnedSlot → Type 0) (br
       (All-cons (λ x. OfBranch branch class 1 ≢ x.owner) (temp_slots_at 0) made (lent_sooner branch class 0) (λ k d lt. first_time k d lt 1))
       (λ v is k there. contains_there (temp_slots_at 1) _ (temp_slots_at 0 ∷ made) (g.known v is k there)) (λ v e. absurd (not_vreg 1 v e)) g.own
 
-  -- adding temporary slots for a branch, two at most, leaves all slots apart, each with one owner
+  -- adding temporary slots for a branch, two at most, leaves all slots disjoint, each with one owner
   pub lends_laid : (t : SpillSlotsValue) (taken : ℕ) → taken ≤ 2 → AddsTempSlots s t class taken → LaysOutTempSlots Known Holds branch class taken s t made
   lends_laid t zero few l = (let same = l.none refl in record {
     lays = record {

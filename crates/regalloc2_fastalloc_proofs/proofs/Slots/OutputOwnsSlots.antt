@@ -1,4 +1,4 @@
--- An output whose slots were laid apart, and whose moves keep to a class, owns its slots.
+-- An output whose slots were laid out disjointly, and whose moves keep to a class, owns its slots.
 use Rattle.std.proofs.lemmas.Bool.{cases_lt}
 use Rattle.regalloc2_parts.proofs.Resolving.{All-reversed}
 use Rattle.std.proofs.Common.{ℕ, suc, ◌≡◌, ◌≢◌, ◌+◌, ◌-◌, ◌<◌, ◌≤◌, Bool, true, List, [], ◌∷◌, length, refl, sym, ap, ◌∙◌, ⊎_elim, subst, arith, slice_index_or}
@@ -33,7 +33,7 @@ whole_end made point class NoPlace there h = there refl
 whole_end made point class (InRegister r) there h = h
 whole_end made point class (InSlot n) there h = h
 
--- each place of an output is an operand's
+-- each place of an output is that of an operand
 operand_of : (insts : List InstValue) (d : InstValue) (j : ℕ) → j < sum_by (λ i. length i.operands) insts
     → (i k : ℕ) × (i < length insts) × (k < length (slice_index_or insts i d).operands) × (sum_by (λ i. length i.operands) (take i insts) + k ≡ j)
 operand_of [] d j lt = absurd (omega (arith, lt))
@@ -83,7 +83,7 @@ module _ (f : FunctionValue) (env : MachineValue) (Known : VirtualRegister → T
       let l = m.debug k d lt in
       (l.1.vreg, l.4.2, subst (MayBeLocatedAt env t.slots l.1.vreg) at l.4.3)
 
-  -- what is made of the walk's tables owns its slots
+  -- an output made of the walk's tables owns its slots
   pub made_slots_owned : ((c : RegClass) → slot_size f.slot_sizes c ≡ units_of t.slots c) → f.named_by_last_slot ≡ named →
       ((i : ℕ) (c : RegClass) → Met i c → (i < length f.insts) × ((inst_at f i).is_branch ≡ true)) → OwnsSlots Known f t.slots o
   made_slots_owned sizes by_last branches =
@@ -91,6 +91,6 @@ module _ (f : FunctionValue) (env : MachineValue) (Known : VirtualRegister → T
       (λ i lt k d less n at. owner_known f env Known May t o m owned tame _ n (i, k, d, lt, less, refl, at)) places_own moves_keep
       locations_own (λ c there i class time e. let met = All-contains (IsOfMet Met) h.made c h.met there i class time e in (branches i class met.0, met.1))
 
--- a fitting machine keeps registers so
+-- on a machine that fits, the registers reserved for moves are of their classes
 pub fits_keeps : (f : FunctionValue) (env : MachineValue) → MachineFits f env → KeepsOfClass env
 fits_keeps f env fits = λ c r own. ((fits c).scratch_apart r own).0

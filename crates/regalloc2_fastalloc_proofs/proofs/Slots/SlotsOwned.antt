@@ -22,7 +22,7 @@ fixed_no_slot : (env : MachineValue) (c : OperandConstraint) (b : Bool) (n : ℕ
 fixed_no_slot env (FixedReg r) b n h m = (let e : InSlot n ≡ InRegister r = m in cc)
 fixed_no_slot env c b n h m = absurd cc
 
--- an operand whose place is a slot stands for a vreg, and the slot is that vreg's own
+-- an operand whose place is a slot names a vreg, and the slot is that vreg's own
 own_slot : (env : MachineValue) (s : SpillSlotsValue) (o : OperandValue) (p : Place) (n : ℕ) → IsGood env s o p → p ≡ InSlot n →
     (is_fixed_nonallocatable o ≡ false) × (slot_name s o.vreg.number ≡ InSlot n)
 own_slot env s o p n good is = ⊎_elim
@@ -32,7 +32,7 @@ own_slot env s o p n good is = ⊎_elim
 
 module _ (f : FunctionValue) (env : MachineValue) (Known : VirtualRegister → Type 0) (May : ℕ → Type 0) (t : StateValue) (o : OutputValue)
     (m : IsMade f env Known May t o) (owned : SlotsHaveOneOwner t.slots) (tame : (i : ℕ) → i < length f.insts → IsTame Known (inst_at f i).operands) where
-  -- a vreg that is in a slot is known, and it is its own
+  -- a vreg that is in a slot is known, and owns the slot
   pub owner_known : (v : VirtualRegister) (n : ℕ) → StandsInSlot f o v n → Known v × (slot_name t.slots v.number ≡ InSlot n)
   owner_known v n (i, k, d, lt, less, names, is) =
       let x : OperandValue = op_at (inst_at f i).operands k in

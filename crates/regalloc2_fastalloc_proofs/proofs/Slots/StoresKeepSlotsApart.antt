@@ -1,4 +1,4 @@
--- What a block's beginning stores of a branch's definitions keeps slots apart and moves within a class.
+-- What a block's start stores of a branch's definitions keeps slots disjoint and moves within a class.
 use Rattle.std.proofs.Common.{ℕ, suc, Bool, ◌≡◌, ◌<◌, ◌⊎◌, List, [], ◌∷◌, refl, sym, ap, ◌∙◌, subst, inl, inr, arith}
 use Rattle.std.specs.Prelude.{All, Option, None, Some, slice_index_or}
 use Rattle.std.proofs.lemmas.List.Elements.{All-append, All-push, All-cons, All-nil}
@@ -90,7 +90,7 @@ module _ (Known : VirtualRegister → Type 0) (same : (v w : VirtualRegister) �
         (All-cons (λ m. KeepsToClass h.made (point, m)) (record { from = q; to = x.to }) [] (v.class, way, slot_end v x.to r.to known)
         (All-nil (λ m. KeepsToClass h.made (point, m))))
 
-  -- all that a block's beginning stores
+  -- all that a block's start stores
   pub stores_branch_defs_classed : (f : FunctionValue) (b : ℕ) → ((e k : ℕ) (v : VirtualRegister) → IsEdgeInto f b e k → IsConcerned f e k v → Known v) →
       ((e k j : ℕ) (v : VirtualRegister) (slots : SpillSlotsValue) → IsEdgeInto f b e k → IsStoredFor f e k slots j v → IsOfClass f e j v) →
       (old new : StateValue) → StoresBranchDefs f b old new → IsClassed Known named Met old → IsClassed Known named Met new

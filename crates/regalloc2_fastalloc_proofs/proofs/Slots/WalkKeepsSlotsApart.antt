@@ -1,5 +1,5 @@
--- The whole walk keeps slots apart and moves within a class.
--- The fold in `Changes` doesn't fit: what holds depends on how far the walk is.
+-- The whole walk keeps slots disjoint and moves within a class.
+-- The fold in `Changes` doesn't apply: what holds depends on how far the walk is.
 use Rattle.std.proofs.Common.{ℕ, ◌≡◌, ◌+◌, ◌<◌, ◌≤◌, ◌∙◌, List, [], true, Bool, length, slice_index_or, refl, sym, ap, inl, inr, subst, arith}
 use Rattle.std.proofs.lemmas.Bool.{cases_Bool}
 use Rattle.regalloc2_names.specs.declared.RegClass.{RegClass}
@@ -83,7 +83,7 @@ module _ (f : FunctionValue) (Known : VirtualRegister → Type 0) (same : (v w :
       begins.middle t begins.stores (reloads_at_begin_classed Known same named (BranchesFrom f first) (before first)
       (block_at f b).params (λ k less. params b k lt less) u begins.middle begins.reloads here))
 
--- the fresh tables
+-- the initial tables
 begun_classed : (f : FunctionValue) (env : MachineValue) (Known : VirtualRegister → Type 0) (named : Bool) → KeepsOfClass env →
     (t : StateValue) (n m : ℕ) (sizes : List ℕ) → t.places ≡ no_allocs n → t.slots ≡ no_slots m sizes named → t.edits ≡ []
     → ((c : RegClass) → 0 < units_of (no_slots m sizes named) c) → HasMachine env t → (Met : ℕ → RegClass → Type 0) → IsClassed Known named Met t
@@ -103,7 +103,7 @@ begun_classed f env Known named kept t n m sizes places slots edits units machin
       edits = rw edits (λ k d lt. absurd (omega (arith, lt)));
     }
 
--- what the walk leaves of a well-formed function
+-- the final state of the walk over a well-formed function
 pub walk_classed : {env : MachineValue} {f : FunctionValue} → KeepsOfClass env → IsLimited f → IsWellFormed env f → AreTaken f →
     {blank places : List Place} {begin last : StateValue} (n m : ℕ) (sizes : List ℕ) {named : Bool}
     → begin.places ≡ no_allocs n → begin.slots ≡ no_slots m sizes named → begin.edits ≡ [] → ((c : RegClass) → 0 < units_of (no_slots m sizes named) c) →

@@ -1,4 +1,4 @@
--- Functions of one block with registers for all vregs: instruction after instruction no move is made, and no slot.
+-- Functions of one block with registers for all vregs: no instruction makes a move or a slot.
 use Rattle.std.proofs.Common.{ℕ, ◌≡◌, ◌≢◌, ◌+◌, ◌<◌, ◌≤◌, inl, inr, Bool, true, false, List, [], ◌∷◌, length, refl, arith, sym, ap, ◌∙◌, subst}
 use Rattle.std.specs.Prelude.{None, Contains, IsSome, slice_index_or, not, if◌then◌else◌}
 use Rattle.std.specs.List.{IsDistinct}
@@ -86,7 +86,7 @@ reserved_none names gone operands t u w reg reserves h = with_turn names gone t 
   | inr e ↦ (let fixed = reserves.only r free e in absurd (let wrong : FixedReg r ≡ Reg = sym fixed.2 ∙ reg fixed.0 fixed.1 in cc))
 ])
 
--- nor held where there are no clobbers
+-- and nothing is held if there are no clobbers
 pub held_none : (names : List VirtualRegister) (gone : ℕ → Bool) (clobbers : PRegSet) (t : StateValue) (u w : InstRegs) →
     ((r : Register) → has_register clobbers r ≡ false) → RemovesClobbers clobbers u w → IsSpillFree names gone t u → IsSpillFree names gone t w
 held_none names gone clobbers t u w none holds h = with_turn names gone t u w h (λ r has free.
@@ -112,7 +112,7 @@ pub cleared_all_none : (point : ℕ) (rs : List Register) (t : InstRegs) (old : 
 cleared_all_none point rs t old u new none (none_left x m) = (refl, refl)
 cleared_all_none point rs t old u new none (one_more r more x y z a m b first rest) = absurd (none r (0, omega arith, refl))
 
--- no use is moved that is at its place
+-- a use whose vreg is at its place isn't moved
 pub moved_none : (point : ℕ) (operands : List OperandValue) (here : List Place) (t : InstRegs) (old : StateValue) (n : ℕ) (u : InstRegs) (new : StateValue)
     → ((k : ℕ) → k < n → is_reading (op_at operands k) ≡ true → alloc_of old.places (op_at operands k).vreg.number ≡ slice_index_or here k NoPlace) →
     MovesUses point operands here t old n u new → new ≡ old
@@ -203,7 +203,7 @@ inst_done {names} {point} {operands} {places} {t2} {t3} {u2} {u3} plain h e move
     same : t3 ≡ t2
     same = moved_none point operands places u2 t2 (length operands) u3 t3 at_place moves
 
--- An instruction is allocated without moves and slots, and so may be those before it.
+-- An instruction is allocated without moves and slots, and the ones before it may be.
 pub inst_spill_free : {names : List VirtualRegister} {gone : ℕ → Bool} {i : ℕ} (inst : InstValue) {blank places : List Place} {old new : StateValue}
     {u : InstRegs} → FitInRegs names old.allocatable → ((late : Bool) → ArePlain names gone inst.operands late) →
     ((r : Register) → has_register inst.clobbers r ≡ false) → AllocsInst i inst blank places old new → IsSpillFree names gone old u →
@@ -222,7 +222,7 @@ inst_spill_free {names} {gone} inst {blank} few plain none a h =
 reads_reg : (o : OperandValue) → is_def o.kind ≡ false → o.constraint ≡ Reg → is_reading o ≡ true
 reads_reg o e reg = rw (e, reg) refl
 
--- in a function of one block that asks for registers alone, each use reads what an earlier instruction defines
+-- in a function of one block that requires only registers, each use reads what an earlier instruction defines
 pub defined_earlier : (f : FunctionValue) (env : MachineValue) (names : List VirtualRegister) → IsWellFormed env f → HasRegOperandsOnly names f → (i k : ℕ) →
     i < length f.insts → k < length (inst_at f i).operands → is_def (op_at (inst_at f i).operands k).kind ≡ false
     → (j l : ℕ) × (j < i) × DefinesAt f (op_at (inst_at f i).operands k).vreg.number j l
@@ -237,7 +237,7 @@ defined_earlier f env names well asks i k lt less e =
         let none : length (block_at f b).params ≡ 0 = ap (λ (x : ℕ). length (block_at f x).params) zero_block ∙ ap length well.entry.1 in
         absurd (omega (arith, at.param, none))
 
--- what an instruction of such a function names was defined by none behind it
+-- no later instruction defines a vreg that an instruction of such a function names
 pub plain_at : (f : FunctionValue) (env : MachineValue) (names : List VirtualRegister) (i : ℕ) (t : StateValue) →
     IsWellFormed env f → HasRegOperandsOnly names f → i < length f.insts → (h : IsSpillFreeFrom names f (i + 1) t) → (late : Bool) →
     ArePlain names h.gone (inst_at f i).operands late
@@ -285,7 +285,7 @@ plain_at f env names i t well asks lt h late = record {
               e.3 there in absurd (omega (arith, one.0, e.2)))
         ]
 
--- one more instruction was walked
+-- one more instruction was allocated
 pub from_next : (f : FunctionValue) (names : List VirtualRegister) (i : ℕ) (t u : StateValue) → i < length f.insts → (h : IsSpillFreeFrom names f (i + 1) t) →
     LeavesSpillFree names h.gone (inst_at f i).operands u → IsSpillFreeFrom names f i u
 from_next f names i t u lt h l = record {
@@ -334,7 +334,7 @@ gathers_edge_moves_none point params arguments t old given n u new more e (one_g
     absurd (omega (arith, e))
 gathers_edge_moves_none point params arguments t old given n u new more e (own_argument j mid w m lt before own) = absurd (omega (arith, e))
 
--- edges to blocks without parameters gather no move, and leave the state as it is
+-- edges to blocks without parameters gather no move, and leave the state unchanged
 pub gathers_moves_none : (f : FunctionValue) (b point : ℕ) (t : InstRegs) (old : StateValue) (n : ℕ) (u : InstRegs) (new : StateValue)
     (given : List ClassMove) →
     ((k : ℕ) → HasEdge f b k → (block_at f (target_at f b k)).params ≡ []) → GathersMoves f b point t old n u new given → (new ≡ old) × (given ≡ [])
@@ -346,7 +346,7 @@ gathers_moves_none f b point t old n u new given empty (one_edge k mid more w x 
     (ap length (empty k lt)) edge in
     (this.0 ∙ rest.0, this.1 ∙ rest.1)
 
--- of no gathered moves none is of a class
+-- if no moves are gathered, none are of a class
 pub of_none : (c : RegClass) (given : List ClassMove) (ms : Moves) → given ≡ [] → ms ≡ of_class c given → ms ≡ []
 unfolding of_class
 of_none c given ms e is = is ∙ ap (of_class c) e
@@ -365,7 +365,7 @@ none_fixed o reg some = by (is_def o.kind) (subst (λ (x : OperandConstraint). I
     by true h = cc
     by false h = cc
 
--- so a block's beginning stores nothing
+-- so a block's start stores nothing
 pub none_is_stored : (f : FunctionValue) (env : MachineValue) (names : List VirtualRegister) → IsWellFormed env f → HasRegOperandsOnly names f → (b e k j : ℕ)
     (v : VirtualRegister) (slots : SpillSlotsValue) → IsEdgeInto f b e k → IsStoredFor f e k slots j v → ⊥
 none_is_stored f env names well asks b e k j v slots edge (its_own own is) =
@@ -419,7 +419,7 @@ pub edge_block : (f : FunctionValue) (env : MachineValue) → IsWellFormed env f
     target_at f b k < length f.blocks
 edge_block f env well b k lt edge = well.successors.1 b lt k 0 edge
 
--- no parameter is begun where there is none
+-- reloading no parameters changes nothing
 pub none_begun_none : (point : ℕ) (params : List VirtualRegister) (t : InstRegs) (old : StateValue) (n : ℕ) (u : InstRegs) (new : StateValue) → n ≡ 0 →
     ReloadsParams point params t old n u new → new ≡ old
 none_begun_none point params t old n u new e none_begun = refl

@@ -1,4 +1,4 @@
--- LRU lists, of whose registers those that weren't used are at the end.
+-- LRU lists whose unused registers are at the end.
 use Rattle.std.proofs.Common.{ℕ, zero, suc, ◌≡◌, ◌+◌, ◌<◌, ◌≤◌, inl, inr, Bool, true, false, List, [], ◌∷◌, ◌++◌, cond, slice_index_or, length}
 use Rattle.std.proofs.Common.{refl, arith, sym, ap, ◌∙◌, subst}
 use Rattle.std.specs.Prelude.{Some, Contains, filter, find, not, reverse, ◌↔◌}
@@ -11,11 +11,11 @@ use Rattle.regalloc2_names.specs.Same.{is_register-same, is_register-true}
 use Rattle.regalloc2_function.specs.Fitting.{count_below, register_number}
 use Rattle.regalloc2_fastalloc_state.specs.Choice.{chosen}
 
--- all others than a register
+-- a list without a given register
 abbrev pub but : Register → List Register → List Register
 but r xs = filter (λ q. not (is_register r q)) xs
 
--- no longer
+-- the list without a register is no longer than before
 pub but_most : (r : Register) (xs : List Register) → length (but r xs) ≤ length xs
 but_most r [] = omega arith
 but_most r (x ∷ xs) = by (is_register r x) (but_most r xs)
@@ -24,7 +24,7 @@ but_most r (x ∷ xs) = by (is_register r x) (but_most r xs)
     by true h = omega (arith, h)
     by false h = omega (arith, h)
 
--- and shorter, where it was there
+-- and is shorter, if it had the register
 pub but_less : (r : Register) (xs : List Register) → Contains xs r → length (but r xs) + 1 ≤ length xs
 but_less r [] (k, less, at) = absurd (omega arith)
 but_less r (x ∷ xs) (zero, less, at) =
@@ -54,7 +54,7 @@ pub but_from : (r q : Register) (xs : List Register) → Contains (but r xs) q �
 but_from r q xs h =
     All-contains (Contains xs) (but r xs) q (All-filter (λ x. not (is_register r x)) (Contains xs) xs (All-contains_itself xs)) h
 
--- with its member in front it has the same members
+-- a list with one of its members moved to the front has the same members
 pub same_members : (r : Register) (xs : List Register) → Contains xs r → (q : Register) → Contains (r ∷ but r xs) q ↔ Contains xs q
 same_members r xs there q = (onward, back (is_register r q) refl)
   where
@@ -66,7 +66,7 @@ same_members r xs there q = (onward, back (is_register r q) refl)
     back true e h = (0, omega arith, is_register-true r q e)
     back false e h = still_in true r q (but r xs) (but_others r q xs h e)
 
--- it isn't there any more
+-- a list without a register doesn't have that register
 pub but_not : (r : Register) (xs : List Register) → Contains (but r xs) r → ⊥
 but_not r [] (k, less, at) = omega arith
 but_not r (x ∷ xs) h = by (but_not r xs) (is_register r x) refl h
@@ -85,7 +85,7 @@ last_split : (x : Register) (xs : List Register) → (front : List Register) × 
 last_split x [] = ([], x, refl)
 last_split x (y ∷ ys) = (let r = last_split y ys in (x ∷ r.0, r.1, ap (λ (l : List Register). x ∷ l) r.2))
 
--- the one that is chosen of those that pass is one of the last ones, where these all pass
+-- the chosen register, the last one that passes the test, is one of the last ones if these all pass
 pub found_last : (test : Register → Bool) (used unused : List Register) (r : Register) → 0 < length unused →
     ((q : Register) → Contains unused q → test q ≡ true) → chosen test (used ++ unused) ≡ Some r → Contains unused r
 found_last test used [] r some all found = absurd (omega arith)
@@ -108,7 +108,7 @@ found_last test used (x ∷ xs) r some all found = at (last_split x xs).0 (last_
         some_same : (a b : Register) → Some a ≡ Some b → a ≡ b
         some_same a b e = cc
 
--- a list with all registers of a class that pass is as long as they are many
+-- a list with all registers of a class that pass a test is as long as their number
 pub counted : (p : ℕ → Bool) (class : RegClass) (n : ℕ) (rs : List Register) → ((k : ℕ) → k < n → p k ≡ true → Contains rs (register_number class k)) →
     count_below p n ≤ length rs
 unfolding count_below
@@ -129,7 +129,7 @@ counted p class (suc n) rs h = elim (cases_Bool (p n)) [
       | inr e ↦ e
     ]
 
--- a register is the newest: it and the used ones are at the front, the others behind
+-- a register becomes the most recently used: it and the used ones are at the front, the others after them
 pub newest_first : (r : Register) (used unused ring : List Register) → ring ≡ used ++ unused → r ∷ filter (λ q. not (is_register r q)) ring ≡ (r ∷ but r used)
     ++ but r unused
 newest_first r used unused ring e = ap (λ (l : List Register). r ∷ filter (λ q. not (is_register r q)) l) e

@@ -28,7 +28,7 @@ use Rattle.regalloc2_fastalloc_proofs.proofs.Unspilled.BlockSpillFree.{edge_bloc
 use Rattle.regalloc2_fastalloc_proofs.proofs.Unspilled.BlockSpillFree.{none_begun_none, none_is_stored, of_none, plain_at}
 use Rattle.regalloc2_fastalloc_proofs.specs.Unspilled.SpillFree.{FitInRegs, HasRegOperandsOnly, IsSpillFreeFrom}
 
--- where there are no moves of a class, nothing is pushed
+-- if there are no moves of a class, nothing is pushed
 pushes_none : (point : ℕ) (t : InstRegs) (class : RegClass) (given : Moves) (old new : StateValue) → given ≡ [] → Pushes point t class given old new →
     new ≡ old
 pushes_none point t class given old new none p =
@@ -57,13 +57,13 @@ reloads_regs_none point t old u new whole nobody (one_emptied r w x m n before n
     (ap (λ (y : StateValue). vreg_of_preg y.places r) (sym same) ∙ newest.held) in
     absurd (let wrong : NoPlace ≡ InRegister r = sym (nobody newest.vreg.number) ∙ there in cc)
 
--- there is no store where none is of the list
+-- a list of stores without members is empty
 no_store : (stores : List Store) → ((s : Store) → IsOneOf s stores → ⊥) → stores ≡ []
 no_store [] none = refl
 no_store (s ∷ ss) none = absurd (none s (first refl))
 
 module _ (f : FunctionValue) (env : MachineValue) (well : IsWellFormed env f) (names : List VirtualRegister) (asks : HasRegOperandsOnly names f) where
-  -- a block's beginning stores nothing
+  -- a block's start stores nothing
   stores_branch_defs_nothing : (b : ℕ) (old new : StateValue) → StoresBranchDefs f b old new → (new.edits ≡ old.edits) × (new.slots ≡ old.slots)
   unfolding pushed_moves store_moves
   stores_branch_defs_nothing b old new (none_stored none same) = (ap (λ (t : StateValue). t.edits) same, ap (λ (t : StateValue). t.slots) same)
@@ -102,7 +102,7 @@ module _ (f : FunctionValue) (env : MachineValue) (well : IsWellFormed env f) (n
       (subst (FitInRegs names) (sym (machine_stays (allocs_block_insts_changes (λ m ge less. free_inst f b m) prev)).allocatable) few)
       (allocs_block_insts_leave b blank old (n + 1) before_it t lt end few h prev) a
 
-  -- before the last block nothing was walked
+  -- before the last block nothing was allocated
   none_walked : (n : ℕ) (blank places : List Place) (old new : StateValue) → n ≡ length f.blocks → AllocsBlocks f blank old n places new → new ≡ old
   none_walked n blank places old new e all_left = refl
   none_walked n blank places old new e (one_block b before_it p t u w lt prev walks begins) = absurd (omega (arith, e, lt))

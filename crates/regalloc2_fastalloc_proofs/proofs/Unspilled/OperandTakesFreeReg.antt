@@ -1,4 +1,4 @@
--- An operand under `Reg` takes a register in which no other vreg is located, as long as registers suffice for all vregs.
+-- An operand under `Reg` takes a register that holds no other vreg, as long as registers suffice for all vregs.
 use Rattle.regalloc2_semantics.proofs.Forms.{same_register}
 use Rattle.std.proofs.Common.{ℕ, zero, suc, ◌≡◌, ◌≢◌, ◌+◌, ◌<◌, ◌≤◌, ◌⊎◌, inl, inr, Bool, true, false, List, ◌∷◌, ◌++◌, length, refl, arith, sym}
 use Rattle.std.proofs.Common.{ap, ◌∙◌, subst, length-append, eqb-true}
@@ -63,7 +63,7 @@ pub free_others : (t u : InstRegs) (r : Register) (p : Positions) → RemovesAva
     is_free_throughout t q ≡ true → is_free_throughout u q ≡ true
 free_others t u r p h q e f = rw (h.early q, h.late q, e, and_right p.early false refl, and_right p.late false refl) f
 
--- of another class nothing changes
+-- nothing changes for another class
 taken_elsewhere : (names : List VirtualRegister) (gone : ℕ → Bool) (n : ℕ) (r : Register) (class : RegClass) (old new : List Register) (t : StateValue)
     (inst_regs after : InstRegs) → class ≢ r.class → ((q : Register) → Contains old q → q.class ≡ class)
     → ((q : Register) → is_register r q ≡ false → is_free_throughout inst_regs q ≡ true → is_free_throughout after q ≡ true) → new ≡ old →
@@ -91,7 +91,7 @@ taken_elsewhere names gone n r class old new t inst_regs after other members kep
       | inr e ↦ e
     ]
 
--- of its class it's the newest, and is used; the vregs that were met are as many at least
+-- in its class it is the most recently used; at least as many vregs were seen
 taken_here : (names : List VirtualRegister) (gone : ℕ → Bool) (n : ℕ) (r : Register) (class : RegClass) (old new : List Register) (t : StateValue)
     (inst_regs after : InstRegs) (met : List VirtualRegister)
     → ((q : Register) → is_register r q ≡ false → is_free_throughout inst_regs q ≡ true → is_free_throughout after q ≡ true) →
@@ -128,7 +128,7 @@ in_used names gone n r class ring t inst_regs h c at = elim (Contains-append_cas
   | inr b ↦ absurd (h.empty n r at b)
 ]
 
--- a vreg that wasn't met is one more, and a register is left for it
+-- a vreg not seen so far is one more, and a register is left for it
 pub one_more : (names : List VirtualRegister) (gone : ℕ → Bool) (v : VirtualRegister) (ring : List Register) (t : StateValue) (inst_regs : InstRegs)
     (h : IsSpillFreeIn names gone v.class ring t inst_regs) → alloc_of t.places v.number ≡ NoPlace → gone v.number ≡ false → Contains names v
     → IsDistinct is_same_number (v ∷ h.met) × All (λ (w : VirtualRegister). (w.class ≡ v.class) × Contains names w) (v ∷ h.met)
@@ -147,7 +147,7 @@ one_more names gone v ring t inst_regs h nowhere there named = (
       | inr e ↦ e
     ]
 
--- where registers suffice for all vregs, and this one has had none yet, a register of its class is unused
+-- if registers suffice for all vregs, and this vreg has had none yet, a register of its class is unused
 pub is_left : (names : List VirtualRegister) (gone : ℕ → Bool) (v : VirtualRegister) (ring : List Register) (allocatable : PRegSet) (t : StateValue)
     (inst_regs : InstRegs) (h : IsSpillFreeIn names gone v.class ring t inst_regs) → IsLruOf allocatable v.class ring → FitInRegs names allocatable
     → alloc_of t.places v.number ≡ NoPlace → gone v.number ≡ false → Contains names v → 0 < length h.unused
@@ -160,7 +160,7 @@ is_left names gone v ring allocatable t inst_regs h lrus few nowhere there named
     let less : length h.used ≤ length h.met = h.few in
     omega (arith, most, long, split, less)
 
--- the register is claimed, in which no other vreg is located: nothing but the instruction's registers changes
+-- a register that holds no other vreg is claimed: only the instruction's registers change
 pub occupied : (point : ℕ) (o : OperandRequest) (r : Register) (t u : InstRegs) (old new : StateValue) →
     ((w : VirtualRegister) → vreg_of_preg old.places r ≡ Some w → w.number ≡ o.vreg.number) → ClaimsPlace point o (InRegister r) t u old new → (new ≡ old)
     × RemovesAvailable t u r o.positions
@@ -176,7 +176,7 @@ occupied point o r t u old new only (in_register q m is clears holds) =
     by_clears q h (others ne (empty none inst_regs same)) = (same, inst_regs)
     by_clears q h (others ne (cleared w s x small at gives settles edits machine order crosses)) = absurd (ne w at (h w at))
 
--- an operand that asks for any register has no other slot, and changes no table as it is picked
+-- selecting the place of an operand that requires any register makes no slot, and changes no table
 pub picked_same : (inst_regs : InstRegs) (o : OperandRequest) (p : Place) (old new : StateValue) → o.requirement ≡ AnyReg → SelectsPlace inst_regs o p old new
     → new ≡ old
 picked_same inst_regs o p old new any (stays at suits same) = same
@@ -185,7 +185,7 @@ picked_same inst_regs o p old new any (slot asks gives places edits machine orde
     absurd (elim asks [ inl a ↦ (let wrong : AnyPlace ≡ AnyReg = sym a ∙ any in cc) | inr b ↦ (let wrong : InMemory ≡ AnyReg = sym b ∙ any in cc) ])
 picked_same inst_regs o p old new any (free r asks away may is_free first at same) = same
 
--- What comes of it: a register is the operand's, nothing but the order changes, and the vreg was there or nowhere, and no other one there.
+-- The result: the operand has a register, only the order of use changes, and the vreg was there or nowhere, and no other vreg was there.
 pub record Got (names : List VirtualRegister) (gone : ℕ → Bool) (o : OperandRequest) (p : Place) (u : InstRegs) (old new : StateValue) : Type 0 where
   pub register : Register
   pub is : p ≡ InRegister register
@@ -217,7 +217,7 @@ rings_kept r old new is small uses lrus class = elim (cases_class class r.class)
           ((same_members r (order_of old r.class) ((lrus r.class).all r small refl is) q).1 ((lrus r.class).all q lt e has));
     }
 
--- how each class stands, once the register is the newest of its own
+-- the state of each class, once the register is the most recently used of its own
 each_taken : (names : List VirtualRegister) (gone : ℕ → Bool) (n : ℕ) (r : Register) (old new : StateValue) (inst_regs u : InstRegs) → UsesReg r old new
     → ((class : RegClass) → IsLruOf old.allocatable class (order_of old class)) →
     ((q : Register) → is_register r q ≡ false → is_free_throughout inst_regs q ≡ true → is_free_throughout u q ≡ true)
@@ -261,7 +261,7 @@ stays_there names gone o r p t u old new h is at allocatable small uses holds = 
         own_class.of_class
         (λ v c. elim (own_class.known v c) [ inl a ↦ inl a | inr b ↦ inr (inl b) ])
 
--- the vreg had no location, and gets the register that is chosen, which no vreg used
+-- the vreg had no location, and gets the chosen register, which no vreg used
 comes_there : (names : List VirtualRegister) (gone : ℕ → Bool) (o : OperandRequest) (r : Register) (p : Place) (t u : InstRegs) (old new : StateValue)
     (h : IsSpillFree names gone old t) → p ≡ InRegister r → alloc_of old.places o.vreg.number ≡ NoPlace → FitInRegs names old.allocatable →
     Contains names o.vreg → gone o.vreg.number ≡ false → Contains (h.each o.vreg.class).unused r → UsesReg r old new →
@@ -319,13 +319,13 @@ pub meets_requirement_so : (t : StateValue) (p : Place) (r : Register) → p ≡
 unfolding MeetsRequirement
 meets_requirement_so t p r e apart = (r, e, ap (is_stack_in t) e ∙ apart)
 
--- a register that may be allocated and that an operand asked for as any is used
+-- an allocatable register, chosen for an operand that requires any register, is used
 used_it : (r : Register) (w : Requirement) (p : Place) (old new : StateValue) → w ≡ AnyReg → p ≡ InRegister r → has_register old.allocatable r ≡ true →
     UsesPlace w p old new → UsesReg r old new
 used_it r w p old new any is has (used q wants at there uses) = subst (λ (x : Register). UsesReg x old new) (same_register q r (sym at ∙ is)) uses
 used_it r w p old new any is has (not_used none same) = absurd (let wrong : true ≡ false = sym has ∙ none r (inr any) is in cc)
 
--- An operand that asks for any register gets one so.
+-- An operand that requires any register gets one this way.
 pub operand_got : {names : List VirtualRegister} {gone : ℕ → Bool} {point : ℕ} {o : OperandRequest} {p : Place} {t u : InstRegs} {old new : StateValue} →
     o.requirement ≡ AnyReg → IsSpillFree names gone old t → FitInRegs names old.allocatable → Contains names o.vreg → gone o.vreg.number ≡ false →
     AllocsOperand point o p t u old new → Got names gone o p u old new

@@ -32,7 +32,7 @@ use Rattle.regalloc2_fastalloc_proofs.specs.Safety.{IsWhole}
 use Rattle.regalloc2_fastalloc_proofs.proofs.Safety.StepsKeepState.{whole_used}
 use Rattle.regalloc2_fastalloc_proofs.specs.InstSteps.{SameButOrder, order_of, ProcessesOperandsAt, none_placed, of_other, one_placed}
 
--- the vreg of a register that was taken is there from now on, or its definition was met and it has no location
+-- the vreg for which a register was taken is there from now on, or its definition was seen and it has no location
 class_settled : (names : List VirtualRegister) (gone gone_now : ℕ → Bool) (n : ℕ) (r : Register) (class : RegClass) (ring : List Register) (t u : StateValue)
     (inst_regs : InstRegs) → Taken names gone n r class ring t inst_regs
     → ((m : ℕ) → m ≢ n → alloc_of u.places m ≡ alloc_of t.places m) → (alloc_of u.places n ≡ InRegister r)
@@ -72,7 +72,7 @@ class_settled names gone gone_now n r class ring t u inst_regs h others own grow
       | inr ne ↦ h.empty m q (sym (others m ne) ∙ at) c
     ]
 
--- so a step leaves the state as it sets the vreg's location; left: the state once the register was taken
+-- the state once a step has set the vreg's location; left: the state once the register was taken
 settled : (names : List VirtualRegister) (gone gone_now : ℕ → Bool) (o : OperandRequest) (p : Place) (inst_regs after_turn : InstRegs)
     (old left new : StateValue)
     → IsSpillFree names gone old inst_regs → Contains names o.vreg → (got : Got names gone o p after_turn old left) → IsWhole new →
@@ -334,7 +334,7 @@ more_placed names gone operands k late d here there next p old m n u w plain lt 
     slot_other : (j : ℕ) → j ≢ k → slice_index_or next j NoPlace ≡ slice_index_or there j NoPlace
     slot_other j ne = ap (λ (l : List Place). slice_index_or l j NoPlace) set_to ∙ get_or-set_other there k j p NoPlace ne
 
-    -- an earlier use still is where it was
+    -- an earlier use keeps its location
     still : (j : ℕ) → j < length operands → j ≢ k → is_reading (op_at operands j) ≡ true → alloc_of m.places (op_at operands j).vreg.number ≢ NoPlace →
         alloc_of n.places (op_at operands j).vreg.number ≡ alloc_of m.places (op_at operands j).vreg.number
     still j inside ne reading somewhere = elim (cases_eq (op_at operands j).vreg.number (op_at operands k).vreg.number) [
@@ -345,7 +345,7 @@ more_placed names gone operands k late d here there next p old m n u w plain lt 
       | inr other ↦ placed.others (op_at operands j).vreg.number other
     ]
 
--- whose place is that of a register that was taken
+-- processing an operand, whose place is a register that was taken
 pub processes_operand_placed_more : {names : List VirtualRegister} {gone : ℕ → Bool} {i : ℕ} {is_ret : Bool} {operands : List OperandValue} {k : ℕ}
     {late : Bool}
     {here there next : List Place} {old m n : StateValue} {u w : InstRegs} → FitInRegs names old.allocatable → ArePlain names gone operands late →
@@ -392,7 +392,7 @@ processes_operand_placed_more {names} {gone} {i} {is_ret} {operands} {k} {late} 
         (plain.named k lt) there_now places)
     by (a_reuse a p defines is places set_to) = absurd (let wrong : Reuse a ≡ Reg = sym is ∙ reg in cc)
 
--- an operand of the other position is left out
+-- an operand of the other position is skipped
 pub other_left : (names : List VirtualRegister) (gone : ℕ → Bool) (operands : List OperandValue) (k : ℕ) (late : Bool) (here there : List Place)
     (old m : StateValue) (u : InstRegs) → (is_late (op_at operands k).position ≡ late → ⊥) → ArePlaced names gone operands late k here there old m u →
     ArePlaced names gone operands late (k + 1) here there old m u
@@ -415,7 +415,7 @@ other_left names gone operands k late here there old m u not_at h = record {
       | inr ne ↦ omega (arith, less, ne)
     ]
 
--- none is placed yet
+-- no operand is placed yet
 pub none_placed_yet : (names : List VirtualRegister) (gone : ℕ → Bool) (operands : List OperandValue) (late : Bool) (here : List Place) (old : StateValue)
     (u : InstRegs) → IsSpillFree names gone old u → ArePlaced names gone operands late 0 here here old old u
 none_placed_yet names gone operands late here old u h = record {

@@ -1,4 +1,4 @@
--- All blocks of the walk: each carries what the law on paths wants.
+-- All blocks of the walk: each carries what the lemma on paths requires.
 use Rattle.std.proofs.Common.{ℕ, ◌≡◌, ◌+◌, ◌-◌, ◌<◌, ◌≤◌, inl, inr, List, [], length, refl, sym, ap, ◌∙◌, subst, arith}
 use Rattle.std.specs.Prelude.{Option}
 use Rattle.std.proofs.lemmas.Bool.{cases_eq, cases_lt}
@@ -37,7 +37,7 @@ module _ (carrying : CarryingContext) where
       Carries v (walked (inst_at f) (at_point (listed final.edits)) placesf (block_at f b).range.first ((block_at f b).range.end - (block_at f b).range.first))
       (ComesIn f stand b v) (GoesOut f stand b v)
 
-  -- each block from b on carries what paths want of it, with the edits of the whole walk
+  -- each block from b on carries what paths require of it, with the edits of the whole walk
   pub all_carry : (b : ℕ) (places : List Place) (t : StateValue) → AllocsBlocks f blank begin b places t → (n : ℕ) → IsEdge f b n →
       AreListed f placesf n places → Grown (IsBelow n) t final → (c : ℕ) → b ≤ c → c < length f.blocks → CarriesAt c
   all_carry b places t all_left = λ n e are rest c le lc. absurd (omega (arith, le, lc))
@@ -76,7 +76,7 @@ past_carries f out placesf stand b le = λ silent v used excused.
     subst (λ l. Carries v l (ComesIn f stand b v) (GoesOut f stand b v)) (sym nothing)
     (carries_nil v (ComesIn f stand b v) (GoesOut f stand b v) (λ p e. absurd (nothing_goes f stand b v p (ap (λ (x : BlockValue). x.succs) none) e)))
 
--- Before the walk, with fresh tables.
+-- The state before the walk, with fresh tables.
 pub begin_between : (f : FunctionValue) (begin : StateValue) → Blank begin → Fit begin → Between (length f.insts) begin
 begin_between f begin empty fit = (let c = at_start (λ v. ⊥) (inst_at f) (λ j. []) (length f.insts) begin empty fit in
     record { whole = c.whole; later = c.later; fit = c.fit; apart = c.apart })
@@ -85,8 +85,8 @@ begin_between f begin empty fit = (let c = at_start (λ v. ⊥) (inst_at f) (λ 
 pub first_edge : (f : FunctionValue) → BlocksFollow f → 0 < length f.blocks → IsEdge f 0 0
 first_edge f follow some = (λ h. sym ((follow 0 h).1 refl), λ e. absurd (omega (arith, some, e)))
 
--- The walk's moves and places are those of an output. If a branch carries what it has to, and every other instruction leaves slots to their vregs,
--- each block of the output carries what the law on paths wants.
+-- The walk's moves and places are those of an output. If a branch carries what it must, and every other instruction leaves slots to their vregs,
+-- each block of the output carries what the lemma on paths requires.
 module _ (carrying : CarryingContext) (out : OutputValue) (some : 0 < length carrying.laws.f.blocks)
     (walks : AllocsBlocks carrying.laws.f carrying.blank carrying.begin 0 out.allocs carrying.final) (edits : out.edits ≡ listed carrying.final.edits)
     (are_listed : AreListed carrying.laws.f carrying.placesf 0 out.allocs) where
@@ -97,14 +97,14 @@ module _ (carrying : CarryingContext) (out : OutputValue) (some : 0 < length car
   abbrev listing : ℕ → List Item
   listing b = walked (inst_at f) (at_point out.edits) placesf (block_at f b).range.first ((block_at f b).range.end - (block_at f b).range.first)
 
-  -- each block of the output carries what paths want of it
+  -- each block of the output carries what paths require of it
   pub each_carries : (b : ℕ) → b < length f.blocks → BlockCarriesOn f stand b (listing b)
   each_carries b lb =
       subst (λ es. BlockCarriesOn f stand b (walked (inst_at f) (at_point es) placesf (block_at f b).range.first
       ((block_at f b).range.end - (block_at f b).range.first))) (sym edits)
       (all_carry carrying 0 out.allocs final walks 0 (first_edge f follow some) are_listed (grown_none (IsBelow 0) final final refl) b (omega arith) lb)
 
-  -- and so does each number past the blocks
+  -- and so does each block number past the last block
   pub all_blocks_carry : (b : ℕ) → BlockCarriesOn f stand b (listing b)
   all_blocks_carry b = elim (cases_lt b (length f.blocks)) [
     | inl lt ↦ each_carries b lt

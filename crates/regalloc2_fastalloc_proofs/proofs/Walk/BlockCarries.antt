@@ -1,4 +1,4 @@
--- One block of the walk: its listing carries each vreg that is used somewhere, as the law on paths wants it.
+-- One block of the walk: its listing carries each vreg that is used somewhere, as the lemma on paths requires.
 use Rattle.std.proofs.Common.{ℕ, suc, ◌≡◌, ◌≢◌, ◌+◌, ◌-◌, ◌<◌, ◌≤◌, ◌⊎◌, inl, inr, Bool, true, false, List, [], length, refl, sym, ap, ◌∙◌, subst, arith}
 use Rattle.std.specs.Prelude.{Option, None, Some, slice_index_or}
 use Rattle.regalloc2_names.specs.Register.{Register, VirtualRegister, no_vreg}
@@ -60,7 +60,7 @@ use Rattle.regalloc2_fastalloc_proofs.proofs.Changes.WalkChanges.{begins_block_c
 abbrev pub writes_in : FunctionValue → ℕ → ℕ → ℕ → Bool
 writes_in f b last x = defined_from f x (block_at f b).range.first (suc (last - (block_at f b).range.first))
 
--- What holds at a block's end, with the tables behind its last instruction and those before it; F: the slots at the walk's end.
+-- What holds at a block's end, with the tables after its last instruction and those before it; F: the slots at the walk's end.
 pub record BlockEnd (f : FunctionValue) (placesf : ℕ → List Place) (F : ℕ → Option Place) (b last : ℕ) (old new : StateValue) : Type 0 where
   pub end : last + 1 ≡ (block_at f b).range.end
   pub blank : List Place
@@ -78,7 +78,7 @@ pub record BlockEnd (f : FunctionValue) (placesf : ℕ → List Place) (F : ℕ 
   pub lives : (v : VirtualRegister) → writes_in f b last v.number ≡ true → (c : ℕ) → c < length f.blocks → c ≢ b → IsUsedIn f c v →
       place_in old v.number ≢ NoPlace
 
--- What the last instruction of a block carries: each vreg that is used somewhere, but for parameters for which nothing is owed.
+-- What the last instruction of a block carries: each vreg that is used somewhere, except for parameters of which nothing is required.
 abbrev pub EndCarries : FunctionValue → (ℕ → List Place) → (ℕ → Option Place) → (ℕ → VirtualRegister → Option Place) → ℕ → ℕ → StateValue → Type 0
 EndCarries f placesf F stand b last new = ExcusedAreSilent f b → (v : VirtualRegister) → IsUsed f v → (IsExcused f b v → ⊥) →
     Carries v (walked (inst_at f) (at_point (listed new.edits)) placesf last 1)
@@ -90,13 +90,13 @@ abbrev pub BranchCarries : FunctionValue → (ℕ → List Place) → (ℕ → O
 BranchCarries f placesf F stand = (b last : ℕ) (old new : StateValue) → b < length f.blocks → BlockEnd f placesf F b last old new →
     (inst_at f last).is_branch ≡ true → EndCarries f placesf F stand b last new
 
--- nothing goes out of a block without successors
+-- no vreg is needed after a block without successors
 pub nothing_goes : (f : FunctionValue) (stand : ℕ → VirtualRegister → Option Place) (b : ℕ) (v : VirtualRegister) (p : Place) → (block_at f b).succs ≡ [] →
     GoesOut f stand b v p → ⊥
 nothing_goes f stand b v p none (inl own) = (let edge = own.1 in let n : length (block_at f b).succs ≡ 0 = ap length none in omega (arith, edge, n))
 nothing_goes f stand b v p none (inr passed) = (let edge = passed.2 in let n : length (block_at f b).succs ≡ 0 = ap length none in omega (arith, edge, n))
 
--- a vreg that a branch defines and only its own edges pass
+-- a vreg that a branch defines and only its own edges pass on
 abbrev pub IsUnused : FunctionValue → VirtualRegister → Type 0
 IsUnused f v = (b e k : ℕ) × IsEdgeInto f b e k × IsOwnDef f e v × (IsUsedElsewhere f v → ⊥)
 
@@ -104,9 +104,9 @@ IsUnused f v = (b e k : ℕ) × IsEdgeInto f b e k × IsOwnDef f e v × (IsUsedE
 abbrev pub IsBelow : ℕ → ℕ → Type 0
 IsBelow i p = p < before i
 
--- What blocks need to carry each vreg: the function's laws; the places of operands and the last tables, whose slots all instructions keep where the tables
--- are safe (SafeIn); where vregs are at blocks' beginnings, and what edges bring there; branches that carry; and the fresh tables from which
--- the walk, always safe, begins.
+-- The context for blocks to carry each vreg: the function's properties; the places of operands and the final tables, whose slots all instructions keep if the
+-- tables are safe (SafeIn); where vregs are at block starts, and what edges bring there; branches that carry; and the fresh tables from which
+-- the walk, safe throughout, begins.
 pub record CarryingContext : Type 1 where
   pub laws : FunctionLaws
   open laws use {f, follow, ends, proper, kept}
@@ -137,7 +137,7 @@ module _ (carrying : CarryingContext) where
   abbrev code : PlacedCode
   code = code_of (Made f) f proper kept follow ends placesf
 
-  -- a slot of the walk's end
+  -- a slot at the walk's end is no register
   slot_only : (x : ℕ) (r : Register) → slots_at final x ≡ Some (InRegister r) → ⊥
   slot_only x r e = slot_no_register final.slots.count (slot_in final x) r (whole.below x) (opt_from (slot_in final x) (InRegister r) e)
 
@@ -169,7 +169,7 @@ module _ (carrying : CarryingContext) where
     within : last < length f.insts
     within = (let h = ends_within f follow b lb in let e = ended in omega (arith, h, e))
 
-    -- the tables behind its last instruction
+    -- the tables after its last instruction
     behind : Between (last + 1) s
     behind = allocs_blocks_between (kept_of (Made f) f proper kept) follow blank begin start (b + 1) p s prev (last + 1)
         (subst (IsEdge f (b + 1)) (sym ended) (edge_next f follow b lb))
@@ -226,7 +226,7 @@ module _ (carrying : CarryingContext) where
           (λ x e. nothing_goes f stand b v x (nil_from_length (block_at f b).succs ret.2) e))
     ]
 
-    -- from the reloads at its beginning to the walk's end
+    -- from the reloads at its start to the walk's end
     from_middle : Grown AnyPlace begins.middle final
     from_middle = grown_then AnyPlace begins.middle w final (stores_branch_defs_grown AnyPlace f b begins.middle w tt begins.stores)
         (grown_weaken (IsBelow (block_at f b).range.first) AnyPlace w final (λ n x. tt) rest)
@@ -268,7 +268,7 @@ module _ (carrying : CarryingContext) where
         ∙ walked_stores (inst_at f) placesf first (last - first) (store_moves st.stores) begins.middle.edits))
         (carries_moves v (store_moves st.stores) (Listing begins.middle) (λ p. ⊥) (λ p. ⊥) E (λ src c2 holds p h. absurd h) c)
 
-    -- a vreg that only the branch passes that defines it
+    -- a vreg that is passed only by the branch that defines it
     unused_carries : ExcusedAreSilent f b → (v : VirtualRegister) → IsUsed f v → (IsExcused f b v → ⊥) → IsUnused f v →
         Carries v (Listing w) (ComesIn f stand b v) (GoesOut f stand b v)
     unused_carries silent v used excused un =

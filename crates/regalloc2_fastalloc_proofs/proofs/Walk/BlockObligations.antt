@@ -1,4 +1,4 @@
--- What a block owes to the law on paths: from its last instruction, those before it and its beginning.
+-- What the lemma on paths requires of a block, from its last instruction, those before it and its start.
 use Rattle.std.proofs.Common.{ℕ, zero, suc, ◌≡◌, ◌+◌, ◌-◌, ◌<◌, ◌≤◌, inl, inr, Bool, true, false, length, ap, subst, arith}
 use Rattle.std.specs.Prelude.{Option, Some}
 use Rattle.std.proofs.lemmas.Bool.{cases_eq, or_cases, or_parts}
@@ -25,7 +25,7 @@ use Rattle.regalloc2_fastalloc_proofs.proofs.Walk.InstsBeforeLastCarry.{defined_
 use Rattle.regalloc2_fastalloc_proofs.proofs.BlockBegin.CarriesFromSlot.{entered_carried}
 use Rattle.regalloc2_fastalloc_proofs.proofs.Inst.ProperInsts.{ProperCode}
 
--- what a stretch of instructions defines, one of them does
+-- if a range of instructions defines a vreg, one of them does
 pub defined_from-some : (f : FunctionValue) (x i n : ℕ) → defined_from f x i n ≡ true → (j : ℕ) × (i ≤ j) × (j < i + n)
     × (defined_by (inst_at f j).operands x ≡ true)
 unfolding defined_from
@@ -68,11 +68,11 @@ module _ (code : ProperCode) (once : DefinedOnce code.f) (reads : (i : ℕ) → 
   abbrev pub first_of : ℕ
   first_of = (block_at f b).range.first
 
-  -- each instruction leaves the slots of others that come now or later
+  -- each instruction leaves slots, made so far or later, to their own vregs
   abbrev pub EachLeaves : ℕ → StateValue → StateValue → Type 0
   EachLeaves i t u = (v : VirtualRegister) → Known v → Leaves f placesf F v i t u
 
-  -- The walk over the block b: behind its last instruction the tables are begin, before its first one they are middle, and new where it begins.
+  -- The walk over the block b: after its last instruction the tables are begin, before its first one middle, and at its start new.
   pub record Walked (last : ℕ) (begin middle new : StateValue) : Type 0 where
     pub end : last + 1 ≡ (block_at f b).range.end
     pub some : first_of ≤ last
@@ -93,7 +93,7 @@ module _ (code : ProperCode) (once : DefinedOnce code.f) (reads : (i : ℕ) → 
     EndCarries = Carries v (walked (inst_at f) (at_point (listed begin.edits)) placesf last 1)
         (Relied (defined_from f v.number last 1) written (stands_at begin v.number) (slots_at begin v.number) (F v.number)) E
 
-    -- if its last instruction carries what is wanted behind the block, the whole block carries v from where paths have it before
+    -- if its last instruction carries what is needed after the block, the whole block carries v from its place on paths before it
     pub block_owes : EndCarries → Carries v (walked (inst_at f) (at_point (listed new.edits)) placesf first_of (suc (last - first_of)))
         (StandsBefore f (λ u. F u.number) b v) E
     block_owes c =

@@ -1,4 +1,4 @@
--- The walk over the blocks of a well-formed function, from a fresh state to the output: each block carries what the laws on paths want, and
+-- The walk over the blocks of a well-formed function, from a fresh state to the output: each block carries what the lemmas on paths require, and
 -- a vreg that is used in a block that doesn't write it, or passed as an argument, has a slot.
 use Rattle.std.proofs.Common.{ℕ, ◌≡◌, ◌≢◌, ◌<◌, ◌≤◌, ◌+◌, true, List, length, subst, refl, sym, inr, arith}
 use Rattle.std.specs.Prelude.{Contains, Option}
@@ -63,22 +63,22 @@ module _ (walk : WholeWalk)
   abbrev code : PlacedCode
   code = code_of (Made f) f (all_proper env f limited ok) branch ok.follow ok.end (allocs_of out)
 
-  -- what the function is walked under
+  -- the function's properties that the walk relies on
   abbrev laws : FunctionLaws
   laws = laws_of f ok.defined_once ok.follow ok.end ok.uses_defined ok.counted (all_proper env f limited ok) branch
 
-  -- between all instructions of the walk, so at its end too
+  -- the invariant between instructions holds at the walk's end
   pub at_walks_end : Between 0 last
   at_walks_end = allocs_blocks_between (kept_of (Made f) f (all_proper env f limited ok) branch) ok.follow blank begin (begin_between f begin empty fit) 0
       out.allocs
       last
       walks 0 (first_edge f ok.follow (some_block env f limited ok))
 
-  -- where vregs are at a block's beginning
+  -- where vregs are at a block's start
   abbrev pub standing : ℕ → VirtualRegister → Option Place
   standing = stand_on env f ok (allocs_of out) (slots_at last)
 
-  -- where branches leave what they define, if they define in places that are known
+  -- where branches leave what they define, if they define in known places
   pub walk_places_defs : AreListed f (allocs_of out) 0 out.allocs
       → ((j k : ℕ) → j < length f.insts → k < length (inst_at f j).operands → HasGood env last.slots f out.allocs j k) → AreTaken f
       → ((i : ℕ) → i < length f.insts → BranchDefinesInPlace (inst_at f i)) → (b : ℕ) → b < length f.blocks
@@ -93,7 +93,7 @@ module _ (walk : WholeWalk)
       b (omega arith)
       lb)
 
-  -- If the tables are safe all along the walk, and branches define in places that are known, each block carries what the laws on paths want.
+  -- If the tables are safe along the whole walk, and branches define in known places, each block carries what the lemmas on paths require.
   pub blocks_carry : out.edits ≡ listed last.edits → AreListed f (allocs_of out) 0 out.allocs → (Writes : ℕ → ℕ → VirtualRegister → ℕ → Type 0)
       → (May : ℕ → Type 0)
       → ((b : ℕ) → b < length f.blocks → (p : List Place) (s : StateValue) → AllocsBlocks f blank begin (b + 1) p s → (i : ℕ) (q : List Place)
@@ -143,7 +143,7 @@ module _ (walk : WholeWalk)
       handed_has_slot laws b lb k edge v has foreign blank begin 0 out.allocs last walks
       (omega arith)
 
-  -- as one that an instruction passes, which then doesn't define it
+  -- a vreg that an instruction passes, and therefore doesn't define, has a slot too
   pub passed_slots : (v : VirtualRegister) (i : ℕ) → PassesAt f v i → slot_in last v.number ≢ NoPlace
   passed_slots v i p = handed_slots v p.0 p.1 p.2 p.4 p.5 (λ own.
       let within : last_of (block_at f p.0) < length f.insts = last_within f ok.follow p.0 p.2 in

@@ -1,4 +1,4 @@
--- Where the branches of a whole walk leave what they define: in the registers that are named, each in its own, and else in slots.
+-- Where the branches of a whole walk leave what they define: in fixed registers, one for each, or else in slots.
 use Rattle.std.specs.Prelude.{Some, ◌||◌, ◌&&◌, slice_index_or}
 use Rattle.std.proofs.Common.{ℕ, ◌≡◌, ◌+◌, ◌<◌, ◌≤◌, ◌⊎◌, true, List, length, inl, inr, refl, sym, ap, ◌∙◌, subst, arith}
 use Rattle.std.proofs.lemmas.Bool.{cases_eq, or_right, or_left, and_from}
@@ -83,14 +83,14 @@ module _ (code : PlacedCode) where
             (walk_listed code s d lt p s first q u walk here) e (omega (arith, le, ne)) less
       ]
 
--- two definitions claim their registers at one time
+-- two definitions claim their registers at the same time
 both_late : (a b : OperandValue) → is_def a.kind ≡ true → is_def b.kind ≡ true →
     (((positions_of a).early && (positions_of b).early) || ((positions_of a).late && (positions_of b).late)) ≡ true
 both_late a b x y = or_right ((positions_of a).early && (positions_of b).early) ((positions_of a).late && (positions_of b).late)
     (and_from (positions_of a).late (positions_of b).late
     (or_left (is_def a.kind) (is_late a.position) x) (or_left (is_def b.kind) (is_late b.position) y))
 
--- a definition's place that is known before registers are chosen: a register by name, or anywhere, or in memory
+-- a definition whose place is known before registers are chosen: under `FixedReg`, `Any` or `Stack`
 in_place : (c : OperandConstraint) → IsInPlace c → ((n : ℕ) → c ≡ Limit n → ⊥) → ((r : Register) × (c ≡ FixedReg r)) ⊎ IsAnyOrStack c
 in_place Any h nay = inr (inl refl)
 in_place Reg h nay = absurd h
@@ -99,7 +99,7 @@ in_place (FixedReg r) h nay = inl (r, refl)
 in_place (Reuse n) h nay = absurd h
 in_place (Limit n) h nay = absurd (nay n refl)
 
--- Of each branch that was so allocated, if it defines in places that are known, and each operand has a good place at the walk's end.
+-- The same for each branch allocated this way, if it defines in known places and each operand has a good place at the walk's end.
 pub defs_placed : (env : MachineValue) (f : FunctionValue) → IsLimited f → IsWellFormed env f → AreTaken f → (placesf : ℕ → List Place) (final : StateValue) →
     ((i k : ℕ) → i < length f.insts → k < length (inst_at f i).operands → IsGood env final.slots (op_at (inst_at f i).operands k) (place_at (placesf i) k)) →
     ((i : ℕ) → i < length f.insts → BranchDefinesInPlace (inst_at f i)) → (e : ℕ) → e < length f.blocks →

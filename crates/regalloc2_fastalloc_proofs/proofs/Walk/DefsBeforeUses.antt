@@ -1,4 +1,4 @@
--- Definitions come before uses: what a block writes and another one uses is used in a later block, and has a location at its end.
+-- Definitions precede uses: what a block writes and another block uses is used in a later block, and has a location at the writing block's end.
 use Rattle.std.proofs.Common.{ℕ, ◌≡◌, ◌≢◌, ◌+◌, ◌<◌, ◌≤◌, inl, inr, true, List, [], length, refl, sym, ap, ◌∙◌, subst, arith}
 use Rattle.std.specs.Prelude.{slice_index_or}
 use Rattle.std.proofs.lemmas.Bool.{cases_Bool, cases_lt}
@@ -33,7 +33,7 @@ used_at f follow ends c v lc (inr p) =
     (last_of (block_at f c), omega (arith, some), omega (arith, some), inr (branch, (p.0, v, p.1, p.2, refl, refl)))
 
 module _ (f : FunctionValue) (once : DefinedOnce f) (follow : BlocksFollow f) (uses : UsesAreDefined f) where
-  -- a use comes after the definition, or at the branch that defines and passes it
+  -- a use is after the definition, or at the branch that defines and passes the vreg
   use_later : (v : VirtualRegister) (i k : ℕ) → DefinesAt f v.number i k → (c : ℕ) → c < length f.blocks → IsUsedIn f c v → (l : ℕ) × (i ≤ l)
       × ((block_at f c).range.first ≤ l) × (l < (block_at f c).range.end)
   use_later v i k d c lc (inl r) =
@@ -46,7 +46,7 @@ module _ (f : FunctionValue) (once : DefinedOnce f) (follow : BlocksFollow f) (u
       let some : (block_at f c).range.first < (block_at f c).range.end = (follow c lc).0 in
       (last_of (block_at f c), passes_later f once v.number i k c p.0 v d follow uses lc p.1 p.2 refl, omega (arith, some), omega (arith, some))
 
-  -- what is used is made
+  -- a used vreg is defined
   pub used_made : (v : VirtualRegister) (c : ℕ) → c < length f.blocks → IsUsedIn f c v → Made f v
   used_made v c lc (inl r) =
       let within = ends_within f follow c lc in
@@ -62,7 +62,7 @@ module _ (laws : FunctionLaws) (b : ℕ) (lb : b < length laws.f.blocks) (v : Vi
   open laws use {f, once, follow, ends, uses, proper, kept}
   open laws.proper use {knows}
 
-  -- what writes it
+  -- the instruction or block that writes it
   writer : (i k : ℕ) × ((block_at f b).range.first ≤ i) × (i < (block_at f b).range.end) × DefinesAt f v.number i k
   writer =
       let d = defined_from-some f v.number (block_at f b).range.first n written in
@@ -71,7 +71,7 @@ module _ (laws : FunctionLaws) (b : ℕ) (lb : b < length laws.f.blocks) (v : Vi
       let a = defines_at f v.number d.0 (omega (arith, less, within)) d.3 in
       (d.0, a.0, d.1, less, a.1)
 
-  -- what a block writes isn't unwritten there
+  -- a vreg that a block writes isn't unwritten there
   pub written_there : Made f v → IsUnwritten f b v → ⊥
   written_there made unwritten =
       let w = writer in
@@ -79,7 +79,7 @@ module _ (laws : FunctionLaws) (b : ℕ) (lb : b < length laws.f.blocks) (v : Vi
       unwritten w.0 w.2 w.3 w.1 at.operand at.definition (one_made f once (op_at (inst_at f w.0).operands w.1).vreg v
       ((knows w.0 at.inst).definition w.1 at.operand at.definition) made at.number)
 
-  -- where another block uses it, it is at this block's end
+  -- if another block uses it, it has a location at this block's end
   pub stands_behind : (c : ℕ) → c < length f.blocks → c ≢ b → IsUsedIn f c v → {blank : List Place} {begin : StateValue} → Between (length f.insts) begin →
       {places : List Place} {t : StateValue} → AllocsBlocks f blank begin (b + 1) places t → place_in t v.number ≢ NoPlace
   stands_behind c lc ne used {blank} {begin} start {places} {t} walk =
@@ -118,7 +118,7 @@ used_somewhere f v (inr p) = elim (cases_lt p.0 (length f.blocks)) [
 
 module _ (f : FunctionValue) (once : DefinedOnce f) (follow : BlocksFollow f) (uses : UsesAreDefined f) (b m : ℕ) (v : VirtualRegister)
     (takes : TakesAt f v.number b m) where
-  -- what a parameter is defined by lies behind its block's beginning
+  -- a parameter's definition is at its block's start
   defined_behind : (point : ℕ) → IsDefinedBy f v point → before (block_at f b).range.first ≤ point
   defined_behind point (inl p) =
       let is : slice_index_or (block_at f p.0).params p.3.0 no_vreg ≡ v = get_or_default (block_at f p.0).params p.3.0 no_vreg v p.3.1 ∙ p.3.2 in

@@ -1,4 +1,4 @@
--- What the walk asks of a function, and a block that it has walked.
+-- What the walk requires of a function, and a block that it has walked.
 use Rattle.std.proofs.Common.{ℕ, ◌+◌, ◌<◌, List, length}
 use Rattle.regalloc2_names.specs.Register.{VirtualRegister}
 use Rattle.regalloc2_names.specs.Place.{Place}
@@ -22,13 +22,13 @@ pub record FunctionLaws : Type 0 where
   pub proper : ProperInsts (Made f) f
   pub kept : BranchKept f
 
--- those, of their parts
+-- the record, built from its parts
 abbrev pub laws_of : (f : FunctionValue) → DefinedOnce f → BlocksFollow f → BlocksEnd f → UsesAreDefined f → ArgumentsCounted f → ProperInsts (Made f) f →
     BranchKept f → FunctionLaws
 laws_of f once follow ends uses counted proper kept =
     record { f = f; once = once; follow = follow; ends = ends; uses = uses; counted = counted; proper = proper; kept = kept }
 
--- A function and the places of its operands. Known: the vregs that are spoken of. Its instructions are proper, branches keep what holds between instructions,
+-- A function and the places of its operands. Known: the known vregs. Its instructions are proper, branches keep what holds between instructions,
 -- and blocks follow one another and end in a branch or a return.
 pub record PlacedCode : Type 1 where
   pub Known : VirtualRegister → Type 0
@@ -39,14 +39,14 @@ pub record PlacedCode : Type 1 where
   pub ends : BlocksEnd f
   pub placesf : ℕ → List Place
 
--- those, of their parts
+-- the record, built from its parts
 abbrev pub code_of : (Known : VirtualRegister → Type 0) (f : FunctionValue) → ProperInsts Known f → BranchKept f → BlocksFollow f → BlocksEnd f →
     (ℕ → List Place) → PlacedCode
 code_of Known f proper kept follow ends placesf =
     record { Known = Known; f = f; proper = proper; kept = kept; follow = follow; ends = ends; placesf = placesf }
 
--- A block in the walk from the tables begin: p and s are the places and the tables behind it, q and u those before its first instruction, and w the tables
--- once it has begun.
+-- A block in the walk from the tables begin: p and s are the places and the tables after it, q and u those before its first instruction, and w the tables
+-- at its start.
 pub record BlockInWalk (f : FunctionValue) (blank : List Place) (begin : StateValue) : Type 0 where
   pub b : ℕ
   pub lb : b < length f.blocks

@@ -1,4 +1,4 @@
--- One instruction of a block, for one vreg, as the law of a block that is walked from its end wants it.
+-- One instruction of a block, for one vreg, as the lemma on a block that is walked from its end requires.
 use Rattle.std.proofs.Common.{ℕ, ◌≡◌, ◌⊎◌, inl, inr, Bool, true, false, List, refl, sym, ap, subst, arith}
 use Rattle.std.specs.Prelude.{Option, None, Some, is_some}
 use Rattle.regalloc2_names.specs.Register.{VirtualRegister}
@@ -18,7 +18,7 @@ use Rattle.regalloc2_fastalloc_proofs.proofs.Operands.RecordOverState.{stands_at
 use Rattle.regalloc2_fastalloc_proofs.proofs.Operands.DefinedNumbers.{defined_by, defined_by-at}
 use Rattle.regalloc2_fastalloc_proofs.proofs.Inst.OneInstCarries.{Needed}
 
--- what is needed, by where it is and by its slot
+-- the places where a vreg is needed: its location and its slot
 pub needed_parts : (out : ℕ → Bool) (t : StateValue) (v : VirtualRegister) (p : Place) → Needed out t v p → (stands_at t v.number ≡ Some p)
     ⊎ ((out v.number ≡ false) × (slots_at t v.number ≡ Some p))
 needed_parts out t v p (located lives at) = inl at
@@ -36,19 +36,19 @@ module _ (f : FunctionValue) (placesf : ℕ → List Place) (F : ℕ → Option 
   abbrev pub step_at : ℕ → StateValue → List Item
   step_at i t = walked (inst_at f) (at_point (listed t.edits)) placesf i 1
 
-  -- The instruction leaves a slot that comes now or later to its own vreg: what of v the law wants beside the law of the instruction itself.
+  -- The instruction leaves a slot, made so far or later, to its own vreg: what the lemma requires of v in addition to the instruction's own lemma.
   pub record Leaves (v : VirtualRegister) (i : ℕ) (old new : StateValue) : Type 0 where
     pub stays : (p : Place) → slots_at old v.number ≡ Some p → F v.number ≡ Some p
     pub keeps : (s : Place) → defined_by (inst_at f i).operands v.number ≡ false → slots_at old v.number ≡ None → F v.number ≡ Some s →
         Keeps (inst_at f i).operands (placesf i) (inst_at f i).clobbers (at_point (listed new.edits) (before i)) (at_point (listed new.edits) (after i)) v s
 
-  -- a vreg that isn't defined by number isn't by name
+  -- a vreg whose number isn't defined isn't defined
   pub undefined_by : (v : VirtualRegister) (i : ℕ) → defined_by (inst_at f i).operands v.number ≡ false → Undefined (inst_at f i).operands v
   undefined_by v i h j lt d e =
       let y : defined_by (inst_at f i).operands v.number ≡ true = subst (λ (w : VirtualRegister). defined_by (inst_at f i).operands w.number ≡ true) e
       (defined_by-at (inst_at f i).operands j lt d) in cc
 
-  -- an instruction that carries a vreg as it has to, and leaves its slot alone, obeys the law of one step of a block for that vreg
+  -- an instruction that carries a vreg as required, and leaves its slot alone, satisfies the premise on one step of a block for that vreg
   pub step_of : (v : VirtualRegister) (i : ℕ) (old new : StateValue) (later : Bool) →
       Carries v (step_at i new) (Needed (defined_by (inst_at f i).operands) new v) (Needed (λ x. false) old v) →
       (defined_by (inst_at f i).operands v.number ≡ true → stands_at new v.number ≡ None) →

@@ -18,7 +18,7 @@ use Rattle.regalloc2_fastalloc_proofs.proofs.Inst.OneInstCarries.{Between, Alone
 use Rattle.regalloc2_fastalloc_proofs.proofs.Walk.InstForOneVReg.{step_at, Leaves, step_of}
 use Rattle.regalloc2_fastalloc_proofs.proofs.Inst.ProperInsts.{ProperCode}
 
--- whether an instruction defines the number, of so many from one on
+-- whether one of n instructions, from a given one on, defines the number
 unfoldable pub defined_from : FunctionValue → ℕ → ℕ → ℕ → Bool
 defined_from f x i zero = false
 defined_from f x i (suc n) = defined_by (inst_at f i).operands x || defined_from f x (i + 1) n
@@ -28,7 +28,7 @@ pub defined_from-more : (f : FunctionValue) (x i n : ℕ) → defined_from f x i
 unfolding defined_from
 defined_from-more f x i n = refl
 
--- Instructions are allocated, from the one before stop down to i, none before first; L holds of each with the tables behind it and before it.
+-- Instructions are allocated, from the one before stop down to i, none before first; L holds of each with the tables after and before it.
 pub data Goes (f : FunctionValue) (placesf : ℕ → List Place) (L : ℕ → StateValue → StateValue → Type 0) (begin : StateValue) (first stop : ℕ) : ℕ → StateValue
     → Type 0 where
   stopped : Goes f placesf L begin first stop stop begin
@@ -36,8 +36,8 @@ pub data Goes (f : FunctionValue) (placesf : ℕ → List Place) (L : ℕ → St
       → ((k : ℕ) → k < length (inst_at f i).operands → place_at (placesf i) k ≡ slice_index_or here k NoPlace) → AllocsInst i (inst_at f i) blank here t u →
       L i t u → Goes f placesf L begin first stop i u
 
--- What is asked of such instructions for one vreg v, with m more behind stop, where v is needed in E. F: the slots at the walk's end; block: whether the block
--- writes v. None of them is a return; they don't define v where the block doesn't write it, leave its slot, and don't read it before its definition.
+-- What is required of such instructions for one vreg v, with m more after stop; v is needed in E then. F: the slots at the walk's end; block: whether the block
+-- writes v. None of them is a return; they don't define v if the block doesn't write it, leave its slot alone, and don't read it before its definition.
 pub record VRegGoes (code : ProperCode) (L : ℕ → StateValue → StateValue → Type 0) (first stop : ℕ) : Type 1 where
   pub F : ℕ → Option Place
   pub v : VirtualRegister
@@ -60,7 +60,7 @@ module _ (code : ProperCode) (L : ℕ → StateValue → StateValue → Type 0) 
   goes_between i t (one_more j s u blank here ge lt prev at a l) =
       (alone code j blank here s t (omega (arith, within)) at (goes_between (j + 1) s prev) a).between
 
-  -- the law of one of them
+  -- the lemma for one of these instructions
   pub goes_alone : (i : ℕ) (t u : StateValue) (blank here : List Place) → i < stop → Goes f placesf L begin first stop (i + 1) t
       → ((k : ℕ) → k < length (inst_at f i).operands → place_at (placesf i) k ≡ slice_index_or here k NoPlace) → AllocsInst i (inst_at f i) blank here t u →
       Alone code i t u
@@ -93,7 +93,7 @@ module _ (code : ProperCode) (L : ℕ → StateValue → StateValue → Type 0) 
         (stands_at u v.number) (slots_at u v.number) (stands_at t v.number) (slots_at t v.number) (F v.number) E
         (writes i ge lt) k c))
 
-    -- if each instruction carries what the law wants, the listing from any of them to the block's last one does
+    -- if each instruction carries what its lemma says, the listing from any of them to the block's last one does
     pub goes_carried : CarriedFrom stop m begin → (i : ℕ) (t : StateValue) → Goes f placesf L begin first stop i t → (n : ℕ) → i + n ≡ stop + m
         → CarriedFrom i n t
     goes_carried base i t stopped n e = (let same : m ≡ n = omega arith in subst (λ k. CarriedFrom stop k begin) same base)

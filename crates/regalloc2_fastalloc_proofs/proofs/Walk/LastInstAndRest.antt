@@ -1,5 +1,5 @@
 -- The instructions of a block in the walk: its last one, and those before it, which are no branches and no returns.
--- The fold in `Changes` doesn't fit: what holds depends on how far the walk is.
+-- The fold in `Changes` doesn't apply: what holds depends on how far the walk is.
 use Rattle.std.proofs.Common.{ℕ, ◌≡◌, ◌+◌, ◌<◌, ◌≤◌, inl, inr, false, List, length, sym, ◌∙◌, subst, arith}
 use Rattle.std.specs.Prelude.{Some, slice_index_or}
 use Rattle.std.proofs.lemmas.Bool.{cases_eq}
@@ -25,7 +25,7 @@ use Rattle.regalloc2_fastalloc_proofs.proofs.Walk.FunctionLaws.{PlacedCode}
 use Rattle.regalloc2_fastalloc_proofs.proofs.Safety.BlocksKeepSafe.{block_start}
 use Rattle.regalloc2_fastalloc_proofs.proofs.Changes.WalkChanges.{allocs_inst_in_block_changes, any_inst}
 
--- The last instruction of a block, with the tables behind it and before it, and the instructions before it; the walk goes on from there to its end.
+-- The last instruction of a block, with the tables after and before it, and the instructions before it; the walk continues from there to its end.
 pub record Split (f : FunctionValue) (placesf : ℕ → List Place) (L : ℕ → StateValue → StateValue → Type 0) (final : StateValue) (b last : ℕ) (old : StateValue)
     (i : ℕ) (t : StateValue) : Type 0 where
   pub begin : StateValue
@@ -48,7 +48,7 @@ module _ (code : PlacedCode) (final : StateValue) where
     within : (i : ℕ) → i < (block_at f b).range.end → i < length f.insts
     within i less = (let h = ends_within f follow b lb in omega (arith, less, h))
 
-    -- where the places of all instructions from i on are listed, those of the instructions behind the block were listed before its walk
+    -- if the places of all instructions from i on are listed, those of the instructions after the block were listed before its walk
     pub walk_listed : (i : ℕ) (places : List Place) (t : StateValue) → AllocsBlockInsts f b blank old i places t → AreListed f placesf i places →
         AreListed f placesf (block_at f b).range.end blank
     walk_listed i places t at_end = λ h. h
@@ -97,7 +97,7 @@ module _ (code : PlacedCode) (final : StateValue) where
                 })
           ]
 
-  -- Each instruction but a block's last one leaves a slot of the walk's end to its own vreg, with the moves that were pushed so far, where the tables are
+  -- Each instruction but a block's last one leaves each slot at the walk's end to its own vreg, with the moves pushed so far, if the tables are
   -- safe.
   abbrev pub KeepsSlots : (ℕ → StateValue → Type 0) → Type 0
   KeepsSlots SafeIn = (b i : ℕ) → b < length f.blocks → (block_at f b).range.first ≤ i → i < last_of (block_at f b) → (u : StateValue) → SafeIn b u →
@@ -106,7 +106,7 @@ module _ (code : PlacedCode) (final : StateValue) where
       Keeps (inst_at f i).operands (placesf i) (inst_at f i).clobbers
       (at_point (listed u.edits) (before i)) (at_point (listed u.edits) (after i)) v s
 
-  -- an instruction before its block's last one leaves a vreg's final slot to that vreg, as the law for one vreg wants it
+  -- an instruction before its block's last one leaves a vreg's final slot to that vreg, as the lemma for one vreg requires
   pub leaves_at : (SafeIn : ℕ → StateValue → Type 0) → KeepsSlots SafeIn → (b i : ℕ) (s u : StateValue) → b < length f.blocks →
       (block_at f b).range.first ≤ i → i < last_of (block_at f b) → SafeIn b u →
       Grown AnyPlace s final → Grown AnyPlace u final → (v : VirtualRegister) → Known v → Leaves f placesf (slots_at final) v i s u

@@ -1,4 +1,4 @@
--- The walk over a well-formed function, from a fresh state to the output: its operands are in the tables, and each use finds what the function wrote.
+-- The walk over a well-formed function, from a fresh state to the output: its operands are in the tables.
 use Rattle.std.proofs.Common.{ℕ, ◌≡◌, ◌<◌, Bool, true, List, [], ◌∷◌, length, sym, ap, ◌∙◌, subst, inl, inr, ◌⊎◌}
 use Rattle.std.specs.Prelude.{None}
 use Rattle.regalloc2_names.specs.declared.RegClass.{RegClass}
@@ -36,20 +36,20 @@ fresh_blank t n sizes by_last places slots none units = record {
   no_move = none;
 }
 
--- a slot of each class takes some units
+-- a slot of each class has at least one unit
 pub some_units : (n : ℕ) (int float vector : ℕ) (by_last : Bool) → 0 < int → 0 < float → 0 < vector → (c : RegClass) →
     0 < units_of (no_slots n (int ∷ float ∷ vector ∷ []) by_last) c
 some_units n int float vector by_last a b c Int = a
 some_units n int float vector by_last a b c Float = b
 some_units n int float vector by_last a b c Vector = c
 
--- the registers of a fresh state fit, where they are those of a machine that suits the function
+-- the registers of a fresh state fit, if they are those of a machine that fits the function
 pub fresh_fit : (f : FunctionValue) (env : MachineValue) (t : StateValue) → MachineFits f env → HasMachine env t →
     ((r : Register) → (has_register t.allocatable r ≡ true) ⊎ (has_register t.fixed_stack r ≡ true) → r.number < 64) → Fit t
 fresh_fit f env t fits m small = machine_fit f env t fits small m.allocatable m.fixed_stack m.dedicated_scratch
 
 module _ (env : MachineValue) (f : FunctionValue) (limited : IsLimited f) (ok : IsWellFormed env f) where
-  -- each operand that reads or defines names a vreg of the tables
+  -- each operand that reads or defines names a vreg in the tables
   pub all_in_tables : (t : StateValue) → DefinesBelow f (length t.places.vreg_allocs) → (i : ℕ) → i < length f.insts → InTables (inst_at f i).operands t
   all_in_tables t below i lt k less able =
       let w : Knows (Made f) (inst_at f i).operands = knows env f limited ok i lt in

@@ -10,7 +10,7 @@ use Rattle.regalloc2_fastalloc_proofs.specs.BlockSteps.{AllocsBlocks}
 use Rattle.regalloc2_fastalloc_proofs.proofs.Moves.ScratchRegTaken.{Fit}
 use Rattle.regalloc2_fastalloc_proofs.proofs.Walk.InstsCarry.{Blank}
 
--- A walk over all blocks of a well-formed function, from a fresh state and the list of places as it is then to the last state and the output's list.
+-- A walk over all blocks of a well-formed function, from a fresh state and its list of places to the final state and the output's list.
 pub record WholeWalk : Type 0 where
   pub env : MachineValue
   pub f : FunctionValue
@@ -24,7 +24,7 @@ pub record WholeWalk : Type 0 where
   pub fit : Fit begin
   pub walks : AllocsBlocks f blank begin 0 out.allocs last
 
--- such a walk, of its parts
+-- the record, built from its parts
 abbrev pub whole_walk : (env : MachineValue) (f : FunctionValue) → IsLimited f → IsWellFormed env f → (blank : List Place) (begin last : StateValue)
     (out : OutputValue) → Blank begin → Fit begin → AllocsBlocks f blank begin 0 out.allocs last → WholeWalk
 whole_walk env f limited ok blank begin last out empty fit walks = record {

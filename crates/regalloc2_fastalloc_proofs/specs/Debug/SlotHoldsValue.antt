@@ -1,4 +1,4 @@
--- What an output does with the slot of one vreg, from which it follows that the slot shows its value.
+-- How an output uses the slot of one vreg; it follows that the slot holds the vreg's value.
 use Rattle.std.specs.Prelude.{ℕ, ◌≡◌, ◌+◌, ◌<◌, ◌⊎◌, false, true, List, ◌∷◌, length}
 use Rattle.regalloc2_names.specs.Register.{VirtualRegister}
 use Rattle.regalloc2_names.specs.Place.{Place}
@@ -20,16 +20,16 @@ pub record ReadsInPlace (f : FunctionValue) (out : OutputValue) (v : VirtualRegi
   pub vreg : (op_at (inst_at f i).operands k).vreg ≡ v
   pub place : place_at (allocs_of out i) k ≡ p
 
--- before the last step of a path, once its moves have run, the place has v's last write
+-- before the last step of a path, once its moves have run, the place holds v's last write
 abbrev pub ShowsAt : FunctionValue → OutputValue → VirtualRegister → Place → List Way → Type 0
 ShowsAt f out v p ws = after_moves (moves_at f out (end_of f ws)) (cells_before f out ws) p ≡ source_before f ws v
 
--- What an output owes to the slot of v:
---     entered   where a path comes to a block at which v is live, once the moves before its first instruction have run, the slot holds its value, if
---               that is no branch and doesn't define v
---     defined   behind a definition of v, once the moves before the next instruction have run, the slot holds its value, if v is live there and it is no branch
+-- What an output guarantees of the slot of v:
+--     entered   where a path enters a block with v live, once the moves before its first instruction have run, the slot holds v's value, if
+--               that instruction is no branch and doesn't define v
+--     defined   after a definition of v, once the moves before the next instruction have run, the slot holds v's value, if v is live and it is no branch
 --     written   no move before any other instruction of a block writes the slot, unless the instruction reads v there, or is a branch
---     spared    an instruction that doesn't define v writes no such place
+--     spared    an instruction that doesn't define v doesn't write the slot
 pub record IsKeptInSlot (f : FunctionValue) (out : OutputValue) (v : VirtualRegister) (p : Place) : Type 0 where
   pub entered : (ws : List Way) → IsPath f ws → HasEntered f ws → IsLive f v (end_of f ws) → Undefined (inst_at f (end_of f ws).inst).operands v →
       (inst_at f (end_of f ws).inst).is_branch ≡ false → ShowsAt f out v p ws

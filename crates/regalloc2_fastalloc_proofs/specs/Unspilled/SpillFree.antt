@@ -1,4 +1,4 @@
--- A block in which each vreg has a register of its own: what holds all along the walk.
+-- A block in which each vreg has a register of its own: the invariant of the walk.
 use Rattle.std.specs.Prelude.{ℕ, ◌≡◌, ◌≢◌, ◌<◌, ◌≤◌, ◌⊎◌, Bool, true, false, List, [], ◌++◌, All, Contains, length, nat_eq, slice_index_or}
 use Rattle.std.specs.List.{IsDistinct}
 use Rattle.regalloc2_names.specs.declared.RegClass.{RegClass}
@@ -21,13 +21,13 @@ use Rattle.regalloc2_fastalloc_proofs.specs.Safety.{IsWhole}
 abbrev pub is_same_number : VirtualRegister → VirtualRegister → Bool
 is_same_number v w = nat_eq v.number w.number
 
--- of the listed vregs each class has no more than allocatable registers
+-- of each class no more vregs are listed than registers are allocatable
 abbrev pub FitInRegs : List VirtualRegister → PRegSet → Type 0
 FitInRegs names allocatable = (class : RegClass) (vs : List VirtualRegister) → IsDistinct is_same_number vs → All (λ v. (v.class ≡ class) × Contains names v) vs
     → length vs ≤ count_below (λ n. has_register allocatable (register_number class n)) 64
 
--- Of one class: the registers that were used, which are no more than the vregs that were met, and then those that weren't, which are free
--- and in which no vreg is located. A vreg that was met has a location, unless its definition was met.
+-- Of one class: the used registers, which are no more than the vregs seen so far, and then the unused registers, which are free
+-- and hold no vreg. A vreg seen so far has a location, unless its definition was seen.
 pub record IsSpillFreeIn (names : List VirtualRegister) (gone : ℕ → Bool) (class : RegClass) (order : List Register) (t : StateValue)
     (inst_regs : InstRegs) : Type 0 where
   pub used : List Register
@@ -41,7 +41,7 @@ pub record IsSpillFreeIn (names : List VirtualRegister) (gone : ℕ → Bool) (c
   pub empty : (n : ℕ) (r : Register) → alloc_of t.places n ≡ InRegister r → Contains unused r → ⊥
   pub free : (r : Register) → Contains unused r → is_free_throughout inst_regs r ≡ true
 
--- no move was made and no slot; each vreg that has a location is in an allocatable register, and none whose definition was met; each class is as above
+-- no move and no slot was made; each vreg with a location is in an allocatable register, and its definition wasn't seen; each class is as above
 pub record IsSpillFree (names : List VirtualRegister) (gone : ℕ → Bool) (t : StateValue) (inst_regs : InstRegs) : Type 0 where
   pub no_moves : t.edits ≡ []
   pub no_slots : (n : ℕ) → slot_name t.slots n ≡ NoPlace
@@ -54,7 +54,7 @@ pub record IsSpillFree (names : List VirtualRegister) (gone : ℕ → Bool) (t :
   pub nowhere : (n : ℕ) → gone n ≡ true → alloc_of t.places n ≡ NoPlace
   pub each : (class : RegClass) → IsSpillFreeIn names gone class (order_of t class) t inst_regs
 
--- an instruction whose operands of a position are under `Reg` and name listed vregs, of which none was defined by then; those that it defines are named once
+-- an instruction whose operands of a position are under `Reg` and name listed vregs, none defined so far; those that it defines are named once
 pub record ArePlain (names : List VirtualRegister) (gone : ℕ → Bool) (operands : List OperandValue) (late : Bool) : Type 0 where
   pub under_reg : (k : ℕ) → k < length operands → (op_at operands k).constraint ≡ Reg
   pub named : (k : ℕ) → k < length operands → Contains names (op_at operands k).vreg
@@ -86,7 +86,7 @@ pub record ArePlaced (names : List VirtualRegister) (gone : ℕ → Bool) (opera
 abbrev pub IsDefinedByOperand : List OperandValue → ℕ → Type 0
 IsDefinedByOperand operands n = (k : ℕ) × (k < length operands) × (is_def (op_at operands k).kind ≡ true) × ((op_at operands k).vreg.number ≡ n)
 
--- an instruction was allocated so, and those before it may be
+-- an instruction was allocated without a spill, and the ones before it may be
 pub record LeavesSpillFree (names : List VirtualRegister) (gone : ℕ → Bool) (operands : List OperandValue) (t : StateValue) : Type 0 where
   pub gone_now : ℕ → Bool
   pub only : (n : ℕ) → gone_now n ≡ true → (gone n ≡ true) ⊎ IsDefinedByOperand operands n
@@ -95,7 +95,7 @@ pub record LeavesSpillFree (names : List VirtualRegister) (gone : ℕ → Bool) 
   pub inst_regs : InstRegs
   pub spill_free : IsSpillFree names gone_now t inst_regs
 
--- a function of one block whose instructions ask for registers alone, clobber none, and name listed vregs
+-- a function of one block whose instructions require only registers, clobber none, and name listed vregs
 pub record HasRegOperandsOnly (names : List VirtualRegister) (f : FunctionValue) : Type 0 where
   pub one_block : length f.blocks ≡ 1
   pub under_reg : (i k : ℕ) → i < length f.insts → k < length (inst_at f i).operands → (op_at (inst_at f i).operands k).constraint ≡ Reg
@@ -104,7 +104,7 @@ pub record HasRegOperandsOnly (names : List VirtualRegister) (f : FunctionValue)
       × ((op_at (inst_at f i).operands k).vreg ≡ v)
   pub no_clobbers : (i : ℕ) (r : Register) → i < length f.insts → has_register (inst_at f i).clobbers r ≡ false
 
--- its instructions from one on were walked
+-- the walk has allocated its instructions from one on
 pub record IsSpillFreeFrom (names : List VirtualRegister) (f : FunctionValue) (i : ℕ) (t : StateValue) : Type 0 where
   pub gone : ℕ → Bool
   pub only : (n : ℕ) → gone n ≡ true → (j : ℕ) × (i ≤ j) × (j < length f.insts) × IsDefinedByOperand (inst_at f j).operands n
