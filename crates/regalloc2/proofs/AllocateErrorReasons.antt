@@ -15,7 +15,7 @@ reason_told f env (Refused r) fits h = (fits, h)
 reason_told f env (Faults es) fits h = (fits, h)
 reason_told f env Unjudged fits h = (fits, h)
 
--- where a checked run's error isn't that the checker found faults, neither is the error that `allocate` makes of it
+-- where a checked run's error isn't that the checker found errors, neither is the error that `allocate` makes of it
 pub fault_told : {A : Type 0} (e : CheckedRunError A) → (IsFault e → ⊥) → IsAllocateFault (allocate_error e) → ⊥
 fault_told (Refused r) h = h
 fault_told (Faults es) h = h

@@ -1,4 +1,4 @@
--- What the checker's errors come to.
+-- What the checker's errors mean for a checked run.
 use Rattle.std.proofs.Common.{◌≡◌, List, [], ◌∷◌, inl, inr, subst}
 use Rattle.std.specs.Prelude.{◌⊎◌, Bool}
 use Rattle.regalloc2_function.specs.FunctionValue.{FunctionValue}
@@ -16,11 +16,11 @@ use Rattle.regalloc2.specs.declared.checked.CheckedRunError.{CheckedRunError}
 use Rattle.regalloc2.specs.declared.checked.CheckedRunError.TheVariants.{Faults, Unjudged}
 use Rattle.regalloc2.specs.Judged.{IsCheckedReason, IsFault}
 
--- what is said of an output that isn't accepted
+-- the error of an output that isn't accepted
 abbrev pub IsFound : {A : Type 0} → FunctionValue → MachineValue → OutputValue → CheckedRunError A → Type 0
 IsFound {A} f env out e = (e ≡ Unjudged) ⊎ ((es : CheckerErrors A) × (e ≡ Faults es) × (IsFaithful f env out → ⊥) × IsReport f env out (errors_of es))
 
--- an output's errors, told
+-- an output's errors, as a checked run reports them
 pub told : {A : Type 0} (f : FunctionValue) (env : MachineValue) (out : OutputValue) (es : CheckerErrors A) (e : CheckedRunError A) →
     (errors_of es ≡ Memory ∷ []) ⊎ ((IsFaithful f env out → ⊥) × IsReport f env out (errors_of es)) →
     ((errors_of es ≡ Memory ∷ []) × (e ≡ Unjudged)) ⊎ ((errors_of es ≡ Memory ∷ [] → ⊥) × (e ≡ Faults es)) → IsFound f env out e
@@ -34,7 +34,7 @@ pub reason : {A : Type 0} (f : FunctionValue) (env : MachineValue) (asked : Bool
 reason f env asked out e made owed (inl h) = rw h owed
 reason f env asked out e made owed (inr h) = rw h.1 (out, made, owed, h.2, h.3)
 
--- what the checker finds of a function and a machine it finds of the same under other names
+-- what the checker finds for a function and a machine it finds for equal ones
 pub same_found : {F A : Type 0} (value : F → FunctionValue) (x y : F) (m n : MachineValue) (out : OutputValue) (es : List (CheckerError A)) → x ≡ y → m ≡ n →
     (es ≡ Memory ∷ []) ⊎ ((IsFaithful (value x) m out → ⊥) × IsReport (value x) m out es) → (es ≡ Memory ∷ [])
     ⊎ ((IsFaithful (value y) n out → ⊥) × IsReport (value y) n out es)
@@ -42,7 +42,7 @@ same_found {F = F} value x y m n out es p q h =
     subst (λ (z : F). (es ≡ Memory ∷ []) ⊎ ((IsFaithful (value z) n out → ⊥) × IsReport (value z) n out es)) p
     (subst (λ (k : MachineValue). (es ≡ Memory ∷ []) ⊎ ((IsFaithful (value x) k out → ⊥) × IsReport (value x) k out es)) q h)
 
--- of a faithful output no fault is found
+-- in a faithful output no error is found
 pub no_fault : {A : Type 0} (f : FunctionValue) (env : MachineValue) (out : OutputValue) (e : CheckedRunError A) → IsFaithful f env out → IsFound f env out e →
     IsFault e → ⊥
 no_fault f env out e faithful (inl h) fault = rw h at fault

@@ -1,4 +1,4 @@
--- What binds the allocator to the checker: the checker accepts every output that the allocator promises.
+-- What binds the allocator to the checker: the checker accepts every output that the allocator guarantees.
 use Rattle.std.specs.Prelude.{◌≡◌, List, []}
 use Rattle.regalloc2_function.specs.FunctionValue.{FunctionValue}
 use Rattle.regalloc2_function.specs.Machine.{MachineValue}
@@ -10,7 +10,7 @@ use Rattle.regalloc2_fastalloc.specs.Promise.{RunsAsTheFunction}
 use Rattle.regalloc2_checker.specs.declared.errors.CheckerError.{CheckerError}
 use Rattle.regalloc2_checker.specs.Report.{IsReport}
 
--- what `run` promises of an output, of which the checker asks
+-- what `run` guarantees of an output, as far as the checker requires it
 pub record IsPromised (f : FunctionValue) (env : MachineValue) (out : OutputValue) : Type 0 where
   pub in_order : IsInOrder f out
   pub runs : IsWrittenFirst f → RunsAsTheFunction f env out
@@ -21,7 +21,7 @@ pub record IsAccepted (A : Type 0) (f : FunctionValue) (env : MachineValue) (out
   pub faithful : IsFaithful f env out
   pub no_errors : (es : List (CheckerError A)) → IsReport f env out es → es ≡ []
 
--- of a well-formed function in which no path reads before writing, what is promised is accepted
+-- of a well-formed function in which no path reads before writing, what is guaranteed is accepted
 abbrev pub PromisedIsAccepted : Type 0 → Type 0
 PromisedIsAccepted A = (f : FunctionValue) (env : MachineValue) (out : OutputValue) → IsWellFormed env f → IsWrittenFirst f → IsPromised f env out →
     IsAccepted A f env out

@@ -1,4 +1,4 @@
--- Why `allocate` gives no output. That the machine fits the function is tested first; what follows is a checked run's.
+-- Why `allocate` returns no output. Whether the machine fits the function is tested first; what follows is a checked run's.
 use Rattle.std.specs.Prelude.{true}
 use Rattle.regalloc2_function.specs.FunctionValue.{FunctionValue}
 use Rattle.regalloc2_function.specs.Machine.{MachineValue}
@@ -20,7 +20,7 @@ allocate_error (RunRefused r) = Refused r
 allocate_error (RunFaults es) = Faults es
 allocate_error RunUnjudged = Unjudged
 
--- the checker found faults
+-- the checker found errors
 abbrev pub IsAllocateFault : {A : Type 0} → AllocateError A → Type 0
 IsAllocateFault (Misfit m) = ⊥
 IsAllocateFault (Refused r) = ⊥
@@ -34,15 +34,15 @@ IsAllocateReason f env (Refused r) = MachineFits f env × IsReason f env true r
 IsAllocateReason f env (Faults es) = MachineFits f env × IsCheckedReason f env true (RunFaults es)
 IsAllocateReason f env Unjudged = MachineFits f env × PassesAllChecks f env true
 
--- the same where no checker is behind
+-- the same without the checker
 abbrev pub IsTestedReason : {A : Type 0} → FunctionValue → MachineValue → AllocateError A → Type 0
 IsTestedReason f env (Misfit m) = IsMisfit f env m × (MachineFits f env → ⊥)
 IsTestedReason f env (Refused r) = MachineFits f env × IsReason f env true r
 IsTestedReason f env (Faults es) = ⊥
 IsTestedReason f env Unjudged = ⊥
 
--- why a run that tests everything gives no output: where no condition of a fitting machine fails, what a run says of the function, and last
--- that some path reads or passes a vreg before writing it
+-- why a run that tests everything returns no output: where no condition of a fitting machine fails, what a run says of the function, and last that some path
+-- reads or passes a vreg before writing it
 abbrev pub IsTestedRunReason : FunctionValue → MachineValue → TestedRunError → Type 0
 IsTestedRunReason f env (RunMisfit m) = IsMisfit f env m × (MachineFits f env → ⊥)
 IsTestedRunReason f env (TestRefused r) = MachineFits f env × IsReason f env true r

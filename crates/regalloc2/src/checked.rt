@@ -1,4 +1,4 @@
-//! Allocating with the checker behind.
+//! Allocating, with the checker run on the output.
 
 ghost use Rattle.std.specs.Prelude.{◌≡◌, ◌⊎◌, ◌∷◌, [], false, IfErr, IfOk, OnOk};
 ghost use Rattle.regalloc2_function.specs.Views.{machine_of, output_of};
@@ -21,12 +21,12 @@ use std::alloc::{Allocator, Global};
 use std::error::Error;
 use std::fmt;
 
-/// Why a run that is checked gives no output.
+/// Why a checked run returns no output.
 #[derive(Debug, Drop)]
 pub enum CheckedRunError<A: Allocator = Global> {
     /// Why nothing was allocated: what `run` says of the function.
     Refused(RegAllocError),
-    /// The checker found these faults in what was allocated.
+    /// The checker found these errors in what was allocated.
     Faults(CheckerErrors<A>),
     /// The checker ran out of memory.
     Unjudged,
@@ -57,7 +57,7 @@ fn error_of<A: Allocator>(errors: CheckerErrors<A>) -> CheckedRunError<A>
     }
 }
 
-/// Has the checker judge an output that is in order.
+/// Has the checker check an output that is well-ordered.
 fn judge<A: Allocator + Copy, F: Function, B: Allocator>(
     alloc: A,
     f: &F,
@@ -83,11 +83,13 @@ fn judge<A: Allocator + Copy, F: Function, B: Allocator>(
     }
 }
 
-/// Allocates registers to a function as [`run`] does, and gives the output only where the checker accepts it.
+/// Allocates registers to a function as [`run`] does, and returns the output only where the checker
+/// accepts it.
 ///
-/// The conditions are those of `run`, and so is all that is said of the output; besides, it is faithful, whether or not a path
-/// reads a vreg before writing it. If none does, the checker finds no fault, so the only error that it adds is
-/// `Unjudged`. The faults of an error are those of an output of which `run` promises what it always does.
+/// The preconditions are those of `run`, and so are the guarantees about the output. Besides, the
+/// output is faithful, whether or not a path reads a vreg before writing it. If none does, the
+/// checker finds no error, so the only error that it adds is `Unjudged`. `Faults` holds the errors
+/// of an output with all that `run` guarantees of its outputs.
 pub fn run_checked<A: Allocator + Copy, F: Function, B: Allocator>(
     alloc: A,
     f: &F,

@@ -1,12 +1,14 @@
 //! Register allocation: the fast allocator, with the names, functions and tests that its clients use, under the paths
 //! of the crate `regalloc2`.
 //!
-//! A client describes its function by an implementation of [`Function`] and its machine by a [`MachineEnv`], calls
-//! [`allocate`], and reads the [`Output`]. That call has no conditions: it tests the machine and the function, and the checker
-//! accepts what it gives. [`run_tested`] has none either: it tests that no path reads before writing, and then its output needs
-//! no checker. [`allocate_without_checker`] makes neither test. [`run`] and [`run_checked`] make no test of the machine, which
-//! their caller proves to fit; a [`checker::Checker`] judges any output. What each item promises is said where it is declared,
-//! in words of this crate's `specs`, which passes on those of the crates below.
+//! A client describes its function by an implementation of [`Function`] and its machine by a
+//! [`MachineEnv`], calls [`allocate`], and reads the [`Output`]. [`allocate`] has no preconditions:
+//! it tests the machine and the function, and returns only an output that the checker accepts.
+//! [`run_tested`] has no preconditions: it also tests that no path reads before writing, and then
+//! its output needs no checker. [`allocate_without_checker`] tests the machine and the function,
+//! and skips the checker. [`run`] and [`run_checked`] don't test the machine, which their caller
+//! proves to fit; a [`checker::Checker`] checks any output. Each item's guarantees are in its own
+//! documentation, in terms of this crate's `specs`, which passes on those of the crates below.
 #![tactic(auto)]
 
 mod checked;

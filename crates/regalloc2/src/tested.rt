@@ -23,11 +23,11 @@ use std::fmt;
 /// Why no registers were allocated.
 #[derive(Debug, Drop)]
 pub enum AllocateError<A: Allocator = Global> {
-    /// The machine doesn't suit the function.
+    /// The machine doesn't fit the function.
     Misfit(MachineMisfit),
     /// A test of the function failed, or registers, slots or memory ran out.
     Refused(RegAllocError),
-    /// The checker found these faults in what was allocated.
+    /// The checker found these errors in what was allocated.
     Faults(CheckerErrors<A>),
     /// The checker ran out of memory.
     Unjudged,
@@ -50,10 +50,10 @@ impl<A: Allocator> fmt::Display for AllocateError<A> {
 
 impl<A: Allocator + fmt::Debug> Error for AllocateError<A> {}
 
-/// Why a run that tests everything gives no output.
+/// Why a run that tests everything returns no output.
 #[derive(Debug, Drop)]
 pub enum TestedRunError {
-    /// The machine doesn't suit the function.
+    /// The machine doesn't fit the function.
     Misfit(MachineMisfit),
     /// A test of the function failed, or registers, slots or memory ran out.
     Refused(RegAllocError),
@@ -94,12 +94,14 @@ fn error_from<A: Allocator>(error: CheckedRunError<A>) -> AllocateError<A>
     }
 }
 
-/// Allocates registers to any function for any machine, and gives an output that the checker accepts.
+/// Allocates registers to any function for any machine, and returns an output that the checker
+/// accepts.
 ///
-/// This is the call to start with: it has no conditions. It tests that the machine fits the function, as [`test_machine`]
-/// does, and then makes a [`run_checked`] with all tests of the function. The output is faithful: along every path each use
-/// reads the function's own value, every constraint is met, and no move goes from a stack place to another; and it has
-/// all that [`run`] promises.
+/// This is the call to start with: it has no preconditions. It tests that the machine fits the
+/// function, as [`test_machine`] does, and then makes a [`run_checked`] with all tests of the
+/// function. The output is faithful: along every path each use reads the function's own value,
+/// every constraint is met, and no move goes from a stack place to another; and it has all that
+/// [`run`] guarantees.
 ///
 /// An error is the first condition of a fitting machine that fails, the first test of the function that fails, or says that
 /// registers, slots or memory ran out. If no path from the entry reads a vreg before writing it, it is never `Faults`.
@@ -127,10 +129,12 @@ pub fn allocate<A: Allocator + Copy, F: Function, B: Allocator>(
     }
 }
 
-/// Allocates registers to any function for any machine, as [`allocate`] does, and leaves the checker out.
+/// Allocates registers to any function for any machine, as [`allocate`] does, and skips the
+/// checker.
 ///
-/// Tests and errors are those of [`allocate`], but never `Faults` or `Unjudged`. The output has all that [`run`] promises:
-/// it is faithful if no path from the entry reads a vreg before writing it.
+/// Tests and errors are those of [`allocate`], but never `Faults` or `Unjudged`. The output has all
+/// that [`run`] guarantees: it is faithful if no path from the entry reads a vreg before writing
+/// it.
 pub fn allocate_without_checker<A: Allocator + Copy, F: Function, B: Allocator>(
     alloc: A,
     f: &F,
@@ -151,19 +155,21 @@ pub fn allocate_without_checker<A: Allocator + Copy, F: Function, B: Allocator>(
     }
 }
 
-/// Allocates registers to any function for any machine, and tests all that the promise of [`run`] rests on.
+/// Allocates registers to any function for any machine, and tests all that the guarantees of
+/// [`run`] rest on.
 ///
-/// It tests that the machine fits the function, as [`test_machine`] does, makes a `run` with all tests of the function, and
-/// asks [`reads_written`] whether some path from the entry reads or passes a vreg before writing it. So nothing is
-/// left to assume: the output runs as the function does, along every path and whatever the instructions mean, and where a
-/// path comes to a block, the slot of each vreg that is live there holds its value, or the place where the branch into the
-/// block left it.
+/// It tests that the machine fits the function, as [`test_machine`] does, makes a `run` with all
+/// tests of the function, and tests by [`reads_written`] whether some path from the entry reads or
+/// passes a vreg before writing it. So nothing is left to assume: the output runs as the function
+/// does, along every path and whatever the instructions compute. Where a path enters a block, the
+/// slot of each vreg that is live there holds its value, or the place where the branch into the
+/// block left it does.
 ///
-/// An error is the first condition of a fitting machine that fails, else what `run` says of the function, else
-/// `ReadBeforeWritten`. The checker isn't asked: [`allocate`] asks it, and takes functions that read before writing where it
-/// accepts the output.
+/// An error is the first condition of a fitting machine that fails, else what `run` says of the
+/// function, else `ReadBeforeWritten`. The checker isn't run: [`allocate`] runs it, and accepts
+/// functions that read before writing where the checker accepts the output.
 ///
-/// Not promised: that `Memory` comes only where memory ran out.
+/// Not guaranteed: that `Memory` is returned only where memory ran out.
 pub fn run_tested<A: Allocator + Copy, F: Function, B: Allocator>(
     alloc: A,
     f: &F,

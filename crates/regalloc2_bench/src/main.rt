@@ -1,11 +1,12 @@
 //! `regalloc2_bench`: reads a stored function, allocates it, and then does a task with it so many times, for counting what
 //! one time costs.
 //!
-//! Words: the task, and how many times. `allocate` allocates without testing that the function is well-formed, `test` with
-//! those tests, `check` judges the output, `reads` asks whether reads come after writes, `tree` the same of the dominator
-//! tree and one search alone, which fails where they leave it open, and `tested` is `run_tested`. The function comes on standard
-//! input. Or `callmoves-cycle` or `callmoves-swaps`, how many times, and of how many moves: those of a call are scheduled, in one
-//! cycle or in swaps. `docs/BENCH.md` says how to measure.
+//! Arguments: the task, and how many times. `allocate` allocates without testing that the function
+//! is well-formed, `test` with those tests, `check` checks the output, `reads` tests whether reads
+//! come after writes, `tree` tests the same by the dominator tree and one search alone, which fails
+//! where they leave it open, and `tested` is `run_tested`. The function is read from the standard
+//! input. Or `callmoves-cycle` or `callmoves-swaps`, how many times, and of how many moves: those
+//! of a call are scheduled, in one cycle or in swaps. `docs/BENCH.md` says how to measure.
 #![tactic(auto)]
 
 mod calls;
@@ -20,12 +21,12 @@ use std::io::Read;
 use std::process::ExitCode;
 use task::{Task, is_performed};
 
-/// The words after the program's name.
+/// The arguments after the program's name.
 fn words(rt: &(impl Env + AllocGlobal)) -> std::io::Result<Vec<String>> {
     Ok(env::args(rt)?.skip(1).collect(rt.alloc())?)
 }
 
-/// What the words ask for, and how many times.
+/// What the arguments request, and how many times.
 #[derive(Clone, Copy)]
 enum Measure {
     /// A task with the function that is read.
@@ -34,7 +35,7 @@ enum Measure {
     Call(Shape, usize, usize),
 }
 
-/// What the words ask for.
+/// What the arguments request.
 fn measure_of(words: &[String]) -> Option<Measure> {
     let word = words.get(0)?.as_str();
     let times = words.get(1)?.parse().ok()?;

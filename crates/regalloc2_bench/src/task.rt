@@ -20,18 +20,18 @@ pub enum Task {
     Allocate,
     /// To test that it is well-formed, and to allocate it again.
     Test,
-    /// To judge the output.
+    /// To check the output.
     Check,
-    /// To ask whether reads come after writes.
+    /// To test whether reads come after writes.
     Reads,
-    /// To ask the same of the dominator tree and one search alone.
+    /// To test the same by the dominator tree and one search alone.
     Tree,
-    /// To make all tests, allocate it again, and ask whether reads come after writes.
+    /// To make all tests, allocate it again, and test whether reads come after writes.
     Tested,
 }
 
 impl Task {
-    /// The task that a word names.
+    /// The task that an argument names.
     pub fn of(word: &str) -> Option<Task> {
         match word {
             "allocate" => Some(Task::Allocate),

@@ -93,7 +93,7 @@ known_within : AreEarlier → (f : FunctionValue) (o : OutputValue) (t : List Bl
     IsKnownWithin f o b (facts_at t b)
 known_within law f o t ok s b r n less position p v = facts_are_held law f o (facts_at t) ok s.settled s.refuted b n r less position p v
 
--- the block b of a table is marked, and has the facts with which the block n was judged
+-- the block b of a table is marked, and has the facts with which the block n was checked
 pub record IsMarkedWith (t : List BlockView) (b n : ℕ) (have : Facts) : Type 0 where
   pub number : n ≡ b
   pub marked : (view_at t b).reached ≡ true

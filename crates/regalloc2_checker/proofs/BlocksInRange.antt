@@ -1,4 +1,4 @@
--- In a framed function each block is within the instructions, and leads to blocks.
+-- In a structurally valid function (`IsFramed`) each block is within the instructions, and leads to blocks.
 use Rattle.std.proofs.Common.{◌≡◌, ℕ, zero, suc, ◌+◌, ◌-◌, ◌<◌, ◌≤◌, List, length, slice_index, get_or, ◌∙◌, arith}
 use Rattle.std.proofs.lemmas.Grind.{get_or_default_zero}
 use Rattle.regalloc2_function.specs.FunctionValue.{FunctionValue, block_at}
@@ -18,11 +18,11 @@ ends f h (suc n) b e =
     let nonempty = next.0 in
     omega arith
 
--- in a framed function each block ends within the function's instructions
+-- in a structurally valid function each block ends within the function's instructions
 pub insts_within : (f : FunctionValue) → IsFramed f → (b : ℕ) → b < length f.blocks → (block_at f b).range.end ≤ length f.insts
 insts_within f h b l = ends f h.follow (length f.blocks - 1 - b) b (omega arith)
 
--- in a framed function each block has an instruction
+-- in a structurally valid function each block has an instruction
 pub nonempty : (f : FunctionValue) → IsFramed f → (b : ℕ) → b < length f.blocks → (block_at f b).range.first < (block_at f b).range.end
 nonempty f h b l = (h.follow b l).0
 

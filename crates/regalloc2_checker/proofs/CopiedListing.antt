@@ -278,7 +278,7 @@ listed_none f o ls e = rw e (record {
   places = λ i d z. absurd (omega arith);
 })
 
--- in a framed function, a copy of all blocks has each instruction's moves and places as the output has them
+-- in a structurally valid function (`IsFramed`), a copy of all blocks has each instruction's moves and places as the output has them
 pub listed_all : (f : FunctionValue) (o : OutputValue) (ls : List Listed) → IsFramed f → IsListedBefore f o (length f.blocks) ls → IsListing f o ls
 listed_all f o ls framed h =
     let some : f.entry < length f.blocks = framed.successors.0 in

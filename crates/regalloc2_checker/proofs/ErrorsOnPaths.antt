@@ -73,7 +73,7 @@ unfolding facts_for
 known_late f o l E F same known p v =
     let at : E p v ≡ facts_after f o l F p v = ap (λ (X : Facts). X p v) same in (λ t. (known Late p v).0 (sym at ∙ t), λ h. at ∙ (known Late p v).1 h)
 
--- an instruction, as it was judged: the errors of its moves, and the one of its operands at each position, with the facts E and L there
+-- an instruction, as it was checked: the errors of its moves, and the one of its operands at each position, with the facts E and L there
 pub record InstJudged (T : Type 0) (env : MachineValue) (i : ℕ) (ms : List MoveValue) (ps : List Place) (os : List OperandValue) (E L : Facts) : Type 0 where
   pub of_moves : List (CheckerError T)
   pub early : Option (CheckerError T)

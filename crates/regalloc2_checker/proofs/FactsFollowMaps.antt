@@ -250,7 +250,7 @@ true_late law f o ws =
     (record { below = law.source f ws })
     (true_early f o ws)
 
--- a fact after one way more is decided by the facts before
+-- a fact after one more edge or fall-through (`Way`) is decided by the facts before
 pub true_facts-way : AreEarlier → (f : FunctionValue) (o : OutputValue) (w : Way) (ws : List Way) (p : Place) (v : VirtualRegister) →
     true_facts f o (w ∷ ws) p v ≡ facts_over_edge f (end_of f ws) w (facts_after f o (end_of f ws) (true_facts f o ws)) p v
 unfolding cells_before source_before

@@ -29,13 +29,13 @@ block_within f ok [] h = ok.successors.0
 block_within f ok (Onward ∷ ws) h = block_within f ok ws h.0
 block_within f ok (ToSuccessor k ∷ ws) h = ok.successors.1 (end_of f ws).block (block_within f ok ws h.0) k 0 h.1.1
 
--- a path through a framed function ends at an instruction before the end of its last block
+-- a path through a structurally valid function (`IsFramed`) ends at an instruction before the end of its last block
 pub before_end : (f : FunctionValue) → IsFramed f → (ws : List Way) → IsPath f ws → (end_of f ws).inst < (block_at f (end_of f ws).block).range.end
 before_end f ok [] h = (ok.follow f.entry ok.successors.0).0
 before_end f ok (Onward ∷ ws) h = h.1
 before_end f ok (ToSuccessor k ∷ ws) h = (ok.follow (end_of f (ToSuccessor k ∷ ws)).block (block_within f ok (ToSuccessor k ∷ ws) h)).0
 
--- a reached block of a framed function has an instruction
+-- a reached block of a structurally valid function has an instruction
 pub reached_nonempty : (f : FunctionValue) → IsFramed f → (b : ℕ) → IsReachedBlock f b → (block_at f b).range.first < (block_at f b).range.end
 reached_nonempty f ok b r =
     let h = before_end f ok r.0 r.1 in
@@ -79,7 +79,7 @@ refuted_for law f o F g b n r less position p v x =
           w.3,
     )
 
--- in a framed function, a fixpoint that drops only what fails on some path claims just what holds on every path to a reached block
+-- in a structurally valid function, a fixpoint that drops only what fails on some path claims just what holds on every path to a reached block
 pub facts_hold_before : AreEarlier → FactsHoldBefore
 unfolding facts_within
 facts_hold_before law f o F ok s g b r p v = (
@@ -87,7 +87,7 @@ facts_hold_before law f o F ok s g b r p v = (
   λ all. unless_false (F b p v) (λ n. let w = g b p v r n in not_both (true_facts f o w.0 p v) (all w.0 w.1 w.2) w.3),
 )
 
--- in a framed function, such a fixpoint decides just what holds on every path to each reached instruction, at either position
+-- in a structurally valid function, such a fixpoint decides just what holds on every path to each reached instruction, at either position
 pub facts_are_held : AreEarlier → FactsAreHeld
 facts_are_held law f o F ok s g b n r less position p v = (
   λ y ws h e. (let x = same_write-true _ _ (covered_for law f o F s b n ws h e position p v y) in (rw x.1 x.0, x.1)),
@@ -152,6 +152,6 @@ faithful_accepted law f env o F g h b n r less =
         w.2 (λ j c i y. let q = (h w.0 w.1).reads j c i y in same_write-same _ _ q.0 q.1) in
         not_both _ (t k d in_range reads) w.3)
 
--- an output of a framed function is faithful exactly where such a fixpoint accepts each instruction of each reached block
+-- an output of a structurally valid function is faithful exactly where such a fixpoint accepts each instruction of each reached block
 pub accepted_is_faithful : AreEarlier → AcceptedIsFaithful
 accepted_is_faithful law f env o F ok s g = (accepted_faithful law f env o F ok s, faithful_accepted law f env o F g)

@@ -1,4 +1,4 @@
--- What the tests of machine and slots come to.
+-- What the tests of machine and slots decide.
 use Rattle.std.proofs.Common.{ℕ, ◌≡◌, ◌≢◌, Bool, List, Result, Ok, Err, refl, sym, subst}
 use Rattle.std.specs.Prelude.{◌↔◌, Contains, OnOk}
 use Rattle.regalloc2_function.specs.FunctionValue.{FunctionValue}
@@ -42,7 +42,7 @@ fault_of f env out b xs last named (Shared m n) h =
     (h.0, h.1, h.2, (named m h.0).0 h.3, (named n h.1).0 h.4, subst (λ (x : Bool). AreUnitsApart x m h.0 n h.1 → ⊥) last h.5)
 fault_of f env out b xs last named Memory h = tt
 
--- where a fault is found, they aren't
+-- where an error is found, places aren't cells
 pub no_cells : (f : FunctionValue) (env : MachineValue) (out : OutputValue) (e : CellFault) → e ≢ Memory → IsCellFault f env out e → AreCells f env out → ⊥
 no_cells f env out (Operand i k) differ h cells = h.2 (cells.places.operands i h.0 k h.1)
 no_cells f env out (MoveEnd k) differ h cells = h.1 (cells.places.moves k h.0)

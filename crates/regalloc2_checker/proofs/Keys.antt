@@ -19,7 +19,7 @@ class_small Vector = omega arith
 vregs : (m n : ℕ) (c d : RegClass) → m ≡ n → c ≡ d → ◌≡◌ {A = VirtualRegister} (record { number = m; class = c }) (record { number = n; class = d })
 vregs m n c d e f = rw (e, f) refl
 
--- a vreg's word gives it back
+-- a vreg's encoding gives it back
 pub vreg_back : (v : VirtualRegister) → vreg_of_bits (bits_of_vreg v) ≡ v
 vreg_back v =
     let small : class_code v.class < 3 = class_small v.class in

@@ -31,7 +31,7 @@ use Rattle.regalloc2_checker.specs.Report.{AreMoveFaults, InstReport, InstReport
 use Rattle.regalloc2_checker.proofs.Fixpoint.{reached_block, from_first, located, reached_within}
 use Rattle.regalloc2_checker.proofs.FixpointDecides.{block_within, before_end}
 
--- lists that make up none
+-- lists that append to the empty list are empty
 left_none : {X : Type 0} (xs ys : List X) → xs ++ ys ≡ [] → xs ≡ []
 left_none [] ys e = refl
 left_none (x ∷ xs) ys e = absurd (let z : suc (length (xs ++ ys)) ≡ 0 = ap length e in omega arith)
@@ -44,7 +44,7 @@ is_none : {X : Type 0} (x : Option X) → option_to_list x ≡ [] → x ≡ None
 is_none None e = refl
 is_none (Some x) e = absurd (let z : ◌≡◌ {A = ℕ} 1 0 = ap length e in omega (arith, z))
 
--- moves without faults
+-- moves without errors
 no_move_faults : {A : Type 0} (env : MachineValue) (ms : List MoveValue) (es : List (CheckerError A)) → AreMoveFaults env ms es → es ≡ [] →
     All (λ m. IsStackToStack env m → ⊥) ms
 no_move_faults env [] es AreMoveFaults.none e = λ k d less. absurd (omega arith)
@@ -85,7 +85,7 @@ no_value_fault : {A : Type 0} (inst : ℕ) (op : OperandValue) (p : Place) (Has 
 no_value_fault inst op p Has e (IsValueFault.unknown none) h = none op.vreg h
 no_value_fault inst op p Has e (IsValueFault.incorrect none v other actual are) h = none h
 
--- an operand has a fault or none
+-- an operand has an error or none
 fault_fine : {A : Type 0} (env : MachineValue) (inst : ℕ) (op : OperandValue) (count : ℕ) (places : List Place) (p : Place) (Has : VirtualRegister → Type 0)
     (e : CheckerError A) →
     IsOperandFault env inst op count places p Has e → IsFine env op count places p Has → ⊥
@@ -232,12 +232,12 @@ faithful_report f env o ok h zero le es BlockReports.none = refl
 faithful_report f env o ok h (suc n) le es (BlockReports.next _ xs ys rs r) =
     rw (faithful_report f env o ok h n (omega arith) xs rs, no_block_errors f env o ok h n (omega arith) ys r) refl
 
--- an output of a framed function is faithful exactly where its report has no errors
+-- an output of a structurally valid function (`IsFramed`) is faithful exactly where its report has no errors
 pub report_verdict : {A : Type 0} (f : FunctionValue) (env : MachineValue) (o : OutputValue) (es : List (CheckerError A)) → IsFramed f → IsReport f env o es →
     (es ≡ []) ↔ IsFaithful f env o
 report_verdict f env o es ok r = (report_faithful f env o es ok r, λ h. faithful_report f env o ok h (length f.blocks) (omega arith) es r)
 
--- what a checker with a prepared output answers by the errors
+-- what a checker with a prepared output returns, by the errors
 no_items : {X : Type 0} (xs : List X) (n : ℕ) → length xs ≡ n → nat_eq n 0 ≡ true → xs ≡ []
 no_items [] n l e = refl
 no_items (x ∷ xs) n l e = absurd (let z : n ≡ 0 = eqb-true n 0 e in omega arith)
@@ -246,13 +246,13 @@ some_items : {X : Type 0} (xs : List X) (n : ℕ) → length xs ≡ n → nat_eq
 some_items [] n l e z = (let q : nat_eq 0 0 ≡ false = subst (λ (k : ℕ). nat_eq k 0 ≡ false) (sym l) e in absurd cc)
 some_items (x ∷ xs) n l e z = (let q : suc (length xs) ≡ 0 = ap length z in omega arith)
 
--- in a framed function, where the report of the prepared output has no errors, that output is faithful
+-- in a structurally valid function, where the report of the prepared output has no errors, that output is faithful
 pub accepts : {A C : Type 0} (f : FunctionValue) (env : MachineValue) (prepared : Option (Output C)) (out : Output C) (es : List (CheckerError A)) (n : ℕ) →
     IsFramed f → prepared ≡ Some out →
     IsReport f env (output_of out) es → length es ≡ n → nat_eq n 0 ≡ true → (o : OutputValue) × (option_map output_of prepared ≡ Some o) × IsFaithful f env o
 accepts f env prepared out es n ok e r l z = (output_of out, ap (option_map output_of) e, (report_verdict f env (output_of out) es ok r).0 (no_items es n l z))
 
--- in a framed function, where the prepared output's report has errors, that output is not faithful and these are its report
+-- in a structurally valid function, where the prepared output's report has errors, that output is not faithful and these are its report
 pub refuses : {A C : Type 0} (f : FunctionValue) (env : MachineValue) (prepared : Option (Output C)) (out : Output C) (es : List (CheckerError A)) (n : ℕ) →
     IsFramed f → prepared ≡ Some out →
     IsReport f env (output_of out) es → length es ≡ n → nat_eq n 0 ≡ false → (o : OutputValue) → option_map output_of prepared ≡ Some o →

@@ -30,7 +30,7 @@ pub not_so : (b : Bool) (P : Type 0) → IsTrue b ↔ P → b ≡ false → P �
 not_so true P h e p = absurd cc
 not_so false P h e p = (let z = h.1 p in absurd cc)
 
--- nobody's value is held, or somebody's
+-- the place holds no vreg's value, or some vreg's
 pub unknown_fault : {A : Type 0} (inst : ℕ) (op : OperandValue) (p : Place) (Has : VirtualRegister → Type 0) (vs : List VirtualRegister) → length vs ≡ 0 →
     AreVRegsInValue Has vs →
     IsValueFault {A = A} inst op p Has (UnknownValueInAllocation inst op p)
@@ -112,7 +112,7 @@ pub judged_some : {A : Type 0} (env : MachineValue) (inst : ℕ) (os : List Oper
 judged_some env inst os ps position Has k None s less at h m = absurd cc
 judged_some env inst os ps position Has k (Some e) s less at h m = (k, less, at, h, m)
 
--- a move more, which is a fault or not
+-- one more move, which is an error or not
 faults_more : {A : Type 0} (env : MachineValue) (ms : List MoveValue) (es : List (CheckerError A)) (m : MoveValue) → IsStackToStack env m →
     AreMoveFaults env ms es → AreMoveFaults env (ms ++ (m ∷ [])) (es ++ (StackToStackMove m.to m.from ∷ []))
 faults_more env _ _ m s none = fault m [] [] s none

@@ -51,7 +51,7 @@ queue-pushed marks entries new x b is less p q = record {
       q.small));
 }
 
--- where it stands there the marks stay
+-- if the block is in the queue already, the marks stay
 pub queue-again : (marks : List Bool) (b : ℕ) → b < length marks → mark_at marks b ≡ true → marks ≡ set marks b true
 queue-again marks b less m = sym (set-again marks b true true less m)
 
@@ -182,7 +182,7 @@ pub sized-on : (f : FunctionValue) (t u : Showing) (rs qs marks after : List Boo
     AreSized f t rs marks → AreSized f u qs after
 sized-on f t u rs qs marks after a r m s = record { reached = r ∙ s.reached; count = a.count ∙ s.count; marks = m ∙ s.marks }
 
--- what is reached after a block was put into the queue, or stood there
+-- what is reached after a block was put into the queue, or was there already
 pub reached-either : (t new : List BlockView) (target : ℕ) (passed : Facts) (entries later : List (Reverse (ℕ × ℕ))) →
     IsUpdated t new target passed → AreReached t entries →
     (later ≡ entries) ⊎ ((x : Reverse (ℕ × ℕ)) × (queued_block x ≡ target) × IsPermutation (x ∷ entries) later) → AreReached new later

@@ -9,7 +9,7 @@ use Rattle.regalloc2_checker.specs.Cells.{operand_of, move_of_index, location_of
 use Rattle.regalloc2_checker.specs.declared.cells.CellFault.{CellFault}
 use Rattle.regalloc2_checker.specs.declared.cells.CellFault.TheVariants.{Operand, MoveEnd, OtherClass, Location, Slot, Shared, Memory}
 
--- the condition that a fault names fails where it says
+-- the condition that an error names fails where the error says
 abbrev pub IsCellFault : FunctionValue → MachineValue → OutputValue → CellFault → Type 0
 IsCellFault f env out (Operand i k) = (i < length f.insts) × (k < length (inst_at f i).operands)
     × (IsOperandCell env out (operand_of f i k) (place_at (allocs_of out i) k) → ⊥)

@@ -1,4 +1,4 @@
--- What the check of an instruction goes by.
+-- What the check of an instruction reads.
 use Rattle.std.specs.Prelude.{◌≡◌, ◌↔◌, true}
 use Rattle.regalloc2_names.specs.declared.OperandPos.{OperandPos}
 use Rattle.regalloc2_names.specs.declared.sets.PRegSet.{PRegSet}

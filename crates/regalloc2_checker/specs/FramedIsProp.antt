@@ -1,4 +1,4 @@
--- That a function is framed is one fact.
+-- Any two proofs that a function is structurally valid (`IsFramed`) are equal.
 use Rattle.std.specs.Prelude.{ℕ, ◌≡◌, Bool, true, false}
 use Rattle.std.proofs.Common.{inl, inr}
 use Rattle.std.proofs.Props.{props}

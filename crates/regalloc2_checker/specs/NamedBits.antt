@@ -14,6 +14,6 @@ IsMore old new = (n : ℕ) → Contains old n → Contains new n
 abbrev pub ArePlacesAdded : List ℕ → List ℕ → List Place → Type 0
 ArePlacesAdded old new ps = (n : ℕ) → Contains new n ↔ (Contains old n ⊎ Contains (flat_map bits_unless_missing ps) n)
 
--- the two places of an edit that stands at a point
+-- the two places of an edit at a point
 abbrev pub places_of_edit : (ℕ × Edit) → List Place
 places_of_edit e = places_of (move_of e.1)

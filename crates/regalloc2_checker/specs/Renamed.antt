@@ -11,7 +11,7 @@ use Rattle.regalloc2_checker.specs.TableFacts.{is_packed, place_in, held_at, fac
 abbrev pub facts_renamed : List VirtualRegister → List VirtualRegister → Facts → Facts
 facts_renamed params arguments F = λ p v. F p (renaming params arguments (λ u. u) v)
 
--- whether a place stands at one of some positions
+-- whether a place is listed at one of some positions
 abbrev pub stands_in : List ℕ → List ℕ → Place → Bool
 stands_in places positions p = is_packed p && held_at (place_in places p) (λ i y. is_in positions i) 0
 

@@ -1,6 +1,6 @@
--- The errors that a check gives, and their order.
--- Kinds and fields are those of upstream's `CheckerError`. Which fault of an operand comes first, and that a place holds what it holds on
--- every path, is this project's own.
+-- The errors that a check reports, and their order.
+-- Kinds and fields are those of upstream's `CheckerError`. Which error of an operand is reported first, and that a place holds what it holds on every path, is
+-- this project's own.
 use Rattle.std.specs.Prelude.{ℕ, suc, ◌≡◌, ◌≢◌, ◌-◌, ◌<◌, ◌≤◌, ◌↔◌, true, false, List, [], ◌∷◌, ◌++◌, map, length, slice_index_or, Contains, Option, None, Some}
 use Rattle.std.specs.Option.{option_to_list}
 use Rattle.std.specs.List.Sorted.{IsStrictlyIncreasing}
@@ -42,13 +42,13 @@ pub record AreVRegsInValue (Has : VirtualRegister → Type 0) (vs : List Virtual
   pub members : (v : VirtualRegister) → Contains vs v ↔ Has v
   pub rising : IsStrictlyIncreasing (map bits_of_vreg vs)
 
--- what a use that reads finds wrong with what its place holds: no vreg's value, or those of others and not its own
+-- the error of a use that reads, by what its place holds: no vreg's value, or those of others and not its own
 pub data IsValueFault {A : Type 0} (inst : ℕ) (op : OperandValue) (p : Place) (Has : VirtualRegister → Type 0) : CheckerError A → Type 0 where
   unknown : ((v : VirtualRegister) → Has v → ⊥) → IsValueFault inst op p Has (UnknownValueInAllocation inst op p)
   incorrect : (Has op.vreg → ⊥) → (v : VirtualRegister) → Has v → (actual : Vec VirtualRegister A) → AreVRegsInValue Has actual.items →
       IsValueFault inst op p Has (IncorrectValuesInAllocation inst op p actual)
 
--- what a constraint finds wrong with a place; places are those of the instruction's operands, of which there are so many
+-- the error of a constraint that a place doesn't meet; places are those of the instruction's operands, of which there are so many
 pub data IsConstraintFault {A : Type 0} (env : MachineValue) (inst : ℕ) (op : OperandValue) (count : ℕ) (places : List Place) (p : Place) : OperandConstraint →
     CheckerError A → Type 0 where
   no_register : (IsPlainRegister env p → ⊥) → IsConstraintFault env inst op count places p Reg (AllocationIsNotReg inst op p)
@@ -62,7 +62,7 @@ pub data IsConstraintFault {A : Type 0} (env : MachineValue) (inst : ℕ) (op : 
   past_limit : (n : ℕ) → IsPlainRegister env p → (IsNumberedBelow p n → ⊥) →
       IsConstraintFault env inst op count places p (Limit n) (AllocationOutsideLimit inst op p (record { start = 0; end = n }))
 
--- the fault of an operand, by what places hold where it is read or written: its place is missing, else what it holds is wrong, else its constraint is not met
+-- the error of an operand, by what places hold where it is read or written: its place is missing, else what it holds is wrong, else its constraint is not met
 pub data IsOperandFault {A : Type 0} (env : MachineValue) (inst : ℕ) (op : OperandValue) (count : ℕ) (places : List Place) (p : Place)
     (Has : VirtualRegister → Type 0) : CheckerError A → Type 0 where
   missing : p ≡ NoPlace → IsOperandFault env inst op count places p Has (MissingAllocation inst op)
@@ -70,7 +70,7 @@ pub data IsOperandFault {A : Type 0} (env : MachineValue) (inst : ℕ) (op : Ope
   of_constraint : (e : CheckerError A) → p ≢ NoPlace → (is_reading op ≡ true → Has op.vreg) → IsConstraintFault env inst op count places p op.constraint e →
       IsOperandFault env inst op count places p Has e
 
--- an operand without a fault: a use that reads finds its vreg's value, and the constraint is met, which no missing place does
+-- an operand without an error: a use that reads finds its vreg's value, and the constraint is met, which no missing place does
 pub record IsFine (env : MachineValue) (op : OperandValue) (count : ℕ) (places : List Place) (p : Place) (Has : VirtualRegister → Type 0) : Type 0 where
   pub value : is_reading op ≡ true → Has op.vreg
   pub constraint : Meets env count places op.constraint p
@@ -87,7 +87,7 @@ IsFaultAt env inst operands places Has k e = IsOperandFault env inst (operand_at
 abbrev pub AreFineBelow : MachineValue → List OperandValue → List Place → OperandPos → (Place → VirtualRegister → Type 0) → ℕ → Type 0
 AreFineBelow env operands places position Has n = (k : ℕ) → k < n → (operand_at operands k).position ≡ position → IsFineAt env operands places Has k
 
--- the first fault among the operands of a position, or none
+-- the first error among the operands of a position, or none
 abbrev pub AreOperandsJudged : {A : Type 0} → MachineValue → ℕ → List OperandValue → List Place → OperandPos → (Place → VirtualRegister → Type 0) →
     Option (CheckerError A) → Type 0
 AreOperandsJudged env inst operands places position Has None = AreFineBelow env operands places position Has (length operands)
@@ -95,7 +95,7 @@ AreOperandsJudged env inst operands places position Has (Some e) = (k : ℕ) × 
     × AreFineBelow env operands places position Has k
     × IsFaultAt env inst operands places Has k e
 
--- the faults of moves, as listed: those between two stack places
+-- the errors of moves, as listed: those between two stack places
 pub data AreMoveFaults {A : Type 0} (env : MachineValue) : List MoveValue → List (CheckerError A) → Type 0 where
   none : AreMoveFaults env [] []
   fault : (m : MoveValue) (ms : List MoveValue) (es : List (CheckerError A)) → IsStackToStack env m → AreMoveFaults env ms es →
@@ -132,7 +132,7 @@ pub data BlockReports {A : Type 0} (f : FunctionValue) (env : MachineValue) (o :
 abbrev pub IsReport : {A : Type 0} → FunctionValue → MachineValue → OutputValue → List (CheckerError A) → Type 0
 IsReport f env o es = BlockReports f env o (length f.blocks) es
 
--- of the outputs of a framed function, those without errors are just the faithful ones
+-- of the outputs of a structurally valid function (`IsFramed`), those without errors are just the faithful ones
 abbrev pub NoneWhereFaithful : Type 0 → Type 0
 NoneWhereFaithful A = (f : FunctionValue) (env : MachineValue) (o : OutputValue) (es : List (CheckerError A)) → IsFramed f → IsReport f env o es →
     (es ≡ []) ↔ IsFaithful f env o

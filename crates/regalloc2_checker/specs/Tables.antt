@@ -73,7 +73,7 @@ pub record AreSoundViews (f : FunctionValue) (o : OutputValue) (t : List BlockVi
   pub reached : (b : ℕ) → (view_at t b).reached ≡ true → IsReachedBlock f b
   pub refuted : (b : ℕ) (p : Place) (v : VirtualRegister) → (view_at t b).reached ≡ true → facts_at t b p v ≡ false → IsRefuted f o (first_of f b) p v
 
--- an edge asks for nothing more
+-- an edge requires nothing more
 pub record EdgeSolved (f : FunctionValue) (o : OutputValue) (t : List BlockView) (b k : ℕ) : Type 0 where
   pub reached : (view_at t (slice_index (block_at f b).succs k)).reached ≡ true
   pub within : (p : Place) (v : VirtualRegister) → facts_at t (slice_index (block_at f b).succs k) p v ≡ true → facts_passed f o b k (facts_at t b) p v ≡ true
@@ -96,14 +96,14 @@ pub record IsUpdated (old new : List BlockView) (target : ℕ) (passed : Facts) 
   pub first : (view_at old target).reached ≡ false → facts_at new target ≡ passed
   pub met : (view_at old target).reached ≡ true → (p : Place) (v : VirtualRegister) → facts_at new target p v ≡ (facts_at old target p v && passed p v)
 
--- what an update answers: whether anything changed
+-- what an update returns: whether anything changed
 pub record IsMeet (old new : List BlockView) (target : ℕ) (passed : Facts) (changed : Bool) : Type 0 where
   pub same : changed ≡ false → (new ≡ old) × ((view_at old target).reached ≡ true)
       × ((p : Place) (v : VirtualRegister) → facts_at old target p v ≡ true → passed p v ≡ true)
   pub updated : changed ≡ true → IsUpdated old new target passed
   pub falls : changed ≡ true → sum_by weight new < sum_by weight old
 
--- the facts of a table are what the checker wants
+-- the facts of a table are what the checker requires
 pub record IsSolved (f : FunctionValue) (o : OutputValue) (t : List BlockView) : Type 0 where
   pub size : length t ≡ length f.blocks
   pub reached : (b : ℕ) → ((view_at t b).reached ≡ true) ↔ IsReachedBlock f b

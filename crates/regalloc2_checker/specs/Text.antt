@@ -1,4 +1,4 @@
--- The texts of faults: a line with a number, and the same line with words behind it.
+-- The texts of errors: a line with a number, and the same line with words behind it.
 use Rattle.std.specs.Prelude.{ℕ, codes, List, [], ◌∷◌, ◌++◌}
 use Rattle.std.specs.Fmt.{decimal}
 use Rattle.std.specs.List.{flat_map}

@@ -30,7 +30,7 @@ pub struct Analysis<A: Allocator> {
     pub queue: Queue<A>,
 }
 
-/// Meets what a block has with what is worked on, and answers whether anything changed.
+/// Meets what a block has with what is worked on, and returns whether anything changed.
 fn update<A: Allocator + Copy>(
     values: &mut PassingTables<A>,
     reached: &mut Vec<bool, A>,

@@ -42,7 +42,7 @@ pub enum CellFault {
     Slot(usize),
     /// The two slots share a unit.
     Shared(usize, usize),
-    /// A growth was refused.
+    /// A memory allocation failed.
     Memory,
 }
 
@@ -393,7 +393,7 @@ fn reaches(by_last: bool, slot: (usize, usize), other: usize) -> bool
     }
 }
 
-/// The fault that a slot shares a unit with another one, which comes before it.
+/// The error that a slot shares a unit with another one, which comes before it.
 fn shared(by_last: bool, slot: usize, other: usize) -> CellFault
     ensures rising { by_last ≡ true → result ≡ CellFault.Shared other slot }
     ensures falling { by_last ≡ false → result ≡ CellFault.Shared slot other }
@@ -475,8 +475,9 @@ fn named_slots<F: Function, A: Allocator, B: Allocator, C: Allocator>(
 /// - Each slot is within the frame with all units that it takes: as many as the class of each operand that is there and the class of
 ///   each register that a move copies it from or to; no two slots share a unit.
 ///
-/// Slots are compared by the greatest number of units that each takes anywhere. What an allocation promises of its own
-/// output is more: `PlacesAreProper` and `AreSlotsOwned`. `n log n` in the slots that are named; 16 bytes for each of them.
+/// Slots are compared by the greatest number of units that each takes anywhere. What an allocation
+/// guarantees of its own output is more: `PlacesAreProper` and `AreSlotsOwned`. `n log n` in the
+/// slots that are named; 16 bytes for each of them.
 pub fn test_cells<F: Function, A: Allocator, B: Allocator, C: Allocator>(
     alloc: A,
     f: &F,
@@ -492,7 +493,7 @@ pub fn test_cells<F: Function, A: Allocator, B: Allocator, C: Allocator>(
     test_slots(by_last, output.num_spillslots, named.as_mut_slice())
 }
 
-/// Whether a fault is that a growth was refused.
+/// Whether an error is that a memory allocation failed.
 fn is_memory(fault: CellFault) -> bool
     ensures { IsTrue result ↔ (fault ≡ CellFault.Memory) }
 {

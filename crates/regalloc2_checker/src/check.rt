@@ -29,7 +29,8 @@ use regalloc2_index::{Block, Inst};
 use regalloc2_names::{Allocation, Operand, OperandPos, PRegSet};
 use std::alloc::{AllocError, Allocator};
 
-/// What an output is judged by: a function, the fixed stack slots of its machine, and what the output lists.
+/// What an output is checked against: a function, the fixed stack slots of its machine, and what
+/// the output lists.
 #[derive(Drop)]
 pub struct Judging<'a, 'o, F: Function, A: Allocator> {
     pub alloc: A,
@@ -46,7 +47,7 @@ struct Placed<'a> {
     places: &'a [Allocation],
 }
 
-/// What an operand that reads finds wrong with what its place holds.
+/// The error of an operand that reads, if what its place holds is wrong.
 fn check_val<A: Allocator + Copy>(
     alloc: A,
     values: &PassingTables<A>,
@@ -79,7 +80,7 @@ fn check_val<A: Allocator + Copy>(
     }))
 }
 
-/// The fault of the operand with an index, by what places hold.
+/// The error of the operand with an index, by what places hold.
 fn check_operand<A: Allocator + Copy>(
     alloc: A,
     values: &PassingTables<A>,
@@ -108,7 +109,7 @@ fn check_operand<A: Allocator + Copy>(
     Ok(check_constraint(slots, inst, op, place, count, places))
 }
 
-/// The first fault among the operands of a position, by what places hold there.
+/// The first error among the operands of a position, by what places hold there.
 fn check_position<A: Allocator + Copy>(
     alloc: A,
     values: &PassingTables<A>,
@@ -132,7 +133,7 @@ fn check_position<A: Allocator + Copy>(
     Ok(None)
 }
 
-/// The fault of a move: it goes from a stack place to another.
+/// The error of a move: it goes from a stack place to another.
 fn move_fault<A: Allocator>(slots: PRegSet, edit: Edit) -> Option<CheckerError<A>>
     ensures { (env : MachineValue) → AreStackSlots env slots → MatchOption result (IsStackToStack env (move_of edit) → ⊥)
         (λ e. IsStackToStack env (move_of edit) × (e ≡ CheckerError.StackToStackMove (move_of edit).to (move_of edit).from)) }
@@ -147,7 +148,7 @@ fn move_fault<A: Allocator>(slots: PRegSet, edit: Edit) -> Option<CheckerError<A
     Some(CheckerError::StackToStackMove { into, from })
 }
 
-/// Adds the faults of moves, as listed.
+/// Adds the errors of moves, as listed.
 fn check_moves<A: Allocator>(
     slots: PRegSet,
     moves: &[Edit],
@@ -165,7 +166,7 @@ fn check_moves<A: Allocator>(
     Ok(())
 }
 
-/// Adds a fault, if there is one.
+/// Adds an error, if there is one.
 fn add<A: Allocator>(
     errors: &mut Vec<CheckerError<A>, A>,
     fault: Option<CheckerError<A>>,

@@ -36,8 +36,8 @@ impl<'a, F: Function, A: Allocator + Copy, B: Allocator> Checker<'a, F, A, B> {
     ghost use Rattle.regalloc2_checker.specs.Prepared.{subject_of, machine_in, output_in};
     ghost use Rattle.regalloc2_checker.specs.Report.{IsReport};
 
-    /// A checker that no output was given yet. It takes room for one error, and is refused with `Memory` where there is
-    /// none.
+    /// A checker that no output was given yet. It takes room for one error, and fails with `Memory`
+    /// where there is none.
     pub fn new(
         alloc: A,
         f: &'a F,
@@ -61,8 +61,8 @@ impl<'a, F: Function, A: Allocator + Copy, B: Allocator> Checker<'a, F, A, B> {
 
     /// Takes a copy of an output, in place of what was prepared before.
     ///
-    /// It is refused with `MalformedOutput` exactly where the output isn't in order, and with `Memory` where a growth was
-    /// refused. The checker is unprepared then.
+    /// It fails with `MalformedOutput` exactly where the output isn't well-ordered, and with
+    /// `Memory` where a memory allocation failed. The checker is unprepared then.
     pub fn prepare<C: Allocator>(&mut self, out: &Output<C>) -> Result<(), CheckerError<A>>
         ensures subject { subject_of self.new ≡ subject_of self.old }
         ensures machine { machine_in self.new ≡ machine_in self.old }
@@ -87,9 +87,9 @@ impl<'a, F: Function, A: Allocator + Copy, B: Allocator> Checker<'a, F, A, B> {
     /// Checks the prepared output: whether on every path each use reads what its vreg has in the function's
     /// own run, every constraint is met, and no move goes from one stack place to another.
     ///
-    /// The faults come by rising block and instruction, a move's where the move is listed, at most one for each of an
-    /// instruction's two positions. Where no output is prepared they are `MalformedOutput` alone, and where a growth was
-    /// refused `Memory` alone.
+    /// The errors are listed by rising block and instruction, a move's where the move is listed, at
+    /// most one for each of an instruction's two positions. Where no output is prepared they are
+    /// `MalformedOutput` alone, and where a memory allocation failed `Memory` alone.
     pub fn run(self) -> Result<(), CheckerErrors<A>>
         ensures accepted { OnOk result ((o : OutputValue) × (output_in self.entry ≡ Some o)
             × IsFaithful (F.function (subject_of self.entry)) (machine_in self.entry) o) }

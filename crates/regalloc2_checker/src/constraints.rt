@@ -1,4 +1,4 @@
-//! What operands ask of their places.
+//! What operands require of their places.
 
 ghost use Rattle.std.specs.Prelude.{◌≢◌, ◌↔◌, ℕ, List, IsTrue, MatchOption};
 ghost use Rattle.regalloc2_names.specs.Place.{Place, NoPlace};
@@ -53,7 +53,7 @@ fn is_numbered_below(place: Allocation, bound: usize) -> bool
     }
 }
 
-/// What a reuse of the operand with an index finds wrong with its place.
+/// The error of a reuse of the operand with an index, if the place doesn't meet it.
 fn check_reuse<A: Allocator>(
     inst: Inst,
     op: Operand,
@@ -83,7 +83,7 @@ fn check_reuse<A: Allocator>(
     })
 }
 
-/// What a bound on the register's number finds wrong with its place.
+/// The error of a bound on the register's number, if the place doesn't meet it.
 fn check_limit<A: Allocator>(
     slots: PRegSet,
     inst: Inst,
@@ -109,8 +109,8 @@ fn check_limit<A: Allocator>(
     })
 }
 
-/// What an operand's constraint finds wrong with its place, which is there. The instruction has so many operands, and
-/// these are their places.
+/// The error of an operand's constraint, if its place, which is there, doesn't meet it. The
+/// instruction has so many operands, and these are their places.
 pub fn check_constraint<A: Allocator>(
     slots: PRegSet,
     inst: Inst,

@@ -8,7 +8,7 @@ use regalloc2_names::{Allocation, Operand, VReg};
 use std::alloc::{Allocator, Global};
 use std::ops::Range;
 
-/// A fault of an output, or why it can't be checked.
+/// An error of an output, or why it can't be checked.
 ///
 /// Names and fields are upstream's, with two variants of this port's own at the end.
 #[derive(Debug, Drop)]
@@ -29,7 +29,7 @@ pub enum CheckerError<A: Allocator = Global> {
         /// Its place.
         alloc: Allocation,
     },
-    /// Kept from upstream, and never given.
+    /// Kept from upstream, and never reported.
     ConflictedValueInAllocation {
         /// The instruction.
         inst: Inst,
@@ -114,13 +114,13 @@ pub enum CheckerError<A: Allocator = Global> {
         /// The numbers below the bound.
         range: Range<usize>,
     },
-    /// The output isn't in order, or none was prepared.
+    /// The output isn't well-ordered, or none was prepared.
     MalformedOutput,
-    /// A growth was refused.
+    /// A memory allocation failed.
     Memory,
 }
 
-/// What a check found: at least one fault.
+/// What a check found: at least one error.
 #[derive(Debug, Drop)]
 pub struct CheckerErrors<A: Allocator = Global> {
     errors: Vec<CheckerError<A>, A>,
@@ -130,7 +130,7 @@ pub struct CheckerErrors<A: Allocator = Global> {
 impl<A: Allocator> CheckerErrors<A> {
     ghost use Rattle.regalloc2_checker.specs.ErrorsFound.{errors_of};
 
-    /// A list of faults.
+    /// A list of errors.
     pub(crate) fn of(errors: Vec<CheckerError<A>, A>) -> CheckerErrors<A>
         requires { 0 < vec_len errors }
         ensures { errors_of result ≡ errors.items }
@@ -138,7 +138,7 @@ impl<A: Allocator> CheckerErrors<A> {
         CheckerErrors { errors }
     }
 
-    /// The faults, by rising block and instruction, a move's where the move is listed.
+    /// The errors, by rising block and instruction, a move's where the move is listed.
     pub fn errors(&self) -> &[CheckerError<A>]
         ensures errors { result.now ≡ errors_of self.now }
         ensures some { 0 < length result.now }

@@ -88,7 +88,7 @@ fn check_all<F: Function, A: Allocator + Copy>(
     Ok(errors)
 }
 
-/// The faults of an output.
+/// The errors of an output.
 pub fn find_errors<F: Function, A: Allocator + Copy, B: Allocator, C: Allocator>(
     alloc: A,
     f: &F,

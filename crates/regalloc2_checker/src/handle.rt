@@ -62,7 +62,8 @@ fn handle_inst<'a, A: Allocator, B: Allocator>(
     Ok(())
 }
 
-/// Lists a block's instructions, after those of the blocks before. Answers how many edits are passed then.
+/// Lists a block's instructions, after those of the blocks before. Returns how many edits are
+/// passed then.
 fn handle_block<'a, F: Function, A: Allocator, B: Allocator>(
     f: &F,
     out: &'a Output<B>,

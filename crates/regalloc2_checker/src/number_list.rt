@@ -9,7 +9,7 @@ use std::marker::Model;
 #[derive(Drop)]
 pub struct NumberList<A: Allocator> {
     numbers: Vec<u32, A>,
-    /// Where the last number of each remainder stands.
+    /// Where the last number of each remainder is.
     last: Vec<usize, A>,
 }
 

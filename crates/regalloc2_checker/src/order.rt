@@ -24,7 +24,7 @@ fn successor(succs: &[Block], taken: usize) -> Option<Block> {
     succs.get(left.checked_sub(1)?).copied()
 }
 
-/// Marks a block as visited; answers whether it wasn't.
+/// Marks a block as visited; returns whether it wasn't.
 fn is_new(visited: &mut [bool], block: Block) -> bool {
     let index = block.index();
     if index >= visited.len() {

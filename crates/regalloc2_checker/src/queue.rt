@@ -18,7 +18,7 @@ pub struct Queue<A: Allocator> {
 }
 
 impl<A: Allocator + Copy> Queue<A> {
-    /// Puts a block into the queue, unless it stands there.
+    /// Puts a block into the queue, unless it is there.
     pub fn push(&mut self, block: usize) -> Result<(), AllocError>
         requires block { block < length self.old.is_queued.items }
         requires queue { IsQueue self.old.is_queued.items (heap_items self.old.heap) }

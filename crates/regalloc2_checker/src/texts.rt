@@ -1,4 +1,4 @@
-//! The texts of faults.
+//! The texts of errors.
 
 ghost use Rattle.std.specs.Prelude.{◌≡◌, Some};
 ghost use Rattle.std.specs.Fmt.{WritesOnOk};
@@ -11,7 +11,7 @@ use regalloc2_names::{Allocation, Operand, OperandConstraint, VReg, VRegText};
 use std::alloc::Allocator;
 use std::fmt;
 
-/// Writes the line of a fault of an operand.
+/// Writes the line of an operand's error.
 fn write<W: fmt::Write>(
     f: &mut fmt::Formatter<W>,
     number: u32,
@@ -25,10 +25,12 @@ fn write<W: fmt::Write>(
     write!(f, "error {number} inst{index} {op} [{place}]")
 }
 
-/// A fault with its number and no words, as a program reads it: `error 2 inst1 Use: v0i reg [p8i]`, `error 10 stack0 -> stack1`,
-/// `error 12` or `error 13`.
+/// An error with its number and no words, as a program reads it: `error 2 inst1 Use: v0i reg
+/// [p8i]`,
+/// `error 10 stack0 -> stack1`, `error 12` or `error 13`.
 ///
-/// The number stands for the kind of fault, in the order of the variants but with `AllocationOutsideLimit` as 11.
+/// The number identifies the kind of error, in the order of the variants but with
+/// `AllocationOutsideLimit` as 11.
 #[derive(Drop)]
 pub struct FaultLine<'a, A: Allocator>(pub &'a CheckerError<A>);
 
@@ -118,7 +120,7 @@ impl fmt::Display for VRegs<'_> {
     }
 }
 
-/// What is wrong with an operand that names no other one, up to the number that it names.
+/// The words of an error whose operand names no other one, up to the number that it names.
 fn violated_words(constraint: OperandConstraint) -> &'static str
     ensures { result.now ≡ violated_words constraint }
 {
@@ -184,7 +186,7 @@ impl<A: Allocator> fmt::Display for CheckerError<A> {
     }
 }
 
-/// The first fault, and how many more there are.
+/// The first error, and how many more there are.
 impl<A: Allocator> fmt::Display for CheckerErrors<A> {
     fn fmt<W: fmt::Write>(&self, f: &mut fmt::Formatter<W>) -> fmt::Result {
         let Some((first, rest)) = self.errors().split_first() else {

@@ -21,7 +21,7 @@ bits-is s y h = rw (below y 4294967296 h) refl
 pub bits-in : (s : NumberSet) (y : ℕ) → y < 4294967296 → has_number s y ≡ true → has_bits s y ≡ true
 bits-in s y h m = bits-is s y h ∙ m
 
--- and no others are
+-- numbers from 2^32 on are not among a set's bits
 pub bits-out : (s : NumberSet) (y : ℕ) → 4294967296 ≤ y → has_bits s y ≡ false
 bits-out s y h = rw (le-ltb y 4294967296 h) refl
 
@@ -32,7 +32,7 @@ bits-small s y h = elim (cases_lt y 4294967296) [
   | inr g ↦ absurd (not_both (has_bits s y) h (bits-out s y g))
 ]
 
--- another one that comes
+-- appending another number
 pub other-times : (done : List ℕ) (x y : ℕ) → (y ≡ x → ⊥) → times_listed (done ++ x ∷ []) y ≡ times_listed done y
 other-times done x y n =
     let a = times-append done (x ∷ []) y in
@@ -48,7 +48,7 @@ same-times done x =
     let c : ◌≡◌ {A = ℕ} (cond (nat_eq x x) 1 0) 1 = ap (λ t. cond t 1 0) (eq-eqb x x refl) in
     omega arith
 
--- what both sets have is what came and is in the other: one more
+-- the list is what both sets have: one more visited member, which the other set has
 pub both-more : (old new other : NumberSet) (done : List ℕ) (x : ℕ) → x < 4294967296 →
     ((i : ℕ) → has_number new i ≡ cond (nat_eq i x) true (has_number old i)) → has_bits other x ≡ true →
     ((y : ℕ) → has_bits old y ≡ (nat_lt 0 (times_listed done y) && has_bits other y)) → (y : ℕ) →
@@ -63,7 +63,7 @@ both-more old new other done x small set is h y = elim (cases_eq y x) [
       ap (λ t. nat_lt y 4294967296 && t) a ∙ h y ∙ ap (λ k. nat_lt 0 k && has_bits other y) (sym (other-times done x y n))
 ]
 
--- or one that the other has not
+-- or one that the other set lacks
 pub both-skip : (old other : NumberSet) (done : List ℕ) (x : ℕ) → has_bits other x ≡ false →
     ((y : ℕ) → has_bits old y ≡ (nat_lt 0 (times_listed done y) && has_bits other y)) → (y : ℕ) →
     has_bits old y ≡ (nat_lt 0 (times_listed (done ++ x ∷ []) y) && has_bits other y)
@@ -203,7 +203,7 @@ pub alone : (b : Bool) → (if b then true else false) ≡ b
 alone true = refl
 alone false = refl
 
--- what follows of an answer
+-- what follows from a result
 pub ok-as : {T E : Type 0} (P Q : T → Type 0) (r : Result T E) → ((x : T) → P x → Q x) → IfOk r P → IfOk r Q
 ok-as P Q (Ok x) f h = f x h
 ok-as P Q (Err e) f h = tt

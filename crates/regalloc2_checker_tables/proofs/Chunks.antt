@@ -11,7 +11,7 @@ use Rattle.std.proofs.lemmas.List.Edits.{get_or-between, length-between}
 use Rattle.regalloc2_checker_tables.specs.SavedCopies.{Copies, saved_at, number_in_cell, IsChunkAt}
 use Rattle.regalloc2_checker_tables.specs.SavedNumbers.{AreChunksKept}
 
--- where all are zeros, each chunk stands at the beginning of the words
+-- if all numbers are zeros, each chunk is at the beginning of the words
 pub chunks-new : (words cells : List ℕ) (bases : Copies) → length words ≡ 64 → ((i : ℕ) → get_or words i 0 ≡ 0) → ((i : ℕ) → get_or cells i 0 ≡ 0) →
     length cells ≡ 64 * length bases.cells → ((i : ℕ) → number_in_cell bases i ≡ 0) → ((k i : ℕ) → saved_at bases k i ≡ 0) → AreChunksKept words cells bases
 chunks-new words cells bases long wz cz same bz sz = record {

@@ -92,7 +92,7 @@ is_in-more (z ∷ xs) x i = ap (λ b. nat_eq z i || b) (is_in-more xs x i) ∙ a
     assoc true b c = refl
     assoc false b c = refl
 
--- a holder comes
+-- one more holder
 pub holders-more : (holders done : List ℕ) (has : ℕ → Bool) (bound place : ℕ) → place < bound → has place ≡ true →
     ((i : ℕ) → is_in holders i ≡ (nat_lt i bound && (nat_lt 0 (times_listed done i) && has i))) → (i : ℕ) →
     is_in (holders ++ place ∷ []) i ≡ (nat_lt i bound && (nat_lt 0 (times_listed (done ++ place ∷ []) i) && has i))
@@ -108,7 +108,7 @@ holders-more holders done has bound place small is h i = elim (cases_eq i place)
       ∙ ap (λ k. nat_lt i bound && (nat_lt 0 k && has i)) (sym (other-times done place i n))
 ]
 
--- or a place that is past the bound, or holds it not
+-- or a place that is past the bound, or doesn't hold the vreg
 pub holders-skip : (holders done : List ℕ) (has : ℕ → Bool) (bound place : ℕ) → (place < bound → has place ≡ false) →
     ((i : ℕ) → is_in holders i ≡ (nat_lt i bound && (nat_lt 0 (times_listed done i) && has i))) → (i : ℕ) →
     is_in holders i ≡ (nat_lt i bound && (nat_lt 0 (times_listed (done ++ place ∷ []) i) && has i))
@@ -131,7 +131,7 @@ pub holders-none : (has : ℕ → Bool) (bound : ℕ) (holders : List ℕ) → h
 unfolding times_listed
 holders-none has bound holders e i = ap (λ (l : List ℕ). is_in l i) e ∙ sym (and-false (nat_lt i bound))
 
--- homes: one vreg gets a place
+-- homes (the places where a vreg may be): one vreg gets a place
 pub homes-more : (homes : List NumberSet) (j place : ℕ) (set : NumberSet) → j < length homes →
     ((i : ℕ) → has_number set i ≡ cond (nat_eq i place) true (has_number (get_or homes j []) i)) → AreMoreHomes homes (slice_set homes j set)
 homes-more homes j place set less h = record {
@@ -148,7 +148,7 @@ homes-more homes j place set less h = record {
     always true = refl
     always false = refl
 
--- homes that stay are there still
+-- homes that stay are still there
 pub homes-same : (homes : List NumberSet) → AreMoreHomes homes homes
 homes-same homes = record { long = refl; kept = λ j i e. e }
 

@@ -50,14 +50,14 @@ found-is xs x i h less e =
     (λ l. eq-eqb (get_or xs i 0) x e) in
     sym (ap (λ n. cond (nat_lt n (length xs)) (Some n) None) p ∙ ap (λ b. cond b (Some i) None) (lt-ltb i (length xs) less))
 
--- or of one that isn't
+-- a number that isn't listed has no position
 pub found-none : (xs : List ℕ) (x : ℕ) → ((k : ℕ) → k < length xs → get_or xs k 0 ≡ x → ⊥) → ◌≡◌ {A = Option ℕ} None (position (λ n. n == x) xs)
 found-none xs x h =
     let p : position_or_len (λ n. n == x) xs ≡ length xs = position_or_len_is (λ n. n == x) xs (length xs) 0 (omega arith)
     (λ k l. apart (get_or xs k 0) x (h k l)) (λ l. absurd (omega arith)) in
     sym (ap (λ n. cond (nat_lt n (length xs)) (Some n) None) p ∙ ap (λ b. cond b (Some (length xs)) None) (le-ltb (length xs) (length xs) (omega arith)))
 
--- what a position says
+-- the number at a found position
 pub at-position : (xs : List ℕ) (x i : ℕ) → position (λ n. n == x) xs ≡ Some i → (i < length xs) × (get_or xs i 0 ≡ x)
 at-position xs x i e = let s = position-Some (λ n. n == x) xs i 0 e in (s.0, eqb-true (get_or xs i 0) x s.1)
 

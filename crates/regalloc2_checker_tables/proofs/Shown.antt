@@ -88,7 +88,7 @@ pub record IsLoadedFrom (t u : Holding) (k : ℕ) : Type 0 where
   pub kept : AreKeptTables t u
   pub now : HoldsNow u (holds_in t k)
 
--- a table was put by, and one was changed and kept, and the first came back
+-- one table was saved, another was changed and saved, and the first was loaded again
 pub record IsSettledIn (t a b c d u : Holding) (p : Option Passed) (table spare : ℕ) : Type 0 where
   pub apart : table ≡ spare → ⊥
   pub put_by : IsSavedAs t a spare

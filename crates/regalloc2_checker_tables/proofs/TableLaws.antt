@@ -13,7 +13,7 @@ use Rattle.regalloc2_checker_tables.specs.Holding.{Holding, held, holds_now, hol
 use Rattle.regalloc2_checker_tables.specs.Holding.{IsSoundHolding, AreStill, AreMoreHomes, AreKeptTables, HoldsNow, is_in}
 use Rattle.regalloc2_checker_tables.proofs.Holders.{homes-same, home-kept, is_in-more}
 
--- sets and homes are added
+-- sets and homes (the places where a vreg may be) are added
 pub entries-more : (s t : List NumberSet) (v : List ℕ) (h g : List NumberSet) (n : ℕ) (f : ℕ → ℕ) → AreMore s t → AreMoreHomes h g → AreEntries s v h n f →
     AreEntries t v g n f
 entries-more s t v h g n f m k e =
@@ -275,7 +275,7 @@ save-tables t f a ec h =
 pub get-below : (t : Holding) (from n : ℕ) → IsSoundHolding t → from < length t.places → n ≡ number_now t.entries from → n < length t.sets
 get-below t from n a less e = let long = a.long in subst (λ (x : ℕ). x < length t.sets) (sym e) (a.now.below from (omega arith))
 
--- a listed member came
+-- a listed member was visited
 pub listed-times : (has : ℕ → Bool) (ys zs : List ℕ) → zs ≡ ys → ListsBits has ys → (y : ℕ) → has y ≡ true → 0 < times_listed zs y
 listed-times has ys zs e h y is =
     let a : times_listed zs y ≡ (if has y then 1 else 0) = ap (λ (l : List ℕ). times_listed l y) e ∙ h y in

@@ -1,4 +1,4 @@
--- How far the members of a set are walked over.
+-- How far a walk over the members of a set is.
 use Rattle.std.proofs.Common.{inl, inr, subst, ℕ, ◌≡◌, ◌+◌, ◌<◌, arith, Bool, true}
 use Rattle.std.proofs.Common.{false, cond, nat_eq, eq-eqb, List, [], ◌∷◌, ◌++◌, refl, sym, ap, ◌∙◌, append_assoc}
 use Rattle.std.specs.Prelude.{if◌then◌else◌}
@@ -40,7 +40,7 @@ pub walked-on : (s : NumberSet) (done left rest : List ℕ) (x : ℕ) → ListsM
 walked-on s done left rest x h e i = ap (λ l. times_listed l i) (append_assoc done (x ∷ []) rest) ∙ ap (λ (l : List ℕ). times_listed (done ++ l) i) (sym e)
     ∙ h i
 
--- the one that comes is a member
+-- the next one is a member
 pub walked-is : (s : NumberSet) (done left rest : List ℕ) (x : ℕ) → ListsMembers s (done ++ left) → left ≡ x ∷ rest → has_number s x ≡ true
 walked-is s done left rest x h e =
     one_of (has_number s x)
@@ -50,7 +50,7 @@ walked-is s done left rest x h e =
     let d = h x in
     omega arith)
 
--- at the end each member came
+-- at the end each member was visited
 pub walked-all : (s : NumberSet) (done left : List ℕ) (y : ℕ) → ListsMembers s (done ++ left) → left ≡ [] →
     times_listed done y ≡ (if has_number s y then 1 else 0)
 walked-all s done left y h e = ap (λ (l : List ℕ). times_listed l y) (sym (append-nil done)) ∙ ap (λ (l : List ℕ). times_listed (done ++ l) y) (sym e) ∙ h y
@@ -59,7 +59,7 @@ walked-all s done left y h e = ap (λ (l : List ℕ). times_listed l y) (sym (ap
 pub walked-end : (s : NumberSet) (done left : List ℕ) (y : ℕ) → ListsMembers s (done ++ left) → left ≡ [] → has_number s y ≡ true → 0 < times_listed done y
 walked-end s done left y h e m = let a = walked-all s done left y h e in let b = of_one (has_number s y) m in omega arith
 
--- what holds of each that came, and of the one that comes
+-- what holds of each visited member, and of the next
 pub walked-more : (P : ℕ → Type 0) (done : List ℕ) (x : ℕ) → ((y : ℕ) → 0 < times_listed done y → P y) → P x → (y : ℕ) → 0 < times_listed (done ++ x ∷ []) y
     → P y
 walked-more P done x h g y l = elim (cases_eq y x) [

@@ -6,7 +6,7 @@ use Rattle.regalloc2_shape.specs.Numbers.{NumberSet, has_number}
 use Rattle.regalloc2_checker_tables.specs.SavedNumbers.{NumberCopies, copy_count, saved_number, number_now}
 use Rattle.regalloc2_checker_tables.specs.EntrySets.{is_member, AreMore, IsSetOf}
 
--- the listed places and vregs, by their bits; the numbers of the sets that tables have; the sets; and the places where each vreg may be
+-- the listed places and vregs, by their bits; the numbers of the sets that tables have; the sets; and each vreg's homes, the places where it may be
 pub record Holding : Type 0 where
   pub places : List ℕ
   pub vregs : List ℕ

@@ -1,7 +1,7 @@
--- An array of numbers, and saved copies of it in chunks of 64 that stand among words.
+-- An array of numbers, and saved copies of it in chunks of 64, stored in one list of words.
 use Rattle.std.specs.Prelude.{ℕ, ◌≡◌, ◌+◌, ◌*◌, ◌-◌, ◌/◌, ◌%◌, ◌<◌, ◌≤◌, List, [], length, get_or, Option, None, Some}
 
--- a saved copy is where its chunks begin among the words; a chunk that it has not begins at 0
+-- a saved copy is where its chunks begin among the words; a chunk that it lacks begins at 0
 pub record Copies : Type 0 where
   pub words : List ℕ
   pub saved : List (List ℕ)
@@ -24,11 +24,11 @@ pub record IsChunkAt (words cells : List ℕ) (chunk base : ℕ) : Type 0 where
   pub within : base + 64 ≤ length words
   pub same : (t : ℕ) → t < 64 → get_or cells (64 * chunk + t) 0 ≡ get_or words (base + t) 0
 
--- a chunk of the array that is known to stand among the words does
+-- a chunk of the array that is known to be among the words is there
 abbrev pub AreClean : List ℕ → List ℕ → List (Option ℕ) → Type 0
 AreClean words cells clean = (j b : ℕ) → j < length clean → get_or clean j None ≡ Some b → IsChunkAt words cells j b
 
--- chunks lie among the words
+-- chunks are within the words
 abbrev pub AreWithin : List ℕ → List ℕ → Type 0
 AreWithin words bases = (j : ℕ) → get_or bases j 0 + 64 ≤ length words
 
@@ -44,7 +44,7 @@ pub record AreMoreWords (old new : List ℕ) : Type 0 where
   pub longer : length old ≤ length new
   pub kept : (i : ℕ) → i < length old → get_or new i 0 ≡ get_or old i 0
 
--- the chunks of an array stand among the words
+-- the chunks of an array are among the words
 pub record AreBases (words cells bases : List ℕ) (count : ℕ) : Type 0 where
   pub count_is : length bases ≡ count
   pub chunks : (j : ℕ) → j < count → IsChunkAt words cells j (get_or bases j 0)

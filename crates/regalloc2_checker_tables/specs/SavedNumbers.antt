@@ -1,8 +1,8 @@
--- An array of numbers, and saved copies of it in chunks of 64 that stand among words. Where they stand is an array of its own, with saved copies.
+-- An array of numbers, and saved copies of it in chunks of 64, stored in one list of words. Where chunks begin is an array of its own, with saved copies.
 use Rattle.std.specs.Prelude.{ℕ, ◌≡◌, ◌+◌, ◌*◌, ◌/◌, ◌%◌, ◌<◌, ◌≤◌, List, [], length, get_or}
 use Rattle.regalloc2_checker_tables.specs.SavedCopies.{Copies, number_in, saved_at, number_in_cell, IsChunkAt}
 
--- saved copies: where their chunks begin among the words is what chunks of other words make
+-- saved copies: where their chunks begin among the words is itself stored in chunks, of other words
 pub record NumberCopies : Type 0 where
   pub words : List ℕ
   pub base_words : List ℕ
@@ -33,14 +33,14 @@ AreAlikeBetween v k from end = (i : ℕ) → from ≤ i → i < end → number_n
 abbrev pub ArePartsAlike : List ℕ → List ℕ → Copies → ℕ → ℕ → ℕ → Type 0
 ArePartsAlike words cells bases k from end = (i : ℕ) → from ≤ i → i < end → get_or cells i 0 ≡ get_or words (saved_at bases k (i / 64) + i % 64) 0
 
--- what stays true of the parts: the chunks of saved copies lie among the words, and those of the array that stand there do so where they say
+-- what stays true of the parts: the chunks of saved copies are within the words, and each chunk of the array that is stored is where its base says
 pub record AreChunksKept (words cells : List ℕ) (bases : Copies) : Type 0 where
   pub long : length cells ≡ 64 * length bases.cells
   pub within : (k j : ℕ) → j < length bases.cells → saved_at bases k j + 64 ≤ length words
   pub small : (k j : ℕ) → j < length bases.cells → saved_at bases k j < 4294967295
   pub known : (j : ℕ) → j < length bases.cells → number_in_cell bases j < 4294967295 → IsChunkAt words cells j (number_in_cell bases j)
 
--- only the working array of where chunks stand changed
+-- only the working array of the chunks' bases changed
 pub record AreCopiesKept (old new : Copies) : Type 0 where
   pub words : new.words ≡ old.words
   pub saved : new.saved ≡ old.saved
@@ -50,6 +50,6 @@ pub record AreCopiesKept (old new : Copies) : Type 0 where
 abbrev pub AreLoaded : List ℕ → List ℕ → Copies → ℕ → ℕ → Type 0
 AreLoaded words cells bases k end = (j : ℕ) → j < end → j < length bases.cells → IsChunkAt words cells j (saved_at bases k j)
 
--- the chunks of the array below a chunk stand among the words
+-- the chunks of the array below a chunk are among the words
 abbrev pub AreSaved : Copies → ℕ → Type 0
 AreSaved bases end = (j : ℕ) → j < end → j < length bases.cells → number_in_cell bases j < 4294967295

@@ -1,8 +1,9 @@
-//! An array of numbers, and saved copies of it, for many copies of which each differs little from another.
+//! An array of numbers, and saved copies of it, for many copies that each differ little from
+//! another.
 //!
-//! An array is kept in chunks of 64 numbers. Those of all saved copies stand in one list of words that only grows. Where
-//! the chunks of each stand is an array of numbers itself, of which copies are saved in turn, so that neither saving nor
-//! loading a copy goes over all chunks.
+//! An array is kept in chunks of 64 numbers. The chunks of all saved copies are in one list of
+//! words that only grows. Where the chunks of each copy begin is an array of numbers itself, with
+//! saved copies, so neither saving nor loading a copy goes over all chunks.
 
 ghost use Rattle.std.specs.Prelude.{◌≡◌, ◌≢◌, ℕ, ◌+◌, ◌*◌, ◌/◌, ◌%◌, ◌-◌, ◌^◌, ◌<◌, ◌≤◌, length, get_or, slice_set};
 ghost use Rattle.std.specs.Prelude.{IfOk, OnOk, OnErr, MatchOption};
@@ -14,7 +15,7 @@ use crate::versions::{Versions, copy_chunk, difference_in, is_same_chunk};
 use std::alloc::{AllocError, Allocator};
 use std::marker::Model;
 
-/// Where a chunk stands that was written since.
+/// Where a chunk that was written since is stored.
 const UNSAVED: u32 = u32::MAX;
 
 /// An array of numbers, and saved copies of it, by number. `last` is the one that was last loaded or saved.
@@ -55,7 +56,7 @@ fn load_chunks<A: Allocator + Copy>(
     }
 }
 
-/// Puts a chunk of the array among the words, if it was written since it stood there.
+/// Stores a chunk of the array among the words, if it was written since it was last stored.
 fn save_chunk<A: Allocator + Copy>(
     words: &mut Vec<u32, A>,
     bases: &mut Versions<A>,
@@ -89,7 +90,7 @@ fn save_chunk<A: Allocator + Copy>(
     Ok(())
 }
 
-/// Puts the chunks of the array that a saved copy near to it hasn't among the words.
+/// Stores the chunks of the array that a saved copy near to it lacks among the words.
 fn save_chunks<A: Allocator + Copy>(
     words: &mut Vec<u32, A>,
     bases: &mut Versions<A>,
@@ -141,8 +142,8 @@ fn first_position<A: Allocator + Copy>(
     None
 }
 
-/// The same, where the position may stand anywhere. The rest of a chunk that it stands in is looked through at once, since
-/// positions that differ often stand in one chunk.
+/// The same, for any position. The rest of the chunk around the position is compared at once, since
+/// positions that differ are often in one chunk.
 fn next_position<A: Allocator + Copy>(
     words: &[u32],
     bases: &Versions<A>,

@@ -1,8 +1,9 @@
 //! Tables in which a parameter may be passed without a walk over the places of its argument.
 //!
-//! A branch to many blocks may pass one vreg to a parameter of each, which many places hold. A block that is
-//! entered over one edge alone needn't have its parameter noted at each of them: it is enough that what is asked of the
-//! parameter is answered by its argument, until one of the two is written, or another way comes in.
+//! A branch to many blocks may pass one vreg, which many places hold, to a parameter of each. A
+//! block that is entered over one edge alone needn't have its parameter noted at each of these
+//! places: a question about the parameter is answered from its argument, until one of the two is
+//! written, or another edge is met in.
 
 ghost use Rattle.std.specs.Prelude.{◌≡◌, ◌<◌, ◌≢◌, ℕ, true, false, ◌==◌, ◌&&◌, ◌↔◌, nat_eq, nat_lt, if◌then◌else◌, length, get_or, None, Contains, IfOk, OnOk};
 ghost use Rattle.std.specs.Bool.{OnTrue, OnFalse};
@@ -126,7 +127,8 @@ fn with_or_without<A: Allocator + Copy>(
 }
 
 impl<A: Allocator + Copy> PassingTables<A> {
-    /// Tables without a member, over listed places and vregs. Past 2^38 places memory is refused.
+    /// Tables without a member, over listed places and vregs. Past 2^38 places the memory
+    /// allocation fails.
     pub fn new(
         alloc: A,
         count: usize,
@@ -372,8 +374,8 @@ impl<A: Allocator + Copy> PassingTables<A> {
         Ok(())
     }
 
-    /// Leaves in a table what the one that is worked on holds too; answers whether that is less than it held. The one that
-    /// is worked on is lost.
+    /// Keeps in a table only what the one that is worked on holds too; returns whether that is less
+    /// than it held. The one that is worked on is lost.
     pub fn meet(&mut self, table: usize) -> Result<bool, AllocError>
         requires { table < table_count self.old }
         ensures places { self.new.places ≡ self.old.places }

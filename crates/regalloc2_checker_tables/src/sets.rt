@@ -87,7 +87,7 @@ fn intersection<A: Allocator + Copy>(
     Ok(both)
 }
 
-/// The members of a set, in no order that is promised.
+/// The members of a set, in no guaranteed order.
 fn listed<A: Allocator + Copy>(alloc: A, set: &IndexSet<A>) -> Result<Vec<u32, A>, AllocError>
     ensures { IfOk result (λ members. ListsBits (has_bits set.now) members.items) }
 {
@@ -173,7 +173,7 @@ impl<A: Allocator + Copy> Sets<A> {
         }
     }
 
-    /// The members of a set, in no order that is promised.
+    /// The members of a set, in no guaranteed order.
     pub fn members(&self, set: u32) -> Result<Vec<u32, A>, AllocError>
         requires { set < length self.now }
         ensures { IfOk result (λ members. ListsBits (is_member self.now set) members.items) }
@@ -181,7 +181,7 @@ impl<A: Allocator + Copy> Sets<A> {
         listed(self.alloc, &self.sets[set as usize])
     }
 
-    /// Adds a set, and its one member, if that is known; answers its number.
+    /// Adds a set, and its one member, if that is known; returns its number.
     #[inline(always)]
     fn add(&mut self, set: IndexSet<A>, only: Option<u32>) -> Result<u32, AllocError>
         requires { (b : ℕ) → only ≡ Some b → (y : ℕ) → has_bits set y ≡ nat_eq y b }

@@ -266,7 +266,8 @@ fn is_changed(before: bool, had: u32, common: u32) -> bool
     common != had
 }
 
-/// Leaves at a position what a saved copy has too; answers whether the copy has more, or had so before.
+/// Keeps at a position only what a saved copy has too; returns whether the copy has more, or had so
+/// before.
 fn meet_at<A: Allocator + Copy>(
     entries: &mut Entries<A>,
     sets: &mut Sets<A>,
@@ -311,7 +312,8 @@ fn next_below<A: Allocator + Copy>(
     if place < bound { Some(place) } else { None }
 }
 
-/// Leaves in the array what a saved copy has too, at the positions below a bound; answers whether the copy has more.
+/// Keeps in the array only what a saved copy has too, at the positions below a bound; returns
+/// whether the copy has more.
 fn meet_entries<A: Allocator + Copy>(
     entries: &mut Entries<A>,
     sets: &mut Sets<A>,
@@ -356,7 +358,8 @@ fn empty_homes<A: Allocator + Copy>(
 }
 
 impl<A: Allocator + Copy> Tables<A> {
-    /// Tables without a member, over listed places and vregs. Past 2^38 places memory is refused.
+    /// Tables without a member, over listed places and vregs. Past 2^38 places the memory
+    /// allocation fails.
     pub fn new(
         alloc: A,
         count: usize,
@@ -575,8 +578,8 @@ impl<A: Allocator + Copy> Tables<A> {
         self.entries.save(table)
     }
 
-    /// Leaves in a table what the one that is worked on holds too; answers whether that is less than it held. The one that
-    /// is worked on is lost.
+    /// Keeps in a table only what the one that is worked on holds too; returns whether that is less
+    /// than it held. The one that is worked on is lost.
     pub fn meet(&mut self, table: usize) -> Result<bool, AllocError>
         requires { table < count_of self.old }
         ensures places { self.new.places ≡ self.old.places }

@@ -1,8 +1,9 @@
 //! An array of numbers, and saved copies of it that share what they have in common.
 //!
-//! An array is kept in chunks of 64 numbers. Those of all saved copies stand in one list of words that only grows, and a
-//! saved copy is the list of where its chunks begin there. A chunk of the array that is worked on knows where it stands
-//! among the words, if it wasn't written since.
+//! An array is kept in chunks of 64 numbers. The chunks of all saved copies are in one list of
+//! words that only grows, and a saved copy is the list of where its chunks begin there. For each
+//! chunk of the array that is worked on, its base among the words is kept, unless the chunk was
+//! written since.
 
 ghost use Rattle.std.specs.Prelude.{◌≡◌, ℕ, [], true, ◌+◌, ◌*◌, ◌/◌, ◌%◌, ◌-◌, ◌^◌, ◌<◌, ◌≤◌, ◌++◌, Some, None, length, get_or, slice_set, slice_index, map};
 ghost use Rattle.std.specs.Prelude.{List, ◌≢◌, IfOk, OnOk, OnErr, IsTrue, ◌↔◌, MatchOption};
@@ -127,8 +128,8 @@ fn load_chunk(
     clean[chunk] = Some(base);
 }
 
-/// Where a chunk of the array stands among the words: where it stood when it was last loaded or saved, if it wasn't
-/// written since, or where a saved copy has such a chunk, else at their end.
+/// Where a chunk of the array is among the words: where it was when it was last loaded or saved, if
+/// it wasn't written since, or where a saved copy has an equal chunk, else at their end.
 fn save_chunk<A: Allocator>(
     words: &mut Vec<u32, A>,
     base: usize,
@@ -171,7 +172,8 @@ fn load_all(words: &[u32], bases: &[u32], cells: &mut [u32], clean: &mut [Option
     }
 }
 
-/// Where the chunks of the array stand among the words, which get those that do not stand there yet.
+/// Where the chunks of the array are among the words, to which chunks that are not there yet are
+/// added.
 fn save_all<A: Allocator + Copy>(
     alloc: A,
     words: &mut Vec<u32, A>,

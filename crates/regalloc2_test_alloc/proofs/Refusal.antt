@@ -1,4 +1,4 @@
--- `refuses` at a call: what it is handed, and what a caller has of it. Assumes `Logic`.
+-- `refuses` at a call: what it receives, and what its caller gets. Assumes `Logic`.
 use Rattle.std.proofs.Common.{Bool, ◌≡◌, ℕ, List, [], ◌∷◌, refl, ap}
 use seplogic.Ra.Ura.{Ura}
 use mir.Val.{Val, vbool, vptr}
@@ -32,7 +32,7 @@ module _ {M : Type 1} {𝓤 : Ura M} (𝓛 : Logic 𝓤) (at_mem : Memory → SP
 module _ {M : Type 1} {𝓤 : Ura M} (𝓛 : Logic 𝓤) (at_mem : Memory → SProp 𝓤) (run : Routine → Fun 𝓤) (κ : Lft) (q : Share) (c : ℕ × ℕ) where
   open 𝓛 use {H, A}
 
-  -- a shared counter, while its lifetime lasts, is all that the call is handed
+  -- a shared counter, while its lifetime lasts, is all that the call receives
   pub Refuses-goes : ent 𝓤 (sep 𝓤 (sem 𝓛 (hidden_shr Calls κ (record { value = tt }) c.0 c.1)) (A.lft κ q))
       ((Refuses 𝓛 at_mem run).pre (at_refuses 𝓛 at_mem run κ q c))
   Refuses-goes =

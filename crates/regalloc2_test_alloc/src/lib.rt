@@ -1,21 +1,21 @@
-//! An allocator for tests: it refuses one request, which the test chooses by its number, and counts.
+//! An allocator for tests: it fails one request, which the test chooses by its number, and counts.
 //!
-//! A test that hands it to a call, with each number in turn, sees what the call answers and leaves when
-//! that growth is refused. A collection over `&Refusing` shares the count. A growth of a block is one
-//! request, as a new block is; giving a block back is none.
+//! A test that hands it to a call, with each number in turn, sees what the call returns and leaves
+//! when that allocation fails. A collection over `&Refusing` shares the count. A growth of a block
+//! is one request, as a new block is; giving a block back is none.
 #![tactic(auto)]
 
 use std::alloc::{AllocError, Allocator, Global};
 use std::cell::Cell;
 
-/// Passes requests on to the allocator within, but for the one that it refuses.
+/// Passes requests on to the allocator within, but for the one that it fails.
 pub struct Refusing<B: Allocator> {
     inner: B,
     left: Cell<u64>,
 }
 
 impl<B: Allocator> Refusing<B> {
-    /// Over `inner`, the allocator that refuses the nth request, counted from 1, and no other.
+    /// Over `inner`, the allocator that fails the nth request, counted from 1, and no other.
     pub fn new(inner: B, nth: u64) -> Refusing<B> {
         Refusing {
             inner,
@@ -23,17 +23,18 @@ impl<B: Allocator> Refusing<B> {
         }
     }
 
-    /// Over `inner`, the allocator that refuses nothing a test can reach, and counts by `requests`.
+    /// Over `inner`, the allocator that fails no request a test can reach, and counts by
+    /// `requests`.
     pub fn counting(inner: B) -> Refusing<B> {
         Refusing::new(inner, u64::MAX)
     }
 
-    /// Whether the request that was to be refused has come.
+    /// Whether the request that was to fail was made.
     pub fn has_refused(&self) -> bool {
         self.left.get() == 0
     }
 
-    /// How many requests have come to an allocator that `counting` made.
+    /// How many requests an allocator that `counting` made has received.
     pub fn requests(&self) -> u64 {
         u64::MAX - self.left.get()
     }
@@ -45,7 +46,7 @@ impl<B: Allocator> Drop for Refusing<B> {
     }
 }
 
-/// Counts one request, and answers whether it is the one to refuse.
+/// Counts one request, and returns whether it is the one to fail.
 fn refuses(left: &Cell<u64>) -> bool {
     let now = left.get();
     if now == 0 {
@@ -72,11 +73,13 @@ unsafe impl<B: Allocator> Allocator for Refusing<B> {
 
 /// A call that takes memory from an allocator.
 pub trait Call {
-    /// Whether the call is done, and answers and leaves what it should. An error says that it was told that memory ran out.
+    /// Whether the call is done, and returns and leaves what it should. An error says that the call
+    /// reported that memory ran out.
     fn make(&self, alloc: &Refusing<Global>) -> Result<bool, AllocError>;
 }
 
-/// Whether a call that is refused a growth says so, for each of its growths, and is done if it is made again; and there is one.
+/// Whether a call reports each of its failed allocations, and is done if it is made again; and
+/// there is one.
 pub fn is_each_told<C: Call>(global: Global, call: &C) -> bool {
     for nth in 1..10_000u64 {
         let alloc = Refusing::new(global, nth);

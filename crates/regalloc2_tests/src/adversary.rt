@@ -100,9 +100,10 @@ impl Function for Same<'_> {
     ghost limited = { limited_same };
 }
 
-/// A list of 2^15 operands that is lent so many times: how many operands that makes, and how a run is refused. 2^32 of them, which no
-/// list holds, are refused before anything is allocated, and without a look at each of them. The machine has registers of each class,
-/// since one without is tested against each operand.
+/// A list of 2^15 operands that is lent so many times: how many operands that makes, and how a run
+/// rejects it. 2^32 of them, which no list holds, are rejected before anything is allocated, and
+/// without a look at each of them. The machine has registers of each class, since one without is
+/// tested against each operand.
 pub fn lend(alloc: Global, insts: usize) -> Option<(Option<u32>, Option<RegAllocError>)>
     requires { insts < 2 ^ 30 }
 {

@@ -1,4 +1,4 @@
-//! What `compile` answers to texts.
+//! What `compile` returns for texts.
 
 use codegen::program::{Action, Task, answer};
 use std::alloc::Global;
@@ -14,7 +14,7 @@ const TEXTS: [&[u8]; 4] = [
     &[255],
 ];
 
-/// Writes the status, whether there is assembly, and what stands on the standard error.
+/// Writes the status, whether there is assembly, and what was written to the standard error.
 fn show<W: Write>(alloc: Global, text: &[u8], to: &mut W) -> io::Result<()> {
     let task = Task::Read("text", Action::Write);
     let (mut out, mut err) = (Vec::new(alloc), Vec::new(alloc));
@@ -75,7 +75,8 @@ fn show_run<W: Write>(
     )
 }
 
-/// Writes what is answered to each of the texts, of which assembly is asked, and what the functions return that are run.
+/// Writes what is returned for each of the texts, when assembly is requested, and what the
+/// functions return that are run.
 pub fn show_all<W: Write>(alloc: Global, to: &mut W) -> io::Result<()> {
     for text in TEXTS {
         show(alloc, text, to)?;

@@ -1,8 +1,9 @@
-//! Gives `ra2` texts that nobody would write, and says what it answers.
+//! Gives `ra2` texts that no user would write, and reports its results.
 //!
-//! The texts come by line, each behind the words that `ra2` gets, with `+` between them. A text `~OLD~NEW` is the last whole one with OLD
-//! replaced by NEW; a line that begins with `#` is a title. Then come deep and large texts, and copies of all whole ones that are
-//! changed at random, from a fixed seed. Last, with each whole text, `ra2` is refused each of its requests for memory in turn.
+//! Each line of the input is a text, behind the arguments that `ra2` gets, with `+` between them. A
+//! text `~OLD~NEW` is the last whole one with OLD replaced by NEW; a line that begins with `#` is a
+//! title. Then come deep and large texts, and randomly changed copies of all whole ones, from a
+//! fixed seed. Last, with each whole text, each memory allocation of `ra2` fails in turn.
 
 ghost use Rattle.std.specs.Prelude.{◌<◌};
 
@@ -32,7 +33,7 @@ fn text_of(alloc: Global, whole: &str, text: &str) -> Result<String, AllocError>
     }
 }
 
-/// Writes what is answered to a text.
+/// Writes the result for a text.
 fn show<W: Write>(alloc: Global, words: &str, text: &str, out: &mut W) -> io::Result<()> {
     match ask(alloc, alloc, words, text.as_bytes()) {
         Some(answer) => write!(out, "{answer}"),
@@ -40,7 +41,7 @@ fn show<W: Write>(alloc: Global, words: &str, text: &str, out: &mut W) -> io::Re
     }
 }
 
-/// Writes what is answered to each line's text.
+/// Writes the result for each line's text.
 fn show_all<W: Write>(alloc: Global, lines: &str, out: &mut W) -> io::Result<()> {
     let mut whole = "";
     for line in lines.lines() {
@@ -59,7 +60,7 @@ fn show_all<W: Write>(alloc: Global, lines: &str, out: &mut W) -> io::Result<()>
     Ok(())
 }
 
-/// Writes what is answered to a text with a part that is repeated, between two others.
+/// Writes the result for a text with a part that is repeated, between two others.
 fn show_large<W: Write>(
     alloc: Global,
     part: &str,
@@ -76,8 +77,8 @@ fn show_large<W: Write>(
     show(alloc, "run", &text, out)
 }
 
-/// Writes what is answered to texts that are deep or large. The last three have a function, in two of them behind a member that isn't
-/// read.
+/// Writes the results for texts that are deep or large. The last three have a function, in two of
+/// them behind a member that isn't read.
 fn show_all_large<W: Write>(alloc: Global, function: &str, out: &mut W) -> io::Result<()> {
     let members = function.strip_prefix('{').unwrap_or("");
     let after_list = format!(in alloc; "0],{members}")?;
@@ -101,10 +102,10 @@ fn show_all_large<W: Write>(alloc: Global, function: &str, out: &mut W) -> io::R
     )
 }
 
-/// How many answers had each status, and how many broke a rule or had no memory.
+/// How many results had each status, and how many broke a rule or had no memory.
 type Counts = [u32; 4];
 
-/// Where an answer is counted.
+/// Where a result is counted.
 fn place_of(answer: Option<Answer>) -> usize
     ensures { result < 4 }
 {
@@ -114,7 +115,7 @@ fn place_of(answer: Option<Answer>) -> usize
     }
 }
 
-/// Counts the answers to changed copies of a text.
+/// Counts the results for changed copies of a text.
 fn count(alloc: Global, random: &mut Random, words: &str, text: &str, counts: &mut Counts) {
     for _ in 0..COPIES {
         let text = changed(alloc, random, text.as_bytes());
@@ -123,7 +124,7 @@ fn count(alloc: Global, random: &mut Random, words: &str, text: &str, counts: &m
     }
 }
 
-/// Counts the answers to changed copies of all whole texts.
+/// Counts the results for changed copies of all whole texts.
 fn fuzz(alloc: Global, lines: &str) -> Counts {
     let mut counts = [0u32; 4];
     let mut random = Random::new(2026);
@@ -135,7 +136,8 @@ fn fuzz(alloc: Global, lines: &str) -> Counts {
     counts
 }
 
-/// Writes what is answered to each line's text, to deep and large ones, how often what to changed ones, and what to refused requests.
+/// Writes the results for each line's text, for deep and large ones, how often each for changed
+/// ones, and for failed allocations.
 pub fn show_fuzz<W: Write>(alloc: Global, lines: &str, out: &mut W) -> io::Result<()> {
     show_all(alloc, lines, out)?;
     let function = lines

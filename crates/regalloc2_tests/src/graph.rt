@@ -1,4 +1,5 @@
-//! Graphs of blocks at random, without critical edges: with forks, loops, and blocks that nothing leads to now and then.
+//! Randomly generated graphs of blocks without critical edges: with forks, loops, and sometimes
+//! blocks that nothing leads to.
 
 use super::random::Random;
 use regalloc2::{Block, VReg};
@@ -100,7 +101,8 @@ impl Graph {
         Some(graph)
     }
 
-    /// Whether a branch of the block may have operands: it leads to blocks that are entered in one way.
+    /// Whether a branch of the block may have operands: each block that it leads to is entered by
+    /// one edge.
     pub fn may_use(&self, block: usize) -> Option<bool> {
         for succ in &self.nodes.get(block)?.succs {
             if self.nodes.get(succ.index())?.is_join {

@@ -1,4 +1,5 @@
-//! An instruction at random that fits: there are registers enough for its operands and clobbers.
+//! A randomly generated instruction that fits: there are registers enough for its operands and
+//! clobbers.
 
 ghost use Rattle.std.specs.Prelude.{◌≡◌};
 ghost use Rattle.regalloc2_names.specs.Packing.{IsConstraintOf};
@@ -26,7 +27,7 @@ pub struct Draft {
     pub operands: Vec<Operand>,
     /// The registers and fixed stack slots of the machine.
     usable: PRegSet,
-    /// How many registers of each class the instruction may still ask for.
+    /// How many registers of each class the instruction may still require.
     left: [usize; 3],
     /// Registers of fixed operands at the early position.
     early: PRegSet,
@@ -49,7 +50,7 @@ impl Draft {
         }
     }
 
-    /// Whether a register of the class was left, which is taken.
+    /// Whether a register of the class was left, which is claimed.
     fn takes_one(&mut self, class: RegClass) -> bool {
         let at = class as usize;
         let has_one = self.left[at] > 0;
@@ -57,7 +58,7 @@ impl Draft {
         has_one
     }
 
-    /// Whether the machine has a register that was free at these positions, at which it is taken.
+    /// Whether the machine has a register that was free at these positions, at which it is claimed.
     fn takes(&mut self, fixed: PReg, is_early: bool, is_late: bool) -> bool {
         let (has_early, has_late) = (self.early.contains(fixed), self.late.contains(fixed));
         if is_early && has_early || is_late && has_late || !self.usable.contains(fixed) {

@@ -1,9 +1,11 @@
-//! `regalloc2_tests`: calls the allocator, the checker, `ra2` and the code generator as no case file can, and prints what they answer. The
-//! file `stdout` says what must come. The input has a title and a function, a JSON text, for each part of the table of refused requests;
-//! then, behind an empty line, texts for `ra2`.
+//! `regalloc2_tests`: calls the allocator, the checker, `ra2` and the code generator as no case
+//! file can, and prints their results. The file `stdout` has the expected output. The input has a
+//! title and a function, a JSON text, for each part of the table of failed allocations; then,
+//! behind an empty line, texts for `ra2`.
 //!
-//! Functions at random, from fixed seeds, have up to twelve blocks, operands of every kind but `Limit`, and registers enough for
-//! each of their instructions, most of which ask for all that there are; on no path is a value read before it is written.
+//! Randomly generated functions, from fixed seeds, have up to twelve blocks, operands of every kind
+//! but `Limit`, and registers enough for each of their instructions, most of which require all that
+//! there are; on no path is a value read before it is written.
 #![tactic(auto)]
 
 mod adversary;
@@ -27,7 +29,7 @@ use std::alloc::Global;
 use std::fmt::Debug;
 use std::io::{self, BufWriter, Write};
 
-/// Writes what a call answers.
+/// Writes what a call returns.
 fn show<W: Write, T: Debug + Drop>(out: &mut W, name: &str, value: T) -> io::Result<()> {
     writeln!(out, "{name}: {value:?}")
 }
@@ -42,19 +44,20 @@ fn is_right(alloc: Global, seed: u64) -> Option<bool> {
     Some(is_accepted && is_by_tree && run_tested(alloc, &f, &maker.env).is_ok())
 }
 
-/// How many of so many functions at random fail.
+/// How many of so many randomly generated functions fail.
 fn failures(alloc: Global, count: u64) -> usize {
     let is_failed = |seed: &u64| is_right(alloc, *seed) != Some(true);
     (0..count).filter(is_failed).count()
 }
 
-/// How many of so many functions over whole numbers at random return what their codes return.
+/// How many of so many randomly generated functions over whole numbers return what their codes
+/// return.
 fn agreeing(alloc: Global, count: u64) -> usize {
     let does_agree = |seed: &u64| agrees_at_random(alloc, *seed) == Some(true);
     (0..count).filter(does_agree).count()
 }
 
-/// Writes what the allocator and the checker answer.
+/// Writes what the allocator and the checker return.
 fn show_calls<W: Write>(alloc: Global, out: &mut W) -> io::Result<()> {
     show(out, "tables", rows::tables(alloc))?;
     show(out, "slots and refusals", rows::slots_and_refusals(alloc))?;
@@ -65,7 +68,7 @@ fn show_calls<W: Write>(alloc: Global, out: &mut W) -> io::Result<()> {
     show(out, "large functions", large::sizes(alloc))
 }
 
-/// Writes what `ra2` answers.
+/// Writes what `ra2` returns.
 fn show_program<W: Write>(alloc: Global, out: &mut W) -> io::Result<()> {
     show(out, "no words are refused", program::no_words(alloc))?;
     show(

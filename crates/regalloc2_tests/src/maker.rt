@@ -1,4 +1,5 @@
-//! Functions at random: well-formed, each instruction fits, and each use comes after the definition on every path.
+//! Randomly generated functions: well-formed, each instruction fits, and each use comes after the
+//! definition on every path.
 
 ghost use Rattle.std.specs.Prelude.{◌≡◌, ◌<◌};
 
@@ -17,13 +18,13 @@ pub struct Maker {
     pub env: MachineEnv,
     /// The registers and fixed stack slots of the machine.
     usable: PRegSet,
-    /// How many registers of each class an instruction may ask for.
+    /// How many registers of each class an instruction may require.
     most: [usize; 3],
     /// How many vregs are named.
     named: usize,
     /// Those that may be read.
     known: Vec<VReg>,
-    /// Whether instructions ask for registers as long as there are any, as in most functions.
+    /// Whether instructions require registers as long as there are any, as in most functions.
     is_filled: bool,
 }
 

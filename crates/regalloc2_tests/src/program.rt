@@ -1,4 +1,4 @@
-//! What `ra2` answers to words and texts, and where a read or a write fails.
+//! What `ra2` returns for arguments and texts, and where a read or a write fails.
 
 use regalloc2_tool::ra2::answer;
 use std::alloc::{AllocError, Global};
@@ -86,7 +86,7 @@ impl Write for Faulty {
     }
 }
 
-/// The words of a command line.
+/// The arguments of a command line.
 fn words(alloc: Global, line: &[&str]) -> Result<Vec<String>, AllocError> {
     let mut words = Vec::new(alloc);
     for word in line {
@@ -95,7 +95,8 @@ fn words(alloc: Global, line: &[&str]) -> Result<Vec<String>, AllocError> {
     Ok(words)
 }
 
-/// Whether the program answers words and an input by just a line on the standard error, with status 2.
+/// Whether the program reports arguments and an input by just a line on the standard error, with
+/// status 2.
 fn is_refused<R: Read + Drop>(
     alloc: Global,
     line: &[&str],
@@ -109,12 +110,12 @@ fn is_refused<R: Read + Drop>(
     Ok(status == 2 && out.is_empty() && err.as_slice() == err_line.as_bytes())
 }
 
-/// Whether no words are refused.
+/// Whether a call without arguments is rejected.
 pub fn no_words(alloc: Global) -> io::Result<bool> {
     is_refused(alloc, &[], TEXT.as_bytes(), "ra2: bad words\n")
 }
 
-/// The lengths at which a text that is cut there isn't refused.
+/// The lengths at which a text that is cut there isn't rejected.
 pub fn unrefused_lengths(alloc: Global) -> io::Result<Vec<usize>> {
     let whole = TEXT.as_bytes();
     let mut unrefused = Vec::new(alloc);
@@ -126,7 +127,7 @@ pub fn unrefused_lengths(alloc: Global) -> io::Result<Vec<usize>> {
     Ok(unrefused)
 }
 
-/// Bytes that are no function, and aren't refused.
+/// Bytes that are no function, and aren't rejected.
 pub fn unrefused_bytes(alloc: Global) -> io::Result<Vec<&'static [u8]>> {
     let no_function: [&'static [u8]; 4] = [b"{", b"null", &[34, 255, 34], &[195, 40]];
     let mut unrefused = Vec::new(alloc);
@@ -138,7 +139,7 @@ pub fn unrefused_bytes(alloc: Global) -> io::Result<Vec<&'static [u8]>> {
     Ok(unrefused)
 }
 
-/// After how many reads, none or one, a read that fails isn't refused.
+/// After how many reads, none or one, a read that fails isn't reported.
 pub fn unrefused_reads(alloc: Global) -> io::Result<Vec<u32>> {
     let mut unrefused = Vec::new(alloc);
     for sound_reads in [0, 1] {
@@ -153,7 +154,8 @@ pub fn unrefused_reads(alloc: Global) -> io::Result<Vec<u32>> {
     Ok(unrefused)
 }
 
-/// What the program writes and answers where the write that comes after so many others fails, over a buffer of so many bytes.
+/// What the program writes and returns where the write that comes after so many others fails, over
+/// a buffer of so many bytes.
 fn answer_faulty(alloc: Global, capacity: usize, sound_writes: u32) -> io::Result<(u8, Faulty)> {
     let words = words(alloc, &["check"])?;
     let out = Faulty::new(alloc, sound_writes, true);
@@ -208,7 +210,8 @@ pub fn failed_flush(alloc: Global) -> io::Result<(u8, bool, bool)> {
     Ok((status, is_listed, err.is_empty()))
 }
 
-/// The status where words are bad, and the line that says so can't be written; whether nothing else is.
+/// The status where arguments are rejected, and the line that says so can't be written; whether
+/// nothing else is.
 pub fn shut_error_stream(alloc: Global) -> io::Result<(u8, bool)> {
     let walk = words(alloc, &["walk"])?;
     let out = BufWriter::new(alloc, Vec::new(alloc))?;

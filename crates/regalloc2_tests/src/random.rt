@@ -51,8 +51,9 @@ pub fn integer_machine(alloc: Global, count: usize) -> MachineEnv {
     }
 }
 
-/// A machine: of each class up to seven registers, of which some aren't preferred, with or without two fixed stack slots and a
-/// register for moves. It comes with how many registers of each class an instruction may ask for.
+/// A machine: of each class up to seven registers, of which some aren't preferred, with or without
+/// two fixed stack slots and a register for moves. It is returned with how many registers of each
+/// class an instruction may require.
 pub fn any_machine(alloc: Global, random: &mut Random) -> Option<(MachineEnv, [usize; 3])> {
     let mut env = integer_machine(alloc, 0);
     let mut most = [0usize; 3];

@@ -1,8 +1,9 @@
-//! Each call that takes memory, with each of its requests for memory refused in turn.
+//! Each call that allocates memory, with each of its allocations made to fail in turn.
 //!
-//! Each call of the table is made with each function and an allocator that refuses its first request, then its second and so on, until a
-//! call meets no refusal. A call whose request is refused has to say that memory ran out, to leave what it says it leaves, and to answer
-//! as ever if it is made again; the last one, which met no refusal, has to be done.
+//! Each call of the table is made with each function and an allocator that fails its first request,
+//! then its second and so on, until no allocation of a call fails. A call with a failed allocation
+//! has to report that memory ran out, to leave what it says it leaves, and to return the usual
+//! result if it is made again; the last call, without a failed allocation, has to be done.
 
 mod calls;
 
@@ -26,14 +27,14 @@ fn output_of(alloc: Global, f: &SerializableFunction) -> Output {
     allocate_without_checker(alloc, f, f.machine_env()).unwrap_or(Output::new(alloc))
 }
 
-/// Whether each refused request of a call is told, and whether the call takes memory at all. The call's right answer is the one that it
-/// gives with ample memory.
+/// Whether each failed allocation of a call is reported, and whether the call allocates memory at
+/// all. The call's expected result is the one that it returns with ample memory.
 fn is_told(global: Global, given: &mut Given) -> Option<bool> {
     given.wanted = given.answer(global).ok()?;
     Some(is_each_told(global, given))
 }
 
-/// Writes of which calls each refused request is told, and of which it isn't.
+/// Writes of which calls each failed allocation is reported, and of which it isn't.
 fn show<W: Write>(global: Global, text: &str, to: &mut W) -> io::Result<()> {
     let Some(f) = function_of(global, text) else {
         return writeln!(to, " no function");
@@ -60,7 +61,8 @@ fn show<W: Write>(global: Global, text: &str, to: &mut W) -> io::Result<()> {
     Ok(())
 }
 
-/// Writes the titles, which begin with `#`, and after each function, a JSON text, of which calls each refused request is told.
+/// Writes the titles, which begin with `#`, and after each function, a JSON text, of which calls
+/// each failed allocation is reported.
 pub fn show_all<W: Write>(global: Global, lines: &str, to: &mut W) -> io::Result<()> {
     for line in lines.lines() {
         if line.starts_with('#') {

@@ -1,4 +1,5 @@
-//! A loop and a fork, and what calls answer of them that no listing shows. The lemmas of `WorkedPaths` say what they read.
+//! A loop and a fork, and results of calls on them that no listing shows. The lemmas of
+//! `WorkedPaths` say what they read.
 
 ghost use Rattle.std.specs.Prelude.{◌≡◌};
 ghost use Rattle.regalloc2_names.specs.declared.RegClass.{RegClass};
@@ -75,8 +76,9 @@ pub fn tables(alloc: Global) -> Option<(CFGInfo, CFGInfo)> {
     Some((info, CFGInfo::new(alloc, &fork).ok()?))
 }
 
-/// The slots that each call gives the loop. Then how it is refused where it has too few registers, where it goes on to no block, and
-/// where it starts at none; whether it is framed in the last two cases; and the slots in the context, which held an output before.
+/// The slots that each call gives the loop. Then how it is rejected where it has too few registers,
+/// where it goes on to no block, and where it starts at none; whether it is structurally valid
+/// (`IsFramed`) in the last two cases; and the slots in the context, which held an output before.
 pub fn slots_and_refusals(
     alloc: Global,
 ) -> Option<([usize; 2], [Option<RegAllocError>; 3], [bool; 2], usize)> {
@@ -96,8 +98,8 @@ pub fn slots_and_refusals(
     Some((slots, answers, framed, ctx.output.num_spillslots))
 }
 
-/// What a checker says that has no output; that was given one which isn't in order, after a right one; and that was given the right
-/// one last.
+/// What a checker reports that has no output; that was given one which isn't well-ordered, after a
+/// right one; and that was given the right one last.
 pub fn verdicts(alloc: Global) -> Option<[Result<(), CheckerErrors>; 3]> {
     let f = turning_loop(alloc).ok()?;
     let (out, mut bad) = (allocated(alloc, &f)?, allocated(alloc, &f)?);

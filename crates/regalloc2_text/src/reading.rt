@@ -23,7 +23,7 @@ use std::alloc::{Allocator, Global};
 pub struct Text<A: Allocator = Global> {
     /// The function and its machine.
     pub function: StoredFunction<A>,
-    /// What an allocation put out for it.
+    /// The output of its allocation.
     pub output: Option<StoredOutput<A>>,
 }
 
@@ -57,8 +57,8 @@ fn no_inst_after<'t>(line: usize) -> TextError<'t>
     Flaw::new(1, expected, Found::Nothing).on_line(line)
 }
 
-/// Reads the lines of a text, whose first line has the number `first_line`, into a draft, by way of
-/// `tokens`. Answers the number of the last.
+/// Reads the lines of a text, whose first line has the number `first_line`, into a draft (what the
+/// lines so far say), by way of `tokens`. Returns the number of the last.
 fn read_lines<'t, A: Allocator + Copy>(
     draft: &mut Draft<A>,
     alloc: A,
@@ -101,9 +101,10 @@ fn read_lines<'t, A: Allocator + Copy>(
 
 /// What a text says, whose first line has the number `first_line`.
 ///
-/// The first line that can't be read is named in the error, or `Memory` is answered where a growth was refused.
-/// A fault stands on a line of the text and names a column from 1 on; the contract bounds its line by the text's length
-/// in bytes. Whether the function and the output are well formed is not looked at, nor does the contract say what is read.
+/// The first line that can't be read is named in the error, or `Memory` is returned where a memory
+/// allocation failed. An error is on a line of the text and names a column from 1 on; the contract
+/// bounds its line by the text's length in bytes. Whether the function and the output are well
+/// formed is not checked, nor does the contract say what is read.
 pub fn read<'t, A: Allocator + Copy>(
     alloc: A,
     text: &'t str,

@@ -1,4 +1,4 @@
--- Closures that hand out one place, once, and what a resolver is owed of them.
+-- Closures that return one place, once, and what a resolver requires of them.
 use Rattle.std.proofs.Common.{◌≡◌, ◌≢◌, Bool, true, false, List, Option, None, Some, sym, ap, ◌∙◌, inl, inr}
 use Rattle.std.proofs.lemmas.Bool.{both_ways}
 use Rattle.regalloc2_names.specs.Place.{Place, NoPlace, InRegister, is_in_slot}
@@ -6,11 +6,11 @@ use Rattle.regalloc2_names.specs.Register.{Register}
 use Rattle.regalloc2_parts.specs.Computed.{Owes, MayAnswer, AnswersDiffer}
 use Rattle.regalloc2_parts.specs.Resolved.{IsUnnamed}
 
--- a call answers the place, or none if there is none, and the next call none
+-- a call returns the place, or none if there is none, and the next call none
 abbrev pub IsHandedOnce : {G : Type 0} → (G → Option Place → G → Type 0) → G → Option Place → Type 0
 IsHandedOnce {G} step s free = (a : Option Place) (t : G) → step s a t → (a ≡ free) × ((b : Option Place) (u : G) → step t b u → b ≡ None)
 
--- the place, if there is one, is a slot or none as it should be, and no move names it
+-- the place, if there is one, is a slot or none as required, and no move names it
 abbrev pub Serves : {T : Type 0} → List (Place × Place × T) → Option Place → Bool → Type 0
 Serves ms free is_slot = (p : Place) → free ≡ Some p → (is_in_slot p ≡ is_slot) × (p ≢ NoPlace) × IsUnnamed p ms
 
@@ -22,7 +22,7 @@ module _ {G : Type 0} (step : G → Option Place → G → Type 0) (s : G) (free
   differ : AnswersDiffer step s
   differ p q m t k l e = let no : Some q ≡ None = (once (Some p) m k).1 (Some q) t l in cc
 
--- a resolver whose closures hand out such places is given what it is owed
+-- a resolver whose closures return such places is given what it requires
 pub owes_once : {F G T : Type 0} (registers : F → Option Place → F → Type 0) (slots : G → Option Place → G → Type 0) (stack : Place → Bool → Type 0)
     (register slot : Option Place) (f : F) (g : G) (ms : List (Place × Place × T)) (borrowed : Register) → IsHandedOnce registers f register →
     IsHandedOnce slots g slot → Serves ms register false → Serves ms slot true → ((p : Place) (b : Bool) → stack p b → b ≡ is_in_slot p) →

@@ -1,4 +1,5 @@
-//! Numbers of instructions and blocks, ranges of instructions, and the allocator that refuses one request.
+//! Numbers of instructions and blocks, ranges of instructions, and the allocator that fails one
+//! request.
 
 ghost use Rattle.std.specs.Iterator.{IsFinite};
 
@@ -9,7 +10,8 @@ use std::alloc::{AllocError, Allocator, Global};
 use std::cmp::Ordering;
 use std::collections::BTreeMap;
 
-/// Writes what numbers and ranges answer, and what calls do whose requests are refused in turn.
+/// Writes what numbers and ranges return, and what calls do when each of their allocations fails in
+/// turn.
 pub fn write_all(alloc: Global, out: &mut Report) -> Result<(), AllocError> {
     write_numbers(out);
     write_ranges(out);
@@ -94,8 +96,8 @@ fn squares<A: Allocator + Copy>(alloc: A, n: u8) -> Result<Vec<u32, A>, AllocErr
     Ok(all)
 }
 
-/// Writes, for each request of two calls refused in turn, and one more, whether each of the calls answers an error, and whether the request
-/// has come by then.
+/// Writes, for each request of two calls, made to fail in turn, and one more, whether each of the
+/// calls returns an error, and whether the request was made by then.
 fn write_refusals(global: Global, out: &mut Report) {
     for nth in 1..10u64 {
         let alloc = Refusing::new(global, nth);
@@ -105,7 +107,7 @@ fn write_refusals(global: Global, out: &mut Report) {
     }
 }
 
-/// Writes how many requests a call makes, and a map whose first is refused.
+/// Writes how many requests a call makes, and a map whose first allocation fails.
 fn write_requests(global: Global, out: &mut Report) -> Result<(), AllocError> {
     let alloc = Refusing::counting(global);
     let before = alloc.requests();

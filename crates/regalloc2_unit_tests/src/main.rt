@@ -1,5 +1,6 @@
-//! `regalloc2_unit_tests`: prints what the parts of the library answer, a line for each row of its tables. The file `stdout` says
-//! what must come; the input has a function and an output as JSON.
+//! `regalloc2_unit_tests`: prints what the parts of the library return, a line for each row of its
+//! tables. The file `stdout` has the expected output; the input has a function and an output as
+//! JSON.
 #![tactic(auto)]
 
 mod indexes;

@@ -1,4 +1,4 @@
-//! Names: the words that stand for them, their texts, and their order.
+//! Names: their encodings, their texts, and their order.
 
 use crate::report::Report;
 use regalloc2_index::{Block, Inst};
@@ -8,7 +8,7 @@ use regalloc2_names::{
 };
 use std::alloc::{AllocError, AllocFailed};
 
-/// Writes what words name, and how names print and are ordered.
+/// Writes what encodings name, and how names print and are ordered.
 pub fn write_all(out: &mut Report) {
     write_places(out);
     write_registers(out);
@@ -18,7 +18,8 @@ pub fn write_all(out: &mut Report) {
     write_orders(out)
 }
 
-/// Writes what words of places name: of each kind, an index past the last register, and all bits.
+/// Writes what encodings of places name: of each kind, an index past the last register, and all
+/// bits.
 fn write_places(out: &mut Report) {
     for word in [0, 536870912, 536871045, 536871104, 1073741833, 4294967295] {
         if !Allocation::is_bits(word) {
@@ -37,8 +38,8 @@ fn write_places(out: &mut Report) {
     }
 }
 
-/// Writes what numbers of registers name, with that which stands for none and the index past all; and what words of virtual
-/// registers do, the first with both bits of the class set.
+/// Writes what numbers of registers name, with the number for no register and the index past all;
+/// and what encodings of vregs name, the first with both bits of the class set.
 fn write_registers(out: &mut Report) {
     for index in [3, 63, 133, 192] {
         if PReg::is_index(index) {
@@ -61,8 +62,8 @@ fn write_registers(out: &mut Report) {
     }
 }
 
-/// Writes what words of operands name: a use, a definition; then constraint code 3, bit 43 and class 3, which name none. Then what
-/// each constructor makes.
+/// Writes what encodings of operands name: a use, a definition; then constraint code 3, bit 43 and
+/// class 3, which name none. Then what each constructor makes.
 fn write_operands(out: &mut Report) {
     for word in [24 << 32, 20 << 32, 48 << 32, 1 << 43, 3 << 32] {
         if Operand::is_bits(word) {
@@ -138,7 +139,7 @@ fn write_texts(out: &mut Report) {
     ]);
 }
 
-/// Writes that names are ordered by their words.
+/// Writes that names are ordered by their encodings.
 fn write_orders(out: &mut Report) {
     let (p, v) = (PReg::new(63, RegClass::Int), VReg::new(1, RegClass::Vector));
     let (reg, slot) = (Allocation::reg(p), Allocation::stack(SpillSlot::new(0)));

@@ -9,7 +9,8 @@ mod structures;
 use crate::report::Report;
 use std::alloc::{AllocError, Global};
 
-/// Writes what lrus of registers, lists of live vregs, operand filters, move resolvers and calls with moves answer.
+/// Writes what lrus of registers, lists of live vregs, operand filters, move resolvers and calls
+/// with moves return.
 pub fn write_all(alloc: Global, out: &mut Report) -> Result<(), AllocError> {
     structures::write_rings(alloc, out);
     // A list that can't be made leaves its rows out.

@@ -34,7 +34,7 @@ impl Report {
         self.put(&words);
     }
 
-    /// Writes what a call answers, for programmers.
+    /// Writes what a call returns, for programmers.
     pub fn row<T: Debug>(&mut self, name: &str, value: &T) {
         self.put(&format_args!("{name}: {value:?}\n"));
     }

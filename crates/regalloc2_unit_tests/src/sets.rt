@@ -9,7 +9,7 @@ use std::alloc::{AllocError, Allocator, Global};
 /// The classes.
 const CLASSES: [RegClass; 3] = [RegClass::Int, RegClass::Float, RegClass::Vector];
 
-/// Writes what sets answer.
+/// Writes what sets return.
 pub fn write_all(alloc: Global, out: &mut Report) -> Result<(), AllocError> {
     write_changes(alloc, out)?;
     write_counts(out);
@@ -21,7 +21,7 @@ pub fn write_all(alloc: Global, out: &mut Report) -> Result<(), AllocError> {
     write_members(alloc, out)
 }
 
-/// Writes sets with all that is asked of them.
+/// Writes sets with the results of all their queries.
 fn write_sets(out: &mut Report, sets: &[(&str, PRegSet)]) {
     for (name, set) in sets {
         out.put(&format_args!("{name}: {set}\n"));
@@ -102,7 +102,8 @@ pub fn count_and_sum<A: Allocator + Copy>(set: &IndexSet<A>) -> (usize, usize) {
     (count, sum)
 }
 
-/// Writes a set that stays within its twelve words, where the first growth is refused, and then goes past them.
+/// Writes a set that stays within its twelve words, where the first allocation fails, and then goes
+/// past them.
 fn write_inline(global: Global, out: &mut Report) -> Result<(), AllocError> {
     let alloc = Refusing::new(global, 1);
     let mut set = IndexSet::new(&alloc);
@@ -121,8 +122,8 @@ fn write_inline(global: Global, out: &mut Report) -> Result<(), AllocError> {
     Ok(())
 }
 
-/// Writes what is left of a set of one member, to which a set of 40 words is assigned or added, if the allocator of its own refuses a
-/// growth. Of a union the words for which there is room are left.
+/// Writes what is left of a set of one member, to which a set of 40 words is assigned or added, if
+/// an allocation of its own allocator fails. Of a union the words for which there is room are left.
 fn write_left<'a>(
     out: &mut Report,
     ample: &'a Refusing<Global>,

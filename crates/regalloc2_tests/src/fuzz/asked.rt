@@ -1,4 +1,4 @@
-//! What `ra2` answers to words and a text.
+//! What `ra2` returns for arguments and a text.
 
 use regalloc2_tool::ra2::answer;
 use std::alloc::{Allocator, Global};
@@ -22,7 +22,7 @@ pub struct Answer {
     err: Vec<u8>,
 }
 
-/// Calls the function that `main` calls, with the words between `+`, over an allocator.
+/// Calls the function that `main` calls, with the arguments between `+`, over an allocator.
 pub fn ask<A: Allocator + Copy>(
     global: Global,
     alloc: A,
@@ -58,8 +58,9 @@ impl fmt::Display for Answer {
 }
 
 impl Answer {
-    /// Whether what was written is what the status says: for 0 a listing or a verdict; for 1 one line with a refusal, or errors; for
-    /// 2 one line, on the standard error. Nothing may say that memory ran out.
+    /// Whether what was written is what the status says: for 0 a listing or a verdict; for 1 one
+    /// line with a rejection, or errors; for 2 one line, on the standard error. Nothing may say
+    /// that memory ran out.
     pub fn keeps_rules(&self) -> bool {
         let (out, err) = (text_of(&self.out), text_of(&self.err));
         let lines = out.lines().count();

@@ -1,4 +1,4 @@
-//! Texts that are changed at random.
+//! Randomly changed texts.
 
 use super::super::random::Random;
 use std::alloc::Global;

@@ -1,14 +1,16 @@
-//! Refuses `ra2` each request for memory in turn.
+//! Makes each memory allocation of `ra2` fail in turn.
 //!
-//! `serde_json` takes its memory from `Global` alone, so the requests that it makes aren't refused. All others are: those that read the
-//! input, those that make the stored numbers and what they name, and those of the allocator and the checker.
+//! `serde_json` takes its memory from `Global` alone, so the requests that it makes don't fail. All
+//! others do: those that read the input, those that make the stored numbers and what they name, and
+//! those of the allocator and the checker.
 
 use super::asked::{LACKS, ask};
 use regalloc2_test_alloc::Refusing;
 use std::alloc::Global;
 use std::io::{self, Write};
 
-/// Whether each request for memory that is refused ends in a line that says so, which is then marked; and there is one.
+/// Whether each memory allocation that fails ends in a line that says so, which is then marked; and
+/// there is one.
 fn is_each_told(global: Global, words: &str, text: &[u8], met: &mut [bool; 5]) -> Option<bool> {
     let ample = ask(global, global, words, text)?;
     for nth in 1..10_000u64 {
@@ -25,7 +27,8 @@ fn is_each_told(global: Global, words: &str, text: &[u8], met: &mut [bool; 5]) -
     None
 }
 
-/// Writes for how many whole texts each refused request is told, and for how many it isn't; and of each line whether it is met.
+/// Writes for how many whole texts each failed allocation is reported, and for how many it isn't;
+/// and of each line whether it is met.
 pub fn show_refused<W: Write>(global: Global, lines: &str, out: &mut W) -> io::Result<()> {
     let (mut told, mut untold, mut met) = (0u32, 0u32, [false; 5]);
     for (words, text) in lines.lines().filter_map(|line| line.split_once(' ')) {

@@ -1,4 +1,4 @@
-//! The calls that take memory, with what they answer as text.
+//! The calls that allocate memory, with their results as text.
 
 use crate::calls::{run_fitting, run_with_ctx_fitting};
 use regalloc2::cfg::{CFGInfo, CFGInfoCtx};
@@ -42,7 +42,7 @@ pub const NAMES: [Name; 10] = [
     Name::CheckWithoutMoves,
 ];
 
-/// A call, the function and the output that it is made with, and what it is to answer.
+/// A call, the function and the output that it is made with, and its expected result.
 #[derive(Drop)]
 pub struct Given<'a> {
     /// Makes the texts.
@@ -85,7 +85,7 @@ fn text_of<A: Allocator>(global: Global, out: &Output<A>) -> Result<String, Allo
     format!(in global; "{slots} {edits:?} {allocs:?} {offsets:?} {labels:?}")
 }
 
-/// The text of faults. That memory ran out, which has to be the only one, is passed on.
+/// The text of errors. That memory ran out, which has to be the only one, is passed on.
 fn faults<A: Allocator>(global: Global, errors: &[CheckerError<A>]) -> Result<String, AllocError> {
     if matches!(errors, [CheckerError::Memory]) {
         return Err(AllocError);
@@ -99,7 +99,8 @@ fn faults<A: Allocator>(global: Global, errors: &[CheckerError<A>]) -> Result<St
 }
 
 impl Given<'_> {
-    /// What the call answers. An error says that it was told that memory ran out, and left what it should.
+    /// What the call returns. An error says that the call reported that memory ran out, and left
+    /// what it should.
     pub fn answer<A: Allocator + Copy>(&self, alloc: A) -> Result<String, AllocError> {
         match self.name {
             Name::Run => self.run(alloc),
@@ -115,7 +116,7 @@ impl Given<'_> {
         }
     }
 
-    /// What a call answers that isn't made, or breaks a rule.
+    /// The result of a call that isn't made, or breaks a rule.
     fn words(&self, words: &str) -> Result<String, AllocError> {
         String::from_str(self.global, words)
     }
@@ -255,7 +256,7 @@ fn definitions<A: Allocator + Copy, F: Function>(alloc: A, f: &F) -> Result<(), 
     validate_ssa(alloc, f, &info)
 }
 
-/// The order of a function's blocks, asked for by a closure.
+/// The order of a function's blocks, requested by a closure.
 fn order<A: Allocator + Copy, F: Function>(
     alloc: A,
     f: &F,

@@ -1,9 +1,9 @@
--- The lines of faults.
+-- The lines of errors.
 use Rattle.std.specs.Prelude.{ℕ, ◌≤◌}
 use Rattle.regalloc2_text.specs.declared.cursor.error.TextError.{TextError}
 use Rattle.regalloc2_text.specs.declared.cursor.error.TextError.TheVariants.{Fault, Memory}
 
--- a fault stands on a line of those numbers
+-- an error is on a line of those numbers
 abbrev pub IsOnLineBetween : ℕ → ℕ → TextError → Type 0
 IsOnLineBetween first last (Fault f) = (first ≤ f.line) × (f.line ≤ last)
 IsOnLineBetween first last Memory = Unit {0}

@@ -9,8 +9,8 @@ use std::alloc::Allocator;
 
 /// A place among the tokens of a line. What is read is passed, and no method goes back.
 ///
-/// The cursor keeps the first flaw that is found, and no token is left after it: what is read from then on is zeros and
-/// empty lists, for `finish` to refuse.
+/// The cursor keeps the first flaw that is found, and no token is left after it: what is read from
+/// then on is zeros and empty lists, and `finish` returns the flaw.
 #[derive(Drop)]
 pub struct Cursor<'a, 't> {
     /// The tokens of the line.
@@ -94,7 +94,7 @@ impl<'a, 't> Cursor<'a, 't> {
         self.fail(Flaw::new(column, expected, found));
     }
 
-    /// Notes that the next token doesn't fit, in whose place these words say what could stand.
+    /// Notes that the next token doesn't fit; these words say what is expected in its place.
     pub fn misfit(&mut self, expected: &'static str)
         ensures { tokens_left self.new ≤ tokens_left self.old }
     {
@@ -113,7 +113,8 @@ impl<'a, 't> Cursor<'a, 't> {
         }
     }
 
-    /// Notes that the token before the next one doesn't fit, in whose place these words say what could stand.
+    /// Notes that the token before the next one doesn't fit; these words say what is expected in
+    /// its place.
     pub fn misfit_before(&mut self, expected: &'static str)
         ensures { tokens_left self.new ≤ tokens_left self.old }
     {

@@ -188,7 +188,7 @@ impl Cursor<'_, '_> {
         self.letter_named('v', VReg::MAX, &NO_VREG)
     }
 
-    /// The word of a vreg, or one that is of none.
+    /// The encoding of a vreg, or one that is of none.
     pub fn vreg_bits(&mut self) -> u32
         ensures { tokens_left self.new ≤ tokens_left self.old }
     {
@@ -206,7 +206,7 @@ impl Cursor<'_, '_> {
         }
     }
 
-    /// The word of an operand, or one that is of none.
+    /// The encoding of an operand, or one that is of none.
     pub fn operand_bits(&mut self) -> u64
         ensures { tokens_left self.new ≤ tokens_left self.old }
     {
@@ -229,7 +229,7 @@ impl Cursor<'_, '_> {
         self.operand(kind, pos)
     }
 
-    /// The word of an operand of that kind and position, from what follows its colon.
+    /// The encoding of an operand of that kind and position, from what follows its colon.
     fn operand(&mut self, kind: OperandKind, pos: OperandPos) -> u64
         ensures { tokens_left self.new ≤ tokens_left self.old }
     {
@@ -318,7 +318,7 @@ impl Cursor<'_, '_> {
         OperandConstraint::Limit(bound)
     }
 
-    /// The word of a place, or one that is of none.
+    /// The encoding of a place, or one that is of none.
     pub fn place_bits(&mut self) -> u32
         ensures { tokens_left self.new ≤ tokens_left self.old }
     {

@@ -61,7 +61,8 @@ impl<A: Allocator + Copy> DraftOutput<A> {
         cursor.extend(&mut self.allocs, places);
     }
 
-    /// Reads what follows `move`, before the instruction of number `next`. Answers whether it says no point.
+    /// Reads what follows `move`, before the instruction of number `next`. Returns whether it says
+    /// no point.
     pub(super) fn read_move(&mut self, cursor: &mut Cursor<'_, '_>, next: u32) -> bool {
         self.is_named = true;
         let from = cursor.place_bits();

@@ -194,7 +194,8 @@ impl<A: Allocator + Copy> StoredLists<A> {
         true
     }
 
-    /// Puts the lists in the place of those of a function, and answers the places and the offsets of an output.
+    /// Puts the lists in the place of those of a function, and returns the places and the offsets
+    /// of an output.
     pub(super) fn replace(
         self,
         function: &mut StoredFunction<A>,

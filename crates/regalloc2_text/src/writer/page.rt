@@ -2,7 +2,8 @@
 
 use std::fmt;
 
-/// Where a text is written. After a write that fails nothing more is written, and `finish` tells.
+/// Where a text is written. After a write that fails nothing more is written, and `finish` reports
+/// it.
 ///
 /// So what writes a line needs no test after each of its pieces.
 #[derive(Drop)]

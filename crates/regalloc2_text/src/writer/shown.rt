@@ -127,7 +127,7 @@ impl<'a, A: Allocator + Copy> Shown<'a, A> {
     }
 }
 
-/// One more than the greatest number that the words show, 0 where they show none.
+/// One more than the greatest number that the encodings show, 0 where they show none.
 fn count_in_words(words: &[u32]) -> u64 {
     let mut count = 0;
     for bits in words {
@@ -136,7 +136,7 @@ fn count_in_words(words: &[u32]) -> u64 {
     count
 }
 
-/// The same of lists of words.
+/// The same of lists of encodings.
 fn count_in_lists<A: Allocator>(lists: &[Vec<u32, A>]) -> u64 {
     let mut count = 0;
     for words in lists {

@@ -29,7 +29,7 @@ fn class_letter(class: RegClass) -> &'static str {
     }
 }
 
-/// A vreg's word, with the letter of the class: `v7i`.
+/// A vreg's encoding, with the letter of the class: `v7i`.
 #[derive(Clone, Copy)]
 pub(crate) struct VRegText(pub u32);
 
@@ -55,10 +55,11 @@ impl VRegText {
     }
 }
 
-/// An operand's word, as `Use: v0i reg`.
+/// An operand's encoding, as `Use: v0i reg`.
 ///
-/// `Operand` writes `Fixed: p3i` for each operand of the greatest vreg number under a fixed register. Here it
-/// stands for the early use alone; the other three are written out, so that no two words have one text.
+/// `Operand` writes `Fixed: p3i` for each operand of the greatest vreg number under a fixed
+/// register. Here it stands for the early use alone; the other three are written out, so that no
+/// two encodings have one text.
 #[derive(Clone, Copy)]
 pub(crate) struct OperandText(pub u64);
 
@@ -112,7 +113,7 @@ impl OperandText {
     }
 }
 
-/// A place's word, as `none`, `p3i` or `stack5`.
+/// A place's encoding, as `none`, `p3i` or `stack5`.
 #[derive(Clone, Copy)]
 pub(crate) struct PlaceText(pub u32);
 

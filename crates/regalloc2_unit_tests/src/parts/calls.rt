@@ -114,7 +114,8 @@ pub fn write_long(alloc: Global, out: &mut Report) -> Result<(), AllocError> {
     Ok(())
 }
 
-/// Whether growths, each refused in turn, leave a call's answer as it was, make it `Memory`, or make it another.
+/// Whether failed allocations, each in turn, leave a call's result as it was, make it `Memory`, or
+/// make it another.
 fn answers_refused(
     global: Global,
     moves: &[(Allocation, Allocation)],
@@ -151,7 +152,7 @@ fn cycle_after(
     Ok(moves)
 }
 
-/// Writes what is made of such a cycle, and what the answers are where a growth is refused.
+/// Writes what is made of such a cycle, and what the results are where an allocation fails.
 pub fn write_refused(global: Global, out: &mut Report) -> Result<(), AllocError> {
     for (first, free) in [((0, 1), 5), ((0, SLOT + 2), 5), ((0, 1), 0)] {
         let moves = cycle_after(global, first)?;

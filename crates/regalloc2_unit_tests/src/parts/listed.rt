@@ -44,8 +44,8 @@ pub fn place(number: usize) -> Allocation
     }
 }
 
-/// What moves between places of these numbers resolve to, or none where two into one place have two sources. A move that is refused
-/// memory is left out.
+/// What moves between places of these numbers resolve to, or none where two into one place have two
+/// sources. A move whose memory allocation fails is left out.
 pub fn resolved<'a, A: Allocator>(
     global: Global,
     alloc: &'a A,
@@ -115,7 +115,7 @@ pub fn write_resolved(alloc: Global, out: &mut Report) {
     }
 }
 
-/// Writes what is left of 17 moves if the growth for the last of them is refused: the 16 before it.
+/// Writes what is left of 17 moves if the allocation for the last of them fails: the 16 before it.
 pub fn write_left(global: Global, out: &mut Report) {
     let alloc = Refusing::new(global, 1);
     let mut pairs = [(0, 20); 17];

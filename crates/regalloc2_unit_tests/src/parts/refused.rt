@@ -1,4 +1,4 @@
-//! Calls that take memory: each growth, refused in turn.
+//! Calls that allocate memory: each allocation, made to fail in turn.
 
 use super::listed::{SLOT, resolved};
 use super::structures::three_rings;
@@ -64,7 +64,7 @@ fn make_sets(alloc: &Refusing<Global>) -> Result<(), RegAllocError> {
     Ok(())
 }
 
-/// Out of memory, or another fault, as other calls name them.
+/// Out of memory, or another error, as other calls name them.
 fn fault_of(fault: StoredFault) -> RegAllocError {
     if fault == StoredFault::Memory {
         RegAllocError::Memory
@@ -73,7 +73,7 @@ fn fault_of(fault: StoredFault) -> RegAllocError {
     }
 }
 
-/// A copy of a function that is framed, with a machine without registers.
+/// A copy of a function that is structurally valid (`IsFramed`), with a machine without registers.
 fn copied<A: Allocator + Copy>(
     alloc: A,
     f: &SerializableFunction<A>,
@@ -106,7 +106,8 @@ fn stored<A: Allocator + Copy>(
     Ok((copy.stored()?, output.stored()?))
 }
 
-/// Writes the numbers that the texts of a function and an output give, and of each call whether it answers each growth that is refused.
+/// Writes the numbers that the texts of a function and an output give, and of each call whether it
+/// reports each allocation that fails.
 pub fn write_all(global: Global, text: &str, out: &mut Report) {
     let texts = text.split_once('\n').unwrap_or(("", ""));
     out.row("stored", &stored(global, global, texts).ok());

@@ -1,7 +1,8 @@
-//! A move resolver whose closures hand out one register and one slot, each once.
+//! A move resolver whose closures return one register and one slot, each once.
 //!
-//! The rows are worked out by hand: a cycle goes through the first place that is handed out. A move from slot to slot goes through the next
-//! register, or else through p40i, which is saved in a slot before it and restored after the last move that uses it.
+//! The rows are worked out by hand: a cycle goes through the first place that is returned. A move
+//! from slot to slot goes through the next register, or else through p40i, which is saved in a slot
+//! before it and restored after the last move that uses it.
 
 ghost use Rattle.std.specs.Prelude.{◌≡◌, ◌≢◌, ◌↔◌, Bool, Option, None, Some, IsTrue};
 ghost use Rattle.regalloc2_names.specs.Place.{Place, NoPlace, is_in_slot};
@@ -14,7 +15,7 @@ use regalloc2_parts::moves::MoveVecWithScratch::{NoScratch, Scratch};
 use regalloc2_parts::moves::{MoveAndScratchResolver, MoveFault, MoveVec, MoveVecWithScratch};
 use std::alloc::Global;
 
-/// The number of the slot that is handed out.
+/// The number of the slot that is returned.
 const SPARE: usize = SLOT + 9;
 
 /// Moves, and the numbers of the register and of the slot that are free, if they are.
@@ -71,7 +72,8 @@ fn serves(moves: &Resolved<'_>, place: Option<Allocation>, is_slot: bool) -> boo
     }
 }
 
-/// What a resolver makes of moves, if its places serve them; and if it is asked by reference, what it has left.
+/// What a resolver makes of moves, if its places serve them; and if it is called by reference, what
+/// it has left.
 fn computed<'a, R, S, M>(
     mut resolver: MoveAndScratchResolver<R, S, M>,
     free: Places,

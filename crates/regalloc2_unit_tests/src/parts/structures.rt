@@ -1,4 +1,4 @@
-//! Rings of registers, lists of live vregs, and operands picked from a list.
+//! Rings of registers, lists of live vregs, and operands selected from a list.
 
 ghost use Rattle.std.specs.Iterator.{IsFinite};
 ghost use Rattle.std.specs.Prelude.{◌≡◌, ◌≤◌};
@@ -21,7 +21,8 @@ pub fn preg(number: usize) -> PReg
     PReg::new(number, RegClass::Int)
 }
 
-/// Writes the members of a ring as `last` gives them one by one, the oldest first; then whether it has none, and the oldest.
+/// Writes the members of a ring as `last` gives them one by one, the least recently used first;
+/// then whether it has none, and the least recently used.
 fn write_ring<A: Allocator>(out: &mut Report, name: &str, ring: &mut Lru<A>) {
     out.put(&format_args!("{name}:"));
     let mut left = PRegSet::empty().invert();
@@ -37,7 +38,7 @@ fn write_ring<A: Allocator>(out: &mut Report, name: &str, ring: &mut Lru<A>) {
     out.row("is", &(ring.is_empty(), ring.pop(), not_first));
 }
 
-/// Writes a new ring, and the ring after each poke; then how often it asked for memory.
+/// Writes a new ring, and the ring after each poke; then how often it requested memory.
 fn write_pokes(alloc: Global, out: &mut Report, regs: &[PReg], poked: &[PReg])
     requires { AreDistinctOf RegClass.Int regs.now }
 {
@@ -82,7 +83,7 @@ fn vreg(number: usize) -> VReg
     VReg::new(number, RegClass::Int)
 }
 
-/// Writes the members, the newest first, and whether there is none.
+/// Writes the members, the last inserted first, and whether there is none.
 fn write_list<A: Allocator>(out: &mut Report, live: &VRegSet<A>) {
     out.words("live:");
     for v in live.iter() {
@@ -107,7 +108,8 @@ pub fn write_removals(alloc: Global, out: &mut Report) -> Result<(), RegAllocErr
     Ok(())
 }
 
-/// Writes a list after all have gone, the last one too, and one has come again; then how often it asked for memory.
+/// Writes a list after all were removed, the last one too, and one was added again; then how often
+/// it requested memory.
 pub fn write_emptied(alloc: Global, out: &mut Report) -> Result<(), RegAllocError> {
     let counting = Refusing::counting(alloc);
     let mut live = VRegSet::with_capacity(&counting, 3)?;
@@ -138,7 +140,7 @@ fn write_walk<I: Iterator<Item = (usize, Operand)>>(out: &mut Report, name: &str
     out.words("\n");
 }
 
-/// Writes what each filter picks.
+/// Writes what each filter selects.
 pub fn write_picks(out: &mut Report) {
     let list = [
         Operand::reg_reuse_def(VReg::new(0, RegClass::Int), 1),

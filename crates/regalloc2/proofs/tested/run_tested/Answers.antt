@@ -5,7 +5,7 @@ reads_written-requires g c =
     let ok = c.in-Ok.ensures.tested in
     record { successors = ok.successors; follow = ok.follow; end = ok.end; counted = ok.counted }
 
--- no path reads before writing, so that nothing of the promise has a premise left
+-- no path reads before writing, so no guarantee has a premise left
 pub returns-clause-runs : goal.returns-clause-runs
 returns-clause-runs g c = c.in-Ok.ensures.allocation.faithful (c.in-Ok-reads_written.ensures.ok.0 c.if-not-written.false)
 

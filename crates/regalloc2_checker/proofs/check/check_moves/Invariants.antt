@@ -5,6 +5,6 @@ use Rattle.regalloc2_checker.specs.CheckInputs.{AreStackSlots}
 use Rattle.regalloc2_checker.proofs.OperandErrors.{AreAdded}
 use Rattle.regalloc2_checker.proofs.check.check_moves.Given as goal
 
--- the faults of the moves before were added
+-- the errors of the moves before were added
 abbrev pub invariant-loop-k : goal.invariant-loop-k
 invariant-loop-k g l = (env : MachineValue) → AreStackSlots env l.slots → AreAdded env (map move_of (take l.k l.moves)) l.initial.errors.items l.errors.items
