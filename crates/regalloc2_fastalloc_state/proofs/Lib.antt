@@ -3,9 +3,9 @@
 -- Depends on the specs, and on `Cells` and `Plain` of regalloc2_semantics for maps that change at one place.
 -- Locations: `inverse_marked` in `VRegInPRegInverse`, the two tables stay inverse; `RegistersOfVRegs`. Slots:
 -- `SpillSlotUnits` (how many units they take), `SlotsAsPlaces`. Registers: `LrusOfMachine` and `LrusByClass`, over
--- `ArraysByClass`, `ClassIsEmpty`, `SetMembers`, `SetOfList`, `SetDifference` and `CountingLaws`. Edits:
+-- `ArraysByClass`, `ClassIsEmpty`, `SetMembers`, `SetOfList` and `CountingLaws`. Edits:
 -- `PointsDescend` (points never rise), `EditsPushed`.
--- Other crates cite `ArraysByClass`, `CountingLaws`, `PointsDescend`, `SetDifference`, `SetMembers`, `SlotsAsPlaces`,
+-- Other crates cite `ArraysByClass`, `CountingLaws`, `PointsDescend`, `SetMembers`, `SlotsAsPlaces`,
 -- `SpillSlotUnits` and `TakenOut`.
 pub mod ArraysByClass
 pub mod ClassIsEmpty
@@ -15,7 +15,6 @@ pub mod LrusByClass
 pub mod LrusOfMachine
 pub mod PointsDescend
 pub mod RegistersOfVRegs
-pub mod SetDifference
 pub mod SetMembers
 pub mod SetOfList
 pub mod SlotsAsPlaces

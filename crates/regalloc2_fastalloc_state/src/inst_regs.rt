@@ -130,10 +130,7 @@ impl InstRegs {
         ensures scratch { self.new.scratch ≡ self.old.scratch }
         ensures awaited { self.new.awaited ≡ self.old.awaited }
     {
-        let late = self.late;
-        // no register of a walk has a number past a word's bits, which the contract needs: the call does nothing
-        let _walk = late.into_iter();
-        self.late = late & taken.invert();
+        self.late = self.late.difference(taken);
     }
 
     /// Counts one more operand of the class that requires any register.

@@ -22,7 +22,7 @@ ghost use Rattle.regalloc2_fastalloc_walk.specs.StateView.{Between, IsBranchStep
 ghost use Rattle.regalloc2_names.specs.RegisterSet.{has_register};
 ghost use Rattle.regalloc2_fastalloc_state.specs.InstRegs.{is_free_throughout};
 ghost use Rattle.regalloc2_fastalloc_state.specs.Choice.{chosen};
-ghost use Rattle.regalloc2_fastalloc_state.specs.StateParts.{SlotsHaveOneOwner, IsLeastRecentIn, NoneIsIn, AllAtOrAfter, lru_of};
+ghost use Rattle.regalloc2_fastalloc_state.specs.StateParts.{IsLeastRecentIn, NoneIsIn, AllAtOrAfter, lru_of};
 
 use super::state::State;
 use super::walk::FunctionCx;
@@ -469,13 +469,6 @@ impl<'a, A: Allocator> State<'a, A> {
         Ok(())
     }
 
-    /// Each slot has one owner.
-    fn have_owners(&self)
-        ensures { SlotsHaveOneOwner self.now.slots }
-    {
-        let _count = self.slots.num_units();
-    }
-
     /// Passes the arguments of a branch: all are spilled to their slots, and then moved to those of
     /// the parameters. A branch that passes nothing returns at once, because lists for its moves
     /// would cost more than all else.
@@ -505,7 +498,8 @@ impl<'a, A: Allocator> State<'a, A> {
             return Ok(());
         }
         let moves = self.gather(inst_regs, alloc, cx, block, inst)?;
-        self.have_owners();
+        // read for its contract: each slot has one owner, so no two arguments go to one slot
+        let _count = self.slots.num_units();
         let point = ProgPoint::before(inst);
         self.push_gathered(inst_regs, point, moves)?;
         Ok(())

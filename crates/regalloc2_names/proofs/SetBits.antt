@@ -13,6 +13,8 @@ use Rattle.std.proofs.lemmas.Nat.Bits.{and_pow, bit_at-lt, bit_at_set_same, bit_
 use Rattle.std.proofs.lemmas.Nat.Bits.{bit_at_and, bit_at_above, bit_at_not, bit_at_ones, bit_at_ones_above}
 use Rattle.std.proofs.lemmas.Nat.{and_le_l}
 use Rattle.std.proofs.lemmas.Bool.{cases_lt}
+use Rattle.std.proofs.Math.Bool.{and_comm}
+use Rattle.std.proofs.Common.{◌∙◌}
 use Rattle.std.proofs.Common.{inl, inr}
 use Rattle.std.specs.Prelude.{◌⊎◌}
 use Rattle.regalloc2_names.specs.Register.{class_code, Register}
@@ -188,3 +190,23 @@ words_up_vector v t h Float n small = let e : nat_lt (1 * 64 + n) (2 * 64 + t) �
 words_up_vector v t h Vector n small =
     let e : nat_lt (2 * 64 + n) (2 * 64 + t) ≡ nat_lt n t = grind (arith, nat_tests) in
     rw e (low_bits (slice_index v 2) t n h)
+
+-- a bit is set in a word less another exactly if it is set in the first alone
+differs_bit : (v w n : ℕ) → v < 18446744073709551616 → w < 2 ^ 64 → ((n < 64) ⊎ (64 ≤ n)) →
+    nat_eq (bit_at (bit_and v (18446744073709551615 - w)) n) 1 ≡ not (nat_eq (bit_at w n) 1) && nat_eq (bit_at v n) 1
+differs_bit v w n fits small (inl l) = meets_bit v (18446744073709551615 - w) n ∙ ap (λ (b : Bool). nat_eq (bit_at v n) 1 && b) (inverts_bit w n small l)
+    ∙ and_comm (nat_eq (bit_at v n) 1) (not (nat_eq (bit_at w n) 1))
+differs_bit v w n fits small (inr g) =
+    let less : bit_and v (18446744073709551615 - w) < 18446744073709551616 = omega (arith, and_le_l v (18446744073709551615 - w)) in
+    rw (bit_at_above v 64 n fits g, bit_at_above (bit_and v (18446744073709551615 - w)) 64 n less g) (
+    sym (and_comm (not (nat_eq (bit_at w n) 1)) false))
+
+-- the registers of three words that three others don't have
+pub words_differ : (v w : List ℕ) → ((i : ℕ) → slice_index v i < 2 ^ 64) → ((i : ℕ) → slice_index w i < 2 ^ 64) → (class : RegClass) (n : ℕ) →
+    words_have (bit_and (slice_index v 0) (18446744073709551615 - slice_index w 0)
+    ∷ bit_and (slice_index v 1) (18446744073709551615 - slice_index w 1) ∷ bit_and (slice_index v 2) (18446744073709551615 - slice_index w 2) ∷ [])
+    (record { number = n; class = class })
+    ≡ not (words_have w (record { number = n; class = class })) && words_have v (record { number = n; class = class })
+words_differ v w fits small Int n = differs_bit (slice_index v 0) (slice_index w 0) n (fits 0) (small 0) (cases_lt n 64)
+words_differ v w fits small Float n = differs_bit (slice_index v 1) (slice_index w 1) n (fits 1) (small 1) (cases_lt n 64)
+words_differ v w fits small Vector n = differs_bit (slice_index v 2) (slice_index w 2) n (fits 2) (small 2) (cases_lt n 64)

@@ -100,6 +100,17 @@ impl PRegSet {
         PRegSet { bits: [!a, !b, !c] }
     }
 
+    /// The registers of the set that the other doesn't have. Upstream has no such call.
+    pub fn difference(self, other: PRegSet) -> PRegSet
+        ensures { (r : Register) → has_register result r ≡ not (has_register other r) && has_register self r }
+    {
+        let [a, b, c] = self.bits;
+        let [d, e, f] = other.bits;
+        PRegSet {
+            bits: [a & !d, b & !e, c & !f],
+        }
+    }
+
     /// Whether the set has no register of that class.
     pub fn is_empty(&self, regclass: RegClass) -> bool
         ensures { IsTrue result ↔ ((r : Register) → r.class ≡ regclass → has_register self.now r ≡ false) }

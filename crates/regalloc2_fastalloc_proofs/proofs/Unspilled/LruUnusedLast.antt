@@ -88,6 +88,7 @@ last_split x (y ∷ ys) = (let r = last_split y ys in (x ∷ r.0, r.1, ap (λ (l
 -- the chosen register, the last one that passes the test, is one of the last ones if these all pass
 pub found_last : (test : Register → Bool) (used unused : List Register) (r : Register) → 0 < length unused →
     ((q : Register) → Contains unused q → test q ≡ true) → chosen test (used ++ unused) ≡ Some r → Contains unused r
+unfolding chosen
 found_last test used [] r some all found = absurd (omega arith)
 found_last test used (x ∷ xs) r some all found = at (last_split x xs).0 (last_split x xs).1 (last_split x xs).2
   where

@@ -3,6 +3,7 @@ use Rattle.std.specs.Prelude.{Option, IfSome, Contains, find, reverse}
 use Rattle.std.proofs.lemmas.List.{get_or_read}
 use Rattle.regalloc2_names.specs.Register.{Register, class_code}
 use Rattle.regalloc2_names.specs.RegisterSet.{has_register}
+use Rattle.regalloc2_fastalloc_state.specs.Choice.{chosen}
 use Rattle.regalloc2_fastalloc_state.specs.StateParts.{AllocatableRegsValue, IsLeastRecentIn, lru_of}
 use Rattle.regalloc2_fastalloc_state.proofs.LrusByClass.{found_in}
 use Rattle.regalloc2_fastalloc_state.proofs.allocatable.AllocatableRegs.choose_register.Goals as goal
@@ -25,6 +26,7 @@ returns-clause-found g c =
     (subst Q (sym c.index-self-code.is ∙ ring) c.last.ensures.member) c.last.ensures.in_set)
 
 pub returns-clause-chosen : goal.returns-clause-chosen
+unfolding chosen
 returns-clause-chosen g c =
     let lrus : List (List Register) = c.self.inside.lrus.items in
     let lt : c.code.result < length lrus = omega (arith, c.self.invariant.0.three, c.code.ensures.small) in

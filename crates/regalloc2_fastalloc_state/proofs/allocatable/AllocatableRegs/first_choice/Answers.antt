@@ -19,16 +19,19 @@ indexed g c =
 -- what is chosen if all are available
 of_all : (result : Option Register) (order : List Register) → IfSome result (λ r. (test : Register → Bool) → test r ≡ true → chosen test order ≡ Some r) →
     IfNone result (order ≡ []) → result ≡ chosen (λ r. true) order
+unfolding chosen
 of_all None order first none = sym (ap (chosen (λ r. true)) none)
 of_all (Some r) order first none = sym (first (λ r. true) refl)
 
 pub returns-clause-chosen : goal.returns-clause-chosen
+unfolding chosen
 returns-clause-chosen g c =
     subst (λ (l : List Register). c.oldest.result ≡ chosen (λ r. true) l)
     (sym c.index-self-code.is ∙ indexed g c ∙ ap (λ (t : AllocatableRegsValue). lru_of t c.args.class) c.self.view_is)
     (of_all c.oldest.result _ c.oldest.ensures.first c.oldest.ensures.none)
 
 pub returns-clause-first : goal.returns-clause-first
+unfolding chosen
 returns-clause-first g c =
     let P : List Register → Type 0 =
     λ l. IfSome c.oldest.result (λ r. (test : Register → Bool) → test r ≡ true → chosen test l ≡ Some r) in
