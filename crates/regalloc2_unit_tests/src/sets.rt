@@ -48,6 +48,7 @@ fn write_changes(alloc: Global, out: &mut Report) -> Result<(), AllocError> {
         ("union", both),
         ("and", both & less),
         ("or", less | set),
+        ("less", set.difference(PRegSet::empty().with(p4))),
         ("up to", low),
     ];
     write_sets(out, &sets);
