@@ -205,8 +205,8 @@ impl<A: Allocator + Copy> TableBuilder<A> {
         Ok(())
     }
 
-    /// The function, with slots of one unit and vregs below `num_vregs`: the blocks' ranges follow one another, and each
-    /// block has as predecessors those that go on to it, each once for each time, by their numbers.
+    /// The function, with slots of one unit and vregs below `num_vregs`, without labels: the blocks' ranges follow one another,
+    /// and each block has as predecessors those that go on to it, each once for each time, by their numbers.
     pub fn finish(self, num_vregs: usize) -> Result<TableFunction<A>, BuildError>
         ensures ok { IfOk result (λ f. IsBuilt (drafts_of self) num_vregs (function_of_table f)) }
         ensures err { IfErr result (λ e. IsUnbuilt (drafts_of self) num_vregs e) }
@@ -221,7 +221,7 @@ impl<A: Allocator + Copy> TableBuilder<A> {
         let (mut blocks, insts) = lay_out(alloc, blocks)?;
         link(&mut blocks)?;
         let slots = (SlotUnits::one(), SlotUnits::one(), SlotUnits::one());
-        Ok(TableFunction::of_blocks(num_vregs, slots, blocks, insts))
+        Ok(TableFunction::of_blocks(alloc, num_vregs, slots, blocks, insts))
     }
 }
 
