@@ -1,4 +1,4 @@
--- The function that a serializable function stands for.
+-- The function that a serializable function holds.
 use Rattle.regalloc2_function.specs.FunctionValue.{FunctionValue}
 use Rattle.regalloc2_serialize.specs.TableFunction.Table.{function_of_table}
 use Rattle.regalloc2_serialize.specs.declared.tables.SerializableFunction.{SerializableFunction}

@@ -264,7 +264,7 @@ fn tables_from<A: Allocator + Copy, B: Allocator>(
 }
 
 impl<A: Allocator> StoredFunction<A> {
-    /// Tests what [`SerializableFunction::from_stored`] wants, in its order.
+    /// Makes the tests of [`SerializableFunction::from_stored`], in its order.
     fn test(&self) -> Result<(), StoredFault>
         ensures ok { IfOk result (λ _. IsSoundStored self.now) }
         ensures refused { IfErr result (λ e. IsFaultOf self.now e) }
@@ -315,10 +315,12 @@ fn function_from<A: Allocator + Copy, B: Allocator>(
 }
 
 impl<A: Allocator + Copy> SerializableFunction<A> {
-    /// The function and the machine that stored numbers name.
+    /// Returns the function and the machine that stored numbers name.
     ///
-    /// Of `Lengths`, `Index`, `Bits` and `Limit` the first whose test fails is answered, in this order; `Memory` only where
-    /// all four pass and a growth was refused.
+    /// # Errors
+    ///
+    /// The first of `Lengths`, `Index`, `Bits` and `Limit` whose test fails, in this order; `Memory` if all four pass and
+    /// memory runs out.
     pub fn from_stored<B: Allocator>(
         alloc: A,
         stored: &StoredFunction<B>,

@@ -112,11 +112,15 @@ fn copied_units<F: Function>(f: &F, class: RegClass) -> SlotUnits
 }
 
 impl<A: Allocator + Copy> SerializableFunction<A> {
-    /// A function and the machine that it is for, to be stored. Each block has instructions, which are among the function's.
+    /// Copies a function, to be stored with the machine that it is for.
     ///
-    /// Stored data have no instruction that is both a branch and a return: it is kept as a return, as by upstream. All else is
-    /// kept, so that without such an instruction the value is `f`'s own.
-    /// `Memory` where a growth was refused, and nothing else.
+    /// Each block has instructions, and they are among the function's. Stored data have no instruction that is both a branch
+    /// and a return: the copy has a return there, as upstream's has. All else is kept: if no instruction is both, and each
+    /// block has a list of arguments for each successor, the copy's value is `f`'s own.
+    ///
+    /// # Errors
+    ///
+    /// `Memory` if memory runs out, and nothing else.
     pub fn new<F: Function>(
         alloc: A,
         f: &F,

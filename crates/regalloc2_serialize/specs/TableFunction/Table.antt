@@ -1,4 +1,4 @@
--- The function that a table stands for.
+-- The function that a table holds.
 use Rattle.std.specs.Prelude.{map}
 use Rattle.regalloc2_function.specs.FunctionValue.{FunctionValue, BlockValue, InstValue, SlotSizes, label_of}
 use Rattle.regalloc2_serialize.specs.declared.table_function.table.TableBlock.{TableBlock}

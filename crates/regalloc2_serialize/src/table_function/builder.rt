@@ -72,7 +72,7 @@ impl<T: Drop> From<AllocFailed<T>> for BuildError {
     }
 }
 
-/// A block that is being built.
+/// A partial block.
 #[derive(Drop)]
 pub struct BlockDraft<A: Allocator = Global> {
     /// What takes the arguments.
@@ -85,8 +85,9 @@ pub struct BlockDraft<A: Allocator = Global> {
     pub arguments: Vec<Vec<VReg, A>, A>,
 }
 
-/// Builds a function whose blocks are declared one by one, and filled in any order. It starts at block 0. A call that is refused leaves
-/// all as it was.
+/// Builds a function whose blocks are declared one by one, and filled in any order.
+///
+/// The function starts at block 0. A call that returns an error leaves the builder unchanged.
 #[derive(Drop)]
 pub struct TableBuilder<A: Allocator = Global> {
     /// What is built in.
@@ -139,7 +140,7 @@ impl<A: Allocator + Copy> TableBuilder<A> {
         Ok(())
     }
 
-    /// Adds an instruction with these operands, after which the next one comes.
+    /// Adds an instruction with these operands that goes on to the next one.
     pub fn op(&mut self, block: Block, operands: &[Operand]) -> Result<(), BuildError>
         ensures ok { OnOk result (HasMore (drafts_of self.old) block operands.now false false (drafts_of self.new)) }
         ensures err { IfErr result (λ e. IsUnadded (length (drafts_of self.old)) block e) }
