@@ -13,6 +13,6 @@ IsCompileReason f (Refused e) = (env : MachineValue) × IsTarget env × IsTested
 IsCompileReason f Memory = Unit {0}
 
 -- what is said of it; of the allocator's words no clause speaks
-abbrev pub error_text : CompileError → Option (List ℕ)
-error_text (Refused e) = None
-error_text Memory = Some (codes "out of memory")
+abbrev pub compile_error_text : CompileError → Option (List ℕ)
+compile_error_text (Refused e) = None
+compile_error_text Memory = Some (codes "out of memory")

@@ -4,7 +4,7 @@ ghost use Rattle.std.specs.Prelude.{IfErr, IfOk};
 ghost use Rattle.codegen_machine.specs.Ir.Seen.{function_of_procedure};
 ghost use Rattle.codegen_machine.specs.Machine.{code_of};
 ghost use Rattle.codegen.specs.Behaves.{BehavesAs};
-ghost use Rattle.codegen.specs.Reasons.{IsCompileReason, error_text};
+ghost use Rattle.codegen.specs.Reasons.{IsCompileReason, compile_error_text};
 
 use super::emit::emit;
 use super::registers::target;
@@ -26,7 +26,7 @@ pub enum CompileError {
 }
 
 impl fmt::Display for CompileError {
-    ghost output = { error_text };
+    ghost output = { compile_error_text };
 
     fn fmt<W: fmt::Write>(&self, f: &mut fmt::Formatter<W>) -> fmt::Result {
         match self {

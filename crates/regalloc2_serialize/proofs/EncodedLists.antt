@@ -1,4 +1,4 @@
--- What is read from JSON: lists of numbers are shown as themselves, and a missing member refuses the whole.
+-- What is read from JSON: lists of numbers are shown as themselves, and a missing member rejects the whole.
 use Rattle.std.proofs.Common.{◌≡◌, ◌∙◌, ℕ, List, [], ◌∷◌, map, ap, refl, Option, None, Some}
 use Rattle.std.specs.Option.{option_map}
 use Rattle.std.specs.Prelude.{◌⊎◌, codes, IsSome, Result, IfOk, IfErr, IsErrAnd}
@@ -67,7 +67,7 @@ pub none-some : {X : Type 0} (o : Option X) → o ≡ None → IsSome o → ⊥
 none-some None e h = absurd cc
 none-some (Some x) e h = absurd cc
 
--- a member that isn't there, or that memory failed, refuses the whole function
+-- a missing member, or an allocation that fails, rejects the whole function
 pub not-function : {A X : Type 0} (d : Data) (r : Result (StoredFunction A) StoredFault) (e : StoredFault) (o : Option X) →
     IsErrAnd r (λ y. y ≡ e) → (HasJsonShape d → IsSome o) → (e ≡ Shape → o ≡ None) → (e ≡ Shape) ⊎ (e ≡ Memory) → record {
       fields : IfOk r (λ s. IsFunctionAt d s);

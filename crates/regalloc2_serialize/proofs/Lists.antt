@@ -50,3 +50,7 @@ pub map-more : {X Y Z : Type 0} (f : X → Z) (h : Y → Z) (xs : List X) (ys : 
     i < length ys → y ≡ get_or ys i y → f x ≡ h y → map f xs ≡ map h (take i ys) → map f (xs ++ x ∷ []) ≡ map h (take (i + 1) ys)
 map-more f h xs ys i x y less is here before =
     rw (map-append f xs (x ∷ []), take_more ys i y less, ← is, map-append h (take i ys) (y ∷ []), before, here) refl
+
+-- what each member of a mapped list has, each member has under the map
+pub all-from-map : {X Y : Type 0} (P : Y → Type 0) (f : X → Y) (xs : List X) → All P (map f xs) → All (λ x. P (f x)) xs
+all-from-map P f xs all k d less = subst P (get_or-map f xs k d (f d) less) (all k (f d) (rw length-map less))

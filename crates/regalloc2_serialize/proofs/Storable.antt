@@ -1,37 +1,38 @@
 -- The numbers of a function pass the tests of stored functions, if the function's blocks name blocks.
 use Rattle.std.proofs.Common.{◌≡◌, ◌∙◌, ◌<◌, ◌≤◌, ◌/◌, ℕ, List, [], ◌∷◌, length, map, get_or, ap, sym, subst, refl, arith}
 use Rattle.std.specs.Prelude.{◌↔◌, All}
-use Rattle.std.proofs.lemmas.List.{get_or-map, length-map}
+use Rattle.std.proofs.lemmas.List.{length-map}
 use Rattle.std.proofs.lemmas.List.Elements.{All-head, All-map, All-tail}
 use Rattle.std.proofs.lemmas.Simd.{map-map}
 use Rattle.regalloc2_index.specs.Range.{Span}
 use Rattle.regalloc2_names.specs.RegisterBits.{vreg_of_bits}
 use Rattle.regalloc2_function.specs.FunctionValue.{IsSlotSize, label_of}
 use Rattle.regalloc2_serialize.specs.Decoded.{stored_range, stored_label}
-use Rattle.regalloc2_serialize.specs.Tables.{block_of_serializable, function_of_serializable}
+use Rattle.regalloc2_serialize.specs.TableFunction.Table.{block_of_table}
+use Rattle.regalloc2_serialize.specs.Tables.{function_of_serializable}
 use Rattle.regalloc2_serialize.specs.Validity.{HasThreeClasses, HasAllOfEachBlock, HasLengths, AreNumbersWithin, NamesAll, KeepsLimits, NamesItsBlocks}
 use Rattle.regalloc2_serialize.specs.Validity.{IsSoundStored}
 use Rattle.regalloc2_serialize.specs.declared.data.StoredFunction.{StoredFunction}
-use Rattle.regalloc2_serialize.specs.declared.tables.BlockTable.{BlockTable}
+use Rattle.regalloc2_serialize.specs.declared.table_function.table.TableBlock.{TableBlock}
 use Rattle.regalloc2_serialize.specs.declared.tables.SerializableFunction.{SerializableFunction}
 use Rattle.regalloc2_serialize.proofs.EncodedLists.{map-same}
-use Rattle.regalloc2_serialize.proofs.Lists.{all-under}
+use Rattle.regalloc2_serialize.proofs.Lists.{all-under, all-from-map}
 
 -- the five lists by block are those of blocks
-pub record AreListsOf {A B : Type 0} (s : StoredFunction A) (bs : List (BlockTable B)) : Type 0 where
-  pub ranges : map stored_range s.blocks.items ≡ map (λ b. (block_of_serializable b).range) bs
-  pub succs : map (λ l. l.items) s.block_succs.items ≡ map (λ b. (block_of_serializable b).succs) bs
-  pub preds : map (λ l. l.items) s.block_preds.items ≡ map (λ b. (block_of_serializable b).preds) bs
-  pub params : map (λ l. map vreg_of_bits l.items) s.block_params_in.items ≡ map (λ b. (block_of_serializable b).params) bs
-  pub arguments : map (λ l. map (λ k. map vreg_of_bits k.items) l.items) s.block_params_out.items ≡ map (λ b. (block_of_serializable b).arguments) bs
+pub record AreListsOf {A B : Type 0} (s : StoredFunction A) (bs : List (TableBlock B)) : Type 0 where
+  pub ranges : map stored_range s.blocks.items ≡ map (λ b. (block_of_table b).range) bs
+  pub succs : map (λ l. l.items) s.block_succs.items ≡ map (λ b. (block_of_table b).succs) bs
+  pub preds : map (λ l. l.items) s.block_preds.items ≡ map (λ b. (block_of_table b).preds) bs
+  pub params : map (λ l. map vreg_of_bits l.items) s.block_params_in.items ≡ map (λ b. (block_of_table b).params) bs
+  pub arguments : map (λ l. map (λ k. map vreg_of_bits k.items) l.items) s.block_params_out.items ≡ map (λ b. (block_of_table b).arguments) bs
 
 -- what the tests of stored functions read are the parts of a function
 pub record ArePartsOf {A B : Type 0} (s : StoredFunction A) (f : SerializableFunction B) : Type 0 where
-  pub lists : AreListsOf s f.blocks.items
-  pub insts : length s.insts.items ≡ length f.insts.items
-  pub entry : s.entry_block ≡ f.entry
-  pub num_vregs : s.num_vregs ≡ f.num_vregs
-  pub labels : map stored_label s.debug_value_labels.items ≡ map label_of f.labels.items
+  pub lists : AreListsOf s f.function.blocks.items
+  pub insts : length s.insts.items ≡ length f.function.insts.items
+  pub entry : s.entry_block ≡ f.function.entry
+  pub num_vregs : s.num_vregs ≡ f.function.num_vregs
+  pub labels : map stored_label s.debug_value_labels.items ≡ map label_of f.function.labels.items
   pub classes : HasThreeClasses s.machine_env
   pub names : NamesAll s
   pub sizes : length s.spillslot_size.items ≡ 3
@@ -49,45 +50,41 @@ map-alike f h [] all = refl
 map-alike f h (x ∷ xs) all =
     rw (All-head (λ x. f x ≡ h x) x xs all, map-alike f h xs (All-tail (λ x. f x ≡ h x) x xs all)) refl
 
-arguments-counted : {B : Type 0} (bs : List (BlockTable B)) → All (λ b. length (block_of_serializable b).arguments ≡ length (block_of_serializable b).succs) bs
-arguments-counted bs k d less = counted (get_or bs k d)
-  where
-    counted : {B : Type 0} (b : BlockTable B) → length (block_of_serializable b).arguments ≡ length (block_of_serializable b).succs
-    counted b = omega (arith, length-map b.arguments.items (λ v. v.items), b.arguments_counted, b.arguments.ok.0, b.succs.ok.0)
+arguments-counted : {B : Type 0} (bs : List (TableBlock B)) → All (λ b. length b.arguments.items ≡ length b.succs.items) bs →
+    All (λ b. length (block_of_table b).arguments ≡ length (block_of_table b).succs) bs
+arguments-counted bs counted k d less = length-map (get_or bs k d).arguments.items (λ v. v.items) ∙ counted k d less
 
-all-of-each : {A B : Type 0} (s : StoredFunction A) (bs : List (BlockTable B)) → AreListsOf s bs → HasAllOfEachBlock s
-all-of-each s bs h =
-    let count : length s.blocks.items ≡ length bs = as-long stored_range (λ b. (block_of_serializable b).range) s.blocks.items bs h.ranges in
+all-of-each : {A B : Type 0} (s : StoredFunction A) (bs : List (TableBlock B)) → AreListsOf s bs →
+    All (λ b. length b.arguments.items ≡ length b.succs.items) bs → HasAllOfEachBlock s
+all-of-each s bs h counted =
+    let count : length s.blocks.items ≡ length bs = as-long stored_range (λ b. (block_of_table b).range) s.blocks.items bs h.ranges in
     record {
-      preds = as-long (λ l. l.items) (λ b. (block_of_serializable b).preds) s.block_preds.items bs h.preds ∙ sym count;
-      succs = as-long (λ l. l.items) (λ b. (block_of_serializable b).succs) s.block_succs.items bs h.succs ∙ sym count;
-      params = as-long (λ l. map vreg_of_bits l.items) (λ b. (block_of_serializable b).params) s.block_params_in.items bs h.params ∙ sym count;
-      arguments = counted-alike (λ l. map (λ k. map vreg_of_bits k.items) l.items) (λ l. length l.items) (λ b. (block_of_serializable b).arguments)
+      preds = as-long (λ l. l.items) (λ b. (block_of_table b).preds) s.block_preds.items bs h.preds ∙ sym count;
+      succs = as-long (λ l. l.items) (λ b. (block_of_table b).succs) s.block_succs.items bs h.succs ∙ sym count;
+      params = as-long (λ l. map vreg_of_bits l.items) (λ b. (block_of_table b).params) s.block_params_in.items bs h.params ∙ sym count;
+      arguments = counted-alike (λ l. map (λ k. map vreg_of_bits k.items) l.items) (λ l. length l.items) (λ b. (block_of_table b).arguments)
           s.block_params_out.items bs (λ l. sym (length-map l.items (λ k. map vreg_of_bits k.items))) h.arguments
-          ∙ map-alike (λ b. length (block_of_serializable b).arguments) (λ b. length (block_of_serializable b).succs) bs (arguments-counted bs)
-          ∙ sym (counted-alike (λ l. l.items) (λ l. length l.items) (λ b. (block_of_serializable b).succs) s.block_succs.items bs (λ l. refl) h.succs);
+          ∙ map-alike (λ b. length (block_of_table b).arguments) (λ b. length (block_of_table b).succs) bs (arguments-counted bs counted)
+          ∙ sym (counted-alike (λ l. l.items) (λ l. length l.items) (λ b. (block_of_table b).succs) s.block_succs.items bs (λ l. refl) h.succs);
     }
 
 passes-lengths : {A B : Type 0} (s : StoredFunction A) (f : SerializableFunction B) → ArePartsOf s f → HasLengths s
-passes-lengths s f h = record { blocks = all-of-each s f.blocks.items h.lists; machine = h.classes; slot_sizes = h.sizes }
+passes-lengths s f h = record { blocks = all-of-each s f.function.blocks.items h.lists f.arguments_counted; machine = h.classes; slot_sizes = h.sizes }
 
-block-count : {A B : Type 0} (s : StoredFunction A) (f : SerializableFunction B) → ArePartsOf s f → length s.blocks.items ≡ length f.blocks.items
-block-count s f h = as-long stored_range (λ b. (block_of_serializable b).range) s.blocks.items f.blocks.items h.lists.ranges
+block-count : {A B : Type 0} (s : StoredFunction A) (f : SerializableFunction B) → ArePartsOf s f → length s.blocks.items ≡ length f.function.blocks.items
+block-count s f h = as-long stored_range (λ b. (block_of_table b).range) s.blocks.items f.function.blocks.items h.lists.ranges
 
 keeps-limits : {A B : Type 0} (s : StoredFunction A) (f : SerializableFunction B) → ArePartsOf s f → KeepsLimits s
 keeps-limits s f h = record {
-  insts = omega (arith, h.insts, f.few_insts, f.insts.ok.0);
-  blocks = omega (arith, block-count s f h, f.few_blocks, f.blocks.ok.0);
-  vregs = omega (arith, h.num_vregs, f.few_vregs);
+  insts = omega (arith, h.insts, f.function.few_insts, f.function.insts.ok.0);
+  blocks = omega (arith, block-count s f h, f.function.few_blocks, f.function.blocks.ok.0);
+  vregs = omega (arith, h.num_vregs, f.function.few_vregs);
   slot_sizes = h.slot_sizes;
 }
 
 -- whatever the function's blocks name, its numbers pass the tests of lengths, names and limits
 pub passes : {A B : Type 0} (s : StoredFunction A) (f : SerializableFunction B) → ArePartsOf s f → HasLengths s × NamesAll s × KeepsLimits s
 passes s f h = (passes-lengths s f h, h.names, keeps-limits s f h)
-
-all-from-map : {X Y : Type 0} (P : Y → Type 0) (f : X → Y) (xs : List X) → All P (map f xs) → All (λ x. P (f x)) xs
-all-from-map P f xs all k d less = subst P (get_or-map f xs k d (f d) less) (all k (f d) (rw length-map less))
 
 all-forth : {X Y Z V : Type 0} (P : Y → Type 0) (f : X → Y) (view : Z → V) (part : V → Y) (xs : List X) (zs : List Z) →
     map f xs ≡ map (λ z. part (view z)) zs → All (λ x. P (f x)) xs → All (λ v. P (part v)) (map view zs)
@@ -102,37 +99,38 @@ all-back P f view part xs zs same all =
 is-within : {A B : Type 0} (s : StoredFunction A) (f : SerializableFunction B) → ArePartsOf s f → NamesItsBlocks (function_of_serializable f) →
     AreNumbersWithin s
 is-within s f h own =
-    let bs = f.blocks.items in
+    let bs = f.function.blocks.items in
     let n : ℕ = length (function_of_serializable f).blocks in
-    let count : n ≡ length s.blocks.items = length-map bs block_of_serializable ∙ sym (block-count s f h) in
-    let insts : length f.insts.items ≡ length s.insts.items = sym h.insts in
-    let risen : All (λ b. (b.first ≤ b.end) × (b.end ≤ length s.insts.items)) bs = λ k d less.
-    ((get_or bs k d).rises, omega (arith, f.ends_within k d less, f.insts.ok.0, insts)) in
+    let count : n ≡ length s.blocks.items = length-map bs block_of_table ∙ sym (block-count s f h) in
+    let insts : length f.function.insts.items ≡ length s.insts.items = sym h.insts in
+    let risen : All (λ b. (b.range.first ≤ b.range.end) × (b.range.end ≤ length s.insts.items)) bs = λ k d less.
+    (f.rises k d less, omega (arith, f.ends_within k d less, f.function.insts.ok.0, insts)) in
     record {
       entry = omega (arith, h.entry, own.entry, count);
       preds = subst (λ m. All (λ l. All (λ x. x < m) l.items) s.block_preds.items) count
-          (all-back (λ xs. All (λ x. x < n) xs) (λ l. l.items) block_of_serializable (λ b. b.preds) s.block_preds.items bs h.lists.preds own.preds);
+          (all-back (λ xs. All (λ x. x < n) xs) (λ l. l.items) block_of_table (λ b. b.preds) s.block_preds.items bs h.lists.preds own.preds);
       succs = subst (λ m. All (λ l. All (λ x. x < m) l.items) s.block_succs.items) count
-          (all-back (λ xs. All (λ x. x < n) xs) (λ l. l.items) block_of_serializable (λ b. b.succs) s.block_succs.items bs h.lists.succs own.succs);
-      ranges = all-under (λ (r : Span). (r.first ≤ r.end) × (r.end ≤ length s.insts.items)) stored_range (λ b. (block_of_serializable b).range)
+          (all-back (λ xs. All (λ x. x < n) xs) (λ l. l.items) block_of_table (λ b. b.succs) s.block_succs.items bs h.lists.succs own.succs);
+      ranges = all-under (λ (r : Span). (r.first ≤ r.end) × (r.end ≤ length s.insts.items)) stored_range (λ b. (block_of_table b).range)
           s.blocks.items bs
           h.lists.ranges risen;
       labels = subst (λ m. All (λ l. l.0 / 4 < m) s.debug_value_labels.items) (sym h.num_vregs)
-          (all-under (λ l. l.vreg.number < f.num_vregs) stored_label label_of s.debug_value_labels.items f.labels.items h.labels f.labels_below);
+          (all-under (λ l. l.vreg.number < f.function.num_vregs) stored_label label_of s.debug_value_labels.items f.function.labels.items h.labels
+          f.function.labels_below);
     }
 
 names-its-blocks : {A B : Type 0} (s : StoredFunction A) (f : SerializableFunction B) → ArePartsOf s f → AreNumbersWithin s →
     NamesItsBlocks (function_of_serializable f)
 names-its-blocks s f h within =
-    let bs = f.blocks.items in
+    let bs = f.function.blocks.items in
     let n : ℕ = length s.blocks.items in
-    let count : n ≡ length (function_of_serializable f).blocks = block-count s f h ∙ sym (length-map bs block_of_serializable) in
+    let count : n ≡ length (function_of_serializable f).blocks = block-count s f h ∙ sym (length-map bs block_of_table) in
     record {
       entry = omega (arith, h.entry, within.entry, count);
-      preds = subst (λ m. All (λ b. All (λ x. x < m) b.preds) (map block_of_serializable bs)) count
-          (all-forth (λ xs. All (λ x. x < n) xs) (λ l. l.items) block_of_serializable (λ b. b.preds) s.block_preds.items bs h.lists.preds within.preds);
-      succs = subst (λ m. All (λ b. All (λ x. x < m) b.succs) (map block_of_serializable bs)) count
-          (all-forth (λ xs. All (λ x. x < n) xs) (λ l. l.items) block_of_serializable (λ b. b.succs) s.block_succs.items bs h.lists.succs within.succs);
+      preds = subst (λ m. All (λ b. All (λ x. x < m) b.preds) (map block_of_table bs)) count
+          (all-forth (λ xs. All (λ x. x < n) xs) (λ l. l.items) block_of_table (λ b. b.preds) s.block_preds.items bs h.lists.preds within.preds);
+      succs = subst (λ m. All (λ b. All (λ x. x < m) b.succs) (map block_of_table bs)) count
+          (all-forth (λ xs. All (λ x. x < n) xs) (λ l. l.items) block_of_table (λ b. b.succs) s.block_succs.items bs h.lists.succs within.succs);
     }
 
 -- a function's numbers pass all tests exactly if its blocks name blocks

@@ -30,7 +30,7 @@ list read d = option_and_then (list_onto read []) (as_array d)
 abbrev pub member : {X : Type 0} → List ℕ → (Data → Option X) → Data → Option X
 member name read d = option_and_then read (get name d)
 
--- what null or a datum stands for
+-- none for null, else the datum
 abbrev pub or_null : {X : Type 0} → (Data → Option X) → Data → Option (Option X)
 or_null read d = if is_some (as_null d) then Some None else option_map Some (read d)
 

@@ -8,6 +8,5 @@ pub mod Flat
 pub mod FromJson
 pub mod JsonShape
 pub mod TableFunction
-pub mod TableLimits
 pub mod Tables
 pub mod Validity

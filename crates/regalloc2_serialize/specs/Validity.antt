@@ -1,4 +1,4 @@
--- Which stored functions are refused, and why.
+-- Which stored functions are rejected, and why.
 use Rattle.std.specs.Prelude.{ℕ, ◌≡◌, ◌<◌, ◌≤◌, ◌-◌, ◌^◌, ◌/◌, length, map, All, IfSome}
 use Rattle.regalloc2_names.specs.Packing.{IsRegisterIndex, IsVRegBits, IsOperandBits}
 use Rattle.regalloc2_function.specs.FunctionValue.{FunctionValue, IsSlotSize}
@@ -70,7 +70,7 @@ pub record KeepsLimits {A : Type 0} (s : StoredFunction A) : Type 0 where
   pub vregs : s.num_vregs < 2 ^ 30
   pub slot_sizes : All IsSlotSize s.spillslot_size.items
 
--- what stands for a function
+-- a stored function that passes all tests
 pub record IsSoundStored {A : Type 0} (s : StoredFunction A) : Type 0 where
   pub lengths : HasLengths s
   pub within : AreNumbersWithin s
@@ -83,7 +83,7 @@ pub record NamesItsBlocks (f : FunctionValue) : Type 0 where
   pub preds : All (λ b. All (λ p. p < length f.blocks) b.preds) f.blocks
   pub succs : All (λ b. All (λ n. n < length f.blocks) b.succs) f.blocks
 
--- the fault that a stored function is refused by: the first of four, or out of memory where it has none
+-- the error for a stored function: the first of four tests that fails, or out of memory if it passes all
 abbrev pub IsFaultOf : {A : Type 0} → StoredFunction A → StoredFault → Type 0
 IsFaultOf s Lengths = HasLengths s → ⊥
 IsFaultOf s Index = HasLengths s × (AreNumbersWithin s → ⊥)

@@ -8,12 +8,14 @@ ghost use Rattle.regalloc2_function.specs.FunctionValue.{IsSlotSize, label_of};
 ghost use Rattle.regalloc2_function.specs.Views.{machine_of};
 ghost use Rattle.regalloc2_serialize.specs.Validity.{NamesOperands, NamesRegisters, HasThreeClasses, IsSoundStored, IsRangeWithin, IsFaultOf};
 ghost use Rattle.regalloc2_serialize.specs.Decoded.{HasIndexes, NamesInst, NamesMachine, NamesFunction, stored_block, stored_label, stored_sizes};
-ghost use Rattle.regalloc2_serialize.specs.Tables.{inst_of_serializable, block_of_serializable, sizes_of_serializable, function_of_serializable};
+ghost use Rattle.regalloc2_serialize.specs.TableFunction.Table.{inst_of_table, block_of_table, sizes_of_table, function_of_table};
+ghost use Rattle.regalloc2_serialize.specs.Tables.{function_of_serializable};
 
-use super::data::{StoredFunction, StoredInst, StoredMachine};
-use super::tables::{BlockTable, InstTable, SerializableFunction, SlotTable, SlotUnits};
+use super::data::{InstOpcode, StoredFunction, StoredInst, StoredMachine};
+use super::table_function::{SlotUnits, TableBlock, TableFunction, TableInst};
+use super::tables::SerializableFunction;
 use regalloc2_function::{MachineEnv, StoredFault};
-use regalloc2_index::{Block, Inst};
+use regalloc2_index::{Block, Inst, InstRange};
 use regalloc2_names::{Operand, PReg, PRegSet, VReg};
 use std::alloc::{AllocError, Allocator};
 
@@ -123,14 +125,15 @@ fn labels_from<A: Allocator>(
 fn inst_from<A: Allocator, B: Allocator>(
     alloc: A,
     stored: &StoredInst<B>,
-) -> Result<InstTable<A>, AllocError>
+) -> Result<TableInst<A>, AllocError>
     requires { NamesOperands stored.now }
-    ensures { IfOk result (λ inst. NamesInst stored.now (inst_of_serializable inst)) }
+    ensures { IfOk result (λ inst. NamesInst stored.now (inst_of_table inst)) }
 {
-    Ok(InstTable {
+    Ok(TableInst {
         operands: operands_from(alloc, stored.operands.as_slice())?,
         clobbers: set_from(stored.clobbers.as_slice()),
-        op: stored.op,
+        is_branch: matches!(stored.op, InstOpcode::Branch),
+        is_ret: matches!(stored.op, InstOpcode::Ret),
     })
 }
 
@@ -138,9 +141,9 @@ fn inst_from<A: Allocator, B: Allocator>(
 fn insts_from<A: Allocator + Copy, B: Allocator>(
     alloc: A,
     stored: &[StoredInst<B>],
-) -> Result<Vec<InstTable<A>, A>, AllocError>
+) -> Result<Vec<TableInst<A>, A>, AllocError>
     requires { All (λ i. NamesOperands i) stored.now }
-    ensures insts { IfOk result (λ insts. AllZip (λ s i. NamesInst s i) stored.now (map inst_of_serializable insts.items)) }
+    ensures insts { IfOk result (λ insts. AllZip (λ s i. NamesInst s i) stored.now (map inst_of_table insts.items)) }
     ensures count { IfOk result (λ insts. length insts.items ≡ length stored.now) }
 {
     let mut insts = Vec::with_capacity(alloc, stored.len())?;
@@ -208,16 +211,16 @@ fn units_from(size: u64) -> SlotUnits
 }
 
 /// The sizes of slots by class.
-fn sizes_from(sizes: &[u64]) -> SlotTable
+fn sizes_from(sizes: &[u64]) -> (SlotUnits, SlotUnits, SlotUnits)
     requires three { length sizes.now ≡ 3 }
     requires sizes { All IsSlotSize sizes.now }
-    ensures { sizes_of_serializable result ≡ stored_sizes sizes.now }
+    ensures { sizes_of_table result.0 result.1 result.2 ≡ stored_sizes sizes.now }
 {
-    SlotTable {
-        int: units_from(sizes[0]),
-        float: units_from(sizes[1]),
-        vector: units_from(sizes[2]),
-    }
+    (
+        units_from(sizes[0]),
+        units_from(sizes[1]),
+        units_from(sizes[2]),
+    )
 }
 
 /// The block that stored numbers name.
@@ -225,19 +228,18 @@ fn block_from<A: Allocator + Copy, B: Allocator>(
     alloc: A,
     stored: &StoredFunction<B>,
     block: usize,
-) -> Result<BlockTable<A>, AllocError>
+) -> Result<TableBlock<A>, AllocError>
     requires sound { IsSoundStored stored.now }
     requires block { block < length stored.now.blocks.items }
-    ensures { IfOk result (λ table. block_of_serializable table ≡ stored_block stored.now block) }
+    ensures { IfOk result (λ table. block_of_table table ≡ stored_block stored.now block) }
 {
     let (first, end) = stored.blocks[block];
     let succs = blocks_from(alloc, stored.block_succs[block].as_slice())?;
     let preds = blocks_from(alloc, stored.block_preds[block].as_slice())?;
     let params = vregs_from(alloc, stored.block_params_in[block].as_slice())?;
     let arguments = lists_of_vregs_from(alloc, stored.block_params_out[block].as_slice())?;
-    Ok(BlockTable {
-        first: Inst::new(first as usize),
-        end: Inst::new(end as usize),
+    Ok(TableBlock {
+        range: InstRange::new(Inst::new(first as usize), Inst::new(end as usize)),
         succs,
         preds,
         params,
@@ -249,10 +251,10 @@ fn block_from<A: Allocator + Copy, B: Allocator>(
 fn tables_from<A: Allocator + Copy, B: Allocator>(
     alloc: A,
     stored: &StoredFunction<B>,
-) -> Result<Vec<BlockTable<A>, A>, AllocError>
+) -> Result<Vec<TableBlock<A>, A>, AllocError>
     requires { IsSoundStored stored.now }
     ensures count { IfOk result (λ tables. length tables.items ≡ length stored.now.blocks.items) }
-    ensures blocks { IfOk result (λ tables. map block_of_serializable tables.items ≡ map (stored_block stored.now) (range_with_len 0 (length stored.now.blocks.items))) }
+    ensures blocks { IfOk result (λ tables. map block_of_table tables.items ≡ map (stored_block stored.now) (range_with_len 0 (length stored.now.blocks.items))) }
 {
     let mut tables = Vec::with_capacity(alloc, stored.blocks.len())?;
     for block in 0..stored.blocks.len() {
@@ -262,7 +264,7 @@ fn tables_from<A: Allocator + Copy, B: Allocator>(
 }
 
 impl<A: Allocator> StoredFunction<A> {
-    /// Tests what [`SerializableFunction::from_stored`] wants, in its order.
+    /// Makes the tests of [`SerializableFunction::from_stored`], in its order.
     fn test(&self) -> Result<(), StoredFault>
         ensures ok { IfOk result (λ _. IsSoundStored self.now) }
         ensures refused { IfErr result (λ e. IsFaultOf self.now e) }
@@ -296,24 +298,29 @@ fn function_from<A: Allocator + Copy, B: Allocator>(
     let blocks = tables_from(alloc, stored)?;
     let insts = insts_from(alloc, stored.insts.as_slice())?;
     let labels = labels_from(alloc, stored.debug_value_labels.as_slice())?;
-    Ok(SerializableFunction {
-        machine,
+    let (int_slot, float_slot, vector_slot) = sizes_from(stored.spillslot_size.as_slice());
+    let function = TableFunction {
         blocks,
         insts,
         entry: Block::new(stored.entry_block as usize),
         num_vregs: stored.num_vregs as usize,
-        slot_sizes: sizes_from(stored.spillslot_size.as_slice()),
-        labels,
+        int_slot,
+        float_slot,
+        vector_slot,
         named_by_last_slot: stored.multi_spillslot_named_by_last_slot,
+        labels,
         allows_multiple_defs: stored.allow_multiple_vreg_defs,
-    })
+    };
+    Ok(SerializableFunction { machine, function })
 }
 
 impl<A: Allocator + Copy> SerializableFunction<A> {
-    /// The function and the machine that stored numbers name.
+    /// Returns the function and the machine that stored numbers name.
     ///
-    /// Of `Lengths`, `Index`, `Bits` and `Limit` the first whose test fails is answered, in this order; `Memory` only where
-    /// all four pass and a growth was refused.
+    /// # Errors
+    ///
+    /// The first of `Lengths`, `Index`, `Bits` and `Limit` whose test fails, in this order; `Memory` if all four pass and
+    /// memory runs out.
     pub fn from_stored<B: Allocator>(
         alloc: A,
         stored: &StoredFunction<B>,

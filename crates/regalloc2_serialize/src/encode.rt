@@ -1,20 +1,22 @@
 //! The numbers that name a function and a machine.
 
-ghost use Rattle.std.specs.Prelude.{◌≡◌, ◌↔◌, ℕ, All, IfOk, IfErr, IfSome, length, map};
+ghost use Rattle.std.specs.Prelude.{◌≡◌, ◌↔◌, ℕ, true, false, All, IfOk, IfErr, IfSome, length, map};
 ghost use Rattle.std.specs.List.{AllZip};
 ghost use Rattle.std.specs.Option.{option_map};
 ghost use Rattle.regalloc2_names.specs.Packing.{IsRegisterIndex, IsVRegBits, IsOperandBits, register_of_bits, vreg_of_bits, operand_of_bits};
 ghost use Rattle.regalloc2_function.specs.FunctionValue.{FunctionValue, IsSlotSize, label_of};
 ghost use Rattle.regalloc2_function.specs.Machine.{MachineValue};
 ghost use Rattle.regalloc2_function.specs.Views.{machine_of};
-ghost use Rattle.regalloc2_serialize.specs.Decoded.{HasIndexes, NamesInst, NamesMachine, NamesFunction, stored_range, stored_label, stored_sizes};
-ghost use Rattle.regalloc2_serialize.specs.Tables.{inst_of_serializable, block_of_serializable, sizes_of_serializable, function_of_serializable};
+ghost use Rattle.regalloc2_serialize.specs.Decoded.{is_branch, is_ret, HasIndexes, NamesInst, NamesMachine, NamesFunction, stored_range, stored_label, stored_sizes};
+ghost use Rattle.regalloc2_serialize.specs.TableFunction.Table.{inst_of_table, block_of_table, function_of_table};
+ghost use Rattle.regalloc2_serialize.specs.Tables.{function_of_serializable};
 ghost use Rattle.regalloc2_serialize.specs.Validity.{NamesOperands, NamesRegisters, HasThreeClasses, HasLengths, NamesAll, KeepsLimits, NamesItsBlocks, IsSoundStored};
 
-use super::data::{StoredFunction, StoredInst, StoredMachine};
-use super::tables::{BlockTable, InstTable, SerializableFunction, SlotTable};
+use super::data::{InstOpcode, StoredFunction, StoredInst, StoredMachine};
+use super::table_function::{TableBlock, TableFunction, TableInst};
+use super::tables::SerializableFunction;
 use regalloc2_function::MachineEnv;
-use regalloc2_index::{Block, Inst};
+use regalloc2_index::{Block, Inst, InstRange};
 use regalloc2_names::{Operand, PReg, PRegSet, RegAllocError, VReg};
 use std::alloc::{AllocError, Allocator};
 
@@ -157,16 +159,19 @@ fn numbers_of_labels<A: Allocator>(
     Ok(numbers)
 }
 
-/// The sizes of slots.
-fn numbers_of_sizes<A: Allocator>(alloc: A, sizes: &SlotTable) -> Result<Vec<u64, A>, AllocError>
-    ensures sizes { IfOk result (λ numbers. stored_sizes numbers.items ≡ sizes_of_serializable sizes.now) }
+/// The sizes of a function's slots.
+fn numbers_of_sizes<A: Allocator, B: Allocator>(
+    alloc: B,
+    f: &TableFunction<A>,
+) -> Result<Vec<u64, B>, AllocError>
+    ensures sizes { IfOk result (λ numbers. stored_sizes numbers.items ≡ (function_of_table f.now).slot_sizes) }
     ensures three { IfOk result (λ numbers. length numbers.items ≡ 3) }
     ensures limits { IfOk result (λ numbers. All IsSlotSize numbers.items) }
 {
     let mut numbers = Vec::with_capacity(alloc, 3)?;
-    numbers.push(sizes.int.units as u64)?;
-    numbers.push(sizes.float.units as u64)?;
-    numbers.push(sizes.vector.units as u64)?;
+    numbers.push(f.int_slot.units as u64)?;
+    numbers.push(f.float_slot.units as u64)?;
+    numbers.push(f.vector_slot.units as u64)?;
     Ok(numbers)
 }
 
@@ -191,16 +196,32 @@ fn numbers_of_machine<A: Allocator, B: Allocator + Copy>(
     })
 }
 
+/// What an instruction that isn't both a branch and a return does to the control flow.
+fn opcode_of(branches: bool, returns: bool) -> InstOpcode
+    requires { branches ≡ true → returns ≡ false }
+    ensures branch { branches ≡ is_branch result }
+    ensures ret { returns ≡ is_ret result }
+{
+    if branches {
+        InstOpcode::Branch
+    } else if returns {
+        InstOpcode::Ret
+    } else {
+        InstOpcode::Op
+    }
+}
+
 /// The numbers of an instruction.
 fn numbers_of_inst<A: Allocator, B: Allocator + Copy>(
     alloc: B,
-    inst: &InstTable<A>,
+    inst: &TableInst<A>,
 ) -> Result<StoredInst<B>, AllocError>
-    ensures inst { IfOk result (λ numbers. NamesInst numbers (inst_of_serializable inst.now)) }
+    requires { inst.now.is_branch ≡ true → inst.now.is_ret ≡ false }
+    ensures inst { IfOk result (λ numbers. NamesInst numbers (inst_of_table inst.now)) }
     ensures names { IfOk result (λ numbers. NamesOperands numbers) }
 {
     Ok(StoredInst {
-        op: inst.op,
+        op: opcode_of(inst.is_branch, inst.is_ret),
         operands: words_of_operands(alloc, inst.operands.as_slice())?,
         clobbers: indexes_of(alloc, inst.clobbers)?,
     })
@@ -209,9 +230,10 @@ fn numbers_of_inst<A: Allocator, B: Allocator + Copy>(
 /// The numbers of instructions.
 fn numbers_of_insts<A: Allocator, B: Allocator + Copy>(
     alloc: B,
-    insts: &[InstTable<A>],
+    insts: &[TableInst<A>],
 ) -> Result<Vec<StoredInst<B>, B>, AllocError>
-    ensures insts { IfOk result (λ numbers. AllZip (λ x i. NamesInst x i) numbers.items (map inst_of_serializable insts.now)) }
+    requires { All (λ i. i.is_branch ≡ true → i.is_ret ≡ false) insts.now }
+    ensures insts { IfOk result (λ numbers. AllZip (λ x i. NamesInst x i) numbers.items (map inst_of_table insts.now)) }
     ensures names { IfOk result (λ numbers. All (λ x. NamesOperands x) numbers.items) }
 {
     let mut numbers = Vec::with_capacity(alloc, insts.len())?;
@@ -221,16 +243,28 @@ fn numbers_of_insts<A: Allocator, B: Allocator + Copy>(
     Ok(numbers)
 }
 
+/// The numbers of a range's first instruction and of the one at which it ends.
+fn numbers_of_range(range: InstRange) -> (u32, u32)
+    ensures { stored_range result ≡ range }
+{
+    let end = range.end().raw_u32();
+    if range.len() == 0 {
+        (end, end)
+    } else {
+        (range.first().raw_u32(), end)
+    }
+}
+
 /// The ranges of blocks.
 fn ranges_of<A: Allocator, B: Allocator>(
     alloc: B,
-    blocks: &[BlockTable<A>],
+    blocks: &[TableBlock<A>],
 ) -> Result<Vec<(u32, u32), B>, AllocError>
-    ensures { IfOk result (λ ranges. map stored_range ranges.items ≡ map (λ b. (block_of_serializable b).range) blocks.now) }
+    ensures { IfOk result (λ ranges. map stored_range ranges.items ≡ map (λ b. (block_of_table b).range) blocks.now) }
 {
     let mut ranges = Vec::with_capacity(alloc, blocks.len())?;
     for block in blocks {
-        ranges.push((block.first.raw_u32(), block.end.raw_u32()))?;
+        ranges.push(numbers_of_range(block.range))?;
     }
     Ok(ranges)
 }
@@ -238,9 +272,9 @@ fn ranges_of<A: Allocator, B: Allocator>(
 /// The successors of blocks.
 fn succs_of<A: Allocator, B: Allocator + Copy>(
     alloc: B,
-    blocks: &[BlockTable<A>],
+    blocks: &[TableBlock<A>],
 ) -> Result<Vec<Vec<u32, B>, B>, AllocError>
-    ensures { IfOk result (λ succs. map (λ l. l.items) succs.items ≡ map (λ b. (block_of_serializable b).succs) blocks.now) }
+    ensures { IfOk result (λ succs. map (λ l. l.items) succs.items ≡ map (λ b. (block_of_table b).succs) blocks.now) }
 {
     let mut succs = Vec::with_capacity(alloc, blocks.len())?;
     for block in blocks {
@@ -252,9 +286,9 @@ fn succs_of<A: Allocator, B: Allocator + Copy>(
 /// The predecessors of blocks.
 fn preds_of<A: Allocator, B: Allocator + Copy>(
     alloc: B,
-    blocks: &[BlockTable<A>],
+    blocks: &[TableBlock<A>],
 ) -> Result<Vec<Vec<u32, B>, B>, AllocError>
-    ensures { IfOk result (λ preds. map (λ l. l.items) preds.items ≡ map (λ b. (block_of_serializable b).preds) blocks.now) }
+    ensures { IfOk result (λ preds. map (λ l. l.items) preds.items ≡ map (λ b. (block_of_table b).preds) blocks.now) }
 {
     let mut preds = Vec::with_capacity(alloc, blocks.len())?;
     for block in blocks {
@@ -266,9 +300,9 @@ fn preds_of<A: Allocator, B: Allocator + Copy>(
 /// The parameters of blocks.
 fn params_of<A: Allocator, B: Allocator + Copy>(
     alloc: B,
-    blocks: &[BlockTable<A>],
+    blocks: &[TableBlock<A>],
 ) -> Result<Vec<Vec<u32, B>, B>, AllocError>
-    ensures params { IfOk result (λ params. map (λ l. map vreg_of_bits l.items) params.items ≡ map (λ b. (block_of_serializable b).params) blocks.now) }
+    ensures params { IfOk result (λ params. map (λ l. map vreg_of_bits l.items) params.items ≡ map (λ b. (block_of_table b).params) blocks.now) }
     ensures names { IfOk result (λ params. All (λ l. All IsVRegBits l.items) params.items) }
 {
     let mut params = Vec::with_capacity(alloc, blocks.len())?;
@@ -281,9 +315,9 @@ fn params_of<A: Allocator, B: Allocator + Copy>(
 /// The arguments of blocks.
 fn arguments_of<A: Allocator, B: Allocator + Copy>(
     alloc: B,
-    blocks: &[BlockTable<A>],
+    blocks: &[TableBlock<A>],
 ) -> Result<Vec<Vec<Vec<u32, B>, B>, B>, AllocError>
-    ensures arguments { IfOk result (λ arguments. map (λ l. map (λ k. map vreg_of_bits k.items) l.items) arguments.items ≡ map (λ b. (block_of_serializable b).arguments) blocks.now) }
+    ensures arguments { IfOk result (λ arguments. map (λ l. map (λ k. map vreg_of_bits k.items) l.items) arguments.items ≡ map (λ b. (block_of_table b).arguments) blocks.now) }
     ensures names { IfOk result (λ arguments. All (λ l. All (λ k. All IsVRegBits k.items) l.items) arguments.items) }
 {
     let mut arguments = Vec::with_capacity(alloc, blocks.len())?;
@@ -312,31 +346,32 @@ impl<A: Allocator + Copy> SerializableFunction<A> {
         ensures passes { IfOk result (λ s. HasLengths s × NamesAll s × KeepsLimits s) }
         ensures memory { IfErr result (λ e. e ≡ RegAllocError.Memory) }
     {
-        let alloc = *self.blocks.allocator();
-        let tables = self.blocks.as_slice();
+        let f = &self.function;
+        let alloc = *f.blocks.allocator();
+        let tables = f.blocks.as_slice();
         let machine_env = numbers_of_machine(alloc, &self.machine)?;
-        let insts = numbers_of_insts(alloc, self.insts.as_slice())?;
+        let insts = numbers_of_insts(alloc, f.insts.as_slice())?;
         let blocks = ranges_of(alloc, tables)?;
         let block_preds = preds_of(alloc, tables)?;
         let block_succs = succs_of(alloc, tables)?;
         let block_params_in = params_of(alloc, tables)?;
         let block_params_out = arguments_of(alloc, tables)?;
-        let debug_value_labels = numbers_of_labels(alloc, self.labels.as_slice())?;
-        let spillslot_size = numbers_of_sizes(alloc, &self.slot_sizes)?;
+        let debug_value_labels = numbers_of_labels(alloc, f.labels.as_slice())?;
+        let spillslot_size = numbers_of_sizes(alloc, f)?;
         Ok(StoredFunction {
             machine_env,
-            entry_block: self.entry.raw_u32(),
+            entry_block: f.entry.raw_u32(),
             insts,
             blocks,
             block_preds,
             block_succs,
             block_params_in,
             block_params_out,
-            num_vregs: self.num_vregs as u64,
+            num_vregs: f.num_vregs as u64,
             debug_value_labels,
             spillslot_size,
-            multi_spillslot_named_by_last_slot: self.named_by_last_slot,
-            allow_multiple_vreg_defs: self.allows_multiple_defs,
+            multi_spillslot_named_by_last_slot: f.named_by_last_slot,
+            allow_multiple_vreg_defs: f.allows_multiple_defs,
         })
     }
 }

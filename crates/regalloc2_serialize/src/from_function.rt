@@ -5,10 +5,11 @@ ghost use Rattle.std.specs.Int.{is_power_of_two};
 ghost use Rattle.regalloc2_function.specs.FunctionValue.{block_at, inst_at, slot_size};
 ghost use Rattle.regalloc2_function.specs.Views.{machine_of};
 ghost use Rattle.regalloc2_serialize.specs.CopyOfFunction.{shown_block, shown_inst, shown_function, HasNonemptyBlocks, IsKeptWhole};
-ghost use Rattle.regalloc2_serialize.specs.Tables.{inst_of_serializable, block_of_serializable, function_of_serializable};
+ghost use Rattle.regalloc2_serialize.specs.TableFunction.Table.{inst_of_table, block_of_table};
+ghost use Rattle.regalloc2_serialize.specs.Tables.{function_of_serializable};
 
-use super::data::InstOpcode;
-use super::tables::{BlockTable, InstTable, SerializableFunction, SlotTable, SlotUnits};
+use super::table_function::{SlotUnits, TableBlock, TableFunction, TableInst};
+use super::tables::SerializableFunction;
 use regalloc2_function::{Function, MachineEnv};
 use regalloc2_index::{Block, Inst};
 use regalloc2_names::{RegAllocError, RegClass, VReg};
@@ -38,17 +39,13 @@ fn copied_block<F: Function, A: Allocator + Copy>(
     alloc: A,
     f: &F,
     block: Block,
-) -> Result<BlockTable<A>, AllocError>
+) -> Result<TableBlock<A>, AllocError>
     requires block { block < length (F.function f.now).blocks }
     requires nonempty { (block_at (F.function f.now) block).range.first < (block_at (F.function f.now) block).range.end }
-    requires within { (block_at (F.function f.now) block).range.end ≤ length (F.function f.now).insts }
-    ensures { IfOk result (λ table. block_of_serializable table ≡ shown_block (block_at (F.function f.now) block)) }
+    ensures { IfOk result (λ table. block_of_table table ≡ shown_block (block_at (F.function f.now) block)) }
 {
-    let range = f.block_insns(block);
-    let end = Inst::new(range.last().index() + 1);
-    Ok(BlockTable {
-        first: range.first(),
-        end,
+    Ok(TableBlock {
+        range: f.block_insns(block),
         succs: f.block_succs(block).to_vec(alloc)?,
         preds: f.block_preds(block).to_vec(alloc)?,
         params: f.block_params(block).to_vec(alloc)?,
@@ -60,9 +57,9 @@ fn copied_block<F: Function, A: Allocator + Copy>(
 fn copied_blocks<F: Function, A: Allocator + Copy>(
     alloc: A,
     f: &F,
-) -> Result<Vec<BlockTable<A>, A>, AllocError>
+) -> Result<Vec<TableBlock<A>, A>, AllocError>
     requires { HasNonemptyBlocks (F.function f.now) }
-    ensures blocks { IfOk result (λ tables. map block_of_serializable tables.items ≡ map shown_block (F.function f.now).blocks) }
+    ensures blocks { IfOk result (λ tables. map block_of_table tables.items ≡ map shown_block (F.function f.now).blocks) }
     ensures count { IfOk result (λ tables. length tables.items ≡ length (F.function f.now).blocks) }
 {
     let mut tables = Vec::with_capacity(alloc, f.num_blocks())?;
@@ -77,21 +74,16 @@ fn copied_inst<F: Function, A: Allocator + Copy>(
     alloc: A,
     f: &F,
     inst: Inst,
-) -> Result<InstTable<A>, AllocError>
+) -> Result<TableInst<A>, AllocError>
     requires { inst < length (F.function f.now).insts }
-    ensures { IfOk result (λ table. inst_of_serializable table ≡ shown_inst (inst_at (F.function f.now) inst)) }
+    ensures { IfOk result (λ table. inst_of_table table ≡ shown_inst (inst_at (F.function f.now) inst)) }
 {
-    let op = if f.is_ret(inst) {
-        InstOpcode::Ret
-    } else if f.is_branch(inst) {
-        InstOpcode::Branch
-    } else {
-        InstOpcode::Op
-    };
-    Ok(InstTable {
+    let is_ret = f.is_ret(inst);
+    Ok(TableInst {
         operands: f.inst_operands(inst).to_vec(alloc)?,
         clobbers: f.inst_clobbers(inst),
-        op,
+        is_branch: !is_ret && f.is_branch(inst),
+        is_ret,
     })
 }
 
@@ -99,8 +91,8 @@ fn copied_inst<F: Function, A: Allocator + Copy>(
 fn copied_insts<F: Function, A: Allocator + Copy>(
     alloc: A,
     f: &F,
-) -> Result<Vec<InstTable<A>, A>, AllocError>
-    ensures insts { IfOk result (λ tables. map inst_of_serializable tables.items ≡ map shown_inst (F.function f.now).insts) }
+) -> Result<Vec<TableInst<A>, A>, AllocError>
+    ensures insts { IfOk result (λ tables. map inst_of_table tables.items ≡ map shown_inst (F.function f.now).insts) }
     ensures count { IfOk result (λ tables. length tables.items ≡ length (F.function f.now).insts) }
 {
     let mut tables = Vec::with_capacity(alloc, f.num_insts())?;
@@ -120,11 +112,15 @@ fn copied_units<F: Function>(f: &F, class: RegClass) -> SlotUnits
 }
 
 impl<A: Allocator + Copy> SerializableFunction<A> {
-    /// A function and the machine that it is for, to be stored. Each block has instructions, which are among the function's.
+    /// Copies a function, to be stored with the machine that it is for.
     ///
-    /// Stored data have no instruction that is both a branch and a return: it is kept as a return, as by upstream. All else is
-    /// kept, so that without such an instruction the value is `f`'s own.
-    /// `Memory` where a growth was refused, and nothing else.
+    /// Each block has instructions, and they are among the function's. Stored data have no instruction that is both a branch
+    /// and a return: the copy has a return there, as upstream's has. All else is kept: if no instruction is both, and each
+    /// block has a list of arguments for each successor, the copy's value is `f`'s own.
+    ///
+    /// # Errors
+    ///
+    /// `Memory` if memory runs out, and nothing else.
     pub fn new<F: Function>(
         alloc: A,
         f: &F,
@@ -139,20 +135,21 @@ impl<A: Allocator + Copy> SerializableFunction<A> {
         let blocks = copied_blocks(alloc, f)?;
         let insts = copied_insts(alloc, f)?;
         let labels = f.debug_value_labels().to_vec(alloc)?;
-        Ok(SerializableFunction {
-            machine: env,
+        let function = TableFunction {
             blocks,
             insts,
             entry: f.entry_block(),
             num_vregs: f.num_vregs(),
-            slot_sizes: SlotTable {
-                int: copied_units(f, RegClass::Int),
-                float: copied_units(f, RegClass::Float),
-                vector: copied_units(f, RegClass::Vector),
-            },
-            labels,
+            int_slot: copied_units(f, RegClass::Int),
+            float_slot: copied_units(f, RegClass::Float),
+            vector_slot: copied_units(f, RegClass::Vector),
             named_by_last_slot: f.multi_spillslot_named_by_last_slot(),
+            labels,
             allows_multiple_defs: f.allow_multiple_vreg_defs(),
+        };
+        Ok(SerializableFunction {
+            machine: env,
+            function,
         })
     }
 }

@@ -11,18 +11,20 @@ use std::alloc::Allocator;
 
 /// What is read from a JSON value.
 pub trait FromValue<A: Allocator> {
-    /// What stands for such a datum.
+    /// What contracts see of such a datum.
     ghost Shown: { Type 0 };
 
-    /// What stands for this one.
+    /// What contracts see of this datum.
     ghost shows: { Self → Shown };
 
-    /// How it is read from a JSON value, where that has its shape.
+    /// The datum of a JSON value, if the value has its shape.
     ghost reads: { Data → Option Shown };
 
-    /// The datum that the value holds.
+    /// Reads the datum that the value holds.
     ///
-    /// `Shape` exactly where the value has another shape, and `Memory` where a growth was refused; no other fault comes.
+    /// # Errors
+    ///
+    /// `Shape` if and only if the value has another shape; `Memory` if memory runs out.
     fn from_value(alloc: A, value: &Value) -> Result<Self, StoredFault>
         ensures ok { IfOk result (λ x. reads (view value.now) ≡ Some (shows x)) }
         ensures shape { IfErr result (λ e. e ≡ StoredFault.Shape → reads (view value.now) ≡ None) }

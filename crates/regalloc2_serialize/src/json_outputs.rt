@@ -103,11 +103,12 @@ impl<A: Allocator + Copy> FromValue<A> for StoredOutput<A> {
 }
 
 impl<A: Allocator + Copy> StoredFunction<A> {
-    /// The function that a JSON value holds: an object with a member for each field, by that name. Other members are
-    /// ignored.
+    /// Reads the function that a JSON value holds: an object with a member for each field, by that name. Other members are
+    /// ignored. [`SerializableFunction::from_stored`] tests whether the numbers name a function.
     ///
-    /// `Shape` exactly where the value has another shape, and `Memory` where a growth was refused; no other fault comes.
-    /// Whether the numbers name a function is tested by [`SerializableFunction::from_stored`].
+    /// # Errors
+    ///
+    /// `Shape` if and only if the value has another shape; `Memory` if memory runs out.
     ///
     /// [`SerializableFunction::from_stored`]: super::SerializableFunction::from_stored
     pub fn from_value(alloc: A, value: &Value) -> Result<StoredFunction<A>, StoredFault>
@@ -115,7 +116,7 @@ impl<A: Allocator + Copy> StoredFunction<A> {
         ensures shape { IfErr result (λ e. e ≡ StoredFault.Shape → HasJsonShape (view value.now) → ⊥) }
         ensures faults { IfErr result (λ e. (e ≡ StoredFault.Shape) ⊎ (e ≡ StoredFault.Memory)) }
     {
-        // Numbers come first and the machine last: each refusal drops what was read before it.
+        // Numbers are read first and the machine last: each error drops what was read before it.
         let entry_block = member_from(alloc, value, "entry_block")?;
         let num_vregs = member_from(alloc, value, "num_vregs")?;
         let by_last_slot = member_from(alloc, value, "multi_spillslot_named_by_last_slot")?;

@@ -22,11 +22,11 @@ blocks_from-push s (x ∷ ds) d =
     let e : s + length (insts_of (x ∷ ds)) ≡ s + length x.insts + length (insts_of ds) = rw length-append (omega arith) in
     rw e (ap (λ (bs : List BlockValue). placed_block s x ∷ bs) (blocks_from-push (s + length x.insts) ds d))
 
--- the instructions of the drafts with one more are theirs, followed by those of that one
+-- the instructions of the partial blocks with one more are theirs, followed by those of that one
 pub insts_of-push : (ds : List DraftValue) (d : DraftValue) → insts_of (ds ++ d ∷ []) ≡ insts_of ds ++ d.insts
 insts_of-push ds d = flat_map-append (λ (x : DraftValue). x.insts) ds (d ∷ []) ∙ ap (λ (is : List InstValue). insts_of ds ++ is) (append-nil d.insts)
 
--- there are as many blocks laid out as there are drafts
+-- there are as many blocks laid out as there are partial blocks
 pub length-blocks_from : (s : ℕ) (ds : List DraftValue) → length (blocks_from s ds) ≡ length ds
 length-blocks_from s [] = refl
 length-blocks_from s (d ∷ ds) = ap suc (length-blocks_from (s + length d.insts) ds)
@@ -36,7 +36,7 @@ pub bare-blocks_from : (s : ℕ) (ds : List DraftValue) → map without_preds (b
 bare-blocks_from s [] = refl
 bare-blocks_from s (d ∷ ds) = ap (λ (bs : List BlockValue). placed_block s d ∷ bs) (bare-blocks_from (s + length d.insts) ds)
 
--- blocks that are laid out have the successors of their drafts, list for list
+-- blocks that are laid out have the successors of their partial blocks, list for list
 pub succs-blocks_from : (s : ℕ) (ds : List DraftValue) → map (λ b. b.succs) (blocks_from s ds) ≡ map (λ d. d.succs) ds
 succs-blocks_from s [] = refl
 succs-blocks_from s (d ∷ ds) = ap (λ (ss : List (List ℕ)). d.succs ∷ ss) (succs-blocks_from (s + length d.insts) ds)
@@ -47,7 +47,7 @@ preds-blocks_from s [] b = refl
 preds-blocks_from s (d ∷ ds) zero = refl
 preds-blocks_from s (d ∷ ds) (suc b) = preds-blocks_from (s + length d.insts) ds b
 
--- the block of a number has the successors of the draft of that number
+-- the block of a number has the successors of the partial block of that number
 pub succs_at-blocks_from : (s : ℕ) (ds : List DraftValue) (b : ℕ) → succs_at (blocks_from s ds) b ≡ (get_or ds b (declared_with [])).succs
 succs_at-blocks_from s [] b = refl
 succs_at-blocks_from s (d ∷ ds) zero = refl
@@ -61,7 +61,7 @@ unplaced_more m n (NoBlock c) l h = h
 unplaced_more m n TooManyBlocks l h = h
 unplaced_more m n TooManyVRegs l h = h
 
--- the instructions of some drafts and of the next one are at most those of all
+-- the instructions of some partial blocks and of the next one are at most those of all
 pub insts_within : {A : Type 0} (ys zs all : List (BlockDraft A)) (d : BlockDraft A) → ys ++ d ∷ zs ≡ all →
     length (insts_of (map draft_of ys)) + length (draft_of d).insts ≤ length (insts_of (map draft_of all))
 insts_within {A = A} ys zs all d e =
@@ -70,7 +70,7 @@ insts_within {A = A} ys zs all d e =
     ∙ flat_map-append (λ (x : DraftValue). x.insts) (map draft_of ys) (draft_of d ∷ map draft_of zs) in
     rw (split, length-append, length-append) (omega arith)
 
--- laying out the next block behind those of the first drafts gives the blocks of the drafts with that one
+-- laying out the next block behind those of the first partial blocks gives the blocks of the partial blocks with that one
 pub blocks_more : {A B : Type 0} (bs cs : List BlockValue) (is : List (TableInst A)) (ys : List (BlockDraft B)) (d : BlockDraft B) →
     map inst_of_table is ≡ insts_of (map draft_of ys) → bs ≡ blocks_from 0 (map draft_of ys) →
     cs ≡ bs ++ placed_block (length is) (draft_of d) ∷ [] → cs ≡ blocks_from 0 (map draft_of (ys ++ d ∷ []))
@@ -78,17 +78,17 @@ blocks_more bs cs is ys d i b c =
     let n : length is ≡ 0 + length (insts_of (map draft_of ys)) = omega (arith, sym (length-map is inst_of_table) ∙ ap length i) in
     rw (c, b, n, map-append) (sym (blocks_from-push 0 (map draft_of ys) (draft_of d)))
 
--- the instructions of the first drafts followed by those of the next are those of the drafts with that one
+-- the instructions of the first partial blocks followed by those of the next are those of the partial blocks with that one
 pub insts_more : {A B : Type 0} (js is : List (TableInst A)) (ys : List (BlockDraft B)) (d : BlockDraft B) → map inst_of_table is ≡ insts_of (map draft_of ys) →
     map inst_of_table js ≡ map inst_of_table is ++ (draft_of d).insts → map inst_of_table js ≡ insts_of (map draft_of (ys ++ d ∷ []))
 insts_more js is ys d i j = rw (j, i, map-append) (sym (insts_of-push (map draft_of ys) (draft_of d)))
 
--- a table whose blocks are those of the drafts has as many blocks as there are drafts
+-- a table whose blocks are those of the partial blocks has as many blocks as there are partial blocks
 pub count_from : {A B : Type 0} (bs : List (TableBlock A)) (ds : List (BlockDraft B)) → map block_of_table bs ≡ blocks_from 0 (map draft_of ds) →
     length bs ≡ length ds
 count_from bs ds e = sym (length-map bs block_of_table) ∙ ap length e ∙ length-blocks_from 0 (map draft_of ds) ∙ length-map ds draft_of
 
--- a reason for which predecessors can't be added to the blocks of drafts is one for which the drafts make no function
+-- an error in adding predecessors to the blocks of partial blocks is an error of the partial blocks
 pub unbuilt_from_unlinked : (bs : List BlockValue) (ds : List DraftValue) (n : ℕ) (e : BuildError) → bs ≡ blocks_from 0 ds → AreUnlinked bs e → IsUnbuilt ds n e
 unbuilt_from_unlinked bs ds n Memory b h = tt
 unbuilt_from_unlinked bs ds n (NoBlock s) b h =
@@ -98,7 +98,7 @@ unbuilt_from_unlinked bs ds n TooManyBlocks b h = absurd h
 unbuilt_from_unlinked bs ds n TooManyInsts b h = absurd h
 unbuilt_from_unlinked bs ds n TooManyVRegs b h = absurd h
 
--- a reason for which the instructions of drafts can't be laid out is one for which the drafts make no function
+-- an error in laying out the instructions of partial blocks is an error of the partial blocks
 pub unbuilt_from_unplaced : (ds : List DraftValue) (n : ℕ) (e : BuildError) → IsUnplaced (length (insts_of ds)) e → IsUnbuilt ds n e
 unbuilt_from_unplaced ds n Memory h = tt
 unbuilt_from_unplaced ds n TooManyInsts h = h
@@ -106,12 +106,12 @@ unbuilt_from_unplaced ds n (NoBlock s) h = absurd h
 unbuilt_from_unplaced ds n TooManyBlocks h = absurd h
 unbuilt_from_unplaced ds n TooManyVRegs h = absurd h
 
--- blocks that got predecessors and nothing else are, but for these, still the blocks of the drafts
+-- blocks that got predecessors and nothing else are, but for these, still the blocks of the partial blocks
 pub built_blocks : (bs new : List BlockValue) (ds : List DraftValue) → bs ≡ blocks_from 0 ds → map without_preds new ≡ map without_preds bs →
     map without_preds new ≡ blocks_from 0 ds
 built_blocks bs new ds b e = e ∙ ap (map without_preds) b ∙ bare-blocks_from 0 ds
 
--- what is added as predecessors of the blocks laid out, which had none, is what the drafts' successors say
+-- what is added as predecessors of the blocks laid out, which had none, is what the partial blocks' successors say
 pub built_preds : (bs new : List BlockValue) (ds : List DraftValue) (b : ℕ) → bs ≡ blocks_from 0 ds → preds_at new b ≡ preds_at bs b
     ++ preds_from b 0 (map (λ x. x.succs) bs) → preds_at new b ≡ preds_from b 0 (map (λ d. d.succs) ds)
 built_preds bs new ds b e h =
@@ -120,7 +120,7 @@ built_preds bs new ds b e h =
     ∙ succs-blocks_from 0 ds in
     rw (none, succs) at h
 
--- where successors of the blocks laid out are in range, so are those of the drafts
+-- where successors of the blocks laid out are in range, so are those of the partial blocks
 pub built_succs : (bs : List BlockValue) (ds : List DraftValue) (n b : ℕ) → bs ≡ blocks_from 0 ds → n ≡ length ds → All (λ s. s < n) (succs_at bs b) →
     All (λ s. s < length ds) (draft_at ds b).succs
 built_succs bs ds n b e c h =

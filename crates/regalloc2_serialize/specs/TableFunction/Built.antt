@@ -1,4 +1,4 @@
--- The function that comes of a builder's blocks.
+-- The function that a builder makes of its blocks.
 use Rattle.std.specs.Prelude.{ℕ, ◌≡◌, ◌+◌, ◌-◌, ◌<◌, ◌≤◌, ◌^◌, if◌then◌else◌, nat_eq, false, List, [], ◌∷◌, ◌++◌, length, map, All, Contains, slice_index_or}
 use Rattle.std.specs.List.{flat_map}
 use Rattle.regalloc2_function.specs.FunctionValue.{FunctionValue, BlockValue, InstValue, block_at}

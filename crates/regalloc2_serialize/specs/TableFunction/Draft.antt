@@ -10,7 +10,7 @@ use Rattle.regalloc2_serialize.specs.declared.table_function.builder.TableBuilde
 use Rattle.regalloc2_serialize.specs.declared.table_function.builder.BuildError.{BuildError}
 use Rattle.regalloc2_serialize.specs.declared.table_function.builder.BuildError.TheVariants.{Memory, NoBlock, TooManyBlocks, TooManyInsts, TooManyVRegs}
 
--- a block that is being built
+-- a partial block
 pub record DraftValue : Type 0 where
   pub params : List VirtualRegister
   pub insts : List InstValue

@@ -1,6 +1,6 @@
--- The function that a table stands for.
-use Rattle.std.specs.Prelude.{map, [], false}
-use Rattle.regalloc2_function.specs.FunctionValue.{FunctionValue, BlockValue, InstValue, SlotSizes}
+-- The function that a table holds.
+use Rattle.std.specs.Prelude.{map}
+use Rattle.regalloc2_function.specs.FunctionValue.{FunctionValue, BlockValue, InstValue, SlotSizes, label_of}
 use Rattle.regalloc2_serialize.specs.declared.table_function.table.TableBlock.{TableBlock}
 use Rattle.regalloc2_serialize.specs.declared.table_function.table.TableInst.{TableInst}
 use Rattle.regalloc2_serialize.specs.declared.table_function.table.SlotUnits.{SlotUnits}
@@ -26,8 +26,8 @@ function_of_table f = record {
   num_vregs = f.num_vregs;
   slot_sizes = record { int = f.int_slot.units; float = f.float_slot.units; vector = f.vector_slot.units };
   named_by_last_slot = f.named_by_last_slot;
-  labels = [];
-  allows_multiple_defs = false;
+  labels = map label_of f.labels.items;
+  allows_multiple_defs = f.allows_multiple_defs;
 }
 
 -- sizes of slots

@@ -1,8 +1,8 @@
 -- A table keeps the limits of a function.
-use Rattle.std.proofs.Common.{arith}
+use Rattle.std.proofs.Common.{arith, ◌<◌}
 use Rattle.std.proofs.lemmas.List.{length-map}
-use Rattle.std.proofs.lemmas.List.Elements.{All-nil}
-use Rattle.regalloc2_function.specs.FunctionValue.{IsLimited, IsSlotSize, slot_size}
+use Rattle.std.proofs.lemmas.List.Elements.{All-map}
+use Rattle.regalloc2_function.specs.FunctionValue.{IsLimited, IsSlotSize, slot_size, label_of}
 use Rattle.regalloc2_names.specs.declared.RegClass.TheVariants.{Int, Float, Vector}
 use Rattle.regalloc2_serialize.specs.TableFunction.Table.{function_of_table}
 use Rattle.regalloc2_serialize.specs.declared.table_function.table.SlotUnits.{SlotUnits}
@@ -18,5 +18,5 @@ limited_table f = record {
   vregs = f.few_vregs;
   slot_sizes = λ c. elim c as (λ k. IsSlotSize (slot_size (function_of_table f).slot_sizes k))
       [ Int ↦ size_of_table_units f.int_slot | Float ↦ size_of_table_units f.float_slot | Vector ↦ size_of_table_units f.vector_slot ];
-  labels = All-nil _;
+  labels = All-map (λ l. l.vreg.number < f.num_vregs) label_of f.labels.items f.labels_below;
 }

@@ -107,8 +107,10 @@ impl SlotUnits {
 
 impl<A: Allocator> TableFunction<A> {
     /// The function of these blocks and instructions that starts at block 0, with slots of those sizes for integers,
-    /// floating-point numbers and vectors, named by their first units, and vregs below `num_vregs`.
+    /// floating-point numbers and vectors, named by their first units, and vregs below `num_vregs`. It has no labels, and its
+    /// vregs have one definition.
     pub fn of_blocks(
+        alloc: A,
         num_vregs: usize,
         slots: (SlotUnits, SlotUnits, SlotUnits),
         blocks: Vec<TableBlock<A>, A>,
@@ -123,6 +125,8 @@ impl<A: Allocator> TableFunction<A> {
         ensures vregs { (function_of_table result).num_vregs ≡ num_vregs }
         ensures slots { (function_of_table result).slot_sizes ≡ sizes_of_table slots.0 slots.1 slots.2 }
         ensures named { (function_of_table result).named_by_last_slot ≡ false }
+        ensures labels { (function_of_table result).labels ≡ [] }
+        ensures multiple { (function_of_table result).allows_multiple_defs ≡ false }
     {
         let (int_slot, float_slot, vector_slot) = slots;
         TableFunction {
@@ -134,6 +138,8 @@ impl<A: Allocator> TableFunction<A> {
             float_slot,
             vector_slot,
             named_by_last_slot: false,
+            labels: Vec::new(alloc),
+            allows_multiple_defs: false,
         }
     }
 }

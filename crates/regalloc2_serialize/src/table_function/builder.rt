@@ -72,7 +72,7 @@ impl<T: Drop> From<AllocFailed<T>> for BuildError {
     }
 }
 
-/// A block that is being built.
+/// A partial block.
 #[derive(Drop)]
 pub struct BlockDraft<A: Allocator = Global> {
     /// What takes the arguments.
@@ -85,8 +85,9 @@ pub struct BlockDraft<A: Allocator = Global> {
     pub arguments: Vec<Vec<VReg, A>, A>,
 }
 
-/// Builds a function whose blocks are declared one by one, and filled in any order. It starts at block 0. A call that is refused leaves
-/// all as it was.
+/// Builds a function whose blocks are declared one by one, and filled in any order.
+///
+/// The function starts at block 0. A call that returns an error leaves the builder unchanged.
 #[derive(Drop)]
 pub struct TableBuilder<A: Allocator = Global> {
     /// What is built in.
@@ -139,7 +140,7 @@ impl<A: Allocator + Copy> TableBuilder<A> {
         Ok(())
     }
 
-    /// Adds an instruction with these operands, after which the next one comes.
+    /// Adds an instruction with these operands that goes on to the next one.
     pub fn op(&mut self, block: Block, operands: &[Operand]) -> Result<(), BuildError>
         ensures ok { OnOk result (HasMore (drafts_of self.old) block operands.now false false (drafts_of self.new)) }
         ensures err { IfErr result (λ e. IsUnadded (length (drafts_of self.old)) block e) }
@@ -205,8 +206,8 @@ impl<A: Allocator + Copy> TableBuilder<A> {
         Ok(())
     }
 
-    /// The function, with slots of one unit and vregs below `num_vregs`: the blocks' ranges follow one another, and each
-    /// block has as predecessors those that go on to it, each once for each time, by their numbers.
+    /// The function, with slots of one unit and vregs below `num_vregs`, without labels: the blocks' ranges follow one another,
+    /// and each block has as predecessors those that go on to it, each once for each time, by their numbers.
     pub fn finish(self, num_vregs: usize) -> Result<TableFunction<A>, BuildError>
         ensures ok { IfOk result (λ f. IsBuilt (drafts_of self) num_vregs (function_of_table f)) }
         ensures err { IfErr result (λ e. IsUnbuilt (drafts_of self) num_vregs e) }
@@ -221,7 +222,7 @@ impl<A: Allocator + Copy> TableBuilder<A> {
         let (mut blocks, insts) = lay_out(alloc, blocks)?;
         link(&mut blocks)?;
         let slots = (SlotUnits::one(), SlotUnits::one(), SlotUnits::one());
-        Ok(TableFunction::of_blocks(num_vregs, slots, blocks, insts))
+        Ok(TableFunction::of_blocks(alloc, num_vregs, slots, blocks, insts))
     }
 }
 

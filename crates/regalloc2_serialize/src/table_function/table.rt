@@ -1,6 +1,6 @@
 //! A function that is kept in tables.
 
-ghost use Rattle.std.specs.Prelude.{◌≡◌, ◌<◌, ◌≤◌, ◌^◌, ◌-◌, IsTrue, vec_len};
+ghost use Rattle.std.specs.Prelude.{◌≡◌, ◌<◌, ◌≤◌, ◌^◌, ◌-◌, IsTrue, All, vec_len};
 ghost use Rattle.std.specs.Int.{is_power_of_two};
 
 use regalloc2_function::Function;
@@ -9,7 +9,7 @@ use regalloc2_names::{Operand, PRegSet, RegClass, VReg};
 use std::alloc::{Allocator, Global};
 
 /// An instruction.
-#[derive(Drop)]
+#[derive(Debug, Drop)]
 pub struct TableInst<A: Allocator = Global> {
     /// What it does with vregs.
     pub operands: Vec<Operand, A>,
@@ -22,7 +22,7 @@ pub struct TableInst<A: Allocator = Global> {
 }
 
 /// A block.
-#[derive(Drop)]
+#[derive(Debug, Drop)]
 pub struct TableBlock<A: Allocator = Global> {
     /// Its instructions.
     pub range: InstRange,
@@ -37,7 +37,7 @@ pub struct TableBlock<A: Allocator = Global> {
 }
 
 /// How many units a spill slot takes: a power of two from 1 to 2^24.
-#[derive(Drop)]
+#[derive(Debug, Drop)]
 pub struct SlotUnits {
     /// How many.
     pub units: usize,
@@ -46,8 +46,8 @@ pub struct SlotUnits {
     pub ghost power_of_two: { IsTrue (is_power_of_two units) },
 }
 
-/// A function: its blocks and instructions by number. It has no labels, and its vregs have one definition.
-#[derive(Drop)]
+/// A function: its blocks and instructions by number.
+#[derive(Debug, Drop)]
 pub struct TableFunction<A: Allocator = Global> {
     /// The blocks.
     pub blocks: Vec<TableBlock<A>, A>,
@@ -65,9 +65,14 @@ pub struct TableFunction<A: Allocator = Global> {
     pub vector_slot: SlotUnits,
     /// Whether a slot is named by its last unit.
     pub named_by_last_slot: bool,
+    /// The labels of vregs, each from an instruction up to another.
+    pub labels: Vec<(VReg, Inst, Inst, u32), A>,
+    /// Whether a vreg may have several definitions.
+    pub allows_multiple_defs: bool,
     pub ghost few_insts: { vec_len insts < 2 ^ 30 },
     pub ghost few_blocks: { vec_len blocks < 2 ^ 32 - 1 },
     pub ghost few_vregs: { num_vregs < 2 ^ 30 },
+    pub ghost labels_below: { All (λ l. l.0.number < num_vregs) labels.items },
 }
 
 impl<A: Allocator> Function for TableFunction<A> {
@@ -134,7 +139,7 @@ impl<A: Allocator> Function for TableFunction<A> {
     }
 
     fn debug_value_labels(&self) -> &[(VReg, Inst, Inst, u32)] {
-        &[]
+        &self.labels
     }
 
     fn spillslot_size(&self, regclass: RegClass) -> usize {
@@ -150,7 +155,7 @@ impl<A: Allocator> Function for TableFunction<A> {
     }
 
     fn allow_multiple_vreg_defs(&self) -> bool {
-        false
+        self.allows_multiple_defs
     }
 
     ghost limited = { λ f. limited_table f };

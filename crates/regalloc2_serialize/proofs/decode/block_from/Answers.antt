@@ -1,11 +1,9 @@
-use Rattle.std.proofs.Common.{arith, ap, sym, subst, map, length, ◌≡◌, ◌∙◌}
+use Rattle.std.proofs.Common.{arith, ap, sym, subst, map, ◌∙◌}
 use Rattle.std.specs.Prelude.{All}
 use Rattle.regalloc2_names.specs.Packing.{IsVRegBits, vreg_of_bits}
 use Rattle.regalloc2_serialize.specs.Validity.{IsRangeWithin}
 use Rattle.regalloc2_serialize.specs.Decoded.{stored_block}
 use Rattle.regalloc2_serialize.proofs.Blocks.{same-block}
-use Rattle.std.proofs.lemmas.List.{length-map}
-use Rattle.regalloc2_serialize.proofs.Lists.{same-at}
 use Rattle.regalloc2_serialize.proofs.Given.{has-block, in-vec, item-has, list-read, range-read}
 use Rattle.regalloc2_serialize.proofs.decode.block_from.Goals as goal
 
@@ -39,24 +37,11 @@ lists_of_vregs_from-requires g c =
     (item-has (λ l. All (λ k. All IsVRegBits k.items) l.items) c.args.stored.now.block_params_out.items c.args.block c.index-5.result.now
     c.requires.sound.names.vregs.arguments has.arguments c.index-5.ensures)
 
-pub invariant_of-result : goal.invariant_of-result
-invariant_of-result g c =
-    let s = c.args.stored.now in
-    let b = c.args.block in
-    let has = has-block s b c.requires.sound c.requires.block in
-    let range = item-has (IsRangeWithin _) s.blocks.items b c.index.result.now c.requires.sound.within.ranges c.requires.block c.index.ensures in
-    let lists : length c.index-5.result.now.items ≡ length c.index-2.result.now.items =
-    same-at (λ l. length l.items) (λ l. length l.items) s.block_params_out.items s.block_succs.items b c.index-5.result.now c.index-2.result.now
-    has.arguments has.succs c.index-5.ensures c.index-2.ensures c.requires.sound.lengths.blocks.arguments in
-    let arguments : length c.in_ok-arguments.arguments.items ≡ length c.index-5.result.now.items =
-    sym (length-map c.in_ok-arguments.arguments.items (λ v. v.items)) ∙ ap length c.in_ok-arguments.ensures
-    ∙ length-map c.as_slice-4.result.now (λ l. map vreg_of_bits l.items) ∙ ap length c.as_slice-4.ensures.value in
-    let succs : length c.in_ok-succs.succs.items ≡ length c.index-2.result.now.items =
-    ap length c.in_ok-succs.ensures ∙ ap length c.as_slice.ensures.value in
-    record {
-      rises = omega (arith, c.new.ensures, c.new-2.ensures, range.0);
-      arguments_counted = omega (arith, lists, arguments, succs, c.in_ok-arguments.arguments.ok.0, c.in_ok-succs.succs.ok.0);
-    }
+pub new-requires-3 : goal.new-requires-3
+new-requires-3 g c =
+    let range = item-has (IsRangeWithin _) c.args.stored.now.blocks.items c.args.block c.index.result.now c.requires.sound.within.ranges c.requires.block
+    c.index.ensures in
+    omega (arith, c.new.ensures, c.new-2.ensures, range.0)
 
 pub returns : goal.returns
 returns g c =
@@ -64,7 +49,7 @@ returns g c =
     let b = c.args.block in
     let has = has-block s b c.requires.sound c.requires.block in
     sym (same-block (stored_block s b) _ _ _ _ _
-    (range-read s.blocks.items b c.index.result.now c.new.result c.new-2.result c.requires.block c.index.ensures c.new.ensures c.new-2.ensures)
+    (c.new-3.ensures ∙ range-read s.blocks.items b c.index.result.now c.new.result c.new-2.result c.requires.block c.index.ensures c.new.ensures c.new-2.ensures)
     (c.in_ok-succs.ensures ∙ c.as_slice.ensures.value ∙ list-read (λ l. l.items) s.block_succs.items b c.index-2.result.now has.succs c.index-2.ensures)
     (c.in_ok-preds.ensures ∙ c.as_slice-2.ensures.value ∙ list-read (λ l. l.items) s.block_preds.items b c.index-3.result.now has.preds c.index-3.ensures)
     (c.in_ok-params.ensures ∙ ap (map vreg_of_bits) (c.as_slice-3.ensures.value

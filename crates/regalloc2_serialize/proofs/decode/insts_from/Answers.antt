@@ -3,7 +3,7 @@ use Rattle.std.proofs.lemmas.List.{length-append}
 use Rattle.std.specs.List.{AllZip}
 use Rattle.regalloc2_serialize.specs.Validity.{NamesOperands}
 use Rattle.regalloc2_serialize.specs.Decoded.{NamesInst}
-use Rattle.regalloc2_serialize.specs.Tables.{inst_of_serializable}
+use Rattle.regalloc2_serialize.specs.TableFunction.Table.{inst_of_table}
 use Rattle.regalloc2_serialize.proofs.Lists.{zip-more}
 use Rattle.regalloc2_serialize.proofs.decode.insts_from.Goals as goal
 
@@ -14,8 +14,8 @@ pub loop-inst-preserved : goal.loop-inst-preserved
 loop-inst-preserved g c =
     let e : c.push.new.self.items ≡ c.loop-inst.insts.items ++ c.in_ok-inst_from.field-0 ∷ [] = search rules in
     record {
-      pairs = subst (λ zs. AllZip (λ s i. NamesInst s i) (take (c.loop-inst.inst-index + 1) c.args.stored.now) (map inst_of_serializable zs)) (sym e)
-          (zip-more (λ s i. NamesInst s i) inst_of_serializable c.args.stored.now c.loop-inst.insts.items c.loop-inst.inst-index c.inst-item.result
+      pairs = subst (λ zs. AllZip (λ s i. NamesInst s i) (take (c.loop-inst.inst-index + 1) c.args.stored.now) (map inst_of_table zs)) (sym e)
+          (zip-more (λ s i. NamesInst s i) inst_of_table c.args.stored.now c.loop-inst.insts.items c.loop-inst.inst-index c.inst-item.result
           c.in_ok-inst_from.field-0
           c.loop-inst-test.true c.inst-item.is c.loop-inst.invariant.pairs c.in_ok-inst_from.ensures);
       count = rw (e, length-append, c.loop-inst.invariant.count) refl;

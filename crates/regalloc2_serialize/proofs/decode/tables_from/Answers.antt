@@ -2,7 +2,7 @@ use Rattle.std.proofs.Common.{rules, arith, refl, ◌≡◌, ◌∷◌, [], ◌+
 use Rattle.std.proofs.lemmas.List.{map-append, length-append}
 use Rattle.std.proofs.lemmas.List.FromFn.{map-range_with_len_more}
 use Rattle.regalloc2_serialize.specs.Decoded.{stored_block}
-use Rattle.regalloc2_serialize.specs.Tables.{block_of_serializable}
+use Rattle.regalloc2_serialize.specs.TableFunction.Table.{block_of_table}
 use Rattle.regalloc2_serialize.proofs.decode.tables_from.Goals as goal
 
 pub loop-block-preserved : goal.loop-block-preserved
@@ -11,7 +11,7 @@ loop-block-preserved g c =
     record {
       blocks = rw (
         e,
-        map-append block_of_serializable c.loop-block.tables.items (c.in_ok-block_from.field-0 ∷ []),
+        map-append block_of_table c.loop-block.tables.items (c.in_ok-block_from.field-0 ∷ []),
         map-range_with_len_more (stored_block c.args.stored.now) 0 c.loop-block.block c.loop-block.block (omega arith),
         c.loop-block.invariant.blocks,
         c.in_ok-block_from.ensures,

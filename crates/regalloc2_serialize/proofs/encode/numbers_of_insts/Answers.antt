@@ -1,19 +1,23 @@
-use Rattle.std.proofs.Common.{rules, ◌≡◌, ◌∷◌, [], ◌++◌, ◌+◌, sym, subst, take, map}
+use Rattle.std.proofs.Common.{rules, ◌≡◌, ◌∷◌, [], ◌++◌, ◌+◌, true, false, sym, subst, take, map}
 use Rattle.std.specs.List.{AllZip}
 use Rattle.std.specs.Prelude.{All}
 use Rattle.std.proofs.lemmas.List.Elements.{All-push}
 use Rattle.regalloc2_serialize.specs.Decoded.{NamesInst}
 use Rattle.regalloc2_serialize.specs.Validity.{NamesOperands}
-use Rattle.regalloc2_serialize.specs.Tables.{inst_of_serializable}
+use Rattle.regalloc2_serialize.specs.TableFunction.Table.{inst_of_table}
 use Rattle.regalloc2_serialize.proofs.Lists.{zip-next-under}
 use Rattle.regalloc2_serialize.proofs.encode.numbers_of_insts.Goals as goal
+
+pub numbers_of_inst-requires : goal.numbers_of_inst-requires
+numbers_of_inst-requires g c =
+    subst (λ i. i.is_branch ≡ true → i.is_ret ≡ false) (sym c.inst-item.is) (c.requires c.loop-inst.inst-index c.inst-item.result c.loop-inst-test.true)
 
 pub loop-inst-preserved : goal.loop-inst-preserved
 loop-inst-preserved g c =
     let e : c.push.new.self.items ≡ c.loop-inst.numbers.items ++ c.in_ok-numbers_of_inst.field-0 ∷ [] = search rules in
     record {
-      same = subst (λ zs. AllZip (λ x i. NamesInst x i) zs (take (c.loop-inst.inst-index + 1) (map inst_of_serializable c.args.insts.now))) (sym e)
-          (zip-next-under (λ x i. NamesInst x i) inst_of_serializable c.loop-inst.numbers.items c.args.insts.now c.loop-inst.inst-index
+      same = subst (λ zs. AllZip (λ x i. NamesInst x i) zs (take (c.loop-inst.inst-index + 1) (map inst_of_table c.args.insts.now))) (sym e)
+          (zip-next-under (λ x i. NamesInst x i) inst_of_table c.loop-inst.numbers.items c.args.insts.now c.loop-inst.inst-index
           c.in_ok-numbers_of_inst.field-0 c.inst-item.result c.loop-inst-test.true c.inst-item.is c.loop-inst.invariant.same
           c.in_ok-numbers_of_inst.ensures.inst);
       names = subst (λ zs. All (λ x. NamesOperands x) zs) (sym e)

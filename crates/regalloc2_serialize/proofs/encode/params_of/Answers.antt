@@ -2,7 +2,7 @@ use Rattle.std.proofs.Common.{rules, ◌≡◌, ◌∙◌, ◌∷◌, [], ◌++�
 use Rattle.std.specs.Prelude.{All}
 use Rattle.std.proofs.lemmas.List.Elements.{All-push}
 use Rattle.regalloc2_names.specs.Packing.{IsVRegBits, vreg_of_bits}
-use Rattle.regalloc2_serialize.specs.Tables.{block_of_serializable}
+use Rattle.regalloc2_serialize.specs.TableFunction.Table.{block_of_table}
 use Rattle.regalloc2_serialize.proofs.Lists.{map-more}
 use Rattle.regalloc2_serialize.proofs.encode.params_of.Goals as goal
 
@@ -14,8 +14,8 @@ loop-block-preserved g c =
     let all = c.args.blocks.now in
     let e : c.push.new.self.items ≡ done ++ one ∷ [] = search rules in
     record {
-      same = subst (λ zs. map (λ v. map vreg_of_bits v.items) zs ≡ map (λ b. (block_of_serializable b).params) (take (i + 1) all)) (sym e)
-          (map-more (λ v. map vreg_of_bits v.items) (λ b. (block_of_serializable b).params) done all i one c.block-item.result c.loop-block-test.true
+      same = subst (λ zs. map (λ v. map vreg_of_bits v.items) zs ≡ map (λ b. (block_of_table b).params) (take (i + 1) all)) (sym e)
+          (map-more (λ v. map vreg_of_bits v.items) (λ b. (block_of_table b).params) done all i one c.block-item.result c.loop-block-test.true
           c.block-item.is (c.in_ok-words_of_vregs.ensures.vregs ∙ c.as_slice.ensures.value) c.loop-block.invariant.same);
       names = subst (λ zs. All (λ v. All IsVRegBits v.items) zs) (sym e)
           (All-push (λ v. All IsVRegBits v.items) done one c.loop-block.invariant.names c.in_ok-words_of_vregs.ensures.names);

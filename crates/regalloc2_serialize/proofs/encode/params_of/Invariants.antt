@@ -1,11 +1,11 @@
 use Rattle.std.proofs.Common.{◌≡◌, map, take}
 use Rattle.std.specs.Prelude.{All}
 use Rattle.regalloc2_names.specs.Packing.{IsVRegBits, vreg_of_bits}
-use Rattle.regalloc2_serialize.specs.Tables.{block_of_serializable}
+use Rattle.regalloc2_serialize.specs.TableFunction.Table.{block_of_table}
 use Rattle.regalloc2_serialize.proofs.encode.params_of.Given as goal
 
 abbrev pub invariant-loop-block : goal.invariant-loop-block
 invariant-loop-block g l = record {
-  same : map (λ v. map vreg_of_bits v.items) l.params.items ≡ map (λ b. (block_of_serializable b).params) (take l.block-index l.blocks);
+  same : map (λ v. map vreg_of_bits v.items) l.params.items ≡ map (λ b. (block_of_table b).params) (take l.block-index l.blocks);
   names : All (λ v. All IsVRegBits v.items) l.params.items;
 }

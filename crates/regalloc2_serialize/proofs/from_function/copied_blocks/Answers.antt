@@ -3,7 +3,7 @@ use Rattle.std.specs.List.{range_with_len}
 use Rattle.std.proofs.lemmas.List.{length-append}
 use Rattle.regalloc2_function.specs.FunctionValue.{FunctionValue, BlockValue, block_at, no_block}
 use Rattle.regalloc2_serialize.specs.CopyOfFunction.{shown_block}
-use Rattle.regalloc2_serialize.specs.Tables.{block_of_serializable}
+use Rattle.regalloc2_serialize.specs.TableFunction.Table.{block_of_table}
 use Rattle.regalloc2_serialize.proofs.FilledLists.{map-next, all-numbers}
 use Rattle.regalloc2_serialize.proofs.from_function.copied_blocks.Goals as goal
 
@@ -12,10 +12,10 @@ loop-block-preserved g c =
     let f : FunctionValue = g.F.Function.function c.args.f.now in
     let shown : ℕ → BlockValue = λ i. shown_block (block_at f i) in
     let e : c.push.new.self.items ≡ c.loop-block.tables.items ++ c.in_ok-copied_block.field-0 ∷ [] = search rules in
-    let here : block_of_serializable c.in_ok-copied_block.field-0 ≡ shown c.loop-block.block = search rules in
+    let here : block_of_table c.in_ok-copied_block.field-0 ≡ shown c.loop-block.block = search rules in
     record {
-      blocks = subst (λ xs. map block_of_serializable xs ≡ map shown (range_with_len 0 (c.loop-block.block + 1))) (sym e)
-          (map-next block_of_serializable shown c.loop-block.tables.items c.loop-block.block c.in_ok-copied_block.field-0 here c.loop-block.invariant.blocks);
+      blocks = subst (λ xs. map block_of_table xs ≡ map shown (range_with_len 0 (c.loop-block.block + 1))) (sym e)
+          (map-next block_of_table shown c.loop-block.tables.items c.loop-block.block c.in_ok-copied_block.field-0 here c.loop-block.invariant.blocks);
       count = rw (e, length-append, c.loop-block.invariant.count) refl;
     }
 

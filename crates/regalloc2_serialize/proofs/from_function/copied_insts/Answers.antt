@@ -3,7 +3,7 @@ use Rattle.std.specs.List.{range_with_len}
 use Rattle.std.proofs.lemmas.List.{length-append}
 use Rattle.regalloc2_function.specs.FunctionValue.{FunctionValue, InstValue, inst_at, no_inst}
 use Rattle.regalloc2_serialize.specs.CopyOfFunction.{shown_inst}
-use Rattle.regalloc2_serialize.specs.Tables.{inst_of_serializable}
+use Rattle.regalloc2_serialize.specs.TableFunction.Table.{inst_of_table}
 use Rattle.regalloc2_serialize.proofs.FilledLists.{map-next, all-numbers}
 use Rattle.regalloc2_serialize.proofs.from_function.copied_insts.Goals as goal
 
@@ -12,10 +12,10 @@ loop-inst-preserved g c =
     let f : FunctionValue = g.F.Function.function c.args.f.now in
     let shown : ℕ → InstValue = λ i. shown_inst (inst_at f i) in
     let e : c.push.new.self.items ≡ c.loop-inst.tables.items ++ c.in_ok-copied_inst.field-0 ∷ [] = search rules in
-    let here : inst_of_serializable c.in_ok-copied_inst.field-0 ≡ shown c.loop-inst.inst = search rules in
+    let here : inst_of_table c.in_ok-copied_inst.field-0 ≡ shown c.loop-inst.inst = search rules in
     record {
-      insts = subst (λ xs. map inst_of_serializable xs ≡ map shown (range_with_len 0 (c.loop-inst.inst + 1))) (sym e)
-          (map-next inst_of_serializable shown c.loop-inst.tables.items c.loop-inst.inst c.in_ok-copied_inst.field-0 here c.loop-inst.invariant.insts);
+      insts = subst (λ xs. map inst_of_table xs ≡ map shown (range_with_len 0 (c.loop-inst.inst + 1))) (sym e)
+          (map-next inst_of_table shown c.loop-inst.tables.items c.loop-inst.inst c.in_ok-copied_inst.field-0 here c.loop-inst.invariant.insts);
       count = rw (e, length-append, c.loop-inst.invariant.count) refl;
     }
 

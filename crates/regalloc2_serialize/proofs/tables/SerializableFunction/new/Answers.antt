@@ -1,15 +1,15 @@
-use Rattle.std.proofs.Common.{rules, arith, ◌≡◌, ◌∙◌, ◌<◌, subst, sym, map}
+use Rattle.std.proofs.Common.{rules, arith, ◌≡◌, ◌∙◌, ◌<◌, get_or, subst, sym, map}
 use Rattle.std.specs.Prelude.{All}
-use Rattle.std.proofs.lemmas.List.{map-id}
+use Rattle.std.proofs.lemmas.List.{length-map, map-id}
 use Rattle.regalloc2_function.specs.FunctionValue.{FunctionValue, IsLimited, label_of}
-use Rattle.regalloc2_serialize.specs.Tables.{block_of_serializable}
-use Rattle.regalloc2_serialize.proofs.FilledLists.{same-function, ends-shown}
+use Rattle.regalloc2_serialize.specs.TableFunction.Table.{block_of_table, inst_of_table}
+use Rattle.regalloc2_serialize.proofs.FilledLists.{same-function, counted-shown, ends-shown, kinds-shown, rises-shown}
 use Rattle.regalloc2_serialize.proofs.Lists.{all-under}
 use Rattle.regalloc2_serialize.proofs.Whole.{kept-whole}
 use Rattle.regalloc2_serialize.proofs.tables.SerializableFunction.new.Goals as goal
 
-pub invariant_of-result : goal.invariant_of-result
-invariant_of-result g c =
+pub invariant_of-function : goal.invariant_of-function
+invariant_of-function g c =
     let f : FunctionValue = g.F.Function.function c.args.f.now in
     let limits : IsLimited f = g.met.F.Function.limited c.args.f.now in
     let same : map label_of c.in_ok-labels.labels.items ≡ f.labels = search rules in
@@ -19,12 +19,23 @@ invariant_of-result g c =
       few_vregs = c.num_vregs.ensures.limit;
       labels_below = all-under (λ l. l.vreg.number < c.num_vregs.result) label_of (λ l. l) c.in_ok-labels.labels.items f.labels (same ∙ sym (map-id f.labels))
           (subst (λ n. All (λ l. l.vreg.number < n) f.labels) (sym c.num_vregs.ensures.count) limits.labels);
+    }
+
+pub invariant_of-result : goal.invariant_of-result
+invariant_of-result g c =
+    let f : FunctionValue = g.F.Function.function c.args.f.now in
+    let bs = c.in_ok-blocks.blocks.items in
+    record {
+      rises = rises-shown f block_of_table bs c.requires c.in_ok-blocks.ensures.blocks;
       ends_within = λ k d less. omega (
         arith,
-        ends-shown f block_of_serializable c.in_ok-blocks.blocks.items c.requires c.in_ok-blocks.ensures.blocks k d less,
+        ends-shown f block_of_table bs c.requires c.in_ok-blocks.ensures.blocks k d less,
         c.in_ok-insts.ensures.count,
         c.in_ok-insts.insts.ok.0,
       );
+      arguments_counted = λ k d less. sym (length-map (get_or bs k d).arguments.items (λ v. v.items))
+          ∙ counted-shown f block_of_table bs c.in_ok-blocks.ensures.blocks k d less;
+      one_kind = kinds-shown f inst_of_table c.in_ok-insts.insts.items c.in_ok-insts.ensures.insts;
     }
 
 pub returns-clause-function : goal.returns-clause-function

@@ -5,7 +5,8 @@ use Rattle.std.specs.List.{AllZip, range_with_len}
 use Rattle.regalloc2_function.specs.FunctionValue.{label_of}
 use Rattle.regalloc2_function.specs.Views.{machine_of}
 use Rattle.regalloc2_serialize.specs.Decoded.{NamesInst, stored_label, stored_block}
-use Rattle.regalloc2_serialize.specs.Tables.{inst_of_serializable, block_of_serializable, function_of_serializable}
+use Rattle.regalloc2_serialize.specs.TableFunction.Table.{inst_of_table, block_of_table}
+use Rattle.regalloc2_serialize.specs.Tables.{function_of_serializable}
 use Rattle.regalloc2_serialize.proofs.Blocks.{read-blocks}
 use Rattle.regalloc2_serialize.proofs.SameNames.{function-named, machine-named}
 use Rattle.regalloc2_serialize.proofs.Storable.{AreListsOf, ArePartsOf, passes, sound}
@@ -26,20 +27,20 @@ numbers g c = record {
   block_succs = c.in_ok-block_succs.block_succs;
   block_params_in = c.in_ok-block_params_in.block_params_in;
   block_params_out = c.in_ok-block_params_out.block_params_out;
-  num_vregs = c.args.self.now.num_vregs;
+  num_vregs = c.args.self.now.function.num_vregs;
   debug_value_labels = c.in_ok-debug_value_labels.debug_value_labels;
   spillslot_size = c.in_ok-spillslot_size.spillslot_size;
-  multi_spillslot_named_by_last_slot = c.args.self.now.named_by_last_slot;
-  allow_multiple_vreg_defs = c.args.self.now.allows_multiple_defs;
+  multi_spillslot_named_by_last_slot = c.args.self.now.function.named_by_last_slot;
+  allow_multiple_vreg_defs = c.args.self.now.function.allows_multiple_defs;
 }
 
 pub returns-clause-function : goal.returns-clause-function
 returns-clause-function g c = record {
-  blocks = subst (λ xs. map block_of_serializable xs ≡ map (stored_block (numbers g c)) (range_with_len 0 (length c.in_ok-blocks.blocks.items)))
+  blocks = subst (λ xs. map block_of_table xs ≡ map (stored_block (numbers g c)) (range_with_len 0 (length c.in_ok-blocks.blocks.items)))
       c.as_slice-tables.ensures.value
-      (read-blocks (numbers g c) block_of_serializable c.as_slice-tables.result.now c.in_ok-blocks.ensures c.in_ok-block_succs.ensures
+      (read-blocks (numbers g c) block_of_table c.as_slice-tables.result.now c.in_ok-blocks.ensures c.in_ok-block_succs.ensures
       c.in_ok-block_preds.ensures c.in_ok-block_params_in.ensures.params c.in_ok-block_params_out.ensures.arguments);
-  insts = subst (λ xs. AllZip (λ x i. NamesInst x i) c.in_ok-insts.insts.items (map inst_of_serializable xs)) c.as_slice.ensures.value
+  insts = subst (λ xs. AllZip (λ x i. NamesInst x i) c.in_ok-insts.insts.items (map inst_of_table xs)) c.as_slice.ensures.value
       c.in_ok-insts.ensures.insts;
   entry = sym c.raw_u32.ensures;
   num_vregs = refl;
@@ -67,8 +68,8 @@ parts g c = record {
     params = c.in_ok-block_params_in.ensures.params;
     arguments = c.in_ok-block_params_out.ensures.arguments;
   });
-  insts = sym (AllZip-long (λ x i. NamesInst x i) c.in_ok-insts.insts.items (map inst_of_serializable c.as_slice.result.now) c.in_ok-insts.ensures.insts)
-      ∙ length-map c.as_slice.result.now inst_of_serializable ∙ ap length c.as_slice.ensures.value;
+  insts = sym (AllZip-long (λ x i. NamesInst x i) c.in_ok-insts.insts.items (map inst_of_table c.as_slice.result.now) c.in_ok-insts.ensures.insts)
+      ∙ length-map c.as_slice.result.now inst_of_table ∙ ap length c.as_slice.ensures.value;
   entry = c.raw_u32.ensures;
   num_vregs = refl;
   labels = subst (λ ls. map stored_label c.in_ok-debug_value_labels.debug_value_labels.items ≡ map label_of ls) c.as_slice-2.ensures.value

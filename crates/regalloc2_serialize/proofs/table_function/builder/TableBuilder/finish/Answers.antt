@@ -44,6 +44,6 @@ returns-clause-ok g c =
       num_vregs = c.of_blocks.ensures.vregs;
       slot_sizes = c.of_blocks.ensures.slots ∙ rw (c.one.ensures, c.one-2.ensures, c.one-3.ensures) refl;
       named_by_last_slot = c.of_blocks.ensures.named;
-      labels = refl;
-      allows_multiple_defs = refl;
+      labels = c.of_blocks.ensures.labels;
+      allows_multiple_defs = c.of_blocks.ensures.multiple;
     }
