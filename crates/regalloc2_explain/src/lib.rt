@@ -7,6 +7,7 @@ mod blocks;
 mod cause;
 mod definitions;
 mod explanation;
+mod faults;
 mod operands;
 mod paths;
 mod pressure;
@@ -17,6 +18,7 @@ mod writes;
 
 pub use cause::{Cause, Site};
 pub use explanation::{Explanation, explain, misfit_at};
+pub use faults::{StoredCause, explain_function, explain_output};
 pub use paths::{UnwrittenRead, find_unwritten_read};
 pub use source::{Source, SourceLine};
 pub use writes::{LastWrite, last_write};

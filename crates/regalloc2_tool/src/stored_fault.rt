@@ -1,9 +1,9 @@
 //! The numbers of the faults of stored numbers, and words for them.
 
-ghost use Rattle.std.specs.Prelude.{◌≡◌, Some};
+ghost use Rattle.std.specs.Prelude.{◌≡◌};
 ghost use Rattle.regalloc2_tool.specs.Fault.{fault_number};
-ghost use Rattle.regalloc2_tool.specs.Text.{stored_fault_text};
 
+use regalloc2_explain::StoredCause;
 use regalloc2_function::StoredFault;
 use std::fmt;
 
@@ -21,16 +21,14 @@ pub fn number_of(fault: StoredFault) -> u8
     }
 }
 
-/// A fault of stored numbers with its number and its words, as `3: a word names nothing`.
+/// A fault of stored numbers with its number and its cause, as `2: the entry is block1, and the function has 1 block`.
 #[derive(Clone, Copy)]
-pub struct FaultText(pub StoredFault);
+pub struct FaultText(pub StoredFault, pub StoredCause);
 
 impl fmt::Display for FaultText {
-    ghost output = { λ t. Some (stored_fault_text t.0) };
-
     fn fmt<W: fmt::Write>(&self, f: &mut fmt::Formatter<W>) -> fmt::Result {
         let number = number_of(self.0);
-        let reason = self.0;
-        write!(f, "{number}: {reason}")
+        let cause = self.1;
+        write!(f, "{number}: {cause}")
     }
 }

@@ -15,7 +15,10 @@ use crate::svg::Picture;
 use regalloc2_analysis::liveness::reads_written;
 use regalloc2_checker::{CellFault, Checker, CheckerError, test_cells};
 use regalloc2_explain::report::{Stats, StatsJson, write_diff, write_dump};
-use regalloc2_explain::{Site, Source, explain, find_unwritten_read, last_write, misfit_at};
+use regalloc2_explain::{
+    Site, Source, explain, explain_function, explain_output, find_unwritten_read, last_write,
+    misfit_at,
+};
 use regalloc2_fastalloc::{Algorithm, RegallocOptions, run};
 use regalloc2_function::{
     Function, MachineEnv, Output, StoredFault, StoredOutput, is_framed, machine_fits, test_machine,
@@ -337,7 +340,7 @@ fn replay<F: Function, W: Write, E: Write>(
         Ok(output) => output,
         Err(StoredFault::Memory) => return Err(CallError::Memory),
         Err(fault) => {
-            let fault = FaultText(fault);
+            let fault = FaultText(fault, explain_output(stored, fault));
             writeln!(err, "bad output {fault}")?;
             return Ok(Verdict::Unusable);
         }
@@ -553,7 +556,7 @@ fn function_of<E: Write>(
         Ok(f) => Ok(Some(f)),
         Err(StoredFault::Memory) => Err(CallError::Memory),
         Err(fault) => {
-            let fault = FaultText(fault);
+            let fault = FaultText(fault, explain_function(given.function, fault));
             writeln!(err, "bad function {fault}")?;
             Ok(None)
         }

@@ -1,0 +1,610 @@
+//! Why stored numbers name no function or output.
+
+use crate::stored::{ClassName, Counted, class_of_number};
+use regalloc2_function::{StoredFault, StoredOutput};
+use regalloc2_names::{Allocation, Operand, PReg, ProgPoint, VReg};
+use regalloc2_serialize::{StoredFunction, StoredInst, StoredMachine};
+use std::fmt;
+
+/// What is wrong with stored numbers: each is one of several that a fault stands for.
+#[derive(Clone, Copy)]
+pub enum StoredCause {
+    /// A list by block has another length than there are blocks.
+    BlockList {
+        list: &'static str,
+        count: usize,
+        blocks: usize,
+    },
+    /// A block has another number of lists of arguments than successors.
+    ArgumentLists {
+        block: usize,
+        lists: usize,
+        succs: usize,
+    },
+    /// A list by class has another length than there are classes.
+    ClassList {
+        list: &'static str,
+        count: usize,
+    },
+    /// The entry is no block.
+    Entry {
+        entry: u32,
+        blocks: usize,
+    },
+    /// A block lists what is no block, as a predecessor or a successor.
+    Neighbour {
+        block: usize,
+        role: &'static str,
+        named: u32,
+        blocks: usize,
+    },
+    /// A block's range falls, or ends past the instructions.
+    Range {
+        block: usize,
+        first: u32,
+        end: u32,
+        insts: usize,
+    },
+    /// A label is of a vreg past the function's count.
+    LabelPastCount {
+        label: usize,
+        number: u32,
+        count: u64,
+    },
+    /// A list of registers has an index of none.
+    Register {
+        list: &'static str,
+        index: u8,
+    },
+    /// An operand's word is that of none.
+    OperandWord {
+        inst: usize,
+        operand: usize,
+        word: u64,
+    },
+    /// An instruction clobbers an index of no register.
+    Clobber {
+        inst: usize,
+        index: u8,
+    },
+    /// A parameter's or argument's word is that of no vreg.
+    VRegWord {
+        block: usize,
+        role: &'static str,
+        word: u32,
+    },
+    /// A label's word is that of no vreg.
+    LabelWord {
+        label: usize,
+        word: u32,
+    },
+    /// There are 2^30 instructions or vregs, or 2^32 - 1 blocks, or more.
+    TooMany {
+        count: u64,
+        what: &'static str,
+        limit: &'static str,
+    },
+    /// The size of a class's slots is no power of two up to 2^24.
+    SlotSize {
+        class: usize,
+        size: u64,
+    },
+    /// A move's point or places have words of none.
+    Move {
+        index: usize,
+    },
+    /// The place of an operand has a word of none.
+    Place {
+        index: usize,
+        word: u32,
+    },
+    /// A debug location's points or place have words of none.
+    Location {
+        index: usize,
+    },
+    /// The fault stands for one thing alone.
+    Known(StoredFault),
+}
+
+impl StoredCause {
+    /// Writes what is wrong with the length of a list.
+    fn write_length<W: fmt::Write>(&self, f: &mut fmt::Formatter<W>) -> fmt::Result {
+        match *self {
+            Self::BlockList {
+                list,
+                count,
+                blocks,
+            } => {
+                let (count, blocks) = (Counted(count, "member"), Counted(blocks, "block"));
+                write!(f, "{list} has {count} for {blocks}")
+            }
+            Self::ArgumentLists {
+                block,
+                lists,
+                succs,
+            } => {
+                let (lists, succs) = (Counted(lists, "list"), Counted(succs, "successor"));
+                write!(f, "block{block} has {lists} of arguments for {succs}")
+            }
+            Self::ClassList { list, count } => {
+                let count = Counted(count, "member");
+                write!(f, "{list} has {count} for 3 classes")
+            }
+            _ => self.write_index(f),
+        }
+    }
+
+    /// Writes what is wrong with a number that is out of range.
+    fn write_index<W: fmt::Write>(&self, f: &mut fmt::Formatter<W>) -> fmt::Result {
+        match *self {
+            Self::Entry { entry, blocks } => {
+                let blocks = Counted(blocks, "block");
+                write!(
+                    f,
+                    "the entry is block{entry}, and the function has {blocks}"
+                )
+            }
+            Self::Neighbour {
+                block,
+                role,
+                named,
+                blocks,
+            } => {
+                let blocks = Counted(blocks, "block");
+                write!(
+                    f,
+                    "block{block} lists block{named} as a {role}, and the function has {blocks}"
+                )
+            }
+            Self::Range {
+                block,
+                first,
+                end,
+                insts,
+            } => write!(
+                f,
+                "block{block} goes from instruction {first} up to {end} of {insts}"
+            ),
+            Self::LabelPastCount {
+                label,
+                number,
+                count,
+            } => write!(
+                f,
+                "label {label}, counted from 0, is of v{number}, and only numbers below {count} are defined"
+            ),
+            _ => self.write_word(f),
+        }
+    }
+
+    /// Writes which word or index names nothing.
+    fn write_word<W: fmt::Write>(&self, f: &mut fmt::Formatter<W>) -> fmt::Result {
+        match *self {
+            Self::Register { list, index } => {
+                write!(f, "{list} has {index}, which is no register's index")
+            }
+            Self::OperandWord {
+                inst,
+                operand,
+                word,
+            } => write!(
+                f,
+                "operand {operand} of inst{inst}, counted from 0, is {word}, which is no operand's word"
+            ),
+            Self::Clobber { inst, index } => {
+                write!(
+                    f,
+                    "inst{inst} clobbers {index}, which is no register's index"
+                )
+            }
+            Self::VRegWord { block, role, word } => {
+                write!(
+                    f,
+                    "block{block} has {word} as {role}, which is no virtual register's word"
+                )
+            }
+            Self::LabelWord { label, word } => write!(
+                f,
+                "label {label}, counted from 0, is of {word}, which is no virtual register's word"
+            ),
+            _ => self.write_limit(f),
+        }
+    }
+
+    /// Writes which limit is passed.
+    fn write_limit<W: fmt::Write>(&self, f: &mut fmt::Formatter<W>) -> fmt::Result {
+        match *self {
+            Self::TooMany { count, what, limit } => {
+                write!(f, "there are {count} {what}, and the limit is {limit}")
+            }
+            Self::SlotSize { class, size } => {
+                let class = ClassName(class_of_number(class));
+                write!(
+                    f,
+                    "a slot of the class {class} takes {size} units, which is no power of two from 1 to 2^24"
+                )
+            }
+            _ => self.write_output(f),
+        }
+    }
+
+    /// Writes what is wrong with an output, or the text of the error.
+    fn write_output<W: fmt::Write>(&self, f: &mut fmt::Formatter<W>) -> fmt::Result {
+        match *self {
+            Self::Move { index } => {
+                write!(
+                    f,
+                    "move {index}, counted from 0, has a word of no point or place"
+                )
+            }
+            Self::Place { index, word } => {
+                write!(
+                    f,
+                    "place {index}, counted from 0, is {word}, which is no place's word"
+                )
+            }
+            Self::Location { index } => {
+                write!(
+                    f,
+                    "debug location {index}, counted from 0, has a word of no point or place"
+                )
+            }
+            Self::Known(fault) => write!(f, "{fault}"),
+            _ => write!(f, ""),
+        }
+    }
+}
+
+/// As `block1 lists block7 as a successor, and the function has 3 blocks`.
+impl fmt::Display for StoredCause {
+    fn fmt<W: fmt::Write>(&self, f: &mut fmt::Formatter<W>) -> fmt::Result {
+        self.write_length(f)
+    }
+}
+
+/// The first block that has another number of lists of arguments than successors.
+fn of_arguments(function: &StoredFunction) -> Option<StoredCause> {
+    let pairs = function
+        .block_params_out
+        .iter()
+        .zip(function.block_succs.iter());
+    for (block, (arguments, succs)) in pairs.enumerate() {
+        let (lists, succs) = (arguments.len(), succs.len());
+        if lists != succs {
+            return Some(StoredCause::ArgumentLists {
+                block,
+                lists,
+                succs,
+            });
+        }
+    }
+    None
+}
+
+/// The first list that has another length than it should have.
+fn of_lengths(function: &StoredFunction) -> Option<StoredCause> {
+    let blocks = function.blocks.len();
+    let lists = [
+        ("block_preds", function.block_preds.len()),
+        ("block_succs", function.block_succs.len()),
+        ("block_params_in", function.block_params_in.len()),
+        ("block_params_out", function.block_params_out.len()),
+    ];
+    for (list, count) in lists {
+        if count != blocks {
+            return Some(StoredCause::BlockList {
+                list,
+                count,
+                blocks,
+            });
+        }
+    }
+    let arguments = of_arguments(function);
+    if arguments.is_some() {
+        return arguments;
+    }
+    of_classes(function)
+}
+
+/// The first list by class that has another length than 3.
+fn of_classes(function: &StoredFunction) -> Option<StoredCause> {
+    let machine = &function.machine_env;
+    let lists = [
+        (
+            "preferred_regs_by_class",
+            machine.preferred_regs_by_class.len(),
+        ),
+        (
+            "non_preferred_regs_by_class",
+            machine.non_preferred_regs_by_class.len(),
+        ),
+        ("scratch_by_class", machine.scratch_by_class.len()),
+        ("spillslot_size", function.spillslot_size.len()),
+    ];
+    for (list, count) in lists {
+        if count != 3 {
+            return Some(StoredCause::ClassList { list, count });
+        }
+    }
+    None
+}
+
+/// The first number in lists by block that is no block's.
+fn of_neighbours(lists: &[Vec<u32>], role: &'static str, blocks: usize) -> Option<StoredCause> {
+    for (block, list) in lists.iter().enumerate() {
+        if let Some(named) = list.iter().find(|named| **named as usize >= blocks) {
+            return Some(StoredCause::Neighbour {
+                block,
+                role,
+                named: *named,
+                blocks,
+            });
+        }
+    }
+    None
+}
+
+/// The first range that falls, or ends past so many instructions.
+fn of_ranges(ranges: &[(u32, u32)], insts: usize) -> Option<StoredCause> {
+    for (block, (first, end)) in ranges.iter().enumerate() {
+        if first > end || *end as usize > insts {
+            return Some(StoredCause::Range {
+                block,
+                first: *first,
+                end: *end,
+                insts,
+            });
+        }
+    }
+    None
+}
+
+/// The first label of a vreg whose number isn't below a count.
+fn of_counted(labels: &[(u32, u32, u32, u32)], count: u64) -> Option<StoredCause> {
+    let label = labels
+        .iter()
+        .position(|label| u64::from(label.0 >> 2) >= count)?;
+    Some(StoredCause::LabelPastCount {
+        label,
+        number: labels.get(label)?.0 >> 2,
+        count,
+    })
+}
+
+/// The first number of a block, an instruction or a labelled vreg that is out of range.
+fn of_index(function: &StoredFunction) -> Option<StoredCause> {
+    let (blocks, insts) = (function.blocks.len(), function.insts.len());
+    let entry = function.entry_block;
+    if entry as usize >= blocks {
+        return Some(StoredCause::Entry { entry, blocks });
+    }
+    let preds = of_neighbours(function.block_preds.as_slice(), "predecessor", blocks);
+    if preds.is_some() {
+        return preds;
+    }
+    let succs = of_neighbours(function.block_succs.as_slice(), "successor", blocks);
+    if succs.is_some() {
+        return succs;
+    }
+    let ranges = of_ranges(function.blocks.as_slice(), insts);
+    if ranges.is_some() {
+        return ranges;
+    }
+    of_counted(function.debug_value_labels.as_slice(), function.num_vregs)
+}
+
+/// The first index in a list that is no register's.
+fn of_list(list: &'static str, indexes: &[u8]) -> Option<StoredCause> {
+    let index = indexes
+        .iter()
+        .find(|index| !PReg::is_index(usize::from(**index)))?;
+    Some(StoredCause::Register {
+        list,
+        index: *index,
+    })
+}
+
+/// The first index in lists that is no register's.
+fn of_lists(list: &'static str, lists: &[Vec<u8>]) -> Option<StoredCause> {
+    lists
+        .iter()
+        .find_map(|indexes| of_list(list, indexes.as_slice()))
+}
+
+/// The index of a scratch register, if it is there and no register's.
+fn of_scratch(index: Option<u8>) -> Option<StoredCause> {
+    of_list("scratch_by_class", &[index?])
+}
+
+/// The first index of a machine that is no register's.
+fn of_machine(machine: &StoredMachine) -> Option<StoredCause> {
+    let preferred = machine.preferred_regs_by_class.as_slice();
+    if let Some(cause) = of_lists("preferred_regs_by_class", preferred) {
+        return Some(cause);
+    }
+    let others = machine.non_preferred_regs_by_class.as_slice();
+    if let Some(cause) = of_lists("non_preferred_regs_by_class", others) {
+        return Some(cause);
+    }
+    let scratch = machine
+        .scratch_by_class
+        .iter()
+        .find_map(|index| of_scratch(*index));
+    if scratch.is_some() {
+        return scratch;
+    }
+    of_list("fixed_stack_slots", machine.fixed_stack_slots.as_slice())
+}
+
+/// The first word or index of one instruction that names nothing.
+fn of_inst(inst: usize, data: &StoredInst) -> Option<StoredCause> {
+    for (operand, word) in data.operands.iter().enumerate() {
+        if !Operand::is_bits(*word) {
+            return Some(StoredCause::OperandWord {
+                inst,
+                operand,
+                word: *word,
+            });
+        }
+    }
+    let index = data
+        .clobbers
+        .iter()
+        .find(|index| !PReg::is_index(usize::from(**index)))?;
+    Some(StoredCause::Clobber {
+        inst,
+        index: *index,
+    })
+}
+
+/// The first word of a block's parameters or arguments that is no vreg's.
+fn of_vregs(block: usize, role: &'static str, words: &[u32]) -> Option<StoredCause> {
+    let word = words.iter().find(|word| !VReg::is_bits(**word))?;
+    Some(StoredCause::VRegWord {
+        block,
+        role,
+        word: *word,
+    })
+}
+
+/// The first word or index of an instruction that names nothing.
+fn of_insts(insts: &[StoredInst]) -> Option<StoredCause> {
+    for (inst, data) in insts.iter().enumerate() {
+        if let Some(cause) = of_inst(inst, data) {
+            return Some(cause);
+        }
+    }
+    None
+}
+
+/// The first word of a parameter that is no vreg's.
+fn of_params(lists: &[Vec<u32>]) -> Option<StoredCause> {
+    for (block, words) in lists.iter().enumerate() {
+        if let Some(cause) = of_vregs(block, "a parameter", words.as_slice()) {
+            return Some(cause);
+        }
+    }
+    None
+}
+
+/// The first word of an argument that is no vreg's.
+fn of_passed(lists: &[Vec<Vec<u32>>]) -> Option<StoredCause> {
+    for (block, passed) in lists.iter().enumerate() {
+        let cause = passed
+            .iter()
+            .find_map(|words| of_vregs(block, "an argument", words.as_slice()));
+        if cause.is_some() {
+            return cause;
+        }
+    }
+    None
+}
+
+/// The first label whose word is no vreg's.
+fn of_labels(labels: &[(u32, u32, u32, u32)]) -> Option<StoredCause> {
+    let label = labels.iter().position(|label| !VReg::is_bits(label.0))?;
+    Some(StoredCause::LabelWord {
+        label,
+        word: labels.get(label)?.0,
+    })
+}
+
+/// The first word that names nothing.
+fn of_words(function: &StoredFunction) -> Option<StoredCause> {
+    let machine = of_machine(&function.machine_env);
+    if machine.is_some() {
+        return machine;
+    }
+    let insts = of_insts(function.insts.as_slice());
+    if insts.is_some() {
+        return insts;
+    }
+    let params = of_params(function.block_params_in.as_slice());
+    if params.is_some() {
+        return params;
+    }
+    let passed = of_passed(function.block_params_out.as_slice());
+    if passed.is_some() {
+        return passed;
+    }
+    of_labels(function.debug_value_labels.as_slice())
+}
+
+/// The first limit that is passed.
+fn of_limits(function: &StoredFunction) -> Option<StoredCause> {
+    let limits = [
+        (
+            function.insts.len() as u64,
+            1 << 30,
+            "instructions",
+            "2^30 - 1",
+        ),
+        (
+            function.blocks.len() as u64,
+            0xffff_ffff,
+            "blocks",
+            "2^32 - 2",
+        ),
+        (function.num_vregs, 1 << 30, "virtual registers", "2^30 - 1"),
+    ];
+    for (count, bound, what, limit) in limits {
+        if count >= bound {
+            return Some(StoredCause::TooMany { count, what, limit });
+        }
+    }
+    let sizes = function.spillslot_size.as_slice();
+    let class = sizes
+        .iter()
+        .position(|size| *size > 1 << 24 || !size.is_power_of_two())?;
+    Some(StoredCause::SlotSize {
+        class,
+        size: *sizes.get(class)?,
+    })
+}
+
+/// What a fault of a stored function stands for. Linear in the function.
+pub fn explain_function(function: &StoredFunction, fault: StoredFault) -> StoredCause {
+    let found = match fault {
+        StoredFault::Lengths => of_lengths(function),
+        StoredFault::Index => of_index(function),
+        StoredFault::Bits => of_words(function),
+        StoredFault::Limit => of_limits(function),
+        StoredFault::Memory | StoredFault::Shape => None,
+    };
+    found.unwrap_or(StoredCause::Known(fault))
+}
+
+/// The first word of an output that names nothing.
+fn of_output(output: &StoredOutput) -> Option<StoredCause> {
+    let is_place = |word: u32| Allocation::is_bits(word);
+    let is_move = |edit: (u32, u32, u32)| {
+        ProgPoint::is_index(edit.0) && is_place(edit.1) && is_place(edit.2)
+    };
+    if let Some(index) = output.edits.iter().position(|edit| !is_move(*edit)) {
+        return Some(StoredCause::Move { index });
+    }
+    let places = output.allocs.as_slice();
+    if let Some(index) = places.iter().position(|word| !is_place(*word)) {
+        return Some(StoredCause::Place {
+            index,
+            word: *places.get(index)?,
+        });
+    }
+    let is_location = |location: (u32, u32, u32, u32)| {
+        ProgPoint::is_index(location.1) && ProgPoint::is_index(location.2) && is_place(location.3)
+    };
+    let index = output
+        .debug_locations
+        .iter()
+        .position(|location| !is_location(*location))?;
+    Some(StoredCause::Location { index })
+}
+
+/// What a fault of a stored output stands for. Linear in the output.
+pub fn explain_output(output: &StoredOutput, fault: StoredFault) -> StoredCause {
+    let found = match fault {
+        StoredFault::Bits => of_output(output),
+        _ => None,
+    };
+    found.unwrap_or(StoredCause::Known(fault))
+}
