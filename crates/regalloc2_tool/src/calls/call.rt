@@ -533,7 +533,7 @@ fn allocate<F: Function, W: Write, E: Write>(
     };
     match call {
         Call::Run => write_listing(f, &output, to)?,
-        Call::Svg => Picture::new(alloc, &output)?.draw(f, &output, to)?,
+        Call::Svg => Picture::new(alloc).draw(f, &output, to)?,
         Call::Check | Call::Replay | Call::Reads => {
             let is_accepted = judge(alloc, f, env, &output, given, to)?;
             return Ok(Verdict::of(is_accepted));
