@@ -48,6 +48,17 @@ fn split(text: &str, at: usize) -> (&str, &str) {
     text.split_at_checked(at).unwrap_or((text, ""))
 }
 
+/// A line without what a logger writes before it in brackets.
+fn unlogged(line: &str) -> &str {
+    let logged = line
+        .strip_prefix('[')
+        .and_then(|rest| rest.split_once("] "));
+    match logged {
+        Some((front, after)) if !front.contains('{') => after,
+        _ => line,
+    }
+}
+
 /// A line without its comment.
 fn without_comment(line: &str) -> &str {
     line.split_once('#').map_or(line, |(front, _)| front)
@@ -127,13 +138,15 @@ fn operand_start(line: &str, k: usize) -> usize {
 }
 
 impl<'t> Source<'t> {
-    /// A part of a line that begins at a place.
+    /// A part of a line that begins at a place behind what a logger wrote.
     fn part(&self, number: usize, line: &'t str, start: usize) -> SourceLine<'t> {
+        let shown = unlogged(line);
+        let logged = line.len().saturating_sub(shown.len());
         SourceLine {
             name: self.name,
             number,
-            column: start.saturating_add(1),
-            words: without_comment(line).trim(),
+            column: logged.saturating_add(start).saturating_add(1),
+            words: without_comment(shown).trim(),
         }
     }
 
@@ -143,10 +156,10 @@ impl<'t> Source<'t> {
             .text
             .lines()
             .enumerate()
-            .filter(|(_, line)| is_block(line))
+            .filter(|(_, line)| is_block(unlogged(line)))
             .nth(k)?;
         let number = self.first_line.saturating_add(index);
-        Some(self.part(number, line, indent_of(line)))
+        Some(self.part(number, line, indent_of(unlogged(line))))
     }
 
     /// The line of the `k`th instruction, from one of its operands on if that is named.
@@ -155,11 +168,12 @@ impl<'t> Source<'t> {
             .text
             .lines()
             .enumerate()
-            .filter(|(_, line)| is_inst(line))
+            .filter(|(_, line)| is_inst(unlogged(line)))
             .nth(k)?;
+        let shown = unlogged(line);
         let start = match operand {
-            Some(operand) => operand_start(line, operand),
-            None => indent_of(line),
+            Some(operand) => operand_start(shown, operand),
+            None => indent_of(shown),
         };
         let number = self.first_line.saturating_add(index);
         Some(self.part(number, line, start))
