@@ -10,4 +10,4 @@ pub use agree::agrees_at_random;
 pub use numbers::Random;
 pub use program::{UNUSABLE, answer};
 pub use random::random_program;
-pub use task::{Action, Task, refuse_words};
+pub use task::{Action, Task};

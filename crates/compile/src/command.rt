@@ -40,7 +40,7 @@ fn with_options<'a>(alloc: Global, command: Command<'a>) -> Result<Command<'a>, 
         .short('q')
         .long("quiet")
         .action(ArgAction::SetTrue)
-        .help("Write neither answer nor rejection: the status tells");
+        .help("Write neither answer nor rejection nor what is wrong with a text: the status tells");
     Ok(command.after_help(STATUSES).arg(output)?.arg(quiet)?)
 }
 

@@ -2,7 +2,7 @@
 
 use regalloc2_function::StoredFault;
 use regalloc2_serialize::{FromValue, StoredFunction};
-use regalloc2_text::{Text, TextError, write};
+use regalloc2_text::{Text, TextError, is_logged, write};
 use regalloc2_tool::calls::reading::read_text;
 use serde_json::Value;
 use std::alloc::{AllocError, Global};
@@ -71,10 +71,11 @@ pub fn position_of(bytes: &[u8], place: usize) -> (usize, usize) {
     (line, column)
 }
 
-/// Whether an input is JSON: its first character but blanks is a brace or a bracket, which begin no line of a text.
+/// Whether an input is JSON: its first character but blanks is a brace or a bracket, which begin no line of a text, but for a bracket
+/// around what a logger writes before the lines of a dump.
 fn is_json(text: &str) -> bool {
     let first = text.bytes().find(|byte| !byte.is_ascii_whitespace());
-    first == Some(b'{') || first == Some(b'[')
+    first == Some(b'{') || (first == Some(b'[') && !is_logged(text.trim_start()))
 }
 
 /// What is said of a fault of stored numbers.

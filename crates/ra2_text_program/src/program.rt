@@ -72,37 +72,20 @@ fn warn<E: Write>(path: &str, function: &StoredFunction, err: &mut E) -> io::Res
     let megabytes = vregs.saturating_mul(BYTES_FOR_VREG) / 1_000_000;
     writeln!(
         err,
-        "{path}: warning: the numbers of virtual registers go up to {vregs}, and at most {names} are named: tables by number take about {megabytes} MB"
+        "{path}: warning: numbers of virtual registers are below {vregs}, and at most {names} are named: tables by number take about {megabytes} MB"
     )
 }
 
-/// Writes how the outputs of two inputs differ.
-fn act_diff<O: Write, E: Write>(
-    alloc: Global,
-    given: &Given<'_, '_, '_>,
-    other: &Input,
-    out: &mut O,
-    err: &mut E,
-) -> Result<Verdict, CallError> {
-    let one = write(alloc, given.function, None)?;
-    let another = write(alloc, &other.text.function, None)?;
-    if one.as_str() != another.as_str() {
-        writeln!(err, "the files give different functions")?;
-        return Ok(Verdict::Unusable);
+/// The first line in which a text differs from another one, and that of the other one, without blanks at both ends; empty behind an end.
+fn first_difference<'a>(one: &'a str, other: &'a str) -> (&'a str, &'a str) {
+    let mut lines = other.lines();
+    for line in one.lines() {
+        let there = lines.next().unwrap_or("");
+        if line != there {
+            return (line.trim(), there.trim());
+        }
     }
-    let Some(output) = &other.text.output else {
-        writeln!(err, "bad text: no allocation")?;
-        return Ok(Verdict::Unusable);
-    };
-    answer_diff(alloc, given, output, out, err)
-}
-
-/// An input with the bytes that it was read from, and the other one of `diff`.
-#[derive(Clone, Copy)]
-struct Inputs<'t, 'i, 'o> {
-    text: &'t str,
-    input: &'i Input,
-    other: Option<&'o Input>,
+    ("", lines.next().unwrap_or("").trim())
 }
 
 /// The text in which the parts of an input are shown: the one that was read, with that name before line numbers, or else the one that is
@@ -122,11 +105,58 @@ fn source_of<'s>(text: &'s str, shown: Option<&'s String>, name: &'s str) -> Sou
     }
 }
 
+/// The other input of `diff`, with its path and the text that it was read from.
+#[derive(Clone, Copy)]
+struct Other<'p, 't, 'i> {
+    path: &'p str,
+    text: &'t str,
+    input: &'i Input,
+}
+
+/// Writes how the outputs of two inputs differ.
+fn act_diff<O: Write, E: Write>(
+    alloc: Global,
+    given: &Given<'_, '_, '_>,
+    other: Other<'_, '_, '_>,
+    out: &mut O,
+    err: &mut E,
+) -> Result<Verdict, CallError> {
+    let Other { path, text, input } = other;
+    let one = write(alloc, given.function, None)?;
+    let another = write(alloc, &input.text.function, None)?;
+    if one.as_str() != another.as_str() {
+        let (here, there) = first_difference(one.as_str(), another.as_str());
+        writeln!(
+            err,
+            "the files give different functions: `{here}` and `{there}`"
+        )?;
+        return Ok(Verdict::Unusable);
+    }
+    let Ok(name) = format!(in alloc; "{path}:") else {
+        return Err(CallError::Memory);
+    };
+    let source = source_of(text, input.shown.as_ref(), name.as_str());
+    let second = Given {
+        function: &input.text.function,
+        output: input.text.output.as_ref(),
+        source: Some(source),
+    };
+    answer_diff(alloc, given, &second, out, err)
+}
+
+/// An input with the text that it was read from, and the other one of `diff`.
+#[derive(Clone, Copy)]
+struct Inputs<'t, 'i, 'p, 'u, 'o> {
+    text: &'t str,
+    input: &'i Input,
+    other: Option<Other<'p, 'u, 'o>>,
+}
+
 /// Does an action with an input, and flushes the output.
 fn act<O: Write, E: Write>(
     alloc: Global,
     task: Task<'_>,
-    inputs: Inputs<'_, '_, '_>,
+    inputs: Inputs<'_, '_, '_, '_, '_>,
     out: &mut O,
     err: &mut E,
 ) -> Result<Verdict, CallError> {
@@ -161,7 +191,7 @@ fn act<O: Write, E: Write>(
 fn act_as_asked<O: Write, E: Write>(
     alloc: Global,
     task: Task<'_>,
-    inputs: Inputs<'_, '_, '_>,
+    inputs: Inputs<'_, '_, '_, '_, '_>,
     out: &mut O,
     err: &mut E,
 ) -> Result<Verdict, CallError> {
@@ -213,12 +243,17 @@ pub fn answer<O: Write, E: Write>(
             return UNUSABLE;
         }
     }
-    let text = text_of(bytes).unwrap_or("");
-    let first = &input;
-    let other = second.as_ref();
+    let other = match (other, second.as_ref()) {
+        (Some((path, more)), Some(input)) => Some(Other {
+            path,
+            text: text_of(more).unwrap_or(""),
+            input,
+        }),
+        _ => None,
+    };
     let inputs = Inputs {
-        text,
-        input: first,
+        text: text_of(bytes).unwrap_or(""),
+        input: &input,
         other,
     };
     match act_as_asked(alloc, task, inputs, out, err) {

@@ -94,7 +94,9 @@ fn subcommand<'a>(alloc: Global, name: &'a str, about: &'a str) -> Result<Comman
     let file = Arg::new(alloc, "FILE")
         .required(true)
         .action(ArgAction::Set)
-        .help("A function with its machine, as a text or as JSON; - is standard input");
+        .help(
+            "A function with its machine, as a text, as JSON or as upstream prints it; - is standard input",
+        );
     let output = Arg::new(alloc, "output")
         .short('o')
         .long("output")

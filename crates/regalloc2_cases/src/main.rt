@@ -6,6 +6,7 @@
 #![tactic(auto)]
 
 mod case_file;
+mod command;
 mod program;
 
 use program::{Tally, run_file};

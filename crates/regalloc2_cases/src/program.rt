@@ -1,6 +1,7 @@
 //! Cases that are run, and what comes of them.
 
 use super::case_file::{Case, Expectation, cases_of};
+use super::command::answer_of_program;
 use regalloc2_explain::Source;
 use regalloc2_text::TextError;
 use regalloc2_tool::calls::call::{Call, CallError, Given, answer};
@@ -60,8 +61,17 @@ impl fmt::Display for Shown<'_> {
 }
 
 /// The answer to a call of a case: what is written, and behind that what turns the text down. A name may end in ` why`: then what is
-/// refused or found is explained.
-fn answer_of(alloc: Global, case: &Case<'_>, name: &str) -> Result<Vec<u8>, CallError> {
+/// refused or found is explained. A name of several words, of which the first is `ra2_text`, is that program's command line; `before` is
+/// the text of the case before.
+fn answer_of(
+    alloc: Global,
+    case: &Case<'_>,
+    before: &str,
+    name: &str,
+) -> Result<Vec<u8>, CallError> {
+    if name.starts_with("ra2_text") {
+        return answer_of_program(alloc, name, case.text.as_str(), before);
+    }
     let mut to = Vec::new(alloc);
     let mut err = Vec::new(alloc);
     let (word, source) = match name.strip_suffix(" why") {
@@ -113,10 +123,11 @@ fn run_call<O: Write>(
     alloc: Global,
     path: &str,
     case: &Case<'_>,
+    before: &str,
     wanted: &Expectation<'_>,
     out: &mut O,
 ) -> Result<bool, CallError> {
-    let bytes = answer_of(alloc, case, wanted.call)?;
+    let bytes = answer_of(alloc, case, before, wanted.call)?;
     let came = String::from_utf8_lossy(alloc, bytes.as_slice())?;
     let Some((want, got)) = first_difference(wanted.answer.as_slice(), came.as_str()) else {
         return Ok(true);
@@ -135,11 +146,12 @@ fn run_case<O: Write>(
     alloc: Global,
     path: &str,
     case: &Case<'_>,
+    before: &str,
     tally: &mut Tally,
     out: &mut O,
 ) -> Result<(), CallError> {
     for wanted in case.calls.iter() {
-        tally.count(run_call(alloc, path, case, wanted, out)?);
+        tally.count(run_call(alloc, path, case, before, wanted, out)?);
     }
     Ok(())
 }
@@ -155,8 +167,11 @@ pub fn run_file<O: Write>(
     tally: &mut Tally,
     out: &mut O,
 ) -> Result<(), CallError> {
-    for case in cases_of(alloc, text)?.iter() {
-        run_case(alloc, path, case, tally, out)?;
+    let cases = cases_of(alloc, text)?;
+    let mut before = "";
+    for case in cases.iter() {
+        run_case(alloc, path, case, before, tally, out)?;
+        before = case.text.as_str();
     }
     tally.files = tally.files.saturating_add(1);
     Ok(())

@@ -48,6 +48,17 @@ fn split(text: &str, at: usize) -> (&str, &str) {
     text.split_at_checked(at).unwrap_or((text, ""))
 }
 
+/// A line without what a logger writes before it in brackets.
+fn unlogged(line: &str) -> &str {
+    let logged = line
+        .strip_prefix('[')
+        .and_then(|rest| rest.split_once("] "));
+    match logged {
+        Some((front, after)) if !front.contains('{') => after,
+        _ => line,
+    }
+}
+
 /// A line without its comment.
 fn without_comment(line: &str) -> &str {
     line.split_once('#').map_or(line, |(front, _)| front)
@@ -78,10 +89,14 @@ fn is_numbered(word: &str, name: &str) -> bool {
     }
 }
 
-/// Whether a line is that of an instruction.
+/// Whether a line is that of an instruction; that of a point, which a dump has for a move, begins with `inst3-`.
 fn is_inst(line: &str) -> bool {
     let word = first_word(line);
-    word == "op" || word == "branch" || word == "ret" || is_numbered(word, "inst")
+    if is_numbered(word, "inst") {
+        let (_, behind) = split(line, indent_of(line).saturating_add(word.len()));
+        return !behind.starts_with('-');
+    }
+    word == "op" || word == "branch" || word == "ret"
 }
 
 /// Whether a line is that of a block.
@@ -89,19 +104,33 @@ fn is_block(line: &str) -> bool {
     is_numbered(first_word(line), "block")
 }
 
-/// The place in a line at which its `k`th operand begins: each is behind the first colon or a comma outside brackets.
+/// How long a line is up to its operands: with the first colon or, in a dump, where that is behind the instruction's number, with the opcode.
+fn head_len(line: &str) -> usize {
+    let Some((front, behind)) = line.split_once(':') else {
+        return line.len();
+    };
+    let len = front.len().saturating_add(1);
+    if !is_numbered(front.trim(), "inst") {
+        return len;
+    }
+    let opcode = first_word(behind).len();
+    len.saturating_add(indent_of(behind)).saturating_add(opcode)
+}
+
+/// The place in a line at which its `k`th operand begins: the first is behind the line's head, and each other one behind a comma outside
+/// brackets.
 fn operand_start(line: &str, k: usize) -> usize {
+    let head = head_len(line);
+    let (_, operands) = split(line, head);
     let mut next = 0usize;
     let mut depth = 0usize;
-    let mut is_behind = false;
-    for (at, byte) in line.bytes().enumerate() {
+    for (at, byte) in operands.bytes().enumerate() {
         match byte {
             b'(' | b'[' => depth = depth.saturating_add(1),
             b')' | b']' => depth = depth.saturating_sub(1),
-            b',' if is_behind && depth == 0 => next = next.saturating_add(1),
-            b':' => is_behind = true,
+            b',' if depth == 0 => next = next.saturating_add(1),
             b' ' => {}
-            _ if is_behind && next == k && depth == 0 => return at,
+            _ if next == k && depth == 0 => return head.saturating_add(at),
             _ => {}
         }
     }
@@ -109,13 +138,15 @@ fn operand_start(line: &str, k: usize) -> usize {
 }
 
 impl<'t> Source<'t> {
-    /// A part of a line that begins at a place.
+    /// A part of a line that begins at a place behind what a logger wrote.
     fn part(&self, number: usize, line: &'t str, start: usize) -> SourceLine<'t> {
+        let shown = unlogged(line);
+        let logged = line.len().saturating_sub(shown.len());
         SourceLine {
             name: self.name,
             number,
-            column: start.saturating_add(1),
-            words: without_comment(line).trim(),
+            column: logged.saturating_add(start).saturating_add(1),
+            words: without_comment(shown).trim(),
         }
     }
 
@@ -125,10 +156,10 @@ impl<'t> Source<'t> {
             .text
             .lines()
             .enumerate()
-            .filter(|(_, line)| is_block(line))
+            .filter(|(_, line)| is_block(unlogged(line)))
             .nth(k)?;
         let number = self.first_line.saturating_add(index);
-        Some(self.part(number, line, indent_of(line)))
+        Some(self.part(number, line, indent_of(unlogged(line))))
     }
 
     /// The line of the `k`th instruction, from one of its operands on if that is named.
@@ -137,11 +168,12 @@ impl<'t> Source<'t> {
             .text
             .lines()
             .enumerate()
-            .filter(|(_, line)| is_inst(line))
+            .filter(|(_, line)| is_inst(unlogged(line)))
             .nth(k)?;
+        let shown = unlogged(line);
         let start = match operand {
-            Some(operand) => operand_start(line, operand),
-            None => indent_of(line),
+            Some(operand) => operand_start(shown, operand),
+            None => indent_of(shown),
         };
         let number = self.first_line.saturating_add(index);
         Some(self.part(number, line, start))

@@ -7,6 +7,7 @@ mod items;
 mod token;
 
 pub use cursor::Cursor;
+pub(crate) use cursor::is_numeral;
 pub use error::{Expected, Fault, Flaw, Found, Misfit, TextError};
 pub use items::{Named, class_named};
-pub use token::{Token, TokenKind, split_line, tokenize};
+pub use token::{Token, TokenKind, split_line, tokenize, tokenize_from};

@@ -9,5 +9,5 @@ mod writing;
 
 pub use crate::cursor::{Expected, Fault, Found, TextError};
 pub use crate::writer::write_json;
-pub use reading::{Text, read};
+pub use reading::{Text, is_logged, read};
 pub use writing::{WriteError, write};

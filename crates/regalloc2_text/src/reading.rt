@@ -5,6 +5,7 @@ ghost use Rattle.regalloc2_text.specs.Cursor.Lines.{IsOnLineBetween};
 
 mod blocks;
 mod draft;
+mod dump;
 mod function;
 mod insts;
 mod machine;
@@ -12,8 +13,10 @@ mod output;
 mod settings;
 mod stored;
 
-use crate::cursor::{Expected, Flaw, Found, TextError, Token, split_line, tokenize};
+use crate::cursor::{Expected, Flaw, Found, TextError, Token, split_line, tokenize_from};
 use draft::{Draft, LineEffect, is_numbered};
+pub use dump::is_logged;
+use dump::shown_part;
 use regalloc2_function::StoredOutput;
 use regalloc2_serialize::StoredFunction;
 use std::alloc::{Allocator, Global};
@@ -77,7 +80,8 @@ fn read_lines<'t, A: Allocator + Copy>(
     let mut move_line = first_line;
     'lines: loop {
         let (content, after) = split_line(rest);
-        if let Err(flaw) = tokenize(content, tokens) {
+        let (part, column) = shown_part(content);
+        if let Err(flaw) = tokenize_from(part, column, tokens) {
             return Err(flaw.on_line(line));
         }
         if waits && begins_block(tokens.as_slice()) {
@@ -100,6 +104,10 @@ fn read_lines<'t, A: Allocator + Copy>(
 }
 
 /// What a text says, whose first line has the number `first_line`.
+///
+/// A line may also be one in which upstream prints a block, an instruction or a move of its
+/// results, behind what a logger wrote in brackets. If instructions are written so, the count of
+/// slots is by default that up to the last one named.
 ///
 /// The first line that can't be read is named in the error, or `Memory` is returned where a memory
 /// allocation failed. An error is on a line of the text and names a column from 1 on; the contract

@@ -4,5 +4,6 @@ mod head;
 mod lanes;
 mod picture;
 mod shapes;
+mod sightings;
 
 pub use picture::Picture;

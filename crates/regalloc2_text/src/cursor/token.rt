@@ -114,9 +114,20 @@ pub fn tokenize<'t, A: Allocator>(
     line: &'t str,
     tokens: &mut Vec<Token<'t>, A>,
 ) -> Result<(), Flaw<'t>> {
+    tokenize_from(line, 1, tokens)
+}
+
+/// Puts the tokens of a line's part that begins at a column into `tokens`, in place of what is there.
+pub fn tokenize_from<'t, A: Allocator>(
+    part: &'t str,
+    first_column: usize,
+    tokens: &mut Vec<Token<'t>, A>,
+) -> Result<(), Flaw<'t>>
+    requires { 1 ≤ first_column }
+{
     tokens.clear();
-    let mut rest = without_comment(line);
-    let mut column = 1usize;
+    let mut rest = without_comment(part);
+    let mut column = first_column;
     while !rest.is_empty() {
         let Some((kind, text, after)) = split_token(rest) else {
             return Err(Flaw::new(

@@ -44,6 +44,19 @@ fn vregs<A: Allocator>(alloc: A, cursor: &mut Cursor<'_, '_>) -> Vec<u32, A>
     vregs
 }
 
+/// Reads numbers into a list.
+fn read_numbers<A: Allocator>(cursor: &mut Cursor<'_, '_>, numbers: &mut Vec<u32, A>)
+    ensures { tokens_left cursor.new ≤ tokens_left cursor.old }
+{
+    'numbers: loop {
+        let number = cursor.word();
+        cursor.push(numbers, number);
+        if !cursor.has(",") {
+            break;
+        }
+    }
+}
+
 /// Numbers of blocks, or `none`.
 fn block_numbers<A: Allocator>(alloc: A, cursor: &mut Cursor<'_, '_>) -> Vec<u32, A>
     ensures { tokens_left cursor.new ≤ tokens_left cursor.old }
@@ -83,7 +96,48 @@ impl<A: Allocator + Copy> DraftBlock<A> {
             block.read_part(alloc, cursor);
         }
         cursor.want(":");
+        if cursor.has("[") {
+            block.read_neighbours(alloc, cursor);
+        }
         block
+    }
+
+    /// Reads the successors and the predecessors behind a block's colon in a dump, after the first bracket: `[succs [2, 3] preds [0]]`.
+    fn read_neighbours(&mut self, alloc: A, cursor: &mut Cursor<'_, '_>) {
+        if self.has_succs || self.preds.is_some() {
+            cursor.misfit_before("each part once");
+        }
+        self.has_succs = true;
+        cursor.want("succs");
+        cursor.want("[");
+        if !cursor.has("]") {
+            self.read_numbered_targets(alloc, cursor);
+            cursor.want("]");
+        }
+        cursor.want("preds");
+        cursor.want("[");
+        let mut preds = Vec::new(alloc);
+        if !cursor.has("]") {
+            read_numbers(cursor, &mut preds);
+            cursor.want("]");
+        }
+        self.preds = Some(preds);
+        cursor.want("]");
+    }
+
+    /// Reads the numbers of successors, each perhaps with its arguments.
+    fn read_numbered_targets(&mut self, alloc: A, cursor: &mut Cursor<'_, '_>)
+        ensures { tokens_left cursor.new ≤ tokens_left cursor.old }
+    {
+        'targets: loop {
+            let succ = cursor.word();
+            let args = vregs(alloc, cursor);
+            cursor.push(&mut self.succs, succ);
+            cursor.push(&mut self.args, args);
+            if !cursor.has(",") {
+                break;
+            }
+        }
     }
 
     /// Reads a part of a block's line.
@@ -131,13 +185,20 @@ impl<A: Allocator + Copy> DraftBlock<A> {
         }
     }
 
-    /// Reads the successors behind the opcode of an instruction of the block, where they are there.
-    pub(super) fn read_succs(&mut self, alloc: A, cursor: &mut Cursor<'_, '_>)
+    /// No instruction before one whose opcode is read has the block's successors.
+    pub(super) fn want_unended(&self, cursor: &mut Cursor<'_, '_>)
         ensures { tokens_left cursor.new ≤ tokens_left cursor.old }
     {
         if !self.has_succs && !self.succs.is_empty() {
             cursor.misfit_before("no instruction after the one with the block's successors");
         }
+    }
+
+    /// Reads the successors behind the opcode of an instruction of the block, where they are there.
+    pub(super) fn read_succs(&mut self, alloc: A, cursor: &mut Cursor<'_, '_>)
+        ensures { tokens_left cursor.new ≤ tokens_left cursor.old }
+    {
+        self.want_unended(cursor);
         if !cursor.begins("block") {
             return;
         }

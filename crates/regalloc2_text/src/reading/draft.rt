@@ -55,19 +55,47 @@ impl<A: Allocator + Copy> Draft<A> {
             return Ok(LineEffect::Nothing);
         };
         let mut cursor = Cursor::new(tokens, self.function.num_vregs);
-        let effect = self.read_kind(alloc, first.text, &mut cursor);
+        let sign = match tokens.get(1) {
+            Some(second) => second.text,
+            None => "",
+        };
+        let effect = self.read_kind(alloc, first.text, sign, &mut cursor);
         self.function.num_vregs = cursor.num_vregs();
         cursor.finish()?;
         Ok(effect)
     }
 
-    /// Reads a line whose first word is `word`.
-    fn read_kind(&mut self, alloc: A, word: &str, cursor: &mut Cursor<'_, '_>) -> LineEffect {
+    /// Reads the line of an instruction or of a point, whose first word is one of an instruction and has `sign` behind it.
+    fn read_numbered(&mut self, alloc: A, sign: &str, cursor: &mut Cursor<'_, '_>) -> LineEffect {
+        match sign {
+            "-" => {
+                self.output.read_dumped_move(cursor);
+                return LineEffect::Nothing;
+            }
+            ":" => self
+                .function
+                .read_dumped_inst(alloc, cursor, &mut self.output),
+            _ => self.function.read_inst(alloc, cursor, &mut self.output),
+        }
+        LineEffect::Inst
+    }
+
+    /// Reads a line whose first word is `word`, with `sign` behind it.
+    fn read_kind(
+        &mut self,
+        alloc: A,
+        word: &str,
+        sign: &str,
+        cursor: &mut Cursor<'_, '_>,
+    ) -> LineEffect {
         if is_numbered(word, "block") {
             self.function.read_block(alloc, cursor);
             return LineEffect::Nothing;
         }
-        if is_numbered(word, "inst") || opcode_named(word).is_some() {
+        if is_numbered(word, "inst") {
+            return self.read_numbered(alloc, sign, cursor);
+        }
+        if opcode_named(word).is_some() {
             self.function.read_inst(alloc, cursor, &mut self.output);
             return LineEffect::Inst;
         }

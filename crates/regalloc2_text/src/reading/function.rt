@@ -1,6 +1,7 @@
 //! What the lines say of a function.
 
 use super::blocks::{BlockLists, DraftBlock};
+use super::dump::read_dumped_opcode;
 use super::insts::{DraftInst, read_opcode};
 use super::machine::{ByClass, DraftMachine};
 use super::output::{DraftOutput, TOO_MANY};
@@ -66,7 +67,36 @@ impl<A: Allocator + Copy> DraftFunction<A> {
         } else if cursor.begins("block") {
             cursor.misfit("no successors here");
         }
-        let (inst, places) = DraftInst::read(alloc, cursor).into_parts(alloc, op);
+        let parts = DraftInst::read(alloc, cursor).into_parts(alloc, op);
+        self.add_inst(cursor, number, parts, output);
+    }
+
+    /// Reads the line of an instruction of a dump, whose places go to `output`.
+    pub(super) fn read_dumped_inst(
+        &mut self,
+        alloc: A,
+        cursor: &mut Cursor<'_, '_>,
+        output: &mut DraftOutput<A>,
+    ) {
+        let number = self.next_inst(cursor);
+        let op = read_dumped_opcode(cursor, number);
+        if let Some(block) = self.blocks.last_mut() {
+            block.want_unended(cursor);
+        }
+        let parts = DraftInst::read_dumped(alloc, cursor).into_parts(alloc, op);
+        output.note_dump();
+        self.add_inst(cursor, number, parts, output);
+    }
+
+    /// Adds the instruction of that number with its places, after all of its line is read.
+    fn add_inst(
+        &mut self,
+        cursor: &mut Cursor<'_, '_>,
+        number: u32,
+        parts: (StoredInst<A>, Vec<u32, A>),
+        output: &mut DraftOutput<A>,
+    ) {
+        let (inst, places) = parts;
         if number == u32::MAX {
             cursor.misfit(TOO_MANY);
         }

@@ -47,19 +47,41 @@ pub(super) struct DraftInst<A: Allocator> {
 }
 
 impl<A: Allocator + Copy> DraftInst<A> {
-    /// Reads the operands and the parts of an instruction's line.
-    pub(super) fn read(alloc: A, cursor: &mut Cursor<'_, '_>) -> Self {
-        let mut inst = DraftInst {
+    /// Nothing is read.
+    fn new(alloc: A) -> Self {
+        DraftInst {
             operands: Vec::new(alloc),
             places: Vec::new(alloc),
             clobbers: None,
             has_more: false,
-        };
+        }
+    }
+
+    /// Reads the operands and the parts of an instruction's line.
+    pub(super) fn read(alloc: A, cursor: &mut Cursor<'_, '_>) -> Self {
+        let mut inst = DraftInst::new(alloc);
         if cursor.has(":") {
             inst.read_operands(cursor);
         }
         'parts: while cursor.has(";") {
             inst.read_part(alloc, cursor);
+        }
+        inst
+    }
+
+    /// Reads the operands of an instruction of a dump, each with its place, and the clobbers in brackets.
+    pub(super) fn read_dumped(alloc: A, cursor: &mut Cursor<'_, '_>) -> Self {
+        let mut inst = DraftInst::new(alloc);
+        if cursor.peek().is_some_and(|text| text != "[") {
+            inst.read_operands(cursor);
+        }
+        if cursor.has("[") {
+            cursor.want("clobber");
+            cursor.want(":");
+            let mut clobbers = Vec::new(alloc);
+            read_registers(alloc, cursor, &mut clobbers);
+            inst.clobbers = Some(clobbers);
+            cursor.want("]");
         }
         inst
     }

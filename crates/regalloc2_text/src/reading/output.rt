@@ -3,6 +3,7 @@
 ghost use Rattle.std.specs.Prelude.{◌≡◌, ◌≤◌};
 ghost use Rattle.regalloc2_text.specs.Cursor.Cursor.{tokens_left};
 
+use super::dump::{slots_moved, slots_named};
 use super::settings::first_of_kind;
 use crate::cursor::{Cursor, Expected, Flaw, Found};
 use regalloc2_function::StoredOutput;
@@ -16,6 +17,8 @@ pub(super) const TOO_MANY: &str = "fewer instructions and places";
 pub(super) struct DraftOutput<A: Allocator> {
     /// Whether a line says something of it.
     is_named: bool,
+    /// Whether instructions are as in a dump.
+    is_dump: bool,
     num_spillslots: Option<u64>,
     edits: Vec<(u32, u32, u32), A>,
     allocs: Vec<u32, A>,
@@ -34,11 +37,19 @@ fn before_inst(cursor: &mut Cursor<'_, '_>, inst: u32) -> u32 {
     }
 }
 
+/// The places from which and to which a move goes.
+fn read_ends(cursor: &mut Cursor<'_, '_>) -> (u32, u32) {
+    let from = cursor.place_bits();
+    cursor.want("->");
+    (from, cursor.place_bits())
+}
+
 impl<A: Allocator + Copy> DraftOutput<A> {
     /// Nothing is said.
     pub(super) fn new(alloc: A) -> Self {
         DraftOutput {
             is_named: false,
+            is_dump: false,
             num_spillslots: None,
             edits: Vec::new(alloc),
             allocs: Vec::new(alloc),
@@ -61,13 +72,27 @@ impl<A: Allocator + Copy> DraftOutput<A> {
         cursor.extend(&mut self.allocs, places);
     }
 
+    /// Notes that an instruction is as in a dump, so that the slots are those of its places unless a line says how many.
+    pub(super) fn note_dump(&mut self) {
+        self.is_dump = true;
+    }
+
+    /// Reads a move of a dump, with its point before it; upstream may write a bracket behind it.
+    pub(super) fn read_dumped_move(&mut self, cursor: &mut Cursor<'_, '_>) {
+        self.is_named = true;
+        let point = cursor.point_bits();
+        cursor.want(":");
+        cursor.want("move");
+        let (from, to) = read_ends(cursor);
+        let _ = cursor.has(")");
+        cursor.push(&mut self.edits, (point, from, to));
+    }
+
     /// Reads what follows `move`, before the instruction of number `next`. Returns whether it says
     /// no point.
     pub(super) fn read_move(&mut self, cursor: &mut Cursor<'_, '_>, next: u32) -> bool {
         self.is_named = true;
-        let from = cursor.place_bits();
-        cursor.want("->");
-        let to = cursor.place_bits();
+        let (from, to) = read_ends(cursor);
         let has_point = cursor.has("at");
         let point = if has_point {
             cursor.point_bits()
@@ -103,12 +128,19 @@ impl<A: Allocator + Copy> DraftOutput<A> {
     ) -> Option<StoredOutput<A>> {
         let DraftOutput {
             is_named,
+            is_dump,
             num_spillslots,
             edits,
             allocs,
             inst_alloc_offsets,
             debug_locations,
         } = self;
+        let num_spillslots = match num_spillslots {
+            None if is_dump => {
+                Some(slots_named(allocs.as_slice()).max(slots_moved(edits.as_slice())))
+            }
+            said => said,
+        };
         let Some(num_spillslots) = num_spillslots else {
             if is_named || stored_allocs.is_some() || stored_offsets.is_some() {
                 let expected = Expected::Words("a line `slots N`, since the text has places");

@@ -438,30 +438,26 @@ fn report<W: Write>(
     Ok(())
 }
 
-/// Writes how an output that is given and another one differ, and what the checker finds of each. Whether they agree and nothing is found.
+/// Writes how an output that is given and another one of the same function differ, and what the checker finds of each. Whether they agree
+/// and nothing is found.
 fn compare<F: Function, W: Write, E: Write>(
     alloc: Global,
     f: &F,
     env: &MachineEnv,
     given: &Given<'_, '_, '_>,
-    other: &StoredOutput,
+    other: &Given<'_, '_, '_>,
     to: &mut W,
     err: &mut E,
 ) -> Result<Verdict, CallError> {
-    let Some(output) = given.output else {
+    let (Some(output), Some(another)) = (given.output, other.output) else {
         writeln!(err, "bad text: no allocation")?;
         return Ok(Verdict::Unusable);
     };
-    let differs = write_diff(given.function, output, other, to)?;
+    let differs = write_diff(given.function, output, another, to)?;
     write!(to, "first: ")?;
     let first = replay(alloc, f, env, given, to, err)?;
-    let second = Given {
-        function: given.function,
-        output: Some(other),
-        source: None,
-    };
     write!(to, "second: ")?;
-    let last = replay(alloc, f, env, &second, to, err)?;
+    let last = replay(alloc, f, env, other, to, err)?;
     if first == Verdict::Unusable || last == Verdict::Unusable {
         return Ok(Verdict::Unusable);
     }
@@ -484,7 +480,14 @@ fn answer_stored<F: Function, W: Write, E: Write>(
         return Err(CallError::Memory);
     };
     match call {
-        Call::Diff => return compare(alloc, f, env, given, &stored, to, err),
+        Call::Diff => {
+            let other = Given {
+                function: given.function,
+                output: Some(&stored),
+                source: None,
+            };
+            return compare(alloc, f, env, given, &other, to, err);
+        }
         Call::Allocated | Call::Text => write_text(alloc, given.function, Some(&stored), to)?,
         _ => report(call, given.function, &stored, to)?,
     }
@@ -536,7 +539,7 @@ fn allocate<F: Function, W: Write, E: Write>(
     };
     match call {
         Call::Run => write_listing(f, &output, to)?,
-        Call::Svg => Picture::new(alloc, &output)?.draw(f, &output, to)?,
+        Call::Svg => Picture::new(alloc).draw(f, &output, to)?,
         Call::Check | Call::Replay | Call::Reads => {
             let is_accepted = judge(alloc, f, env, &output, given, to)?;
             return Ok(Verdict::of(is_accepted));
@@ -563,11 +566,11 @@ fn function_of<E: Write>(
     }
 }
 
-/// Does a call of [`Call::Diff`] with another output in place of the allocator's.
+/// Does a call of [`Call::Diff`] with another output of the same function in place of the allocator's.
 pub fn answer_diff<W: Write, E: Write>(
     alloc: Global,
     given: &Given<'_, '_, '_>,
-    other: &StoredOutput,
+    other: &Given<'_, '_, '_>,
     to: &mut W,
     err: &mut E,
 ) -> Result<Verdict, CallError> {

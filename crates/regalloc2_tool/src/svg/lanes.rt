@@ -1,39 +1,134 @@
-//! The lanes of a picture: one for each place that an output names.
+//! The lanes of a picture: in each column, one for each place that the column's rows name.
 
-use regalloc2_function::Output;
+use super::shapes;
 use regalloc2_names::Allocation;
 use std::alloc::{AllocError, Allocator};
 
-/// The places that an output names, each once: registers before slots, both by rising numbers.
+/// The places that the rows of an output name, and where the columns show them.
 #[derive(Drop)]
 pub(crate) struct Lanes<A: Allocator> {
+    /// The places, each once: registers before slots, both by rising numbers.
     places: Vec<Allocation, A>,
+    /// The index of a place, a column that shows it and its lane there from the left; by index and column.
+    shown: Vec<(usize, usize, usize), A>,
+    /// The left edge of each column, and of what is behind the last.
+    edges: Vec<usize, A>,
+}
+
+/// The left edges of so many columns, and of what is behind them. `in_columns` has a pair for each lane, by rising column.
+fn edges_of<A: Allocator>(
+    alloc: A,
+    columns: usize,
+    in_columns: &[(usize, usize)],
+) -> Result<Vec<usize, A>, AllocError> {
+    let mut edges = Vec::new(alloc);
+    let mut edge = 0usize;
+    for column in 0..columns {
+        edges.push(edge)?;
+        let first = in_columns.partition_point(|lane| lane.0 < column);
+        let end = in_columns.partition_point(|lane| lane.0 <= column);
+        edge = edge.saturating_add(shapes::width(end.saturating_sub(first)));
+    }
+    edges.push(edge)?;
+    Ok(edges)
+}
+
+/// The lanes of pairs of a column and the index of a place, both rising, counted in each column from the left.
+fn shown_in<A: Allocator>(
+    alloc: A,
+    in_columns: &[(usize, usize)],
+) -> Result<Vec<(usize, usize, usize), A>, AllocError> {
+    let mut shown = Vec::new(alloc);
+    let mut current = 0;
+    let mut lane = 0usize;
+    for (column, index) in in_columns {
+        if *column != current {
+            current = *column;
+            lane = 0;
+        }
+        shown.push((*index, *column, lane))?;
+        lane = lane.saturating_add(1);
+    }
+    shown.sort_unstable();
+    Ok(shown)
+}
+
+impl<A: Allocator + Copy> Lanes<A> {
+    /// No lanes.
+    pub(crate) fn none(alloc: A) -> Self {
+        Lanes {
+            places: Vec::new(alloc),
+            shown: Vec::new(alloc),
+            edges: Vec::new(alloc),
+        }
+    }
+
+    /// The lanes of so many columns, of which `sightings` says what places they show. An error means out of memory.
+    pub(crate) fn of(
+        alloc: A,
+        columns: usize,
+        sightings: &mut Vec<(Allocation, usize), A>,
+    ) -> Result<Self, AllocError> {
+        sightings.sort_unstable();
+        sightings.dedup();
+        let mut places = Vec::new(alloc);
+        let mut in_columns = Vec::new(alloc);
+        for (place, column) in sightings.iter() {
+            if places.last().copied() != Some(*place) {
+                places.push(*place)?;
+            }
+            in_columns.push((*column, places.len().saturating_sub(1)))?;
+        }
+        in_columns.sort_unstable();
+        Ok(Lanes {
+            places,
+            shown: shown_in(alloc, in_columns.as_slice())?,
+            edges: edges_of(alloc, columns, in_columns.as_slice())?,
+        })
+    }
 }
 
 impl<A: Allocator> Lanes<A> {
-    /// The lanes of an output. An error means out of memory.
-    pub(crate) fn of<B: Allocator>(alloc: A, output: &Output<B>) -> Result<Self, AllocError> {
-        let mut places = Vec::new(alloc);
-        for place in &output.allocs {
-            places.push(*place)?;
-        }
-        for (_, edit) in &output.edits {
-            let (from, to) = edit.places();
-            places.push(from)?;
-            places.push(to)?;
-        }
-        places.sort_unstable();
-        places.dedup();
-        Ok(Lanes { places })
-    }
-
-    /// The places, from left to right.
+    /// The places, each once.
     pub(crate) fn places(&self) -> &[Allocation] {
         self.places.as_slice()
     }
 
-    /// The number of a place's lane, from the left.
-    pub(crate) fn lane_of(&self, place: Allocation) -> Option<usize> {
+    /// The index of a place.
+    pub(crate) fn index_of(&self, place: Allocation) -> Option<usize> {
         self.places.as_slice().binary_search(&place).ok()
+    }
+
+    /// The index of each place, with a column that shows it and its lane there.
+    pub(crate) fn shown(&self) -> &[(usize, usize, usize)] {
+        self.shown.as_slice()
+    }
+
+    /// The same from a place's first column on that isn't left of the one of a row.
+    pub(crate) fn shown_from(&self, index: usize, row: usize) -> &[(usize, usize, usize)] {
+        let column = shapes::column_of(row);
+        let shown = self.shown.as_slice();
+        let first = shown.partition_point(|lane| (lane.0, lane.1) < (index, column));
+        shown.get(first..).unwrap_or(&[])
+    }
+
+    /// The left edge of a column.
+    pub(crate) fn edge(&self, column: usize) -> usize {
+        self.edges.get(column).copied().unwrap_or(0)
+    }
+
+    /// The horizontal middle of a place's lane in a row.
+    pub(crate) fn middle(&self, place: Allocation, row: usize) -> Option<usize> {
+        let index = self.index_of(place)?;
+        let (found, column, lane) = self.shown_from(index, row).first().copied()?;
+        if found != index || column != shapes::column_of(row) {
+            return None;
+        }
+        Some(shapes::middle(self.edge(column), lane))
+    }
+
+    /// The width of all columns.
+    pub(crate) fn width(&self) -> usize {
+        self.edges.last().copied().unwrap_or(0)
     }
 }

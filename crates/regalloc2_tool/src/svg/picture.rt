@@ -7,16 +7,14 @@ ghost use Rattle.regalloc2_tool.specs.Framed.{BlocksAreWithin};
 
 use super::head::Head;
 use super::lanes::Lanes;
-use super::shapes::{self, Sheet};
+use super::shapes;
+use super::sightings::{INST_ROWS, row_of, sightings_of};
 use crate::listing::opcode_name;
 use regalloc2_function::{Edit, Function, InstOrEdit, Output};
 use regalloc2_index::{Block, Inst};
 use regalloc2_names::{Allocation, Operand};
 use std::alloc::{AllocError, Allocator, Global};
 use std::io::{self, Write};
-
-/// How many rows an instruction takes: one for its early operands, one for the late ones.
-const INST_ROWS: usize = 2;
 
 /// The rows over which the place of a lane has held what it holds.
 #[derive(Clone, Copy)]
@@ -27,57 +25,55 @@ struct Span {
     vreg: Option<usize>,
 }
 
-/// A picture of an output: a lane for each place that it names, a row for each move, and two for each instruction.
+/// A picture of an output: a row for each move, two for each instruction, and in each column of rows a lane for each place that they name.
 ///
 /// A box is an operand at its place, with a thicker frame where it is written; an arrow is a move. A bar joins the rows over which a register
-/// holds a value until its last read, and a slot until it is written again or its block ends.
+/// holds a value until its last read, and a slot until it is written again or its block ends; it is drawn in the columns that name its place.
 #[derive(Drop)]
 pub struct Picture<A: Allocator = Global> {
+    alloc: A,
     lanes: Lanes<A>,
+    /// What each place holds, by its index.
     spans: Vec<Option<Span>, A>,
-    /// The lanes whose places the current block names, some of them several times.
+    /// The indexes of places that the current block names, some of them several times.
     named: Vec<usize, A>,
 }
 
-/// The row of an operand of an instruction that begins in this one.
-fn row_of(operand: Operand, row: usize) -> usize {
-    if operand.is_late() {
-        row.saturating_add(1)
-    } else {
-        row
-    }
-}
-
-impl<A: Allocator> Picture<A> {
-    /// A picture of an output, not yet drawn. An error means out of memory.
-    pub fn new<B: Allocator>(alloc: A, output: &Output<B>) -> Result<Picture<A>, AllocError>
-    where
-        A: Copy,
-    {
-        let lanes = Lanes::of(alloc, output)?;
-        let mut spans = Vec::new(alloc);
-        for _ in lanes.places() {
-            spans.push(None)?;
-        }
-        Ok(Picture {
-            lanes,
-            spans,
+impl<A: Allocator + Copy> Picture<A> {
+    /// A picture, not yet drawn.
+    pub fn new(alloc: A) -> Picture<A> {
+        Picture {
+            alloc,
+            lanes: Lanes::none(alloc),
+            spans: Vec::new(alloc),
             named: Vec::new(alloc),
-        })
+        }
     }
 
-    /// How the picture is laid out.
-    fn sheet(&self) -> Sheet {
-        Sheet {
-            lanes: self.lanes.places().len(),
+    /// Lays out the lanes for so many rows.
+    fn lay_out<F: Function, B: Allocator>(
+        &mut self,
+        f: &F,
+        output: &Output<B>,
+        rows: usize,
+    ) -> Result<(), AllocError>
+        requires in_order { IsInOrder (F.function f.now) (output_of output.now) }
+        requires blocks { BlocksAreWithin (F.function f.now) }
+    {
+        let mut sightings = sightings_of(self.alloc, f, output)?;
+        self.lanes = Lanes::of(self.alloc, shapes::columns(rows), &mut sightings)?;
+        self.spans.clear();
+        for _ in self.lanes.places() {
+            self.spans.push(None)?;
         }
+        Ok(())
     }
 
     /// The rows over which a place has held what it holds, where it is known to hold something.
     fn span_of(&self, place: Allocation) -> Option<Span> {
-        let lane = self.lanes.lane_of(place)?;
-        if lane < self.spans.len() {
-            self.spans[lane]
+        let index = self.lanes.index_of(place)?;
+        if index < self.spans.len() {
+            self.spans[index]
         } else {
             None
         }
@@ -85,16 +81,16 @@ impl<A: Allocator> Picture<A> {
 
     /// Notes what a place holds.
     fn set_span(&mut self, place: Allocation, span: Span) -> Result<(), AllocError> {
-        let Some(lane) = self.lanes.lane_of(place) else {
+        let Some(index) = self.lanes.index_of(place) else {
             return Ok(());
         };
-        if lane >= self.spans.len() {
+        if index >= self.spans.len() {
             return Ok(());
         }
-        if self.spans[lane].is_none() {
-            self.named.push(lane)?;
+        if self.spans[index].is_none() {
+            self.named.push(index)?;
         }
-        self.spans[lane] = Some(span);
+        self.spans[index] = Some(span);
         Ok(())
     }
 
@@ -123,22 +119,41 @@ impl<A: Allocator> Picture<A> {
         Ok(vreg)
     }
 
-    /// Draws the bar of what a lane holds, until a row where that is given.
+    /// Draws the bar of a place over rows, in each column that shows the place.
+    fn draw_bar<W: Write>(
+        &self,
+        index: usize,
+        rows: (usize, usize),
+        vreg: Option<usize>,
+        to: &mut W,
+    ) -> io::Result<()> {
+        let last = shapes::column_of(rows.1);
+        for (shown, column, lane) in self.lanes.shown_from(index, rows.0) {
+            if *shown != index || *column > last {
+                break;
+            }
+            let x = shapes::middle(self.lanes.edge(*column), *lane);
+            shapes::bar(x, *column, rows, vreg, to)?;
+        }
+        Ok(())
+    }
+
+    /// Draws the bar of what a place holds, until a row where that is given.
     fn end_bar<W: Write>(
         &mut self,
-        lane: usize,
+        index: usize,
         until: Option<usize>,
         to: &mut W,
     ) -> io::Result<()> {
-        if lane >= self.spans.len() {
+        if index >= self.spans.len() {
             return Ok(());
         }
-        let Some(span) = self.spans[lane] else {
+        let Some(span) = self.spans[index] else {
             return Ok(());
         };
-        self.spans[lane] = None;
+        self.spans[index] = None;
         let rows = (span.first, until.unwrap_or(span.last));
-        shapes::bar(self.sheet(), lane, rows, span.vreg, to)
+        self.draw_bar(index, rows, span.vreg, to)
     }
 
     /// Notes that a place is written in a row, and draws the bar of what it held.
@@ -149,8 +164,8 @@ impl<A: Allocator> Picture<A> {
         vreg: Option<usize>,
         to: &mut W,
     ) -> io::Result<()> {
-        if let Some(lane) = self.lanes.lane_of(place) {
-            self.end_bar(lane, None, to)?;
+        if let Some(index) = self.lanes.index_of(place) {
+            self.end_bar(index, None, to)?;
         }
         self.set_span(
             place,
@@ -202,15 +217,15 @@ impl<A: Allocator> Picture<A> {
         self.named.sort_unstable();
         self.named.dedup();
         for k in 0..self.named.len() {
-            let Some(lane) = self.named.get(k).copied() else {
+            let Some(index) = self.named.get(k).copied() else {
                 continue;
             };
             let is_slot = self
                 .lanes
                 .places()
-                .get(lane)
+                .get(index)
                 .is_some_and(|place| place.is_stack());
-            self.end_bar(lane, if is_slot { Some(row) } else { None }, to)?;
+            self.end_bar(index, if is_slot { Some(row) } else { None }, to)?;
         }
         self.named.clear();
         Ok(())
@@ -279,16 +294,9 @@ impl<A: Allocator> Picture<A> {
         to: &mut W,
     ) -> io::Result<()> {
         for (operand, place) in operands.iter().zip(places.iter()) {
-            if let Some(lane) = self.lanes.lane_of(*place) {
-                let row = row_of(*operand, row);
-                shapes::cell(
-                    self.sheet(),
-                    lane,
-                    row,
-                    operand.vreg(),
-                    operand.is_def(),
-                    to,
-                )?;
+            let row = row_of(*operand, row);
+            if let Some(x) = self.lanes.middle(*place, row) {
+                shapes::cell(x, row, operand.vreg(), operand.is_def(), to)?;
             }
         }
         Ok(())
@@ -310,15 +318,16 @@ impl<A: Allocator> Picture<A> {
         }
         let number = inst.index();
         let name = opcode_name(f, inst);
-        shapes::label(self.sheet(), row, &format_args!("inst{number} {name}"), to)?;
+        let edge = self.lanes.edge(shapes::column_of(row));
+        shapes::label(edge, row, &format_args!("inst{number} {name}"), to)?;
         self.draw_operands(f.inst_operands(inst), output.inst_allocs(inst), row, to)
     }
 
     /// Draws the arrow of a move.
     fn draw_move<W: Write>(&self, edit: Edit, row: usize, to: &mut W) -> io::Result<()> {
         let (from, into) = edit.places();
-        match (self.lanes.lane_of(from), self.lanes.lane_of(into)) {
-            (Some(tail), Some(tip)) => shapes::arrow(self.sheet(), tail, tip, row, to),
+        match (self.lanes.middle(from, row), self.lanes.middle(into, row)) {
+            (Some(tail), Some(tip)) => shapes::arrow(tail, tip, row, to),
             _ => Ok(()),
         }
     }
@@ -336,8 +345,11 @@ impl<A: Allocator> Picture<A> {
         requires blocks { BlocksAreWithin (F.function f.now) }
         requires block { block < length (F.function f.now).blocks }
     {
-        shapes::rule(self.sheet(), block_row, to)?;
-        shapes::label(self.sheet(), block_row, &Head { f, block }, to)?;
+        let column = shapes::column_of(block_row);
+        let left = self.lanes.edge(column);
+        let right = self.lanes.edge(column.saturating_add(1));
+        shapes::rule((left, right), block_row, to)?;
+        shapes::label(left, block_row, &Head { f, block }, to)?;
         let mut row = block_row.saturating_add(1);
         for item in output.block_insts_and_edits(f, block) {
             match &item {
@@ -371,23 +383,18 @@ impl<A: Allocator> Picture<A> {
         Ok(())
     }
 
-    /// Writes the names of the places above the lanes of a column.
-    fn draw_names<W: Write>(&self, column: usize, to: &mut W) -> io::Result<()> {
-        for (lane, place) in self.lanes.places().iter().enumerate() {
-            shapes::name(self.sheet(), column, lane, place, to)?;
+    /// Writes the names of the places above the lanes of each column.
+    fn draw_names<W: Write>(&self, to: &mut W) -> io::Result<()> {
+        for (index, column, lane) in self.lanes.shown() {
+            if let Some(place) = self.lanes.places().get(*index) {
+                let x = shapes::middle(self.lanes.edge(*column), *lane);
+                shapes::name(x, place, to)?;
+            }
         }
         Ok(())
     }
 
-    /// Writes the names above the lanes of so many columns.
-    fn draw_all_names<W: Write>(&self, columns: usize, to: &mut W) -> io::Result<()> {
-        for column in 0..columns {
-            self.draw_names(column, to)?;
-        }
-        Ok(())
-    }
-
-    /// Draws an output of a function, block by block. Linear in them, but for the logarithm of the number of places that a block names.
+    /// Draws an output of a function, block by block. Linear in its instructions, operands and moves, but for a logarithm.
     ///
     /// The contract doesn't say what is written: that is shown by tests.
     pub fn draw<F: Function, B: Allocator, W: Write>(
@@ -403,8 +410,9 @@ impl<A: Allocator> Picture<A> {
         let rows = inst_rows
             .saturating_add(f.num_blocks())
             .saturating_add(output.edits.len());
-        shapes::begin(self.sheet(), rows, to)?;
-        self.draw_all_names(shapes::columns(rows), to)?;
+        self.lay_out(f, output, rows)?;
+        shapes::begin(self.lanes.width(), rows, to)?;
+        self.draw_names(to)?;
         self.draw_bars(f, output, to)?;
         self.draw_blocks(f, output, to)?;
         shapes::end(to)

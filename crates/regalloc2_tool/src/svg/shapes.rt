@@ -22,32 +22,19 @@ const COLUMN_ROWS: usize = 1000;
 /// The width of the legend, in pixels.
 const LEGEND: usize = 720;
 
-/// How a picture is laid out. Its rows go down a column, and on from the top of the next one; each column has all lanes.
-#[derive(Clone, Copy)]
-pub(crate) struct Sheet {
-    /// How many lanes a column has.
-    pub(crate) lanes: usize,
+/// The column of a row: rows go down a column, and on from the top of the next one.
+pub(crate) fn column_of(row: usize) -> usize {
+    row / COLUMN_ROWS
 }
 
-impl Sheet {
-    /// The width of a column.
-    fn width(self) -> usize {
-        self.lanes
-            .saturating_mul(LANE)
-            .saturating_add(LEFT + LANE / 2)
-    }
+/// The width of a column of so many lanes.
+pub(crate) fn width(lanes: usize) -> usize {
+    lanes.saturating_mul(LANE).saturating_add(LEFT + LANE / 2)
+}
 
-    /// The left edge of the column of a row.
-    fn edge(self, row: usize) -> usize {
-        (row / COLUMN_ROWS).saturating_mul(self.width())
-    }
-
-    /// The horizontal middle of a lane in a row.
-    fn middle(self, lane: usize, row: usize) -> usize {
-        lane.saturating_mul(LANE)
-            .saturating_add(LEFT + LANE / 2)
-            .saturating_add(self.edge(row))
-    }
+/// The horizontal middle of a lane in a column with that left edge.
+pub(crate) fn middle(edge: usize, lane: usize) -> usize {
+    width(lane).saturating_add(edge)
 }
 
 /// The colour of the vreg of a number, or of one that isn't known.
@@ -103,13 +90,9 @@ fn legend<W: Write>(to: &mut W) -> io::Result<()> {
     )
 }
 
-/// Writes what begins a picture of so many rows.
-pub(crate) fn begin<W: Write>(sheet: Sheet, rows: usize, to: &mut W) -> io::Result<()> {
-    let columns = rows.saturating_sub(1) / COLUMN_ROWS;
-    let width = sheet
-        .width()
-        .saturating_mul(columns.saturating_add(1))
-        .max(LEGEND);
+/// Writes what begins a picture of so many rows, whose columns have that width.
+pub(crate) fn begin<W: Write>(width: usize, rows: usize, to: &mut W) -> io::Result<()> {
+    let width = width.max(LEGEND);
     let bottom = TOP.saturating_add(rows.min(COLUMN_ROWS).saturating_add(1).saturating_mul(ROW));
     write!(to, "<svg xmlns=\"http://www.w3.org/2000/svg\" ")?;
     writeln!(
@@ -128,53 +111,45 @@ pub(crate) fn columns(rows: usize) -> usize {
     rows.saturating_sub(1) / COLUMN_ROWS + 1
 }
 
-/// Writes the name of a lane above it, in the column of that number.
-pub(crate) fn name<T: fmt::Display, W: Write>(
-    sheet: Sheet,
-    column: usize,
-    lane: usize,
-    name: &T,
-    to: &mut W,
-) -> io::Result<()> {
-    let x = sheet.middle(lane, column.saturating_mul(COLUMN_ROWS));
+/// Writes the name of a lane with that middle above it.
+pub(crate) fn name<T: fmt::Display, W: Write>(x: usize, name: &T, to: &mut W) -> io::Result<()> {
     writeln!(
         to,
         "<text x=\"{x}\" y=\"68\" text-anchor=\"middle\" font-weight=\"bold\">{name}</text>"
     )
 }
 
-/// Writes the words that stand left of a row.
+/// Writes the words that stand left of a row, in a column with that left edge.
 pub(crate) fn label<T: fmt::Display, W: Write>(
-    sheet: Sheet,
+    edge: usize,
     row: usize,
     words: &T,
     to: &mut W,
 ) -> io::Result<()> {
-    let x = sheet.edge(row).saturating_add(8);
+    let x = edge.saturating_add(8);
     let y = height(row).saturating_add(4);
     writeln!(to, "<text x=\"{x}\" y=\"{y}\">{words}</text>")
 }
 
-/// Writes the line that runs over all lanes above a block's first row.
-pub(crate) fn rule<W: Write>(sheet: Sheet, row: usize, to: &mut W) -> io::Result<()> {
+/// Writes the line that runs over a column, which has those edges, above a block's first row.
+pub(crate) fn rule<W: Write>(edges: (usize, usize), row: usize, to: &mut W) -> io::Result<()> {
     let y = height(row).saturating_sub(ROW / 2);
-    let left = sheet.edge(row);
-    let right = left.saturating_add(sheet.width());
+    let (left, right) = edges;
     writeln!(to, "<path d=\"M{left},{y} H{right}\" stroke=\"silver\"/>")
 }
 
-/// Writes the part of a bar that is in a column.
-fn bar_part<W: Write>(
-    sheet: Sheet,
-    lane: usize,
+/// Writes the part in a column of the bar over those rows, along a lane with that middle: it is that of a vreg where that is known.
+pub(crate) fn bar<W: Write>(
+    x: usize,
+    column: usize,
     rows: (usize, usize),
     vreg: Option<usize>,
     to: &mut W,
 ) -> io::Result<()> {
-    let (first, last) = rows;
-    let x = sheet.middle(lane, first);
-    let top = height(first);
-    let bottom = height(last);
+    let begin = column.saturating_mul(COLUMN_ROWS);
+    let end = begin.saturating_add(COLUMN_ROWS - 1);
+    let top = height(rows.0.max(begin));
+    let bottom = height(rows.1.min(end));
     let colour = Colour(vreg);
     writeln!(
         to,
@@ -182,33 +157,14 @@ fn bar_part<W: Write>(
     )
 }
 
-/// Writes the bar along a lane over the rows for which its place holds a value, that of a vreg where it is known.
-pub(crate) fn bar<W: Write>(
-    sheet: Sheet,
-    lane: usize,
-    rows: (usize, usize),
-    vreg: Option<usize>,
-    to: &mut W,
-) -> io::Result<()> {
-    let (first, last) = rows;
-    for column in first / COLUMN_ROWS..(last / COLUMN_ROWS).saturating_add(1) {
-        let begin = column.saturating_mul(COLUMN_ROWS);
-        let end = begin.saturating_add(COLUMN_ROWS - 1);
-        bar_part(sheet, lane, (first.max(begin), last.min(end)), vreg, to)?;
-    }
-    Ok(())
-}
-
-/// Writes a box on a lane with the vreg that is read or, with a thicker frame, written there.
+/// Writes a box on a lane with that middle, with the vreg that is read or, with a thicker frame, written there.
 pub(crate) fn cell<W: Write>(
-    sheet: Sheet,
-    lane: usize,
+    x: usize,
     row: usize,
     vreg: VReg,
     is_def: bool,
     to: &mut W,
 ) -> io::Result<()> {
-    let x = sheet.middle(lane, row);
     let left = x.saturating_sub(LANE / 2 - 4);
     let y = height(row);
     let top = y.saturating_sub(ROW / 2 - 2);
@@ -229,19 +185,11 @@ pub(crate) fn cell<W: Write>(
     )
 }
 
-/// Writes the arrow of a move from a lane to another.
-pub(crate) fn arrow<W: Write>(
-    sheet: Sheet,
-    from: usize,
-    into: usize,
-    row: usize,
-    to: &mut W,
-) -> io::Result<()> {
-    let tail = sheet.middle(from, row);
-    let tip = sheet.middle(into, row);
+/// Writes the arrow of a move, from the middle of a lane to that of another.
+pub(crate) fn arrow<W: Write>(tail: usize, tip: usize, row: usize, to: &mut W) -> io::Result<()> {
     let y = height(row);
     // from the tip, the way back to the arrow's barbs
-    let back = if from < into { "-7" } else { "7" };
+    let back = if tail < tip { "-7" } else { "7" };
     write!(to, "<circle cx=\"{tail}\" cy=\"{y}\" r=\"3\"/>")?;
     write!(to, "<path d=\"M{tail},{y} H{tip}\" stroke=\"black\"/>")?;
     writeln!(to, "<path d=\"M{tip},{y} l{back},-3 v6 z\"/>")

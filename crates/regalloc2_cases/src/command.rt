@@ -1,0 +1,55 @@
+//! The program `ra2_text`, called with a case's text in place of a file.
+
+use ra2_text_program::{Task, answer};
+use regalloc2_tool::calls::call::CallError;
+use std::alloc::{AllocError, Global};
+use std::io::Write;
+
+/// The bytes of a text, in which `%` stands for a byte that is part of no character.
+fn bytes_of(alloc: Global, text: &str) -> Result<Vec<u8>, AllocError> {
+    let mut bytes = Vec::new(alloc);
+    for byte in text.bytes() {
+        bytes.push(if byte == b'%' { 255 } else { byte })?;
+    }
+    Ok(bytes)
+}
+
+/// The words of a command line, the program's name the first.
+fn words_of(alloc: Global, line: &str) -> Result<Vec<String>, AllocError> {
+    let mut words = Vec::new(alloc);
+    for word in line.split_whitespace() {
+        words.push(String::from_str(alloc, word)?)?;
+    }
+    Ok(words)
+}
+
+/// What the program answers to a command line, in which the first file is `text` and the other one of `diff` is `before`: what it writes to
+/// standard output, behind that what it writes to standard error, and its status. Of words that name no task the error's first line alone.
+pub fn answer_of_program(
+    alloc: Global,
+    line: &str,
+    text: &str,
+    before: &str,
+) -> Result<Vec<u8>, CallError> {
+    let mut to = Vec::new(alloc);
+    let words = words_of(alloc, line)?;
+    let task = match Task::of(alloc, words.as_slice()) {
+        Ok(task) => task,
+        Err(error) => {
+            let shown = format!(in alloc; "{error}")?;
+            let first = shown.as_str().lines().next().unwrap_or("");
+            writeln!(&mut to, "{first}")?;
+            return Ok(to);
+        }
+    };
+    let bytes = bytes_of(alloc, text)?;
+    let mut err = Vec::new(alloc);
+    let other = match task.other {
+        Some(name) => Some((name, before.as_bytes())),
+        None => None,
+    };
+    let status = answer(alloc, task, bytes.as_slice(), other, &mut to, &mut err);
+    to.extend_from_slice(err.as_slice())?;
+    writeln!(&mut to, "status {status}")?;
+    Ok(to)
+}
