@@ -59,19 +59,19 @@ static void print_output(void) {
 
 static uint32_t allocate_file(const char *name) {
     static uint8_t json[1 << 20];
-    size_t written = 0;
+    size_t needed = 0;
     FILE *file = fopen(name, "rb");
     if (!file)
         return RA2_UNREADABLE;
     size_t len = fread(json, 1, sizeof json, file);
     fclose(file);
-    return regalloc2_c_allocate_json(json, len, out, sizeof out / sizeof *out, &written);
+    return regalloc2_c_allocate_json(json, len, out, sizeof out / sizeof *out, &needed);
 }
 
 static uint32_t allocate_and_check(void) {
-    size_t len = sizeof function / sizeof *function, written = 0;
-    uint32_t status = regalloc2_c_allocate(function, len, out, sizeof out / sizeof *out, &written);
-    return status ? status : regalloc2_c_check(function, len, out, written);
+    size_t len = sizeof function / sizeof *function, needed = 0;
+    uint32_t status = regalloc2_c_allocate(function, len, out, sizeof out / sizeof *out, &needed);
+    return status ? status : regalloc2_c_check(function, len, out, needed);
 }
 
 int main(int argc, char **argv) {

@@ -19,7 +19,33 @@
    slot is named by its last unit, and whether vregs may have several definitions.
 
    The output: the units of slots (two words); a list of moves, each a point, a source, a destination; a list of places; a list
-   of offsets, one for each instruction; a list of debug locations, each a label, two points, a place. */
+   of offsets, one for each instruction; a list of debug locations, each a label, two points, a place.
+
+   A call's result is words, whatever its status: `*needed` is how many. If there is room for them they are written;
+   else the status is RA2_NO_ROOM, nothing is written, and a second call with room for `*needed` words gives the result: so a call is
+   made twice at most. The result by status:
+     RA2_OK              the output; of regalloc2_c_judge none
+     RA2_BAD_MACHINE     3 words: which condition fails, from 1 to 10 (InvalidSlot, OtherClass, ListedTwice, InvalidRegister,
+                         ScratchOfOtherClass, ScratchAllocatable, InvalidScratch, SlotAllocatable, SlotIsScratch, NoRegister); the class;
+                         the register
+     RA2_FAULTS          a list of faults: how many, and each as below
+     RA2_BAD_TEXT        2 words: the line and the column, in bytes, both counted from 1
+     RA2_REFUSED + n     4 words: two blocks, an instruction, a vreg
+     else                none
+   RA2_NONE stands for what isn't named. RA2_NO_ROOM with `*needed` 0 says that a list of the output has 2^32 members or more.
+
+   A fault is 8 words and a list of vregs:
+     0   its number: 1 to 12 as `error` of docs/INPUT.md; 14 a place that is no register for the class and no slot of the frame, 15 a move between
+         classes, 16 a slot that isn't within the frame, 17 slots that share a unit; regalloc2_c_fault_text has them in words
+     1   the instruction, or RA2_NONE
+     2   of 14 the operand's index, or without an instruction the move's; of 15 the move's index; of 16 and 17 the slot; else RA2_NONE
+     3,4 of 1 to 9 and 11 the operand's word, else 0
+     5   of 1 to 9 and 11 the operand's place, of 10 the one that a move writes, else 0
+     6   of 8 the reused operand's place, of 10 the one that a move reads, else 0
+     7   of 11 the limit, of 17 the other slot, of 14 without instruction and index the debug location's index, else 0
+     8.. of 4 a list of the vregs whose values the place holds, else an empty one
+   Faults are in the order of blocks and instructions. Of 14 to 17 the first is listed alone, once there is none of 1 to 12. Of 1 to 11 the
+   operand is the first one of its instruction with that word and that place. */
 #ifndef REGALLOC2_C_H
 #define REGALLOC2_C_H
 #include <stdbool.h>
@@ -29,32 +55,57 @@
 extern "C" {
 #endif
 
+#define RA2_NONE 0xffffffffu
+
 enum {
     RA2_OK = 0,
     RA2_UNREADABLE = 1,   /* the words, or the bytes, lay out no function or no output */
     RA2_BAD_MACHINE = 2,  /* the machine doesn't fit the function */
-    RA2_NO_ROOM = 3,      /* the output takes more words than there is room for */
-    RA2_FAULTS = 4,       /* the checker found faults */
+    RA2_NO_ROOM = 3,      /* the result takes more words than there is room for */
+    RA2_FAULTS = 4,       /* the checker found faults, or places aren't cells */
     RA2_NO_MEMORY = 5,    /* memory was refused */
     RA2_NOT_FRAMED = 6,   /* blocks don't follow one another or don't end, so that no output can be judged */
     RA2_BAD_OUTPUT = 7,   /* the output's numbers name none */
+    RA2_READ_BEFORE_WRITTEN = 8, /* some path reads or passes a vreg before writing it */
+    RA2_BAD_TEXT = 9,     /* a line of the text can't be read */
     RA2_BAD_FUNCTION = 10,/* and 1 to 6: as `bad function` of docs/INPUT.md */
     RA2_REFUSED = 20,     /* and 1 to 11: as `refused` of docs/INPUT.md */
     RA2_LAST_STATUS = 31
 };
 
-/* Allocates registers to a function, has the checker judge the output, and writes the output's words. `*written` is how many
-   there are, at most `out_len`, and 0 unless the status is RA2_OK. */
-uint32_t regalloc2_c_allocate(const uint32_t *words, size_t len, uint32_t *out, size_t out_len, size_t *written);
+/* 65536 times the version of the layouts, and how many calls this header declares. */
+#define RA2_VERSION 0x00010009u
+uint32_t regalloc2_c_version(void);
+
+/* A status, or a fault's number, in English. Returns how many bytes that takes, without a zero at the end; at most `text_len` are written. */
+size_t regalloc2_c_status_text(uint32_t status, uint8_t *text, size_t text_len);
+size_t regalloc2_c_fault_text(uint32_t number, uint8_t *text, size_t text_len);
+
+/* Allocates registers to a function, has the checker judge the output, and writes the result. */
+uint32_t regalloc2_c_allocate(const uint32_t *words, size_t len, uint32_t *result, size_t result_len, size_t *needed);
 
 /* The same for a function in JSON, as docs/INPUT.md has it; the text need not end in a zero. */
-uint32_t regalloc2_c_allocate_json(const uint8_t *json, size_t len, uint32_t *out, size_t out_len, size_t *written);
+uint32_t regalloc2_c_allocate_json(const uint8_t *json, size_t len, uint32_t *result, size_t result_len, size_t *needed);
 
-/* RA2_OK if the checker accepts an output of a function. */
+/* The same for a function in a text, as docs/TEXT.md has it, in UTF-8. An output in it isn't looked at. */
+uint32_t regalloc2_c_allocate_text(const uint8_t *text, size_t len, uint32_t *result, size_t result_len, size_t *needed);
+
+/* Allocates with all tests, that each path writes before it reads among them, and without the checker: then its output needs none. */
+uint32_t regalloc2_c_run(const uint32_t *words, size_t len, uint32_t *result, size_t result_len, size_t *needed);
+
+/* Judges an output of a function, whose parts the caller keeps apart: the units of slots, moves of three words, the places of all operands, and for
+   each instruction where its places begin. RA2_OK if the checker accepts it, and the places that it names are cells of their own. */
+uint32_t regalloc2_c_judge(const uint32_t *words, size_t len, uint64_t num_spillslots, const uint32_t *moves, size_t moves_len,
+                           const uint32_t *places, size_t places_len, const uint32_t *offsets, size_t offsets_len,
+                           uint32_t *result, size_t result_len, size_t *needed);
+
+/* RA2_OK if the checker accepts an output of a function, and the places that it names are cells of their own: registers of the machine, or slots
+   of the frame that share no unit; else RA2_FAULTS. */
 uint32_t regalloc2_c_check(const uint32_t *words, size_t len, const uint32_t *output, size_t output_len);
 
-/* The memory that the library asks for. `ok` is whether there is some. `p` is never null: where there is none it is any address. `align` is at
-   most 16, and a `size` of 0 still asks for a place. `kept` is how many bytes of `p` were asked for; a refused rattle_realloc leaves `p` as it was. */
+/* The memory that the library asks for. `ok` is whether there is some. `p` is never null: where there is none it is any address. `align` is
+   at most 16, and a `size` of 0 still asks for a place. `kept` is how many bytes of `p` were asked for; a refused rattle_realloc leaves `p`
+   as it was. */
 struct rattle_tried {
     bool ok;
     uint8_t *p;

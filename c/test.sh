@@ -83,6 +83,17 @@ for name in ra2 ra2_text example_toy compile; do
 done
 
 compiled_c demo "$here/demo.c" "$library" "$memory" || exit 1
+compiled_c errors -pthread "$here/errors.c" "$library" &&
+    step "each status once, from ten threads" "$made/bin/errors"
+compiled_c random -g -fsanitize=address "$here/random.c" "$here/regalloc2_c_heap.c" "$library" &&
+    step "10,000 functions at random, under the address sanitizer" "$made/bin/random" 10000
+step "the library is installed" make -C "$here" install PREFIX="$made/installed"
+PKG_CONFIG_PATH="$made/installed/lib/pkgconfig"
+export PKG_CONFIG_PATH
+if command -v pkg-config >/dev/null; then
+    # shellcheck disable=SC2046
+    compiled_c installed "$here/demo.c" $(pkg-config --cflags --libs regalloc2_c)
+fi
 "$made/bin/example_toy" >"$made/toy.s" && compiled_c toy "$here/toy.c" -x assembler "$made/toy.s"
 "$made/bin/compile" "$top/crates/compile/data/sum.txt" >"$made/compiled.s" &&
     compiled_c compiled "$here/compiled.c" -x assembler "$made/compiled.s"

@@ -3,7 +3,7 @@
 use crate::*;
 
 extern "C" {
-    fn regalloc2_c_allocate(words: *const u32, len: usize, out: *mut u32, out_len: usize, written: *mut usize) -> u32;
+    fn regalloc2_c_allocate(words: *const u32, len: usize, out: *mut u32, out_len: usize, needed: *mut usize) -> u32;
     fn regalloc2_c_check(words: *const u32, len: usize, output: *const u32, output_len: usize) -> u32;
 }
 
@@ -118,13 +118,13 @@ pub fn run(f: &impl Function, env: &MachineEnv, _options: &RegallocOptions) -> R
     let words = function(f, env);
     let mut out = vec![0; 4096.max(8 * words.len())];
     loop {
-        let mut written = 0;
+        let mut needed = 0;
         // SAFETY: each pointer and length is that of one slice, borrowed for the call.
         let status =
-            unsafe { regalloc2_c_allocate(words.as_ptr(), words.len(), out.as_mut_ptr(), out.len(), &mut written) };
+            unsafe { regalloc2_c_allocate(words.as_ptr(), words.len(), out.as_mut_ptr(), out.len(), &mut needed) };
         match status {
-            0 => return Ok(output(&out[..written])),
-            NO_ROOM => out.resize(2 * out.len(), 0),
+            0 => return Ok(output(&out[..needed])),
+            NO_ROOM if needed > out.len() => out.resize(needed, 0),
             status => return Err(error_of(status)),
         }
     }

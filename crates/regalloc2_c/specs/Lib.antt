@@ -1,5 +1,7 @@
 -- Definitions for the C library: the status of each failure, and what a status says of the arrays passed in.
--- Read first: `IsAllocateOutcome` and `IsCheckOutcome` in `Outcome`; `Status` numbers failures as the header does.
+-- Read first: `IsAllocateOutcome` and `IsCheckOutcome` in `Outcome`; `Status` numbers failures as the header does, `Payload` has their words.
 -- Depends on regalloc2 (errors and their reasons), regalloc2_serialize (stored functions) and the words in `Flat`.
 pub mod Status
+pub mod Payload
+pub mod Faults
 pub mod Outcome

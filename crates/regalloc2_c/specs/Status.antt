@@ -1,32 +1,33 @@
 -- The numbers of failures, as the header lists them, and which failure an error is.
 use Rattle.std.specs.Prelude.{ℕ, ◌+◌}
-use Rattle.std.specs.declared.alloc.Global.{Global}
-use Rattle.regalloc2.specs.declared.tested.AllocateError.{AllocateError}
-use Rattle.regalloc2.specs.declared.tested.AllocateError.TheVariants.{Misfit, Refused as RunRefused, Faults as RunFaults, Unjudged}
+use Rattle.regalloc2.specs.declared.tested.TestedRunError.{TestedRunError}
+use Rattle.regalloc2.specs.declared.tested.TestedRunError.TheVariants.{Misfit, Refused as RunRefused, ReadBeforeWritten as RunReads}
 use Rattle.regalloc2_function.specs.declared.serialize.StoredFault.{StoredFault}
 use Rattle.regalloc2_function.specs.declared.serialize.StoredFault.TheVariants.{Lengths, Index, Bits, Limit, Memory, Shape}
 use Rattle.regalloc2_tool.specs.Fault.{fault_number}
 use Rattle.regalloc2_tool.specs.Refusal.{refusal_number}
 use Rattle.regalloc2_c.specs.declared.failure.Failure.{Failure}
-use Rattle.regalloc2_c.specs.declared.failure.Failure.TheVariants.{Unreadable, BadMachine, NoRoom, Faults, NoMemory, NotFramed, BadOutput, BadFunction, Refused}
+use Rattle.regalloc2_c.specs.declared.failure.Failure.TheVariants.{Unreadable, BadMachine, NoRoom, Faults, NoMemory, NotFramed, BadOutput}
+use Rattle.regalloc2_c.specs.declared.failure.Failure.TheVariants.{ReadBeforeWritten, BadText, BadFunction, Refused}
 
 abbrev pub failure_number : Failure → ℕ
 failure_number Unreadable = 1
-failure_number BadMachine = 2
+failure_number (BadMachine m) = 2
 failure_number NoRoom = 3
-failure_number Faults = 4
+failure_number (Faults v) = 4
 failure_number NoMemory = 5
 failure_number NotFramed = 6
 failure_number BadOutput = 7
+failure_number ReadBeforeWritten = 8
+failure_number (BadText line column) = 9
 failure_number (BadFunction fault) = 10 + fault_number fault
 failure_number (Refused error) = 20 + refusal_number error
 
--- where an allocation gives none; the checker gives no verdict only where memory is refused
-abbrev pub allocate_failure : AllocateError Global → Failure
-allocate_failure (Misfit m) = BadMachine
-allocate_failure (RunRefused error) = Refused error
-allocate_failure (RunFaults es) = Faults
-allocate_failure Unjudged = NoMemory
+-- where a tested run gives none
+abbrev pub run_failure : TestedRunError → Failure
+run_failure (Misfit m) = BadMachine m
+run_failure (RunRefused error) = Refused error
+run_failure RunReads = ReadBeforeWritten
 
 -- where numbers are read
 abbrev pub read_failure : StoredFault → Failure

@@ -1,10 +1,11 @@
 //! Why a call gives nothing.
 
 ghost use Rattle.std.specs.Prelude.{◌≡◌};
-ghost use Rattle.regalloc2_c.specs.Status.{failure_number, allocate_failure, read_failure, write_failure};
+ghost use Rattle.regalloc2_c.specs.Status.{failure_number, run_failure, read_failure, write_failure};
 
 use regalloc2::serialize::StoredFault;
-use regalloc2::{AllocateError, RegAllocError};
+use regalloc2::{RegAllocError, TestedRunError};
+use regalloc2_function::MachineMisfit;
 use regalloc2_tool::{refusal, stored_fault};
 
 /// Why a call gives nothing.
@@ -13,17 +14,21 @@ pub enum Failure {
     /// The input lays out no function, or no output.
     Unreadable,
     /// The machine doesn't suit the function.
-    BadMachine,
+    BadMachine(MachineMisfit),
     /// The output takes more words than there is room for.
     NoRoom,
-    /// The checker found faults in the output.
-    Faults,
+    /// The checker found faults in the output, or its places aren't cells: the words of a list of them.
+    Faults(Vec<u32>),
     /// Memory was refused.
     NoMemory,
     /// Blocks don't follow one another or don't end, so that no output can be judged.
     NotFramed,
     /// The output's numbers name none.
     BadOutput,
+    /// Some path reads a vreg before it is written.
+    ReadBeforeWritten,
+    /// A line of the text can't be read: its number and the column, both counted from 1.
+    BadText(u32, u32),
     /// The numbers name no function.
     BadFunction(StoredFault),
     /// The function was refused, or registers, slots or memory ran out.
@@ -31,31 +36,32 @@ pub enum Failure {
 }
 
 /// The number of a failure. The header lists them.
-pub fn number_of(failure: Failure) -> u32
-    ensures { result ≡ failure_number failure }
+pub fn number_of(failure: &Failure) -> u32
+    ensures { result ≡ failure_number failure.now }
 {
     match failure {
         Failure::Unreadable => 1,
-        Failure::BadMachine => 2,
+        Failure::BadMachine(_) => 2,
         Failure::NoRoom => 3,
-        Failure::Faults => 4,
+        Failure::Faults(_) => 4,
         Failure::NoMemory => 5,
         Failure::NotFramed => 6,
         Failure::BadOutput => 7,
-        Failure::BadFunction(fault) => 10 + u32::from(stored_fault::number_of(fault)),
-        Failure::Refused(error) => 20 + u32::from(refusal::number_of(error)),
+        Failure::ReadBeforeWritten => 8,
+        Failure::BadText(..) => 9,
+        Failure::BadFunction(fault) => 10 + u32::from(stored_fault::number_of(*fault)),
+        Failure::Refused(error) => 20 + u32::from(refusal::number_of(*error)),
     }
 }
 
-/// The failure that an allocation's error is.
-pub fn failure_of(error: &AllocateError) -> Failure
-    ensures { result ≡ allocate_failure error.now }
+/// The failure that a tested run's error is.
+pub fn failure_of_run(error: &TestedRunError) -> Failure
+    ensures { result ≡ run_failure error.now }
 {
     match error {
-        AllocateError::Misfit(_) => Failure::BadMachine,
-        AllocateError::Refused(error) => Failure::Refused(*error),
-        AllocateError::Faults(_) => Failure::Faults,
-        AllocateError::Unjudged => Failure::NoMemory,
+        TestedRunError::Misfit(misfit) => Failure::BadMachine(*misfit),
+        TestedRunError::Refused(error) => Failure::Refused(*error),
+        TestedRunError::ReadBeforeWritten => Failure::ReadBeforeWritten,
     }
 }
 

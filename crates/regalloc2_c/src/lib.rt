@@ -1,35 +1,69 @@
-//! The allocator and the checker for C, C++ and Rust, over arrays of words and over JSON.
+//! The allocator and the checker for C, C++ and Rust, over arrays of words, over JSON and over texts.
 //!
 //! `c/regalloc2_c.h` declares the calls. Nothing checks a caller against it: each pointer names memory of its length, which
 //! nobody else writes during the call.
 #![tactic(auto)]
 
-ghost use Rattle.std.specs.Prelude.{◌≤◌, length, take};
-ghost use Rattle.regalloc2_c.specs.Outcome.{AreWordsOf, IsJsonOf, IsAllocateOutcome, IsCheckOutcome};
+ghost use Rattle.std.specs.Prelude.{◌≡◌, ◌≤◌, ◌+◌, length};
+ghost use Rattle.regalloc2_c.specs.Outcome.{AreWordsOf, IsJsonOf, IsTextOf, ArePartsOf, IsAllocateOutcome, IsRunOutcome, IsCheckOutcome};
+ghost use Rattle.regalloc2_c.specs.Outcome.{IsJudgeOutcome, IsTold};
 
 mod calls;
 mod failure;
+mod faults;
+mod handing;
+mod judging;
+mod payload;
 mod reading;
+mod texts;
+mod words;
 
-use calls::{allocated_of_json, allocated_of_words, hand_out, judged};
+use calls::{allocated_of_json, allocated_of_text, allocated_of_words, tested_of_words};
 use failure::number_of;
+use handing::hand_out;
+use judging::{Parts, judged, judged_of_words};
 use reading::stored_from_words;
 use std::alloc::Global;
+use texts::{fault_words, status_words, tell};
 
-/// Allocates registers to the function that `words` lay out, has the checker judge the output, and writes the output's words.
-/// The status is 0, or says why there are none.
+/// The version of the layouts, times 65536, and how many calls there are.
+#[unsafe(no_mangle)]
+pub extern "C" fn regalloc2_c_version() -> u32
+    ensures { result ≡ 65545 }
+{
+    65_545
+}
+
+/// Writes what a status says, in English, as far as there is room. Returns how many bytes that takes.
+#[unsafe(no_mangle)]
+pub extern "C" fn regalloc2_c_status_text(status: u32, text: &mut [u8]) -> usize
+    ensures { IsTold text.old text.new result }
+{
+    tell(status_words(status), text)
+}
+
+/// Writes what a fault's number says, in English, as far as there is room. Returns how many bytes that takes.
+#[unsafe(no_mangle)]
+pub extern "C" fn regalloc2_c_fault_text(number: u32, text: &mut [u8]) -> usize
+    ensures { IsTold text.old text.new result }
+{
+    tell(fault_words(number), text)
+}
+
+/// Allocates registers to the function that `words` lay out, has the checker judge the output, and writes the output's words. The
+/// status is 0, or says why there are none; then the words say what the error is about. `needed` is how many words there are: if there is no
+/// room for them, nothing is written, and the status is that of `NoRoom`.
 #[unsafe(no_mangle)]
 pub extern "C" fn regalloc2_c_allocate(
     alloc: Global,
     words: &[u32],
     out: &mut [u32],
-    written: &mut usize,
+    needed: &mut usize,
 ) -> u32
     ensures status { result ≤ 31 }
-    ensures within { written.new ≤ length out.old }
-    ensures outcome { IsAllocateOutcome (AreWordsOf words.now) (length out.old) result (take written.new out.new) }
+    ensures outcome { IsAllocateOutcome (AreWordsOf words.now) 0 out.old out.new needed.new result }
 {
-    hand_out(allocated_of_words(alloc, words), out, written)
+    hand_out(allocated_of_words(alloc, words), out, needed)
 }
 
 /// The same for a function in JSON.
@@ -38,17 +72,69 @@ pub extern "C" fn regalloc2_c_allocate_json(
     alloc: Global,
     json: &[u8],
     out: &mut [u32],
-    written: &mut usize,
+    needed: &mut usize,
 ) -> u32
     ensures status { result ≤ 31 }
-    ensures within { written.new ≤ length out.old }
-    ensures outcome { IsAllocateOutcome (IsJsonOf json.now) (length out.old) result (take written.new out.new) }
+    ensures outcome { IsAllocateOutcome (IsJsonOf json.now) 0 out.old out.new needed.new result }
 {
-    hand_out(allocated_of_json(alloc, json), out, written)
+    hand_out(allocated_of_json(alloc, json), out, needed)
 }
 
-/// Has the checker judge the output that `output` lays out, of the function that `words` lay out. The status is 0 if it is
-/// faithful, or says why it isn't accepted.
+/// The same for a function in a text. An output in it isn't looked at.
+#[unsafe(no_mangle)]
+pub extern "C" fn regalloc2_c_allocate_text(
+    alloc: Global,
+    text: &[u8],
+    out: &mut [u32],
+    needed: &mut usize,
+) -> u32
+    ensures status { result ≤ 31 }
+    ensures outcome { IsAllocateOutcome (IsTextOf text.now) (1 + length text.now) out.old out.new needed.new result }
+{
+    hand_out(allocated_of_text(alloc, text), out, needed)
+}
+
+/// Allocates registers with all tests, that each path writes before it reads among them, and without the checker.
+#[unsafe(no_mangle)]
+pub extern "C" fn regalloc2_c_run(
+    alloc: Global,
+    words: &[u32],
+    out: &mut [u32],
+    needed: &mut usize,
+) -> u32
+    ensures status { result ≤ 31 }
+    ensures outcome { IsRunOutcome words.now out.old out.new needed.new result }
+{
+    hand_out(tested_of_words(alloc, words), out, needed)
+}
+
+/// Has the checker judge an output that is given in parts, of the function that `words` lay out, and tests that its places are cells of
+/// their own. The status is 0 if both hold, or says why it isn't accepted; the words are those of a list of faults.
+#[unsafe(no_mangle)]
+pub extern "C" fn regalloc2_c_judge(
+    alloc: Global,
+    words: &[u32],
+    num_spillslots: u64,
+    moves: &[u32],
+    places: &[u32],
+    offsets: &[u32],
+    out: &mut [u32],
+    needed: &mut usize,
+) -> u32
+    ensures status { result ≤ 31 }
+    ensures outcome { IsJudgeOutcome words.now (ArePartsOf num_spillslots moves.now places.now offsets.now) out.old out.new needed.new result }
+{
+    let parts = Parts {
+        num_spillslots,
+        moves,
+        places,
+        offsets,
+    };
+    hand_out(judged_of_words(alloc, words, parts), out, needed)
+}
+
+/// Has the checker judge the output that `output` lays out, of the function that `words` lay out, and tests that its places are cells of
+/// their own. The status is 0 if both hold, or says why it isn't accepted.
 #[unsafe(no_mangle)]
 pub extern "C" fn regalloc2_c_check(alloc: Global, words: &[u32], output: &[u32]) -> u32
     ensures status { result ≤ 31 }
@@ -56,10 +142,10 @@ pub extern "C" fn regalloc2_c_check(alloc: Global, words: &[u32], output: &[u32]
 {
     let stored = match stored_from_words(alloc, words) {
         Ok(stored) => stored,
-        Err(failure) => return number_of(failure),
+        Err(failure) => return number_of(&failure),
     };
     match judged(alloc, &stored, output) {
         Ok(()) => 0,
-        Err(failure) => number_of(failure),
+        Err(failure) => number_of(&failure),
     }
 }

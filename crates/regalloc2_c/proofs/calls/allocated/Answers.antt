@@ -8,15 +8,14 @@ use Rattle.regalloc2_c.proofs.Outcomes.{allocated_words, refused_as, unlisted}
 use Rattle.regalloc2_c.proofs.calls.allocated.Goals as goal
 
 pub returns-in-Err-allocate-clause-err : goal.returns-in-Err-allocate-clause-err
-returns-in-Err-allocate-clause-err c room =
+returns-in-Err-allocate-clause-err c =
     let named : NumbersNameFunction c.args.stored.now (function_of_serializable c.in-Ok.f) (machine_of c.machine_env.result.now) = record {
       sound = c.in-Ok.ensures.sound;
       function = c.in-Ok.ensures.function;
       machine = subst (λ m. NamesMachine c.args.stored.now.machine_env m) (sym c.machine_env.ensures) c.in-Ok.ensures.machine;
     } in
-    subst (λ e. IsAllocateFailure c.args.stored.now room e) (sym c.failure_of.ensures)
-    (refused_as c.args.stored.now (function_of_serializable c.in-Ok.f) (machine_of c.machine_env.result.now) room named c.in-Err-allocate.error
-    c.in-Err-allocate.ensures.refused)
+    refused_as c.args.stored.now (function_of_serializable c.in-Ok.f) (machine_of c.machine_env.result.now) named c.in-Err-allocate.error
+    c.in-Err-allocate.ensures.refused c.failure_of.result c.failure_of.ensures
 
 pub returns-in-Ok-words_of-clause-ok : goal.returns-in-Ok-words_of-clause-ok
 returns-in-Ok-words_of-clause-ok c =
@@ -31,14 +30,14 @@ returns-in-Ok-words_of-clause-ok c =
     c.in-Ok-stored.ensures.output c.in-Ok-stored.ensures.names)
 
 pub returns-clause-err : goal.returns-clause-err
-returns-clause-err c room =
+returns-clause-err c =
     let named : NumbersNameFunction c.args.stored.now (function_of_serializable c.in-Ok.f) (machine_of c.machine_env.result.now) = record {
       sound = c.in-Ok.ensures.sound;
       function = c.in-Ok.ensures.function;
       machine = subst (λ m. NamesMachine c.args.stored.now.machine_env m) (sym c.machine_env.ensures) c.in-Ok.ensures.machine;
     } in
-    subst (λ e. IsAllocateFailure c.args.stored.now room e) (sym c.failure_to_write.ensures)
-    (unlisted c.args.stored.now room (output_words c.in-Ok-stored.numbers)
+    subst (λ e. IsAllocateFailure c.args.stored.now e) (sym c.failure_to_write.ensures)
+    (unlisted c.args.stored.now (output_words c.in-Ok-stored.numbers)
     (allocated_words c.args.stored.now (function_of_serializable c.in-Ok.f) (machine_of c.machine_env.result.now) (output_of c.in-Ok-allocate.output)
     c.in-Ok-stored.numbers named c.in-Ok-allocate.ensures.tested c.in-Ok-allocate.ensures.allocation c.in-Ok-allocate.ensures.faithful
     c.in-Ok-stored.ensures.output c.in-Ok-stored.ensures.names) c.in-Err-words_of.fault c.in-Err-words_of.ensures.limit)

@@ -1,13 +1,12 @@
 use Rattle.std.proofs.Common.{inl}
-use Rattle.regalloc2_c.specs.Outcome.{AreWordsOf}
-use Rattle.regalloc2_c.proofs.Outcomes.{given, not_given}
+use Rattle.regalloc2_c.specs.Outcome.{AreWordsOf, IsAllocatedOutput, IsAllocateFailure}
+use Rattle.regalloc2_c.proofs.Outcomes.{found_of}
 use Rattle.regalloc2_c.proofs.calls.allocated_of_words.Goals as goal
 
-pub returns-in-Ok-clause-ok : goal.returns-in-Ok-clause-ok
-returns-in-Ok-clause-ok c = given (AreWordsOf c.args.words.now) c.in-Ok.stored c.in-Ok.ensures.ok c.allocated.result c.allocated.ensures.ok
+pub returns-in-Ok : goal.returns-in-Ok
+returns-in-Ok c =
+    found_of (AreWordsOf c.args.words.now) 0 IsAllocatedOutput IsAllocateFailure c.in-Ok.stored c.in-Ok.ensures.ok c.allocated.result c.allocated.ensures.ok
+    c.allocated.ensures.err
 
-pub returns-in-Ok-clause-err : goal.returns-in-Ok-clause-err
-returns-in-Ok-clause-err c = not_given (AreWordsOf c.args.words.now) c.in-Ok.stored c.in-Ok.ensures.ok c.allocated.result c.allocated.ensures.err
-
-pub returns-in-Err-clause-err : goal.returns-in-Err-clause-err
-returns-in-Err-clause-err c = λ room. inl c.in-Err.ensures.err
+pub returns-in-Err : goal.returns-in-Err
+returns-in-Err c = inl c.in-Err.ensures.err

@@ -1,0 +1,222 @@
+/* Each status of the C library once, with the words of its result, from ten threads that call at once. It brings its own memory, which it
+   can refuse. */
+#include "regalloc2_c.h"
+#include <pthread.h>
+#include <stdio.h>
+#include <stdlib.h>
+#include <string.h>
+
+enum { ROOM = 256, THREADS = 10, ROUNDS = 200 };
+
+/* How many more times this thread is given memory. */
+static _Thread_local size_t requests = SIZE_MAX;
+
+static struct rattle_tried given(uint8_t *p) {
+    static uint8_t nothing;
+    return (struct rattle_tried){p != NULL, p ? p : &nothing};
+}
+
+static bool is_refused(void) { return requests == 0 || (requests != SIZE_MAX && --requests == 0); }
+
+struct rattle_tried rattle_alloc(size_t size, size_t align) {
+    (void)align;
+    return given(is_refused() ? NULL : malloc(size + 1));
+}
+
+struct rattle_tried rattle_realloc(uint8_t *p, size_t kept, size_t size, size_t align) {
+    (void)kept, (void)align;
+    return given(is_refused() ? NULL : realloc(p, size + 1));
+}
+
+void rattle_dealloc(uint8_t *p) { free(p); }
+
+#define LOW(n) (uint32_t)((n) & 0xffffffff)
+#define HIGH(n) (uint32_t)((n) >> 32)
+#define DEF 85899345920ull
+#define USE 103079215104ull
+
+/* block0 defines v0 and goes to block1(v0); block1(v1) reads v1 and returns: where its parts begin */
+enum { ENTRY = 15, FIRST_END = 32 };
+static const uint32_t good[] = {
+    3, 2, 0, 1, 0, 0, 3, 0, 0, 0, 3, 0, 0, 0, 0,      /* machine: p0i and p1i */
+    0,                                                 /* entry */
+    3, 0, 1, LOW(DEF), HIGH(DEF), 0, 2, 0, 0, 1, 1, LOW(USE + 1), HIGH(USE + 1), 0,
+    2, 0, 2, 2, 3,                                     /* blocks */
+    2, 0, 1, 0, 2, 1, 1, 0, 2, 0, 1, 4, 2, 1, 1, 0, 0, /* predecessors, successors, parameters, arguments */
+    2, 0, 0, 3, 1, 0, 1, 0, 1, 0, 0, 0,                /* vregs, labels, sizes, flags */
+};
+enum { LEN = sizeof good / sizeof *good };
+
+/* block0 goes to block1, which defines v0, and to block2, which reads it */
+static const uint32_t forked[] = {
+    3, 2, 0, 1, 0, 0, 3, 0, 0, 0, 3, 0, 0, 0, 0, 0,
+    4, 2, 0, 0, 0, 1, LOW(DEF), HIGH(DEF), 0, 1, 0, 0, 1, 1, LOW(USE), HIGH(USE), 0,
+    3, 0, 1, 1, 3, 3, 4,
+    3, 0, 1, 0, 1, 0, 3, 2, 1, 2, 0, 0, 3, 0, 0, 0, 3, 2, 0, 0, 0, 0,
+    1, 0, 0, 3, 1, 0, 1, 0, 1, 0, 0, 0,
+};
+
+struct seen {
+    uint32_t status;
+    size_t needed;
+    uint32_t words[ROOM];
+};
+
+typedef uint32_t call(const uint32_t *, size_t, uint32_t *, size_t, size_t *);
+
+/* The result of a call for the function in which one word is another. */
+static struct seen made(call *made_by, size_t at, uint32_t word, size_t len, size_t room) {
+    uint32_t function[LEN];
+    struct seen s = {0};
+    memcpy(function, good, sizeof good);
+    function[at] = word;
+    s.status = made_by(function, len, s.words, room, &s.needed);
+    return s;
+}
+
+static struct seen of_forked(call *made_by) {
+    struct seen s = {0};
+    s.status = made_by(forked, sizeof forked / sizeof *forked, s.words, ROOM, &s.needed);
+    return s;
+}
+
+static struct seen text(const char *lines) {
+    struct seen s = {0};
+    s.status = regalloc2_c_allocate_text((const uint8_t *)lines, strlen(lines), s.words, ROOM, &s.needed);
+    return s;
+}
+
+/* What is said of the output in which one word is another, of a function in which one word is another: by words and in parts. */
+static struct seen judged(size_t at, uint32_t word, size_t changed, uint32_t to, uint32_t *by_words) {
+    uint32_t function[LEN];
+    struct seen out = made(regalloc2_c_allocate, 0, 3, LEN, ROOM), s = {0};
+    memcpy(function, good, sizeof good);
+    function[at] = word;
+    if (changed < out.needed)
+        out.words[changed] = to;
+    const uint32_t *moves = out.words + 3, *places = moves + 3 * out.words[2] + 1, *offsets = places + places[-1] + 1;
+    *by_words = regalloc2_c_check(function, LEN, out.words, out.needed);
+    s.status = regalloc2_c_judge(function, LEN, out.words[0], moves, 3 * out.words[2], places, places[-1], offsets, offsets[-1],
+                                 s.words, ROOM, &s.needed);
+    return s;
+}
+
+/* Whether a result isn't the one that is wanted, which it says. */
+static int differs(const char *what, struct seen s, uint32_t status, size_t count, const uint32_t *words) {
+    int wrong = s.status != status || s.needed != count || (words && memcmp(s.words, words, count * sizeof *words));
+    if (wrong) {
+        printf("%s: status %u, and not %u; %zu words, and not %zu:", what, s.status, status, s.needed, count);
+        for (size_t i = 0; i < s.needed && i < ROOM; i++)
+            printf(" %u", s.words[i]);
+        printf("\n");
+    }
+    return wrong;
+}
+
+static int differ(const char *what, size_t at, uint32_t word, size_t changed, uint32_t to, uint32_t status, size_t count, const uint32_t *words) {
+    uint32_t by_words;
+    struct seen s = judged(at, word, changed, to, &by_words);
+    if (by_words != status)
+        printf("%s: by words status %u, and not %u\n", what, by_words, status);
+    return differs(what, s, status, count, words) + (by_words != status);
+}
+
+#define WORDS(...) sizeof((uint32_t[]){__VA_ARGS__}) / 4, (uint32_t[]){__VA_ARGS__}
+
+static int wrong_allocations(void) {
+    struct seen fine = made(regalloc2_c_allocate, 0, 3, LEN, ROOM);
+    return differs("the function", fine, RA2_OK, fine.needed, NULL)
+        + differs("without the checker", made(regalloc2_c_run, 0, 3, LEN, ROOM), RA2_OK, fine.needed, fine.words)
+        + differs("no words", made(regalloc2_c_allocate, 0, 3, 0, ROOM), RA2_UNREADABLE, 0, NULL)
+        + differs("a word less", made(regalloc2_c_allocate, 0, 3, LEN - 1, ROOM), RA2_UNREADABLE, 0, NULL)
+        + differs("a float register for integers", made(regalloc2_c_allocate, 3, 64, LEN, ROOM), RA2_BAD_MACHINE, WORDS(2, 0, 64))
+        + differs("no room", made(regalloc2_c_allocate, 0, 3, LEN, 0), RA2_NO_ROOM, fine.needed, NULL)
+        + differs("a word too little room", made(regalloc2_c_allocate, 0, 3, LEN, fine.needed - 1), RA2_NO_ROOM, fine.needed, NULL)
+        + differs("just enough room", made(regalloc2_c_allocate, 0, 3, LEN, fine.needed), RA2_OK, fine.needed, fine.words)
+        + differs("no room for an error", made(regalloc2_c_allocate, ENTRY, 1, LEN, 3), RA2_NO_ROOM, 4, NULL)
+        + differs("a word that is no register", made(regalloc2_c_allocate, 2, 255, LEN, ROOM), RA2_BAD_FUNCTION + 3, 0, NULL)
+        + differs("an entry that is none", made(regalloc2_c_allocate, ENTRY, 1, LEN, ROOM), RA2_REFUSED + 3, WORDS(1, RA2_NONE, RA2_NONE, RA2_NONE))
+        + differs("a path that reads first", of_forked(regalloc2_c_run), RA2_READ_BEFORE_WRITTEN, 0, NULL)
+        + differs("the same with the checker", of_forked(regalloc2_c_allocate), RA2_FAULTS,
+                  WORDS(1, 2, 3, RA2_NONE, LOW(USE), HIGH(USE), ra2_in_register(1), 0, 0, 0))
+        + differs("the text", text("regs p0i..p1i\nblock0:\n  op: Def: v0i reg\n  branch block1(v0i)\nblock1(v1i):\n  ret: Use: v1i reg\n"), RA2_OK,
+                  fine.needed, NULL)
+        + differs("a line of the text", text("regs p0i..p1i\nblock0:\n  op: Dof: v0i reg\n"), RA2_BAD_TEXT, WORDS(3, 7))
+        + differs("bytes that aren't UTF-8", text("regs \xff"), RA2_UNREADABLE, 0, NULL);
+}
+
+#define REFUSED(n, lines, ...) differs(lines, text(lines), RA2_REFUSED + n, WORDS(__VA_ARGS__))
+
+static int wrong_refusals(void) {
+    return REFUSED(1, "block0:\n  branch block1, block2\nblock1:\n  branch block2\nblock2:\n  ret\n", 0, 2, RA2_NONE, RA2_NONE)
+        + REFUSED(2, "block0:\n  op: Def: v0i reg\n  ret: Use: v1i reg\n", RA2_NONE, RA2_NONE, 1, ra2_vreg(RA2_INT, 1))
+        + REFUSED(3, "block0:\n  ret\n  ret\n", 0, RA2_NONE, RA2_NONE, RA2_NONE)
+        + REFUSED(4, "block0:\n  branch block1\nblock1(v0i):\n  ret\n", RA2_NONE, RA2_NONE, 0, RA2_NONE)
+        + REFUSED(5, "block0(v0i):\n  ret\n", RA2_NONE, RA2_NONE, RA2_NONE, RA2_NONE)
+        + REFUSED(6, "block0:\n  op: Def: v0i reg\n  branch block0: Use: v0i reg\n", RA2_NONE, RA2_NONE, 1, RA2_NONE)
+        + REFUSED(7, "regs p0i\nblock0:\n  op: Def: v0i reg, Def: v1i reg\n  ret\n", RA2_NONE, RA2_NONE, RA2_NONE, RA2_NONE)
+        + REFUSED(9, "block0:\n  op: Def: v0i reuse(3)\n  ret\n", RA2_NONE, RA2_NONE, 0, RA2_NONE);
+}
+
+/* Refuses memory from the first request on, then from the second one, and so on, until a call needs no more. */
+static int wrong_memory(call *made_by) {
+    struct seen fine = made(made_by, 0, 3, LEN, ROOM), s;
+    size_t times = 0;
+    int wrong = 0;
+    do {
+        requests = ++times;
+        s = made(made_by, 0, 3, LEN, ROOM);
+        requests = SIZE_MAX;
+        wrong += s.status == RA2_NO_MEMORY || s.status == RA2_BAD_FUNCTION + 5 ? s.needed != 0
+            : s.status == RA2_REFUSED + 11                                     ? s.needed != 4 || s.words[2] != RA2_NONE
+                                                                               : s.status != RA2_OK;
+    } while (s.status != RA2_OK && wrong == 0);
+    return wrong + (times < 10) + differs("enough memory", s, RA2_OK, fine.needed, fine.words);
+}
+
+static int wrong_judgements(void) {
+    struct seen fine = made(regalloc2_c_allocate, 0, 3, LEN, ROOM);
+    size_t places = 3 + 3 * fine.words[2];
+    return differ("the output", 0, 3, ROOM, 0, RA2_OK, 0, NULL)
+        + differ("a place that is missing", 0, 3, places + 1, 0, RA2_FAULTS,
+                 WORDS(2, 1, 0, RA2_NONE, LOW(DEF), HIGH(DEF), 0, 0, 0, 0, 2, 2, RA2_NONE, LOW(USE + 1), HIGH(USE + 1),
+                       fine.words[places + 2], 0, 0, 0))
+        + differ("a place of no kind", 0, 3, places + 1, 0xffffffff, RA2_BAD_OUTPUT, 0, NULL)
+        + differ("a block without an end", FIRST_END, 1, ROOM, 0, RA2_NOT_FRAMED, 0, NULL)
+        + differ("a frame of no units", 0, 3, 0, 0, RA2_FAULTS, 10, NULL);
+}
+
+static int wrong_texts(void) {
+    uint8_t bytes[128];
+    int wrong = regalloc2_c_version() != RA2_VERSION;
+    for (uint32_t n = 0; n <= RA2_LAST_STATUS; n++) {
+        size_t count = regalloc2_c_status_text(n, bytes, sizeof bytes);
+        wrong += count == 0 || count > sizeof bytes || regalloc2_c_status_text(n, bytes, 3) != count;
+        count = regalloc2_c_fault_text(n, bytes, sizeof bytes);
+        wrong += count == 0 || count > sizeof bytes;
+    }
+    if (wrong)
+        printf("the version or %d texts\n", wrong);
+    return wrong;
+}
+
+static void *calls(void *wrong) {
+    for (int i = 0; i < ROUNDS && *(int *)wrong == 0; i++)
+        *(int *)wrong = wrong_allocations() + wrong_refusals() + wrong_memory(regalloc2_c_allocate) + wrong_memory(regalloc2_c_run)
+            + wrong_judgements() + wrong_texts();
+    return NULL;
+}
+
+int main(void) {
+    pthread_t threads[THREADS];
+    int wrong[THREADS] = {0}, all = 0;
+    for (int i = 0; i < THREADS; i++)
+        if (pthread_create(&threads[i], NULL, calls, &wrong[i]))
+            return 2;
+    for (int i = 0; i < THREADS; i++) {
+        pthread_join(threads[i], NULL);
+        all += wrong[i];
+    }
+    printf("%d differences in %d rounds of %d threads\n", all, ROUNDS, THREADS);
+    return all != 0;
+}

@@ -1,0 +1,182 @@
+-- Why an output isn't accepted, from what the checker and the test of cells find.
+use Rattle.std.proofs.Common.{◌≡◌, ◌⊎◌, inl, inr, List, [], ◌∷◌, Result, Ok, Err, refl, sym, subst, ap, ◌∙◌}
+use Rattle.std.specs.Prelude.{OnOk, IfErr}
+use Rattle.std.specs.declared.alloc.Global.{Global}
+use Rattle.regalloc2.specs.FunctionValue.{FunctionValue}
+use Rattle.regalloc2.specs.Machine.{MachineValue}
+use Rattle.regalloc2.specs.OutputValue.{OutputValue, IsInOrder}
+use Rattle.regalloc2.specs.Faithful.{IsFaithful}
+use Rattle.regalloc2.specs.Report.{IsReport}
+use Rattle.regalloc2.specs.Stored.{NamesValues}
+use Rattle.regalloc2_checker.specs.Cells.{AreCells}
+use Rattle.regalloc2_checker.specs.CellFaults.{IsCellFault}
+use Rattle.regalloc2_checker.specs.declared.cells.CellFault.{CellFault}
+use Rattle.regalloc2_checker.specs.declared.cells.CellFault.TheVariants.{Operand, MoveEnd, OtherClass, Location, Slot, Shared, Memory as CellMemory}
+use Rattle.regalloc2_checker.specs.declared.errors.CheckerError.{CheckerError}
+use Rattle.regalloc2_checker.specs.declared.errors.CheckerError.TheVariants.{MalformedOutput, Memory as CheckerMemory}
+use Rattle.regalloc2_function.specs.declared.serialize.StoredOutput.{StoredOutput}
+use Rattle.regalloc2_serialize.specs.declared.data.StoredFunction.{StoredFunction}
+use Rattle.regalloc2_c.specs.Faults.{IsFaultsTold, IsErrorsFailure, IsCellsTold, IsVerdict, faults_words}
+use Rattle.regalloc2_c.specs.Outcome.{NumbersNameFunction, NumbersNameOutput, IsOutput, IsAcceptedOutput, IsCheckFailure, IsFunctionFailure, IsNoStoredOutput}
+use Rattle.regalloc2_c.specs.declared.failure.Failure.{Failure}
+use Rattle.regalloc2_c.specs.declared.failure.Failure.TheVariants.{Unreadable, BadMachine, NoRoom, Faults, NoMemory, NotFramed, BadOutput}
+use Rattle.regalloc2_c.specs.declared.failure.Failure.TheVariants.{ReadBeforeWritten, BadText, BadFunction, Refused}
+
+-- an output that isn't in order
+malformed : (f : FunctionValue) (env : MachineValue) (out : OutputValue) (e : CheckerError Global) (failure : Failure) → e ≡ MalformedOutput →
+    (IsInOrder f out → ⊥) → IsFaultsTold (e ∷ []) failure → IsVerdict f env out failure
+malformed f env out e failure same bad (inl lost) = inl lost
+malformed f env out e failure same bad (inr t) = inr (t.0, t.1, (λ h. bad h.0), inl (bad, t.2 ∙ ap (λ x. faults_words (x ∷ [])) same))
+
+pub unprepared : (f : FunctionValue) (env : MachineValue) (out : OutputValue) (e : CheckerError Global) (failure : Failure) →
+    ((e ≡ MalformedOutput) × (IsInOrder f out → ⊥)) ⊎ ((e ≡ CheckerMemory) × IsInOrder f out) → IsErrorsFailure (e ∷ []) failure → IsVerdict f env out failure
+unprepared f env out e failure m (inl q) = inl q.1
+unprepared f env out e failure (inl m) (inr q) = malformed f env out e failure m.0 m.1 q.1
+unprepared f env out e failure (inr m) (inr q) = absurd (q.0 (ap (λ x. x ∷ []) m.0))
+
+-- an output that isn't faithful
+unfaithful : (f : FunctionValue) (env : MachineValue) (out : OutputValue) (es : List (CheckerError Global)) (failure : Failure) → IsInOrder f out →
+    (IsFaithful f env out → ⊥) → IsReport f env out es → IsFaultsTold es failure → IsVerdict f env out failure
+unfaithful f env out es failure order bad report (inl lost) = inl lost
+unfaithful f env out es failure order bad report (inr t) = inr (t.0, t.1, (λ h. bad h.1), inr (inl (order, bad, es, report, t.2)))
+
+pub told : (f : FunctionValue) (env : MachineValue) (out : OutputValue) (es : List (CheckerError Global)) (failure : Failure) → IsInOrder f out →
+    (es ≡ CheckerMemory ∷ []) ⊎ ((IsFaithful f env out → ⊥) × IsReport f env out es) → IsErrorsFailure es failure → IsVerdict f env out failure
+told f env out es failure order p (inl q) = inl q.1
+told f env out es failure order (inl e) (inr q) = absurd (q.0 e)
+told f env out es failure order (inr r) (inr q) = unfaithful f env out es failure order r.0 r.1 q.1
+
+-- the same of the function and the machine that a checker holds
+pub unprepared_for : {S : Type 0} (function : S → FunctionValue) (a b : S) → a ≡ b → (env : MachineValue) (out : OutputValue) (e : CheckerError Global)
+    (failure : Failure) → ((e ≡ MalformedOutput) × (IsInOrder (function a) out → ⊥)) ⊎ ((e ≡ CheckerMemory) × IsInOrder (function a) out) →
+    IsErrorsFailure (e ∷ []) failure → IsVerdict (function b) env out failure
+unprepared_for function a b same env out e failure m q = unprepared (function b) env out e failure
+    (subst (λ x. ((e ≡ MalformedOutput) × (IsInOrder (function x) out → ⊥)) ⊎ ((e ≡ CheckerMemory) × IsInOrder (function x) out)) same m) q
+
+pub told_for : {S : Type 0} (function : S → FunctionValue) (a b : S) (m env : MachineValue) → a ≡ b → m ≡ env → (out : OutputValue)
+    (es : List (CheckerError Global)) (failure : Failure) → IsInOrder (function b) out →
+    (es ≡ CheckerMemory ∷ []) ⊎ ((IsFaithful (function a) m out → ⊥) × IsReport (function a) m out es) → IsErrorsFailure es failure →
+    IsVerdict (function b) env out failure
+told_for function a b m env same machine out es failure order p q = told (function b) env out es failure order
+    (subst (λ x. (es ≡ CheckerMemory ∷ []) ⊎ ((IsFaithful (function b) x out → ⊥) × IsReport (function b) x out es)) machine
+    (subst (λ x. (es ≡ CheckerMemory ∷ []) ⊎ ((IsFaithful (function x) m out → ⊥) × IsReport (function x) m out es)) same p)) q
+
+-- a fault of places keeps them from being cells
+pub not_cells : (f : FunctionValue) (env : MachineValue) (out : OutputValue) (fault : CellFault) → IsCellFault f env out fault → (fault ≡ CellMemory → ⊥) →
+    AreCells f env out → ⊥
+not_cells f env out (Operand i k) h spared cells = h.2 (cells.places.operands i h.0 k h.1)
+not_cells f env out (MoveEnd k) h spared cells = h.1 (cells.places.moves k h.0)
+not_cells f env out (OtherClass k) h spared cells = h.1 (cells.places.classes k h.0)
+not_cells f env out (Location k) h spared cells = let p = cells.places.locations k h.0 in h.1 p.0 p.1
+not_cells f env out (Slot n) h spared cells = h.2 (cells.frame n h.0 h.1)
+not_cells f env out (Shared m n) h spared cells = h.5 (cells.apart m h.0 n h.1 h.2 h.3 h.4)
+not_cells f env out CellMemory h spared cells = spared refl
+
+pub apart : (f : FunctionValue) (env : MachineValue) (out : OutputValue) (fault : CellFault) (failure : Failure) → IsInOrder f out → IsFaithful f env out →
+    IsCellFault f env out fault → IsCellsTold fault failure → IsVerdict f env out failure
+apart f env out fault failure order faithful h (inl lost) = inl lost
+apart f env out fault failure order faithful h (inr t) =
+    let bad = not_cells f env out fault h t.0 in
+    inr (t.1, t.2, (λ x. bad x.2), inr (inr (order, faithful, bad, fault, h, t.0, t.3)))
+
+pub apart_for : (f : FunctionValue) (m env : MachineValue) (out : OutputValue) (fault : CellFault) (failure : Failure) → m ≡ env → IsInOrder f out →
+    IsFaithful f env out → IsCellFault f m out fault → IsCellsTold fault failure → IsVerdict f env out failure
+apart_for f m env out fault failure machine order faithful h q = apart f env out fault failure order faithful
+    (subst (λ x. IsCellFault f x out fault) machine h) q
+
+-- numbers that name no output
+pub unnamed : (s : StoredFunction Global) (numbers : StoredOutput Global) (e : Failure) →
+    (e ≡ NoMemory) ⊎ ((e ≡ BadOutput) × (NamesValues numbers → ⊥)) → IsCheckFailure (λ o. o ≡ numbers) s e
+unnamed s numbers e (inl lost) = subst (λ x. IsCheckFailure (λ o. o ≡ numbers) s x) (sym lost) tt
+unnamed s numbers e (inr t) = subst (λ x. IsCheckFailure (λ o. o ≡ numbers) s x) (sym t.0) (numbers, refl, t.1)
+
+-- an output that isn't accepted
+pub rejected : (s : StoredFunction Global) (numbers : StoredOutput Global) (f : FunctionValue) (env : MachineValue) (out : OutputValue) (e : Failure) →
+    NumbersNameFunction s f env → NumbersNameOutput numbers out → IsVerdict f env out e → IsCheckFailure (λ o. o ≡ numbers) s e
+rejected s numbers f env out e named names (inl lost) = subst (λ x. IsCheckFailure (λ o. o ≡ numbers) s x) (sym lost) tt
+rejected s numbers f env out e named names (inr t) = subst (λ x. IsCheckFailure (λ o. o ≡ numbers) s x) (sym t.1)
+    (f, env, out, named, (record { stored = numbers; laid_out = refl; names = names }), t.2, t.3)
+
+-- what is laid out is an output, if its numbers are
+output_for : (Outs : StoredOutput Global → Type 0) (numbers : StoredOutput Global) → Outs numbers → (out : OutputValue) → IsOutput (λ o. o ≡ numbers) out →
+    IsOutput Outs out
+output_for Outs numbers laid out o = record { stored = o.stored; laid_out = subst Outs (sym o.laid_out) laid; names = o.names }
+
+pub accepted_for : (Outs : StoredOutput Global → Type 0) (numbers : StoredOutput Global) → Outs numbers → (s : StoredFunction Global) →
+    IsAcceptedOutput (λ o. o ≡ numbers) s → IsAcceptedOutput Outs s
+accepted_for Outs numbers laid s a = record {
+  f = a.f;
+  env = a.env;
+  out = a.out;
+  given = a.given;
+  output = output_for Outs numbers laid a.out a.output;
+  in_order = a.in_order;
+  faithful = a.faithful;
+  cells = a.cells;
+}
+
+pub failure_for : (Outs : StoredOutput Global → Type 0) (numbers : StoredOutput Global) → Outs numbers → (s : StoredFunction Global) (e : Failure) →
+    IsCheckFailure (λ o. o ≡ numbers) s e → IsCheckFailure Outs s e
+failure_for Outs numbers laid s Unreadable h = absurd (h numbers refl)
+failure_for Outs numbers laid s (BadMachine m) h = h
+failure_for Outs numbers laid s NoRoom h = h
+failure_for Outs numbers laid s (Faults v) h = (h.0, h.1, h.2, h.3, output_for Outs numbers laid h.2 h.4, h.5, h.6)
+failure_for Outs numbers laid s NoMemory h = tt
+failure_for Outs numbers laid s NotFramed h = h
+failure_for Outs numbers laid s BadOutput h = (numbers, laid, λ n. h.2 (subst NamesValues (sym h.1) n))
+failure_for Outs numbers laid s ReadBeforeWritten h = h
+failure_for Outs numbers laid s (BadText line column) h = h
+failure_for Outs numbers laid s (BadFunction fault) h = h
+failure_for Outs numbers laid s (Refused error) h = h
+
+-- a function that isn't framed, or that isn't one
+pub unframed : (Outs : StoredOutput Global → Type 0) (s : StoredFunction Global) (e : Failure) → IsFunctionFailure s e → IsCheckFailure Outs s e
+unframed Outs s Unreadable h = absurd h
+unframed Outs s (BadMachine m) h = h
+unframed Outs s NoRoom h = h
+unframed Outs s (Faults v) h = absurd h
+unframed Outs s NoMemory h = tt
+unframed Outs s NotFramed h = h
+unframed Outs s BadOutput h = absurd h
+unframed Outs s ReadBeforeWritten h = h
+unframed Outs s (BadText line column) h = h
+unframed Outs s (BadFunction fault) h = h
+unframed Outs s (Refused error) h = h
+
+-- an output that isn't read
+pub unread : (Outs : StoredOutput Global → Type 0) (s : StoredFunction Global) (e : Failure) → IsNoStoredOutput Outs e → IsCheckFailure Outs s e
+unread Outs s Unreadable h = h
+unread Outs s (BadMachine m) h = h
+unread Outs s NoRoom h = h
+unread Outs s (Faults v) h = absurd h
+unread Outs s NoMemory h = tt
+unread Outs s NotFramed h = absurd h
+unread Outs s BadOutput h = absurd h
+unread Outs s ReadBeforeWritten h = h
+unread Outs s (BadText line column) h = h
+unread Outs s (BadFunction fault) h = absurd h
+unread Outs s (Refused error) h = h
+
+-- what follows from a result's value or error follows of the result
+pub on_ok : {A E P Q : Type 0} → (P → Q) → (r : Result A E) → OnOk r P → OnOk r Q
+on_ok f (Ok x) h = f h
+on_ok f (Err e) h = tt
+
+pub if_err : {A E : Type 0} {P Q : E → Type 0} → ((e : E) → P e → Q e) → (r : Result A E) → IfErr r P → IfErr r Q
+if_err f (Ok x) h = tt
+if_err f (Err e) h = f e h
+
+-- an output that is accepted
+pub accepted : (s : StoredFunction Global) (numbers : StoredOutput Global) (f : FunctionValue) (env : MachineValue) (out : OutputValue) →
+    NumbersNameFunction s f env → NumbersNameOutput numbers out → IsInOrder f out × IsFaithful f env out × AreCells f env out →
+    IsAcceptedOutput (λ o. o ≡ numbers) s
+accepted s numbers f env out named names h = record {
+  f = f;
+  env = env;
+  out = out;
+  given = named;
+  output = record { stored = numbers; laid_out = refl; names = names };
+  in_order = h.0;
+  faithful = h.1;
+  cells = h.2;
+}

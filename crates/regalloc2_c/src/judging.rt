@@ -1,0 +1,242 @@
+//! What the calls that judge an output do.
+
+ghost use Rattle.std.specs.Prelude.{◌≡◌, ◌⊎◌, ℕ, List, [], ◌*◌, take, IfOk, IfErr, OnOk};
+ghost use Rattle.std.specs.List.{flat_map};
+ghost use Rattle.regalloc2.specs.Views.{machine_of, output_of};
+ghost use Rattle.regalloc2.specs.OutputValue.{IsInOrder};
+ghost use Rattle.regalloc2.specs.Faithful.{IsFaithful};
+ghost use Rattle.regalloc2.specs.Stored.{NamesValues};
+ghost use Rattle.regalloc2.specs.WellFormed.{IsFramed};
+ghost use Rattle.regalloc2_checker.specs.Cells.{AreCells};
+ghost use Rattle.regalloc2_serialize.specs.Flat.Flat.{words_of_triple};
+ghost use Rattle.regalloc2_serialize.specs.Tables.{function_of_serializable};
+ghost use Rattle.regalloc2_c.specs.Faults.{IsVerdict};
+ghost use Rattle.regalloc2_c.specs.Outcome.{AreWordsOf, AreOutputWords, ArePartsOf, NumbersNameFunction, NumbersNameOutput};
+ghost use Rattle.regalloc2_c.specs.Outcome.{IsNoStoredOutput, IsFunctionFailure, IsAcceptedOutput, IsCheckFailure, IsJudgeFound};
+
+use super::failure::{Failure, failure_to_read};
+use super::faults::{failure_of_cells, failure_of_errors};
+use super::reading::stored_from_words;
+use regalloc2::checker::Checker;
+use regalloc2::serialize::{SerializableFunction, StoredFault, StoredFunction, StoredOutput};
+use regalloc2::{Output, is_framed};
+use regalloc2_checker::test_cells;
+use regalloc2_serialize::flat::value_of;
+use std::alloc::Global;
+
+/// The parts of an output, as a caller keeps them.
+#[derive(Clone, Copy)]
+pub struct Parts<'a> {
+    /// How many units the slots take.
+    pub num_spillslots: u64,
+    /// Moves of three words: a point, the place that is read, and the place that is written.
+    pub moves: &'a [u32],
+    /// The places of all operands.
+    pub places: &'a [u32],
+    /// For each instruction, where its places begin.
+    pub offsets: &'a [u32],
+}
+
+/// Has the checker judge an output.
+fn checked(alloc: Global, f: &SerializableFunction, output: &Output) -> Result<(), Failure>
+    requires framed { IsFramed (function_of_serializable f.now) }
+    ensures ok { OnOk result (IsInOrder (function_of_serializable f.now) (output_of output.now)
+        × IsFaithful (function_of_serializable f.now) (machine_of f.now.machine) (output_of output.now)) }
+    ensures err { IfErr result (IsVerdict (function_of_serializable f.now) (machine_of f.now.machine) (output_of output.now)) }
+{
+    let Ok(mut checker) = Checker::new(alloc, f, f.machine_env()) else {
+        return Err(Failure::NoMemory);
+    };
+    match checker.prepare(output) {
+        Ok(()) => {}
+        Err(error) => return Err(failure_of_errors(alloc, &[error])),
+    }
+    match checker.run() {
+        Ok(()) => Ok(()),
+        Err(errors) => Err(failure_of_errors(alloc, errors.errors())),
+    }
+}
+
+/// Has the checker judge an output, and tests that its places are cells of their own.
+fn judge(alloc: Global, f: &SerializableFunction, output: &Output) -> Result<(), Failure>
+    requires framed { IsFramed (function_of_serializable f.now) }
+    ensures ok { OnOk result (IsInOrder (function_of_serializable f.now) (output_of output.now)
+        × IsFaithful (function_of_serializable f.now) (machine_of f.now.machine) (output_of output.now)
+        × AreCells (function_of_serializable f.now) (machine_of f.now.machine) (output_of output.now)) }
+    ensures err { IfErr result (IsVerdict (function_of_serializable f.now) (machine_of f.now.machine) (output_of output.now)) }
+{
+    match checked(alloc, f, output) {
+        Ok(()) => {}
+        Err(failure) => return Err(failure),
+    }
+    match test_cells(alloc, f, f.machine_env(), output) {
+        Ok(()) => Ok(()),
+        Err(fault) => Err(failure_of_cells(alloc, fault)),
+    }
+}
+
+/// The numbers of the output that words lay out.
+fn stored_output(alloc: Global, words: &[u32]) -> Result<StoredOutput, Failure>
+    ensures ok { IfOk result (AreOutputWords words.now) }
+    ensures err { IfErr result (IsNoStoredOutput (AreOutputWords words.now)) }
+{
+    match value_of::<StoredOutput>(alloc, words) {
+        Ok(numbers) => Ok(numbers),
+        Err(fault) => Err(failure_to_read(fault)),
+    }
+}
+
+/// The moves of three words each.
+fn moves_from(alloc: Global, words: &[u32]) -> Result<Vec<(u32, u32, u32)>, Failure>
+    ensures ok { IfOk result (λ v. words.now ≡ flat_map words_of_triple v.items) }
+    ensures err { IfErr result (λ e. (e ≡ Failure.NoMemory)
+        ⊎ ((e ≡ Failure.Unreadable) × ((moves : List (ℕ × ℕ × ℕ)) → words.now ≡ flat_map words_of_triple moves → ⊥))) }
+{
+    if words.len() % 3 != 0 {
+        return Err(Failure::Unreadable);
+    }
+    let mut moves = Vec::new(alloc);
+    for k in 0..words.len() / 3 {
+        let Ok(()) = moves.push((words[3 * k], words[3 * k + 1], words[3 * k + 2])) else {
+            return Err(Failure::NoMemory);
+        };
+    }
+    Ok(moves)
+}
+
+/// A copy of words.
+fn copy_of(alloc: Global, words: &[u32]) -> Result<Vec<u32>, Failure>
+    ensures ok { IfOk result (λ v. v.items ≡ words.now) }
+    ensures err { IfErr result (λ e. e ≡ Failure.NoMemory) }
+{
+    let mut copy = Vec::new(alloc);
+    for k in 0..words.len() {
+        let Ok(()) = copy.push(words[k]) else {
+            return Err(Failure::NoMemory);
+        };
+    }
+    Ok(copy)
+}
+
+/// The numbers of the output that these are the parts of. It has no debug locations.
+fn stored_of_parts(alloc: Global, parts: Parts<'_>) -> Result<StoredOutput, Failure>
+    ensures ok { IfOk result (ArePartsOf parts.entry.num_spillslots parts.entry.moves.now parts.entry.places.now
+        parts.entry.offsets.now) }
+    ensures err { IfErr result (IsNoStoredOutput (ArePartsOf parts.entry.num_spillslots parts.entry.moves.now parts.entry.places.now
+        parts.entry.offsets.now)) }
+{
+    let edits = match moves_from(alloc, parts.moves) {
+        Ok(edits) => edits,
+        Err(failure) => return Err(failure),
+    };
+    let allocs = match copy_of(alloc, parts.places) {
+        Ok(allocs) => allocs,
+        Err(failure) => return Err(failure),
+    };
+    match copy_of(alloc, parts.offsets) {
+        Ok(inst_alloc_offsets) => Ok(StoredOutput {
+            num_spillslots: parts.num_spillslots,
+            edits,
+            allocs,
+            inst_alloc_offsets,
+            debug_locations: Vec::new(alloc),
+        }),
+        Err(failure) => Err(failure),
+    }
+}
+
+/// The output that numbers name.
+fn output_from(alloc: Global, numbers: &StoredOutput) -> Result<Output, Failure>
+    ensures ok { IfOk result (λ o. NumbersNameOutput numbers.now (output_of o)) }
+    ensures err { IfErr result (λ e. (e ≡ Failure.NoMemory) ⊎ ((e ≡ Failure.BadOutput) × (NamesValues numbers.now → ⊥))) }
+{
+    match Output::from_stored(alloc, numbers) {
+        Ok(output) => Ok(output),
+        Err(StoredFault::Bits) => Err(Failure::BadOutput),
+        Err(_) => Err(Failure::NoMemory),
+    }
+}
+
+/// The function that numbers name, if it is framed.
+fn framed_function(alloc: Global, stored: &StoredFunction) -> Result<SerializableFunction, Failure>
+    ensures framed { IfOk result (λ f. IsFramed (function_of_serializable f)) }
+    ensures named { IfOk result (λ f. NumbersNameFunction stored.now (function_of_serializable f) (machine_of f.machine)) }
+    ensures err { IfErr result (IsFunctionFailure stored.now) }
+{
+    let f = match SerializableFunction::from_stored(alloc, stored) {
+        Ok(f) => f,
+        Err(fault) => return Err(Failure::BadFunction(fault)),
+    };
+    if !is_framed(&f) {
+        return Err(Failure::NotFramed);
+    }
+    Ok(f)
+}
+
+/// Judges the output of these numbers, of a function whose numbers are given too.
+fn judge_numbers(
+    alloc: Global,
+    stored: &StoredFunction,
+    f: &SerializableFunction,
+    numbers: &StoredOutput,
+) -> Result<(), Failure>
+    requires framed { IsFramed (function_of_serializable f.now) }
+    requires named { NumbersNameFunction stored.now (function_of_serializable f.now) (machine_of f.now.machine) }
+    ensures ok { OnOk result (IsAcceptedOutput (λ o. o ≡ numbers.now) stored.now) }
+    ensures err { IfErr result (IsCheckFailure (λ o. o ≡ numbers.now) stored.now) }
+{
+    let output = match output_from(alloc, numbers) {
+        Ok(output) => output,
+        Err(failure) => return Err(failure),
+    };
+    judge(alloc, f, &output)
+}
+
+/// Judges an output of a function that words lay out.
+pub fn judged(alloc: Global, stored: &StoredFunction, words: &[u32]) -> Result<(), Failure>
+    ensures ok { OnOk result (IsAcceptedOutput (AreOutputWords words.now) stored.now) }
+    ensures err { IfErr result (IsCheckFailure (AreOutputWords words.now) stored.now) }
+{
+    let f = match framed_function(alloc, stored) {
+        Ok(f) => f,
+        Err(failure) => return Err(failure),
+    };
+    let numbers = match stored_output(alloc, words) {
+        Ok(numbers) => numbers,
+        Err(failure) => return Err(failure),
+    };
+    judge_numbers(alloc, stored, &f, &numbers)
+}
+
+/// Judges an output, given in parts, of a function.
+fn judged_parts(alloc: Global, stored: &StoredFunction, parts: Parts<'_>) -> Result<(), Failure>
+    ensures ok { OnOk result (IsAcceptedOutput (ArePartsOf parts.entry.num_spillslots parts.entry.moves.now parts.entry.places.now
+        parts.entry.offsets.now) stored.now) }
+    ensures err { IfErr result (IsCheckFailure (ArePartsOf parts.entry.num_spillslots parts.entry.moves.now parts.entry.places.now
+        parts.entry.offsets.now) stored.now) }
+{
+    let f = match framed_function(alloc, stored) {
+        Ok(f) => f,
+        Err(failure) => return Err(failure),
+    };
+    let numbers = match stored_of_parts(alloc, parts) {
+        Ok(numbers) => numbers,
+        Err(failure) => return Err(failure),
+    };
+    judge_numbers(alloc, stored, &f, &numbers)
+}
+
+/// Judges an output, given in parts, of the function that words lay out. No words say that it is accepted.
+pub fn judged_of_words(alloc: Global, words: &[u32], parts: Parts<'_>) -> Result<Vec<u32>, Failure>
+    ensures { IsJudgeFound (AreWordsOf words.now) (ArePartsOf parts.entry.num_spillslots parts.entry.moves.now parts.entry.places.now
+        parts.entry.offsets.now) result }
+{
+    let stored = match stored_from_words(alloc, words) {
+        Ok(stored) => stored,
+        Err(failure) => return Err(failure),
+    };
+    match judged_parts(alloc, &stored, parts) {
+        Ok(()) => Ok(Vec::new(alloc)),
+        Err(failure) => Err(failure),
+    }
+}
