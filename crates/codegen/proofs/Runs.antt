@@ -2,7 +2,7 @@
 use Rattle.std.proofs.Common.{ℕ, zero, suc, ◌≡◌, ◌+◌, ◌≤◌, Option, Some, refl, sym, ap, ◌∙◌, subst, ⊎_elim, arith}
 use Rattle.std.specs.Prelude.{slice_get}
 use Rattle.std.proofs.lemmas.Bool.{cases_lt}
-use Rattle.codegen_machine.specs.Ir.Numbers.{RunOutcome, Running, Returned, Stuck, further}
+use Rattle.codegen_machine.specs.Ir.Numbers.{RunOutcome, Running, Returned, Trapped, Stuck, further}
 use Rattle.codegen_machine.specs.declared.Instruction.{Instruction}
 use Rattle.codegen_machine.specs.Machine.{CodeValue, MachineState, executed, machine_step, machine_run}
 
@@ -10,6 +10,7 @@ use Rattle.codegen_machine.specs.Machine.{CodeValue, MachineState, executed, mac
 abbrev pub IsOver : {S : Type 0} → RunOutcome S → Type 0
 IsOver (Running s) = ⊥
 IsOver (Returned n) = Unit {0}
+IsOver Trapped = Unit {0}
 IsOver Stuck = Unit {0}
 
 further_over : (x : RunOutcome MachineState) (f g : MachineState → RunOutcome MachineState) (o : RunOutcome MachineState) →
@@ -17,6 +18,7 @@ further_over : (x : RunOutcome MachineState) (f g : MachineState → RunOutcome 
     further x f ≡ o → further x g ≡ o
 further_over (Running t) f g o h e = h t e
 further_over (Returned n) f g o h e = e
+further_over Trapped f g o h e = e
 further_over Stuck f g o h e = e
 
 module _ (code : CodeValue) (args : ℕ → ℕ) where

@@ -8,8 +8,8 @@ use Rattle.regalloc2_names.specs.Operand.{OperandValue, is_reading}
 use Rattle.regalloc2_function.specs.FunctionValue.{FunctionValue, block_at}
 use Rattle.regalloc2_function.specs.OutputValue.{OutputValue}
 use Rattle.regalloc2_function.specs.Path.{Way, Onward, ToSuccessor, next_of}
-use Rattle.regalloc2_semantics.specs.Values.Interpreters.{History, State, read_by, edge_to, way_on, numbers_defined, passed_over, vreg_reads, source_step}
-use Rattle.codegen_machine.specs.Ir.Numbers.{RunOutcome, Running, Returned, Stuck, shifted, condition_holds}
+use Rattle.regalloc2_semantics.specs.Values.Interpreters.{History, State, read_by, edge_to, way_on, numbers_defined, passed_over}
+use Rattle.codegen_machine.specs.Ir.Numbers.{RunOutcome, Running, Returned, Trapped, Stuck, shifted, condition_holds}
 use Rattle.codegen_machine.specs.Ir.Operands.{operands_of}
 use Rattle.codegen_machine.specs.Ir.Meaning.{ProcedureState, onward, entered, along, done, procedure_step}
 use Rattle.codegen_machine.specs.declared.ir.operation.Operation.{Operation}
@@ -21,7 +21,8 @@ use Rattle.codegen_machine.specs.declared.ir.operation.Right.TheVariants.{VReg, 
 use Rattle.codegen_machine.specs.Machine.{CodeValue}
 use Rattle.codegen.specs.Emitted.{operation_at}
 use Rattle.codegen.proofs.Premise.{IsPlain, IsEnd, IsEmitted}
-use Rattle.codegen.proofs.Steps.{value_of, way_of, meaning_of}
+use Rattle.codegen.proofs.Choices.{source_reads, source_next}
+use Rattle.codegen.proofs.Steps.{value_of, way_of, chosen}
 
 -- a state of the interpreter as one of the procedure
 abbrev pub seen : State VirtualRegister → ProcedureState
@@ -31,9 +32,11 @@ seen c = record { at = c.at; numbers = c.numbers }
 abbrev pub GoAlike : List ℕ → Option (State VirtualRegister) → RunOutcome ProcedureState → Type 0
 GoAlike read None (Running q) = ⊥
 GoAlike read None (Returned r) = r ≡ slice_index read 0
+GoAlike read None Trapped = ⊥
 GoAlike read None Stuck = ⊥
 GoAlike read (Some c) (Running q) = q ≡ seen c
 GoAlike read (Some c) (Returned r) = ⊥
+GoAlike read (Some c) Trapped = ⊥
 GoAlike read (Some c) Stuck = ⊥
 
 -- what operands read of virtual registers, and what definitions write to them
@@ -137,12 +140,12 @@ module _ (f : FunctionValue) (args : ℕ → ℕ) where
   pub steps_alike : (ops : List Operation) (out : OutputValue) (start : ℕ → ℕ) (code : CodeValue) → IsEmitted f ops out start code →
       (c : State VirtualRegister) (left : ℕ) →
       c.at.block < length f.blocks → (block_at f c.at.block).range.first ≤ c.at.inst → c.at.inst + suc left ≡ (block_at f c.at.block).range.end →
-      GoAlike (vreg_reads f (meaning_of ops args) c) (source_step f (meaning_of ops args) c) (procedure_step f ops args (seen c))
+      GoAlike (source_reads f out c) (source_next f out (chosen args (operation_at ops c.at.inst) (source_reads f out c)) c) (procedure_step f ops args (seen c))
   steps_alike ops out start code ok c left block begins ends =
       let lt : c.at.inst < length f.insts = omega (arith, ok.within c.at.block block) in
       let o : Operation = operation_at ops c.at.inst in
       let here : slice_get ops c.at.inst ≡ Some o = slice_get-get_or ops c.at.inst GoTo (omega (arith, ok.counted)) in
-      subst (λ (x : Option Operation). GoAlike (vreg_reads f (meaning_of ops args) c) (source_step f (meaning_of ops args) c)
+      subst (λ (x : Option Operation). GoAlike (source_reads f out c) (source_next f out (chosen args (operation_at ops c.at.inst) (source_reads f out c)) c)
       (done f args x (seen c))) (sym here)
       (subst (λ (os : List OperandValue). GoAlike (reads_of os c.numbers) (step_by c o os) (done f args (Some o) (seen c))) (sym (ok.operands c.at.inst lt))
       (pick left refl))

@@ -6,7 +6,7 @@ use Rattle.regalloc2_names.specs.Operand.{is_reading}
 use Rattle.regalloc2_names.specs.Place.{Place, NoPlace, InRegister, InSlot}
 use Rattle.regalloc2_function.specs.OutputValue.{place_at}
 use Rattle.regalloc2_function.specs.Path.{Way, Onward, ToSuccessor}
-use Rattle.regalloc2_semantics.specs.Values.Interpreters.{History, InstMeaning, read_by, place_set, written_to, disturbed, edge_to}
+use Rattle.regalloc2_semantics.specs.Values.Interpreters.{read_by, place_set, written_to, disturbed, edge_to}
 use Rattle.codegen_machine.specs.Ir.Numbers.{RunOutcome, Running, Returned, computed, shifted, condition_holds, truth}
 use Rattle.codegen_machine.specs.Ir.Operands.{operands_of}
 use Rattle.codegen_machine.specs.declared.ir.operation.Operator.{Operator}
@@ -28,6 +28,7 @@ use Rattle.codegen_machine.specs.Machine.{CodeValue, MachineState, is_general, w
 use Rattle.codegen.specs.Emitted.{register_of, source_of, right_source, fetched, constant_code, branch_code, branch_if_code, compare_code, select_code}
 use Rattle.codegen.specs.Emitted.{shift_code, resolved, operation_at, operation_code}
 use Rattle.codegen.proofs.Premise.{IsGeneral, IsHere, IsRightHere, IsCountHere, IsPlaced, IsPlain, IsEnd}
+use Rattle.codegen.proofs.Choices.{Choice}
 use Rattle.codegen.proofs.Runs.{Comes, comes_by, comes_on, ends_by, ends_then}
 use Rattle.codegen.proofs.Stands.{StandAt}
 use Rattle.codegen.proofs.Places.{Agree, wrote, reads_register, reads_source, writes_place, agree_register, fetches}
@@ -60,19 +61,9 @@ way_of (BranchIf v) xs = Some (cond (nat_eq (slice_index xs 0) 0) 1 0)
 way_of (BranchIfHolds c left right) xs = Some (cond (condition_holds c (slice_index xs 0) (right_read right (slice_index xs 1))) 0 1)
 way_of o xs = None
 
--- what operations mean, by what was read: the number that the newest one writes
-abbrev pub meaning_writes : List Operation → (ℕ → ℕ) → History → ℕ → ℕ
-meaning_writes ops args [] k = 0
-meaning_writes ops args (x ∷ h) k = value_of args (operation_at ops x.0) x.1
-
--- and where it goes
-abbrev pub meaning_takes : List Operation → History → Option ℕ
-meaning_takes ops [] = None
-meaning_takes ops (x ∷ h) = way_of (operation_at ops x.0) x.1
-
--- both
-abbrev pub meaning_of : List Operation → (ℕ → ℕ) → InstMeaning
-meaning_of ops args = record { writes = meaning_writes ops args; takes = meaning_takes ops }
+-- what an operation does, by what it reads
+abbrev pub chosen : (ℕ → ℕ) → Operation → List ℕ → Choice
+chosen args o xs = record { writes = λ k. value_of args o xs; takes = way_of o xs; leaves = λ p. 0 }
 
 -- no definition is early, so none disturbs what the uses read
 pub undisturbed : (o : Operation) (noise : Place → ℕ) (ps : List Place) (numbers : Place → ℕ) → disturbed noise ps 0 (operands_of o) numbers ≡ numbers

@@ -48,14 +48,16 @@ truth b = if b then 1 else 0
 abbrev pub put : (ℕ → ℕ) → ℕ → ℕ → ℕ → ℕ
 put m k n q = if nat_eq k q then n else m q
 
--- how a run stands: it goes on in a state, it has ended with a number, or it can't go on
+-- how a run stands: it goes on in a state, it has ended with a number or by a trap, or it can't go on
 pub data RunOutcome (S : Type 0) : Type 0 where
   Running : S → RunOutcome S
   Returned : ℕ → RunOutcome S
+  Trapped : RunOutcome S
   Stuck : RunOutcome S
 
 -- goes on where it still runs
 abbrev pub further : {S : Type 0} → RunOutcome S → (S → RunOutcome S) → RunOutcome S
 further (Running s) go = go s
 further (Returned n) go = Returned n
+further Trapped go = Trapped
 further Stuck go = Stuck
