@@ -1,5 +1,5 @@
 -- One step of a procedure and what the machine does meanwhile, by the two interpreters between them.
-use Rattle.std.proofs.Common.{ℕ, suc, ◌≡◌, ◌+◌, ◌<◌, ◌≤◌, List, [], ◌∷◌, length, Option, Some, None, refl, sym, ap, ◌∙◌, subst}
+use Rattle.std.proofs.Common.{ℕ, suc, ◌≡◌, ◌+◌, ◌<◌, ◌≤◌, Bool, true, false, List, [], ◌∷◌, length, Option, Some, None, refl, sym, ap, ◌∙◌, subst}
 use Rattle.std.specs.Prelude.{slice_index}
 use Rattle.regalloc2_names.specs.Register.{VirtualRegister}
 use Rattle.regalloc2_names.specs.Place.{Place, NoPlace, InRegister, InSlot}
@@ -21,9 +21,9 @@ use Rattle.codegen.proofs.Choices.{Choice, leavings, source_reads, source_next, 
 use Rattle.codegen.proofs.Chosen.{chosen_run_alike}
 use Rattle.codegen.proofs.Runs.{Comes}
 use Rattle.codegen.proofs.Places.{Agree}
-use Rattle.codegen.proofs.Steps.{chosen}
-use Rattle.codegen.proofs.Simulation.{At, Follows, at_start, step_follows}
-use Rattle.codegen.proofs.Source.{seen, GoAlike, steps_alike}
+use Rattle.codegen.proofs.Steps.{traps_of, chosen}
+use Rattle.codegen.proofs.Simulation.{At, Follows, at_start, step_follows, step_traps}
+use Rattle.codegen.proofs.Source.{seen, GoAlike, steps_alike, steps_trap}
 use Rattle.codegen.proofs.Behaving.{Meets, meets, behaves_by}
 
 module _ (f : FunctionValue) (ops : List Operation) (out : OutputValue) (start : ℕ → ℕ) (code : CodeValue) (args : ℕ → ℕ)
@@ -58,20 +58,42 @@ module _ (f : FunctionValue) (ops : List Operation) (out : OutputValue) (start :
   module _ (ok : IsEmitted f ops out start code) (alike : AlikeByChoices f out virtual places) where
     goes : (xs : List Choice) (c : State VirtualRegister) (d : State Place) (s : MachineState) → Together f out virtual places xs c d →
         At f ops out start code d s → Meets code args AreJoined s 1 (procedure_step f ops args (seen c))
-    goes xs c d s together at =
-        let r : ReadAlike f out (leavings xs) c d = alike.alike xs c d together in
-        let x : Choice = chosen args (operation_at ops c.at.inst) (source_reads f out c) in
-        let same : chosen args (operation_at ops d.at.inst) (found_reads f out (leavings xs) d) ≡ x =
-        ap (λ (ns : List ℕ). chosen args (operation_at ops d.at.inst) ns) r.reads
-        ∙ ap (λ (l : Location). chosen args (operation_at ops l.inst) (source_reads f out c)) r.at in
-        joined x xs (leavings xs) c d s r.reads (source_next f out x c) (place_next f out (leavings xs) x d) (procedure_step f ops args (seen c))
-        (alike.on xs c d together x)
-        (steps_alike f args ops out start code ok c at.left
-        (subst (λ (l : Location). l.block < length f.blocks) r.at at.block)
-        (subst (λ (l : Location). (block_at f l.block).range.first ≤ l.inst) r.at at.begins)
-        (subst (λ (l : Location). l.inst + suc at.left ≡ (block_at f l.block).range.end) r.at at.ends))
-        (subst (λ (y : Choice). Follows f ops out start code args (leavings xs) d s (place_next f out (leavings xs) y d)) same
-        (step_follows f ops out start code args (leavings xs) ok d s at))
+    goes xs c d s together at = pick (traps_of (operation_at ops c.at.inst) (source_reads f out c)) refl
+      where
+        r : ReadAlike f out (leavings xs) c d
+        r = alike.alike xs c d together
+
+        x : Choice
+        x = chosen args (operation_at ops c.at.inst) (source_reads f out c)
+
+        same : chosen args (operation_at ops d.at.inst) (found_reads f out (leavings xs) d) ≡ x
+        same = ap (λ (ns : List ℕ). chosen args (operation_at ops d.at.inst) ns) r.reads
+            ∙ ap (λ (l : Location). chosen args (operation_at ops l.inst) (source_reads f out c)) r.at
+
+        -- both operations trap, or neither does
+        traps : traps_of (operation_at ops d.at.inst) (found_reads f out (leavings xs) d) ≡ traps_of (operation_at ops c.at.inst) (source_reads f out c)
+        traps = ap (λ (ns : List ℕ). traps_of (operation_at ops d.at.inst) ns) r.reads
+            ∙ ap (λ (l : Location). traps_of (operation_at ops l.inst) (source_reads f out c)) r.at
+
+        block : c.at.block < length f.blocks
+        block = subst (λ (l : Location). l.block < length f.blocks) r.at at.block
+
+        begins : (block_at f c.at.block).range.first ≤ c.at.inst
+        begins = subst (λ (l : Location). (block_at f l.block).range.first ≤ l.inst) r.at at.begins
+
+        ends : c.at.inst + suc at.left ≡ (block_at f c.at.block).range.end
+        ends = subst (λ (l : Location). l.inst + suc at.left ≡ (block_at f l.block).range.end) r.at at.ends
+
+        pick : (b : Bool) → traps_of (operation_at ops c.at.inst) (source_reads f out c) ≡ b →
+            Meets code args AreJoined s 1 (procedure_step f ops args (seen c))
+        pick false e =
+            joined x xs (leavings xs) c d s r.reads (source_next f out x c) (place_next f out (leavings xs) x d) (procedure_step f ops args (seen c))
+            (alike.on xs c d together x) (steps_alike f args ops out start code ok c at.left block begins ends e)
+            (subst (λ (y : Choice). Follows f ops out start code args (leavings xs) d s (place_next f out (leavings xs) y d)) same
+            (step_follows f ops out start code args (leavings xs) ok c d s at r (traps ∙ e)))
+        pick true e =
+            subst (λ (o : RunOutcome ProcedureState). Meets code args AreJoined s 1 o) (sym (steps_trap f args ops out start code ok c at.left block begins ends e))
+            (step_traps f ops out start code args (leavings xs) ok c d s at r (traps ∙ e))
 
     -- what a step of the procedure says of the machine
     pub step_meets : (q : ProcedureState) (s : MachineState) → AreJoined q s → Meets code args AreJoined s 1 (procedure_step f ops args q)

@@ -16,6 +16,7 @@ pub mod Runs
 pub mod Stands
 pub mod Places
 pub mod Steps
+pub mod Divisions
 pub mod Simulation
 pub mod Source
 pub mod Behaving

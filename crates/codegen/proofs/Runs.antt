@@ -85,3 +85,10 @@ module _ (code : CodeValue) (args : ℕ → ℕ) where
   unfolding machine_run
   ends_by i s n h e = ap (λ (o : Option Instruction). further (executed args code.slots o s) (machine_run code args 0)) h
       ∙ ap (λ (o : RunOutcome MachineState). further o (machine_run code args 0)) e
+
+  -- the step that traps
+  pub traps_by : (i : Instruction) (s : MachineState) → slice_get code.instructions s.pc ≡ Some i → executed args code.slots (Some i) s ≡ Trapped →
+      machine_run code args 1 s ≡ Trapped
+  unfolding machine_run
+  traps_by i s h e = ap (λ (o : Option Instruction). further (executed args code.slots o s) (machine_run code args 0)) h
+      ∙ ap (λ (o : RunOutcome MachineState). further o (machine_run code args 0)) e
