@@ -1,6 +1,8 @@
--- Emitted code behaves as its procedure: `behaves` in `Behaving`.
--- Read first: `Premise`, then `Simulation` and `Source`, in which machine and procedure follow the two interpreters.
--- Depends on the two interpreters of a function, over vregs and over places, which run alike (`FaithfulRunAlike`).
+-- Emitted code behaves as its procedure: `behaves` in `Joined`.
+-- Read first: `Premise`, then `Choices`, steps of the two interpreters whose numbers are chosen when a step is made, and
+-- `Simulation` and `Source`, in which machine and procedure follow the interpreters; `Behaving` is the theorem over steps.
+-- Depends on the two interpreters of a function, over vregs and over places, which run alike (`FaithfulRunAlike`): so they
+-- do by choices (`Chosen`).
 -- `Premises` shows the premises of what is emitted for an allocated procedure; `Steps` is one operation, `Places` one
 -- move. `Stands` and `Runs` are code at an address and runs of it, `Procedures` a procedure's function; `Emitting` is
 -- the code that grows.
@@ -8,10 +10,14 @@ pub mod Emitting
 pub mod Procedures
 pub mod Premise
 pub mod Premises
+pub mod Choices
+pub mod Chosen
 pub mod Runs
 pub mod Stands
 pub mod Places
 pub mod Steps
+pub mod Divisions
 pub mod Simulation
 pub mod Source
 pub mod Behaving
+pub mod Joined

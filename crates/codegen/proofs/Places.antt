@@ -27,7 +27,7 @@ pub record Agree (registers frame : ℕ → ℕ) (numbers : Place → ℕ) : Typ
   pub in_registers : (n : ℕ) → registers n ≡ numbers (register_place n)
   pub in_slots : (n : ℕ) → frame n ≡ numbers (InSlot n)
 
-int_place : (r : Register) → r.class ≡ Int → register_place r.number ≡ InRegister r
+pub int_place : (r : Register) → r.class ≡ Int → register_place r.number ≡ InRegister r
 int_place r h = λ i. InRegister (record { number = r.number; class = sym h i })
 
 -- the next instruction, where a register has been written

@@ -1,15 +1,16 @@
 -- What the proofs take of the source, of its allocation and of what is emitted.
-use Rattle.std.specs.Prelude.{ℕ, ◌≡◌, ◌+◌, ◌<◌, ◌≤◌, true, false, nat_eq, List, map, length, slice_index, All}
+use Rattle.std.specs.Prelude.{ℕ, ◌≡◌, ◌+◌, ◌<◌, ◌≤◌, false, true, nat_eq, List, map, length, slice_index, All}
 use Rattle.regalloc2_names.specs.declared.RegClass.TheVariants.{Int}
 use Rattle.regalloc2_names.specs.Register.{Register}
 use Rattle.regalloc2_names.specs.RegisterSet.{has_register}
 use Rattle.regalloc2_names.specs.Place.{Place, NoPlace, InRegister, InSlot}
 use Rattle.regalloc2_function.specs.FunctionValue.{FunctionValue, block_at, inst_at}
 use Rattle.regalloc2_function.specs.OutputValue.{OutputValue, allocs_of, place_at}
-use Rattle.codegen_machine.specs.Ir.Operands.{operands_of}
+use Rattle.codegen_machine.specs.Ir.Operands.{is_clobbered, operands_of, part_register}
 use Rattle.codegen_machine.specs.declared.ir.operation.Operation.{Operation}
 use Rattle.codegen_machine.specs.declared.ir.operation.Operation.TheVariants.{Argument as TakeArgument, Constant as TakeConstant, Copy, Compute as Computation}
-use Rattle.codegen_machine.specs.declared.ir.operation.Operation.TheVariants.{Shift as Shifting, Compare as Comparison, Select, Jump as GoTo, BranchIf, BranchIfHolds}
+use Rattle.codegen_machine.specs.declared.ir.operation.Operation.TheVariants.{Shift as Shifting, Divide as Dividing, Compare as Comparison, Select, Jump as GoTo, BranchIf}
+use Rattle.codegen_machine.specs.declared.ir.operation.Operation.TheVariants.{BranchIfHolds}
 use Rattle.codegen_machine.specs.declared.ir.operation.Operation.TheVariants.{Return as GiveBack}
 use Rattle.codegen_machine.specs.declared.ir.operation.Count.{Count}
 use Rattle.codegen_machine.specs.declared.ir.operation.Count.TheVariants.{VReg as CountIn, Number as CountOf}
@@ -46,13 +47,14 @@ abbrev pub IsCountHere : Count → Place → Type 0
 IsCountHere (CountIn v) p = IsGeneral p × (register_of p ≡ 1)
 IsCountHere (CountOf n) p = Unit {0}
 
--- an operation's uses in registers of their own are read: only that of the greatest virtual register is not
+-- an operation's operands in registers of their own are read and written: only those of the greatest virtual register aren't
 abbrev pub IsCountRead : Count → Type 0
 IsCountRead (CountIn v) = nat_eq v.number 1073741823 ≡ false
 IsCountRead (CountOf n) = Unit {0}
 
 abbrev pub IsRead : Operation → Type 0
 IsRead (Shifting o to left count) = IsCountRead count
+IsRead (Dividing part signed to left right) = (nat_eq to.number 1073741823 ≡ false) × (nat_eq left.number 1073741823 ≡ false)
 IsRead o = Unit {0}
 
 -- the places of an operation's operands are such that it can be emitted
@@ -62,6 +64,8 @@ IsPlaced slots (TakeConstant to n) ps = IsGeneral (place_at ps 0)
 IsPlaced slots (Copy to from) ps = IsGeneral (place_at ps 0) × IsHere slots (place_at ps 1)
 IsPlaced slots (Computation o to left right) ps = IsGeneral (place_at ps 0) × (place_at ps 0 ≡ place_at ps 1) × IsRightHere slots right (place_at ps 2)
 IsPlaced slots (Shifting o to left count) ps = IsGeneral (place_at ps 0) × (place_at ps 0 ≡ place_at ps 1) × IsCountHere count (place_at ps 2)
+IsPlaced slots (Dividing part signed to left right) ps = (IsGeneral (place_at ps 0) × (register_of (place_at ps 0) ≡ part_register part))
+    × (IsGeneral (place_at ps 1) × (register_of (place_at ps 1) ≡ 0)) × IsHere slots (place_at ps 2)
 IsPlaced slots (Comparison c to left right) ps = IsGeneral (place_at ps 0) × IsGeneral (place_at ps 1) × IsRightHere slots right (place_at ps 2)
 IsPlaced slots (Select to c one other) ps =
     IsGeneral (place_at ps 0) × (place_at ps 0 ≡ place_at ps 1) × IsHere slots (place_at ps 2) × IsHere slots (place_at ps 3)
@@ -77,6 +81,7 @@ IsPlain (BranchIf v) = ⊥
 IsPlain (BranchIfHolds c left right) = ⊥
 IsPlain (GiveBack v) = ⊥
 IsPlain (Shifting o to left count) = IsCountRead count
+IsPlain (Dividing part signed to left right) = (nat_eq to.number 1073741823 ≡ false) × (nat_eq left.number 1073741823 ≡ false)
 IsPlain o = Unit {0}
 
 -- one that ends a block with so many successors
@@ -90,7 +95,8 @@ IsEnd o count = ⊥
 -- what is known of the source, of its allocation and of the code, whose jumps to a block go where that starts
 pub record IsEmitted (f : FunctionValue) (operations : List Operation) (out : OutputValue) (start : ℕ → ℕ) (code : CodeValue) : Type 0 where
   pub operands : (i : ℕ) → i < length f.insts → (inst_at f i).operands ≡ operands_of (operation_at operations i)
-  pub clobbers : (i : ℕ) → i < length f.insts → (r : Register) → has_register (inst_at f i).clobbers r ≡ false
+  pub clobbers : (i : ℕ) → i < length f.insts → (r : Register) →
+      has_register (inst_at f i).clobbers r ≡ is_clobbered (operation_at operations i) r
   pub counted : length f.insts ≡ length operations
   pub entry : (f.entry ≡ 0) × (0 < length f.blocks)
   pub filled : (b : ℕ) → b < length f.blocks → (block_at f b).range.first < (block_at f b).range.end

@@ -20,12 +20,13 @@ use Rattle.regalloc2_function.specs.Fitting.{IsProperPlace, IsMoveEnd}
 use Rattle.regalloc2_function.specs.Following.{end_within}
 use Rattle.regalloc2_function.specs.WellFormed.{IsWellFormed, EndsBlock}
 use Rattle.regalloc2.specs.Promise.{IsAllocation}
-use Rattle.codegen_machine.specs.Ir.Operands.{def_in, use_in, right_in, count_in, operands_of, is_jump, is_return}
+use Rattle.codegen_machine.specs.Ir.Operands.{def_in, use_in, right_in, count_in, operands_of, part_register, is_jump, is_return}
 use Rattle.codegen_machine.specs.Ir.Successors.{wanted_by}
 use Rattle.codegen_machine.specs.Ir.Seen.{function_of_procedure, inst_of_line, operations}
 use Rattle.codegen_machine.specs.declared.ir.operation.Operation.{Operation}
 use Rattle.codegen_machine.specs.declared.ir.operation.Operation.TheVariants.{Argument as TakeArgument, Constant as TakeConstant, Copy, Compute as Computation}
-use Rattle.codegen_machine.specs.declared.ir.operation.Operation.TheVariants.{Shift as Shifting, Compare as Comparison, Select, Jump as GoTo, BranchIf, BranchIfHolds}
+use Rattle.codegen_machine.specs.declared.ir.operation.Operation.TheVariants.{Shift as Shifting, Divide as Dividing, Compare as Comparison, Select, Jump as GoTo, BranchIf}
+use Rattle.codegen_machine.specs.declared.ir.operation.Operation.TheVariants.{BranchIfHolds}
 use Rattle.codegen_machine.specs.declared.ir.operation.Operation.TheVariants.{Return as GiveBack}
 use Rattle.codegen_machine.specs.declared.ir.operation.Count.{Count}
 use Rattle.codegen_machine.specs.declared.ir.operation.Count.TheVariants.{VReg as CountIn, Number as CountOf}
@@ -122,6 +123,12 @@ module _ (env : MachineValue) (out : OutputValue) (t : IsTarget env) where
       let same : place_at ps 0 ≡ place_at ps 1 = (h.meets 0 d (omega arith)).2 in
       let first : IsGeneral (place_at ps 1) = general left.class (place_at ps 1) (h.proper 1 d (omega arith) refl) (h.meets 1 d (omega arith)) in
       (subst IsGeneral (sym same) first, same, count_here count to left ps read h)
+  is_placed (Dividing part signed to left right) ps read h =
+      let d : OperandValue = def_in Reg to in (
+        fixed_here to.class (part_register part) (place_at ps 0) (h.proper 0 d (omega arith) read.0) (h.meets 0 d (omega arith)),
+        fixed_here left.class 0 (place_at ps 1) (h.proper 1 d (omega arith) read.1) (h.meets 1 d (omega arith)),
+        here right.class (place_at ps 2) (h.proper 2 d (omega arith) refl),
+      )
   is_placed (Comparison c to left right) ps read h =
       let d : OperandValue = def_in Reg to in (
         general to.class (place_at ps 0) (h.proper 0 d (omega arith) refl) (h.meets 0 d (omega arith)),
@@ -161,6 +168,13 @@ is_read vregs (Shifting o to left (CountIn v)) few h =
     let known : nat_lt v.number vregs ≡ true = (and_parts _ _ last).0 in
     not_same v.number 1073741823 (let less : v.number < vregs = ltb-true _ _ known in omega arith)
 is_read vregs (Shifting o to left (CountOf n)) few h = tt
+is_read vregs (Dividing part signed to left right) few h =
+    let first : nat_lt to.number vregs ≡ true = (and_parts _ _ h).0 in
+    let uses : (nat_lt left.number vregs && (nat_lt right.number vregs && true)) ≡ true = (and_parts _ _ h).1 in
+    let second : nat_lt left.number vregs ≡ true = (and_parts _ _ uses).0 in (
+      not_same to.number 1073741823 (let less : to.number < vregs = ltb-true _ _ first in omega arith),
+      not_same left.number 1073741823 (let less : left.number < vregs = ltb-true _ _ second in omega arith),
+    )
 is_read vregs o few h = tt
 
 -- an operation that neither branches nor returns goes on
@@ -170,6 +184,7 @@ is_plain (BranchIf v) read j r = absurd cc
 is_plain (BranchIfHolds c left right) read j r = absurd cc
 is_plain (GiveBack v) read j r = absurd cc
 is_plain (Shifting o to left count) read j r = read
+is_plain (Dividing part signed to left right) read j r = read
 is_plain o read j r = tt
 
 -- and one that does ends its block

@@ -7,7 +7,7 @@ use Rattle.std.proofs.lemmas.Bool.{and_parts}
 use Rattle.regalloc2_names.specs.Register.{Register}
 use Rattle.regalloc2_names.specs.RegisterSet.{has_register}
 use Rattle.regalloc2_function.specs.FunctionValue.{InstValue, no_inst, no_block, block_at, inst_at}
-use Rattle.codegen_machine.specs.Ir.Operands.{operands_of, is_jump, is_return}
+use Rattle.codegen_machine.specs.Ir.Operands.{operands_of, is_clobbered, is_jump, is_return}
 use Rattle.codegen_machine.specs.Ir.Successors.{wanted_by, operations_of, are_enough, has_successors, knows_registers}
 use Rattle.codegen_machine.specs.Ir.Seen.{function_of_procedure, inst_of_line, block_of_part, operations}
 use Rattle.codegen_machine.specs.declared.ir.operation.Operation.{Operation}
@@ -19,13 +19,13 @@ use Rattle.codegen.specs.Emitted.{operation_at}
 -- an instruction is that of an operation
 pub record IsInstOf (i : InstValue) (o : Operation) : Type 0 where
   pub operands : i.operands ≡ operands_of o
-  pub clobbers : (r : Register) → has_register i.clobbers r ≡ false
+  pub clobbers : (r : Register) → has_register i.clobbers r ≡ is_clobbered o r
   pub branches : i.is_branch ≡ is_jump o
   pub returns : i.is_ret ≡ is_return o
 
 each_inst : (lines : List Line) (i : ℕ) → i < length lines → IsInstOf (slice_index_or (map inst_of_line lines) i no_inst) (operation_at (operations_of lines) i)
 each_inst [] i less = absurd (omega arith)
-each_inst (l ∷ ls) zero less = record { operands = refl; clobbers = l.none; branches = refl; returns = refl }
+each_inst (l ∷ ls) zero less = record { operands = refl; clobbers = l.overwrites; branches = refl; returns = refl }
 each_inst (l ∷ ls) (suc i) less = each_inst ls i (omega arith)
 
 each_known : (n : ℕ) (lines : List Line) (i : ℕ) → list_all (knows_registers n) lines ≡ true → i < length lines →

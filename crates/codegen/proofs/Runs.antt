@@ -2,7 +2,7 @@
 use Rattle.std.proofs.Common.{ℕ, zero, suc, ◌≡◌, ◌+◌, ◌≤◌, Option, Some, refl, sym, ap, ◌∙◌, subst, ⊎_elim, arith}
 use Rattle.std.specs.Prelude.{slice_get}
 use Rattle.std.proofs.lemmas.Bool.{cases_lt}
-use Rattle.codegen_machine.specs.Ir.Numbers.{RunOutcome, Running, Returned, Stuck, further}
+use Rattle.codegen_machine.specs.Ir.Numbers.{RunOutcome, Running, Returned, Trapped, Stuck, further}
 use Rattle.codegen_machine.specs.declared.Instruction.{Instruction}
 use Rattle.codegen_machine.specs.Machine.{CodeValue, MachineState, executed, machine_step, machine_run}
 
@@ -10,6 +10,7 @@ use Rattle.codegen_machine.specs.Machine.{CodeValue, MachineState, executed, mac
 abbrev pub IsOver : {S : Type 0} → RunOutcome S → Type 0
 IsOver (Running s) = ⊥
 IsOver (Returned n) = Unit {0}
+IsOver Trapped = Unit {0}
 IsOver Stuck = Unit {0}
 
 further_over : (x : RunOutcome MachineState) (f g : MachineState → RunOutcome MachineState) (o : RunOutcome MachineState) →
@@ -17,6 +18,7 @@ further_over : (x : RunOutcome MachineState) (f g : MachineState → RunOutcome 
     further x f ≡ o → further x g ≡ o
 further_over (Running t) f g o h e = h t e
 further_over (Returned n) f g o h e = e
+further_over Trapped f g o h e = e
 further_over Stuck f g o h e = e
 
 module _ (code : CodeValue) (args : ℕ → ℕ) where
@@ -82,4 +84,11 @@ module _ (code : CodeValue) (args : ℕ → ℕ) where
       machine_run code args 1 s ≡ Returned n
   unfolding machine_run
   ends_by i s n h e = ap (λ (o : Option Instruction). further (executed args code.slots o s) (machine_run code args 0)) h
+      ∙ ap (λ (o : RunOutcome MachineState). further o (machine_run code args 0)) e
+
+  -- the step that traps
+  pub traps_by : (i : Instruction) (s : MachineState) → slice_get code.instructions s.pc ≡ Some i → executed args code.slots (Some i) s ≡ Trapped →
+      machine_run code args 1 s ≡ Trapped
+  unfolding machine_run
+  traps_by i s h e = ap (λ (o : Option Instruction). further (executed args code.slots o s) (machine_run code args 0)) h
       ∙ ap (λ (o : RunOutcome MachineState). further o (machine_run code args 0)) e

@@ -1,33 +1,35 @@
 -- The machine follows the interpreter over places, instruction by instruction.
-use Rattle.std.proofs.Common.{ℕ, zero, suc, ◌≡◌, ◌+◌, ◌-◌, ◌<◌, ◌≤◌, Bool, false, cond, List, ◌∷◌, ◌++◌, map, length, Option, Some, None, refl, sym, ap, ◌∙◌}
+use Rattle.std.proofs.Common.{ℕ, zero, suc, ◌≡◌, ◌+◌, ◌-◌, ◌<◌, ◌≤◌, Bool, true, false, cond, List, ◌∷◌, ◌++◌, map, length, Option, Some, None, refl, sym, ap, ◌∙◌}
 use Rattle.std.proofs.Common.{subst, arith, nat_eq, lt-ltb, le-ltb, eq-eqb}
 use Rattle.std.specs.Prelude.{slice_index, option_map, filter, All}
 use Rattle.std.specs.List.{AllByRecursion}
 use Rattle.std.proofs.lemmas.List.Elements.{All-map, All-filter, recursion_from_All}
 use Rattle.regalloc2_names.specs.declared.RegClass.TheVariants.{Int}
 use Rattle.regalloc2_names.specs.declared.sets.PRegSet.{PRegSet}
-use Rattle.regalloc2_names.specs.Register.{Register}
+use Rattle.regalloc2_names.specs.Register.{Register, VirtualRegister}
 use Rattle.regalloc2_names.specs.RegisterSet.{has_register}
 use Rattle.regalloc2_names.specs.Operand.{OperandValue, is_reading}
 use Rattle.regalloc2_names.specs.Place.{Place}
 use Rattle.regalloc2_function.specs.FunctionValue.{FunctionValue, block_at, inst_at}
 use Rattle.regalloc2_function.specs.OutputValue.{OutputValue, MoveValue, allocs_of, place_at, is_listed_at}
-use Rattle.regalloc2_function.specs.Path.{Way, Onward, ToSuccessor, first_of, next_of}
+use Rattle.regalloc2_function.specs.Path.{Location, Way, Onward, ToSuccessor, first_of, next_of}
 use Rattle.regalloc2_function.specs.Listing.{ListedInst, listing_from}
 use Rattle.regalloc2_function.specs.AllocatedRun.{moves_at}
-use Rattle.regalloc2_semantics.specs.Values.Interpreters.{History, State, read_by, edge_to, numbers_moved, disturbed, written_to, numbers_clobbered, place_found}
-use Rattle.regalloc2_semantics.specs.Values.Interpreters.{place_reads}
-use Rattle.regalloc2_semantics.specs.Values.Interpreters.{place_told, place_written, place_step}
-use Rattle.codegen_machine.specs.Ir.Numbers.{Returned}
+use Rattle.regalloc2_semantics.specs.Values.Interpreters.{History, State, read_by, is_late_use, edge_to, numbers_moved, disturbed, written_to, numbers_clobbered}
+use Rattle.codegen_machine.specs.Ir.Numbers.{Returned, Trapped}
+use Rattle.codegen_machine.specs.Ir.Operands.{is_clobbered, operands_of}
 use Rattle.codegen_machine.specs.declared.ir.operation.Operation.{Operation}
+use Rattle.codegen_machine.specs.declared.ir.operation.Operation.TheVariants.{Divide as Dividing}
 use Rattle.codegen_machine.specs.declared.Instruction.{Instruction}
 use Rattle.codegen_machine.specs.Machine.{CodeValue, MachineState, machine_run}
 use Rattle.codegen.specs.Emitted.{operation_at, operation_code, items_code, block_code, block_start}
-use Rattle.codegen.proofs.Premise.{CanMove, IsPlain, IsEmitted}
+use Rattle.codegen.proofs.Premise.{CanMove, IsPlain, IsEnd, IsEmitted}
+use Rattle.codegen.proofs.Choices.{Choice, source_reads, found_by, found_reads, place_after, place_next, ReadAlike}
 use Rattle.codegen.proofs.Runs.{Comes, comes_on, ends_then}
 use Rattle.codegen.proofs.Stands.{StandAt, block_stands}
 use Rattle.codegen.proofs.Places.{Agree, register_place, Moved, moves_run}
-use Rattle.codegen.proofs.Steps.{value_of, way_of, meaning_of, undisturbed, reads_at, writes_at, Done, plain_done, Left, last_leaves}
+use Rattle.codegen.proofs.Steps.{value_of, way_of, chosen, leaves_of, traps_of, undisturbed, reads_at, writes_at, Done, Left, last_leaves}
+use Rattle.codegen.proofs.Divisions.{unclobbered, IsKept, is_kept, plain_leaves, plain_traps}
 
 -- the moves before an instruction are among the edits
 can_move_before : (slots first i : ℕ) (es : List (ℕ × MoveValue)) → All (λ e. CanMove slots e.1.from e.1.to) es →
@@ -37,18 +39,7 @@ can_move_before slots first i es h =
     recursion_from_All (λ m. CanMove slots m.from m.to) (map (λ e. e.1) kept)
     (All-map (λ m. CanMove slots m.from m.to) (λ e. e.1) kept (All-filter (λ e. is_listed_at first i e.0) (λ e. CanMove slots e.1.from e.1.to) es h))
 
--- where nothing is clobbered all stays
-unclobbered : (set : PRegSet) (noise numbers : Place → ℕ) (registers frame : ℕ → ℕ) → ((r : Register) → has_register set r ≡ false) →
-    Agree registers frame numbers → Agree registers frame (numbers_clobbered set noise numbers)
-unfolding numbers_clobbered
-unclobbered set noise numbers registers frame none a = record {
-  in_registers = λ n.
-      a.in_registers n
-      ∙ sym (ap (λ (b : Bool). cond b (noise (register_place n)) (numbers (register_place n))) (none (record { number = n; class = Int })));
-  in_slots = a.in_slots;
-}
-
-module _ (f : FunctionValue) (ops : List Operation) (out : OutputValue) (args : ℕ → ℕ) (noise : History → Place → ℕ) (start : ℕ → ℕ) (code : CodeValue) where
+module _ (f : FunctionValue) (ops : List Operation) (out : OutputValue) (start : ℕ → ℕ) (code : CodeValue) where
   -- The machine is at a boundary of the interpreter: before the moves of its instruction, with its numbers.
   pub record At (d : State Place) (s : MachineState) : Type 0 where
     pub left : ℕ
@@ -59,13 +50,39 @@ module _ (f : FunctionValue) (ops : List Operation) (out : OutputValue) (args : 
         (items_code ops out (block_at f d.at.block).succs (listing_from out (block_at f d.at.block).range.first d.at.inst (suc left)))
     pub agree : Agree s.registers s.frame d.numbers
 
+  -- where the machine is at the start of a block with the interpreter's numbers, it is at the boundary of the block's first instruction
+  pub at_start : IsEmitted f ops out start code → (b : ℕ) → b < length f.blocks → (h : History) (numbers : Place → ℕ) (s : MachineState) → s.pc ≡ start b →
+      Agree s.registers s.frame numbers → At (record { at = first_of f b; history = h; numbers = numbers }) s
+  at_start ok b lt h numbers s e a =
+      let first : ℕ = (block_at f b).range.first in
+      let end : ℕ = (block_at f b).range.end in
+      let some : first < end = ok.filled b lt in
+      let n : end - first ≡ suc (end - first - 1) = omega arith in
+      let at : s.pc ≡ block_start ops out f b = e ∙ ok.starts b lt in
+      let here : StandAt start code.instructions (block_start ops out f b) (block_code ops out f b) =
+      block_stands f ops out start code.instructions (length f.blocks) ok.instructions b lt in
+      let whole : StandAt start code.instructions (block_start ops out f b)
+      (items_code ops out (block_at f b).succs (listing_from out first first (suc (end - first - 1)))) =
+      subst (λ (k : ℕ). StandAt start code.instructions (block_start ops out f b) (items_code ops out (block_at f b).succs (listing_from out first first k)))
+      n here in
+      record {
+        left = end - first - 1;
+        block = lt;
+        begins = omega arith;
+        ends = omega arith;
+        stands = subst (λ (p : ℕ). StandAt start code.instructions p
+            (items_code ops out (block_at f b).succs (listing_from out first first (suc (end - first - 1))))) (sym at) whole;
+        agree = a;
+      }
+
+module _ (f : FunctionValue) (ops : List Operation) (out : OutputValue) (start : ℕ → ℕ) (code : CodeValue) (args : ℕ → ℕ) (stir : Place → ℕ) where
   -- what the machine does from there while the interpreter makes a step
   abbrev pub Follows : State Place → MachineState → Option (State Place) → Type 0
-  Follows d s None = (j : ℕ) × (machine_run code args j s ≡ Returned (slice_index (place_reads f out (meaning_of ops args) noise d) 0))
-  Follows d s (Some e) = (t : MachineState) × Comes code args 1 s t × At e t
+  Follows d s None = (j : ℕ) × (machine_run code args j s ≡ Returned (slice_index (found_reads f out stir d) 0))
+  Follows d s (Some e) = (t : MachineState) × Comes code args 1 s t × At f ops out start code e t
 
   -- the operation, its places, and the numbers after the moves
-  abbrev op_of : State Place → Operation
+  abbrev pub op_of : State Place → Operation
   op_of d = operation_at ops d.at.inst
 
   abbrev places_of : State Place → List Place
@@ -77,6 +94,10 @@ module _ (f : FunctionValue) (ops : List Operation) (out : OutputValue) (args : 
   abbrev succs_of : State Place → List ℕ
   succs_of d = (block_at f d.at.block).succs
 
+  -- what is chosen for its step
+  abbrev pub choice_of : State Place → Choice
+  choice_of d = chosen args (op_of d) (found_reads f out stir d)
+
   -- what stands behind the instruction, where so many others are left
   abbrev behind : State Place → ℕ → List Instruction
   behind d n = items_code ops out (succs_of d) (listing_from out (block_at f d.at.block).range.first (d.at.inst + 1) n)
@@ -85,72 +106,76 @@ module _ (f : FunctionValue) (ops : List Operation) (out : OutputValue) (args : 
   abbrev state_on : State Place → Way → State Place
   state_on d w = record {
     at = next_of f d.at w;
-    history = place_told f out (meaning_of ops args) noise d;
-    numbers = place_written f out (meaning_of ops args) noise d;
+    history = (d.at.inst, found_reads f out stir d) ∷ d.history;
+    numbers = place_after f out stir (choice_of d) d;
   }
 
   module _ (ok : IsEmitted f ops out start code) where
-    -- where the machine is at the start of a block with the interpreter's numbers, it is at the boundary of the block's first instruction
-    pub at_start : (b : ℕ) → b < length f.blocks → (h : History) (numbers : Place → ℕ) (s : MachineState) → s.pc ≡ start b →
-        Agree s.registers s.frame numbers → At (record { at = first_of f b; history = h; numbers = numbers }) s
-    at_start b lt h numbers s e a =
-        let first : ℕ = (block_at f b).range.first in
-        let end : ℕ = (block_at f b).range.end in
-        let some : first < end = ok.filled b lt in
-        let n : end - first ≡ suc (end - first - 1) = omega arith in
-        let at : s.pc ≡ block_start ops out f b = e ∙ ok.starts b lt in
-        let here : StandAt start code.instructions (block_start ops out f b) (block_code ops out f b) =
-        block_stands f ops out start code.instructions (length f.blocks) ok.instructions b lt in
-        let whole : StandAt start code.instructions (block_start ops out f b)
-        (items_code ops out (block_at f b).succs (listing_from out first first (suc (end - first - 1)))) =
-        subst (λ (k : ℕ). StandAt start code.instructions (block_start ops out f b) (items_code ops out (block_at f b).succs (listing_from out first first k)))
-        n here in
-        record {
-          left = end - first - 1;
-          block = lt;
-          begins = omega arith;
-          ends = omega arith;
-          stands = subst (λ (p : ℕ). StandAt start code.instructions p
-              (items_code ops out (block_at f b).succs (listing_from out first first (suc (end - first - 1))))) (sym at) whole;
-          agree = a;
-        }
-
-    inside : (d : State Place) (s : MachineState) → At d s → d.at.inst < length f.insts
+    inside : (d : State Place) (s : MachineState) → At f ops out start code d s → d.at.inst < length f.insts
     inside d s at = omega (arith, ok.within d.at.block at.block, at.ends)
 
     -- the interpreter finds what the moves left
-    found : (d : State Place) → d.at.inst < length f.insts → place_found f out (meaning_of ops args) noise d ≡ after_moves d
+    found : (d : State Place) → d.at.inst < length f.insts → found_by f out stir d ≡ after_moves d
     found d lt =
-        ap (λ (os : List OperandValue). disturbed (noise d.history) (places_of d) 0 os (after_moves d)) (ok.operands d.at.inst lt)
-        ∙ undisturbed (op_of d) (noise d.history) (places_of d) (after_moves d)
+        ap (λ (os : List OperandValue). disturbed stir (places_of d) 0 os (after_moves d)) (ok.operands d.at.inst lt)
+        ∙ undisturbed (op_of d) stir (places_of d) (after_moves d)
 
-    reads : (d : State Place) → d.at.inst < length f.insts → place_reads f out (meaning_of ops args) noise d ≡ reads_at (op_of d) (places_of d) (after_moves d)
+    reads : (d : State Place) → d.at.inst < length f.insts → found_reads f out stir d ≡ reads_at (op_of d) (places_of d) (after_moves d)
     reads d lt =
         ap (λ (m : Place → ℕ). read_by is_reading (λ k u. m (place_at (places_of d) k)) 0 (inst_at f d.at.inst).operands) (found d lt)
         ∙ ap (λ (os : List OperandValue). read_by is_reading (λ k u. after_moves d (place_at (places_of d) k)) 0 os) (ok.operands d.at.inst lt)
 
     written : (d : State Place) → d.at.inst < length f.insts →
-        written_to (λ k. value_of args (op_of d) (place_reads f out (meaning_of ops args) noise d)) (places_of d) 0 (inst_at f d.at.inst).operands
-        (place_found f out (meaning_of ops args) noise d) ≡ writes_at args (op_of d) (places_of d) (after_moves d)
+        written_to (λ k. value_of args (op_of d) (found_reads f out stir d)) (places_of d) 0 (inst_at f d.at.inst).operands
+        (found_by f out stir d) ≡ writes_at args (op_of d) (places_of d) (after_moves d)
     written d lt =
         ap (λ (xs : List ℕ). written_to (λ k. value_of args (op_of d) xs) (places_of d) 0 (inst_at f d.at.inst).operands
-        (place_found f out (meaning_of ops args) noise d)) (reads d lt)
+        (found_by f out stir d)) (reads d lt)
         ∙ ap (λ (m : Place → ℕ). written_to (λ k. value_of args (op_of d) (reads_at (op_of d) (places_of d) (after_moves d))) (places_of d) 0
         (inst_at f d.at.inst).operands m) (found d lt)
         ∙ ap (λ (os : List OperandValue). written_to (λ k. value_of args (op_of d) (reads_at (op_of d) (places_of d) (after_moves d))) (places_of d) 0 os
         (after_moves d)) (ok.operands d.at.inst lt)
 
-    agree_written : (d : State Place) → d.at.inst < length f.insts → (registers frame : ℕ → ℕ) →
+    -- what the operation leaves in places
+    left_in : (d : State Place) → d.at.inst < length f.insts →
+        numbers_clobbered (inst_at f d.at.inst).clobbers (leaves_of (op_of d) (reads_at (op_of d) (places_of d) (after_moves d)))
+        (writes_at args (op_of d) (places_of d) (after_moves d)) ≡ place_after f out stir (choice_of d) d
+    left_in d lt =
+        ap (λ (xs : List ℕ). numbers_clobbered (inst_at f d.at.inst).clobbers (leaves_of (op_of d) xs)
+        (writes_at args (op_of d) (places_of d) (after_moves d))) (sym (reads d lt))
+        ∙ ap (λ (m : Place → ℕ). numbers_clobbered (inst_at f d.at.inst).clobbers (choice_of d).leaves m) (sym (written d lt))
+
+    -- a block's last operation clobbers nothing
+    end_clobbers : (o : Operation) (count : ℕ) → IsEnd o count → (r : Register) → is_clobbered o r ≡ false
+    end_clobbers (Dividing part signed to left right) count end r = absurd end
+    end_clobbers o count end r = refl
+
+    agree_written : (d : State Place) → d.at.inst < length f.insts → IsEnd (op_of d) (length (succs_of d)) → (registers frame : ℕ → ℕ) →
         Agree registers frame (writes_at args (op_of d) (places_of d) (after_moves d)) →
-        Agree registers frame (place_written f out (meaning_of ops args) noise d)
-    agree_written d lt registers frame a =
-        unclobbered (inst_at f d.at.inst).clobbers (noise (place_told f out (meaning_of ops args) noise d))
-        (written_to (λ k. value_of args (op_of d) (place_reads f out (meaning_of ops args) noise d)) (places_of d) 0 (inst_at f d.at.inst).operands
-        (place_found f out (meaning_of ops args) noise d)) registers frame (ok.clobbers d.at.inst lt)
-        (subst (λ (m : Place → ℕ). Agree registers frame m) (sym (written d lt)) a)
+        Agree registers frame (place_after f out stir (choice_of d) d)
+    agree_written d lt end registers frame a =
+        subst (λ (m : Place → ℕ). Agree registers frame m) (left_in d lt)
+        (unclobbered (inst_at f d.at.inst).clobbers (leaves_of (op_of d) (reads_at (op_of d) (places_of d) (after_moves d)))
+        (writes_at args (op_of d) (places_of d) (after_moves d)) registers frame
+        (λ r. ok.clobbers d.at.inst lt r ∙ end_clobbers (op_of d) (length (succs_of d)) end r) a)
+
+    -- where both interpreters read alike the divisor of a division is kept
+    kept : (c : State VirtualRegister) (d : State Place) → ReadAlike f out stir c d → (lt : d.at.inst < length f.insts) → IsPlain (op_of d) →
+        IsKept args start code (succs_of d) (behind d 0) (op_of d) (inst_at f d.at.inst).clobbers (places_of d) (after_moves d)
+    kept c d r lt plain =
+        is_kept args start code (succs_of d) (behind d 0) (op_of d) (inst_at f d.at.inst).clobbers (places_of d) (after_moves d) c.numbers plain
+        (sym (reads d lt) ∙ r.reads ∙ ap (λ (l : Location). read_by is_reading (λ k u. c.numbers u.vreg) 0 (inst_at f l.inst).operands) (sym r.at)
+        ∙ ap (λ (os : List OperandValue). read_by is_reading (λ k u. c.numbers u.vreg) 0 os) (ok.operands d.at.inst lt))
+        (λ x. subst (λ (os : List OperandValue). read_by is_late_use (λ k u. numbers_clobbered (inst_at f d.at.inst).clobbers x.leaves
+        (written_to x.writes (places_of d) 0 os (after_moves d)) (place_at (places_of d) k)) 0 os
+        ≡ read_by is_late_use (λ k u. c.numbers u.vreg) 0 os) (ok.operands d.at.inst lt)
+        (subst (λ (m : Place → ℕ). read_by is_late_use (λ k u. numbers_clobbered (inst_at f d.at.inst).clobbers x.leaves
+        (written_to x.writes (places_of d) 0 (inst_at f d.at.inst).operands m) (place_at (places_of d) k)) 0 (inst_at f d.at.inst).operands
+        ≡ read_by is_late_use (λ k u. c.numbers u.vreg) 0 (inst_at f d.at.inst).operands) (found d lt)
+        (r.late x ∙ ap (λ (l : Location). read_by is_late_use (λ k u. c.numbers u.vreg) 0 (inst_at f l.inst).operands) (sym r.at))))
 
     -- the machine after the moves
-    through : (d : State Place) (s : MachineState) (at : At d s) →
+    through : (d : State Place) (s : MachineState) (at : At f ops out start code d s) →
         Moved ops out (succs_of d) args start code s (after_moves d)
         (ListedInst d.at.inst ∷ listing_from out (block_at f d.at.block).range.first (d.at.inst + 1) at.left)
     unfolding listing_from
@@ -160,7 +185,7 @@ module _ (f : FunctionValue) (ops : List Operation) (out : OutputValue) (args : 
         (can_move_before code.slots (block_at f d.at.block).range.first d.at.inst out.edits ok.moves) at.agree at.stands
 
     -- what stands behind the moves
-    stands_there : (d : State Place) (s : MachineState) (at : At d s) (n : ℕ) → at.left ≡ n →
+    stands_there : (d : State Place) (s : MachineState) (at : At f ops out start code d s) (n : ℕ) → at.left ≡ n →
         StandAt start code.instructions (through d s at).to.pc (operation_code (op_of d) (places_of d) (succs_of d) ++ behind d n)
     unfolding items_code
     stands_there d s at n e =
@@ -168,42 +193,46 @@ module _ (f : FunctionValue) (ops : List Operation) (out : OutputValue) (args : 
         e (through d s at).stands
 
     -- an operation inside a block
-    plain_follows : (d : State Place) (s : MachineState) (at : At d s) (n : ℕ) → at.left ≡ suc n → Follows d s (place_step f out (meaning_of ops args) noise d)
-    plain_follows d s at n e =
+    plain_follows : (c : State VirtualRegister) (d : State Place) (s : MachineState) (at : At f ops out start code d s) → ReadAlike f out stir c d →
+        traps_of (op_of d) (found_reads f out stir d) ≡ false → (n : ℕ) → at.left ≡ suc n → Follows d s (place_next f out stir (choice_of d) d)
+    plain_follows c d s at r calm n e =
         let lt : d.at.inst < length f.insts = inside d s at in
         let more : d.at.inst + 1 < (block_at f d.at.block).range.end = omega (arith, at.ends, e) in
         let plain : IsPlain (op_of d) = ok.plain d.at.block d.at.inst at.block at.begins more in
-        let done : Done args start code (succs_of d) (behind d (suc n)) (through d s at).to (writes_at args (op_of d) (places_of d) (after_moves d)) =
-        plain_done args start code (succs_of d) (behind d (suc n)) (op_of d) (through d s at).to (places_of d) (after_moves d) plain
-        (ok.placed d.at.inst lt) (through d s at).agree (stands_there d s at (suc n) e) in
+        let done : Done args start code (succs_of d) (behind d (suc n)) (through d s at).to
+        (numbers_clobbered (inst_at f d.at.inst).clobbers (leaves_of (op_of d) (reads_at (op_of d) (places_of d) (after_moves d)))
+        (writes_at args (op_of d) (places_of d) (after_moves d))) =
+        plain_leaves args start code (succs_of d) (behind d (suc n)) (op_of d) (inst_at f d.at.inst).clobbers (through d s at).to (places_of d) (after_moves d)
+        plain (ok.placed d.at.inst lt) (ok.clobbers d.at.inst lt) (kept c d r lt plain)
+        (subst (λ (xs : List ℕ). traps_of (op_of d) xs ≡ false) (reads d lt) calm) (through d s at).agree (stands_there d s at (suc n) e) in
         let comes : Comes code args 1 s done.to = comes_on code args 0 1 1 s (through d s at).to done.to (omega arith) (through d s at).comes done.comes in
-        let next : At (state_on d Onward) done.to = record {
+        let next : At f ops out start code (state_on d Onward) done.to = record {
           left = n;
           block = at.block;
           begins = omega (arith, at.begins);
           ends = omega (arith, at.ends, e);
           stands = done.stands;
-          agree = agree_written d lt done.to.registers done.to.frame done.agree;
+          agree = subst (λ (m : Place → ℕ). Agree done.to.registers done.to.frame m) (left_in d lt) done.agree;
         } in
         subst (λ (b : Bool). Follows d s (option_map (state_on d) (cond b (Some Onward) (cond (nat_eq (d.at.inst + 1) (block_at f d.at.block).range.end)
-        (edge_to (length (succs_of d)) (way_of (op_of d) (place_reads f out (meaning_of ops args) noise d))) None))))
+        (edge_to (length (succs_of d)) (way_of (op_of d) (found_reads f out stir d))) None))))
         (sym (lt-ltb (d.at.inst + 1) (block_at f d.at.block).range.end more)) (done.to, comes, next)
 
     -- what comes after a block's last operation
-    left_follows : (d : State Place) (s t : MachineState) → At d s → Comes code args 0 s t → (w : Option Way) →
-        Left args start code (succs_of d) (behind d 0) t (place_reads f out (meaning_of ops args) noise d)
+    left_follows : (d : State Place) (s t : MachineState) → At f ops out start code d s → IsEnd (op_of d) (length (succs_of d)) → Comes code args 0 s t → (w : Option Way) →
+        Left args start code (succs_of d) (behind d 0) t (found_reads f out stir d)
         (writes_at args (op_of d) (places_of d) (after_moves d)) w → Follows d s (option_map (state_on d) w)
-    left_follows d s t at comes None l =
-        ends_then code args 0 l.0 s t (Returned (slice_index (place_reads f out (meaning_of ops args) noise d) 0)) comes l.1
-    left_follows d s t at comes (Some Onward) l = absurd l
-    left_follows d s t at comes (Some (ToSuccessor k)) l = (
+    left_follows d s t at end comes None l =
+        ends_then code args 0 l.0 s t (Returned (slice_index (found_reads f out stir d) 0)) comes l.1
+    left_follows d s t at end comes (Some Onward) l = absurd l
+    left_follows d s t at end comes (Some (ToSuccessor k)) l = (
       l.to,
       comes_on code args 0 1 1 s t l.to (omega arith) comes l.comes,
-      at_start (slice_index (succs_of d) k) (ok.succs d.at.block k at.block l.there) (place_told f out (meaning_of ops args) noise d)
-          (place_written f out (meaning_of ops args) noise d) l.to l.at (agree_written d (inside d s at) l.to.registers l.to.frame l.agree),
+      at_start f ops out start code ok (slice_index (succs_of d) k) (ok.succs d.at.block k at.block l.there) ((d.at.inst, found_reads f out stir d) ∷ d.history)
+          (place_after f out stir (choice_of d) d) l.to l.at (agree_written d (inside d s at) end l.to.registers l.to.frame l.agree),
     )
 
-    last_follows : (d : State Place) (s : MachineState) (at : At d s) → at.left ≡ 0 → Follows d s (place_step f out (meaning_of ops args) noise d)
+    last_follows : (d : State Place) (s : MachineState) (at : At f ops out start code d s) → at.left ≡ 0 → Follows d s (place_next f out stir (choice_of d) d)
     last_follows d s at e =
         let lt : d.at.inst < length f.insts = inside d s at in
         let last : d.at.inst + 1 ≡ (block_at f d.at.block).range.end = omega (arith, at.ends, e) in
@@ -213,22 +242,46 @@ module _ (f : FunctionValue) (ops : List Operation) (out : OutputValue) (args : 
         last_leaves args start code (succs_of d) (behind d 0) (op_of d) (through d s at).to (places_of d) (after_moves d)
         (ok.ends d.at.block d.at.inst at.block at.begins last) (ok.placed d.at.inst lt) (through d s at).agree (stands_there d s at 0 e) in
         let follows : Follows d s (option_map (state_on d)
-        (edge_to (length (succs_of d)) (way_of (op_of d) (place_reads f out (meaning_of ops args) noise d)))) =
-        left_follows d s (through d s at).to at (through d s at).comes
-        (edge_to (length (succs_of d)) (way_of (op_of d) (place_reads f out (meaning_of ops args) noise d)))
+        (edge_to (length (succs_of d)) (way_of (op_of d) (found_reads f out stir d)))) =
+        left_follows d s (through d s at).to at (ok.ends d.at.block d.at.inst at.block at.begins last) (through d s at).comes
+        (edge_to (length (succs_of d)) (way_of (op_of d) (found_reads f out stir d)))
         (subst (λ (xs : List ℕ). Left args start code (succs_of d) (behind d 0) (through d s at).to xs
         (writes_at args (op_of d) (places_of d) (after_moves d)) (edge_to (length (succs_of d)) (way_of (op_of d) xs))) (sym (reads d lt)) l) in
         subst (λ (b : Bool). Follows d s (option_map (state_on d) (cond b (Some Onward) (cond (nat_eq (d.at.inst + 1) (block_at f d.at.block).range.end)
-        (edge_to (length (succs_of d)) (way_of (op_of d) (place_reads f out (meaning_of ops args) noise d))) None))))
+        (edge_to (length (succs_of d)) (way_of (op_of d) (found_reads f out stir d))) None))))
         (sym (le-ltb (d.at.inst + 1) (block_at f d.at.block).range.end (omega arith)))
         (subst (λ (b : Bool). Follows d s (option_map (state_on d) (cond b
-        (edge_to (length (succs_of d)) (way_of (op_of d) (place_reads f out (meaning_of ops args) noise d))) None)))
+        (edge_to (length (succs_of d)) (way_of (op_of d) (found_reads f out stir d))) None)))
         (sym (eq-eqb (d.at.inst + 1) (block_at f d.at.block).range.end last)) follows)
 
     -- a step of the interpreter is one step of the machine or more
-    pub step_follows : (d : State Place) (s : MachineState) → At d s → Follows d s (place_step f out (meaning_of ops args) noise d)
-    step_follows d s at = pick at.left refl
+    pub step_follows : (c : State VirtualRegister) (d : State Place) (s : MachineState) → At f ops out start code d s → ReadAlike f out stir c d →
+        traps_of (op_of d) (found_reads f out stir d) ≡ false → Follows d s (place_next f out stir (choice_of d) d)
+    step_follows c d s at r calm = pick at.left refl
       where
-        pick : (n : ℕ) → at.left ≡ n → Follows d s (place_step f out (meaning_of ops args) noise d)
+        pick : (n : ℕ) → at.left ≡ n → Follows d s (place_next f out stir (choice_of d) d)
         pick zero e = last_follows d s at e
-        pick (suc n) e = plain_follows d s at n e
+        pick (suc n) e = plain_follows c d s at r calm n e
+
+    end_calm : (o : Operation) (count : ℕ) (xs : List ℕ) → IsEnd o count → traps_of o xs ≡ true → ⊥
+    end_calm (Dividing part signed to left right) count xs end traps = end
+    end_calm o count xs end traps = cc
+
+    -- and one that traps is a trap of the machine
+    pub step_traps : (c : State VirtualRegister) (d : State Place) (s : MachineState) → At f ops out start code d s → ReadAlike f out stir c d →
+        traps_of (op_of d) (found_reads f out stir d) ≡ true → (j : ℕ) × (machine_run code args j s ≡ Trapped)
+    step_traps c d s at r traps = pick at.left refl
+      where
+        pick : (n : ℕ) → at.left ≡ n → (j : ℕ) × (machine_run code args j s ≡ Trapped)
+        pick zero e =
+            let last : d.at.inst + 1 ≡ (block_at f d.at.block).range.end = omega (arith, at.ends, e) in
+            absurd (end_calm (op_of d) (length (succs_of d)) (found_reads f out stir d) (ok.ends d.at.block d.at.inst at.block at.begins last) traps)
+        pick (suc n) e =
+            let lt : d.at.inst < length f.insts = inside d s at in
+            let more : d.at.inst + 1 < (block_at f d.at.block).range.end = omega (arith, at.ends, e) in
+            let plain : IsPlain (op_of d) = ok.plain d.at.block d.at.inst at.block at.begins more in
+            let t : (j : ℕ) × (machine_run code args j (through d s at).to ≡ Trapped) =
+            plain_traps args start code (succs_of d) (behind d (suc n)) (op_of d) (inst_at f d.at.inst).clobbers (through d s at).to (places_of d) (after_moves d)
+            plain (ok.placed d.at.inst lt) (ok.clobbers d.at.inst lt) (kept c d r lt plain)
+            (subst (λ (xs : List ℕ). traps_of (op_of d) xs ≡ true) (reads d lt) traps) (through d s at).agree (stands_there d s at (suc n) e) in
+            ends_then code args 0 t.0 s (through d s at).to Trapped (through d s at).comes t.1

@@ -1,5 +1,5 @@
 -- A procedure's own run is that of the interpreter over virtual registers, with what operations mean.
-use Rattle.std.proofs.Common.{ℕ, zero, suc, ◌≡◌, ◌+◌, ◌<◌, ◌≤◌, Bool, true, false, cond, not, List, [], ◌∷◌, length, Option, Some, None, refl, sym, subst}
+use Rattle.std.proofs.Common.{ℕ, zero, suc, ◌≡◌, ◌+◌, ◌<◌, ◌≤◌, Bool, true, false, cond, not, List, [], ◌∷◌, length, Option, Some, None, refl, sym, ap, ◌∙◌, subst}
 use Rattle.std.proofs.Common.{arith, nat_eq, lt-ltb, le-ltb, eq-eqb}
 use Rattle.std.specs.Prelude.{slice_get, slice_index, option_map}
 use Rattle.std.proofs.lemmas.Option.{slice_get-get_or}
@@ -8,20 +8,23 @@ use Rattle.regalloc2_names.specs.Operand.{OperandValue, is_reading}
 use Rattle.regalloc2_function.specs.FunctionValue.{FunctionValue, block_at}
 use Rattle.regalloc2_function.specs.OutputValue.{OutputValue}
 use Rattle.regalloc2_function.specs.Path.{Way, Onward, ToSuccessor, next_of}
-use Rattle.regalloc2_semantics.specs.Values.Interpreters.{History, State, read_by, edge_to, way_on, numbers_defined, passed_over, vreg_reads, source_step}
-use Rattle.codegen_machine.specs.Ir.Numbers.{RunOutcome, Running, Returned, Stuck, shifted, condition_holds}
-use Rattle.codegen_machine.specs.Ir.Operands.{operands_of}
+use Rattle.regalloc2_semantics.specs.Values.Interpreters.{History, State, read_by, edge_to, way_on, numbers_defined, passed_over}
+use Rattle.codegen_machine.specs.Ir.Numbers.{RunOutcome, Running, Returned, Trapped, Stuck, shifted, divided, division_traps, condition_holds}
+use Rattle.codegen_machine.specs.Ir.Operands.{divide_operands, operands_of}
 use Rattle.codegen_machine.specs.Ir.Meaning.{ProcedureState, onward, entered, along, done, procedure_step}
 use Rattle.codegen_machine.specs.declared.ir.operation.Operation.{Operation}
 use Rattle.codegen_machine.specs.declared.ir.operation.Operation.TheVariants.{Argument as TakeArgument, Constant as TakeConstant, Copy, Compute as Computation}
-use Rattle.codegen_machine.specs.declared.ir.operation.Operation.TheVariants.{Shift as Shifting, Compare as Comparison, Select, Jump as GoTo, BranchIf, BranchIfHolds}
+use Rattle.codegen_machine.specs.declared.ir.operation.Operation.TheVariants.{Shift as Shifting, Divide as Dividing, Compare as Comparison, Select, Jump as GoTo, BranchIf}
+use Rattle.codegen_machine.specs.declared.ir.operation.Operation.TheVariants.{BranchIfHolds}
 use Rattle.codegen_machine.specs.declared.ir.operation.Operation.TheVariants.{Return as GiveBack}
+use Rattle.codegen_machine.specs.declared.ir.operation.DivisionPart.{DivisionPart}
 use Rattle.codegen_machine.specs.declared.ir.operation.Count.TheVariants.{VReg as CountIn, Number as CountOf}
 use Rattle.codegen_machine.specs.declared.ir.operation.Right.TheVariants.{VReg, Number as Given}
 use Rattle.codegen_machine.specs.Machine.{CodeValue}
 use Rattle.codegen.specs.Emitted.{operation_at}
 use Rattle.codegen.proofs.Premise.{IsPlain, IsEnd, IsEmitted}
-use Rattle.codegen.proofs.Steps.{value_of, way_of, meaning_of}
+use Rattle.codegen.proofs.Choices.{source_reads, source_next}
+use Rattle.codegen.proofs.Steps.{value_of, way_of, traps_of, chosen}
 
 -- a state of the interpreter as one of the procedure
 abbrev pub seen : State VirtualRegister → ProcedureState
@@ -31,9 +34,11 @@ seen c = record { at = c.at; numbers = c.numbers }
 abbrev pub GoAlike : List ℕ → Option (State VirtualRegister) → RunOutcome ProcedureState → Type 0
 GoAlike read None (Running q) = ⊥
 GoAlike read None (Returned r) = r ≡ slice_index read 0
+GoAlike read None Trapped = ⊥
 GoAlike read None Stuck = ⊥
 GoAlike read (Some c) (Running q) = q ≡ seen c
 GoAlike read (Some c) (Returned r) = ⊥
+GoAlike read (Some c) Trapped = ⊥
 GoAlike read (Some c) Stuck = ⊥
 
 -- what operands read of virtual registers, and what definitions write to them
@@ -57,24 +62,47 @@ module _ (f : FunctionValue) (args : ℕ → ℕ) where
   abbrev step_by : State VirtualRegister → Operation → List OperandValue → Option (State VirtualRegister)
   step_by c o os = option_map (state_on c o os) (way_on f c.at (way_of o (reads_of os c.numbers)))
 
+  -- what a division reads
+  divide_reads : (part : DivisionPart) (to left right : VirtualRegister) (numbers : VirtualRegister → ℕ) → nat_eq left.number 1073741823 ≡ false →
+      reads_of (divide_operands part to left right) numbers ≡ numbers left ∷ numbers right ∷ []
+  unfolding read_by
+  divide_reads part to left right numbers read = ap (λ (b : Bool). cond (not b) (numbers left ∷ numbers right ∷ []) (numbers right ∷ [])) read
+
   -- an operation inside a block
-  plain_goes : (o : Operation) (c : State VirtualRegister) → IsPlain o → done f args (Some o) (seen c) ≡ Running (seen (state_on c o (operands_of o) Onward))
+  plain_goes : (o : Operation) (c : State VirtualRegister) → IsPlain o → traps_of o (reads_of (operands_of o) c.numbers) ≡ false →
+      done f args (Some o) (seen c) ≡ Running (seen (state_on c o (operands_of o) Onward))
   unfolding numbers_defined read_by passed_over
-  plain_goes (TakeArgument to k) c plain = refl
-  plain_goes (TakeConstant to n) c plain = refl
-  plain_goes (Copy to from) c plain = refl
-  plain_goes (Computation o to left (VReg v)) c plain = refl
-  plain_goes (Computation o to left (Given n)) c plain = refl
-  plain_goes (Shifting o to left (CountIn v)) c plain =
+  plain_goes (TakeArgument to k) c plain calm = refl
+  plain_goes (TakeConstant to n) c plain calm = refl
+  plain_goes (Copy to from) c plain calm = refl
+  plain_goes (Computation o to left (VReg v)) c plain calm = refl
+  plain_goes (Computation o to left (Given n)) c plain calm = refl
+  plain_goes (Shifting o to left (CountIn v)) c plain calm =
       let x : ℕ = c.numbers left in
       let n : ℕ = c.numbers v in
       subst (λ (b : Bool). onward (seen c) to (shifted o x n) ≡ onward (seen c) to (shifted o x (slice_index (x ∷ cond (not b) (n ∷ []) []) 1))) (sym plain)
       refl
-  plain_goes (Shifting o to left (CountOf n)) c plain = refl
-  plain_goes (Comparison o to left (VReg v)) c plain = refl
-  plain_goes (Comparison o to left (Given n)) c plain = refl
-  plain_goes (Select to test one other) c plain = refl
-  plain_goes o c plain = absurd plain
+  plain_goes (Shifting o to left (CountOf n)) c plain calm = refl
+  plain_goes (Dividing part signed to left right) c plain calm =
+      let o : Operation = Dividing part signed to left right in
+      subst (λ (xs : List ℕ). division_traps signed (slice_index xs 0) (slice_index xs 1) ≡ false →
+      done f args (Some o) (seen c) ≡ onward (seen c) to (divided part signed (slice_index xs 0) (slice_index xs 1)))
+      (sym (divide_reads part to left right c.numbers plain.1))
+      (λ so. ap (λ (b : Bool). cond b Trapped (onward (seen c) to (divided part signed (c.numbers left) (c.numbers right)))) so) calm
+  plain_goes (Comparison o to left (VReg v)) c plain calm = refl
+  plain_goes (Comparison o to left (Given n)) c plain calm = refl
+  plain_goes (Select to test one other) c plain calm = refl
+  plain_goes o c plain calm = absurd plain
+
+  -- and one that traps
+  plain_traps : (o : Operation) (c : State VirtualRegister) → IsPlain o → traps_of o (reads_of (operands_of o) c.numbers) ≡ true →
+      done f args (Some o) (seen c) ≡ Trapped
+  plain_traps (Dividing part signed to left right) c plain traps =
+      let o : Operation = Dividing part signed to left right in
+      subst (λ (xs : List ℕ). division_traps signed (slice_index xs 0) (slice_index xs 1) ≡ true → done f args (Some o) (seen c) ≡ Trapped)
+      (sym (divide_reads part to left right c.numbers plain.1))
+      (λ so. ap (λ (b : Bool). cond b Trapped (onward (seen c) to (divided part signed (c.numbers left) (c.numbers right)))) so) traps
+  plain_traps o c plain traps = absurd cc
 
   -- an edge
   edge_goes : (read : List ℕ) (c : State VirtualRegister) (h : History) (k : ℕ) → k < length (block_at f c.at.block).succs →
@@ -112,15 +140,16 @@ module _ (f : FunctionValue) (args : ℕ → ℕ) where
   last_goes o c end = absurd end
 
   -- each operation
-  goes_on : (o : Operation) (c : State VirtualRegister) → IsPlain o → c.at.inst + 1 < (block_at f c.at.block).range.end →
+  goes_on : (o : Operation) (c : State VirtualRegister) → IsPlain o → traps_of o (reads_of (operands_of o) c.numbers) ≡ false →
+      c.at.inst + 1 < (block_at f c.at.block).range.end →
       GoAlike (reads_of (operands_of o) c.numbers) (step_by c o (operands_of o)) (done f args (Some o) (seen c))
-  goes_on o c plain lt =
+  goes_on o c plain calm lt =
       subst (λ (b : Bool). GoAlike (reads_of (operands_of o) c.numbers) (option_map (state_on c o (operands_of o))
       (cond b (Some Onward) (cond (nat_eq (c.at.inst + 1) (block_at f c.at.block).range.end)
       (edge_to (length (block_at f c.at.block).succs) (way_of o (reads_of (operands_of o) c.numbers))) None))) (done f args (Some o) (seen c)))
       (sym (lt-ltb (c.at.inst + 1) (block_at f c.at.block).range.end lt))
       (subst (λ (x : RunOutcome ProcedureState). GoAlike (reads_of (operands_of o) c.numbers) (Some (state_on c o (operands_of o) Onward)) x)
-      (sym (plain_goes o c plain)) refl)
+      (sym (plain_goes o c plain calm)) refl)
 
   goes_off : (o : Operation) (c : State VirtualRegister) → IsEnd o (length (block_at f c.at.block).succs) → c.at.inst + 1 ≡ (block_at f c.at.block).range.end →
       GoAlike (reads_of (operands_of o) c.numbers) (step_by c o (operands_of o)) (done f args (Some o) (seen c))
@@ -137,21 +166,49 @@ module _ (f : FunctionValue) (args : ℕ → ℕ) where
   pub steps_alike : (ops : List Operation) (out : OutputValue) (start : ℕ → ℕ) (code : CodeValue) → IsEmitted f ops out start code →
       (c : State VirtualRegister) (left : ℕ) →
       c.at.block < length f.blocks → (block_at f c.at.block).range.first ≤ c.at.inst → c.at.inst + suc left ≡ (block_at f c.at.block).range.end →
-      GoAlike (vreg_reads f (meaning_of ops args) c) (source_step f (meaning_of ops args) c) (procedure_step f ops args (seen c))
-  steps_alike ops out start code ok c left block begins ends =
+      traps_of (operation_at ops c.at.inst) (source_reads f out c) ≡ false →
+      GoAlike (source_reads f out c) (source_next f out (chosen args (operation_at ops c.at.inst) (source_reads f out c)) c) (procedure_step f ops args (seen c))
+  steps_alike ops out start code ok c left block begins ends calm =
       let lt : c.at.inst < length f.insts = omega (arith, ok.within c.at.block block) in
       let o : Operation = operation_at ops c.at.inst in
       let here : slice_get ops c.at.inst ≡ Some o = slice_get-get_or ops c.at.inst GoTo (omega (arith, ok.counted)) in
-      subst (λ (x : Option Operation). GoAlike (vreg_reads f (meaning_of ops args) c) (source_step f (meaning_of ops args) c)
+      subst (λ (x : Option Operation). GoAlike (source_reads f out c) (source_next f out (chosen args (operation_at ops c.at.inst) (source_reads f out c)) c)
       (done f args x (seen c))) (sym here)
-      (subst (λ (os : List OperandValue). GoAlike (reads_of os c.numbers) (step_by c o os) (done f args (Some o) (seen c))) (sym (ok.operands c.at.inst lt))
-      (pick left refl))
+      (subst (λ (os : List OperandValue). traps_of o (reads_of os c.numbers) ≡ false → GoAlike (reads_of os c.numbers) (step_by c o os)
+      (done f args (Some o) (seen c))) (sym (ok.operands c.at.inst lt)) (pick left refl) calm)
     where
-      pick : (n : ℕ) → left ≡ n → GoAlike (reads_of (operands_of (operation_at ops c.at.inst)) c.numbers)
+      pick : (n : ℕ) → left ≡ n → traps_of (operation_at ops c.at.inst) (reads_of (operands_of (operation_at ops c.at.inst)) c.numbers) ≡ false → GoAlike (reads_of (operands_of (operation_at ops c.at.inst)) c.numbers)
           (step_by c (operation_at ops c.at.inst) (operands_of (operation_at ops c.at.inst))) (done f args (Some (operation_at ops c.at.inst)) (seen c))
-      pick zero e =
+      pick zero e calm =
           let last : c.at.inst + 1 ≡ (block_at f c.at.block).range.end = omega arith in
           goes_off (operation_at ops c.at.inst) c (ok.ends c.at.block c.at.inst block begins last) last
-      pick (suc n) e =
+      pick (suc n) e calm =
           let more : c.at.inst + 1 < (block_at f c.at.block).range.end = omega arith in
-          goes_on (operation_at ops c.at.inst) c (ok.plain c.at.block c.at.inst block begins more) more
+          goes_on (operation_at ops c.at.inst) c (ok.plain c.at.block c.at.inst block begins more) calm more
+
+  end_calm : (o : Operation) (count : ℕ) (xs : List ℕ) → IsEnd o count → traps_of o xs ≡ true → ⊥
+  end_calm (Dividing part signed to left right) count xs end traps = end
+  end_calm o count xs end traps = cc
+
+  -- a step of the procedure that traps
+  pub steps_trap : (ops : List Operation) (out : OutputValue) (start : ℕ → ℕ) (code : CodeValue) → IsEmitted f ops out start code →
+      (c : State VirtualRegister) (left : ℕ) →
+      c.at.block < length f.blocks → (block_at f c.at.block).range.first ≤ c.at.inst → c.at.inst + suc left ≡ (block_at f c.at.block).range.end →
+      traps_of (operation_at ops c.at.inst) (source_reads f out c) ≡ true → procedure_step f ops args (seen c) ≡ Trapped
+  steps_trap ops out start code ok c left block begins ends traps =
+      let lt : c.at.inst < length f.insts = omega (arith, ok.within c.at.block block) in
+      let o : Operation = operation_at ops c.at.inst in
+      let here : slice_get ops c.at.inst ≡ Some o = slice_get-get_or ops c.at.inst GoTo (omega (arith, ok.counted)) in
+      let is : traps_of o (reads_of (operands_of o) c.numbers) ≡ true =
+      subst (λ (os : List OperandValue). traps_of o (reads_of os c.numbers) ≡ true) (ok.operands c.at.inst lt) traps in
+      ap (λ (x : Option Operation). done f args x (seen c)) here ∙ pick left refl is
+    where
+      pick : (n : ℕ) → left ≡ n → traps_of (operation_at ops c.at.inst) (reads_of (operands_of (operation_at ops c.at.inst)) c.numbers) ≡ true →
+          done f args (Some (operation_at ops c.at.inst)) (seen c) ≡ Trapped
+      pick zero e is =
+          let last : c.at.inst + 1 ≡ (block_at f c.at.block).range.end = omega arith in
+          absurd (end_calm (operation_at ops c.at.inst) (length (block_at f c.at.block).succs)
+          (reads_of (operands_of (operation_at ops c.at.inst)) c.numbers) (ok.ends c.at.block c.at.inst block begins last) is)
+      pick (suc n) e is =
+          let more : c.at.inst + 1 < (block_at f c.at.block).range.end = omega arith in
+          plain_traps (operation_at ops c.at.inst) c (ok.plain c.at.block c.at.inst block begins more) is

@@ -6,8 +6,8 @@ use Rattle.regalloc2_names.specs.Operand.{is_reading}
 use Rattle.regalloc2_names.specs.Place.{Place, NoPlace, InRegister, InSlot}
 use Rattle.regalloc2_function.specs.OutputValue.{place_at}
 use Rattle.regalloc2_function.specs.Path.{Way, Onward, ToSuccessor}
-use Rattle.regalloc2_semantics.specs.Values.Interpreters.{History, InstMeaning, read_by, place_set, written_to, disturbed, edge_to}
-use Rattle.codegen_machine.specs.Ir.Numbers.{RunOutcome, Running, Returned, computed, shifted, condition_holds, truth}
+use Rattle.regalloc2_semantics.specs.Values.Interpreters.{read_by, place_set, written_to, disturbed, edge_to}
+use Rattle.codegen_machine.specs.Ir.Numbers.{RunOutcome, Running, Returned, computed, shifted, divided, division_traps, condition_holds, truth}
 use Rattle.codegen_machine.specs.Ir.Operands.{operands_of}
 use Rattle.codegen_machine.specs.declared.ir.operation.Operator.{Operator}
 use Rattle.codegen_machine.specs.declared.ir.operation.ShiftOperator.{ShiftOperator}
@@ -15,8 +15,11 @@ use Rattle.codegen_machine.specs.declared.ir.operation.Condition.{Condition}
 use Rattle.codegen_machine.specs.declared.ir.operation.Condition.TheVariants.{Equal, NotEqual}
 use Rattle.codegen_machine.specs.declared.ir.operation.Operation.{Operation}
 use Rattle.codegen_machine.specs.declared.ir.operation.Operation.TheVariants.{Argument as TakeArgument, Constant as TakeConstant, Copy, Compute as Computation}
-use Rattle.codegen_machine.specs.declared.ir.operation.Operation.TheVariants.{Shift as Shifting, Compare as Comparison, Select, Jump as GoTo, BranchIf, BranchIfHolds}
+use Rattle.codegen_machine.specs.declared.ir.operation.Operation.TheVariants.{Shift as Shifting, Divide as Dividing, Compare as Comparison, Select, Jump as GoTo, BranchIf}
+use Rattle.codegen_machine.specs.declared.ir.operation.Operation.TheVariants.{BranchIfHolds}
 use Rattle.codegen_machine.specs.declared.ir.operation.Operation.TheVariants.{Return as GiveBack}
+use Rattle.codegen_machine.specs.declared.ir.operation.DivisionPart.{DivisionPart}
+use Rattle.codegen_machine.specs.declared.ir.operation.DivisionPart.TheVariants.{Quotient, Remainder}
 use Rattle.codegen_machine.specs.declared.ir.operation.Count.{Count}
 use Rattle.codegen_machine.specs.declared.ir.operation.Count.TheVariants.{VReg as CountIn, Number as CountOf}
 use Rattle.codegen_machine.specs.declared.ir.operation.Right.{Right}
@@ -28,6 +31,7 @@ use Rattle.codegen_machine.specs.Machine.{CodeValue, MachineState, is_general, w
 use Rattle.codegen.specs.Emitted.{register_of, source_of, right_source, fetched, constant_code, branch_code, branch_if_code, compare_code, select_code}
 use Rattle.codegen.specs.Emitted.{shift_code, resolved, operation_at, operation_code}
 use Rattle.codegen.proofs.Premise.{IsGeneral, IsHere, IsRightHere, IsCountHere, IsPlaced, IsPlain, IsEnd}
+use Rattle.codegen.proofs.Choices.{Choice}
 use Rattle.codegen.proofs.Runs.{Comes, comes_by, comes_on, ends_by, ends_then}
 use Rattle.codegen.proofs.Stands.{StandAt}
 use Rattle.codegen.proofs.Places.{Agree, wrote, reads_register, reads_source, writes_place, agree_register, fetches}
@@ -49,6 +53,7 @@ value_of args (TakeConstant to n) xs = n
 value_of args (Copy to from) xs = slice_index xs 0
 value_of args (Computation o to left right) xs = computed o (slice_index xs 0) (right_read right (slice_index xs 1))
 value_of args (Shifting o to left count) xs = shifted o (slice_index xs 0) (count_read count (slice_index xs 1))
+value_of args (Dividing part signed to left right) xs = divided part signed (slice_index xs 0) (slice_index xs 1)
 value_of args (Comparison c to left right) xs = truth (condition_holds c (slice_index xs 0) (right_read right (slice_index xs 1)))
 value_of args (Select to c one other) xs = cond (nat_eq (slice_index xs 2) 0) (slice_index xs 1) (slice_index xs 0)
 value_of args o xs = 0
@@ -60,19 +65,24 @@ way_of (BranchIf v) xs = Some (cond (nat_eq (slice_index xs 0) 0) 1 0)
 way_of (BranchIfHolds c left right) xs = Some (cond (condition_holds c (slice_index xs 0) (right_read right (slice_index xs 1))) 0 1)
 way_of o xs = None
 
--- what operations mean, by what was read: the number that the newest one writes
-abbrev pub meaning_writes : List Operation → (ℕ → ℕ) → History → ℕ → ℕ
-meaning_writes ops args [] k = 0
-meaning_writes ops args (x ∷ h) k = value_of args (operation_at ops x.0) x.1
+-- the other part of a division
+abbrev pub other_part : DivisionPart → DivisionPart
+other_part Quotient = Remainder
+other_part Remainder = Quotient
 
--- and where it goes
-abbrev pub meaning_takes : List Operation → History → Option ℕ
-meaning_takes ops [] = None
-meaning_takes ops (x ∷ h) = way_of (operation_at ops x.0) x.1
+-- the number that an operation leaves in the registers that it clobbers
+abbrev pub leaves_of : Operation → List ℕ → Place → ℕ
+leaves_of (Dividing part signed to left right) xs p = divided (other_part part) signed (slice_index xs 0) (slice_index xs 1)
+leaves_of o xs p = 0
 
--- both
-abbrev pub meaning_of : List Operation → (ℕ → ℕ) → InstMeaning
-meaning_of ops args = record { writes = meaning_writes ops args; takes = meaning_takes ops }
+-- whether it traps
+abbrev pub traps_of : Operation → List ℕ → Bool
+traps_of (Dividing part signed to left right) xs = division_traps signed (slice_index xs 0) (slice_index xs 1)
+traps_of o xs = false
+
+-- what an operation does, by what it reads
+abbrev pub chosen : (ℕ → ℕ) → Operation → List ℕ → Choice
+chosen args o xs = record { writes = λ k. value_of args o xs; takes = way_of o xs; leaves = leaves_of o xs }
 
 -- no definition is early, so none disturbs what the uses read
 pub undisturbed : (o : Operation) (noise : Place → ℕ) (ps : List Place) (numbers : Place → ℕ) → disturbed noise ps 0 (operands_of o) numbers ≡ numbers
@@ -84,6 +94,7 @@ undisturbed (Computation o to left (VReg v)) noise ps numbers = refl
 undisturbed (Computation o to left (Given n)) noise ps numbers = refl
 undisturbed (Shifting o to left (CountIn v)) noise ps numbers = refl
 undisturbed (Shifting o to left (CountOf n)) noise ps numbers = refl
+undisturbed (Dividing part signed to left right) noise ps numbers = refl
 undisturbed (Comparison c to left (VReg v)) noise ps numbers = refl
 undisturbed (Comparison c to left (Given n)) noise ps numbers = refl
 undisturbed (Select to c one other) noise ps numbers = refl
@@ -100,6 +111,11 @@ reads_at o ps numbers = read_by is_reading (λ k u. numbers (place_at ps k)) 0 (
 -- what it writes to them
 abbrev pub writes_at : (ℕ → ℕ) → Operation → List Place → (Place → ℕ) → Place → ℕ
 writes_at args o ps numbers = written_to (λ k. value_of args o (reads_at o ps numbers)) ps 0 (operands_of o) numbers
+
+-- an operation that goes on to the next line and clobbers nothing
+abbrev pub IsSimple : Operation → Type 0
+IsSimple (Dividing part signed to left right) = ⊥
+IsSimple o = IsPlain o
 
 -- the state after numbers have been compared
 abbrev pub compared_state : MachineState → ℕ → ℕ → MachineState
@@ -243,8 +259,8 @@ module _ (args : ℕ → ℕ) (starts : ℕ → ℕ) (code : CodeValue) (succs :
       general (InRegister r) h = h.1
       general (InSlot n) h = absurd h
 
-  -- an operation that goes on to the next line
-  pub plain_done : (o : Operation) (s : MachineState) (ps : List Place) (numbers : Place → ℕ) → IsPlain o → IsPlaced code.slots o ps →
+  -- an operation that goes on to the next line and clobbers nothing
+  pub plain_done : (o : Operation) (s : MachineState) (ps : List Place) (numbers : Place → ℕ) → IsSimple o → IsPlaced code.slots o ps →
       Agree s.registers s.frame numbers →
       StandAt starts code.instructions s.pc (operation_code o ps succs ++ rest) → Done s (writes_at args o ps numbers)
   unfolding written_to read_by

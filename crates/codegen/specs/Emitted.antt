@@ -1,13 +1,14 @@
 -- What is emitted: for each item of a block's listing one to three instructions, block after block. Jumps name blocks at first, and then the
 -- instructions at which these begin.
-use Rattle.std.specs.Prelude.{ℕ, zero, suc, nat_lt, nat_eq, if◌then◌else◌, List, [], ◌∷◌, ◌++◌, map, length, slice_index, slice_index_or}
+use Rattle.std.specs.Prelude.{ℕ, Bool, true, false, zero, suc, nat_lt, nat_eq, if◌then◌else◌, List, [], ◌∷◌, ◌++◌, map, length, slice_index, slice_index_or}
 use Rattle.regalloc2_names.specs.Place.{Place, NoPlace, InRegister, InSlot}
 use Rattle.regalloc2_function.specs.FunctionValue.{FunctionValue, block_at}
 use Rattle.regalloc2_function.specs.OutputValue.{OutputValue, allocs_of, place_at}
 use Rattle.regalloc2_function.specs.Listing.{Listed, ListedInst, ListedMove, block_listing}
 use Rattle.codegen_machine.specs.declared.ir.operation.Operation.{Operation}
 use Rattle.codegen_machine.specs.declared.ir.operation.Operation.TheVariants.{Argument as TakeArgument, Constant as TakeConstant, Copy, Compute as Computation}
-use Rattle.codegen_machine.specs.declared.ir.operation.Operation.TheVariants.{Shift as Shifting, Compare as Comparison, Select, Jump as GoTo, BranchIf, BranchIfHolds}
+use Rattle.codegen_machine.specs.declared.ir.operation.Operation.TheVariants.{Shift as Shifting, Divide as Dividing, Compare as Comparison, Select, Jump as GoTo, BranchIf}
+use Rattle.codegen_machine.specs.declared.ir.operation.Operation.TheVariants.{BranchIfHolds}
 use Rattle.codegen_machine.specs.declared.ir.operation.Operation.TheVariants.{Return as GiveBack}
 use Rattle.codegen_machine.specs.declared.ir.operation.ShiftOperator.{ShiftOperator}
 use Rattle.codegen_machine.specs.declared.ir.operation.Condition.{Condition}
@@ -20,7 +21,8 @@ use Rattle.codegen_machine.specs.declared.Source.{Source}
 use Rattle.codegen_machine.specs.declared.Source.TheVariants.{Register, Slot, Number}
 use Rattle.codegen_machine.specs.declared.Instruction.{Instruction}
 use Rattle.codegen_machine.specs.declared.Instruction.TheVariants.{Constant, Clear, Argument, Move, Load, Store, Compute}
-use Rattle.codegen_machine.specs.declared.Instruction.TheVariants.{Shift, ShiftBy, Compare, Set, MoveIf, Test, Jump, JumpIf, Return}
+use Rattle.codegen_machine.specs.declared.Instruction.TheVariants.{Shift, ShiftBy, ExtendSign, Divide, Compare, Set, MoveIf, Test, Jump}
+use Rattle.codegen_machine.specs.declared.Instruction.TheVariants.{JumpIf, Return}
 use Rattle.codegen_machine.specs.Machine.{CodeValue}
 
 -- what stands where no register can be named
@@ -73,6 +75,14 @@ abbrev pub shift_code : ShiftOperator → Count → ℕ → Instruction
 shift_code o (CountIn v) r = Shift o r
 shift_code o (CountOf n) r = ShiftBy o r n
 
+-- Register 2 takes what register 0 has above its highest bit; then both are divided by a place's number.
+abbrev pub extension_code : Bool → Instruction
+extension_code true = ExtendSign
+extension_code false = Clear 2
+
+abbrev pub divide_code : Bool → Place → List Instruction
+divide_code signed p = extension_code signed ∷ Divide signed (source_of p) ∷ []
+
 -- a comparison, whose answer a register takes
 abbrev pub compare_code : Condition → Right → List Place → List Instruction
 compare_code c right places =
@@ -93,6 +103,7 @@ operation_code (TakeConstant to n) places succs = constant_code (register_of (pl
 operation_code (Copy to from) places succs = fetched (register_of (place_at places 0)) (place_at places 1) ∷ []
 operation_code (Computation o to left right) places succs = Compute o (register_of (place_at places 0)) (right_source right (place_at places 2)) ∷ []
 operation_code (Shifting o to left count) places succs = shift_code o count (register_of (place_at places 0)) ∷ []
+operation_code (Dividing part signed to left right) places succs = divide_code signed (place_at places 2)
 operation_code (Comparison c to left right) places succs = compare_code c right places
 operation_code (Select to c one other) places succs = select_code places
 operation_code GoTo places succs = Jump (slice_index succs 0) ∷ []

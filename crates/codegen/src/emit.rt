@@ -9,7 +9,7 @@ ghost use Rattle.regalloc2_function.specs.WellFormed.{BlocksFollow};
 ghost use Rattle.codegen_machine.specs.Ir.Seen.{function_of_procedure, operations};
 ghost use Rattle.codegen_machine.specs.Machine.{code_of};
 ghost use Rattle.codegen.specs.Emitted.{register_of, source_of, right_source, fetched, move_code, constant_code, operation_code, item_code, resolved};
-ghost use Rattle.codegen.specs.Emitted.{branch_code, branch_if_code, compare_code, return_code, select_code, shift_code};
+ghost use Rattle.codegen.specs.Emitted.{branch_code, branch_if_code, compare_code, divide_code, extension_code, return_code, select_code, shift_code};
 ghost use Rattle.codegen.specs.Emitted.{block_code, emitted};
 
 use codegen_machine::ir::{Condition, Count, Operation, Procedure, Right, ShiftOperator};
@@ -141,6 +141,30 @@ fn shift(operator: ShiftOperator, count: Count, to: usize) -> Instruction
     }
 }
 
+/// What register 0 has above its highest bit, for register 2.
+fn extension(is_signed: bool) -> Instruction
+    ensures { result ≡ extension_code is_signed }
+{
+    if is_signed {
+        Instruction::ExtendSign
+    } else {
+        Instruction::Clear { to: 2 }
+    }
+}
+
+/// A division by a place's number, of register 0 and what is above its highest bit.
+fn emit_divide(
+    code: &mut Vec<Instruction>,
+    is_signed: bool,
+    divisor: Allocation,
+) -> Result<(), AllocError>
+    ensures { OnOk result (code.new.items ≡ code.old.items ++ divide_code is_signed divisor) }
+{
+    put(code, extension(is_signed))?;
+    let from = source(divisor);
+    put(code, Instruction::Divide { is_signed, from })
+}
+
 /// A comparison, and the register that takes whether its condition holds.
 fn emit_compare(
     code: &mut Vec<Instruction>,
@@ -236,6 +260,7 @@ fn emit_operation(
             count,
             ..
         } => put(code, shift(operator, count, to)),
+        Operation::Divide { is_signed, .. } => emit_divide(code, is_signed, place(places, 2)),
         Operation::Compare {
             condition,
             right,

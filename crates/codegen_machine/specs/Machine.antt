@@ -1,12 +1,15 @@
 -- What the machine does: an interpreter that makes a step for each instruction. It is stuck where there is no instruction, no such register
--- for numbers or slot, and where numbers are needed that were compared, and none were since the last instruction that forgets them.
-use Rattle.std.specs.Prelude.{ℕ, zero, suc, ◌+◌, Bool, ◌&&◌, not, nat_eq, nat_lt, if◌then◌else◌, List, slice_get, Option, None, Some}
-use Rattle.codegen_machine.specs.Ir.Numbers.{RunOutcome, Running, Returned, Stuck, further, computed, shifted, condition_holds, truth, put}
+-- for numbers or slot, where numbers are needed that were compared, and none were since the last instruction that forgets them, and where register 2
+-- isn't what a division wants.
+use Rattle.std.specs.Prelude.{ℕ, zero, suc, ◌+◌, Bool, true, ◌&&◌, not, nat_eq, nat_lt, if◌then◌else◌, List, slice_get, Option, None, Some}
+use Rattle.codegen_machine.specs.Ir.Numbers.{RunOutcome, Running, Returned, Trapped, Stuck, further, computed, shifted, divided, division_traps, extended}
+use Rattle.codegen_machine.specs.Ir.Numbers.{condition_holds, truth, put}
+use Rattle.codegen_machine.specs.declared.ir.operation.DivisionPart.TheVariants.{Quotient, Remainder}
 use Rattle.codegen_machine.specs.declared.Source.{Source}
 use Rattle.codegen_machine.specs.declared.Source.TheVariants.{Register, Slot, Number}
 use Rattle.codegen_machine.specs.declared.Instruction.{Instruction}
 use Rattle.codegen_machine.specs.declared.Instruction.TheVariants.{Constant, Clear, Argument, Move, Load, Store, Compute}
-use Rattle.codegen_machine.specs.declared.Instruction.TheVariants.{Shift, ShiftBy, Compare, Set, MoveIf, Test, Jump, JumpIf, Return}
+use Rattle.codegen_machine.specs.declared.Instruction.TheVariants.{Shift, ShiftBy, ExtendSign, Divide, Compare, Set, MoveIf, Test, Jump, JumpIf, Return}
 use Rattle.codegen_machine.specs.declared.Code.{Code}
 
 -- where the machine is, the numbers of its registers and slots, and those last compared, unless they are forgotten
@@ -48,6 +51,20 @@ frame_stored slots s k n =
 abbrev pub compared_to : MachineState → ℕ → ℕ → RunOutcome MachineState
 compared_to s a b = Running (record { pc = s.pc + 1; registers = s.registers; frame = s.frame; compared = Some (a, b) })
 
+-- Both parts of a division of the number of register 0, where register 2 has what is above its highest bit. It traps as the processor does.
+abbrev pub parted : MachineState → Bool → ℕ → MachineState
+parted s signed b = record {
+  pc = s.pc + 1;
+  registers = put (put s.registers 0 (divided Quotient signed (s.registers 0) b)) 2 (divided Remainder signed (s.registers 0) b);
+  frame = s.frame;
+  compared = None;
+}
+
+abbrev pub divides : MachineState → Bool → ℕ → RunOutcome MachineState
+divides s signed b =
+    if nat_eq (s.registers 2) (extended signed (s.registers 0)) then if division_traps signed (s.registers 0) b then Trapped else Running (parted s signed b)
+    else Stuck
+
 -- an instruction that is jumped to
 abbrev pub jumped : MachineState → ℕ → RunOutcome MachineState
 jumped s target = Running (record { pc = target; registers = s.registers; frame = s.frame; compared = s.compared })
@@ -64,6 +81,8 @@ executed args slots (Some (Store k from)) s = with_register s from (λ n. frame_
 executed args slots (Some (Compute o to from)) s = with_register s to (λ a. with_source slots s from (λ b. written s to (computed o a b) None))
 executed args slots (Some (Shift o to)) s = with_register s to (λ a. with_register s 1 (λ n. written s to (shifted o a n) None))
 executed args slots (Some (ShiftBy o to n)) s = with_register s to (λ a. written s to (shifted o a n) None)
+executed args slots (Some ExtendSign) s = written s 2 (extended true (s.registers 0)) s.compared
+executed args slots (Some (Divide signed from)) s = with_source slots s from (λ b. divides s signed b)
 executed args slots (Some (Compare left right)) s = with_register s left (λ a. with_source slots s right (λ b. compared_to s a b))
 executed args slots (Some (Set to c)) s = with_compared s.compared (λ a b. written s to (truth (condition_holds c a b)) s.compared)
 executed args slots (Some (MoveIf c to from)) s = with_compared s.compared (λ a b. with_register s to (λ x. with_source slots s from

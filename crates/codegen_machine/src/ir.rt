@@ -5,5 +5,7 @@
 mod operation;
 mod procedure;
 
-pub use operation::{Condition, Count, Line, Operation, Operator, Right, ShiftOperator};
+pub use operation::{
+    Condition, Count, DivisionPart, Line, Operation, Operator, Right, ShiftOperator,
+};
 pub use procedure::{Malformed, Part, Procedure};

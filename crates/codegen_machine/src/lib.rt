@@ -93,6 +93,16 @@ pub enum Instruction {
         /// By how many places, modulo 64.
         count: u8,
     },
+    /// Puts into register 2 what register 0 has above its highest bit: copies of that bit.
+    ExtendSign,
+    /// Divides the number that has register 2 above register 0: puts the quotient into register 0 and the remainder into register 2, and
+    /// forgets the numbers last compared. It traps at a zero divisor, and where the quotient has too many bits.
+    Divide {
+        /// Whether the numbers have a sign.
+        is_signed: bool,
+        /// The divisor.
+        from: Source,
+    },
     /// Compares two numbers.
     Compare {
         /// The register with the first number.

@@ -26,10 +26,11 @@
 //! vregs     = "(" [ vreg { "," vreg } ] ")" ;
 //! vreg      = "v" NUMBER ;                                        (* one word; the number is to 1073741823 *)
 //! value     = vreg "=" ( "argument" number | "constant" number | "copy" vreg | ( operator | condition ) pair
-//!           | shift vreg "," ( vreg | number ) | "select" vreg "," vreg "," vreg ) ;
+//!           | shift vreg "," ( vreg | number ) | division vreg "," vreg | "select" vreg "," vreg "," vreg ) ;
 //! pair      = vreg "," ( vreg | number ) ;                        (* the number is to 2147483647 *)
 //! operator  = "add" | "sub" | "mul" | "and" | "or" | "xor" ;
 //! shift     = "shift_left" | "shift_right" | "signed_shift_right" ;   (* a number after it is to 63 *)
+//! division  = [ "signed_" ] ( "div" | "rem" ) ;
 //! condition = "equal" | "not_equal" | [ "signed_" ] ( "less" | "less_or_equal" | "greater" | "greater_or_equal" ) ;
 //! jump      = "jump" target ;
 //! branch    = "branch_if" ( vreg | condition pair ) target "," target ;
@@ -38,8 +39,9 @@
 //! ```
 //!
 //! Operators compute modulo 2^64. A condition is 1 if it holds, else 0; the signed conditions read two's complement. A
-//! shift moves bits by its second number modulo 64; `signed_shift_right` copies the highest bit. `select` is its second
-//! number if its first isn't 0, else its third. `branch_if` takes its first target if its number isn't 0 or its
+//! shift moves bits by its second number modulo 64; `signed_shift_right` copies the highest bit. `div` is a quotient and
+//! `rem` a remainder: a signed quotient is rounded towards 0, and a signed remainder has the dividend's sign. A division
+//! by 0 traps, and so does a signed one of -2^63 by -1. `select` is its second number if its first isn't 0, else its third. `branch_if` takes its first target if its number isn't 0 or its
 //! condition holds, else its second.
 //!
 //! Arguments are numbered from 0, below 2^28. A function has at most a million blocks, instructions and vregs, counted

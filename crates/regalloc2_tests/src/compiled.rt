@@ -29,7 +29,7 @@ fn show<W: Write>(alloc: Global, text: &[u8], to: &mut W) -> io::Result<()> {
 }
 
 /// Functions of two arguments, which are run.
-const RUNS: [(&str, u64, u64); 12] = [
+const RUNS: [(&str, u64, u64); 23] = [
     ("v2 = and v0, v1", 12, 10),
     ("v2 = or v0, 10", 12, 0),
     ("v2 = xor v0, v1", 12, 10),
@@ -42,10 +42,24 @@ const RUNS: [(&str, u64, u64); 12] = [
     ("v2 = shift_right v0, v1", MINUS_ONE, 65),
     ("v2 = signed_shift_right v0, 63", MINUS_ONE, 0),
     ("v2 = shift_left v1, v1", 0, 3),
+    ("v2 = div v0, v1", MINUS_ONE, 10),
+    ("v2 = rem v0, v1", MINUS_ONE, 10),
+    ("v2 = signed_div v0, v1", MINUS_ONE - 6, 2),
+    ("v2 = signed_rem v0, v1", MINUS_ONE - 6, 2),
+    ("v2 = signed_div v0, v1", 7, MINUS_ONE - 1),
+    ("v2 = signed_rem v0, v1", 7, MINUS_ONE - 1),
+    ("v2 = div v1, v1", 0, 3),
+    ("v2 = rem v0, v1", 7, 0),
+    ("v2 = signed_div v0, v1", LEAST, MINUS_ONE),
+    ("v2 = signed_rem v0, v1", LEAST, MINUS_ONE),
+    ("v2 = div v0, v1", LEAST, MINUS_ONE),
 ];
 
 /// -1 modulo 2^64.
 const MINUS_ONE: u64 = u64::MAX;
+
+/// -2^63 modulo 2^64.
+const LEAST: u64 = 1 << 63;
 
 /// Writes what a function returns that has this line, and what its code does.
 fn show_run<W: Write>(

@@ -30,6 +30,9 @@ const OPERATIONS: [&str; 18] = [
 /// The shifts.
 const SHIFTS: [&str; 3] = ["shift_left", "shift_right", "signed_shift_right"];
 
+/// The divisions.
+const DIVISIONS: [&str; 4] = ["div", "rem", "signed_div", "signed_rem"];
+
 /// Where the conditions begin among the operations.
 const CONDITIONS: usize = 8;
 
@@ -94,9 +97,35 @@ impl Draft {
         Ok(())
     }
 
+    /// Writes a division of odd numbers, which doesn't trap.
+    fn write_division(&mut self, to: u32) -> Result<(), AllocError> {
+        let (left, right) = (self.pick(), self.pick());
+        let (dividend, divisor) = (self.new_vreg(), self.new_vreg());
+        writeln!(
+            self.text,
+            "  v{dividend} = or v{left}, 1\n  v{divisor} = or v{right}, 1"
+        )?;
+        let at = self.random.below(DIVISIONS.len());
+        let name = DIVISIONS.get(at).copied().unwrap_or("div");
+        write!(self.text, "  v{to} = {name} v{dividend}, v{divisor}")?;
+        Ok(())
+    }
+
     /// Writes an operation.
     fn write_operation(&mut self) -> Result<(), AllocError> {
         let to = self.new_vreg();
+        if self.random.once_in(8) {
+            self.write_division(to)?;
+        } else {
+            self.write_plain(to)?;
+        }
+        writeln!(self.text)?;
+        self.known.push(to)?;
+        Ok(())
+    }
+
+    /// Writes an operation that isn't a division.
+    fn write_plain(&mut self, to: u32) -> Result<(), AllocError> {
         write!(self.text, "  v{to} = ")?;
         let at = self.random.below(24);
         if let Some(name) = OPERATIONS.get(at) {
@@ -113,8 +142,6 @@ impl Draft {
             let number = self.random.next();
             write!(self.text, "constant {number}")?;
         }
-        writeln!(self.text)?;
-        self.known.push(to)?;
         Ok(())
     }
 

@@ -8,23 +8,26 @@ use Rattle.codegen_machine.specs.declared.ir.operation.Operation.{Operation}
 use Rattle.codegen_machine.specs.Machine.{CodeValue, MachineState, machine_run, machine_step}
 use Rattle.codegen_machine.specs.Run.Runs.{standing_of, run_outcome}
 use Rattle.codegen_machine.specs.declared.run.standing.Standing.{Standing}
-use Rattle.codegen_machine.specs.declared.run.standing.Standing.TheVariants.{Running, Returned, Stuck}
+use Rattle.codegen_machine.specs.declared.run.standing.Standing.TheVariants.{Running, Returned, Trapped, Stuck}
 
 -- what is over stands as it did, however it would go on
 pub stopped : {S : Type 0} (r : Standing) (s : S) (go : S → RunOutcome S) → (r ≡ Running → ⊥) → r ≡ standing_of (further (run_outcome r s) go)
 stopped Running s go over = absurd (over refl)
 stopped (Returned n) s go over = refl
+stopped Trapped s go over = refl
 stopped Stuck s go over = refl
 
 -- and is that outcome
 pub over_stays : {S : Type 0} (r : Standing) (s : S) (go : S → RunOutcome S) → (r ≡ Running → ⊥) → further (run_outcome r s) go ≡ run_outcome r s
 over_stays Running s go over = absurd (over refl)
 over_stays (Returned n) s go over = refl
+over_stays Trapped s go over = refl
 over_stays Stuck s go over = refl
 
 pub stands_so : {S : Type 0} (r : Standing) (s : S) → r ≡ standing_of (run_outcome r s)
 stands_so Running s = refl
 stands_so (Returned n) s = refl
+stands_so Trapped s = refl
 stands_so Stuck s = refl
 
 -- a run of a function that is over after so many steps is so after more

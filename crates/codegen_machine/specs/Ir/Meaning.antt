@@ -5,9 +5,10 @@ use Rattle.regalloc2_function.specs.FunctionValue.{FunctionValue, block_at}
 use Rattle.regalloc2_function.specs.Path.{Location, first_of}
 use Rattle.regalloc2_function.specs.SourceRun.{arguments_at}
 use Rattle.regalloc2_semantics.specs.Values.Interpreters.{number_set, passed_on}
-use Rattle.codegen_machine.specs.Ir.Numbers.{RunOutcome, Running, Returned, Stuck, further, computed, shifted, condition_holds, truth}
+use Rattle.codegen_machine.specs.Ir.Numbers.{RunOutcome, Running, Returned, Trapped, Stuck, further, computed, shifted, divided, division_traps, condition_holds}
+use Rattle.codegen_machine.specs.Ir.Numbers.{truth}
 use Rattle.codegen_machine.specs.declared.ir.operation.Operation.{Operation}
-use Rattle.codegen_machine.specs.declared.ir.operation.Operation.TheVariants.{Argument, Constant, Copy, Compute, Shift, Compare, Select, Jump, BranchIf, BranchIfHolds}
+use Rattle.codegen_machine.specs.declared.ir.operation.Operation.TheVariants.{Argument, Constant, Copy, Compute, Shift, Divide, Compare, Select, Jump, BranchIf, BranchIfHolds}
 use Rattle.codegen_machine.specs.declared.ir.operation.Operation.TheVariants.{Return}
 use Rattle.codegen_machine.specs.declared.ir.operation.Count.{Count}
 use Rattle.codegen_machine.specs.declared.ir.operation.Count.TheVariants.{VReg as CountIn, Number as CountOf}
@@ -52,6 +53,8 @@ done f args (Some (Constant to n)) s = onward s to n
 done f args (Some (Copy to from)) s = onward s to (s.numbers from)
 done f args (Some (Compute o to left right)) s = onward s to (computed o (s.numbers left) (right_number s.numbers right))
 done f args (Some (Shift o to left count)) s = onward s to (shifted o (s.numbers left) (count_number s.numbers count))
+done f args (Some (Divide part signed to left right)) s =
+    if division_traps signed (s.numbers left) (s.numbers right) then Trapped else onward s to (divided part signed (s.numbers left) (s.numbers right))
 done f args (Some (Compare c to left right)) s = onward s to (truth (condition_holds c (s.numbers left) (right_number s.numbers right)))
 done f args (Some (Select to c one other)) s = onward s to (if nat_eq (s.numbers c) 0 then s.numbers other else s.numbers one)
 done f args (Some Jump) s = along f s 0

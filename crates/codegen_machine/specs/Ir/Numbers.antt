@@ -1,9 +1,11 @@
 -- Whole numbers of 64 bits: what operators compute of them, and which conditions hold.
-use Rattle.std.specs.Prelude.{ℕ, ◌+◌, ◌-◌, ◌*◌, ◌/◌, ◌%◌, ◌^◌, Bool, not, nat_eq, nat_lt, nat_le, if◌then◌else◌, bit_and, bit_or, bit_xor}
+use Rattle.std.specs.Prelude.{ℕ, ◌+◌, ◌-◌, ◌*◌, ◌/◌, ◌%◌, ◌^◌, Bool, false, true, ◌&&◌, ◌||◌, not, nat_eq, nat_lt, nat_le, if◌then◌else◌, bit_and, bit_or, bit_xor}
 use Rattle.codegen_machine.specs.declared.ir.operation.Operator.{Operator}
 use Rattle.codegen_machine.specs.declared.ir.operation.Operator.TheVariants.{Add, Sub, Mul, And, Or, Xor}
 use Rattle.codegen_machine.specs.declared.ir.operation.ShiftOperator.{ShiftOperator}
 use Rattle.codegen_machine.specs.declared.ir.operation.ShiftOperator.TheVariants.{Left, Right, SignedRight}
+use Rattle.codegen_machine.specs.declared.ir.operation.DivisionPart.{DivisionPart}
+use Rattle.codegen_machine.specs.declared.ir.operation.DivisionPart.TheVariants.{Quotient, Remainder}
 use Rattle.codegen_machine.specs.declared.ir.operation.Condition.{Condition}
 use Rattle.codegen_machine.specs.declared.ir.operation.Condition.TheVariants.{Equal, NotEqual, Less, LessOrEqual, Greater, GreaterOrEqual}
 use Rattle.codegen_machine.specs.declared.ir.operation.Condition.TheVariants.{SignedLess, SignedLessOrEqual, SignedGreater, SignedGreaterOrEqual}
@@ -27,6 +29,32 @@ shifted SignedRight a n = if nat_lt a (2 ^ 63) then a / 2 ^ (n % 64) else 2 ^ 64
 abbrev pub signed_rank : ℕ → ℕ
 signed_rank a = (a + 2 ^ 63) % 2 ^ 64
 
+-- whether a number is negative, with sign; and how far it is from 0
+abbrev pub is_negative : ℕ → Bool
+is_negative a = nat_le (2 ^ 63) a
+
+abbrev pub magnitude : ℕ → ℕ
+magnitude a = if is_negative a then 2 ^ 64 - a else a
+
+-- so far from 0, above or below
+abbrev pub with_sign : Bool → ℕ → ℕ
+with_sign negative n = if negative then (2 ^ 64 - n) % 2 ^ 64 else n
+
+-- a quotient, towards 0, or a remainder, which has the dividend's sign
+abbrev pub divided : DivisionPart → Bool → ℕ → ℕ → ℕ
+divided Quotient false a b = a / b
+divided Remainder false a b = a % b
+divided Quotient true a b = with_sign (if is_negative a then not (is_negative b) else is_negative b) (magnitude a / magnitude b)
+divided Remainder true a b = with_sign (is_negative a) (magnitude a % magnitude b)
+
+-- whether a division traps: at a zero divisor, and with sign where -2^63 is divided by -1
+abbrev pub division_traps : Bool → ℕ → ℕ → Bool
+division_traps signed a b = nat_eq b 0 || (signed && (nat_eq a (2 ^ 63) && nat_eq b (2 ^ 64 - 1)))
+
+-- what a number has above its highest bit: nothing, or copies of that
+abbrev pub extended : Bool → ℕ → ℕ
+extended signed a = if signed && is_negative a then 2 ^ 64 - 1 else 0
+
 -- whether a condition holds
 abbrev pub condition_holds : Condition → ℕ → ℕ → Bool
 condition_holds Equal a b = nat_eq a b
@@ -48,14 +76,16 @@ truth b = if b then 1 else 0
 abbrev pub put : (ℕ → ℕ) → ℕ → ℕ → ℕ → ℕ
 put m k n q = if nat_eq k q then n else m q
 
--- how a run stands: it goes on in a state, it has ended with a number, or it can't go on
+-- how a run stands: it goes on in a state, it has ended with a number or by a trap, or it can't go on
 pub data RunOutcome (S : Type 0) : Type 0 where
   Running : S → RunOutcome S
   Returned : ℕ → RunOutcome S
+  Trapped : RunOutcome S
   Stuck : RunOutcome S
 
 -- goes on where it still runs
 abbrev pub further : {S : Type 0} → RunOutcome S → (S → RunOutcome S) → RunOutcome S
 further (Running s) go = go s
 further (Returned n) go = Returned n
+further Trapped go = Trapped
 further Stuck go = Stuck

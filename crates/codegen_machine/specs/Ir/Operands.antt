@@ -1,14 +1,17 @@
 -- What an operation reads and writes, as the allocator is told.
-use Rattle.std.specs.Prelude.{Bool, true, false, List, [], ◌∷◌}
-use Rattle.regalloc2_names.specs.Register.{VirtualRegister}
+use Rattle.std.specs.Prelude.{ℕ, Bool, true, false, List, [], ◌∷◌}
+use Rattle.regalloc2_names.specs.Register.{Register, VirtualRegister, is_register}
 use Rattle.regalloc2_names.specs.Operand.{OperandValue}
 use Rattle.regalloc2_names.specs.declared.OperandConstraint.{OperandConstraint}
+use Rattle.regalloc2_names.specs.declared.RegClass.TheVariants.{Int}
 use Rattle.regalloc2_names.specs.declared.OperandConstraint.TheVariants.{Any, Reg, FixedReg, Reuse}
 use Rattle.regalloc2_names.specs.declared.OperandKind.TheVariants.{Def, Use}
 use Rattle.regalloc2_names.specs.declared.OperandPos.TheVariants.{Early, Late}
 use Rattle.codegen_machine.specs.declared.ir.operation.Operation.{Operation}
-use Rattle.codegen_machine.specs.declared.ir.operation.Operation.TheVariants.{Argument, Constant, Copy, Compute, Shift, Compare, Select, Jump, BranchIf, BranchIfHolds}
+use Rattle.codegen_machine.specs.declared.ir.operation.Operation.TheVariants.{Argument, Constant, Copy, Compute, Shift, Divide, Compare, Select, Jump, BranchIf, BranchIfHolds}
 use Rattle.codegen_machine.specs.declared.ir.operation.Operation.TheVariants.{Return}
+use Rattle.codegen_machine.specs.declared.ir.operation.DivisionPart.{DivisionPart}
+use Rattle.codegen_machine.specs.declared.ir.operation.DivisionPart.TheVariants.{Quotient, Remainder}
 use Rattle.codegen_machine.specs.declared.ir.operation.Count.{Count}
 use Rattle.codegen_machine.specs.declared.ir.operation.Count.TheVariants.{VReg as CountIn, Number as CountOf}
 use Rattle.codegen_machine.specs.declared.ir.operation.Right.{Right}
@@ -31,18 +34,39 @@ abbrev pub count_in : Count → List OperandValue
 count_in (CountIn v) = use_in (FixedReg (record { number = 1; class = v.class })) v ∷ []
 count_in (CountOf n) = []
 
+-- the register into which the processor puts a part of a division, and the one into which it puts the other part
+abbrev pub part_register : DivisionPart → ℕ
+part_register Quotient = 0
+part_register Remainder = 2
+
+abbrev pub other_register : DivisionPart → ℕ
+other_register Quotient = 2
+other_register Remainder = 0
+
+-- a division takes its dividend from register 0, and reads its divisor late, from anywhere
+abbrev pub divide_operands : DivisionPart → VirtualRegister → VirtualRegister → VirtualRegister → List OperandValue
+divide_operands part to left right = def_in (FixedReg (record { number = part_register part; class = to.class })) to
+    ∷ use_in (FixedReg (record { number = 0; class = left.class })) left
+    ∷ record { vreg = right; constraint = Any; kind = Use; position = Late } ∷ []
+
 abbrev pub operands_of : Operation → List OperandValue
 operands_of (Argument to k) = def_in Reg to ∷ []
 operands_of (Constant to n) = def_in Reg to ∷ []
 operands_of (Copy to from) = def_in Reg to ∷ use_in Any from ∷ []
 operands_of (Compute o to left right) = def_in (Reuse 1) to ∷ use_in Reg left ∷ right_in right
 operands_of (Shift o to left count) = def_in (Reuse 1) to ∷ use_in Reg left ∷ count_in count
+operands_of (Divide part signed to left right) = divide_operands part to left right
 operands_of (Compare c to left right) = def_in Reg to ∷ use_in Reg left ∷ right_in right
 operands_of (Select to c one other) = def_in (Reuse 1) to ∷ use_in Reg one ∷ use_in Any other ∷ use_in Any c ∷ []
 operands_of Jump = []
 operands_of (BranchIf v) = use_in Any v ∷ []
 operands_of (BranchIfHolds c left right) = use_in Reg left ∷ right_in right
 operands_of (Return v) = use_in Any v ∷ []
+
+-- the registers that an operation overwrites besides its definitions: a division, that of its other part
+abbrev pub is_clobbered : Operation → Register → Bool
+is_clobbered (Divide part signed to left right) r = is_register (record { number = other_register part; class = Int }) r
+is_clobbered o r = false
 
 -- the operations that go on to a successor
 abbrev pub is_jump : Operation → Bool

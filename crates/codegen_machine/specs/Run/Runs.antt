@@ -2,13 +2,13 @@
 use Rattle.std.specs.Prelude.{ℕ, List, codes, slice_index, None}
 use Rattle.std.specs.Fmt.{decimal}
 use Rattle.regalloc2_function.specs.Path.{first_of}
-use Rattle.codegen_machine.specs.Ir.Numbers.{RunOutcome, Running as runs, Returned as returned, Stuck as sticks}
+use Rattle.codegen_machine.specs.Ir.Numbers.{RunOutcome, Running as runs, Returned as returned, Trapped as traps, Stuck as sticks}
 use Rattle.codegen_machine.specs.Ir.Meaning.{ProcedureState}
 use Rattle.codegen_machine.specs.Ir.Seen.{function_of_procedure}
 use Rattle.codegen_machine.specs.declared.ir.procedure.Procedure.{Procedure}
 use Rattle.codegen_machine.specs.Machine.{MachineState}
 use Rattle.codegen_machine.specs.declared.run.standing.Standing.{Standing}
-use Rattle.codegen_machine.specs.declared.run.standing.Standing.TheVariants.{Running, Returned, Stuck}
+use Rattle.codegen_machine.specs.declared.run.standing.Standing.TheVariants.{Running, Returned, Trapped, Stuck}
 
 -- the arguments by number; past the given ones they are 0
 abbrev pub arguments_of : List ℕ → ℕ → ℕ
@@ -24,16 +24,19 @@ first_machine = record { pc = 0; registers = λ r. 0; frame = λ k. 0; compared 
 abbrev pub standing_of : {S : Type 0} → RunOutcome S → Standing
 standing_of (runs s) = Running
 standing_of (returned n) = Returned n
+standing_of traps = Trapped
 standing_of sticks = Stuck
 
 -- and with it
 abbrev pub run_outcome : {S : Type 0} → Standing → S → RunOutcome S
 run_outcome Running s = runs s
 run_outcome (Returned n) s = returned n
+run_outcome Trapped s = traps
 run_outcome Stuck s = sticks
 
 -- in words
 abbrev pub standing_text : Standing → List ℕ
 standing_text Running = codes "still running"
 standing_text (Returned n) = decimal n
+standing_text Trapped = codes "trapped"
 standing_text Stuck = codes "stuck"

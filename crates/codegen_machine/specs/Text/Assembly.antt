@@ -43,6 +43,9 @@ shift_name Left = codes "shlq"
 shift_name Right = codes "shrq"
 shift_name SignedRight = codes "sarq"
 
+abbrev pub division_name : Bool → List ℕ
+division_name signed = if signed then codes "idivq" else codes "divq"
+
 -- the conditions: above and below for numbers without sign, greater and less for those with sign
 abbrev pub condition_letters : Condition → List ℕ
 condition_letters Equal = codes "e"
@@ -76,6 +79,8 @@ instruction_text (variant.Store k from) = codes "movq " ++ register_name from ++
 instruction_text (variant.Compute o to from) = operator_name o ++ codes " " ++ source_text from ++ codes ", " ++ register_name to
 instruction_text (variant.Shift o to) = shift_name o ++ codes " %cl, " ++ register_name to
 instruction_text (variant.ShiftBy o to n) = shift_name o ++ codes " $" ++ decimal n ++ codes ", " ++ register_name to
+instruction_text variant.ExtendSign = codes "cqto"
+instruction_text (variant.Divide signed from) = division_name signed ++ codes " " ++ source_text from
 instruction_text (variant.Compare left right) = codes "cmpq " ++ source_text right ++ codes ", " ++ register_name left
 instruction_text (variant.Set to c) = codes "set" ++ condition_letters c ++ codes " " ++ byte_name to ++ codes "; movzbq " ++ byte_name to ++ codes ", "
     ++ register_name to

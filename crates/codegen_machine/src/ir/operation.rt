@@ -1,17 +1,25 @@
 //! What a function's lines do.
 
-ghost use Rattle.std.specs.Prelude.{◌≡◌, ◌∷◌, ◌++◌, false, IfOk, OnOk};
+ghost use Rattle.std.specs.Prelude.{◌≡◌, ◌≤◌, ◌∷◌, ◌++◌, IfOk, OnOk};
 ghost use Rattle.std.proofs.Props.{props};
 ghost use Rattle.regalloc2_names.specs.Register.{Register};
 ghost use Rattle.regalloc2_names.specs.RegisterSet.{has_register};
-ghost use Rattle.codegen_machine.specs.Ir.Operands.{count_in, def_in, operands_of, right_in, use_in};
+ghost use Rattle.codegen_machine.specs.Ir.Operands.{count_in, def_in, divide_operands, is_clobbered, operands_of, other_register, part_register, right_in, use_in};
 ghost use Rattle.codegen_machine.specs.Ir.Once.{operands-once};
 
-use regalloc2::{Operand, OperandConstraint, PReg, PRegSet, VReg};
+use regalloc2::{
+    Operand, OperandConstraint, OperandKind, OperandPos, PReg, PRegSet, RegClass, VReg,
+};
 use std::alloc::{AllocError, Global};
 
 /// The register from which the processor takes counts of shifts.
 const COUNT_REGISTER: usize = 1;
+
+/// The register from which it takes dividends, and into which it puts quotients.
+const QUOTIENT_REGISTER: usize = 0;
+
+/// The register into which it puts remainders.
+const REMAINDER_REGISTER: usize = 2;
 
 /// What is computed of two numbers, modulo 2^64.
 #[derive(Clone, Copy, Debug, PartialEq, Eq)]
@@ -39,6 +47,15 @@ pub enum ShiftOperator {
     Right,
     /// To smaller places; copies of the highest bit come in.
     SignedRight,
+}
+
+/// Which number a division gives.
+#[derive(Clone, Copy, Debug, PartialEq, Eq)]
+pub enum DivisionPart {
+    /// The quotient, towards 0.
+    Quotient,
+    /// The remainder, which has the dividend's sign.
+    Remainder,
 }
 
 /// How a number compares to another one.
@@ -132,6 +149,19 @@ pub enum Operation {
         /// By how many places.
         count: Count,
     },
+    /// A quotient or remainder. It traps at a zero divisor, and with sign where -2^63 is divided by -1.
+    Divide {
+        /// Which one.
+        part: DivisionPart,
+        /// Whether the numbers have a sign.
+        is_signed: bool,
+        /// What takes it.
+        to: VReg,
+        /// The dividend.
+        left: VReg,
+        /// The divisor.
+        right: VReg,
+    },
     /// 1 where a condition holds, and else 0.
     Compare {
         /// The condition.
@@ -184,10 +214,10 @@ pub struct Line {
     pub operation: Operation,
     /// What it reads and writes, and in which places.
     pub operands: Vec<Operand>,
-    /// Which registers it overwrites besides: none.
+    /// Which registers it overwrites besides.
     pub clobbers: PRegSet,
     pub ghost agree: { operands.items ≡ operands_of operation } by { operands-once operands.items operation },
-    pub ghost none: { (r : Register) → has_register clobbers r ≡ false } by { Prim.hlevel props },
+    pub ghost overwrites: { (r : Register) → has_register clobbers r ≡ is_clobbered operation r } by { Prim.hlevel props },
 }
 
 /// The operand of a second number, which is read from anywhere; a number has none.
@@ -219,6 +249,62 @@ fn shift_operands(
             [to, left, Operand::reg_fixed_use(vreg, register)].to_vec(alloc)
         }
         Count::Number(_) => [to, left].to_vec(alloc),
+    }
+}
+
+/// The register into which the processor puts a part of a division.
+fn part_register(part: DivisionPart) -> usize
+    ensures value { result ≡ part_register part }
+    ensures small { result ≤ 2 }
+{
+    match part {
+        DivisionPart::Quotient => QUOTIENT_REGISTER,
+        DivisionPart::Remainder => REMAINDER_REGISTER,
+    }
+}
+
+/// The register into which it puts the other part.
+fn other_register(part: DivisionPart) -> usize
+    ensures value { result ≡ other_register part }
+    ensures small { result ≤ 2 }
+{
+    match part {
+        DivisionPart::Quotient => REMAINDER_REGISTER,
+        DivisionPart::Remainder => QUOTIENT_REGISTER,
+    }
+}
+
+/// The operands of a division. The divisor is read while the processor's two registers are written already, so its use is late.
+fn divide_operands(
+    alloc: Global,
+    part: DivisionPart,
+    to: VReg,
+    left: VReg,
+    right: VReg,
+) -> Result<Vec<Operand>, AllocError>
+    ensures { IfOk result (λ v. v.items ≡ divide_operands part to left right) }
+{
+    let to = Operand::reg_fixed_def(to, PReg::new(part_register(part), to.class()));
+    let left = Operand::reg_fixed_use(left, PReg::new(QUOTIENT_REGISTER, left.class()));
+    let right = Operand::new(
+        right,
+        OperandConstraint::Any,
+        OperandKind::Use,
+        OperandPos::Late,
+    );
+    [to, left, right].to_vec(alloc)
+}
+
+/// The registers that an operation overwrites besides its definitions.
+fn clobbers(operation: Operation) -> PRegSet
+    ensures { (r : Register) → has_register result r ≡ is_clobbered operation r }
+{
+    match operation {
+        Operation::Divide { part, .. } => {
+            let register = PReg::new(other_register(part), RegClass::Int);
+            PRegSet::empty().with(register)
+        }
+        _ => PRegSet::empty(),
     }
 }
 
@@ -257,6 +343,13 @@ fn operands(alloc: Global, operation: &Operation) -> Result<Vec<Operand>, AllocE
             count,
             ..
         } => shift_operands(alloc, to, left, count),
+        Operation::Divide {
+            part,
+            to,
+            left,
+            right,
+            ..
+        } => divide_operands(alloc, part, to, left, right),
         Operation::Compare {
             to,
             left,
@@ -295,7 +388,7 @@ impl Line {
         Ok(Line {
             operation,
             operands,
-            clobbers: PRegSet::empty(),
+            clobbers: clobbers(operation),
         })
     }
 }

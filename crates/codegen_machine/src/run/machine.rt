@@ -1,15 +1,15 @@
 //! The machine, step by step.
 
-ghost use Rattle.std.specs.Prelude.{◌≡◌, ◌+◌, ◌<◌, ◌^◌, IfOk, nat_lt, if◌then◌else◌, replicate, vec_len};
-ghost use Rattle.codegen_machine.specs.Ir.Numbers.{computed, condition_holds, shifted, truth};
-ghost use Rattle.codegen_machine.specs.Machine.{code_of, compared_to, executed, is_general, jumped, machine_run, machine_step};
+ghost use Rattle.std.specs.Prelude.{◌≡◌, ◌+◌, ◌<◌, ◌^◌, IfOk, true, nat_lt, if◌then◌else◌, replicate, vec_len};
+ghost use Rattle.codegen_machine.specs.Ir.Numbers.{computed, condition_holds, extended, shifted, truth};
+ghost use Rattle.codegen_machine.specs.Machine.{code_of, compared_to, divides, executed, is_general, jumped, machine_run, machine_step};
 ghost use Rattle.codegen_machine.specs.Machine.{frame_stored, with_compared, with_register, with_source, written};
 ghost use Rattle.codegen_machine.specs.Run.Runs.{arguments_of, first_machine, standing_of, run_outcome};
 ghost use Rattle.codegen_machine.specs.Run.States.{machine_state, source_number, MakesOutcome};
 
-use super::numbers::{argument, compute, does_hold, shift};
+use super::numbers::{argument, compute, divided, does_hold, does_trap, extended, shift};
 use super::standing::Standing;
-use crate::ir::{Condition, Operator, ShiftOperator};
+use crate::ir::{Condition, DivisionPart, Operator, ShiftOperator};
 use crate::{Code, Instruction, Source};
 use std::alloc::{AllocError, Global};
 
@@ -131,6 +131,44 @@ impl Machine {
         self.write(to, shift(operator, number, count), None)
     }
 
+    /// Copies the highest bit of register 0 into all of register 2.
+    fn extend_sign(&mut self) -> Option<Standing>
+        requires room { self.old.pc + 1 < 2 ^ 64 }
+        ensures { let s = machine_state self.old in MakesOutcome (written s 2 (extended true (s.registers 0)) s.compared) self.old self.new result }
+    {
+        let (number, compared) = (extended(true, self.registers[0]), self.compared);
+        self.write(2, number, compared)
+    }
+
+    /// Divides the number of register 0.
+    fn divide_by(&mut self, is_signed: bool, divisor: u64) -> Option<Standing>
+        requires room { self.old.pc + 1 < 2 ^ 64 }
+        ensures { MakesOutcome (divides (machine_state self.old) is_signed divisor) self.old self.new result }
+    {
+        let dividend = self.registers[0];
+        if self.registers[2] != extended(is_signed, dividend) {
+            return None;
+        }
+        if does_trap(is_signed, dividend, divisor) {
+            return Some(Standing::Trapped);
+        }
+        self.registers[0] = divided(DivisionPart::Quotient, is_signed, dividend, divisor);
+        self.registers[2] = divided(DivisionPart::Remainder, is_signed, dividend, divisor);
+        self.compared = None;
+        self.pc += 1;
+        Some(Standing::Running)
+    }
+
+    /// Divides the number of register 0 by the one that is read from there.
+    fn divide(&mut self, is_signed: bool, from: Source) -> Option<Standing>
+        requires room { self.old.pc + 1 < 2 ^ 64 }
+        ensures { let s = machine_state self.old in
+            MakesOutcome (with_source (vec_len self.old.frame) s from (λ b. divides s is_signed b)) self.old self.new result }
+    {
+        let divisor = self.source(from)?;
+        self.divide_by(is_signed, divisor)
+    }
+
     /// Keeps the numbers that are compared.
     fn compare(&mut self, left: u64, right: u64) -> Option<Standing>
         requires room { self.old.pc + 1 < 2 ^ 64 }
@@ -221,6 +259,8 @@ impl Machine {
                 to,
                 count,
             } => self.shift_by(operator, to, u64::from(count)),
+            Instruction::ExtendSign => self.extend_sign(),
+            Instruction::Divide { is_signed, from } => self.divide(is_signed, from),
             Instruction::Compare { left, right } => self.compare_to(left, right),
             Instruction::Set { to, condition } => self.set(to, condition),
             Instruction::MoveIf {

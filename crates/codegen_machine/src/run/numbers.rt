@@ -1,10 +1,10 @@
 //! What is computed of numbers of 64 bits.
 
-ghost use Rattle.std.specs.Prelude.{◌≡◌, slice_index};
-ghost use Rattle.codegen_machine.specs.Ir.Numbers.{computed, condition_holds, shifted, signed_rank};
+ghost use Rattle.std.specs.Prelude.{◌≡◌, ◌<◌, ◌&&◌, ◌||◌, false, true, nat_eq, not, if◌then◌else◌, slice_index};
+ghost use Rattle.codegen_machine.specs.Ir.Numbers.{computed, condition_holds, divided, division_traps, extended, is_negative, magnitude, shifted, signed_rank, with_sign};
 ghost use Rattle.codegen_machine.specs.Run.Runs.{arguments_of};
 
-use crate::ir::{Condition, Operator, ShiftOperator};
+use crate::ir::{Condition, DivisionPart, Operator, ShiftOperator};
 
 /// What an operator computes.
 pub fn compute(operator: Operator, left: u64, right: u64) -> u64
@@ -38,6 +38,82 @@ fn signed_rank(number: u64) -> u64
     ensures { result ≡ signed_rank number }
 {
     number.wrapping_add(1 << 63)
+}
+
+/// Whether a number is negative, with sign.
+fn is_negative(number: u64) -> bool
+    ensures { result ≡ is_negative number }
+{
+    1 << 63 <= number
+}
+
+/// How far a number is from 0, with sign.
+fn magnitude(number: u64) -> u64
+    ensures value { result ≡ magnitude number }
+    ensures some { 0 < number → 0 < result }
+{
+    if is_negative(number) {
+        u64::MAX - number + 1
+    } else {
+        number
+    }
+}
+
+/// The number that is so far from 0, below it or above.
+fn with_sign(is_negative: bool, number: u64) -> u64
+    ensures { result ≡ with_sign is_negative number }
+{
+    if is_negative {
+        0u64.wrapping_sub(number)
+    } else {
+        number
+    }
+}
+
+/// A part of a division with sign.
+fn signed_divided(part: DivisionPart, left: u64, right: u64) -> u64
+    requires { 0 < right }
+    ensures { result ≡ divided part true left right }
+{
+    let (first, second) = (magnitude(left), magnitude(right));
+    match part {
+        DivisionPart::Quotient if is_negative(left) => {
+            with_sign(!is_negative(right), first / second)
+        }
+        DivisionPart::Quotient => with_sign(is_negative(right), first / second),
+        DivisionPart::Remainder => with_sign(is_negative(left), first % second),
+    }
+}
+
+/// A part of a division.
+pub fn divided(part: DivisionPart, is_signed: bool, left: u64, right: u64) -> u64
+    requires { 0 < right }
+    ensures { result ≡ divided part is_signed left right }
+{
+    match part {
+        _ if is_signed => signed_divided(part, left, right),
+        DivisionPart::Quotient => left / right,
+        DivisionPart::Remainder => left % right,
+    }
+}
+
+/// Whether a division traps.
+pub fn does_trap(is_signed: bool, left: u64, right: u64) -> bool
+    ensures value { result ≡ division_traps is_signed left right }
+    ensures some { result ≡ false → 0 < right }
+{
+    right == 0 || (is_signed && left == 1 << 63 && right == u64::MAX)
+}
+
+/// What a number has above its highest bit: nothing, or copies of that.
+pub fn extended(is_signed: bool, number: u64) -> u64
+    ensures { result ≡ extended is_signed number }
+{
+    if is_signed && is_negative(number) {
+        u64::MAX
+    } else {
+        0
+    }
 }
 
 /// Whether a condition holds.

@@ -1,18 +1,19 @@
 //! A function, step by step.
 
-ghost use Rattle.std.specs.Prelude.{◌≡◌, ◌<◌, ◌^◌, ◌+◌, IfOk, OnOk, length, map};
+ghost use Rattle.std.specs.Prelude.{◌≡◌, ◌<◌, ◌^◌, ◌+◌, IfOk, OnOk, if◌then◌else◌, length, map};
 ghost use Rattle.regalloc2_semantics.specs.Values.Interpreters.{number_set, passed_on};
 ghost use Rattle.regalloc2_function.specs.FunctionValue.{block_at};
 ghost use Rattle.regalloc2_function.specs.Path.{first_of};
 ghost use Rattle.regalloc2_function.specs.SourceRun.{arguments_at};
+ghost use Rattle.codegen_machine.specs.Ir.Numbers.{divided, division_traps, Trapped};
 ghost use Rattle.codegen_machine.specs.Ir.Meaning.{along, count_number, onward, right_number, procedure_run, procedure_step};
 ghost use Rattle.codegen_machine.specs.Ir.Seen.{function_of_procedure, operations};
 ghost use Rattle.codegen_machine.specs.Run.Runs.{arguments_of, first_state, standing_of, run_outcome};
 ghost use Rattle.codegen_machine.specs.Run.States.{numbers_by_vreg, state_of};
 
-use super::numbers::{argument, compute, does_hold, shift};
+use super::numbers::{argument, compute, divided, does_hold, does_trap, shift};
 use super::standing::Standing;
-use crate::ir::{Count, Operation, Procedure, Right};
+use crate::ir::{Count, DivisionPart, Operation, Procedure, Right};
 use regalloc2::{Block, Function, VReg};
 use std::alloc::{AllocError, Global};
 use std::collections::HashMap;
@@ -142,6 +143,25 @@ impl State {
         Ok(Standing::Running)
     }
 
+    /// Goes on with the next line where a virtual register has taken a part of a division, or traps.
+    fn divide(
+        &mut self,
+        part: DivisionPart,
+        is_signed: bool,
+        to: VReg,
+        left: u64,
+        right: u64,
+    ) -> Result<Standing, AllocError>
+        requires room { self.old.inst + 1 < 2 ^ 64 }
+        ensures { IfOk result (λ r. (if division_traps is_signed left right then Trapped else onward (state_of self.old) to (divided part is_signed left right))
+            ≡ run_outcome r (state_of self.new)) }
+    {
+        if does_trap(is_signed, left, right) {
+            return Ok(Standing::Trapped);
+        }
+        self.write(to, divided(part, is_signed, left, right))
+    }
+
     /// Goes on with the successor at a position.
     fn enter(
         &mut self,
@@ -208,6 +228,16 @@ impl State {
             } => {
                 let number = shift(operator, self.number(left), self.count(count));
                 self.write(to, number)
+            }
+            Operation::Divide {
+                part,
+                is_signed,
+                to,
+                left,
+                right,
+            } => {
+                let (left, right) = (self.number(left), self.number(right));
+                self.divide(part, is_signed, to, left, right)
             }
             Operation::Compare {
                 condition,

@@ -12,6 +12,8 @@ pub enum Standing {
     Running,
     /// It has ended with a number.
     Returned(u64),
+    /// It has ended by a trap.
+    Trapped,
     /// It can't go on.
     Stuck,
 }
@@ -23,6 +25,7 @@ impl fmt::Display for Standing {
         match self {
             Standing::Running => f.write_str("still running"),
             Standing::Returned(number) => write!(f, "{number}"),
+            Standing::Trapped => f.write_str("trapped"),
             Standing::Stuck => f.write_str("stuck"),
         }
     }

@@ -1,7 +1,7 @@
 //! Code as assembly for x86-64, in the syntax of AT&T.
 
 ghost use Rattle.std.specs.Prelude.{◌≡◌, ◌+◌, length, nat_eq, Some};
-ghost use Rattle.codegen_machine.specs.Text.Assembly.{byte_name, condition_letters, operator_name, register_name, shift_name};
+ghost use Rattle.codegen_machine.specs.Text.Assembly.{byte_name, condition_letters, division_name, operator_name, register_name, shift_name};
 ghost use Rattle.codegen_machine.specs.Text.Assembly.{assembly_text, entry_text, exit_text, instruction_text, is_next, line_text, lines_text, source_text};
 
 use crate::ir::{Condition, Operator, ShiftOperator};
@@ -115,6 +115,13 @@ fn shift_name(operator: ShiftOperator) -> &'static str
     }
 }
 
+/// The name of a division's instruction.
+fn division_name(is_signed: bool) -> &'static str
+    ensures { result.now ≡ division_name is_signed }
+{
+    if is_signed { "idivq" } else { "divq" }
+}
+
 /// How the names of instructions end that look whether a condition holds.
 fn condition_letters(condition: Condition) -> &'static str
     ensures { result.now ≡ condition_letters condition }
@@ -201,6 +208,11 @@ impl fmt::Display for InstructionText {
             } => {
                 let (name, to) = (shift_name(operator), register_name(to));
                 write!(f, "{name} ${count}, {to}")
+            }
+            Instruction::ExtendSign => f.write_str("cqto"),
+            Instruction::Divide { is_signed, from } => {
+                let (name, from) = (division_name(is_signed), SourceText(from));
+                write!(f, "{name} {from}")
             }
             Instruction::Compare { left, right } => {
                 let (left, right) = (register_name(left), SourceText(right));

@@ -3,7 +3,7 @@
 ghost use Rattle.std.specs.Prelude.{◌≤◌};
 ghost use Rattle.regalloc2_text.specs.Cursor.Cursor.{tokens_left};
 
-use crate::ir::{Condition, Count, Operation, Operator, Right, ShiftOperator};
+use crate::ir::{Condition, Count, DivisionPart, Operation, Operator, Right, ShiftOperator};
 use regalloc2::{RegClass, VReg};
 use regalloc2_text::cursor::Cursor;
 
@@ -35,6 +35,17 @@ fn shift_named(name: &str) -> Option<ShiftOperator> {
         "shift_left" => Some(ShiftOperator::Left),
         "shift_right" => Some(ShiftOperator::Right),
         "signed_shift_right" => Some(ShiftOperator::SignedRight),
+        _ => None,
+    }
+}
+
+/// The division of that name: which part it gives, and whether the numbers have a sign.
+fn division_named(name: &str) -> Option<(DivisionPart, bool)> {
+    match name {
+        "div" => Some((DivisionPart::Quotient, false)),
+        "rem" => Some((DivisionPart::Remainder, false)),
+        "signed_div" => Some((DivisionPart::Quotient, true)),
+        "signed_rem" => Some((DivisionPart::Remainder, true)),
         _ => None,
     }
 }
@@ -99,6 +110,24 @@ fn read_shift(cursor: &mut Cursor<'_, '_>, operator: ShiftOperator, to: VReg) ->
         to,
         left,
         count,
+    }
+}
+
+/// A division, from its dividend on: the dividend and the divisor, with a comma between them.
+fn read_division(
+    cursor: &mut Cursor<'_, '_>,
+    (part, is_signed): (DivisionPart, bool),
+    to: VReg,
+) -> Operation {
+    let left = read_vreg(cursor);
+    cursor.want(",");
+    let right = read_vreg(cursor);
+    Operation::Divide {
+        part,
+        is_signed,
+        to,
+        left,
+        right,
     }
 }
 
@@ -168,6 +197,10 @@ pub fn read_value(cursor: &mut Cursor<'_, '_>) -> Operation {
     if let Some(operator) = shift_named(name) {
         cursor.advance();
         return read_shift(cursor, operator, to);
+    }
+    if let Some(division) = division_named(name) {
+        cursor.advance();
+        return read_division(cursor, division, to);
     }
     if cursor.has("select") {
         return read_select(cursor, to);

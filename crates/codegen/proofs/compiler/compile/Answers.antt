@@ -3,7 +3,7 @@ use Rattle.regalloc2_function.specs.Views.{machine_of, output_of}
 use Rattle.codegen_machine.specs.Ir.Seen.{function_of_procedure}
 use Rattle.codegen_machine.specs.Machine.{CodeValue}
 use Rattle.codegen.specs.Behaves.{BehavesAs}
-use Rattle.codegen.proofs.Behaving.{behaves}
+use Rattle.codegen.proofs.Joined.{behaves}
 use Rattle.codegen.proofs.Premises.{emitted_is}
 use Rattle.codegen.proofs.compiler.compile.Goals as goal
 
