@@ -1,0 +1,143 @@
+//! Which output is returned.
+
+use crate::hook::{Cause, tell};
+use crate::library::{Library, Refusal};
+use regalloc2_judge::{Fault, Judge, Rejection, Unjudged};
+use std::borrow::Borrow;
+use std::panic::{AssertUnwindSafe, catch_unwind};
+use upstream::{Algorithm, Function, MachineEnv, Output, RegAllocError, VReg};
+
+/// The proved side: its memory, and the last output of the proved allocator.
+#[derive(Default)]
+pub(crate) struct Proved {
+    library: Library,
+    judge: Judge,
+    output: Output,
+}
+
+/// Which output is returned.
+pub(crate) enum Choice<O> {
+    /// Upstream's.
+    Upstream(O),
+    /// The one that [`Proved`] keeps.
+    Own,
+}
+
+/// What a call of upstream's gives, or `None` if it panics.
+pub(crate) fn tried<O>(call: impl FnOnce() -> Result<O, RegAllocError>) -> Option<Result<O, RegAllocError>> {
+    catch_unwind(AssertUnwindSafe(call)).ok()
+}
+
+/// What came of asking upstream.
+enum Asked<O> {
+    Accepted(O),
+    /// Upstream's own error.
+    Refused(RegAllocError),
+    /// Upstream panicked, or the judge rejects the output.
+    Failed(Cause),
+}
+
+impl Proved {
+    pub(crate) fn output(&self) -> &Output {
+        &self.output
+    }
+
+    pub(crate) fn into_output(self) -> Output {
+        self.output
+    }
+
+    /// Chooses an output: of the proved allocator first if `Fastalloc` is asked for, else of upstream's first.
+    pub(crate) fn choose<F: Function, O: Borrow<Output>>(
+        &mut self,
+        f: &F,
+        env: &MachineEnv,
+        algorithm: Algorithm,
+        upstream: impl FnOnce() -> Option<Result<O, RegAllocError>>,
+    ) -> Result<Choice<O>, RegAllocError> {
+        match algorithm {
+            Algorithm::Fastalloc => self.own_first(f, env, algorithm, upstream),
+            _ => self.own_last(f, env, algorithm, upstream),
+        }
+    }
+
+    fn own_first<F: Function, O: Borrow<Output>>(
+        &mut self,
+        f: &F,
+        env: &MachineEnv,
+        algorithm: Algorithm,
+        upstream: impl FnOnce() -> Option<Result<O, RegAllocError>>,
+    ) -> Result<Choice<O>, RegAllocError> {
+        let refusal = match self.library.allocate(f, env, &mut self.output) {
+            Ok(()) => return Ok(Choice::Own),
+            Err(refusal) => refusal,
+        };
+        if !self.can_judge(f, env) {
+            return Err(error_of(refusal, None));
+        }
+        match self.asked(f, env, upstream) {
+            Asked::Accepted(output) => Ok(Choice::Upstream(output)),
+            Asked::Refused(error) => Err(error),
+            Asked::Failed(cause) => {
+                tell(algorithm, &cause);
+                Err(error_of(refusal, Some(&cause)))
+            }
+        }
+    }
+
+    fn own_last<F: Function, O: Borrow<Output>>(
+        &mut self,
+        f: &F,
+        env: &MachineEnv,
+        algorithm: Algorithm,
+        upstream: impl FnOnce() -> Option<Result<O, RegAllocError>>,
+    ) -> Result<Choice<O>, RegAllocError> {
+        let cause = match self.asked(f, env, upstream) {
+            Asked::Accepted(output) => return Ok(Choice::Upstream(output)),
+            Asked::Refused(error) => return Err(error),
+            Asked::Failed(cause) => cause,
+        };
+        tell(algorithm, &cause);
+        match self.library.allocate(f, env, &mut self.output) {
+            Ok(()) => Ok(Choice::Own),
+            Err(refusal) => Err(error_of(refusal, Some(&cause))),
+        }
+    }
+
+    /// Asks upstream, and has the judge judge its output.
+    fn asked<F: Function, O: Borrow<Output>>(
+        &mut self,
+        f: &F,
+        env: &MachineEnv,
+        upstream: impl FnOnce() -> Option<Result<O, RegAllocError>>,
+    ) -> Asked<O> {
+        match upstream() {
+            None => Asked::Failed(Cause::Panicked),
+            Some(Err(error)) => Asked::Refused(error),
+            Some(Ok(output)) => match self.judge.judge(f, env, output.borrow()) {
+                Ok(()) => Asked::Accepted(output),
+                Err(rejection) => Asked::Failed(Cause::Rejected(rejection)),
+            },
+        }
+    }
+
+    /// Whether there can be a verdict on an output of the function. If not, upstream's wouldn't be returned.
+    fn can_judge<F: Function>(&mut self, f: &F, env: &MachineEnv) -> bool {
+        let verdict = self.judge.judge(f, env, &Output::default());
+        !matches!(verdict, Err(Rejection::Unjudged(why)) if why != Unjudged::NoMemory)
+    }
+}
+
+/// The error where no output is returned: the proved allocator's if it is one of upstream's, else the first operand at fault, or the
+/// instruction whose form isn't taken.
+fn error_of(refusal: Refusal, cause: Option<&Cause>) -> RegAllocError {
+    let inst = match refusal {
+        Refusal::Of(error) => return error,
+        Refusal::Form(inst) => inst,
+    };
+    if let Some(Cause::Rejected(rejection)) = cause
+        && let Some(Fault::Operand { inst, op, .. }) = rejection.faults().first()
+    {
+        return RegAllocError::SSA(op.vreg(), *inst);
+    }
+    RegAllocError::SSA(VReg::invalid(), inst)
+}
