@@ -9,7 +9,10 @@ here=$(cd "$(dirname "$0")" && pwd)
 made=$(mktemp -d)
 trap 'rm -rf "$made"' EXIT
 target=${CARGO_TARGET_DIR:-$made/target}
+mkdir -p "$target" && target=$(cd "$target" && pwd) || exit 2
 unset CARGO_TARGET_DIR
+REGALLOC2_C=$(cd "${REGALLOC2_C:-$here/../crates/regalloc2_c/out}" && pwd) || exit 2
+export REGALLOC2_C
 python3 "$here/conform/upstream.py" "$1" "$made/regalloc2" >"$made/upstream" || exit 2
 upstream=$(head -n 1 "$made/upstream")
 features=$(sed -n 's/^stand-in$/--features regalloc2-conform\/stand-in/p' "$made/upstream")

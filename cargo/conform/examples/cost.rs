@@ -8,11 +8,12 @@
 //!     judge-new       the same with new memory
 //!     layout          the function's words alone
 //!     upstream-run    upstream's `run` with `Fastalloc`, without its tests
+//!     upstream-tested the same with `validate_ssa`
 //!     upstream-check  upstream's checker on upstream's output
 
 use regalloc2::checker::Checker;
 use regalloc2::judged::{Judge, judge};
-use regalloc2::{Algorithm, Ctx, run, run_with_ctx};
+use regalloc2::{Algorithm, Ctx, RegallocOptions, run, run_with_ctx};
 use regalloc2_conform::functions::options;
 use regalloc2_conform::json;
 use regalloc2_judge::words::{Labels, function};
@@ -38,6 +39,10 @@ fn main() {
             black_box(words.get());
         }
         "upstream-run" => drop(black_box(upstream::run(&code, &env, &options(Algorithm::Fastalloc)).expect("an output"))),
+        "upstream-tested" => {
+            let options = RegallocOptions { validate_ssa: true, ..options(Algorithm::Fastalloc) };
+            drop(black_box(upstream::run(&code, &env, &options).expect("an output")))
+        }
         "upstream-check" => {
             let mut checker = Checker::new(&code, &env);
             checker.prepare(&output);
