@@ -1,13 +1,13 @@
 #!/usr/bin/env python3
 """upstream.py COPY OUT: prints the folder of a crate `regalloc2` 0.15.2 with the sources of COPY, and `stand-in` if Ion isn't among them.
 
-COPY is a checkout of upstream, which is taken as it is, or a crate of some other name with upstream's sources, whose manifest is
-replaced. Where the source says `no ion here`, the module `stand_in` takes Ion's place: the fast allocator, and a change that a test
-wishes. That crate is written to OUT.
+COPY is a checkout of upstream, which is printed as it is, or a crate of another name with upstream's sources. Such a crate is written
+to OUT, with a manifest of upstream's name. If the source says `no ion here`, the module `stand_in` replaces Ion: it calls the fast
+allocator, and changes the output as a test requires.
 """
 import os, re, shutil, sys
 
-STAND_IN = '''//! In place of Ion: the fast allocator, whose output a test may change.
+STAND_IN = '''//! Replaces Ion: the fast allocator, whose output a test may change.
 use crate::{Ctx, Function, MachineEnv, Output, RegAllocError, RegallocOptions};
 use std::cell::Cell;
 
@@ -15,7 +15,7 @@ std::thread_local! {
     static CHANGE: Cell<Option<fn(&mut Output)>> = const { Cell::new(None) };
 }
 
-/// Has this thread's outputs changed so.
+/// Sets the change to this thread's outputs.
 pub fn change(to: Option<fn(&mut Output)>) {
     CHANGE.set(to);
 }

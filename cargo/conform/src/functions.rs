@@ -393,7 +393,7 @@ pub fn generated(seed: u64, insts: usize) -> Code {
     let result = builder.pick(&known, Some(RegClass::Int)).unwrap_or(known[0]);
     builder.end(last, vec![Operand::reg_fixed_use(result, int(0))]);
     let mut code = Code::of(builder.parts, builder.count);
-    if seed % 3 == 0 {
+    if seed.is_multiple_of(3) {
         code.labels = code.some_labels();
     }
     code

@@ -61,6 +61,28 @@ fn upstream_s_own_output() {
     assert_eq!(upstream_accepted, COUNT as usize);
 }
 
+/// Threads allocate and judge at once, each with a context of its own.
+#[test]
+fn threads() {
+    let both = |seed: u64, ctx: &mut Ctx| {
+        [Algorithm::Fastalloc, Algorithm::Ion]
+            .map(|algorithm| run_with_ctx(&code(seed), &machine(), &options(algorithm), ctx).unwrap().clone())
+    };
+    let alone: Vec<[Output; 2]> = (0..60).map(|seed| both(seed, &mut Ctx::default())).collect();
+    std::thread::scope(|scope| {
+        for k in 0..8 {
+            let alone = &alone;
+            scope.spawn(move || {
+                let mut ctx = Ctx::default();
+                for seed in (0..60).map(|seed| (seed + 7 * k) % 60) {
+                    let outputs = both(seed, &mut ctx);
+                    assert!(outputs.iter().zip(&alone[seed as usize]).all(|(a, b)| same(a, b)), "seed {seed}");
+                }
+            });
+        }
+    });
+}
+
 #[cfg(feature = "stand-in")]
 mod stand_in {
     use super::*;

@@ -116,13 +116,13 @@ fn constraints() {
     faults(
         &code,
         &output(&code, 0, &[], &[p(1), p(1), p(2)]),
-        &["inst1 operand 1 `Def: v1i reuse(0)` in p2i: the place isn't p1i, that of the operand that it reuses"],
+        &["inst1 operand 1 `Def: v1i reuse(0)` in p2i: the place isn't p1i, the reused operand's"],
     );
     let code = straight(&[&[Operand::reg_def(v(0))], &[Operand::reg_use(v(0)), Operand::reg_reuse_def(v(1), 5)]], 2);
     faults(
         &code,
         &output(&code, 0, &[], &[p(1), p(1), p(1)]),
-        &["inst1 operand 1 `Def: v1i reuse(5)` in p1i: the operand that it reuses isn't there"],
+        &["inst1 operand 1 `Def: v1i reuse(5)` in p1i: the reused operand doesn't exist"],
     );
 }
 
@@ -147,7 +147,7 @@ fn moves() {
     faults(
         &code,
         &output(&code, 0, &[(1, p(0), p(20))], &[p(0), p(0)]),
-        &["edit 0 before inst1, p0i to p20i: an end is no register that may be allocated, and no slot of the frame"],
+        &["edit 0 before inst1, p0i to p20i: an end is no allocatable register and no slot of the frame"],
     );
     let p1f = Allocation::reg(PReg::new(1, RegClass::Float));
     faults(
@@ -163,7 +163,7 @@ fn places() {
     faults(
         &code,
         &output(&code, 0, &[], &[p(15), p(15)]),
-        &["inst0 operand 0 `Def: v0i reg` in p15i: no register that may be allocated to the class, and no slot of the frame"],
+        &["inst0 operand 0 `Def: v0i reg` in p15i: the place is no allocatable register of the class and no slot of the frame"],
     );
     let code = straight(&[&[Operand::any_def(float(0)), Operand::any_def(v(1))], &[Operand::any_use(float(0))]], 2);
     faults(&code, &output(&code, 1, &[], &[s(0), p(0), s(0)]), &["stack0: the slot isn't within the frame"]);
@@ -184,11 +184,11 @@ fn order() {
     says(|o| o.inst_alloc_offsets[0] = 1, OrderFault::Places(Inst::new(0)), "the places of inst0 are out of range");
     says(|o| o.inst_alloc_offsets[1] = 3, OrderFault::Places(Inst::new(0)), "the places of inst0 are out of range");
     says(|o| o.inst_alloc_offsets[1] = 2, OrderFault::TooManyPlaces(Inst::new(0)), "inst0 has more places than operands");
-    says(|o| o.edits.swap(0, 1), OrderFault::Edit(1), "edit 1 is before the one in front of it");
+    says(|o| o.edits.swap(0, 1), OrderFault::Edit(1), "edit 1 is at an earlier point than its predecessor");
     says(
         |o| o.edits[1].1 = Edit::Move { from: Allocation::none(), to: Allocation::none() },
         OrderFault::NoPlace(1),
-        "edit 1 reads or writes no place",
+        "edit 1 has no source or no destination",
     );
 }
 
@@ -204,7 +204,7 @@ fn no_verdict() {
     let mut other = fine.clone();
     // no kind of place
     other.allocs[0] = Allocation::from_bits(7 << 29);
-    says(&code, &other, Unjudged::BadOutput, "a number of the output names nothing");
+    says(&code, &other, Unjudged::BadOutput, "a number of the output is no encoding");
     let mut other = code.clone();
     other.lines.pop();
     says(&other, &fine, Unjudged::BadFunction(2), "bad function: a block, a range or a label is out of range");
@@ -214,7 +214,7 @@ fn no_verdict() {
     let mut other = code.clone();
     other.succs[0].push(Block::new(0));
     other.arguments[0].push(vec![]);
-    says(&other, &fine, Unjudged::NotFramed, "blocks, branches or arguments don't fit together");
+    says(&other, &fine, Unjudged::NotFramed, "the function isn't structurally valid");
 }
 
 /// Two slots that share a unit; the values are right by the names of places.

@@ -1,18 +1,18 @@
-//! What a judgement finds.
+//! The judge's results.
 
 use crate::locate::fixed_register;
 use regalloc2::{Allocation, Inst, Operand, ProgPoint, SpillSlot, VReg};
 use regalloc2_proved_sys::{Status, fault_text};
 use std::fmt;
 
-/// Why an output isn't accepted.
+/// The reason why an output isn't accepted.
 #[derive(Clone, Debug, PartialEq, Eq)]
 pub enum Rejection {
-    /// The output is wrong. There is at least one fault.
+    /// The output is wrong. The list has at least one fault.
     ///
-    /// Of an instruction's early operands the first fault is listed, and the first of its late ones. Faults of places as such
-    /// ([`OperandFault::NoCell`], [`MoveFault::NoCell`], [`MoveFault::OtherClass`], [`Fault::Slot`]) are looked for in an output
-    /// that has no others, and the first is listed.
+    /// It has the first fault among an instruction's early operands, and the first among its late ones. Faults of places
+    /// ([`OperandFault::NoCell`], [`MoveFault::NoCell`], [`MoveFault::OtherClass`], [`Fault::Slot`]) occur alone: the first is listed if
+    /// the output has no other fault.
     Faulty(Vec<Fault>),
     /// There is no verdict: the output may be right or wrong.
     Unjudged(Unjudged),
@@ -22,7 +22,7 @@ pub enum Rejection {
 #[derive(Clone, Debug, PartialEq, Eq)]
 #[non_exhaustive]
 pub enum Fault {
-    /// The place of an operand is wrong, or doesn't hold the operand's value on some path.
+    /// An operand's place is wrong, or doesn't hold the operand's value on some path.
     Operand {
         /// The instruction.
         inst: Inst,
@@ -32,129 +32,129 @@ pub enum Fault {
         op: Operand,
         /// Its place in the output; `Allocation::none()` if it has none.
         place: Allocation,
-        /// What is wrong.
+        /// The kind of fault.
         what: OperandFault,
     },
     /// A move is wrong.
     Move {
         /// The move's index in `Output::edits`.
         edit: usize,
-        /// Its point.
+        /// The move's program point.
         at: ProgPoint,
-        /// The place that it reads.
+        /// The source.
         from: Allocation,
-        /// The place that it writes.
+        /// The destination.
         to: Allocation,
-        /// What is wrong.
+        /// The kind of fault.
         what: MoveFault,
     },
     /// A spill slot is wrong.
     Slot {
-        /// The slot that an operand or a move names.
+        /// The slot.
         slot: SpillSlot,
-        /// What is wrong.
+        /// The kind of fault.
         what: SlotFault,
     },
-    /// Offsets, places or edits aren't in order, which precludes any other test.
+    /// The output isn't well-ordered. Nothing else is tested then.
     Order(OrderFault),
-    /// A fault that this crate can't place. The output is wrong nevertheless.
+    /// A fault that this crate can't locate. The output is wrong.
     Unlocated {
-        /// Its number, as `c/regalloc2_c.h` has it.
+        /// The fault's number in `c/regalloc2_c.h`.
         number: u32,
         /// The instruction, if the fault names one.
         inst: Option<Inst>,
     },
 }
 
-/// What is wrong with an operand's place.
+/// The kinds of an operand's faults.
 #[derive(Clone, Debug, PartialEq, Eq)]
 #[non_exhaustive]
 pub enum OperandFault {
     /// The operand has no place.
     Missing,
-    /// On some path no value is known to be in the place.
+    /// On some path the place holds no known value.
     NoValue,
-    /// On every path the place holds the values of these vregs, and not that of the operand's.
+    /// The place holds the values of these vregs on every path, and not the operand's value.
     OtherValues(Vec<VReg>),
-    /// The operand reuses the place of an operand that isn't there.
+    /// The reused operand doesn't exist.
     NoSuchOperand,
-    /// The place is no register, or a fixed stack slot.
+    /// The place isn't a register, or is a fixed stack slot.
     NotRegister,
-    /// The place isn't the register that the operand is fixed to.
+    /// The place isn't the operand's fixed register.
     NotFixedRegister,
-    /// The place isn't that of the reused operand, which is this.
+    /// The place isn't this place of the reused operand.
     NotReused(Allocation),
     /// The place isn't on the stack.
     NotStack,
     /// The register's number isn't below this limit.
     OutsideLimit(u32),
-    /// The place is no allocatable register of the operand's class, no fixed stack slot of it, and no slot of the frame.
+    /// The place isn't an allocatable register or fixed stack slot of the operand's class, nor a slot of the frame.
     NoCell,
 }
 
-/// What is wrong with a move.
+/// The kinds of a move's faults.
 #[derive(Clone, Copy, Debug, PartialEq, Eq)]
 #[non_exhaustive]
 pub enum MoveFault {
-    /// It goes from one stack place to another.
+    /// Source and destination are stack places.
     StackToStack,
-    /// An end is no register that may be allocated, no scratch register, no fixed stack slot, and no slot of the frame.
+    /// An end isn't an allocatable or scratch register, a fixed stack slot, or a slot of the frame.
     NoCell,
-    /// It goes from a register to one of another class.
+    /// Source and destination are registers of two classes.
     OtherClass,
 }
 
-/// What is wrong with a spill slot.
+/// The kinds of a spill slot's faults.
 #[derive(Clone, Copy, Debug, PartialEq, Eq)]
 #[non_exhaustive]
 pub enum SlotFault {
-    /// Some of the units that it takes aren't within `Output::num_spillslots`.
+    /// Some unit of the slot isn't below `Output::num_spillslots`.
     OutsideFrame,
-    /// It shares a unit with this slot.
+    /// The slot shares a unit with this slot.
     Shared(SpillSlot),
 }
 
-/// Why an output isn't well-ordered.
+/// The reasons why an output isn't well-ordered.
 #[derive(Clone, Copy, Debug, PartialEq, Eq)]
 #[non_exhaustive]
 pub enum OrderFault {
-    /// There isn't one offset for each instruction.
+    /// The offsets aren't one for each instruction.
     Offsets {
-        /// How many offsets there are.
+        /// The number of offsets.
         offsets: usize,
-        /// How many instructions there are.
+        /// The number of instructions.
         insts: usize,
     },
-    /// The places of the instruction don't begin at 0 (the first one), before where the next one's do, or within the list.
+    /// The instruction's places aren't a range of the list, or the first instruction's don't begin at 0.
     Places(Inst),
     /// The instruction has more places than operands.
     TooManyPlaces(Inst),
-    /// The edit of this index is at a point before that of the edit in front of it.
+    /// The edit at this index has a smaller program point than its predecessor.
     Edit(usize),
-    /// The edit of this index reads or writes no place.
+    /// The edit at this index has no source or no destination.
     NoPlace(usize),
-    /// It isn't known why.
+    /// The reason isn't known.
     Unlocated,
 }
 
-/// Why there is no verdict.
+/// The reasons why there is no verdict.
 #[derive(Clone, Copy, Debug, PartialEq, Eq)]
 #[non_exhaustive]
 pub enum Unjudged {
     /// Memory ran out.
     NoMemory,
-    /// A length of the function is no word of 32 bits.
+    /// A length in the function doesn't fit 32 bits.
     TooLarge,
-    /// Blocks don't follow one another, don't end in their only branch or return, or pass arguments that aren't as many as the
-    /// parameters.
+    /// The function isn't structurally valid: blocks don't follow one another, a block doesn't end in its only branch or return, or a
+    /// successor doesn't get as many arguments as it has parameters.
     NotFramed,
-    /// The function's numbers name none, or are too large: 1 to 6, as `bad function` of docs/INPUT.md.
+    /// A number of the function is no encoding, or too large. The numbers 1 to 6 are those of `bad function` in docs/INPUT.md.
     BadFunction(u32),
-    /// The output's numbers name none.
+    /// A number of the output is no encoding.
     BadOutput,
-    /// The linked library, or the version of `regalloc2`, has other encodings than this crate.
+    /// The library or `regalloc2` has other encodings than this crate expects.
     Encoding,
-    /// The library returned a status that the call doesn't have.
+    /// The library returned a status that the call doesn't document.
     Library(Status),
 }
 
@@ -165,7 +165,7 @@ impl From<Unjudged> for Rejection {
 }
 
 impl Rejection {
-    /// Returns the faults; none if there is no verdict.
+    /// Returns the faults; an empty list if there is no verdict.
     pub fn faults(&self) -> &[Fault] {
         match self {
             Rejection::Faulty(faults) => faults,
@@ -186,7 +186,7 @@ impl fmt::Display for Rejection {
     }
 }
 
-/// A point's instruction and side. Upstream's `Debug` is for valid instructions alone.
+/// Writes a program point. Upstream's `Debug` requires a valid instruction.
 fn point(f: &mut fmt::Formatter<'_>, at: ProgPoint) -> fmt::Result {
     let side = if at.to_index() & 1 == 0 { "before" } else { "after" };
     write!(f, "{side} inst{}", at.to_index() >> 1)
@@ -227,13 +227,13 @@ impl fmt::Display for OperandFault {
                 }
                 write!(f, " and not the operand's value")
             }
-            OperandFault::NoSuchOperand => write!(f, "the operand that it reuses isn't there"),
+            OperandFault::NoSuchOperand => write!(f, "the reused operand doesn't exist"),
             OperandFault::NotRegister => write!(f, "the place is no register"),
             OperandFault::NotFixedRegister => write!(f, "the place isn't the fixed register"),
-            OperandFault::NotReused(place) => write!(f, "the place isn't {place}, that of the operand that it reuses"),
+            OperandFault::NotReused(place) => write!(f, "the place isn't {place}, the reused operand's"),
             OperandFault::NotStack => write!(f, "the place isn't on the stack"),
             OperandFault::OutsideLimit(limit) => write!(f, "the register's number isn't below {limit}"),
-            OperandFault::NoCell => write!(f, "no register that may be allocated to the class, and no slot of the frame"),
+            OperandFault::NoCell => write!(f, "the place is no allocatable register of the class and no slot of the frame"),
         }
     }
 }
@@ -242,7 +242,7 @@ impl fmt::Display for MoveFault {
     fn fmt(&self, f: &mut fmt::Formatter<'_>) -> fmt::Result {
         f.write_str(match self {
             MoveFault::StackToStack => "a move from one stack place to another",
-            MoveFault::NoCell => "an end is no register that may be allocated, and no slot of the frame",
+            MoveFault::NoCell => "an end is no allocatable register and no slot of the frame",
             MoveFault::OtherClass => "a move to a register of another class",
         })
     }
@@ -263,9 +263,9 @@ impl fmt::Display for OrderFault {
             OrderFault::Offsets { offsets, insts } => write!(f, "{offsets} offsets for {insts} instructions"),
             OrderFault::Places(inst) => write!(f, "the places of inst{} are out of range", inst.raw_u32()),
             OrderFault::TooManyPlaces(inst) => write!(f, "inst{} has more places than operands", inst.raw_u32()),
-            OrderFault::Edit(k) => write!(f, "edit {k} is before the one in front of it"),
-            OrderFault::NoPlace(k) => write!(f, "edit {k} reads or writes no place"),
-            OrderFault::Unlocated => write!(f, "it isn't known where"),
+            OrderFault::Edit(k) => write!(f, "edit {k} is at an earlier point than its predecessor"),
+            OrderFault::NoPlace(k) => write!(f, "edit {k} has no source or no destination"),
+            OrderFault::Unlocated => write!(f, "the reason isn't known"),
         }
     }
 }
@@ -275,9 +275,9 @@ impl fmt::Display for Unjudged {
         match self {
             Unjudged::NoMemory => write!(f, "memory ran out"),
             Unjudged::TooLarge => write!(f, "the function is too large"),
-            Unjudged::NotFramed => write!(f, "blocks, branches or arguments don't fit together"),
+            Unjudged::NotFramed => write!(f, "the function isn't structurally valid"),
             Unjudged::BadFunction(number) => write!(f, "{}", Status::BadFunction(*number)),
-            Unjudged::BadOutput => write!(f, "a number of the output names nothing"),
+            Unjudged::BadOutput => write!(f, "a number of the output is no encoding"),
             Unjudged::Encoding => write!(f, "the library or regalloc2 has another version"),
             Unjudged::Library(status) => write!(f, "the library returned {}: {status}", status.number()),
         }

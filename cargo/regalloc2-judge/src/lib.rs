@@ -14,21 +14,20 @@ use regalloc2_proved_sys::{self as sys, Parts, Room, Status, Words};
 
 /// Judges an output of a function for a machine.
 ///
-/// `Ok` if the proved checker accepts the output, and each place that it names is a cell of its own. [`Judge`] does the same, and
-/// keeps its memory from call to call.
+/// Returns `Ok` if the proved checker accepts the output and its places are cells. Allocates new memory; [`Judge`] keeps its own.
 ///
 /// # Errors
 ///
-/// [`Rejection::Faulty`] with what is wrong, or [`Rejection::Unjudged`] if there is no verdict.
+/// [`Rejection::Faulty`] with the faults, or [`Rejection::Unjudged`] if there is no verdict.
 pub fn judge(f: &impl Function, env: &MachineEnv, output: &Output) -> Result<(), Rejection> {
     Judge::new().judge(f, env, output)
 }
 
-/// Judges an output, for tests.
+/// Panics if [`judge`] rejects an output, for tests.
 ///
 /// # Panics
 ///
-/// If [`judge`] rejects the output, with the rejection's words.
+/// With the text of the rejection.
 #[track_caller]
 pub fn assert_faithful(f: &impl Function, env: &MachineEnv, output: &Output) {
     if let Err(rejection) = judge(f, env, output) {
@@ -36,9 +35,9 @@ pub fn assert_faithful(f: &impl Function, env: &MachineEnv, output: &Output) {
     }
 }
 
-/// Judges outputs, and keeps its memory from one to the next.
+/// A judge that keeps its memory from one output to the next.
 ///
-/// Threads may judge at once, each with a `Judge` of its own.
+/// Threads may judge at once, each with its own `Judge`.
 #[derive(Clone, Debug, Default)]
 pub struct Judge {
     function: Words,
@@ -48,7 +47,7 @@ pub struct Judge {
 }
 
 impl Judge {
-    /// Returns one without memory.
+    /// Returns a judge without memory.
     pub fn new() -> Self {
         Self::default()
     }

@@ -1,14 +1,14 @@
-//! The faults that the library lists, in upstream's types.
+//! Translates the library's faults to upstream's types.
 //!
-//! A fault of the library names the operand by its bits and its place, and a stack-to-stack move by its places. Its index in the
-//! instruction, or in the list of moves, is the first that fits.
+//! The library names an operand by its encoding and its place, and a stack-to-stack move by its places. The index in the instruction, or
+//! in the list of moves, is that of the first match.
 
 use crate::fault::{Fault, MoveFault, OperandFault, SlotFault};
 use crate::{order, words};
 use regalloc2::{Allocation, Edit, Function, Inst, OperandConstraint, Output, SpillSlot};
 use regalloc2_proved_sys::FaultWords;
 
-/// The operand of an index, and its place: none if the list of places ends before.
+/// Returns the operand at an index, and its place: none if the list of places ends before it.
 fn operand_at(f: &impl Function, output: &Output, inst: Inst, index: usize) -> Option<(regalloc2::Operand, Allocation)> {
     let op = *f.inst_operands(inst).get(index)?;
     let (start, end) = order::range(output, inst)?;
@@ -20,7 +20,7 @@ fn instruction(f: &impl Function, number: u32) -> Option<Inst> {
     ((number as usize) < f.num_insts()).then(|| Inst::new(number as usize))
 }
 
-/// The operand of an instruction that has these bits and this place.
+/// Returns the fault of the operand with this encoding and this place.
 fn operand(f: &impl Function, output: &Output, fault: &FaultWords, what: OperandFault) -> Option<Fault> {
     let inst = instruction(f, fault.inst)?;
     (0..f.inst_operands(inst).len()).find_map(|index| {
@@ -35,7 +35,7 @@ fn operand(f: &impl Function, output: &Output, fault: &FaultWords, what: Operand
     })
 }
 
-/// The operand of an instruction that has this index.
+/// Returns the fault of the operand with this index.
 fn operand_of_index(f: &impl Function, output: &Output, fault: &FaultWords) -> Option<Fault> {
     let (inst, index) = (instruction(f, fault.inst)?, fault.index as usize);
     let (op, place) = operand_at(f, output, inst, index)?;
@@ -47,7 +47,7 @@ fn edit(output: &Output, index: usize, what: MoveFault) -> Option<Fault> {
     Some(Fault::Move { edit: index, at: *at, from: *from, to: *to, what })
 }
 
-/// The next move between these places, from an index on, else the first one.
+/// Returns the fault of the next move between these places, from the index `next`, else of the first.
 fn stack_to_stack(output: &Output, fault: &FaultWords, next: &mut usize) -> Option<Fault> {
     let fits = |k: &usize| {
         output.edits.get(*k).is_some_and(|(_, Edit::Move { from, to })| from.bits() == fault.other && to.bits() == fault.place)
@@ -61,12 +61,12 @@ fn slot(number: u32, what: SlotFault) -> Fault {
     Fault::Slot { slot: slot_of(number), what }
 }
 
-/// Slots are below 2^24: the library rejects larger numbers.
+/// Returns a slot. The library rejects numbers of 2^24 or more.
 fn slot_of(number: u32) -> SpillSlot {
     SpillSlot::new((number as usize).min(SpillSlot::MAX))
 }
 
-/// What is wrong with an operand by itself, if the number says so.
+/// Returns the kind of an operand's fault, if the number is of such a fault.
 fn operand_fault(fault: &FaultWords) -> Option<OperandFault> {
     Some(match fault.number {
         1 => OperandFault::Missing,
@@ -98,7 +98,7 @@ fn located(f: &impl Function, output: &Output, fault: &FaultWords, next: &mut us
     }
 }
 
-/// The faults of a list; at least one.
+/// Returns the faults of a list; at least one.
 pub(crate) fn faults(f: &impl Function, output: &Output, list: &[FaultWords]) -> Vec<Fault> {
     let mut next = 0;
     let unlocated = |number, inst| Fault::Unlocated { number, inst };
@@ -112,7 +112,7 @@ pub(crate) fn faults(f: &impl Function, output: &Output, list: &[FaultWords]) ->
     faults
 }
 
-/// The fixed register of an operand, for the words of a fault.
+/// Returns the register that an operand is fixed to, for a fault's text.
 pub(crate) fn fixed_register(op: regalloc2::Operand) -> Option<regalloc2::PReg> {
     match op.constraint() {
         OperandConstraint::FixedReg(reg) => Some(reg),

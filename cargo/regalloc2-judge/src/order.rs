@@ -1,9 +1,9 @@
-//! Why an output isn't well-ordered. That it isn't is the library's verdict; this only says where.
+//! Locates the reason why an output isn't well-ordered. The verdict is the library's.
 
 use crate::fault::OrderFault;
 use regalloc2::{Edit, Function, Inst, Output};
 
-/// The places of an instruction's operands: the first and the end. `None` if they aren't in the list.
+/// Returns the range of an instruction's places, or `None` if it isn't within the list.
 pub(crate) fn range(output: &Output, inst: Inst) -> Option<(usize, usize)> {
     let k = inst.raw_u32() as usize;
     let start = *output.inst_alloc_offsets.get(k)? as usize;
@@ -38,7 +38,7 @@ fn edits(output: &Output) -> Option<OrderFault> {
     None
 }
 
-/// Why an output isn't well-ordered.
+/// Returns the reason why an output isn't well-ordered.
 pub(crate) fn fault(f: &impl Function, output: &Output) -> OrderFault {
     offsets(f, output).or_else(|| edits(output)).unwrap_or(OrderFault::Unlocated)
 }

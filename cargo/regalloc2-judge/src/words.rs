@@ -1,7 +1,7 @@
-//! Functions and outputs as the words that `c/regalloc2_c.h` lays out.
+//! Functions and outputs as the words of `c/regalloc2_c.h`.
 //!
-//! This stands between upstream's types and the proved code, and isn't proved. No function here panics by itself: numbers are
-//! read as they are, and the library tests them.
+//! These functions connect upstream's types with the proved code, and aren't proved. They panic only if a method of `Function` does: they
+//! copy numbers as they are, and the library tests them.
 
 use regalloc2::{
     Allocation, Block, Edit, Function, Inst, InstRange, MachineEnv, Operand, OperandConstraint, OperandKind, OperandPos, Output,
@@ -10,20 +10,20 @@ use regalloc2::{
 use regalloc2_proved_sys::{self as sys, InstKind, Words};
 use std::sync::OnceLock;
 
-/// Whether a function's debug labels are laid out.
+/// Whether [`function`] writes debug labels.
 #[derive(Clone, Copy, Debug, PartialEq, Eq)]
 pub enum Labels {
-    /// They are, for an allocation.
+    /// It writes them, for an allocation.
     LaidOut,
-    /// They aren't. A verdict doesn't depend on them.
+    /// It writes none. A verdict doesn't depend on them.
     LeftOut,
 }
 
 const CLASSES: [RegClass; 3] = [RegClass::Int, RegClass::Float, RegClass::Vector];
 
-/// Returns `true` if upstream's encodings are those that the library reads, and the library is this crate's version.
+/// Returns `true` if upstream's encodings are those of the library, and the library has the expected version.
 ///
-/// It is tested once, on a vreg, a register, a place and an operand of each kind.
+/// The first call tests a vreg, a register, each kind of place, both points, and an operand under each constraint.
 pub fn agree() -> bool {
     static AGREE: OnceLock<bool> = OnceLock::new();
     *AGREE.get_or_init(|| sys::agrees() && names_agree() && operands_agree())
@@ -72,14 +72,14 @@ fn machine(to: &mut Words, env: &MachineEnv) {
     to.words(env.fixed_stack_slots.iter().map(|reg| reg.index() as u32));
 }
 
-/// The first and the last instruction of a range, if it isn't empty. `InstRange::len` is for ranges in order alone.
+/// Returns the first and the last instruction of a range, if any. `InstRange::len` requires that the range isn't reversed.
 fn ends(range: InstRange) -> Option<(Inst, Inst)> {
     let mut insts = range.iter();
     let first = insts.next()?;
     Some((first, insts.next_back().unwrap_or(first)))
 }
 
-/// First instruction, and the one past the last. An empty range is laid out as `0..0`, which the library rejects as it is.
+/// Writes a block's first instruction and one past its last. An empty range is written as `0..0`, which the library rejects too.
 fn range(to: &mut Words, f: &impl Function, block: Block) {
     let (first, end) = match ends(f.block_insns(block)) {
         Some((first, last)) => (first.raw_u32(), last.raw_u32().saturating_add(1)),
@@ -89,7 +89,7 @@ fn range(to: &mut Words, f: &impl Function, block: Block) {
     to.word(end);
 }
 
-/// The arguments for each successor. A block that doesn't end in a branch has none.
+/// Writes the arguments for each successor. A block that doesn't end in a branch has none.
 fn arguments(to: &mut Words, f: &impl Function, block: Block) {
     let last = ends(f.block_insns(block)).map(|(_, last)| last);
     let branch = last.filter(|last| (last.raw_u32() as usize) < f.num_insts() && f.is_branch(*last));
@@ -118,7 +118,7 @@ fn labels(to: &mut Words, labels: &[(VReg, Inst, Inst, u32)]) {
     });
 }
 
-/// Lays a function and its machine out.
+/// Writes a function and its machine.
 pub fn function(to: &mut Words, f: &impl Function, env: &MachineEnv, which: Labels) {
     let each_block = || (0..f.num_blocks()).map(Block::new);
     to.clear();
@@ -138,19 +138,19 @@ pub fn function(to: &mut Words, f: &impl Function, env: &MachineEnv, which: Labe
     to.flag(f.allow_multiple_vreg_defs());
 }
 
-/// Lays the moves of an output out: for each the point, the place that is read and the place that is written.
+/// Writes an output's moves: point, source and destination of each.
 pub fn moves(to: &mut Vec<u32>, output: &Output) {
     to.clear();
     to.extend(output.edits.iter().flat_map(|(point, Edit::Move { from, to })| [point.to_index(), from.bits(), to.bits()]));
 }
 
-/// Lays the places of an output's operands out.
+/// Writes the places of an output's operands.
 pub fn places(to: &mut Vec<u32>, output: &Output) {
     to.clear();
     to.extend(output.allocs.iter().map(|place| place.bits()));
 }
 
-/// Returns the place that a word of the library names; none if it names none.
+/// Returns the place of a word from the library; none if the word is no place's encoding.
 pub fn place(word: u32) -> Allocation {
     let index = word as usize & ((1 << 29) - 1);
     match word >> 29 {
@@ -160,7 +160,7 @@ pub fn place(word: u32) -> Allocation {
     }
 }
 
-/// Returns the vreg that a word of the library names; the invalid one if it names none.
+/// Returns the vreg of a word from the library; the invalid vreg if the word has no class.
 pub fn vreg(word: u32) -> VReg {
     if word & 3 == 3 { VReg::invalid() } else { VReg::from_bits(word) }
 }

@@ -48,7 +48,7 @@ mod raw {
     }
 }
 
-/// The version that this crate was written for: 65536 times the version of the layouts, and how many calls there are.
+/// The library version that this crate expects: 65536 times the version of the layouts, plus the number of calls.
 pub const VERSION: u32 = 0x0001_0009;
 
 /// Returns the version of the linked library.
@@ -57,38 +57,40 @@ pub fn version() -> u32 {
     unsafe { raw::regalloc2_c_version() }
 }
 
-/// Returns `true` if the linked library has this crate's layouts, and at least its calls.
+/// Returns `true` if the linked library has the expected layouts and at least the expected calls.
 pub fn agrees() -> bool {
     let linked = version();
     linked >> 16 == VERSION >> 16 && linked & 0xffff >= VERSION & 0xffff
 }
 
-/// The text that a call writes.
+/// Returns the text that a call writes.
 fn text(call: impl Fn(&mut [u8]) -> usize) -> String {
     let mut bytes = [0; 256];
     let count = call(&mut bytes).min(bytes.len());
     String::from_utf8_lossy(&bytes[..count]).into_owned()
 }
 
-/// Returns the library's English words for the number of a status.
+/// Returns the library's English text for a status number.
 pub fn status_text(status: u32) -> String {
     // SAFETY: pointer and length are those of one slice, borrowed mutably for the call.
     text(|bytes| unsafe { raw::regalloc2_c_status_text(status, bytes.as_mut_ptr(), bytes.len()) })
 }
 
-/// Returns the library's English words for the number of a fault.
+/// Returns the library's English text for a fault number.
 pub fn fault_text(number: u32) -> String {
     // SAFETY: as above.
     text(|bytes| unsafe { raw::regalloc2_c_fault_text(number, bytes.as_mut_ptr(), bytes.len()) })
 }
 
-/// The memory for the words of a call's result. It is kept from call to call, and grows to what a call needs.
+/// A buffer for the words of a call's result.
+///
+/// Calls that share a `Room` share its memory, which grows to the largest result.
 #[derive(Clone, Debug, Default)]
 pub struct Room {
     words: Vec<u32>,
 }
 
-/// What a call came to.
+/// The result of a call.
 #[derive(Clone, Copy, Debug)]
 pub struct Answer<'a> {
     /// The status.
@@ -98,12 +100,12 @@ pub struct Answer<'a> {
 }
 
 impl Room {
-    /// Returns an empty one.
+    /// Returns an empty buffer.
     pub fn new() -> Room {
         Room::default()
     }
 
-    /// Makes room for `count` words. Returns `false` if memory runs out.
+    /// Grows the buffer to `count` words. Returns `false` if memory runs out.
     fn grow(&mut self, count: usize) -> bool {
         let more = count.saturating_sub(self.words.len());
         if self.words.try_reserve(more).is_err() {
@@ -113,7 +115,7 @@ impl Room {
         true
     }
 
-    /// Makes a call, which writes its result and how many words that has. It is made once more if there was too little room.
+    /// Makes a call, which writes the words of its result and their number. Repeats the call once if the buffer was too short.
     fn answer(&mut self, expected: usize, call: impl Fn(&mut [u32], &mut usize) -> u32) -> Answer<'_> {
         let no_memory = Answer { status: Status::NoMemory, words: &[] };
         if !self.grow(expected) {
@@ -131,12 +133,12 @@ impl Room {
     }
 }
 
-/// Room for an output, as a rule: it takes less than a word for each of the function's.
+/// Returns a length that fits nearly every output: an output takes less than a word for each word of its function.
 fn expected(function: &[u32]) -> usize {
     function.len().saturating_add(256)
 }
 
-/// Allocates registers to the function that the words lay out, and checks the output.
+/// Allocates registers to a function in words, and checks the output.
 ///
 /// On [`Status::Ok`] the result is an output, for [`OutputWords::of`](crate::OutputWords::of).
 pub fn allocate<'a>(function: &[u32], room: &'a mut Room) -> Answer<'a> {
@@ -146,7 +148,9 @@ pub fn allocate<'a>(function: &[u32], room: &'a mut Room) -> Answer<'a> {
     })
 }
 
-/// Allocates registers to a function in JSON, as docs/INPUT.md has it, and checks the output.
+/// Allocates registers to a function in JSON, and checks the output.
+///
+/// docs/INPUT.md has the form.
 pub fn allocate_json<'a>(json: &[u8], room: &'a mut Room) -> Answer<'a> {
     room.answer(256, |result, needed| {
         // SAFETY: as above.
@@ -154,7 +158,9 @@ pub fn allocate_json<'a>(json: &[u8], room: &'a mut Room) -> Answer<'a> {
     })
 }
 
-/// Allocates registers to a function in a text, as docs/TEXT.md has it, and checks the output.
+/// Allocates registers to a function in a text, and checks the output.
+///
+/// docs/TEXT.md has the form.
 pub fn allocate_text<'a>(text: &str, room: &'a mut Room) -> Answer<'a> {
     room.answer(256, |result, needed| {
         // SAFETY: as above.
@@ -162,9 +168,9 @@ pub fn allocate_text<'a>(text: &str, room: &'a mut Room) -> Answer<'a> {
     })
 }
 
-/// Allocates registers after testing that no path reads a vreg before writing it. The output needs no check then.
+/// Allocates registers to a function in words if no path reads a vreg before writing it.
 ///
-/// [`Status::ReadBeforeWritten`] is the last error: only a function that is allocated otherwise has it.
+/// The output needs no check. [`Status::ReadBeforeWritten`] is returned only for a function that passes all other tests.
 pub fn run<'a>(function: &[u32], room: &'a mut Room) -> Answer<'a> {
     room.answer(expected(function), |result, needed| {
         // SAFETY: as above.
@@ -172,23 +178,23 @@ pub fn run<'a>(function: &[u32], room: &'a mut Room) -> Answer<'a> {
     })
 }
 
-/// An output, as a caller keeps it. Debug locations aren't part of it.
+/// An output in parts, without debug locations.
 #[derive(Clone, Copy, Debug)]
 pub struct Parts<'a> {
     /// Units of slots.
     pub num_spillslots: u64,
-    /// For each move three words: the point, the place that is read, the place that is written.
+    /// Three words for each move: point, source, destination.
     pub moves: &'a [u32],
     /// The places of all operands.
     pub places: &'a [u32],
-    /// For each instruction, where its places begin.
+    /// The index of each instruction's first place.
     pub offsets: &'a [u32],
 }
 
-/// Judges an output of the function that the words lay out.
+/// Checks an output in parts of a function in words.
 ///
-/// [`Status::Ok`] if it is well-ordered and faithful, and its places are cells of their own. On [`Status::Faults`] the result is
-/// a list, for [`faults`](crate::faults).
+/// Returns [`Status::Ok`] if the output is well-ordered and faithful, and its places are cells. On [`Status::Faults`] the words are a
+/// list for [`faults`](crate::faults).
 pub fn judge<'a>(function: &[u32], output: Parts<'_>, room: &'a mut Room) -> Answer<'a> {
     let Parts { num_spillslots, moves, places, offsets } = output;
     room.answer(256, |result, needed| {
@@ -212,7 +218,7 @@ pub fn judge<'a>(function: &[u32], output: Parts<'_>, room: &'a mut Room) -> Ans
     })
 }
 
-/// Judges the output that words lay out, of the function that words lay out.
+/// Checks an output in words of a function in words.
 pub fn check(function: &[u32], output: &[u32]) -> Status {
     // SAFETY: as above.
     let call = || unsafe { raw::regalloc2_c_check(function.as_ptr(), function.len(), output.as_ptr(), output.len()) };

@@ -1,8 +1,8 @@
-//! The memory that the library asks for: `rattle_alloc`, `rattle_realloc` and `rattle_dealloc`.
+//! The library's memory: `rattle_alloc`, `rattle_realloc` and `rattle_dealloc`.
 //!
-//! A call asks for many small blocks, some three for each instruction, and gives all of them back. `malloc` and `free` would be a third
-//! of a run's cost. So a thread cuts small blocks from chunks while it is in a call, and keeps those that are given back in lists by size.
-//! Larger blocks, and those that are asked for outside of a call, are `malloc`'s. When a call ends, chunks of at most [`KEPT`] bytes stay.
+//! A call allocates many small blocks, some three for each instruction, and frees all of them. `malloc` and `free` would take a third
+//! of a run's cost. Therefore a thread in a call cuts small blocks from chunks, and keeps freed blocks in lists by size. Larger blocks,
+//! and blocks allocated outside a call, are `malloc`'s. At a call's end the thread keeps at most [`KEPT`] bytes of chunks.
 
 use std::cell::Cell;
 use std::ffi::c_void;
@@ -14,7 +14,7 @@ unsafe extern "C" {
     fn free(p: *mut c_void);
 }
 
-/// Whether there is memory, and where. Where there is none `p` is any address.
+/// The result of an allocation. If it fails, `p` is any address.
 #[repr(C)]
 struct Tried {
     ok: bool,
@@ -27,23 +27,23 @@ fn tried(p: *mut u8) -> Tried {
     if p.is_null() { Tried { ok: false, p: (&raw const NOTHING).cast_mut() } } else { Tried { ok: true, p } }
 }
 
-/// What is in front of each block, and of each chunk.
+/// The header of each block and of each chunk.
 #[repr(C, align(16))]
 struct Head {
-    /// The block's class, or `CLASSES` for a block of `malloc`'s; the chunk's size.
+    /// The block's class, or `CLASSES` for a block of `malloc`'s; the chunk's size in bytes.
     class: usize,
-    /// The next block that was given back, or the chunk behind.
+    /// The next freed block, or the next chunk.
     next: *mut Head,
 }
 
-/// Blocks are multiples of so many bytes, which is the size of a head too.
+/// The size of blocks is a multiple of this many bytes, the size of a head.
 const UNIT: usize = 16;
 const CLASSES: usize = 22;
-/// The bytes of a block by class: 1, 2, 3, 4, 6, 8, 12, 16 units, and so on up to 32,768 bytes.
+/// The bytes of a block by class: 1, 2, 3, 4, 6, 8, 12, 16 units, and so on, up to 32,768 bytes.
 const SIZES: [usize; CLASSES] = sizes();
 const FIRST_CHUNK: usize = 1 << 16;
 const LARGEST_CHUNK: usize = 1 << 20;
-/// How many bytes of chunks a thread keeps from call to call, at most.
+/// The most bytes of chunks that a thread keeps from call to call.
 const KEPT: usize = 16 << 20;
 
 const fn sizes() -> [usize; CLASSES] {
@@ -61,7 +61,7 @@ const fn sizes() -> [usize; CLASSES] {
     sizes
 }
 
-/// The class whose blocks have so many bytes or somewhat more; `CLASSES` or more if there is none.
+/// Returns the smallest class whose blocks have `size` bytes; `CLASSES` or more if none has.
 fn class_of(size: usize) -> usize {
     let n = size.saturating_sub(1) / UNIT;
     if n < 4 {
@@ -74,11 +74,11 @@ fn class_of(size: usize) -> usize {
 struct Pool {
     /// Whether a call is under way.
     inside: Cell<bool>,
-    /// How many blocks of chunks aren't given back.
+    /// The number of blocks cut from chunks and not freed.
     out: Cell<usize>,
-    /// By class the blocks that were given back.
-    given: [Cell<*mut Head>; CLASSES],
-    /// The first chunk, and the one that is cut from: what is left of it, and how many bytes that is. Those behind it are free.
+    /// The freed blocks by class.
+    freed: [Cell<*mut Head>; CLASSES],
+    /// The first chunk; the chunk that blocks are cut from, its rest, and the bytes of that. Later chunks are unused.
     first: Cell<*mut Head>,
     current: Cell<*mut Head>,
     at: Cell<*mut u8>,
@@ -94,7 +94,7 @@ impl Pool {
         Pool {
             inside: Cell::new(false),
             out: Cell::new(0),
-            given: [const { Cell::new(null_mut()) }; CLASSES],
+            freed: [const { Cell::new(null_mut()) }; CLASSES],
             first: Cell::new(null_mut()),
             current: Cell::new(null_mut()),
             at: Cell::new(null_mut()),
@@ -102,28 +102,28 @@ impl Pool {
         }
     }
 
-    /// A block of a class, or null.
+    /// Returns a block of a class, or null.
     fn take(&self, class: usize) -> *mut u8 {
-        let first = self.given[class].get();
+        let first = self.freed[class].get();
         let head = if first.is_null() {
             self.cut(UNIT + SIZES[class])
         } else {
-            // SAFETY: a block that was given back; its head is written and nobody else's.
-            self.given[class].set(unsafe { (*first).next });
+            // SAFETY: the head of a freed block is written, and nobody else uses it.
+            self.freed[class].set(unsafe { (*first).next });
             first
         };
         if head.is_null() {
             return null_mut();
         }
         self.out.set(self.out.get().wrapping_add(1));
-        // SAFETY: a head, and the block behind it, are within one chunk.
+        // SAFETY: a head and its block are within one chunk.
         unsafe {
             (*head).class = class;
             head.add(1).cast()
         }
     }
 
-    /// So many bytes of a chunk, or null.
+    /// Cuts `size` bytes from a chunk. Returns null if memory runs out.
     fn cut(&self, size: usize) -> *mut Head {
         if size > self.left.get() && !self.go_on() {
             return null_mut();
@@ -135,7 +135,7 @@ impl Pool {
         head.cast()
     }
 
-    /// Cuts from the chunk behind the current one, which is made if there is none.
+    /// Makes the next chunk the current one, after adding one if there is none. Returns `false` if memory runs out.
     fn go_on(&self) -> bool {
         let current = self.current.get();
         // SAFETY: chunks that are in the list aren't freed.
@@ -151,7 +151,7 @@ impl Pool {
         true
     }
 
-    /// A chunk of twice the last one's size, within bounds, at the list's end; or null.
+    /// Adds a chunk to the list's end, of twice the last one's size within bounds. Returns null if memory runs out.
     fn add_chunk(&self, last: *mut Head) -> *mut Head {
         // SAFETY: a chunk's head holds its size.
         let size = if last.is_null() { 0 } else { unsafe { (*last).class } };
@@ -173,18 +173,18 @@ impl Pool {
         chunk
     }
 
-    /// At a call's end all blocks are given back. If they weren't, chunks stay as they are, since somebody may use them.
+    /// Ends a call, which has freed all its blocks. If a block is left, all chunks stay.
     fn end(&self) {
         self.inside.set(false);
         if self.out.get() != 0 {
             return;
         }
-        self.given.iter().for_each(|list| list.set(null_mut()));
+        self.freed.iter().for_each(|list| list.set(null_mut()));
         self.current.set(null_mut());
         self.left.set(0);
         let (mut bytes, mut chunk) = (0, self.first.get());
         while !chunk.is_null() {
-            // SAFETY: no block of the chunks is in use; those that are freed are taken off the list.
+            // SAFETY: no block of the chunks is in use, and freed chunks leave the list.
             unsafe {
                 bytes += (*chunk).class;
                 let behind = (*chunk).next;
@@ -199,11 +199,11 @@ impl Pool {
     }
 }
 
-/// Frees a chunk and all behind it.
+/// Frees a chunk and all after it.
 ///
 /// # Safety
 ///
-/// No block of theirs is in use, and nobody frees them besides.
+/// No block of these chunks is in use, and the chunks aren't freed again.
 unsafe fn free_all(mut chunk: *mut Head) {
     while !chunk.is_null() {
         // SAFETY: a chunk is `malloc`'s.
@@ -218,13 +218,13 @@ unsafe fn free_all(mut chunk: *mut Head) {
 impl Drop for Pool {
     fn drop(&mut self) {
         if self.out.get() == 0 {
-            // SAFETY: all blocks were given back, and the list is gone.
+            // SAFETY: no block is in use, and the list ends here.
             unsafe { free_all(self.first.get()) };
         }
     }
 }
 
-/// Makes a call of the library, whose small blocks come from this thread's chunks.
+/// Makes a call of the library, with small blocks from this thread's chunks.
 pub(crate) fn with_pool<T>(call: impl FnOnce() -> T) -> T {
     POOL.with(|pool| pool.inside.set(true));
     let value = call();
@@ -232,20 +232,20 @@ pub(crate) fn with_pool<T>(call: impl FnOnce() -> T) -> T {
     value
 }
 
-/// The block of `malloc`'s behind a head, or null.
+/// Returns the block behind a head from `malloc`, or null.
 fn behind(head: *mut c_void) -> *mut u8 {
     if head.is_null() {
         return null_mut();
     }
     let head: *mut Head = head.cast();
-    // SAFETY: it was asked for with room for a head, and is aligned by 16.
+    // SAFETY: `malloc` returned room for a head, aligned to 16.
     unsafe {
         (*head).class = CLASSES;
         head.add(1).cast()
     }
 }
 
-/// A block of so many bytes, or null. An empty one still has a place of its own.
+/// Returns a block of `size` bytes, or null. An empty block has an address of its own.
 fn block(size: usize) -> *mut u8 {
     let class = class_of(size);
     if class < CLASSES
@@ -260,7 +260,7 @@ fn block(size: usize) -> *mut u8 {
     }
 }
 
-/// `align` is at most 16, as that of all blocks.
+/// `align` is at most 16, the alignment of all blocks.
 #[unsafe(no_mangle)]
 extern "C" fn rattle_alloc(size: usize, _align: usize) -> Tried {
     tried(block(size))
@@ -268,10 +268,10 @@ extern "C" fn rattle_alloc(size: usize, _align: usize) -> Tried {
 
 /// # Safety
 ///
-/// `p` is from one of these calls, not given back, and its first `kept` bytes were asked for.
+/// `p` is a block of `kept` bytes from these functions, and not freed.
 #[unsafe(no_mangle)]
 unsafe extern "C" fn rattle_realloc(p: *mut u8, kept: usize, size: usize, _align: usize) -> Tried {
-    // SAFETY: a head is in front of each block.
+    // SAFETY: a head precedes each block.
     let head = unsafe { p.cast::<Head>().sub(1) };
     let class = unsafe { (*head).class };
     if class == CLASSES {
@@ -286,7 +286,7 @@ unsafe extern "C" fn rattle_realloc(p: *mut u8, kept: usize, size: usize, _align
     }
     let new = block(size);
     if !new.is_null() {
-        // SAFETY: two blocks, of at least so many bytes each.
+        // SAFETY: two blocks of at least that many bytes.
         unsafe {
             copy_nonoverlapping(p, new, kept.min(size));
             rattle_dealloc(p);
@@ -297,10 +297,10 @@ unsafe extern "C" fn rattle_realloc(p: *mut u8, kept: usize, size: usize, _align
 
 /// # Safety
 ///
-/// `p` is from one of these calls, and not given back.
+/// `p` is a block from these functions, and not freed.
 #[unsafe(no_mangle)]
 unsafe extern "C" fn rattle_dealloc(p: *mut u8) {
-    // SAFETY: a head is in front of each block.
+    // SAFETY: a head precedes each block.
     unsafe {
         let head = p.cast::<Head>().sub(1);
         let class = (*head).class;
@@ -309,8 +309,8 @@ unsafe extern "C" fn rattle_dealloc(p: *mut u8) {
             return;
         }
         let _ = POOL.try_with(|pool| {
-            (*head).next = pool.given[class].get();
-            pool.given[class].set(head);
+            (*head).next = pool.freed[class].get();
+            pool.freed[class].set(head);
             pool.out.set(pool.out.get().wrapping_sub(1));
         });
     }
@@ -320,7 +320,7 @@ unsafe extern "C" fn rattle_dealloc(p: *mut u8) {
 mod tests {
     use super::*;
 
-    /// Grows lists in turn, as a call does: they keep what was written, and are apart.
+    /// Grows lists in turn, as a call does. They keep their contents.
     fn grow_in_turn() {
         let mut lists: Vec<(*mut u8, usize)> = (0..40).map(|k| (rattle_alloc(k, 8).p, k)).collect();
         for (k, (p, n)) in lists.iter().enumerate() {
@@ -354,9 +354,9 @@ mod tests {
         });
     }
 
-    /// A block that outlives its call keeps its chunk.
+    /// A block that outlives its call stays valid.
     #[test]
-    fn a_block_that_is_not_given_back() {
+    fn a_block_that_outlives_its_call() {
         let p = with_pool(|| rattle_alloc(100, 8).p);
         unsafe { p.write_bytes(7, 100) };
         with_pool(grow_in_turn);
@@ -396,7 +396,7 @@ mod tests {
     }
 
     #[test]
-    fn a_refused_request_is_told() {
+    fn a_failed_allocation_is_reported() {
         for size in [usize::MAX / 2, usize::MAX] {
             let tried = rattle_alloc(size, 16);
             assert!(!tried.ok && !tried.p.is_null());

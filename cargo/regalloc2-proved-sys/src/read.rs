@@ -1,13 +1,13 @@
 //! The words of results.
 
-/// Stands for what a result doesn't name.
+/// The word for a name that a result lacks.
 pub const NONE: u32 = u32::MAX;
 
-/// The words aren't laid out as this crate expects: the library has another version.
+/// The error for words in another layout: the library has another version.
 #[derive(Clone, Copy, Debug, PartialEq, Eq)]
 pub struct ReadFault;
 
-/// An output, as parts of its words.
+/// The parts of an output's words.
 #[derive(Clone, Copy, Debug)]
 pub struct OutputWords<'a> {
     /// Units of slots.
@@ -16,13 +16,13 @@ pub struct OutputWords<'a> {
     pub moves: &'a [[u32; 3]],
     /// The places of all operands.
     pub places: &'a [u32],
-    /// For each instruction, where its places begin.
+    /// The index of each instruction's first place.
     pub offsets: &'a [u32],
     /// Debug locations: label, first point, end point, place.
     pub locations: &'a [[u32; 4]],
 }
 
-/// Takes a list of groups of words off the front.
+/// Splits a list of groups of words off the front.
 fn list<'a, const N: usize>(words: &mut &'a [u32]) -> Result<&'a [[u32; N]], ReadFault> {
     let (count, rest) = words.split_first().ok_or(ReadFault)?;
     let len = (*count as usize).checked_mul(N).ok_or(ReadFault)?;
@@ -50,10 +50,10 @@ impl<'a> OutputWords<'a> {
     }
 }
 
-/// Where an error of the allocator is, in numbers; [`NONE`] for what it doesn't name.
+/// The names in an error of the allocator; [`NONE`] for each that it lacks.
 #[derive(Clone, Copy, Debug, PartialEq, Eq)]
 pub struct RefusalWords {
-    /// Blocks: two for a critical edge, else at most the first.
+    /// Two blocks for a critical edge, else at most the first.
     pub blocks: [u32; 2],
     /// An instruction.
     pub inst: u32,
@@ -62,7 +62,7 @@ pub struct RefusalWords {
 }
 
 impl RefusalWords {
-    /// Returns where an error is.
+    /// Returns the names in an error's words.
     ///
     /// # Errors
     ///
@@ -75,10 +75,10 @@ impl RefusalWords {
     }
 }
 
-/// Why a machine doesn't fit, in numbers; [`NONE`] for what the condition doesn't name.
+/// The reason why a machine doesn't fit; [`NONE`] for each name that it lacks.
 #[derive(Clone, Copy, Debug, PartialEq, Eq)]
 pub struct MisfitWords {
-    /// Which condition fails: 1 to 10, as `regalloc2_c.h` lists them.
+    /// The condition that fails: 1 to 10, as `regalloc2_c.h` lists them.
     pub number: u32,
     /// A class.
     pub class: u32,
@@ -87,7 +87,7 @@ pub struct MisfitWords {
 }
 
 impl MisfitWords {
-    /// Returns why a machine doesn't fit.
+    /// Returns the reason in a status's words.
     ///
     /// # Errors
     ///
@@ -100,10 +100,10 @@ impl MisfitWords {
     }
 }
 
-/// A fault of an output, in numbers; [`NONE`] or 0, as `regalloc2_c.h` says, for what it doesn't name.
+/// A fault of an output; [`NONE`] or 0, as `regalloc2_c.h` says, for each part that it lacks.
 #[derive(Clone, Copy, Debug, PartialEq, Eq)]
 pub struct FaultWords<'a> {
-    /// The kind: 1 to 12, or 14 to 17.
+    /// The kind: `1..=12` or `14..=17`.
     pub number: u32,
     /// The instruction.
     pub inst: u32,
@@ -111,9 +111,9 @@ pub struct FaultWords<'a> {
     pub index: u32,
     /// The operand's encoding.
     pub operand: u64,
-    /// The operand's place, or the one that a move writes.
+    /// The operand's place, or a move's destination.
     pub place: u32,
-    /// The reused operand's place, or the one that a move reads.
+    /// The reused operand's place, or a move's source.
     pub other: u32,
     /// The limit, the other slot, or the index of a debug location.
     pub bound: u32,
@@ -121,7 +121,7 @@ pub struct FaultWords<'a> {
     pub vregs: &'a [u32],
 }
 
-/// Returns the faults of a list.
+/// Returns the faults in a list's words.
 ///
 /// # Errors
 ///

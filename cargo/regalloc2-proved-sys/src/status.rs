@@ -7,17 +7,17 @@ use std::fmt;
 pub enum Status {
     /// The call succeeded.
     Ok,
-    /// The words lay out no function or no output: the layout is at fault, or a number is too large.
+    /// The words encode no function or no output: the layout is wrong, or a number is too large.
     Unreadable,
-    /// The machine doesn't fit the function. [`MisfitWords`](crate::MisfitWords) says why.
+    /// The machine doesn't fit the function, for the reason in [`MisfitWords`](crate::MisfitWords).
     BadMachine,
     /// A list of the output has 2^32 members or more.
     NoRoom,
-    /// The output has faults, which [`faults`](crate::faults) lists.
+    /// The output is wrong. [`faults`](crate::faults) reads the list of faults.
     Faults,
     /// Memory ran out.
     NoMemory,
-    /// Blocks, branches or arguments don't fit together, so that no output can be judged.
+    /// The function isn't structurally valid, and no output of it can be checked.
     NotFramed,
     /// A number of the output is no encoding.
     BadOutput,
@@ -25,11 +25,11 @@ pub enum Status {
     ReadBeforeWritten,
     /// A line of the text can't be read.
     BadText,
-    /// A number of the function is no encoding, or too large: 1 to 6, as `bad function` of docs/INPUT.md.
+    /// A number of the function is no encoding, or too large. The numbers 1 to 6 are those of `bad function` in docs/INPUT.md.
     BadFunction(u32),
-    /// An error of the allocator: 1 to 11, as `refused` of docs/INPUT.md. [`RefusalWords`](crate::RefusalWords) says where.
+    /// The allocator's error. The numbers 1 to 11 are those of `refused` in docs/INPUT.md; [`RefusalWords`](crate::RefusalWords) names the place.
     Refused(u32),
-    /// A number that `regalloc2_c.h` doesn't have.
+    /// A number that `regalloc2_c.h` doesn't list.
     Unknown(u32),
 }
 

@@ -1,17 +1,17 @@
-//! Words from numbers. The order of a function's numbers is in `regalloc2_c.h`.
+//! A list of words. `regalloc2_c.h` has the order of a function's numbers.
 
-/// What an instruction does to the control flow.
+/// The control flow of an instruction.
 #[derive(Clone, Copy, Debug, PartialEq, Eq)]
 pub enum InstKind {
-    /// It goes on to the next instruction.
+    /// Execution continues with the next instruction.
     Op = 0,
-    /// It returns.
+    /// Execution leaves the function.
     Return = 1,
-    /// It goes on to a successor of its block.
+    /// Execution continues with a successor of the block.
     Branch = 2,
 }
 
-/// A list of words that is being written. Its memory is kept when it is cleared.
+/// A list of words under construction, whose memory [`Words::clear`] keeps.
 #[derive(Clone, Debug, Default)]
 pub struct Words {
     words: Vec<u32>,
@@ -30,12 +30,12 @@ impl Words {
         self.too_large = false;
     }
 
-    /// Makes room for `count` words more.
+    /// Reserves memory for `count` more words.
     pub fn reserve(&mut self, count: usize) {
         self.words.reserve(count);
     }
 
-    /// Returns the words, or `None` if some number was too large for a word.
+    /// Returns the words, or `None` if some number didn't fit a word.
     pub fn get(&self) -> Option<&[u32]> {
         if self.too_large { None } else { Some(&self.words) }
     }
@@ -46,7 +46,7 @@ impl Words {
         self.words.push(word);
     }
 
-    /// Adds a number as a word. A larger one makes [`Words::get`] return `None`.
+    /// Adds a number as a word. If the number is 2^32 or more, [`Words::get`] returns `None`.
     #[inline]
     pub fn number(&mut self, number: usize) {
         self.too_large |= u32::try_from(number).is_err();
@@ -59,13 +59,13 @@ impl Words {
         self.words.extend_from_slice(&[number as u32, (number >> 32) as u32]);
     }
 
-    /// Adds a truth value as a word.
+    /// Adds a truth value as the word 0 or 1.
     #[inline]
     pub fn flag(&mut self, flag: bool) {
         self.words.push(u32::from(flag));
     }
 
-    /// Adds a list: its length, and then what `each` adds for each item.
+    /// Adds a list: its length, and then the words that `each` adds for each item.
     #[inline]
     pub fn list<T>(&mut self, items: impl ExactSizeIterator<Item = T>, mut each: impl FnMut(&mut Words, T)) {
         self.number(items.len());
@@ -86,7 +86,7 @@ impl Words {
         self.words.extend(items.flat_map(|number| [number as u32, (number >> 32) as u32]));
     }
 
-    /// Adds a list of words whose length isn't known before.
+    /// Adds a list of words of unknown length.
     #[inline]
     pub fn counted(&mut self, items: impl Iterator<Item = u32>) {
         let at = self.words.len();

@@ -1,17 +1,17 @@
-//! Who is told of outputs that aren't returned.
+//! The hook for outputs of upstream's that aren't returned.
 
 use regalloc2_judge::Rejection;
 use std::fmt;
 use std::sync::RwLock;
 use upstream::Algorithm;
 
-/// Why an output of upstream's isn't returned.
+/// The reason why an output of upstream's isn't returned.
 #[derive(Clone, Debug)]
 #[non_exhaustive]
 pub enum Cause {
     /// The judge rejects it.
     Rejected(Rejection),
-    /// There is none: upstream panicked.
+    /// Upstream panicked, and there is no output.
     Panicked,
 }
 
@@ -24,17 +24,18 @@ impl fmt::Display for Cause {
     }
 }
 
-/// What to do when an output of this algorithm isn't returned, before the proved allocator is tried: to log, or to stop.
+/// A function that logs, or aborts. It gets the algorithm and the reason before the proved allocator is called.
 pub type Hook = fn(Algorithm, &Cause);
 
 static HOOK: RwLock<Option<Hook>> = RwLock::new(None);
 
-/// Sets the hook of all threads. Without one nothing is told.
+/// Sets the hook for all threads, and replaces any other.
 pub fn on_rejection(hook: Hook) {
     *HOOK.write().unwrap_or_else(|poisoned| poisoned.into_inner()) = Some(hook);
 }
 
-pub(crate) fn tell(algorithm: Algorithm, cause: &Cause) {
+/// Calls the hook, if any.
+pub(crate) fn report(algorithm: Algorithm, cause: &Cause) {
     let hook = *HOOK.read().unwrap_or_else(|poisoned| poisoned.into_inner());
     if let Some(hook) = hook {
         hook(algorithm, cause);

@@ -8,7 +8,7 @@ mod hook;
 mod library;
 mod select;
 
-/// What this crate adds to upstream's: the judge, and the hook for outputs that it rejects.
+/// The items that upstream lacks: the judge, and the hook for outputs that it rejects.
 pub mod judged {
     pub use crate::hook::{Cause, Hook, on_rejection};
     pub use regalloc2_judge::{
@@ -18,20 +18,20 @@ pub mod judged {
 
 use select::{Choice, Proved};
 
-/// Keeps memory from one allocation to the next, and the last output, as upstream's `Ctx` does.
+/// Memory that allocations share, and the last output, as in upstream's `Ctx`.
 #[derive(Default)]
 pub struct Ctx {
     upstream: upstream::Ctx,
-    /// Whether upstream panicked over its context, so that this is to be a new one.
+    /// Whether upstream panicked while it used its context, which is replaced then.
     broken: bool,
     proved: Proved,
 }
 
-/// Allocates registers: upstream's `run`, whose output is the proved allocator's, or accepted by the proved checker.
+/// Allocates registers. The output is the proved allocator's, or the proved checker accepted it.
 ///
 /// # Errors
 ///
-/// Upstream's, and `SSA` for a function of which no output is accepted: with the operand at fault, or with invalid names.
+/// Upstream's errors; `SSA` if no output is accepted, with the operand at fault if it is known.
 pub fn run<F: Function>(func: &F, env: &MachineEnv, options: &RegallocOptions) -> Result<Output, RegAllocError> {
     let mut proved = Proved::default();
     let asked = || select::tried(|| upstream::run(func, env, options));
@@ -41,11 +41,11 @@ pub fn run<F: Function>(func: &F, env: &MachineEnv, options: &RegallocOptions) -
     })
 }
 
-/// Allocates registers as [`run`] does, with the context's memory, and lends the output that the context keeps.
+/// Allocates registers as [`run`] does, and lends the output that the context keeps.
 ///
 /// # Errors
 ///
-/// As [`run`].
+/// Those of [`run`].
 pub fn run_with_ctx<'a, F: Function>(
     func: &F,
     env: &MachineEnv,

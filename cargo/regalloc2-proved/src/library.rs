@@ -1,18 +1,18 @@
-//! The proved allocator, behind its words.
+//! Calls the proved allocator.
 
 use regalloc2_judge::words::{self, Labels, place, vreg};
 use regalloc2_proved_sys::{self as sys, Answer, FaultWords, NONE, OutputWords, RefusalWords, Room, Status, Words};
 use upstream::{Block, Edit, Function, Inst, MachineEnv, Output, ProgPoint, RegAllocError, VReg};
 
-/// Why the proved allocator gives no output.
+/// The reason why the proved allocator returns no output.
 pub(crate) enum Refusal {
     /// One of upstream's errors.
     Of(RegAllocError),
-    /// The function or the machine has a form that it doesn't take, or memory ran out. The instruction is invalid if none is named.
+    /// The function or the machine has a form that isn't supported, at this instruction if valid; or memory ran out.
     Form(Inst),
 }
 
-/// The memory of its calls.
+/// The proved allocator's memory.
 #[derive(Default)]
 pub(crate) struct Library {
     function: Words,
@@ -27,12 +27,12 @@ fn inst(number: u32) -> Inst {
     Inst(number)
 }
 
-/// The refusal of a form that is no instruction's.
+/// Returns the refusal of a form that no instruction has.
 fn form() -> Refusal {
     Refusal::Form(Inst::invalid())
 }
 
-/// Upstream's error of a status.
+/// Returns upstream's error for a status.
 fn refusal(number: u32, words: &[u32]) -> Refusal {
     let Ok(at) = RefusalWords::of(words) else { return form() };
     let [first, second] = at.blocks;
@@ -49,7 +49,7 @@ fn refusal(number: u32, words: &[u32]) -> Refusal {
     })
 }
 
-/// The first operand that reads what isn't written.
+/// Returns the error of the first operand that reads a vreg before it is written.
 fn unwritten(words: &[u32]) -> Refusal {
     match sys::faults(words).ok().as_deref() {
         Some([FaultWords { number: 2 | 4, inst: at, operand, .. }, ..]) if *at != NONE => {
@@ -91,7 +91,7 @@ fn read(words: &[u32], output: &mut Output) -> Result<(), Refusal> {
 }
 
 impl Library {
-    /// Allocates with all tests. Only a function of which some path reads before it writes is given to the checker.
+    /// Allocates with all tests. The checker runs only if some path reads a vreg before writing it.
     pub(crate) fn allocate(&mut self, f: &impl Function, env: &MachineEnv, output: &mut Output) -> Result<(), Refusal> {
         if !words::agree() {
             return Err(form());

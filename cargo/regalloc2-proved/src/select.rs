@@ -1,6 +1,6 @@
-//! Which output is returned.
+//! Selects the output that is returned.
 
-use crate::hook::{Cause, tell};
+use crate::hook::{Cause, report};
 use crate::library::{Library, Refusal};
 use regalloc2_judge::{Fault, Judge, Rejection, Unjudged};
 use std::borrow::Borrow;
@@ -15,20 +15,20 @@ pub(crate) struct Proved {
     output: Output,
 }
 
-/// Which output is returned.
+/// The output that is returned.
 pub(crate) enum Choice<O> {
     /// Upstream's.
     Upstream(O),
-    /// The one that [`Proved`] keeps.
+    /// The output in [`Proved`].
     Own,
 }
 
-/// What a call of upstream's gives, or `None` if it panics.
+/// Returns the result of a call of upstream's, or `None` if it panics.
 pub(crate) fn tried<O>(call: impl FnOnce() -> Result<O, RegAllocError>) -> Option<Result<O, RegAllocError>> {
     catch_unwind(AssertUnwindSafe(call)).ok()
 }
 
-/// What came of asking upstream.
+/// The result of upstream's call and the judge's.
 enum Asked<O> {
     Accepted(O),
     /// Upstream's own error.
@@ -46,7 +46,7 @@ impl Proved {
         self.output
     }
 
-    /// Chooses an output: of the proved allocator first if `Fastalloc` is asked for, else of upstream's first.
+    /// Selects an output: the proved allocator's first for `Fastalloc`, upstream's first for `Ion`.
     pub(crate) fn choose<F: Function, O: Borrow<Output>>(
         &mut self,
         f: &F,
@@ -78,7 +78,7 @@ impl Proved {
             Asked::Accepted(output) => Ok(Choice::Upstream(output)),
             Asked::Refused(error) => Err(error),
             Asked::Failed(cause) => {
-                tell(algorithm, &cause);
+                report(algorithm, &cause);
                 Err(error_of(refusal, Some(&cause)))
             }
         }
@@ -96,14 +96,14 @@ impl Proved {
             Asked::Refused(error) => return Err(error),
             Asked::Failed(cause) => cause,
         };
-        tell(algorithm, &cause);
+        report(algorithm, &cause);
         match self.library.allocate(f, env, &mut self.output) {
             Ok(()) => Ok(Choice::Own),
             Err(refusal) => Err(error_of(refusal, Some(&cause))),
         }
     }
 
-    /// Asks upstream, and has the judge judge its output.
+    /// Calls upstream, and judges its output.
     fn asked<F: Function, O: Borrow<Output>>(
         &mut self,
         f: &F,
@@ -120,15 +120,15 @@ impl Proved {
         }
     }
 
-    /// Whether there can be a verdict on an output of the function. If not, upstream's wouldn't be returned.
+    /// Whether the judge can give a verdict on the function. If not, no output of upstream's would be returned.
     fn can_judge<F: Function>(&mut self, f: &F, env: &MachineEnv) -> bool {
         let verdict = self.judge.judge(f, env, &Output::default());
         !matches!(verdict, Err(Rejection::Unjudged(why)) if why != Unjudged::NoMemory)
     }
 }
 
-/// The error where no output is returned: the proved allocator's if it is one of upstream's, else the first operand at fault, or the
-/// instruction whose form isn't taken.
+/// Returns the error if no output is accepted: the proved allocator's if upstream has it, else the operand at fault, or the instruction
+/// whose form isn't supported.
 fn error_of(refusal: Refusal, cause: Option<&Cause>) -> RegAllocError {
     let inst = match refusal {
         Refusal::Of(error) => return error,
