@@ -1,14 +1,15 @@
 #!/bin/sh
 # test.sh: builds and runs what `rt ci` doesn't: the static library, the C programs, the assembly that two programs print, the
-# programs on examples/, the crate for cargo, and what the documents name. `make test` calls it. The status is 0 only if nothing differs.
+# programs on examples/, and what the documents name; with upstream's sources in the folder UPSTREAM the crates for cargo too. `make test`
+# calls it. The status is 0 only if nothing differs.
 set -u
 here=$(cd "$(dirname "$0")" && pwd)
 top=$(dirname "$here")
 cc=${CC:-cc}
 
-for tool in "$cc" cargo python3 rt; do
+for tool in "$cc" python3 rt; do
     if ! command -v "$tool" >/dev/null; then
-        echo "make test needs a C compiler, cargo, python3 and rt, and finds no $tool"
+        echo "make test needs a C compiler, python3 and rt, and finds no $tool"
         exit 2
     fi
 done
@@ -101,10 +102,11 @@ fi
 transcript >"$made/transcript"
 step "the programs print what test.txt says" diff "$here/test.txt" "$made/transcript"
 step "200 functions return what compile says of them" "$here/compare.sh" "$made/bin/compile" 200
-export REGALLOC2_C="$top/crates/regalloc2_c/out"
-RATTLE_C=$(dirname "$memory")
-export RATTLE_C
-step "the tests of the crate for cargo" cargo test --quiet --offline --manifest-path "$top/shim/Cargo.toml" --target-dir "$made/cargo"
+if [ -n "${UPSTREAM:-}" ]; then
+    step "the tests of the crates for cargo" env REGALLOC2_C="$top/crates/regalloc2_c/out" RA2="$made/bin/ra2" "$top/cargo/test.sh" "$UPSTREAM"
+else
+    echo "not run the tests of the crates for cargo: UPSTREAM names no folder with upstream's sources"
+fi
 
 echo "$passed passed, $failed failed"
 [ "$failed" -eq 0 ]

@@ -1,0 +1,16 @@
+#![doc = include_str!("../README.md")]
+#![deny(missing_docs, unsafe_op_in_unsafe_fn)]
+
+mod calls;
+mod heap;
+mod read;
+mod status;
+mod write;
+
+pub use calls::{
+    Answer, Parts, Room, VERSION, agrees, allocate, allocate_json, allocate_text, check, fault_text, judge, run, status_text,
+    version,
+};
+pub use read::{FaultWords, MisfitWords, NONE, OutputWords, ReadFault, RefusalWords, faults};
+pub use status::Status;
+pub use write::{InstKind, Words};
