@@ -217,6 +217,19 @@ fn read_input<E: Write>(alloc: Global, path: &str, bytes: &[u8], err: &mut E) ->
     }
 }
 
+/// The other input of `diff`, with its path and its bytes, if there is one.
+fn other_of<'p, 't, 'i>(
+    given: Option<(&'p str, &'t [u8])>,
+    input: Option<&'i Input>,
+) -> Option<Other<'p, 't, 'i>> {
+    let (path, bytes) = given?;
+    Some(Other {
+        path,
+        text: text_of(bytes).unwrap_or(""),
+        input: input?,
+    })
+}
+
 /// Does a task with the bytes of its files, and answers the status.
 ///
 /// The input's fault, or why there is no whole answer, is a line on `err`, and the status then 2. Else the answer is on `out`,
@@ -243,14 +256,7 @@ pub fn answer<O: Write, E: Write>(
             return UNUSABLE;
         }
     }
-    let other = match (other, second.as_ref()) {
-        (Some((path, more)), Some(input)) => Some(Other {
-            path,
-            text: text_of(more).unwrap_or(""),
-            input,
-        }),
-        _ => None,
-    };
+    let other = other_of(other, second.as_ref());
     let inputs = Inputs {
         text: text_of(bytes).unwrap_or(""),
         input: &input,

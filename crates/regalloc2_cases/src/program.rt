@@ -60,6 +60,31 @@ impl fmt::Display for Shown<'_> {
     }
 }
 
+/// Does a call with the function in a case's text, and writes what is answered or found wrong with the text.
+fn answer_text(
+    alloc: Global,
+    call: Call,
+    case: &Case<'_>,
+    source: Option<Source<'_>>,
+    to: &mut Vec<u8>,
+) -> Result<(), CallError> {
+    let mut err = Vec::new(alloc);
+    match read_text(alloc, case.text.as_str(), case.first_line) {
+        Ok(text) => {
+            let given = Given {
+                function: &text.function,
+                output: text.output.as_ref(),
+                source,
+            };
+            answer(alloc, call, &given, to, &mut err)?;
+            to.extend_from_slice(err.as_slice())?;
+        }
+        Err(TextError::Fault(fault)) => writeln!(to, "bad text {fault}")?,
+        Err(TextError::Memory) => return Err(CallError::Memory),
+    }
+    Ok(())
+}
+
 /// The answer to a call of a case: what is written, and behind that what turns the text down. A name may end in ` why`: then what is
 /// refused or found is explained. A name of several words, of which the first is `ra2_text`, is that program's command line; `before` is
 /// the text of the case before.
@@ -73,7 +98,6 @@ fn answer_of(
         return answer_of_program(alloc, name, case.text.as_str(), before);
     }
     let mut to = Vec::new(alloc);
-    let mut err = Vec::new(alloc);
     let (word, source) = match name.strip_suffix(" why") {
         Some(word) => {
             let source = Source {
@@ -89,19 +113,7 @@ fn answer_of(
         writeln!(&mut to, "no such call")?;
         return Ok(to);
     };
-    match read_text(alloc, case.text.as_str(), case.first_line) {
-        Ok(text) => {
-            let given = Given {
-                function: &text.function,
-                output: text.output.as_ref(),
-                source,
-            };
-            answer(alloc, call, &given, &mut to, &mut err)?;
-            to.extend_from_slice(err.as_slice())?;
-        }
-        Err(TextError::Fault(fault)) => writeln!(&mut to, "bad text {fault}")?,
-        Err(TextError::Memory) => return Err(CallError::Memory),
-    }
+    answer_text(alloc, call, case, source, &mut to)?;
     Ok(to)
 }
 
