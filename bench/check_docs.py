@@ -30,7 +30,6 @@ COMMANDS = {
     "make -C c compare": ("TEST", '"$here/compare.sh" "$made/bin/compile" 200'),
     "make -C c install PREFIX=FOLDER": ("HAND", "it writes outside the repository"),
     "make -C c dist": ("HAND", "it makes an archive of the committed state"),
-    "make -C c test-cargo UPSTREAM=FOLDER": ("TEST", '"$top/cargo/test.sh" "$UPSTREAM"'),
     "cargo add regalloc2@0.15.2": ("HAND", "it needs a registry"),
     "cargo add --path ../kolfatsi/cargo/regalloc2-judge": ("HAND", "it changes another package"),
     "ra2_text run data/loop.txt": ("TEST", "$ ra2_text run loop.txt"),

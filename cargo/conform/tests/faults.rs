@@ -6,6 +6,7 @@ use regalloc2::{
     RegClass, SpillSlot, VReg,
 };
 use regalloc2_conform::functions::{Code, int, machine, straight};
+use regalloc2_proved_sys::Status;
 
 fn v(number: usize) -> VReg {
     VReg::new(number, RegClass::Int)
@@ -207,10 +208,10 @@ fn no_verdict() {
     says(&code, &other, Unjudged::BadOutput, "a number of the output is no encoding");
     let mut other = code.clone();
     other.lines.pop();
-    says(&other, &fine, Unjudged::BadFunction(2), "bad function: a block, a range or a label is out of range");
+    says(&other, &fine, Unjudged::BadFunction(2), &Status::BadFunction(2).to_string());
     let mut other = code.clone();
     other.lines[0].operands[0] = Operand::from_bits(3 << 32);
-    says(&other, &fine, Unjudged::BadFunction(3), "bad function: a word names nothing");
+    says(&other, &fine, Unjudged::BadFunction(3), &Status::BadFunction(3).to_string());
     let mut other = code.clone();
     other.succs[0].push(Block::new(0));
     other.arguments[0].push(vec![]);

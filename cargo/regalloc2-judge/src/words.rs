@@ -54,6 +54,9 @@ fn operands_agree() -> bool {
 }
 
 fn registers(to: &mut Words, set: &PRegSet) {
+    if *set == PRegSet::empty() {
+        return to.word(0);
+    }
     to.counted(set.into_iter().map(|reg| reg.index() as u32));
 }
 

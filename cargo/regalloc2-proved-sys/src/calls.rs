@@ -249,8 +249,8 @@ mod tests {
 
     #[test]
     fn texts_are_there() {
-        assert_eq!(status_text(5), "out of memory");
-        assert!((1..18).all(|number| !fault_text(number).is_empty()));
+        assert!((0..32).all(|number| !status_text(number).is_empty() && !fault_text(number).is_empty()));
+        assert_ne!(status_text(5), status_text(6));
         assert!(!status_text(u32::MAX).is_empty());
     }
 

@@ -62,13 +62,26 @@ const fn sizes() -> [usize; CLASSES] {
 }
 
 /// Returns the smallest class whose blocks have `size` bytes; `CLASSES` or more if none has.
-fn class_of(size: usize) -> usize {
+const fn class_of(size: usize) -> usize {
     let n = size.saturating_sub(1) / UNIT;
     if n < 4 {
         return n;
     }
     let log = n.ilog2() as usize;
     2 * log + (n >> (log - 1) & 1)
+}
+
+/// The class by `(size - 1) / UNIT`, for the sizes of nearly all blocks.
+const SMALL: [u8; 64] = small();
+
+const fn small() -> [u8; 64] {
+    let mut classes = [0; 64];
+    let mut n = 0;
+    while n < 64 {
+        classes[n] = class_of(UNIT * (n + 1)) as u8;
+        n += 1;
+    }
+    classes
 }
 
 struct Pool {
@@ -86,7 +99,9 @@ struct Pool {
 }
 
 thread_local! {
+    /// It has no destructor, so that an access tests nothing. `AT_EXIT` frees its chunks.
     static POOL: Pool = const { Pool::new() };
+    static AT_EXIT: AtExit = const { AtExit };
 }
 
 impl Pool {
@@ -103,6 +118,7 @@ impl Pool {
     }
 
     /// Returns a block of a class, or null.
+    #[inline]
     fn take(&self, class: usize) -> *mut u8 {
         let first = self.freed[class].get();
         let head = if first.is_null() {
@@ -124,6 +140,7 @@ impl Pool {
     }
 
     /// Cuts `size` bytes from a chunk. Returns null if memory runs out.
+    #[inline]
     fn cut(&self, size: usize) -> *mut Head {
         if size > self.left.get() && !self.go_on() {
             return null_mut();
@@ -136,6 +153,8 @@ impl Pool {
     }
 
     /// Makes the next chunk the current one, after adding one if there is none. Returns `false` if memory runs out.
+    #[cold]
+    #[inline(never)]
     fn go_on(&self) -> bool {
         let current = self.current.get();
         // SAFETY: chunks that are in the list aren't freed.
@@ -215,17 +234,27 @@ unsafe fn free_all(mut chunk: *mut Head) {
     }
 }
 
-impl Drop for Pool {
+/// Frees the thread's chunks when the thread ends, unless a block is left.
+struct AtExit;
+
+impl Drop for AtExit {
     fn drop(&mut self) {
-        if self.out.get() == 0 {
-            // SAFETY: no block is in use, and the list ends here.
-            unsafe { free_all(self.first.get()) };
-        }
+        POOL.with(|pool| {
+            if pool.out.get() == 0 {
+                // SAFETY: no block is in use, and the list is empty from now on.
+                unsafe { free_all(pool.first.replace(null_mut())) };
+                pool.current.set(null_mut());
+                pool.left.set(0);
+                pool.freed.iter().for_each(|list| list.set(null_mut()));
+            }
+        });
     }
 }
 
 /// Makes a call of the library, with small blocks from this thread's chunks.
 pub(crate) fn with_pool<T>(call: impl FnOnce() -> T) -> T {
+    // fails only while the thread ends; then nobody frees this call's chunks
+    let _ = AT_EXIT.try_with(|_| ());
     POOL.with(|pool| pool.inside.set(true));
     let value = call();
     POOL.with(Pool::end);
@@ -246,13 +275,15 @@ fn behind(head: *mut c_void) -> *mut u8 {
 }
 
 /// Returns a block of `size` bytes, or null. An empty block has an address of its own.
+#[inline]
 fn block(size: usize) -> *mut u8 {
-    let class = class_of(size);
-    if class < CLASSES
-        && let Ok(Some(p)) = POOL.try_with(|pool| pool.inside.get().then(|| pool.take(class)))
-    {
-        return p;
-    }
+    let class = SMALL.get(size.saturating_sub(1) / UNIT).map_or_else(|| class_of(size), |class| usize::from(*class));
+    POOL.with(|pool| if class < CLASSES && pool.inside.get() { pool.take(class) } else { large(size) })
+}
+
+/// Returns a block of `malloc`'s, or null.
+#[inline(never)]
+fn large(size: usize) -> *mut u8 {
     match size.checked_add(UNIT) {
         // SAFETY: `malloc` takes any size.
         Some(size) => behind(unsafe { malloc(size) }),
@@ -308,7 +339,7 @@ unsafe extern "C" fn rattle_dealloc(p: *mut u8) {
             free(head.cast());
             return;
         }
-        let _ = POOL.try_with(|pool| {
+        POOL.with(|pool| {
             (*head).next = pool.freed[class].get();
             pool.freed[class].set(head);
             pool.out.set(pool.out.get().wrapping_sub(1));

@@ -83,7 +83,7 @@ impl Words {
     #[inline]
     pub fn longs(&mut self, items: impl ExactSizeIterator<Item = u64>) {
         self.number(items.len());
-        self.words.extend(items.flat_map(|number| [number as u32, (number >> 32) as u32]));
+        items.for_each(|number| self.long(number));
     }
 
     /// Adds a list of words of unknown length.
