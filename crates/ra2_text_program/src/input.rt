@@ -78,7 +78,7 @@ fn is_json(text: &str) -> bool {
     first == Some(b'{') || (first == Some(b'[') && !is_logged(text.trim_start()))
 }
 
-/// What is said of a fault of stored numbers.
+/// The message for an error in stored numbers.
 fn error_of(fault: StoredFault) -> InputError {
     match fault {
         StoredFault::Memory => InputError::Memory,

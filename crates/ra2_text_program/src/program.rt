@@ -13,16 +13,16 @@ use regalloc2_tool::calls::call::{
 use std::alloc::Global;
 use std::io::{self, Write};
 
-/// The status of bad words or a bad input, and of output that can't be written.
+/// The status of wrong arguments or input, and of output that can't be written.
 pub const UNUSABLE: u8 = 2;
 
-/// The status of a rejected function, and of an output with faults.
+/// The status of a rejected function, and of an output with errors.
 const REJECTED: u8 = 1;
 
-/// How many virtual registers a function may name without a warning, whatever it defines.
+/// How many virtual registers (vregs) a function may name without a warning, whatever it defines.
 const USUAL_VREGS: u64 = 1 << 20;
 
-/// How many bytes the tables of the allocator and the checker take for a number of a virtual register, about.
+/// How many bytes the tables of the allocator and the checker take for a vreg number, about.
 const BYTES_FOR_VREG: u64 = 20;
 
 /// The status of a verdict.
@@ -50,7 +50,7 @@ fn write_function<O: Write>(
     Ok(())
 }
 
-/// How many words of operands, parameters and arguments a function has, of which each names at most one virtual register.
+/// How many words of operands, parameters and arguments a function has, of which each names at most one vreg.
 fn count_names(function: &StoredFunction) -> u64 {
     let mut count = 0u64;
     for inst in &function.insts {
@@ -62,7 +62,7 @@ fn count_names(function: &StoredFunction) -> u64 {
     count
 }
 
-/// Warns of numbers of virtual registers that are far above how many the function names, with the memory that their tables take.
+/// Warns of vreg numbers that are far above how many the function names, with the memory that their tables take.
 fn warn<E: Write>(path: &str, function: &StoredFunction, err: &mut E) -> io::Result<()> {
     let vregs = function.num_vregs;
     let names = count_names(function);
@@ -230,9 +230,9 @@ fn other_of<'p, 't, 'i>(
     })
 }
 
-/// Does a task with the bytes of its files, and answers the status.
+/// Does a task with the bytes of its files, and returns the status.
 ///
-/// The input's fault, or why there is no whole answer, is a line on `err`, and the status then 2. Else the answer is on `out`,
+/// The input's error, or why there is no whole result, is a line on `err`, and the status then 2. Else the result is on `out`,
 /// flushed, and the status 0; or 1 if the function is rejected, of which `err` has the cause, or something is found; or 2 if its numbers
 /// name no function.
 pub fn answer<O: Write, E: Write>(

@@ -1,4 +1,4 @@
-//! What the program is asked to do.
+//! The tasks of the program.
 
 use clap::error::ErrorKind;
 use clap::{Arg, ArgAction, Command, Error};
@@ -55,7 +55,7 @@ on standard error: for a rejected function its cause, with the line and column a
 /// What is to be done with a text.
 #[derive(Clone, Copy)]
 pub enum Action {
-    /// To answer a call.
+    /// A call on a text or on JSON.
     Answer(Call),
     /// To write the function as JSON.
     Json,
@@ -83,9 +83,9 @@ pub struct Task<'a> {
     pub path: &'a str,
     /// The path of the file with the other output of `diff`; without one, the allocator's is compared.
     pub other: Option<&'a str>,
-    /// The path of the file to which the answer is written, in place of standard output.
+    /// The path of the file to which the result is written, in place of standard output.
     pub output: Option<&'a str>,
-    /// Whether nothing is written but that words or input are bad.
+    /// Whether nothing is written but errors in arguments or input.
     pub is_quiet: bool,
 }
 
@@ -148,7 +148,7 @@ fn command<'a>(alloc: Global) -> Result<Command<'a>, Error> {
 
 impl<'a> Task<'a> {
     /// The task that the program's words name, of which the first is its own name. The error's text is for the user: that the
-    /// words are bad, or the help or the version where that is asked for.
+    /// arguments are wrong, or the help or the version if that is requested.
     pub fn of(alloc: Global, words: &'a [String]) -> Result<Task<'a>, Error> {
         let mut command = command(alloc)?;
         let matches = command.try_get_matches_from_mut(words)?;

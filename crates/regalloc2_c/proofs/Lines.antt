@@ -1,4 +1,4 @@
--- Why a text isn't read, from what its reader says.
+-- Why a text isn't read, from its reader's error.
 use Rattle.std.proofs.Common.{ℕ, ◌≡◌, ◌≤◌, ◌+◌, List, length, sym, subst, arith}
 use Rattle.regalloc2_text.specs.Cursor.Lines.{IsOnLineBetween}
 use Rattle.regalloc2_text.specs.declared.cursor.error.TextError.{TextError}

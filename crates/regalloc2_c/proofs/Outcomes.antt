@@ -1,4 +1,4 @@
--- What comes of a call that allocates, from what comes of its parts.
+-- The outcome of a call that allocates, from those of its parts.
 use Rattle.std.proofs.Common.{ℕ, ◌≡◌, inl, inr, List, Result, Ok, Err, refl, sym, subst}
 use Rattle.std.specs.Prelude.{IfOk, IfErr}
 use Rattle.std.specs.Global.{Vec}

@@ -22,7 +22,7 @@ use Rattle.regalloc2_c.specs.declared.failure.Failure.{Failure}
 use Rattle.regalloc2_c.specs.declared.failure.Failure.TheVariants.{Unreadable, BadMachine, NoRoom, Faults, NoMemory, NotFramed, BadOutput}
 use Rattle.regalloc2_c.specs.declared.failure.Failure.TheVariants.{ReadBeforeWritten, BadText, BadFunction, Refused}
 
--- an output that isn't in order
+-- an output that isn't well-ordered
 malformed : (f : FunctionValue) (env : MachineValue) (out : OutputValue) (e : CheckerError Global) (failure : Failure) → e ≡ MalformedOutput →
     (IsInOrder f out → ⊥) → IsFaultsTold (e ∷ []) failure → IsVerdict f env out failure
 malformed f env out e failure same bad (inl lost) = inl lost
@@ -129,7 +129,7 @@ failure_for Outs numbers laid s (BadText line column) h = h
 failure_for Outs numbers laid s (BadFunction fault) h = h
 failure_for Outs numbers laid s (Refused error) h = h
 
--- a function that isn't framed, or that isn't one
+-- a function that isn't structurally valid, or that isn't one
 pub unframed : (Outs : StoredOutput Global → Type 0) (s : StoredFunction Global) (e : Failure) → IsFunctionFailure s e → IsCheckFailure Outs s e
 unframed Outs s Unreadable h = absurd h
 unframed Outs s (BadMachine m) h = h

@@ -75,7 +75,7 @@ fault_words e = fault_head e ++ length (fault_vregs e) ∷ map bits_of_vreg (fau
 abbrev pub faults_words : {A : Type 0} → List (CheckerError A) → List ℕ
 faults_words es = length es ∷ flat_map fault_words es
 
--- the list of one fault of places: its number, the instruction, the index of an operand or a move or the number of a slot, and, behind four
+-- the list of one fault of places: its number, the instruction, the index of an operand or a move or the number of a slot, and, after four
 -- words that are 0, the index of a debug location or the number of another slot
 abbrev pub cell_fault_words : CellFault → List ℕ
 cell_fault_words (Operand i k) = 1 ∷ 14 ∷ i ∷ as_word k ∷ 0 ∷ 0 ∷ 0 ∷ 0 ∷ 0 ∷ 0 ∷ []
@@ -86,11 +86,11 @@ cell_fault_words (Slot n) = 1 ∷ 16 ∷ none ∷ as_word n ∷ 0 ∷ 0 ∷ 0 �
 cell_fault_words (Shared m n) = 1 ∷ 17 ∷ none ∷ as_word m ∷ 0 ∷ 0 ∷ 0 ∷ 0 ∷ as_word n ∷ 0 ∷ []
 cell_fault_words CellMemory = 1 ∷ 13 ∷ none ∷ none ∷ 0 ∷ 0 ∷ 0 ∷ 0 ∷ 0 ∷ 0 ∷ []
 
--- a failure tells faults, or memory for their words was refused; more than 2^32 of them, or of the vregs of one, count as that
+-- a failure lists faults, or memory for their words ran out; more than 2^32 of them, or of the vregs of one, count as that
 abbrev pub IsFaultsTold : List (CheckerError Global) → Failure → Type 0
 IsFaultsTold es e = (e ≡ NoMemory) ⊎ ((v : Vec ℕ) × (e ≡ Faults v) × (v.items ≡ faults_words es))
 
--- where the checker found errors: `Memory` alone says that memory was refused
+-- where the checker found errors: `Memory` alone says that memory ran out
 abbrev pub IsErrorsFailure : List (CheckerError Global) → Failure → Type 0
 IsErrorsFailure es e = ((es ≡ Memory ∷ []) × (e ≡ NoMemory)) ⊎ ((es ≡ Memory ∷ [] → ⊥) × IsFaultsTold es e)
 
@@ -98,14 +98,14 @@ IsErrorsFailure es e = ((es ≡ Memory ∷ []) × (e ≡ NoMemory)) ⊎ ((es ≡
 abbrev pub IsCellsTold : CellFault → Failure → Type 0
 IsCellsTold fault e = (e ≡ NoMemory) ⊎ ((fault ≡ CellMemory → ⊥) × (v : Vec ℕ) × (e ≡ Faults v) × (v.items ≡ cell_fault_words fault))
 
--- where an allocation gives none; the checker gives no verdict only where memory is refused
+-- where an allocation gives none; the checker gives no verdict only if memory runs out
 abbrev pub StandsForError : AllocateError Global → Failure → Type 0
 StandsForError (Misfit m) e = e ≡ BadMachine m
 StandsForError (RunRefused error) e = e ≡ Refused error
 StandsForError (RunFaults es) e = IsFaultsTold (errors_of es) e
 StandsForError Unjudged e = e ≡ NoMemory
 
--- words are those of the faults of an output: that it isn't in order; or all that the checker finds; or, if it finds none, the first that keeps its
+-- words are those of the faults of an output: that it isn't well-ordered; or all that the checker finds; or, if it finds none, the first that keeps its
 -- places from being cells
 abbrev pub AreFaultsOf : FunctionValue → MachineValue → OutputValue → List ℕ → Type 0
 AreFaultsOf f env out words =
@@ -114,7 +114,7 @@ AreFaultsOf f env out words =
     ⊎ (IsInOrder f out × IsFaithful f env out × (AreCells f env out → ⊥) × (fault : CellFault) × IsCellFault f env out fault
     × (fault ≡ CellMemory → ⊥) × (words ≡ cell_fault_words fault))
 
--- why an output isn't accepted: memory was refused, or it has faults
+-- why an output isn't accepted: memory ran out, or it has faults
 abbrev pub IsVerdict : FunctionValue → MachineValue → OutputValue → Failure → Type 0
 IsVerdict f env out e = (e ≡ NoMemory) ⊎ ((v : Vec ℕ) × (e ≡ Faults v) × (IsInOrder f out × IsFaithful f env out × AreCells f env out → ⊥)
     × AreFaultsOf f env out v.items)

@@ -48,7 +48,7 @@ IsJsonOf bytes s = IsUtf8 bytes × (d : Data) × (read bytes ≡ Some d) × IsFu
 abbrev pub IsTextOf : List ℕ → StoredFunction Global → Type 0
 IsTextOf bytes s = IsUtf8 bytes
 
--- why an input of so many lines isn't read: it lays out no function, a line can't be read, or memory was refused; words and JSON have no lines
+-- why an input of so many lines isn't read: it lays out no function, a line can't be read, or memory ran out; words and JSON have no lines
 abbrev pub IsUnread : (StoredFunction Global → Type 0) → ℕ → Failure → Type 0
 IsUnread Lays lines Unreadable = (s : StoredFunction Global) → Lays s → ⊥
 IsUnread Lays lines (BadMachine m) = ⊥
@@ -94,7 +94,7 @@ pub record IsOutput (Lays : StoredOutput Global → Type 0) (out : OutputValue) 
   pub laid_out : Lays stored
   pub names : NumbersNameOutput stored out
 
--- words are those of an output of a function, of which all holds that `allocate` promises
+-- words are those of an output of a function, with all that `allocate` guarantees
 pub record IsAllocatedOutput (s : StoredFunction Global) (words : List ℕ) : Type 0 where
   pub f : FunctionValue
   pub env : MachineValue
@@ -105,7 +105,7 @@ pub record IsAllocatedOutput (s : StoredFunction Global) (words : List ℕ) : Ty
   pub allocation : IsAllocation f env out
   pub faithful : IsFaithful f env out
 
--- or that `run_tested` promises
+-- or that `run_tested` guarantees
 pub record IsTestedOutput (s : StoredFunction Global) (words : List ℕ) : Type 0 where
   pub f : FunctionValue
   pub env : MachineValue
@@ -118,7 +118,7 @@ pub record IsTestedOutput (s : StoredFunction Global) (words : List ℕ) : Type 
   pub live : LiveInSlots f out
   pub written : IsWrittenFirst f
 
--- why a function that numbers name has no output, whether or not the checker is behind
+-- why a function that numbers name has no output, with or without the checker
 abbrev pub IsMisfitOf : StoredFunction Global → MachineMisfit → Type 0
 IsMisfitOf s m = (f : FunctionValue) × (env : MachineValue) × NumbersNameFunction s f env × IsMisfit f env m × (MachineFits f env → ⊥)
 
@@ -181,7 +181,7 @@ abbrev pub IsGiven : ℕ → List ℕ → List ℕ → List ℕ → ℕ → Type
 IsGiven status words old now got = ((length words ≤ length old) × (got ≡ status) × (take (length words) now ≡ words))
     ⊎ ((length old < length words) × (got ≡ failure_number NoRoom) × (now ≡ old))
 
--- how many words there are is told whether there is room for them or not
+-- how many words there are is reported whether or not there is room for them
 pub record IsHandedOut (found : Result (Vec ℕ) Failure) (old now : List ℕ) (needed got : ℕ) : Type 0 where
   pub needed_words : needed ≡ length (result_of found)
   pub given : IsGiven (status_of found) (result_of found) old now got
@@ -193,7 +193,7 @@ IsAllocateOutcome Lays lines old now needed got = (found : Result (Vec ℕ) Fail
 abbrev pub IsRunOutcome : List ℕ → List ℕ → List ℕ → ℕ → ℕ → Type 0
 IsRunOutcome input old now needed got = (found : Result (Vec ℕ) Failure) × IsRunFound (AreWordsOf input) found × IsHandedOut found old now needed got
 
--- an output that the checker accepts: its places and moves are in order, it is faithful, and its places are cells of their own
+-- an output that the checker accepts: it is well-ordered and faithful, and its places are cells of their own
 pub record IsAcceptedOutput (Outs : StoredOutput Global → Type 0) (s : StoredFunction Global) : Type 0 where
   pub f : FunctionValue
   pub env : MachineValue
@@ -218,7 +218,7 @@ IsNoStoredOutput Outs (BadText line column) = ⊥
 IsNoStoredOutput Outs (BadFunction fault) = ⊥
 IsNoStoredOutput Outs (Refused error) = ⊥
 
--- why no output of a function can be judged
+-- why no output of a function can be checked
 abbrev pub IsNotFramed : StoredFunction Global → Type 0
 IsNotFramed s = (f : FunctionValue) × (env : MachineValue) × NumbersNameFunction s f env × (IsFramed f → ⊥)
 

@@ -34,7 +34,7 @@ misfit_words (SlotAllocatable class r) = 8 ∷ class_code class ∷ bits_of_regi
 misfit_words (SlotIsScratch class r) = 9 ∷ class_code class ∷ bits_of_register r ∷ []
 misfit_words (NoRegister class) = 10 ∷ class_code class ∷ none ∷ []
 
--- two blocks, an instruction, and a virtual register
+-- two blocks, an instruction, and a vreg
 abbrev pub refusal_words : RegAllocError → List ℕ
 refusal_words (CritEdge p b) = p ∷ b ∷ none ∷ none ∷ []
 refusal_words (SSA v i) = none ∷ none ∷ i ∷ bits_of_vreg v ∷ []

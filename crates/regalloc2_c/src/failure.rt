@@ -13,15 +13,15 @@ use regalloc2_tool::{refusal, stored_fault};
 pub enum Failure {
     /// The input lays out no function, or no output.
     Unreadable,
-    /// The machine doesn't suit the function.
+    /// The machine doesn't fit the function.
     BadMachine(MachineMisfit),
     /// The output takes more words than there is room for.
     NoRoom,
     /// The checker found faults in the output, or its places aren't cells: the words of a list of them.
     Faults(Vec<u32>),
-    /// Memory was refused.
+    /// A memory allocation failed.
     NoMemory,
-    /// Blocks don't follow one another or don't end, so that no output can be judged.
+    /// Blocks don't follow one another or don't end, so no output can be checked.
     NotFramed,
     /// The output's numbers name none.
     BadOutput,
@@ -31,7 +31,7 @@ pub enum Failure {
     BadText(u32, u32),
     /// The numbers name no function.
     BadFunction(StoredFault),
-    /// The function was refused, or registers, slots or memory ran out.
+    /// The function was rejected, or registers, slots or memory ran out.
     Refused(RegAllocError),
 }
 

@@ -108,7 +108,7 @@ fn push_vregs(to: &mut Vec<u32>, vregs: &[VReg]) -> Result<(), AllocError>
     Ok(())
 }
 
-/// Adds a length to words. It is refused if it is no word.
+/// Adds a length to words. An error if it is no word.
 fn push_length(to: &mut Vec<u32>, length: usize) -> Result<(), AllocError>
     ensures { OnOk result (to.new.items ≡ to.old.items ++ length ∷ []) }
 {
@@ -151,7 +151,7 @@ fn push_faults(to: &mut Vec<u32>, errors: &[CheckerError]) -> Result<(), AllocEr
     Ok(())
 }
 
-/// The failure that tells these faults.
+/// The failure that lists these faults.
 fn faults_failure(alloc: Global, errors: &[CheckerError]) -> Failure
     ensures { IsFaultsTold errors.now result }
 {
@@ -162,7 +162,7 @@ fn faults_failure(alloc: Global, errors: &[CheckerError]) -> Failure
     }
 }
 
-/// The failure that the checker's errors come to: they are `Memory` alone where memory was refused.
+/// The failure that the checker's errors come to: they are `Memory` alone if a memory allocation failed.
 pub fn failure_of_errors(alloc: Global, errors: &[CheckerError]) -> Failure
     ensures { IsErrorsFailure errors.now result }
 {

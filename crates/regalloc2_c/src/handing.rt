@@ -1,4 +1,4 @@
-//! What is found is handed out: a status, words if there is room for them, and how many there are.
+//! Hands out a result: a status, words if there is room for them, and how many there are.
 
 ghost use Rattle.std.specs.Prelude.{◌≡◌, ◌≤◌, length, Err};
 ghost use Rattle.regalloc2_c.specs.Outcome.{IsGiven, IsHandedOut};

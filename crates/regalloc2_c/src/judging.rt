@@ -1,4 +1,4 @@
-//! What the calls that judge an output do.
+//! What the calls that check an output do.
 
 ghost use Rattle.std.specs.Prelude.{◌≡◌, ◌⊎◌, ℕ, List, [], ◌*◌, take, IfOk, IfErr, OnOk};
 ghost use Rattle.std.specs.List.{flat_map};
@@ -37,7 +37,7 @@ pub struct Parts<'a> {
     pub offsets: &'a [u32],
 }
 
-/// Has the checker judge an output.
+/// Runs the checker on an output.
 fn checked(alloc: Global, f: &SerializableFunction, output: &Output) -> Result<(), Failure>
     requires framed { IsFramed (function_of_serializable f.now) }
     ensures ok { OnOk result (IsInOrder (function_of_serializable f.now) (output_of output.now)
@@ -57,7 +57,7 @@ fn checked(alloc: Global, f: &SerializableFunction, output: &Output) -> Result<(
     }
 }
 
-/// Has the checker judge an output, and tests that its places are cells of their own.
+/// Runs the checker on an output, and tests that its places are cells of their own.
 fn judge(alloc: Global, f: &SerializableFunction, output: &Output) -> Result<(), Failure>
     requires framed { IsFramed (function_of_serializable f.now) }
     ensures ok { OnOk result (IsInOrder (function_of_serializable f.now) (output_of output.now)
@@ -157,7 +157,7 @@ fn output_from(alloc: Global, numbers: &StoredOutput) -> Result<Output, Failure>
     }
 }
 
-/// The function that numbers name, if it is framed.
+/// The function that numbers name, if it is structurally valid (`IsFramed`).
 fn framed_function(alloc: Global, stored: &StoredFunction) -> Result<SerializableFunction, Failure>
     ensures framed { IfOk result (λ f. IsFramed (function_of_serializable f)) }
     ensures named { IfOk result (λ f. NumbersNameFunction stored.now (function_of_serializable f) (machine_of f.machine)) }
@@ -173,7 +173,7 @@ fn framed_function(alloc: Global, stored: &StoredFunction) -> Result<Serializabl
     Ok(f)
 }
 
-/// Judges the output of these numbers, of a function whose numbers are given too.
+/// Checks the output of these numbers, of a function whose numbers are given too.
 fn judge_numbers(
     alloc: Global,
     stored: &StoredFunction,
@@ -192,7 +192,7 @@ fn judge_numbers(
     judge(alloc, f, &output)
 }
 
-/// Judges an output of a function that words lay out.
+/// Checks an output of a function that words lay out.
 pub fn judged(alloc: Global, stored: &StoredFunction, words: &[u32]) -> Result<(), Failure>
     ensures ok { OnOk result (IsAcceptedOutput (AreOutputWords words.now) stored.now) }
     ensures err { IfErr result (IsCheckFailure (AreOutputWords words.now) stored.now) }
@@ -208,7 +208,7 @@ pub fn judged(alloc: Global, stored: &StoredFunction, words: &[u32]) -> Result<(
     judge_numbers(alloc, stored, &f, &numbers)
 }
 
-/// Judges an output, given in parts, of a function.
+/// Checks an output, given in parts, of a function.
 fn judged_parts(alloc: Global, stored: &StoredFunction, parts: Parts<'_>) -> Result<(), Failure>
     ensures ok { OnOk result (IsAcceptedOutput (ArePartsOf parts.entry.num_spillslots parts.entry.moves.now parts.entry.places.now
         parts.entry.offsets.now) stored.now) }
@@ -226,7 +226,7 @@ fn judged_parts(alloc: Global, stored: &StoredFunction, parts: Parts<'_>) -> Res
     judge_numbers(alloc, stored, &f, &numbers)
 }
 
-/// Judges an output, given in parts, of the function that words lay out. No words say that it is accepted.
+/// Checks an output, given in parts, of the function that words lay out. No words say that it is accepted.
 pub fn judged_of_words(alloc: Global, words: &[u32], parts: Parts<'_>) -> Result<Vec<u32>, Failure>
     ensures { IsJudgeFound (AreWordsOf words.now) (ArePartsOf parts.entry.num_spillslots parts.entry.moves.now parts.entry.places.now
         parts.entry.offsets.now) result }

@@ -1,7 +1,7 @@
 //! The allocator and the checker for C, C++ and Rust, over arrays of words, over JSON and over texts.
 //!
 //! `c/regalloc2_c.h` declares the calls. Nothing checks a caller against it: each pointer names memory of its length, which
-//! nobody else writes during the call.
+//! nothing else writes during the call.
 #![tactic(auto)]
 
 ghost use Rattle.std.specs.Prelude.{◌≡◌, ◌≤◌, ◌+◌, length};
@@ -50,7 +50,7 @@ pub extern "C" fn regalloc2_c_fault_text(number: u32, text: &mut [u8]) -> usize
     tell(fault_words(number), text)
 }
 
-/// Allocates registers to the function that `words` lay out, has the checker judge the output, and writes the output's words. The
+/// Allocates registers to the function that `words` lay out, runs the checker on the output, and writes the output's words. The
 /// status is 0, or says why there are none; then the words say what the error is about. `needed` is how many words there are: if there is no
 /// room for them, nothing is written, and the status is that of `NoRoom`.
 #[unsafe(no_mangle)]
@@ -80,7 +80,7 @@ pub extern "C" fn regalloc2_c_allocate_json(
     hand_out(allocated_of_json(alloc, json), out, needed)
 }
 
-/// The same for a function in a text. An output in it isn't looked at.
+/// The same for a function in a text. An output in it is ignored.
 #[unsafe(no_mangle)]
 pub extern "C" fn regalloc2_c_allocate_text(
     alloc: Global,
@@ -94,7 +94,7 @@ pub extern "C" fn regalloc2_c_allocate_text(
     hand_out(allocated_of_text(alloc, text), out, needed)
 }
 
-/// Allocates registers with all tests, that each path writes before it reads among them, and without the checker.
+/// Allocates registers with all tests, definite assignment among them, and without the checker.
 #[unsafe(no_mangle)]
 pub extern "C" fn regalloc2_c_run(
     alloc: Global,
@@ -108,7 +108,7 @@ pub extern "C" fn regalloc2_c_run(
     hand_out(tested_of_words(alloc, words), out, needed)
 }
 
-/// Has the checker judge an output that is given in parts, of the function that `words` lay out, and tests that its places are cells of
+/// Runs the checker on an output that is given in parts, of the function that `words` lay out, and tests that its places are cells of
 /// their own. The status is 0 if both hold, or says why it isn't accepted; the words are those of a list of faults.
 #[unsafe(no_mangle)]
 pub extern "C" fn regalloc2_c_judge(
@@ -133,7 +133,7 @@ pub extern "C" fn regalloc2_c_judge(
     hand_out(judged_of_words(alloc, words, parts), out, needed)
 }
 
-/// Has the checker judge the output that `output` lays out, of the function that `words` lay out, and tests that its places are cells of
+/// Runs the checker on the output that `output` lays out, of the function that `words` lay out, and tests that its places are cells of
 /// their own. The status is 0 if both hold, or says why it isn't accepted.
 #[unsafe(no_mangle)]
 pub extern "C" fn regalloc2_c_check(alloc: Global, words: &[u32], output: &[u32]) -> u32

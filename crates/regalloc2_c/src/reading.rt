@@ -1,4 +1,4 @@
-//! The functions that the calls are given.
+//! The functions that are passed to the calls.
 
 ghost use Rattle.std.specs.Prelude.{IfOk, IfErr, ◌+◌, length};
 ghost use Rattle.regalloc2_c.specs.Outcome.{AreWordsOf, IsJsonOf, IsTextOf, IsTextFailure, IsUnread};

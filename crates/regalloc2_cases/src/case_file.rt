@@ -1,16 +1,16 @@
-//! The cases of a file: each a text, and calls with the answers that they must give.
+//! The cases of a file: each a text, and calls with the results that they must give.
 
 use std::alloc::{AllocError, Global};
 use std::mem;
 
-/// A call of a case, and the answer that it must give.
+/// A call of a case, and the result that it must give.
 #[derive(Drop)]
 pub struct Expectation<'t> {
     /// The number of the call's line in the file, from 1.
     pub line: usize,
     /// The name of the call.
     pub call: &'t str,
-    /// The lines of the answer, without comments, blank lines and blanks at their ends.
+    /// The lines of the result, without comments, blank lines and blanks at their ends.
     pub answer: Vec<&'t str>,
 }
 
@@ -44,7 +44,7 @@ impl<'t> Case<'t> {
         }
     }
 
-    /// Takes the next line, which begins no case: a call, a line of the newest call's answer, or a line of the text.
+    /// Takes the next line, which begins no case: a call, a line of the last call's result, or a line of the text.
     fn add(&mut self, alloc: Global, number: usize, line: &'t str) -> Result<(), AllocError> {
         if let Some(call) = line.strip_prefix("== ") {
             self.calls.push(Expectation {
@@ -66,7 +66,7 @@ impl<'t> Case<'t> {
     }
 }
 
-/// The cases of a file. What stands before the first title is one too; where it is comment alone it has no calls.
+/// The cases of a file. What is before the first title is one too; if it is comment alone it has no calls.
 pub fn cases_of<'t>(alloc: Global, file: &'t str) -> Result<Vec<Case<'t>>, AllocError> {
     let mut cases = Vec::new(alloc);
     let mut case = Case::new(alloc, "untitled", 1);

@@ -5,7 +5,7 @@ use regalloc2_tool::calls::call::CallError;
 use std::alloc::{AllocError, Global};
 use std::io::Write;
 
-/// The bytes of a text, in which `%` stands for a byte that is part of no character.
+/// The bytes of a text, in which `%` is written for a byte that is part of no character.
 fn bytes_of(alloc: Global, text: &str) -> Result<Vec<u8>, AllocError> {
     let mut bytes = Vec::new(alloc);
     for byte in text.bytes() {
@@ -23,7 +23,7 @@ fn words_of(alloc: Global, line: &str) -> Result<Vec<String>, AllocError> {
     Ok(words)
 }
 
-/// What the program answers to a command line, in which the first file is `text` and the other one of `diff` is `before`: what it writes to
+/// What the program writes for a command line, in which the first file is `text` and the other one of `diff` is `before`: what it writes to
 /// standard output, behind that what it writes to standard error, and its status. Of words that name no task the error's first line alone.
 pub fn answer_of_program(
     alloc: Global,

@@ -1,8 +1,8 @@
-//! `regalloc2_cases`: runs the cases in a folder, and says where an answer is not the one that is wanted.
+//! `regalloc2_cases`: runs the cases in a folder, and reports where a result isn't the expected one.
 //!
 //! The folder is the one that is named, or else the one that the program runs in; its files `*.case` are read, by name. Each
 //! difference is printed, and then how many files there are and how many calls passed and failed. The status is 0, or 1 where
-//! a call failed, or 2 where a file can't be read, the output can't be written or memory is refused.
+//! a call failed, or 2 where a file can't be read, the output can't be written or memory runs out.
 #![tactic(auto)]
 
 mod case_file;

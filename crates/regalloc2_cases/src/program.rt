@@ -1,4 +1,4 @@
-//! Cases that are run, and what comes of them.
+//! Runs cases, and reports their results.
 
 use super::case_file::{Case, Expectation, cases_of};
 use super::command::answer_of_program;
@@ -46,11 +46,11 @@ impl fmt::Display for Tally {
     }
 }
 
-/// What is wanted or came at one place of an answer.
+/// What was expected or returned at one place of a result.
 #[derive(Clone, Copy)]
 struct Shown<'a>(Option<&'a str>);
 
-/// The line in quotes, or that the answer has ended.
+/// The line in quotes, or that the result has ended.
 impl fmt::Display for Shown<'_> {
     fn fmt<W: fmt::Write>(&self, f: &mut fmt::Formatter<W>) -> fmt::Result {
         match self.0 {
@@ -60,7 +60,7 @@ impl fmt::Display for Shown<'_> {
     }
 }
 
-/// Does a call with the function in a case's text, and writes what is answered or found wrong with the text.
+/// Does a call with the function in a case's text, and writes the result or what is wrong with the text.
 fn answer_text(
     alloc: Global,
     call: Call,
@@ -85,8 +85,8 @@ fn answer_text(
     Ok(())
 }
 
-/// The answer to a call of a case: what is written, and behind that what turns the text down. A name may end in ` why`: then what is
-/// refused or found is explained. A name of several words, of which the first is `ra2_text`, is that program's command line; `before` is
+/// The result of a call of a case: what is written, and after that the text's error. A name may end in ` why`: then what is
+/// rejected or found is explained. A name of several words, of which the first is `ra2_text`, is that program's command line; `before` is
 /// the text of the case before.
 fn answer_of(
     alloc: Global,
@@ -117,7 +117,7 @@ fn answer_of(
     Ok(to)
 }
 
-/// The first line at which an answer differs: what is wanted and what came.
+/// The first line at which a result differs: the expected one and the actual one.
 fn first_difference<'a>(wanted: &[&'a str], came: &'a str) -> Option<(Shown<'a>, Shown<'a>)> {
     let mut lines = came.lines();
     for line in wanted {
@@ -130,7 +130,7 @@ fn first_difference<'a>(wanted: &[&'a str], came: &'a str) -> Option<(Shown<'a>,
     Some((Shown(None), Shown(Some(next))))
 }
 
-/// Runs a call of a case, and writes how its answer differs from the one that is wanted. Whether it doesn't.
+/// Runs a call of a case, and writes how its result differs from the expected one. Returns whether it doesn't.
 fn run_call<O: Write>(
     alloc: Global,
     path: &str,
@@ -170,7 +170,7 @@ fn run_case<O: Write>(
 
 /// Runs the cases of a file, writes what differs, and counts the file and its calls.
 ///
-/// For each call whose answer differs the first such line is written, as it is wanted and as it came, under the file, the
+/// For each call whose result differs the first such line is written, expected and actual, under the file, the
 /// line of the call, the title of its case and its name.
 pub fn run_file<O: Write>(
     alloc: Global,
