@@ -16,8 +16,8 @@ fn main() {
     println!("cargo::rerun-if-changed={}", library.display());
     if !library.exists() {
         println!(
-            "cargo::error={} isn't there. The proved library is built for x86-64 Linux alone; `make -C c dist` packs it, and \
-             REGALLOC2_C names the folder that has it",
+            "cargo::error={} isn't there. The proved library is built for x86-64 Linux alone; `make -C c cargo-lib` puts it there, or \
+             REGALLOC2_C names its folder",
             library.display()
         );
         return;

@@ -1,7 +1,7 @@
 //! Translates the library's faults to upstream's types.
 //!
-//! The library names an operand by its encoding and its place, and a stack-to-stack move by its places. The index in the instruction, or
-//! in the list of moves, is that of the first match.
+//! The library names an operand by its encoding and its place, and a stack-to-stack move by its places. The index in the instruction is
+//! the library's if it names one; else, and in the list of moves, the index is that of the first match.
 
 use crate::fault::{Fault, MoveFault, OperandFault, SlotFault};
 use crate::{order, words};
@@ -20,19 +20,16 @@ fn instruction(f: &impl Function, number: u32) -> Option<Inst> {
     ((number as usize) < f.num_insts()).then(|| Inst::new(number as usize))
 }
 
-/// Returns the fault of the operand with this encoding and this place.
+/// Returns the fault of the operand with this encoding and this place: at the fault's index if that fits, else the first.
 fn operand(f: &impl Function, output: &Output, fault: &FaultWords, what: OperandFault) -> Option<Fault> {
     let inst = instruction(f, fault.inst)?;
-    (0..f.inst_operands(inst).len()).find_map(|index| {
-        let (op, place) = operand_at(f, output, inst, index)?;
-        (op.bits() == fault.operand && place.bits() == fault.place).then(|| Fault::Operand {
-            inst,
-            index,
-            op,
-            place,
-            what: what.clone(),
-        })
-    })
+    let fits = |index: &usize| {
+        operand_at(f, output, inst, *index).is_some_and(|(op, place)| op.bits() == fault.operand && place.bits() == fault.place)
+    };
+    let named = Some(fault.index as usize).filter(fits);
+    let index = named.or_else(|| (0..f.inst_operands(inst).len()).find(fits))?;
+    let (op, place) = operand_at(f, output, inst, index)?;
+    Some(Fault::Operand { inst, index, op, place, what })
 }
 
 /// Returns the fault of the operand with this index.
