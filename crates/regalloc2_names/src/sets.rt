@@ -101,6 +101,7 @@ impl PRegSet {
     }
 
     /// The registers of the set that the other doesn't have. Upstream has no such call.
+    #[inline(always)]
     pub fn difference(self, other: PRegSet) -> PRegSet
         ensures { (r : Register) → has_register result r ≡ not (has_register other r) && has_register self r }
     {

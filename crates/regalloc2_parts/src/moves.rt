@@ -102,13 +102,6 @@ impl<T: Drop, A: Allocator> Model for ParallelMoves<T, A> {
     ghost invariant = { λ p. AreReal p.parallel_moves.items × (16 ≤ p.parallel_moves.capacity) };
 }
 
-/// A place's encoding gives the place back: the sort by encodings relies on this.
-fn has_word(place: Allocation)
-    ensures { IsPlace place }
-{
-    let _word = place.bits();
-}
-
 impl<T: Copy + Default, A: Allocator + Copy> ParallelMoves<T, A> {
     ghost use Rattle.regalloc2_parts.specs.Resolved.{moves_listed, has_scratch, IsResolution, IsRunnable};
 
@@ -131,8 +124,7 @@ impl<T: Copy + Default, A: Allocator + Copy> ParallelMoves<T, A> {
         ensures memory { IfErr result (λ e. e ≡ MoveFault.Memory) }
         ensures inline { length self.old < 16 → IsOk result }
     {
-        has_word(from);
-        has_word(to);
+        let _words = (from.bits(), to.bits());
         self.parallel_moves.push((from, to, t))?;
         Ok(())
     }

@@ -1,6 +1,7 @@
 use Rattle.std.proofs.Common.{◌≡◌, ◌≤◌, ◌++◌, ◌∷◌, [], List, length, true, false, arith, sym, subst, ap, ◌∙◌}
 use Rattle.std.proofs.lemmas.List.Elements.{All-push}
 use Rattle.regalloc2_names.specs.Place.{Place}
+use Rattle.regalloc2_names.specs.PlaceBits.{place_of_bits}
 use Rattle.regalloc2_parts.specs.AtOnce.{AreReal, IsRealMove}
 use Rattle.smallvec.specs.SmallVec.{SmallVec}
 use Rattle.regalloc2_parts.proofs.moves.ParallelMoves.add.Goals as goal
@@ -20,8 +21,12 @@ invariant_of-self-2 g c =
     let room : 16 ≤ c.self.inside.parallel_moves.capacity = c.self.invariant.1 in
     let more : c.self.inside.parallel_moves.capacity ≤ c.push.new.self.capacity = c.in_ok-push.ensures.capacity in (
       subst (λ (ms : List (Place × Place × g.row.T.Denot)). AreReal ms) (sym c.in_ok-push.ensures.ok)
-          (All-push IsRealMove c.self.inside.parallel_moves.items (c.args.from, c.args.to, c.args.t) c.self.invariant.0
-          (c.has_word.ensures, c.has_word-2.ensures, c.requires.from, c.requires.to)),
+          (All-push IsRealMove c.self.inside.parallel_moves.items (c.args.from, c.args.to, c.args.t) c.self.invariant.0 (
+            subst (λ w. place_of_bits w ≡ c.args.from) c.bits.ensures.bits c.bits.ensures.place,
+            subst (λ w. place_of_bits w ≡ c.args.to) c.bits-2.ensures.bits c.bits-2.ensures.place,
+            c.requires.from,
+            c.requires.to,
+          )),
       omega arith,
     )
 
