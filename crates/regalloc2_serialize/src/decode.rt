@@ -55,7 +55,7 @@ fn register_from(index: Option<u8>) -> Option<PReg>
 }
 
 /// The vregs of these words.
-fn vregs_from<A: Allocator>(alloc: A, words: &[u32]) -> Result<Vec<VReg, A>, AllocError>
+pub(crate) fn vregs_from<A: Allocator>(alloc: A, words: &[u32]) -> Result<Vec<VReg, A>, AllocError>
     requires { All IsVRegBits words.now }
     ensures { IfOk result (λ vregs. vregs.items ≡ map vreg_of_bits words.now) }
 {
@@ -79,7 +79,10 @@ fn operands_from<A: Allocator>(alloc: A, words: &[u64]) -> Result<Vec<Operand, A
 }
 
 /// The blocks with these numbers.
-fn blocks_from<A: Allocator>(alloc: A, words: &[u32]) -> Result<Vec<Block, A>, AllocError>
+pub(crate) fn blocks_from<A: Allocator>(
+    alloc: A,
+    words: &[u32],
+) -> Result<Vec<Block, A>, AllocError>
     ensures { IfOk result (λ blocks. blocks.items ≡ words.now) }
 {
     let mut blocks = Vec::with_capacity(alloc, words.len())?;

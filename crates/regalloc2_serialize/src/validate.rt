@@ -116,7 +116,7 @@ fn are_as_long<A: Allocator>(lists: &[Vec<Vec<u32, A>, A>], others: &[Vec<u32, A
 }
 
 /// Whether all are numbers of blocks.
-fn are_blocks(words: &[u32], count: usize) -> bool
+pub(crate) fn are_blocks(words: &[u32], count: usize) -> bool
     ensures { IsTrue result ↔ All (λ b. b < count) words.now }
 {
     words.iter().all(|word| (*word as usize) < count)
@@ -209,7 +209,7 @@ fn are_insts<A: Allocator>(insts: &[StoredInst<A>]) -> bool
 }
 
 /// Whether all are words of vregs.
-fn are_vregs(words: &[u32]) -> bool
+pub(crate) fn are_vregs(words: &[u32]) -> bool
     ensures { IsTrue result ↔ All IsVRegBits words.now }
 {
     words.iter().all(|word| VReg::is_bits(*word))

@@ -3,6 +3,7 @@
 //! JSON.
 #![tactic(auto)]
 
+mod columns;
 mod indexes;
 mod names;
 mod parts;
@@ -16,6 +17,7 @@ fn main(rt: HostRuntime) -> io::Result<()> {
     let alloc = rt.alloc();
     let text = io::read_to_string(alloc, rt.stdin())?;
     let mut report = Report::new(alloc);
+    columns::write_all(alloc, &mut report)?;
     indexes::write_all(alloc, &mut report)?;
     names::write_all(&mut report);
     sets::write_all(alloc, &mut report)?;

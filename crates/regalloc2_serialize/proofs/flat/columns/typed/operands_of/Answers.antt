@@ -1,0 +1,11 @@
+use Rattle.std.proofs.Common.{rules, ◌≡◌, ◌∙◌, [], ◌∷◌, ◌++◌, ap}
+use Rattle.regalloc2_names.specs.Packing.{operand_of_bits}
+use Rattle.regalloc2_serialize.specs.Flat.Columns.Value.{long_at}
+use Rattle.regalloc2_serialize.proofs.ColumnsLemmas.More.{made-more}
+use Rattle.regalloc2_serialize.proofs.flat.columns.typed.operands_of.Goals as goal
+
+pub loop-k-preserved : goal.loop-k-preserved
+loop-k-preserved g c =
+    let e : c.push.new.self.items ≡ c.loop-k.operands.items ++ c.from_bits.result ∷ [] = search rules in
+    e ∙ made-more operand_of_bits (long_at c.args.words.now) c.loop-k.operands.items c.from_bits.result c.loop-k.k c.loop-k.invariant
+    (c.from_bits.ensures.operand ∙ ap operand_of_bits c.long.ensures)

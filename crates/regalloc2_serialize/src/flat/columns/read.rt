@@ -1,0 +1,160 @@
+//! Functions from words in columns.
+
+ghost use Rattle.std.specs.Prelude.{◌≡◌, ◌∷◌, IfOk, IfErr, map};
+ghost use Rattle.regalloc2_names.specs.Packing.{operand_of_bits, vreg_of_bits};
+ghost use Rattle.regalloc2_function.specs.Views.{machine_of};
+ghost use Rattle.regalloc2_serialize.specs.Flat.Columns.Layout.{header_of, operand_words, operand_ends, pred_words, pred_ends, succ_words, succ_ends};
+ghost use Rattle.regalloc2_serialize.specs.Flat.Columns.Layout.{param_words, param_ends, argument_words, argument_ends};
+ghost use Rattle.regalloc2_serialize.specs.Flat.Columns.Value.{longs, IsLaidOutAs, IsMachineOf};
+ghost use Rattle.regalloc2_serialize.specs.Flat.Columns.Sound.{AreSoundColumns, IsColumnsFault};
+ghost use Rattle.regalloc2_serialize.specs.Flat.Columns.Kept.{function_of_flat};
+
+use super::FlatFunction;
+use super::cut::Cut;
+use super::pieces::Pieces;
+use super::typed::{
+    bounds_of, class_sets, labels_of, numbered_sets, numbers_of, operands_of, pieces_of,
+    registers_of, scratches_of, sizes_of,
+};
+use crate::decode::{blocks_from, vregs_from};
+use regalloc2_function::{MachineEnv, StoredFault};
+use regalloc2_index::Block;
+use regalloc2_names::{Operand, VReg};
+use std::alloc::{AllocError, Allocator};
+
+/// The machine of columns that were tested.
+fn machine_from<A: Allocator>(alloc: A, cut: &Cut<'_>) -> Result<MachineEnv<A>, AllocError>
+    requires { AreSoundColumns cut.now.words.now }
+    ensures { IfOk result (λ m. IsMachineOf cut.now.words.now (machine_of m)) }
+{
+    let fixed_stack_slots = registers_of(alloc, cut.slots())?;
+    Ok(MachineEnv {
+        preferred_regs_by_class: class_sets(cut.preferred()),
+        non_preferred_regs_by_class: class_sets(cut.non_preferred()),
+        scratch_by_class: scratches_of(cut.scratch()),
+        fixed_stack_slots,
+    })
+}
+
+/// The operands of columns that were tested, by instructions.
+fn operands_from<A: Allocator + Copy>(
+    alloc: A,
+    cut: &Cut<'_>,
+) -> Result<Pieces<Operand, A>, AllocError>
+    requires { AreSoundColumns cut.now.words.now }
+    ensures items { IfOk result (λ p. p.items.items ≡ map operand_of_bits (longs (operand_words cut.now.words.now) (header_of cut.now.words.now).operands)) }
+    ensures bounds { IfOk result (λ p. p.bounds.items ≡ 0 ∷ operand_ends cut.now.words.now) }
+{
+    let items = operands_of(alloc, cut.operands(), cut.header().operands as usize)?;
+    pieces_of(alloc, items, cut.operand_ends())
+}
+
+/// The predecessors, by blocks.
+fn preds_from<A: Allocator + Copy>(alloc: A, cut: &Cut<'_>) -> Result<Pieces<Block, A>, AllocError>
+    requires { AreSoundColumns cut.now.words.now }
+    ensures items { IfOk result (λ p. p.items.items ≡ pred_words cut.now.words.now) }
+    ensures bounds { IfOk result (λ p. p.bounds.items ≡ 0 ∷ pred_ends cut.now.words.now) }
+{
+    let items = blocks_from(alloc, cut.preds())?;
+    pieces_of(alloc, items, cut.pred_ends())
+}
+
+/// The successors, by blocks.
+fn succs_from<A: Allocator + Copy>(alloc: A, cut: &Cut<'_>) -> Result<Pieces<Block, A>, AllocError>
+    requires { AreSoundColumns cut.now.words.now }
+    ensures items { IfOk result (λ p. p.items.items ≡ succ_words cut.now.words.now) }
+    ensures bounds { IfOk result (λ p. p.bounds.items ≡ 0 ∷ succ_ends cut.now.words.now) }
+{
+    let items = blocks_from(alloc, cut.succs())?;
+    pieces_of(alloc, items, cut.succ_ends())
+}
+
+/// The parameters, by blocks.
+fn params_from<A: Allocator + Copy>(alloc: A, cut: &Cut<'_>) -> Result<Pieces<VReg, A>, AllocError>
+    requires { AreSoundColumns cut.now.words.now }
+    ensures items { IfOk result (λ p. p.items.items ≡ map vreg_of_bits (param_words cut.now.words.now)) }
+    ensures bounds { IfOk result (λ p. p.bounds.items ≡ 0 ∷ param_ends cut.now.words.now) }
+{
+    let items = vregs_from(alloc, cut.params())?;
+    pieces_of(alloc, items, cut.param_ends())
+}
+
+/// The arguments, by edges.
+fn arguments_from<A: Allocator + Copy>(
+    alloc: A,
+    cut: &Cut<'_>,
+) -> Result<Pieces<VReg, A>, AllocError>
+    requires { AreSoundColumns cut.now.words.now }
+    ensures items { IfOk result (λ p. p.items.items ≡ map vreg_of_bits (argument_words cut.now.words.now)) }
+    ensures bounds { IfOk result (λ p. p.bounds.items ≡ 0 ∷ argument_ends cut.now.words.now) }
+{
+    let items = vregs_from(alloc, cut.arguments())?;
+    pieces_of(alloc, items, cut.argument_ends())
+}
+
+/// The function and the machine of columns that were tested.
+fn function_from<A: Allocator + Copy>(
+    alloc: A,
+    cut: &Cut<'_>,
+) -> Result<FlatFunction<A>, AllocError>
+    requires { AreSoundColumns cut.now.words.now }
+    ensures function { IfOk result (λ f. IsLaidOutAs cut.now.words.now (function_of_flat f)) }
+    ensures machine { IfOk result (λ f. IsMachineOf cut.now.words.now (machine_of f.machine)) }
+{
+    let header = cut.header();
+    let machine = machine_from(alloc, cut)?;
+    let kinds = numbers_of(alloc, cut.kinds())?;
+    let sets = numbered_sets(alloc, cut.sets(), header.sets as usize)?;
+    let operands = operands_from(alloc, cut)?;
+    let inst_bounds = bounds_of(alloc, cut.inst_ends())?;
+    let preds = preds_from(alloc, cut)?;
+    let succs = succs_from(alloc, cut)?;
+    let params = params_from(alloc, cut)?;
+    let arguments = arguments_from(alloc, cut)?;
+    let labels = labels_of(alloc, cut.labels(), header.labels as usize)?;
+    Ok(FlatFunction {
+        machine,
+        kinds,
+        sets,
+        operands,
+        inst_bounds,
+        preds,
+        succs,
+        params,
+        arguments,
+        entry: Block::new(header.entry as usize),
+        num_vregs: header.vregs as usize,
+        slot_sizes: sizes_of(header.sizes),
+        labels,
+        named_by_last_slot: header.flags % 2 == 1,
+        allows_multiple_defs: header.flags / 2 == 1,
+    })
+}
+
+impl<A: Allocator + Copy> FlatFunction<A> {
+    /// The function and the machine that words lay out in columns.
+    ///
+    /// Of `Shape`, `Lengths`, `Index`, `Bits` and `Limit` the first whose test fails is answered, in this order, and nothing is
+    /// allocated before; `Memory` only where all five pass and a growth was refused.
+    pub fn read(alloc: A, words: &[u32]) -> Result<FlatFunction<A>, StoredFault>
+        ensures function { IfOk result (λ f. IsLaidOutAs words.now (function_of_flat f)) }
+        ensures machine { IfOk result (λ f. IsMachineOf words.now (machine_of f.machine)) }
+        ensures sound { IfOk result (λ _. AreSoundColumns words.now) }
+        ensures refused { IfErr result (λ e. IsColumnsFault words.now e) }
+    {
+        let Some(cut) = Cut::of(words) else {
+            return Err(StoredFault::Shape);
+        };
+        cut.test()?;
+        Ok(function_from(alloc, &cut)?)
+    }
+}
+
+impl<A: Allocator> FlatFunction<A> {
+    /// The machine that the function is for.
+    pub fn machine_env(&self) -> &MachineEnv<A>
+        ensures { machine_of result.now ≡ machine_of self.now.machine }
+    {
+        &self.machine
+    }
+}

@@ -1,0 +1,216 @@
+//! The tests of columns, in their order.
+
+ghost use Rattle.std.specs.Prelude.{◌≡◌, ℕ, ◌↔◌, ◌+◌, ◌-◌, ◌*◌, ◌/◌, ◌%◌, ◌<◌, ◌≤◌, ◌^◌, IsTrue, All, IfOk, IfErr, length, slice_index};
+ghost use Rattle.regalloc2_names.specs.Packing.{IsRegisterIndex, IsVRegBits, IsOperandBits};
+ghost use Rattle.regalloc2_serialize.specs.Flat.Columns.Layout.{header_of, IsLaidOut};
+ghost use Rattle.regalloc2_serialize.specs.Flat.Columns.Value.{long_at};
+ghost use Rattle.regalloc2_serialize.specs.Flat.Columns.Sound.{Covers, AllCovered, AreColumnsWithin, ColumnsNameAll, ColumnsKeepLimits, AreSoundColumns};
+ghost use Rattle.regalloc2_serialize.specs.Flat.Columns.Sound.{ColumnsNameRegisters, ColumnsNameVRegs, IsColumnsFault};
+
+use super::cut::{Cut, Header};
+use crate::validate::{are_blocks, are_vregs};
+use regalloc2_function::StoredFault;
+use regalloc2_names::{Operand, PReg, VReg};
+
+/// Whether ends don't fall, and the last one, or 0 where there is none, is that number.
+fn covers(ends: &[u32], count: u32) -> bool
+    ensures { IsTrue result ↔ Covers ends.now count }
+{
+    let mut at = 0;
+    for end in ends {
+        if *end < at {
+            return false;
+        }
+        at = *end;
+    }
+    at == count
+}
+
+/// Whether all have numbers of sets of clobbers up to that one.
+fn are_set_numbers(kinds: &[u32], count: u32) -> bool
+    ensures { IsTrue result ↔ All (λ k. k / 4 ≤ count) kinds.now }
+{
+    kinds.iter().all(|kind| *kind / 4 <= count)
+}
+
+/// Whether all say what an instruction is.
+fn are_kinds(kinds: &[u32]) -> bool
+    ensures { IsTrue result ↔ All (λ k. k % 4 < 3) kinds.now }
+{
+    kinds.iter().all(|kind| *kind % 4 < 3)
+}
+
+/// Whether all are 0 or one more than an index of a register.
+fn are_scratch_words(words: &[u32]) -> bool
+    ensures { IsTrue result ↔ All (λ r. r ≤ 192) words.now }
+{
+    words.iter().all(|word| *word <= 192)
+}
+
+/// Whether all are indexes of registers.
+fn are_register_words(words: &[u32]) -> bool
+    ensures { IsTrue result ↔ All IsRegisterIndex words.now }
+{
+    words.iter().all(|word| PReg::is_index(*word as usize))
+}
+
+/// A number of two words.
+pub fn long(words: &[u32], k: usize) -> u64
+    requires { 2 * k + 1 < length words.now }
+    ensures { result ≡ long_at words.now k }
+{
+    u64::from(words[2 * k]) + u64::from(words[2 * k + 1]) * 4_294_967_296
+}
+
+/// Whether all are words of operands.
+fn are_operand_words(words: &[u32], count: usize) -> bool
+    requires { length words.now ≡ 2 * count }
+    ensures { IsTrue result ↔ ((k : ℕ) → k < count → IsOperandBits (long_at words.now k)) }
+{
+    for k in 0..count {
+        if !Operand::is_bits(long(words, k)) {
+            return false;
+        }
+    }
+    true
+}
+
+/// Whether all labels are of vregs with a number below that one.
+fn are_labels_below(words: &[u32], count: usize, vregs: u32) -> bool
+    requires { length words.now ≡ 4 * count }
+    ensures { IsTrue result ↔ ((k : ℕ) → k < count → slice_index words.now (4 * k) / 4 < vregs) }
+{
+    for k in 0..count {
+        if words[4 * k] / 4 >= vregs {
+            return false;
+        }
+    }
+    true
+}
+
+/// Whether all labels are of vregs.
+fn are_labels_of_vregs(words: &[u32], count: usize) -> bool
+    requires { length words.now ≡ 4 * count }
+    ensures { IsTrue result ↔ ((k : ℕ) → k < count → IsVRegBits (slice_index words.now (4 * k))) }
+{
+    for k in 0..count {
+        if !VReg::is_bits(words[4 * k]) {
+            return false;
+        }
+    }
+    true
+}
+
+impl Header {
+    /// Whether the limits of each function are kept.
+    fn keeps_limits(self) -> bool
+        ensures { IsTrue result ↔ (self.insts < 2 ^ 30) × (self.blocks < 2 ^ 32 - 1) × (self.vregs < 2 ^ 30) × (self.sizes % 256 ≤ 24)
+            × (self.sizes / 256 % 256 ≤ 24) × (self.sizes / 65536 ≤ 24) }
+    {
+        self.insts < 1 << 30
+            && self.blocks < u32::MAX
+            && self.vregs < 1 << 30
+            && self.sizes % 256 <= 24
+            && self.sizes / 256 % 256 <= 24
+            && self.sizes / 65536 <= 24
+    }
+}
+
+impl<'a> Cut<'a> {
+    /// Whether ends don't fall, and their last ones are the lengths of columns.
+    fn is_covered(&self) -> bool
+        ensures { IsTrue result ↔ AllCovered self.now.words.now }
+    {
+        let header = self.header();
+        covers(self.operand_ends(), header.operands)
+            && covers(self.inst_ends(), header.insts)
+            && covers(self.pred_ends(), header.preds)
+            && covers(self.succ_ends(), header.edges)
+            && covers(self.param_ends(), header.params)
+            && covers(self.argument_ends(), header.arguments)
+    }
+
+    /// Whether blocks, sets of clobbers and labelled vregs are in range.
+    fn is_within(&self) -> bool
+        ensures { IsTrue result ↔ AreColumnsWithin self.now.words.now }
+    {
+        let header = self.header();
+        if header.entry >= header.blocks {
+            return false;
+        }
+        if !are_blocks(self.preds(), header.blocks as usize) {
+            return false;
+        }
+        if !are_blocks(self.succs(), header.blocks as usize) {
+            return false;
+        }
+        if !are_set_numbers(self.kinds(), header.sets) {
+            return false;
+        }
+        are_labels_below(self.labels(), header.labels as usize, header.vregs)
+    }
+
+    /// Whether a machine's numbers are those of registers.
+    fn names_registers(&self) -> bool
+        ensures { IsTrue result ↔ ColumnsNameRegisters self.now.words.now }
+    {
+        are_scratch_words(self.scratch()) && are_register_words(self.slots())
+    }
+
+    /// Whether the numbers of parameters, arguments and labels are those of vregs.
+    fn names_vregs(&self) -> bool
+        ensures { IsTrue result ↔ ColumnsNameVRegs self.now.words.now }
+    {
+        if !are_vregs(self.params()) {
+            return false;
+        }
+        if !are_vregs(self.arguments()) {
+            return false;
+        }
+        are_labels_of_vregs(self.labels(), self.header().labels as usize)
+    }
+
+    /// Whether each number that should be a name is one.
+    fn names_all(&self) -> bool
+        ensures { IsTrue result ↔ ColumnsNameAll self.now.words.now }
+    {
+        if !self.names_registers() {
+            return false;
+        }
+        if !are_kinds(self.kinds()) {
+            return false;
+        }
+        if !are_operand_words(self.operands(), self.header().operands as usize) {
+            return false;
+        }
+        self.names_vregs()
+    }
+
+    /// Whether the limits of each function are kept.
+    fn is_limited(&self) -> bool
+        ensures { IsTrue result ↔ ColumnsKeepLimits self.now.words.now }
+    {
+        self.header().keeps_limits()
+    }
+
+    /// Tests columns, which allocates nothing.
+    pub fn test(&self) -> Result<(), StoredFault>
+        requires { IsLaidOut self.now.words.now }
+        ensures ok { IfOk result (λ _. AreSoundColumns self.now.words.now) }
+        ensures refused { IfErr result (λ e. IsColumnsFault self.now.words.now e) }
+    {
+        if !self.is_covered() {
+            return Err(StoredFault::Lengths);
+        }
+        if !self.is_within() {
+            return Err(StoredFault::Index);
+        }
+        if !self.names_all() {
+            return Err(StoredFault::Bits);
+        }
+        if !self.is_limited() {
+            return Err(StoredFault::Limit);
+        }
+        Ok(())
+    }
+}

@@ -1,0 +1,226 @@
+//! The lists of columns that were tested.
+
+ghost use Rattle.std.specs.Prelude.{◌≡◌, ℕ, ◌+◌, ◌*◌, ◌/◌, ◌%◌, ◌<◌, ◌≤◌, ◌^◌, ◌∷◌, All, IfOk, OnOk, length, map, slice_index, slice_range, vec_len};
+ghost use Rattle.std.specs.List.{range_with_len};
+ghost use Rattle.regalloc2_names.specs.Packing.{IsRegisterIndex, IsVRegBits, IsOperandBits, register_of_bits, operand_of_bits};
+ghost use Rattle.regalloc2_function.specs.FunctionValue.{label_of};
+ghost use Rattle.regalloc2_serialize.specs.Tables.{sizes_of_serializable};
+ghost use Rattle.regalloc2_serialize.specs.Flat.Columns.Value.{has_bit, HasBits, HasBitsBelow, HaveBits, AreNumbered, long_at, longs, label_at};
+ghost use Rattle.regalloc2_serialize.specs.Flat.Columns.Value.{scratch_of_word, column_sizes};
+ghost use Rattle.regalloc2_serialize.specs.Flat.Columns.Sound.{Covers};
+
+use super::pieces::Pieces;
+use super::sound::long;
+use crate::tables::{SlotTable, SlotUnits};
+use regalloc2_index::Inst;
+use regalloc2_names::{Operand, PReg, PRegSet, VReg};
+use std::alloc::{AllocError, Allocator};
+
+/// Whether the bit of an index is 1 in six words.
+fn has_bit(words: &[u32], index: usize) -> bool
+    requires six { length words.now ≡ 6 }
+    requires index { index < 192 }
+    ensures { result ≡ has_bit words.now index }
+{
+    (words[index / 32] >> (index % 32)) & 1 == 1
+}
+
+/// A set of the registers below an index, with that of the index if its bit is 1.
+fn with_bit(set: PRegSet, words: &[u32], index: usize) -> PRegSet
+    requires six { length words.now ≡ 6 }
+    requires index { index < 192 }
+    requires before { HasBitsBelow words.now index set }
+    ensures { HasBitsBelow words.now (index + 1) result }
+{
+    if has_bit(words, index) {
+        set.with(PReg::from_index(index))
+    } else {
+        set
+    }
+}
+
+/// A set of the registers before a word, with those of the word.
+fn with_word(set: PRegSet, words: &[u32], word: usize) -> PRegSet
+    requires six { length words.now ≡ 6 }
+    requires word { word < 6 }
+    requires before { HasBitsBelow words.now (32 * word) set }
+    ensures { HasBitsBelow words.now (32 * word + 32) result }
+{
+    if words[word] == 0 {
+        return set;
+    }
+    let mut set = set;
+    for bit in 0..32 {
+        set = with_bit(set, words, 32 * word + bit);
+    }
+    set
+}
+
+/// The set of the registers whose bits are 1 in six words.
+fn set_of(words: &[u32]) -> PRegSet
+    requires { length words.now ≡ 6 }
+    ensures { HasBits words.now result }
+{
+    let mut set = PRegSet::empty();
+    for word in 0..6 {
+        set = with_word(set, words, word);
+    }
+    set
+}
+
+/// Three sets.
+pub fn class_sets(words: &[u32]) -> [PRegSet; 3]
+    requires { length words.now ≡ 18 }
+    ensures { HaveBits words.now 3 result }
+{
+    [
+        set_of(&words[0..6]),
+        set_of(&words[6..12]),
+        set_of(&words[12..18]),
+    ]
+}
+
+/// Sets by their numbers: 0 is that of the empty one.
+pub fn numbered_sets<A: Allocator>(
+    alloc: A,
+    words: &[u32],
+    count: usize,
+) -> Result<Vec<PRegSet, A>, AllocError>
+    requires { length words.now ≡ 6 * count }
+    ensures { IfOk result (λ sets. AreNumbered words.now count sets.items) }
+{
+    let mut sets = Vec::with_capacity(alloc, count + 1)?;
+    sets.push(PRegSet::empty())?;
+    for k in 0..count {
+        sets.push(set_of(&words[6 * k..6 * k + 6]))?;
+    }
+    Ok(sets)
+}
+
+/// A scratch register, if there is one.
+fn scratch_of(word: u32) -> Option<PReg>
+    requires { word ≤ 192 }
+    ensures { result ≡ scratch_of_word word }
+{
+    if word == 0 {
+        None
+    } else {
+        Some(PReg::from_index((word - 1) as usize))
+    }
+}
+
+/// The scratch registers.
+pub fn scratches_of(words: &[u32]) -> [Option<PReg>; 3]
+    requires three { length words.now ≡ 3 }
+    requires words { All (λ r. r ≤ 192) words.now }
+    ensures { result ≡ map scratch_of_word words.now }
+{
+    [
+        scratch_of(words[0]),
+        scratch_of(words[1]),
+        scratch_of(words[2]),
+    ]
+}
+
+/// The registers with these indexes.
+pub fn registers_of<A: Allocator>(alloc: A, words: &[u32]) -> Result<Vec<PReg, A>, AllocError>
+    requires { All IsRegisterIndex words.now }
+    ensures { IfOk result (λ registers. registers.items ≡ map register_of_bits words.now) }
+{
+    let mut registers = Vec::with_capacity(alloc, words.len())?;
+    for word in words {
+        registers.push(PReg::from_index(*word as usize))?;
+    }
+    Ok(registers)
+}
+
+/// The operands of these words, two for each.
+pub fn operands_of<A: Allocator>(
+    alloc: A,
+    words: &[u32],
+    count: usize,
+) -> Result<Vec<Operand, A>, AllocError>
+    requires count { length words.now ≡ 2 * count }
+    requires operands { (k : ℕ) → k < count → IsOperandBits (long_at words.now k) }
+    ensures { IfOk result (λ operands. operands.items ≡ map operand_of_bits (longs words.now count)) }
+{
+    let mut operands = Vec::with_capacity(alloc, count)?;
+    for k in 0..count {
+        operands.push(Operand::from_bits(long(words, k)))?;
+    }
+    Ok(operands)
+}
+
+/// The labels of these words, four for each.
+pub fn labels_of<A: Allocator>(
+    alloc: A,
+    words: &[u32],
+    count: usize,
+) -> Result<Vec<(VReg, Inst, Inst, u32), A>, AllocError>
+    requires count { length words.now ≡ 4 * count }
+    requires labels { (k : ℕ) → k < count → IsVRegBits (slice_index words.now (4 * k)) }
+    ensures { IfOk result (λ labels. map label_of labels.items ≡ map (label_at words.now) (range_with_len 0 count)) }
+{
+    let mut labels = Vec::with_capacity(alloc, count)?;
+    for k in 0..count {
+        let vreg = VReg::from_bits(words[4 * k]);
+        let start = Inst::new(words[4 * k + 1] as usize);
+        let end = Inst::new(words[4 * k + 2] as usize);
+        labels.push((vreg, start, end, words[4 * k + 3]))?;
+    }
+    Ok(labels)
+}
+
+/// The same numbers.
+pub fn numbers_of<A: Allocator>(alloc: A, words: &[u32]) -> Result<Vec<u32, A>, AllocError>
+    ensures { IfOk result (λ numbers. numbers.items ≡ words.now) }
+{
+    let mut numbers = Vec::with_capacity(alloc, words.len())?;
+    numbers.extend_from_slice(words)?;
+    Ok(numbers)
+}
+
+/// The bounds of parts that end there.
+pub fn bounds_of<A: Allocator>(alloc: A, ends: &[u32]) -> Result<Vec<u32, A>, AllocError>
+    ensures { IfOk result (λ bounds. bounds.items ≡ 0 ∷ ends.now) }
+{
+    let mut bounds = Vec::with_capacity(alloc, ends.len() + 1)?;
+    bounds.push(0)?;
+    bounds.extend_from_slice(ends)?;
+    Ok(bounds)
+}
+
+/// A list in parts that end there.
+pub fn pieces_of<T: Drop, A: Allocator>(
+    alloc: A,
+    items: Vec<T, A>,
+    ends: &[u32],
+) -> Result<Pieces<T, A>, AllocError>
+    requires { Covers ends.now (vec_len items) }
+    ensures { IfOk result (λ p. (p.items ≡ items) × (p.bounds.items ≡ 0 ∷ ends.now)) }
+{
+    let bounds = bounds_of(alloc, ends)?;
+    Ok(Pieces { items, bounds })
+}
+
+/// The size of a slot.
+fn units_of(log: u32) -> SlotUnits
+    requires { log ≤ 24 }
+    ensures { result.units ≡ 2 ^ log }
+{
+    SlotUnits { units: 1 << log }
+}
+
+/// The sizes of slots by class.
+pub fn sizes_of(sizes: u32) -> SlotTable
+    requires int { sizes % 256 ≤ 24 }
+    requires float { sizes / 256 % 256 ≤ 24 }
+    requires vector { sizes / 65536 ≤ 24 }
+    ensures { sizes_of_serializable result ≡ column_sizes sizes }
+{
+    SlotTable {
+        int: units_of(sizes % 256),
+        float: units_of(sizes / 256 % 256),
+        vector: units_of(sizes / 65536),
+    }
+}
