@@ -1,6 +1,7 @@
-//! Stored functions and outputs laid out as words, for callers in other languages.
+//! Functions and outputs laid out as words, for callers in other languages.
 //!
-//! A list is its length and then its members, a record its fields in their order; `specs/Flat.antt` has the whole layout.
+//! A function comes in columns ([`FlatFunction`]; `specs/Flat/Columns.antt` has the layout). An output's fields follow one
+//! another, and a list is its length and then its members (`specs/Flat/Flat.antt`).
 
 mod columns;
 mod read;

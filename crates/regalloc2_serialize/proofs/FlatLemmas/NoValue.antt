@@ -1,9 +1,8 @@
 -- Words that begin those of no value.
-use Rattle.std.proofs.Common.{ℕ, ◌≡◌, ◌≢◌, ◌<◌, ◌+◌, ◌-◌, List, [], ◌∷◌, ◌++◌, ◌==◌, Bool, false, Option, length, arith}
-use Rattle.std.proofs.Common.{sym, ◌∙◌, append_assoc, ap}
+use Rattle.std.proofs.Common.{ℕ, ◌≡◌, ◌≢◌, ◌<◌, ◌+◌, List, [], ◌∷◌, ◌++◌, ◌==◌, Bool, false, length, arith}
+use Rattle.std.proofs.Common.{sym, ◌∙◌, append_assoc}
 use Rattle.std.proofs.lemmas.List.{append-nil}
 use Rattle.std.specs.List.{flat_map}
-use Rattle.regalloc2_serialize.specs.declared.data.InstOpcode.{InstOpcode}
 use Rattle.regalloc2_serialize.specs.Flat.Flat.{BeginsNone, IsNone, words_of_list}
 use Rattle.regalloc2_serialize.specs.Flat.OneRest.{HasOneRest}
 

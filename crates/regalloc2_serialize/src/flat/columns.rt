@@ -10,7 +10,7 @@ mod typed;
 
 ghost use Rattle.std.specs.Prelude.{◌≡◌, ℕ, ◌+◌, ◌/◌, ◌<◌, ◌≤◌, ◌^◌, All, slice_index, vec_len};
 
-use crate::tables::SlotTable;
+use crate::table_function::SlotUnits;
 use pieces::Pieces;
 use regalloc2_function::{Function, MachineEnv};
 use regalloc2_index::{Block, Inst, InstRange};
@@ -31,7 +31,9 @@ pub struct FlatFunction<A: Allocator = Global> {
     pub(crate) arguments: Pieces<VReg, A>,
     pub(crate) entry: Block,
     pub(crate) num_vregs: usize,
-    pub(crate) slot_sizes: SlotTable,
+    pub(crate) int_slot: SlotUnits,
+    pub(crate) float_slot: SlotUnits,
+    pub(crate) vector_slot: SlotUnits,
     pub(crate) labels: Vec<(VReg, Inst, Inst, u32), A>,
     pub(crate) named_by_last_slot: bool,
     pub(crate) allows_multiple_defs: bool,
@@ -116,9 +118,9 @@ impl<A: Allocator> Function for FlatFunction<A> {
 
     fn spillslot_size(&self, regclass: RegClass) -> usize {
         match regclass {
-            RegClass::Int => self.slot_sizes.int.units,
-            RegClass::Float => self.slot_sizes.float.units,
-            RegClass::Vector => self.slot_sizes.vector.units,
+            RegClass::Int => self.int_slot.units,
+            RegClass::Float => self.float_slot.units,
+            RegClass::Vector => self.vector_slot.units,
         }
     }
 

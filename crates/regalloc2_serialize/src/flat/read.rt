@@ -58,21 +58,6 @@ impl Flat for u32 {
     }
 }
 
-impl Flat for u8 {
-    ghost use Rattle.regalloc2_serialize.specs.Flat.Flat.{words_of_byte};
-    ghost use Rattle.std.specs.Prelude.{◌%◌, ◌^◌};
-    ghost use Rattle.regalloc2_serialize.specs.Flat.OneRest.{one_rest-word};
-
-    ghost words = { words_of_byte };
-
-    ghost one_rest = { one_rest-word (λ n. n % 2 ^ 8) };
-
-    fn read(_alloc: Global, from: &mut Words<'_>) -> Result<u8, StoredFault> {
-        let number = from.next()?;
-        u8::try_from(number).map_err(|_| StoredFault::Shape)
-    }
-}
-
 impl Flat for u64 {
     ghost use Rattle.regalloc2_serialize.specs.Flat.Flat.{words_of_long};
     ghost use Rattle.regalloc2_serialize.specs.Flat.OneRest.{one_rest-long};
@@ -85,43 +70,6 @@ impl Flat for u64 {
         let low = from.next()?;
         let high = from.next()?;
         Ok(u64::from(high) * 4_294_967_296 + u64::from(low))
-    }
-}
-
-impl Flat for bool {
-    ghost use Rattle.regalloc2_serialize.specs.Flat.Flat.{one_word, flag_number};
-    ghost use Rattle.regalloc2_serialize.specs.Flat.OneRest.{one_rest-word};
-
-    ghost words = { λ b. one_word (flag_number b) };
-
-    ghost one_rest = { one_rest-word flag_number };
-
-    fn read(_alloc: Global, from: &mut Words<'_>) -> Result<bool, StoredFault> {
-        match from.next()? {
-            0 => Ok(false),
-            1 => Ok(true),
-            _ => Err(StoredFault::Shape),
-        }
-    }
-}
-
-impl Flat for Option<u8> {
-    ghost use Rattle.regalloc2_serialize.specs.Flat.Flat.{one_word, optional_number};
-    ghost use Rattle.regalloc2_serialize.specs.Flat.OneRest.{one_rest-word};
-
-    ghost words = { λ o. one_word (optional_number o) };
-
-    ghost one_rest = { one_rest-word optional_number };
-
-    fn read(_alloc: Global, from: &mut Words<'_>) -> Result<Option<u8>, StoredFault> {
-        let next = from.next()?;
-        if next == 0 {
-            return Ok(None);
-        }
-        match u8::try_from(next - 1) {
-            Ok(number) => Ok(Some(number)),
-            Err(_) => Err(StoredFault::Shape),
-        }
     }
 }
 

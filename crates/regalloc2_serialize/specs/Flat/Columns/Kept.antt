@@ -1,7 +1,7 @@
 -- The function that a `FlatFunction` keeps.
 use Rattle.std.specs.Prelude.{map}
 use Rattle.regalloc2_function.specs.FunctionValue.{FunctionValue, label_of}
-use Rattle.regalloc2_serialize.specs.Tables.{sizes_of_serializable}
+use Rattle.regalloc2_serialize.specs.TableFunction.Table.{sizes_of_table}
 use Rattle.regalloc2_serialize.specs.Flat.Columns.Value.{Columns, column_blocks, column_insts}
 use Rattle.regalloc2_serialize.specs.declared.flat.columns.FlatFunction.{FlatFunction}
 
@@ -28,7 +28,7 @@ function_of_flat f = record {
   insts = column_insts (columns_of_flat f);
   entry = f.entry;
   num_vregs = f.num_vregs;
-  slot_sizes = sizes_of_serializable f.slot_sizes;
+  slot_sizes = sizes_of_table f.int_slot f.float_slot f.vector_slot;
   named_by_last_slot = f.named_by_last_slot;
   labels = map label_of f.labels.items;
   allows_multiple_defs = f.allows_multiple_defs;

@@ -4,7 +4,7 @@ use Rattle.std.proofs.lemmas.List.FromFn.{length-map-range_with_len}
 use Rattle.std.proofs.lemmas.List.Elements.{All-map}
 use Rattle.regalloc2_function.specs.FunctionValue.{IsLimited, IsSlotSize, slot_size, label_of}
 use Rattle.regalloc2_names.specs.declared.RegClass.TheVariants.{Int, Float, Vector}
-use Rattle.regalloc2_serialize.specs.TableLimits.{size_of_units}
+use Rattle.regalloc2_serialize.specs.TableFunction.TableLimits.{size_of_table_units}
 use Rattle.regalloc2_serialize.specs.Flat.Columns.Kept.{function_of_flat}
 use Rattle.regalloc2_serialize.specs.declared.flat.columns.FlatFunction.{FlatFunction}
 
@@ -14,6 +14,6 @@ limited_flat f = record {
   blocks = rw length-map-range_with_len (omega (arith, f.few_blocks, f.inst_bounds.ok.0));
   vregs = f.few_vregs;
   slot_sizes = λ c. elim c as (λ k. IsSlotSize (slot_size (function_of_flat f).slot_sizes k))
-      [ Int ↦ size_of_units f.slot_sizes.int | Float ↦ size_of_units f.slot_sizes.float | Vector ↦ size_of_units f.slot_sizes.vector ];
+      [ Int ↦ size_of_table_units f.int_slot | Float ↦ size_of_table_units f.float_slot | Vector ↦ size_of_table_units f.vector_slot ];
   labels = All-map (λ l. l.vreg.number < f.num_vregs) label_of f.labels.items f.labels_below;
 }

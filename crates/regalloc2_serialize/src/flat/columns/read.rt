@@ -112,6 +112,7 @@ fn function_from<A: Allocator + Copy>(
     let params = params_from(alloc, cut)?;
     let arguments = arguments_from(alloc, cut)?;
     let labels = labels_of(alloc, cut.labels(), header.labels as usize)?;
+    let (int_slot, float_slot, vector_slot) = sizes_of(header.sizes);
     Ok(FlatFunction {
         machine,
         kinds,
@@ -124,7 +125,9 @@ fn function_from<A: Allocator + Copy>(
         arguments,
         entry: Block::new(header.entry as usize),
         num_vregs: header.vregs as usize,
-        slot_sizes: sizes_of(header.sizes),
+        int_slot,
+        float_slot,
+        vector_slot,
         labels,
         named_by_last_slot: header.flags % 2 == 1,
         allows_multiple_defs: header.flags / 2 == 1,

@@ -4,14 +4,14 @@ ghost use Rattle.std.specs.Prelude.{◌≡◌, ℕ, ◌+◌, ◌*◌, ◌/◌, �
 ghost use Rattle.std.specs.List.{range_with_len};
 ghost use Rattle.regalloc2_names.specs.Packing.{IsRegisterIndex, IsVRegBits, IsOperandBits, register_of_bits, operand_of_bits};
 ghost use Rattle.regalloc2_function.specs.FunctionValue.{label_of};
-ghost use Rattle.regalloc2_serialize.specs.Tables.{sizes_of_serializable};
+ghost use Rattle.regalloc2_serialize.specs.TableFunction.Table.{sizes_of_table};
 ghost use Rattle.regalloc2_serialize.specs.Flat.Columns.Value.{has_bit, HasBits, HasBitsBelow, HaveBits, AreNumbered, long_at, longs, label_at};
 ghost use Rattle.regalloc2_serialize.specs.Flat.Columns.Value.{scratch_of_word, column_sizes};
 ghost use Rattle.regalloc2_serialize.specs.Flat.Columns.Sound.{Covers};
 
 use super::pieces::Pieces;
 use super::sound::long;
-use crate::tables::{SlotTable, SlotUnits};
+use crate::table_function::SlotUnits;
 use regalloc2_index::Inst;
 use regalloc2_names::{Operand, PReg, PRegSet, VReg};
 use std::alloc::{AllocError, Allocator};
@@ -212,15 +212,15 @@ fn units_of(log: u32) -> SlotUnits
 }
 
 /// The sizes of slots by class.
-pub fn sizes_of(sizes: u32) -> SlotTable
+pub fn sizes_of(sizes: u32) -> (SlotUnits, SlotUnits, SlotUnits)
     requires int { sizes % 256 ≤ 24 }
     requires float { sizes / 256 % 256 ≤ 24 }
     requires vector { sizes / 65536 ≤ 24 }
-    ensures { sizes_of_serializable result ≡ column_sizes sizes }
+    ensures { sizes_of_table result.0 result.1 result.2 ≡ column_sizes sizes }
 {
-    SlotTable {
-        int: units_of(sizes % 256),
-        float: units_of(sizes / 256 % 256),
-        vector: units_of(sizes / 65536),
-    }
+    (
+        units_of(sizes % 256),
+        units_of(sizes / 256 % 256),
+        units_of(sizes / 65536),
+    )
 }
