@@ -1,4 +1,4 @@
--- A machine that follows a procedure's steps behaves as the procedure: whatever relation of their states each step keeps.
+-- A machine that follows a procedure's steps behaves as the procedure: for any relation of their states that each step preserves.
 use Rattle.std.proofs.Common.{ℕ, zero, suc, ◌≡◌, ◌+◌, ◌≤◌, ◌⊎◌, inl, inr, List, refl, sym, ap, ◌∙◌, subst, arith}
 use Rattle.std.specs.Prelude.{None}
 use Rattle.regalloc2_function.specs.FunctionValue.{FunctionValue}
@@ -11,7 +11,7 @@ use Rattle.codegen_machine.specs.Machine.{CodeValue, MachineState, machine_run}
 use Rattle.codegen.specs.Behaves.{Beginning, procedure_after, machine_after, BehavesAs}
 use Rattle.codegen.proofs.Runs.{IsOver, Comes, comes_here, comes_on, runs_then, ends_then, longer, one_end}
 
--- What a procedure that stands so after so many steps says of the machine's run: it comes as far, returns the same number, or traps too.
+-- What the procedure's outcome after some steps implies for the machine's run: it runs for as many steps, returns the same number, or traps too.
 abbrev pub Meets : CodeValue → (ℕ → ℕ) → (ProcedureState → MachineState → Type 0) → MachineState → ℕ → RunOutcome ProcedureState → Type 0
 Meets code args IsAt s n (Running q) = (t : MachineState) × Comes code args n s t × IsAt q t
 Meets code args IsAt s n (Returned r) = (j : ℕ) × (machine_run code args j s ≡ Returned r)
@@ -20,7 +20,7 @@ Meets code args IsAt s n Stuck = ⊥
 
 module _ (f : FunctionValue) (ops : List Operation) (code : CodeValue) (args : ℕ → ℕ) (IsAt : ProcedureState → MachineState → Type 0)
     (follows : (q : ProcedureState) (t : MachineState) → IsAt q t → Meets code args IsAt t 1 (procedure_step f ops args q)) where
-  -- a step after so many
+  -- a step after that many
   one_more : (n : ℕ) (s t : MachineState) → Comes code args n s t → (o : RunOutcome ProcedureState) → Meets code args IsAt t 1 o →
       Meets code args IsAt s (suc n) o
   one_more n s t comes (Running q) m = (m.0, comes_on code args n 1 (suc n) s t m.0 (omega arith) comes m.1, m.2)
@@ -35,18 +35,18 @@ module _ (f : FunctionValue) (ops : List Operation) (code : CodeValue) (args : �
   further_on n s Trapped m = m
   further_on n s Stuck m = m
 
-  -- so many steps, from states of that relation
+  -- that many steps, from related states
   pub meets : (q : ProcedureState) (s : MachineState) → IsAt q s → (n : ℕ) → Meets code args IsAt s n (procedure_run f ops args n q)
   unfolding procedure_run
   meets q s at zero = (s, comes_here code args s, at)
   meets q s at (suc n) = further_on n s (procedure_run f ops args n q) (meets q s at n)
 
 module _ (code : CodeValue) (args : ℕ → ℕ) (IsAt : ProcedureState → MachineState → Type 0) where
-  -- the number with which a run has ended, if it has, and how else it stands
+  -- both runs have returned the same number, or both have trapped
   abbrev IsSame : RunOutcome ProcedureState → RunOutcome MachineState → Type 0
   IsSame z o = ((r : ℕ) × (z ≡ Returned r) × (o ≡ Returned r)) ⊎ ((z ≡ Trapped) × (o ≡ Trapped))
 
-  -- what a run of the machine that is over says of the procedure's
+  -- what a run of the machine that is over implies for the procedure's
   over_then : (s : MachineState) (m : ℕ) (z : RunOutcome ProcedureState) → Meets code args IsAt s m z → (o : RunOutcome MachineState) → IsOver o →
       machine_run code args m s ≡ o → IsSame z o
   over_then s m (Running q) h o over e =
@@ -71,7 +71,7 @@ module _ (code : CodeValue) (args : ℕ → ℕ) (IsAt : ProcedureState → Mach
   pub never : (s : MachineState) (m : ℕ) (z : RunOutcome ProcedureState) → Meets code args IsAt s m z → machine_run code args m s ≡ Stuck → ⊥
   never s m z h e = elim (over_then s m z h Stuck tt e) [ inl k ↦ cc k.2 | inr k ↦ cc k.1 ]
 
--- The code of a procedure behaves as it, where each step keeps a relation in which they begin.
+-- The code of a procedure behaves as the procedure, if each step preserves a relation of the initial states.
 pub behaves_by : (p : Procedure) (code : CodeValue) (IsAt : Beginning → ProcedureState → MachineState → Type 0) →
     ((b : Beginning) (n : ℕ) → Meets code b.args (IsAt b) (record { pc = 0; registers = b.registers; frame = b.frame; compared = None }) n
     (procedure_after p b n)) → BehavesAs p code

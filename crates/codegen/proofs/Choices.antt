@@ -1,4 +1,4 @@
--- Both interpreters, where each step's numbers and way are chosen when it is made.
+-- Both interpreters, where each step's numbers and successor are chosen when it is made.
 use Rattle.std.specs.Prelude.{ℕ, ◌≡◌, nat_eq, if◌then◌else◌, List, [], ◌∷◌, length, Option, None, Some, option_map}
 use Rattle.regalloc2_names.specs.Register.{VirtualRegister}
 use Rattle.regalloc2_names.specs.Operand.{is_reading}
@@ -11,8 +11,8 @@ use Rattle.regalloc2_semantics.specs.Values.Interpreters.{History, InstMeaning, 
 use Rattle.regalloc2_semantics.specs.Values.Interpreters.{numbers_moved, disturbed, written_to, numbers_clobbered, source_run, place_run}
 use Rattle.regalloc2_semantics.specs.Values.Alike.{RunAlike}
 
--- what one step does: the number that it writes to the operand of an index, the position of the successor that it takes, and the numbers that it leaves
--- in clobbered registers
+-- a step's choice: the number that it writes to the operand of an index, the position of the successor that it follows, and the numbers that it leaves in
+-- clobbered registers
 pub record Choice : Type 0 where
   pub writes : ℕ → ℕ
   pub takes : Option ℕ
@@ -21,7 +21,7 @@ pub record Choice : Type 0 where
 abbrev pub nothing : Choice
 nothing = record { writes = λ k. 0; takes = None; leaves = λ p. 0 }
 
--- of choices, the newest first, the one of the step with which so many are made
+-- of a list of choices, the last one first, the choice of the step with that number, counted from 1
 unfoldable pub choice_at : List Choice → ℕ → Choice
 choice_at [] n = nothing
 choice_at (x ∷ xs) n = if nat_eq n (length (x ∷ xs)) then x else choice_at xs n
@@ -32,7 +32,7 @@ meaning_by xs = record { writes = λ h. (choice_at xs (length h)).writes; takes 
 abbrev pub noise_by : List Choice → History → Place → ℕ
 noise_by xs h = (choice_at xs (length h)).leaves
 
--- what the newest step has left, which is also what early definitions may disturb their places with
+-- the numbers that the last step has left, which early definitions may also write to their places
 abbrev pub leavings : List Choice → Place → ℕ
 leavings [] = λ p. 0
 leavings (x ∷ xs) = x.leaves
@@ -72,7 +72,7 @@ module _ (f : FunctionValue) (out : OutputValue) where
     numbers = place_after stir x d;
   }) (way_on f d.at x.takes)
 
-  -- Both read the same; and whatever the step writes and leaves, the place of a late use still has the number of its virtual register.
+  -- Both read the same; and whatever the step writes and leaves, the place of a late use still has the number of its vreg.
   pub record ReadAlike (stir : Place → ℕ) (c : State VirtualRegister) (d : State Place) : Type 0 where
     pub at : d.at ≡ c.at
     pub reads : found_reads stir d ≡ source_reads c
@@ -80,19 +80,19 @@ module _ (f : FunctionValue) (out : OutputValue) where
         ≡ read_by is_late_use (λ k o. c.numbers o.vreg) 0 (inst_at f c.at.inst).operands
 
   module _ (virtual : VirtualRegister → ℕ) (places : Place → ℕ) where
-    -- both have come so far by these choices
+    -- both have made that many steps by these choices
     pub record Together (xs : List Choice) (c : State VirtualRegister) (d : State Place) : Type 0 where
       pub source : source_run f (meaning_by xs) virtual (length xs) ≡ Some c
       pub place : place_run f out (meaning_by xs) (noise_by xs) places (length xs) ≡ Some d
 
-    -- both go on, or both end
+    -- both continue, or both end
     abbrev pub StepsOn : List Choice → Option (State VirtualRegister) → Option (State Place) → Type 0
     StepsOn xs None None = Unit {0}
     StepsOn xs None (Some d) = ⊥
     StepsOn xs (Some c) None = ⊥
     StepsOn xs (Some c) (Some d) = Together xs c d
 
-    -- they begin together, are alike wherever they have come together, and go on together whatever is chosen there
+    -- they begin together, are alike in each pair of states that they reach together, and continue together for every choice
     pub record AlikeByChoices : Type 0 where
       pub begin : Together [] (record { at = first_of f f.entry; history = []; numbers = virtual })
           (record { at = first_of f f.entry; history = []; numbers = places })
@@ -100,7 +100,7 @@ module _ (f : FunctionValue) (out : OutputValue) where
       pub on : (xs : List Choice) (c : State VirtualRegister) (d : State Place) → Together xs c d → (x : Choice) →
           StepsOn (x ∷ xs) (source_next x c) (place_next (leavings xs) x d)
 
--- where both interpreters run alike whatever instructions mean, they do so by choices
+-- if both interpreters run alike under every interpretation, they do so by choices
 abbrev pub ChoicesRunAlike : Type 0
 ChoicesRunAlike = (f : FunctionValue) (out : OutputValue) → RunAlike f out → (virtual : VirtualRegister → ℕ) (places : Place → ℕ) →
     AlikeByChoices f out virtual places

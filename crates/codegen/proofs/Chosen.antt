@@ -56,7 +56,7 @@ module _ (f : FunctionValue) (out : OutputValue) (virtual : VirtualRegister → 
       some {s} e z = let same : s ≡ c = cc in ap (λ (s : State VirtualRegister). length s.history) (sym same) ∙ z
   source_long m (suc n) c e = source_step_long m n (source_run f m virtual n) c (source_long m n) e
 
-  -- what a newer choice would be doesn't count for the steps before
+  -- a later choice doesn't affect the steps before it
   source_step_same : (x : Choice) (xs : List Choice) (n : ℕ) → n < length xs → (y z : Option (State VirtualRegister)) → y ≡ z →
       ((b : State VirtualRegister) → z ≡ Some b → length b.history ≡ n) →
       option_and_then (source_step f (meaning_by (x ∷ xs))) y ≡ option_and_then (source_step f (meaning_by xs)) z
@@ -99,7 +99,7 @@ module _ (f : FunctionValue) (out : OutputValue) (virtual : VirtualRegister → 
       some {s} e z = let same : s ≡ c = cc in ap (λ (s : State Place). length s.history) (sym same) ∙ z
   place_long m noise (suc n) c e = place_step_long m noise n (place_run f out m noise places n) c (place_long m noise n) e
 
-  -- a step of places, by two choices: what the one before left, and its own
+  -- a step of places, by two choices: the numbers that the previous one left, and its own
   abbrev place_by : Choice → Choice → State Place → Option (State Place)
   place_by e x d = place_next f out e.leaves x d
 
@@ -126,7 +126,7 @@ module _ (f : FunctionValue) (out : OutputValue) (virtual : VirtualRegister → 
       (place_run f out (meaning_by xs) (noise_by xs) places n) (place_same x xs n (omega arith)) (place_long (meaning_by xs) (noise_by xs) n)
 
   module _ (alike : RunAlike f out) where
-    -- what is alike where the next choice is made
+    -- the states at the next choice are alike
     then_alike : (xs : List Choice) (c : State VirtualRegister) (d : State Place) → Together f out virtual places xs c d → (x : Choice) →
         AreAlike f out (meaning_by (x ∷ xs)) (noise_by (x ∷ xs)) c d
     then_alike xs c d t x = pick _ _
@@ -143,7 +143,7 @@ module _ (f : FunctionValue) (out : OutputValue) (virtual : VirtualRegister → 
         (length c.history ≡ length xs) × (length d.history ≡ length xs)
     lengths xs c d t = (source_long (meaning_by xs) (length xs) c t.source, place_long (meaning_by xs) (noise_by xs) (length xs) d t.place)
 
-    -- what is left before the next choice
+    -- the numbers left before the next choice
     left_then : (xs : List Choice) (x : Choice) (n : ℕ) → n ≡ length xs → (choice_at (x ∷ xs) n).leaves ≡ leavings xs
     left_then xs x n e =
         ap (λ (y : Choice). y.leaves) (choice_old x xs n (omega (arith, e))) ∙ ap (λ (k : ℕ). (choice_at xs k).leaves) e ∙ choice_left xs

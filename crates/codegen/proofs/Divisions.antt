@@ -1,4 +1,4 @@
--- A division: its two instructions do to the machine what it does to places, whose divisor stays where it is.
+-- A division: its two instructions do to the machine what it does to places, and the divisor stays in its current location.
 use Rattle.std.proofs.Common.{ℕ, zero, suc, ◌≡◌, ◌+◌, Bool, true, false, cond, not, List, [], ◌∷◌, ◌++◌, Option, Some, None, refl, sym, ap, ◌∙◌, subst}
 use Rattle.std.proofs.Common.{arith, nat_eq, eqb-true, eq-eqb}
 use Rattle.std.specs.Prelude.{◌&&◌, slice_index}
@@ -31,13 +31,13 @@ use Rattle.codegen.proofs.Steps.{value_of, leaves_of, traps_of, other_part, read
 abbrev int_register : ℕ → Register
 int_register n = record { number = n; class = Int }
 
--- the place of a register for numbers
+-- the place of a register that holds numbers
 place_is : (p : Place) (n : ℕ) → IsGeneral p → register_of p ≡ n → p ≡ register_place n
 place_is NoPlace n h e = absurd h
 place_is (InRegister r) n h e = sym (int_place r h.0) ∙ ap register_place e
 place_is (InSlot k) n h e = absurd h
 
--- where nothing is clobbered all stays
+-- without clobbers, all numbers stay
 pub unclobbered : (set : PRegSet) (noise numbers : Place → ℕ) (registers frame : ℕ → ℕ) → ((r : Register) → has_register set r ≡ false) →
     Agree registers frame numbers → Agree registers frame (numbers_clobbered set noise numbers)
 unfolding numbers_clobbered
@@ -48,12 +48,13 @@ unclobbered set noise numbers registers frame none a = record {
   in_slots = a.in_slots;
 }
 
--- The divisor's place keeps its number whatever a division writes and leaves. So it is neither of its registers, or has the number that goes there.
+-- The divisor's place keeps its number whatever a division writes and leaves. It is therefore neither of the division's registers, or already holds the number
+-- written.
 abbrev pub Keeps : PRegSet → (Place → ℕ) → Place → Place → Type 0
 Keeps set m p q = (x : Choice) → numbers_clobbered set x.leaves (place_set m p (x.writes 0)) q ≡ m q
 
 module _ (m : Place → ℕ) (set : PRegSet) (w : ℕ) where
-  -- after register 2 has taken some number it has the same
+  -- writing any number to register 2 leaves the divisor's place unchanged
   quotient_stays : ((r : Register) → has_register set r ≡ is_register (int_register 2) r) → (q : Place) → Keeps set m (register_place 0) q →
       place_set m (register_place 2) w q ≡ m q
   unfolding place_set numbers_clobbered
@@ -129,11 +130,11 @@ module _ (args : ℕ → ℕ) (starts : ℕ → ℕ) (code : CodeValue) (succs :
       (has : (r : Register) → has_register set r ≡ is_register (int_register (other_register part)) r)
       (keeps : Keeps set m (register_place (part_register part)) q) (here : IsHere code.slots q) (a : Agree s.registers s.frame m)
       (h : StandAt starts code.instructions s.pc (divide_code signed q ++ rest)) where
-    -- what is above the dividend
+    -- the extension of the dividend
     abbrev above : ℕ
     above = extended signed (s.registers 0)
 
-    -- once register 2 has it
+    -- once register 2 holds it
     abbrev ready : Option (ℕ × ℕ) → MachineState
     ready compared = wrote s 2 above compared
 
@@ -214,7 +215,7 @@ module _ (args : ℕ → ℕ) (starts : ℕ → ℕ) (code : CodeValue) (succs :
   reads part signed to left right ps m read =
       ap (λ (b : Bool). cond (not b) (m (place_at ps 1) ∷ m (place_at ps 2) ∷ []) (m (place_at ps 2) ∷ [])) read
 
-  -- an operation that goes on to the next line
+  -- an operation that continues at the next line
   pub plain_leaves : (o : Operation) (set : PRegSet) (s : MachineState) (ps : List Place) (m : Place → ℕ) → IsPlain o → IsPlaced code.slots o ps →
       ((r : Register) → has_register set r ≡ is_clobbered o r) → IsKept o set ps m → traps_of o (reads_at o ps m) ≡ false →
       Agree s.registers s.frame m → StandAt starts code.instructions s.pc (operation_code o ps succs ++ rest) →
@@ -255,7 +256,7 @@ module _ (args : ℕ → ℕ) (starts : ℕ → ℕ) (code : CodeValue) (succs :
       (subst (λ (xs : List ℕ). division_traps signed (slice_index xs 0) (slice_index xs 1) ≡ true) read traps)
   plain_traps o set s ps m plain placed has kept traps a h = absurd cc
 
-  -- the interpreters' late use says that it is kept
+  -- the interpreters' late use guarantees that it is kept
   pub is_kept : (o : Operation) (set : PRegSet) (ps : List Place) (m : Place → ℕ) (v : VirtualRegister → ℕ) → IsPlain o →
       reads_at o ps m ≡ read_by is_reading (λ k u. v u.vreg) 0 (operands_of o) →
       ((x : Choice) → read_by is_late_use (λ k u. numbers_clobbered set x.leaves (written_to x.writes ps 0 (operands_of o) m) (place_at ps k)) 0 (operands_of o)

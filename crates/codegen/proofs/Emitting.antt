@@ -1,4 +1,4 @@
--- Code that grows by what is emitted.
+-- Code that grows with each emitted item.
 use Rattle.std.proofs.Common.{ℕ, suc, ◌≡◌, ◌+◌, ◌<◌, ◌≤◌, List, [], ◌∷◌, ◌++◌, length, refl, sym, ap, subst, ◌∙◌, arith}
 use Rattle.std.proofs.Common.{append_assoc, append-nil, add-one, below_more}
 use Rattle.std.specs.Prelude.{slice_index, All}
@@ -10,7 +10,7 @@ use Rattle.codegen_machine.specs.declared.ir.operation.Operation.{Operation}
 use Rattle.codegen_machine.specs.declared.Instruction.{Instruction}
 use Rattle.codegen.specs.Emitted.{item_code, items_code, block_code, blocks_code, block_start}
 
--- what is within a block is within the function
+-- the numbers within a block are within the function
 wider : (first end n : ℕ) (x : Listed) → end ≤ n → IsListedWithin first end x → IsListedWithin 0 n x
 wider first end n (ListedInst i) le h = (omega arith, (let less = h.1 in omega arith))
 wider first end n (ListedMove m) le h = tt
@@ -46,14 +46,14 @@ module _ (operations : List Operation) (out : OutputValue) where
   unfolding blocks_code
   no_block_yet f = refl
 
-  -- one block more is
+  -- one more block is emitted
   pub one_block : (f : FunctionValue) (b : ℕ) (code more : List Instruction) → code ≡ blocks_code operations out f b →
       more ≡ code ++ block_code operations out f b →
       more ≡ blocks_code operations out f (b + 1)
   unfolding blocks_code
   one_block f b code more h grown = rw add-one (grown ∙ ap (λ xs. xs ++ block_code operations out f b) h)
 
-  -- where the first so many blocks begin
+  -- the positions of the first instructions of the blocks emitted so far
   pub record AreStarts (f : FunctionValue) (starts : List ℕ) (b : ℕ) : Type 0 where
     pub long : length starts ≡ b
     pub starts_at : (k : ℕ) → k < b → slice_index starts k ≡ block_start operations out f k
@@ -61,7 +61,7 @@ module _ (operations : List Operation) (out : OutputValue) where
   pub no_start : (f : FunctionValue) → AreStarts f [] 0
   no_start f = record { long = refl; starts_at = λ k less. absurd (omega arith) }
 
-  -- and one block more
+  -- and one more block
   pub one_start : (f : FunctionValue) (b : ℕ) (starts more : List ℕ) (code : List Instruction) (start : ℕ) → AreStarts f starts b →
       code ≡ blocks_code operations out f b → start ≡ length code → more ≡ starts ++ start ∷ [] → AreStarts f more (b + 1)
   one_start f b starts more code start s is at grown = record {

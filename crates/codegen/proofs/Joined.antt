@@ -1,4 +1,4 @@
--- One step of a procedure and what the machine does meanwhile, by the two interpreters between them.
+-- One step of a procedure and the machine's steps for it, related by the two interpreters between them.
 use Rattle.std.proofs.Common.{ℕ, suc, ◌≡◌, ◌+◌, ◌<◌, ◌≤◌, Bool, true, false, List, [], ◌∷◌, length, Option, Some, None, refl, sym, ap, ◌∙◌, subst}
 use Rattle.std.specs.Prelude.{slice_index}
 use Rattle.regalloc2_names.specs.Register.{VirtualRegister}
@@ -28,7 +28,7 @@ use Rattle.codegen.proofs.Behaving.{Meets, meets, behaves_by}
 
 module _ (f : FunctionValue) (ops : List Operation) (out : OutputValue) (start : ℕ → ℕ) (code : CodeValue) (args : ℕ → ℕ)
     (virtual : VirtualRegister → ℕ) (places : Place → ℕ) where
-  -- a procedure's state and the machine's are where the two interpreters have come together
+  -- a procedure's state and the machine's, related by states that the two interpreters reach together
   pub record AreJoined (q : ProcedureState) (s : MachineState) : Type 0 where
     pub choices : List Choice
     pub c : State VirtualRegister
@@ -95,13 +95,13 @@ module _ (f : FunctionValue) (ops : List Operation) (out : OutputValue) (start :
             subst (λ (o : RunOutcome ProcedureState). Meets code args AreJoined s 1 o) (sym (steps_trap f args ops out start code ok c at.left block begins ends e))
             (step_traps f ops out start code args (leavings xs) ok c d s at r (traps ∙ e))
 
-    -- what a step of the procedure says of the machine
+    -- what a step of the procedure implies for the machine
     pub step_meets : (q : ProcedureState) (s : MachineState) → AreJoined q s → Meets code args AreJoined s 1 (procedure_step f ops args q)
     step_meets q s j =
         subst (λ (p : ProcedureState). Meets code args AreJoined s 1 (procedure_step f ops args p)) (sym j.is_seen)
         (goes j.choices j.c j.d s j.together j.at)
 
-    -- both begin joined
+    -- both begin related
     pub begin_joined : (s : MachineState) → Agree s.registers s.frame places → s.pc ≡ 0 → AreJoined (record { at = first_of f 0; numbers = virtual }) s
     unfolding blocks_code
     begin_joined s agree at =
@@ -118,7 +118,7 @@ module _ (f : FunctionValue) (ops : List Operation) (out : OutputValue) (start :
           at = subst (λ (b : ℕ). At f ops out start code (record { at = first_of f b; history = []; numbers = places }) s) (sym e) first;
         }
 
--- the numbers of places where a run begins
+-- the initial numbers of places
 abbrev place_numbers : Beginning → Place → ℕ
 place_numbers b NoPlace = 0
 place_numbers b (InRegister r) = b.registers r.number

@@ -3,7 +3,7 @@
 -- `Simulation` and `Source`, in which machine and procedure follow the interpreters; `Behaving` is the theorem over steps.
 -- Depends on the two interpreters of a function, over vregs and over places, which run alike (`FaithfulRunAlike`): so they
 -- do by choices (`Chosen`).
--- `Premises` shows the premises of what is emitted for an allocated procedure; `Steps` is one operation, `Places` one
+-- `Premises` shows the assumptions for the code emitted for an allocated procedure; `Steps` is one operation, `Places` one
 -- move. `Stands` and `Runs` are code at an address and runs of it, `Procedures` a procedure's function; `Emitting` is
 -- the code that grows.
 pub mod Emitting

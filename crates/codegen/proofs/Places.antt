@@ -1,4 +1,4 @@
--- The machine's numbers are those of the places: what reads, writes and moves do to both.
+-- The machine's numbers are those of the places: reads, writes and moves have the same effect on both.
 use Rattle.std.proofs.Common.{ℕ, ◌≡◌, ◌+◌, ◌<◌, Bool, true, cond, List, [], ◌∷◌, ◌++◌, map, Option, Some, refl, sym, ap, ◌∙◌, subst, arith, nat_eq, lt-ltb}
 use Rattle.std.specs.Prelude.{◌&&◌}
 use Rattle.std.specs.List.{AllByRecursion}
@@ -30,11 +30,11 @@ pub record Agree (registers frame : ℕ → ℕ) (numbers : Place → ℕ) : Typ
 pub int_place : (r : Register) → r.class ≡ Int → register_place r.number ≡ InRegister r
 int_place r h = λ i. InRegister (record { number = r.number; class = sym h i })
 
--- the next instruction, where a register has been written
+-- the next instruction, after a register is written
 abbrev pub wrote : MachineState → ℕ → ℕ → Option (ℕ × ℕ) → MachineState
 wrote s r n compared = record { pc = s.pc + 1; registers = put s.registers r n; frame = s.frame; compared = compared }
 
--- and where a slot has been written
+-- and after a slot is written
 abbrev pub kept : MachineState → ℕ → ℕ → MachineState
 kept s k n = record { pc = s.pc + 1; registers = s.registers; frame = put s.frame k n; compared = s.compared }
 
@@ -86,7 +86,7 @@ agree_register registers frame numbers a (InRegister r) h v = record {
 }
 agree_register registers frame numbers a (InSlot n) h v = absurd h
 
--- and where a slot is written
+-- and if a slot is written
 pub agree_slot : (registers frame : ℕ → ℕ) (numbers : Place → ℕ) → Agree registers frame numbers → (n v : ℕ) →
     Agree registers (put frame n v) (place_set numbers (InSlot n) v)
 unfolding place_set
@@ -96,7 +96,7 @@ agree_slot registers frame numbers a n v = record {
 }
 
 module _ (args : ℕ → ℕ) (slots : ℕ) (starts : ℕ → ℕ) where
-  -- a register takes what stands in a place
+  -- the number in a place is copied into a register
   pub fetches : (s : MachineState) (numbers : Place → ℕ) (to : ℕ) → is_general to ≡ true → Agree s.registers s.frame numbers → (p : Place) → IsHere slots p →
       executed args slots (Some (resolved starts (fetched to p))) s ≡ Running (wrote s to (numbers p) s.compared)
   fetches s numbers to g a NoPlace h = absurd h
@@ -130,7 +130,7 @@ module _ (args : ℕ → ℕ) (slots : ℕ) (starts : ℕ → ℕ) where
   }
 
 module _ (operations : List Operation) (out : OutputValue) (succs : List ℕ) (args : ℕ → ℕ) (starts : ℕ → ℕ) (code : CodeValue) where
-  -- the machine has come through moves to what stands behind them
+  -- the machine has run the moves, up to the code after them
   pub record Moved (s : MachineState) (numbers : Place → ℕ) (rest : List Listed) : Type 0 where
     pub to : MachineState
     pub comes : Comes code args 0 s to

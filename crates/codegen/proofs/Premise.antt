@@ -1,4 +1,4 @@
--- What the proofs take of the source, of its allocation and of what is emitted.
+-- The proofs' assumptions on the source, its allocation and the emitted code.
 use Rattle.std.specs.Prelude.{ℕ, ◌≡◌, ◌+◌, ◌<◌, ◌≤◌, false, true, nat_eq, List, map, length, slice_index, All}
 use Rattle.regalloc2_names.specs.declared.RegClass.TheVariants.{Int}
 use Rattle.regalloc2_names.specs.Register.{Register}
@@ -19,7 +19,7 @@ use Rattle.codegen_machine.specs.declared.ir.operation.Right.TheVariants.{VReg, 
 use Rattle.codegen_machine.specs.Machine.{CodeValue, is_general}
 use Rattle.codegen.specs.Emitted.{register_of, operation_at, blocks_code, block_start, resolved}
 
--- a register for numbers
+-- a register that holds numbers
 abbrev pub IsGeneral : Place → Type 0
 IsGeneral NoPlace = ⊥
 IsGeneral (InRegister r) = (r.class ≡ Int) × (is_general r.number ≡ true)
@@ -37,17 +37,17 @@ CanMove slots from NoPlace = ⊥
 CanMove slots from (InRegister r) = ((r.class ≡ Int) × (is_general r.number ≡ true)) × IsHere slots from
 CanMove slots from (InSlot n) = (n < slots) × IsGeneral from
 
--- the place of a second number, which has none where it is given
+-- the place of a second number; a constant has none
 abbrev pub IsRightHere : ℕ → Right → Place → Type 0
 IsRightHere slots (VReg v) p = IsHere slots p
 IsRightHere slots (Given n) p = Unit {0}
 
--- the place of a count is register 1, unless it is given
+-- the place of a shift count is register 1, unless it is a constant
 abbrev pub IsCountHere : Count → Place → Type 0
 IsCountHere (CountIn v) p = IsGeneral p × (register_of p ≡ 1)
 IsCountHere (CountOf n) p = Unit {0}
 
--- an operation's operands in registers of their own are read and written: only those of the greatest virtual register aren't
+-- an operation's operands in fixed registers are read and written: only those of the greatest virtual register aren't
 abbrev pub IsCountRead : Count → Type 0
 IsCountRead (CountIn v) = nat_eq v.number 1073741823 ≡ false
 IsCountRead (CountOf n) = Unit {0}
@@ -74,7 +74,7 @@ IsPlaced slots (BranchIf v) ps = IsHere slots (place_at ps 0)
 IsPlaced slots (BranchIfHolds c left right) ps = IsGeneral (place_at ps 0) × IsRightHere slots right (place_at ps 1)
 IsPlaced slots (GiveBack v) ps = IsHere slots (place_at ps 0)
 
--- an operation that goes on to the next line, and reads all its uses
+-- an operation that continues at the next line, and reads all its uses
 abbrev pub IsPlain : Operation → Type 0
 IsPlain GoTo = ⊥
 IsPlain (BranchIf v) = ⊥
@@ -84,7 +84,7 @@ IsPlain (Shifting o to left count) = IsCountRead count
 IsPlain (Dividing part signed to left right) = (nat_eq to.number 1073741823 ≡ false) × (nat_eq left.number 1073741823 ≡ false)
 IsPlain o = Unit {0}
 
--- one that ends a block with so many successors
+-- one that ends a block with that many successors
 abbrev pub IsEnd : Operation → ℕ → Type 0
 IsEnd GoTo count = 0 < count
 IsEnd (BranchIf v) count = 1 < count
@@ -92,7 +92,7 @@ IsEnd (BranchIfHolds c left right) count = 1 < count
 IsEnd (GiveBack v) count = Unit {0}
 IsEnd o count = ⊥
 
--- what is known of the source, of its allocation and of the code, whose jumps to a block go where that starts
+-- the assumptions on the source, its allocation and the code, whose jumps to a block are resolved to its first instruction
 pub record IsEmitted (f : FunctionValue) (operations : List Operation) (out : OutputValue) (start : ℕ → ℕ) (code : CodeValue) : Type 0 where
   pub operands : (i : ℕ) → i < length f.insts → (inst_at f i).operands ≡ operands_of (operation_at operations i)
   pub clobbers : (i : ℕ) → i < length f.insts → (r : Register) →

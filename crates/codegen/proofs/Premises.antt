@@ -1,4 +1,4 @@
--- The premises of the proofs hold of what is emitted for an allocated procedure.
+-- The proofs' assumptions hold of the code emitted for an allocated procedure.
 use Rattle.std.proofs.Common.{ℕ, ◌≡◌, ◌+◌, ◌-◌, ◌<◌, ◌≤◌, Bool, true, false, ◌&&◌, cond, List, [], ◌∷◌, length, Option, None, Some, refl, sym, ap, ◌∙◌, subst}
 use Rattle.std.proofs.Common.{arith, lt-ltb, ltb-true, eqb-true, nat_eq, ◌^◌, ◌++◌, length-append}
 use Rattle.std.proofs.Math.Seq.{get_or-append_seam}
@@ -43,13 +43,13 @@ no_member [] r e h = let less : h.0 < 0 = h.1 in omega arith
 no_member (q ∷ rs) r e h = absurd cc
 
 module _ (env : MachineValue) (out : OutputValue) (t : IsTarget env) where
-  -- a place for a number of some class is a register for numbers or a slot of the frame
+  -- a place for a number of some class is a register that holds numbers, or a slot of the frame
   here : (c : RegClass) (p : Place) → IsProperPlace env out c p → IsHere out.num_spillslots p
   here c NoPlace h = absurd h
   here c (InRegister r) h = elim h [ inl own ↦ t.allocatable c r own | inr fixed ↦ absurd (no_member env.fixed_stack_slots r t.no_fixed_slots fixed.0) ]
   here c (InSlot n) h = h
 
-  -- and if it is no place in memory, a register
+  -- and if it is no stack place, a register
   general : (c : RegClass) (p : Place) → IsProperPlace env out c p → IsPlainRegister env p → IsGeneral p
   general c NoPlace h plain = absurd h
   general c (InRegister r) h plain = elim h [ inl own ↦ t.allocatable c r own | inr fixed ↦ absurd (plain fixed.0) ]
@@ -73,13 +73,13 @@ module _ (env : MachineValue) (out : OutputValue) (t : IsTarget env) where
   can_move (InRegister r) (InSlot n) h g never = (g, h)
   can_move (InSlot m) (InSlot n) h g never = absurd (never (tt, tt))
 
-  -- places that are proper for operands and meet their constraints
+  -- places that are valid for operands and meet their constraints
   record AreFor (os : List OperandValue) (ps : List Place) : Type 0 where
     proper : (k : ℕ) (d : OperandValue) → k < length os → is_fixed_nonallocatable (slice_index_or os k d) ≡ false →
         IsProperPlace env out (slice_index_or os k d).vreg.class (place_at ps k)
     meets : (k : ℕ) (d : OperandValue) → k < length os → Meets env (length os) ps (slice_index_or os k d).constraint (place_at ps k)
 
-  -- the place of an operand in a register of its own
+  -- the place of an operand in a fixed register
   fixed_here : (c : RegClass) (n : ℕ) (p : Place) → IsProperPlace env out c p → p ≡ InRegister (record { number = n; class = c }) →
       IsGeneral p × (register_of p ≡ n)
   fixed_here c n p proper e = (subst IsGeneral (sym e) (subst (IsHere out.num_spillslots) e (here c p proper)), ap register_of e)
@@ -91,7 +91,7 @@ module _ (env : MachineValue) (out : OutputValue) (t : IsTarget env) where
       let d : OperandValue = use_in Any v in
       fixed_here v.class 1 (place_at ps 2) (h.proper 2 d (omega arith) read) (h.meets 2 d (omega arith))
 
-  -- the last operand is that of a second number, unless it is given
+  -- the last operand is that of a second number, unless it is a constant
   right_here : (right : Right) (os : List OperandValue) (ps : List Place) → AreFor (os ++ right_in right) ps →
       IsRightHere out.num_spillslots right (place_at ps (length os))
   right_here (Given n) os ps h = tt
@@ -102,7 +102,7 @@ module _ (env : MachineValue) (out : OutputValue) (t : IsTarget env) where
       here v.class (place_at ps (length os)) (subst (λ (o : OperandValue). is_fixed_nonallocatable o ≡ false →
       IsProperPlace env out o.vreg.class (place_at ps (length os))) last (h.proper (length os) d within) refl)
 
-  -- are such that the operation can be emitted
+  -- places with which the operation can be emitted
   is_placed : (o : Operation) (ps : List Place) → IsRead o → AreFor (operands_of o) ps → IsPlaced out.num_spillslots o ps
   is_placed (TakeArgument to k) ps read h =
       let d : OperandValue = def_in Reg to in general to.class (place_at ps 0) (h.proper 0 d (omega arith) refl) (h.meets 0 d (omega arith))
@@ -177,7 +177,7 @@ is_read vregs (Dividing part signed to left right) few h =
     )
 is_read vregs o few h = tt
 
--- an operation that neither branches nor returns goes on
+-- an operation that neither branches nor returns continues at the next line
 is_plain : (o : Operation) → IsRead o → is_jump o ≡ false → is_return o ≡ false → IsPlain o
 is_plain GoTo read j r = absurd cc
 is_plain (BranchIf v) read j r = absurd cc
@@ -243,7 +243,7 @@ module _ (p : Procedure) (env : MachineValue) (out : OutputValue) (t : IsTarget 
   starts : (b : ℕ) → b < length f.blocks → block_label (operations p) out f b ≡ block_start (operations p) out f b
   starts b less = ap (λ (x : Bool). cond x (block_start (operations p) out f b) 0) (lt-ltb b (length f.blocks) less)
 
-  -- all that the proofs take
+  -- all assumptions
   pub emitted_is : IsEmitted f (operations p) out (block_label (operations p) out f) (emitted (operations p) f out)
   emitted_is = record {
     operands = λ i less. (insts_are p i less).operands;

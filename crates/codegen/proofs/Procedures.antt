@@ -1,4 +1,4 @@
--- What a procedure's function is, instruction by instruction and block by block.
+-- The function of a procedure, instruction by instruction and block by block.
 use Rattle.std.proofs.Common.{ℕ, zero, suc, ◌≡◌, ◌-◌, ◌<◌, ◌≤◌, true, false, List, [], ◌∷◌, length, map, refl, arith, leb-true}
 use Rattle.std.specs.Prelude.{slice_index_or, slice_get, nat_lt}
 use Rattle.std.specs.List.{list_all}
@@ -51,12 +51,12 @@ pub insts_are : (p : Procedure) (i : ℕ) → i < length (function_of_procedure 
     (operation_at (operations p) i)
 insts_are p i less = each_inst p.lines.items i (rw length-map at less)
 
--- whose virtual registers have numbers below the procedure's
+-- whose virtual registers have numbers below the procedure's count
 pub registers_known : (p : Procedure) (i : ℕ) → i < length (function_of_procedure p).insts →
     list_all (λ o. nat_lt o.vreg.number p.num_vregs) (operands_of (operation_at (operations p) i)) ≡ true
 registers_known p i less = each_known p.num_vregs p.lines.items i p.known (rw length-map at less)
 
--- and its blocks have the successors that their last lines go on to
+-- and its blocks have the successors that their last lines require
 pub blocks_have : (p : Procedure) (b : ℕ) → b < length (function_of_procedure p).blocks → (block_at (function_of_procedure p) b).range.end - 1 < length
     (operations p) →
     wanted_by (operation_at (operations p) ((block_at (function_of_procedure p) b).range.end - 1)) ≤ length (block_at (function_of_procedure p) b).succs

@@ -1,4 +1,4 @@
--- Runs of the machine: one stretch after another, and one end.
+-- Runs of the machine: concatenated segments, and a unique end.
 use Rattle.std.proofs.Common.{ℕ, zero, suc, ◌≡◌, ◌+◌, ◌≤◌, Option, Some, refl, sym, ap, ◌∙◌, subst, ⊎_elim, arith}
 use Rattle.std.specs.Prelude.{slice_get}
 use Rattle.std.proofs.lemmas.Bool.{cases_lt}
@@ -22,7 +22,7 @@ further_over Trapped f g o h e = e
 further_over Stuck f g o h e = e
 
 module _ (code : CodeValue) (args : ℕ → ℕ) where
-  -- The machine comes from one state to another in so many steps or more: what it does from the first it does from the second in fewer steps.
+  -- The machine gets from the first state to the second in at least that many steps: the run from the second state is the rest of the run from the first.
   pub record Comes (n : ℕ) (s t : MachineState) : Type 0 where
     pub by : (k : ℕ) → (j : ℕ) × (k + n ≤ j) × (machine_run code args j s ≡ machine_run code args k t)
 
@@ -30,7 +30,7 @@ module _ (code : CodeValue) (args : ℕ → ℕ) where
   pub comes_here : (s : MachineState) → Comes 0 s s
   comes_here s = record { by = λ k. (k, omega arith, refl) }
 
-  -- the step of the instruction that stands there
+  -- the step of the instruction at that address
   pub comes_by : (i : Instruction) (s t : MachineState) → slice_get code.instructions s.pc ≡ Some i →
       executed args code.slots (Some i) s ≡ Running t → Comes 1 s t
   unfolding machine_run
@@ -43,7 +43,7 @@ module _ (code : CodeValue) (args : ℕ → ℕ) where
     );
   }
 
-  -- one stretch after another
+  -- one segment after another
   pub comes_on : (m n k : ℕ) (s t u : MachineState) → k ≤ m + n → Comes m s t → Comes n t u → Comes k s u
   comes_on m n k s t u le a b = record {
     by = λ i.
@@ -60,7 +60,7 @@ module _ (code : CodeValue) (args : ℕ → ℕ) where
   longer (suc m) (suc n) s o le over e =
       further_over (machine_step code args s) (machine_run code args m) (machine_run code args n) o (λ t h. longer m n t o (omega arith) over h) e
 
-  -- so two ends of one run are the same
+  -- therefore the end of a run is unique
   pub one_end : (m n : ℕ) (s : MachineState) (o p : RunOutcome MachineState) → IsOver o → IsOver p → machine_run code args m s ≡ o →
       machine_run code args n s ≡ p → o ≡ p
   one_end m n s o p over_o over_p e f =
@@ -69,12 +69,12 @@ module _ (code : CodeValue) (args : ℕ → ℕ) where
       (λ le. sym e ∙ longer n m s p le over_p f)
       (cases_lt m n)
 
-  -- where it comes to a state it still runs after so many steps
+  -- if it gets to a state, it still runs after that many steps
   pub runs_then : (n : ℕ) (s t : MachineState) → Comes n s t → (m : ℕ) × (n ≤ m) × (machine_run code args m s ≡ Running t)
   unfolding machine_run
   runs_then n s t c = let p : (j : ℕ) × (0 + n ≤ j) × (machine_run code args j s ≡ machine_run code args 0 t) = c.by 0 in (p.0, omega (arith, p.1), p.2)
 
-  -- and it ends as it does from there
+  -- and it ends as the run from that state does
   pub ends_then : (n m : ℕ) (s t : MachineState) (o : RunOutcome MachineState) → Comes n s t → machine_run code args m t ≡ o →
       (j : ℕ) × (machine_run code args j s ≡ o)
   ends_then n m s t o c e = let p : (j : ℕ) × (m + n ≤ j) × (machine_run code args j s ≡ machine_run code args m t) = c.by m in (p.0, p.2 ∙ e)

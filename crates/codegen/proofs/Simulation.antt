@@ -50,7 +50,7 @@ module _ (f : FunctionValue) (ops : List Operation) (out : OutputValue) (start :
         (items_code ops out (block_at f d.at.block).succs (listing_from out (block_at f d.at.block).range.first d.at.inst (suc left)))
     pub agree : Agree s.registers s.frame d.numbers
 
-  -- where the machine is at the start of a block with the interpreter's numbers, it is at the boundary of the block's first instruction
+  -- if the machine is at the start of a block with the interpreter's numbers, it is at the boundary of the block's first instruction
   pub at_start : IsEmitted f ops out start code → (b : ℕ) → b < length f.blocks → (h : History) (numbers : Place → ℕ) (s : MachineState) → s.pc ≡ start b →
       Agree s.registers s.frame numbers → At (record { at = first_of f b; history = h; numbers = numbers }) s
   at_start ok b lt h numbers s e a =
@@ -76,7 +76,7 @@ module _ (f : FunctionValue) (ops : List Operation) (out : OutputValue) (start :
       }
 
 module _ (f : FunctionValue) (ops : List Operation) (out : OutputValue) (start : ℕ → ℕ) (code : CodeValue) (args : ℕ → ℕ) (stir : Place → ℕ) where
-  -- what the machine does from there while the interpreter makes a step
+  -- the machine's steps from there while the interpreter makes a step
   abbrev pub Follows : State Place → MachineState → Option (State Place) → Type 0
   Follows d s None = (j : ℕ) × (machine_run code args j s ≡ Returned (slice_index (found_reads f out stir d) 0))
   Follows d s (Some e) = (t : MachineState) × Comes code args 1 s t × At f ops out start code e t
@@ -94,15 +94,15 @@ module _ (f : FunctionValue) (ops : List Operation) (out : OutputValue) (start :
   abbrev succs_of : State Place → List ℕ
   succs_of d = (block_at f d.at.block).succs
 
-  -- what is chosen for its step
+  -- the choice for its step
   abbrev pub choice_of : State Place → Choice
   choice_of d = chosen args (op_of d) (found_reads f out stir d)
 
-  -- what stands behind the instruction, where so many others are left
+  -- the code after the instruction, if that many others are left
   abbrev behind : State Place → ℕ → List Instruction
   behind d n = items_code ops out (succs_of d) (listing_from out (block_at f d.at.block).range.first (d.at.inst + 1) n)
 
-  -- the state after a step, by the way that it takes
+  -- the state after a step, by the edge or fall-through that it follows
   abbrev state_on : State Place → Way → State Place
   state_on d w = record {
     at = next_of f d.at w;
@@ -159,7 +159,7 @@ module _ (f : FunctionValue) (ops : List Operation) (out : OutputValue) (start :
         (writes_at args (op_of d) (places_of d) (after_moves d)) registers frame
         (λ r. ok.clobbers d.at.inst lt r ∙ end_clobbers (op_of d) (length (succs_of d)) end r) a)
 
-    -- where both interpreters read alike the divisor of a division is kept
+    -- if both interpreters read alike, the divisor of a division is kept
     kept : (c : State VirtualRegister) (d : State Place) → ReadAlike f out stir c d → (lt : d.at.inst < length f.insts) → IsPlain (op_of d) →
         IsKept args start code (succs_of d) (behind d 0) (op_of d) (inst_at f d.at.inst).clobbers (places_of d) (after_moves d)
     kept c d r lt plain =
@@ -184,7 +184,7 @@ module _ (f : FunctionValue) (ops : List Operation) (out : OutputValue) (start :
         (ListedInst d.at.inst ∷ listing_from out (block_at f d.at.block).range.first (d.at.inst + 1) at.left) s d.numbers
         (can_move_before code.slots (block_at f d.at.block).range.first d.at.inst out.edits ok.moves) at.agree at.stands
 
-    -- what stands behind the moves
+    -- the code after the moves
     stands_there : (d : State Place) (s : MachineState) (at : At f ops out start code d s) (n : ℕ) → at.left ≡ n →
         StandAt start code.instructions (through d s at).to.pc (operation_code (op_of d) (places_of d) (succs_of d) ++ behind d n)
     unfolding items_code
@@ -218,7 +218,7 @@ module _ (f : FunctionValue) (ops : List Operation) (out : OutputValue) (start :
         (edge_to (length (succs_of d)) (way_of (op_of d) (found_reads f out stir d))) None))))
         (sym (lt-ltb (d.at.inst + 1) (block_at f d.at.block).range.end more)) (done.to, comes, next)
 
-    -- what comes after a block's last operation
+    -- the steps after a block's last operation
     left_follows : (d : State Place) (s t : MachineState) → At f ops out start code d s → IsEnd (op_of d) (length (succs_of d)) → Comes code args 0 s t → (w : Option Way) →
         Left args start code (succs_of d) (behind d 0) t (found_reads f out stir d)
         (writes_at args (op_of d) (places_of d) (after_moves d)) w → Follows d s (option_map (state_on d) w)
@@ -254,7 +254,7 @@ module _ (f : FunctionValue) (ops : List Operation) (out : OutputValue) (start :
         (edge_to (length (succs_of d)) (way_of (op_of d) (found_reads f out stir d))) None)))
         (sym (eq-eqb (d.at.inst + 1) (block_at f d.at.block).range.end last)) follows)
 
-    -- a step of the interpreter is one step of the machine or more
+    -- a step of the interpreter is at least one step of the machine
     pub step_follows : (c : State VirtualRegister) (d : State Place) (s : MachineState) → At f ops out start code d s → ReadAlike f out stir c d →
         traps_of (op_of d) (found_reads f out stir d) ≡ false → Follows d s (place_next f out stir (choice_of d) d)
     step_follows c d s at r calm = pick at.left refl

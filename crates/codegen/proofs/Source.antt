@@ -1,4 +1,4 @@
--- A procedure's own run is that of the interpreter over virtual registers, with what operations mean.
+-- A procedure's own run is that of the interpreter over virtual registers, under the operations' interpretation.
 use Rattle.std.proofs.Common.{ℕ, zero, suc, ◌≡◌, ◌+◌, ◌<◌, ◌≤◌, Bool, true, false, cond, not, List, [], ◌∷◌, length, Option, Some, None, refl, sym, ap, ◌∙◌, subst}
 use Rattle.std.proofs.Common.{arith, nat_eq, lt-ltb, le-ltb, eq-eqb}
 use Rattle.std.specs.Prelude.{slice_get, slice_index, option_map}
@@ -30,7 +30,7 @@ use Rattle.codegen.proofs.Steps.{value_of, way_of, traps_of, chosen}
 abbrev pub seen : State VirtualRegister → ProcedureState
 seen c = record { at = c.at; numbers = c.numbers }
 
--- both go on alike, or the interpreter ends and the procedure returns the number that was read
+-- both continue alike, or the interpreter ends and the procedure returns the number that was read
 abbrev pub GoAlike : List ℕ → Option (State VirtualRegister) → RunOutcome ProcedureState → Type 0
 GoAlike read None (Running q) = ⊥
 GoAlike read None (Returned r) = r ≡ slice_index read 0
@@ -41,7 +41,7 @@ GoAlike read (Some c) (Returned r) = ⊥
 GoAlike read (Some c) Trapped = ⊥
 GoAlike read (Some c) Stuck = ⊥
 
--- what operands read of virtual registers, and what definitions write to them
+-- what operands read of vregs, and what definitions write to them
 abbrev reads_of : List OperandValue → (VirtualRegister → ℕ) → List ℕ
 reads_of os numbers = read_by is_reading (λ k o. numbers o.vreg) 0 os
 
@@ -50,7 +50,7 @@ module _ (f : FunctionValue) (args : ℕ → ℕ) where
   abbrev left_by : Operation → List OperandValue → (VirtualRegister → ℕ) → VirtualRegister → ℕ
   left_by o os numbers = numbers_defined (λ k. value_of args o (reads_of os numbers)) 0 os numbers
 
-  -- the next state of the interpreter, by the way that it takes
+  -- the next state of the interpreter, by the edge or fall-through that it follows
   abbrev state_on : State VirtualRegister → Operation → List OperandValue → Way → State VirtualRegister
   state_on c o os w = record {
     at = next_of f c.at w;
@@ -58,7 +58,7 @@ module _ (f : FunctionValue) (args : ℕ → ℕ) where
     numbers = passed_over f c.at w (left_by o os c.numbers);
   }
 
-  -- its step, by the operands
+  -- its step, by its operands
   abbrev step_by : State VirtualRegister → Operation → List OperandValue → Option (State VirtualRegister)
   step_by c o os = option_map (state_on c o os) (way_on f c.at (way_of o (reads_of os c.numbers)))
 

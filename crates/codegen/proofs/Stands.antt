@@ -1,4 +1,4 @@
--- Instructions that stand in the code at an address, with their jumps resolved.
+-- Instructions in the code at an address, with their jumps resolved.
 use Rattle.std.proofs.Common.{ℕ, zero, suc, ◌≡◌, ◌+◌, ◌<◌, List, [], ◌∷◌, ◌++◌, length, map, Some, sym, ap, ◌∙◌, subst, ⊎_elim, arith, append_assoc}
 use Rattle.std.proofs.Common.{length-append}
 use Rattle.std.specs.Prelude.{slice_get}
@@ -12,24 +12,24 @@ use Rattle.codegen_machine.specs.declared.ir.operation.Operation.{Operation}
 use Rattle.codegen.specs.Emitted.{resolved, block_code, blocks_code, block_start}
 
 module _ (starts : ℕ → ℕ) (code : List Instruction) where
-  -- these instructions stand at an address
+  -- these instructions are at an address
   abbrev pub StandAt : ℕ → List Instruction → Type 0
   StandAt pc [] = Unit {0}
   StandAt pc (i ∷ is) = (slice_get code pc ≡ Some (resolved starts i)) × StandAt (pc + 1) is
 
-  -- the first part stands there
+  -- the first part is there
   pub front_stands : (pc : ℕ) (a b : List Instruction) → StandAt pc (a ++ b) → StandAt pc a
   front_stands pc [] b h = tt
   front_stands pc (i ∷ a) b h = (h.0, front_stands (pc + 1) a b h.1)
 
-  -- and the rest behind it
+  -- and the rest follows it
   pub back_stands : (pc : ℕ) (a b : List Instruction) → StandAt pc (a ++ b) → StandAt (pc + length a) b
   back_stands pc [] b h = let e : pc ≡ pc + 0 = omega arith in subst (λ n. StandAt n b) e h
   back_stands pc (i ∷ a) b h =
       let e : pc + 1 + length a ≡ pc + length (i ∷ a) = omega arith in
       subst (λ n. StandAt n b) e (back_stands (pc + 1) a b h.1)
 
--- all that was written behind something stands there
+-- all that was written after a prefix is there
 all_stand : (starts : ℕ → ℕ) (is pre : List Instruction) → StandAt starts (pre ++ map (resolved starts) is) (length pre) is
 all_stand starts [] pre = tt
 all_stand starts (i ∷ is) pre =
@@ -58,7 +58,7 @@ module _ (f : FunctionValue) (operations : List Operation) (out : OutputValue) (
       e (subst (λ m. StandAt starts code m (block_code operations out f n)) z back))
       (cases_lt b n)
 
-  -- the code of each block stands where the block begins
+  -- the code of each block is at the block's first instruction
   pub block_stands : (n : ℕ) → code ≡ map (resolved starts) (blocks_code operations out f n) → (b : ℕ) → b < n →
       StandAt starts code (block_start operations out f b) (block_code operations out f b)
   block_stands n e b lt =

@@ -1,4 +1,4 @@
--- One operation: what is emitted for it does to the machine what the operation does to places.
+-- One operation: its emitted code does to the machine what the operation does to places.
 use Rattle.std.proofs.Common.{ℕ, ◌≡◌, ◌+◌, ◌<◌, Bool, true, false, cond, not, List, [], ◌∷◌, ◌++◌, length, Option, Some, None, refl, sym, ap, ◌∙◌, subst}
 use Rattle.std.proofs.Common.{arith, nat_eq, lt-ltb, eqb-true}
 use Rattle.std.specs.Prelude.{slice_get, slice_index}
@@ -36,12 +36,12 @@ use Rattle.codegen.proofs.Runs.{Comes, comes_by, comes_on, ends_by, ends_then}
 use Rattle.codegen.proofs.Stands.{StandAt}
 use Rattle.codegen.proofs.Places.{Agree, wrote, reads_register, reads_source, writes_place, agree_register, fetches}
 
--- a second number: the one that was read last, unless it is given
+-- a second number: the number that was read last, or a constant
 abbrev pub right_read : Right → ℕ → ℕ
 right_read (VReg v) n = n
 right_read (Given n) m = n
 
--- and a count of places
+-- and a shift count
 abbrev pub count_read : Count → ℕ → ℕ
 count_read (CountIn v) n = n
 count_read (CountOf n) m = n
@@ -58,14 +58,14 @@ value_of args (Comparison c to left right) xs = truth (condition_holds c (slice_
 value_of args (Select to c one other) xs = cond (nat_eq (slice_index xs 2) 0) (slice_index xs 1) (slice_index xs 0)
 value_of args o xs = 0
 
--- the position of the successor that it takes
+-- the position of the successor that it follows
 abbrev pub way_of : Operation → List ℕ → Option ℕ
 way_of GoTo xs = Some 0
 way_of (BranchIf v) xs = Some (cond (nat_eq (slice_index xs 0) 0) 1 0)
 way_of (BranchIfHolds c left right) xs = Some (cond (condition_holds c (slice_index xs 0) (right_read right (slice_index xs 1))) 0 1)
 way_of o xs = None
 
--- the other part of a division
+-- the other result of a division
 abbrev pub other_part : DivisionPart → DivisionPart
 other_part Quotient = Remainder
 other_part Remainder = Quotient
@@ -80,11 +80,11 @@ abbrev pub traps_of : Operation → List ℕ → Bool
 traps_of (Dividing part signed to left right) xs = division_traps signed (slice_index xs 0) (slice_index xs 1)
 traps_of o xs = false
 
--- what an operation does, by what it reads
+-- the effect of an operation, by what it reads
 abbrev pub chosen : (ℕ → ℕ) → Operation → List ℕ → Choice
 chosen args o xs = record { writes = λ k. value_of args o xs; takes = way_of o xs; leaves = leaves_of o xs }
 
--- no definition is early, so none disturbs what the uses read
+-- no definition is early, so none overwrites what the uses read
 pub undisturbed : (o : Operation) (noise : Place → ℕ) (ps : List Place) (numbers : Place → ℕ) → disturbed noise ps 0 (operands_of o) numbers ≡ numbers
 unfolding disturbed
 undisturbed (TakeArgument to k) noise ps numbers = refl
@@ -112,7 +112,7 @@ reads_at o ps numbers = read_by is_reading (λ k u. numbers (place_at ps k)) 0 (
 abbrev pub writes_at : (ℕ → ℕ) → Operation → List Place → (Place → ℕ) → Place → ℕ
 writes_at args o ps numbers = written_to (λ k. value_of args o (reads_at o ps numbers)) ps 0 (operands_of o) numbers
 
--- an operation that goes on to the next line and clobbers nothing
+-- an operation that continues at the next line and clobbers nothing
 abbrev pub IsSimple : Operation → Type 0
 IsSimple (Dividing part signed to left right) = ⊥
 IsSimple o = IsPlain o
@@ -126,7 +126,7 @@ abbrev pub jump_state : MachineState → ℕ → MachineState
 jump_state s target = record { pc = target; registers = s.registers; frame = s.frame; compared = s.compared }
 
 module _ (args : ℕ → ℕ) (starts : ℕ → ℕ) (code : CodeValue) (succs : List ℕ) (rest : List Instruction) where
-  -- the machine has done an operation, and comes to what stands behind
+  -- the machine has executed an operation, up to the code after it
   pub record Done (s : MachineState) (numbers : Place → ℕ) : Type 0 where
     pub to : MachineState
     pub comes : Comes code args 1 s to
@@ -196,7 +196,7 @@ module _ (args : ℕ → ℕ) (starts : ℕ → ℕ) (code : CodeValue) (succs :
   tests s numbers q hq a h =
       comes_by code args (Test (source_of q)) s (compared_state s (numbers q) 0) h (reads_source code.slots s numbers a q hq (λ x. compared_to s x 0))
 
-  -- what is done after an instruction
+  -- the steps after an instruction
   done_later : (s t : MachineState) (numbers : Place → ℕ) → Comes code args 1 s t → Done t numbers → Done s numbers
   done_later s t numbers c done = record {
     to = done.to;
@@ -259,7 +259,7 @@ module _ (args : ℕ → ℕ) (starts : ℕ → ℕ) (code : CodeValue) (succs :
       general (InRegister r) h = h.1
       general (InSlot n) h = absurd h
 
-  -- an operation that goes on to the next line and clobbers nothing
+  -- an operation that continues at the next line and clobbers nothing
   pub plain_done : (o : Operation) (s : MachineState) (ps : List Place) (numbers : Place → ℕ) → IsSimple o → IsPlaced code.slots o ps →
       Agree s.registers s.frame numbers →
       StandAt starts code.instructions s.pc (operation_code o ps succs ++ rest) → Done s (writes_at args o ps numbers)
@@ -286,7 +286,7 @@ module _ (args : ℕ → ℕ) (starts : ℕ → ℕ) (code : CodeValue) (succs :
   plain_done (Select to c one other) s ps numbers plain placed a h = select_done s numbers ps placed.0 placed.1 placed.2 placed.3 a h
   plain_done o s ps numbers plain placed a h = absurd plain
 
-  -- the machine has come to the start of a block
+  -- the machine is at the start of a block
   pub record Entered (s : MachineState) (k : ℕ) (numbers : Place → ℕ) : Type 0 where
     pub to : MachineState
     pub comes : Comes code args 1 s to
@@ -294,7 +294,7 @@ module _ (args : ℕ → ℕ) (starts : ℕ → ℕ) (code : CodeValue) (succs :
     pub at : to.pc ≡ starts (slice_index succs k)
     pub there : k < length succs
 
-  -- what comes after a block's last line: the block that it goes to, or the end, with a number
+  -- the steps after a block's last line: at the block that it jumps to, or the return of a number
   abbrev pub Left : MachineState → List ℕ → (Place → ℕ) → Option Way → Type 0
   Left s read numbers None = (j : ℕ) × (machine_run code args j s ≡ Returned (slice_index read 0))
   Left s read numbers (Some Onward) = ⊥
@@ -339,7 +339,7 @@ module _ (args : ℕ → ℕ) (starts : ℕ → ℕ) (code : CodeValue) (succs :
       later (compared_state s x y) u 1 numbers (comes_by code args (JumpIf c (starts (slice_index succs 0))) (compared_state s x y) u h.0 acts)
       (enters (Jump (starts (slice_index succs 1))) u 1 numbers lt a h.1.0 refl)
 
-  -- from where they are compared
+  -- from the comparison on
   forks : (c : Condition) (s : MachineState) (x y : ℕ) (read : List ℕ) (numbers : Place → ℕ) → 1 < length succs → Agree s.registers s.frame numbers →
       Comes code args 1 s (compared_state s x y) → StandAt starts code.instructions (s.pc + 1) (branch_code c succs ++ rest) →
       Left s read numbers (edge_to (length succs) (Some (cond (condition_holds c x y) 0 1)))
@@ -347,7 +347,7 @@ module _ (args : ℕ → ℕ) (starts : ℕ → ℕ) (code : CodeValue) (succs :
       over_edge s read (cond (condition_holds c x y) 0 1) numbers
       (later s (compared_state s x y) (cond (condition_holds c x y) 0 1) numbers first (branches c s x y numbers lt a h (condition_holds c x y) refl))
 
-  -- the other way round
+  -- with the successors swapped
   turned : (b : Bool) → ◌≡◌ {A = ℕ} (cond (not b) 0 1) (cond b 1 0)
   turned true = refl
   turned false = refl

@@ -1,5 +1,5 @@
--- What is emitted: for each item of a block's listing one to three instructions, block after block. Jumps name blocks at first, and then the
--- instructions at which these begin.
+-- The emitted code: one to three instructions for each item of a block's listing, block after block. Jumps name blocks at first, and then the blocks' first
+-- instructions.
 use Rattle.std.specs.Prelude.{ℕ, Bool, true, false, zero, suc, nat_lt, nat_eq, if◌then◌else◌, List, [], ◌∷◌, ◌++◌, map, length, slice_index, slice_index_or}
 use Rattle.regalloc2_names.specs.Place.{Place, NoPlace, InRegister, InSlot}
 use Rattle.regalloc2_function.specs.FunctionValue.{FunctionValue, block_at}
@@ -25,7 +25,7 @@ use Rattle.codegen_machine.specs.declared.Instruction.TheVariants.{Shift, ShiftB
 use Rattle.codegen_machine.specs.declared.Instruction.TheVariants.{JumpIf, Return}
 use Rattle.codegen_machine.specs.Machine.{CodeValue}
 
--- what stands where no register can be named
+-- the register number used where no register can be named
 abbrev pub no_register : ℕ
 no_register = 16
 
@@ -41,41 +41,41 @@ source_of NoPlace = Register no_register
 source_of (InRegister r) = Register r.number
 source_of (InSlot n) = Slot n
 
--- a second number, whose operand has a place unless it is given
+-- a second number: its operand's place, unless it is a constant
 abbrev pub right_source : Right → Place → Source
 right_source (VReg v) p = source_of p
 right_source (Given n) p = Number n
 
--- a register takes what stands in a place
+-- copies the number in a place into a register
 abbrev pub fetched : ℕ → Place → Instruction
 fetched to NoPlace = Move to no_register
 fetched to (InRegister r) = Move to r.number
 fetched to (InSlot n) = Load to n
 
--- a move from a place, to a place
+-- a move from a place to a place
 abbrev pub move_code : Place → Place → Instruction
 move_code from NoPlace = Move no_register no_register
 move_code from (InRegister r) = fetched r.number from
 move_code from (InSlot n) = Store n (register_of from)
 
--- a number, of which 0 is made by less
+-- loads a constant; 0 has a shorter instruction
 abbrev pub constant_code : ℕ → ℕ → Instruction
 constant_code to n = if nat_eq n 0 then Clear to else Constant to n
 
--- a branch to the first successor where the numbers last compared meet a condition, and else to the second
+-- a branch to the first successor if the numbers last compared meet a condition, else to the second
 abbrev pub branch_code : Condition → List ℕ → List Instruction
 branch_code c succs = JumpIf c (slice_index succs 0) ∷ Jump (slice_index succs 1) ∷ []
 
--- where a place's number isn't 0
+-- a branch to the first successor if a place's number isn't 0, else to the second
 abbrev pub branch_if_code : Place → List ℕ → List Instruction
 branch_if_code p succs = Test (source_of p) ∷ branch_code NotEqual succs
 
--- a shift, by register 1 or by a number
+-- a shift, by the count in register 1 or by a constant
 abbrev pub shift_code : ShiftOperator → Count → ℕ → Instruction
 shift_code o (CountIn v) r = Shift o r
 shift_code o (CountOf n) r = ShiftBy o r n
 
--- Register 2 takes what register 0 has above its highest bit; then both are divided by a place's number.
+-- Extends register 0 into register 2; then divides by a place's number.
 abbrev pub extension_code : Bool → Instruction
 extension_code true = ExtendSign
 extension_code false = Clear 2
@@ -83,20 +83,20 @@ extension_code false = Clear 2
 abbrev pub divide_code : Bool → Place → List Instruction
 divide_code signed p = extension_code signed ∷ Divide signed (source_of p) ∷ []
 
--- a comparison, whose answer a register takes
+-- a comparison, whose result is written to a register
 abbrev pub compare_code : Condition → Right → List Place → List Instruction
 compare_code c right places =
     Compare (register_of (place_at places 1)) (right_source right (place_at places 2)) ∷ Set (register_of (place_at places 0)) c ∷ []
 
--- one of two numbers: the register has the first, and takes the second where the condition's number is 0
+-- a selection: the register holds the first number, and receives the second if the deciding number is 0
 abbrev pub select_code : List Place → List Instruction
 select_code places = Test (source_of (place_at places 3)) ∷ MoveIf Equal (register_of (place_at places 0)) (source_of (place_at places 2)) ∷ []
 
--- the end, with a place's number in register 0
+-- the return of a place's number, in register 0
 abbrev pub return_code : Place → List Instruction
 return_code p = fetched 0 p ∷ Return ∷ []
 
--- an operation, in the places of its operands; jumps name blocks
+-- the instructions of an operation, with its operands' places; jumps name blocks
 abbrev pub operation_code : Operation → List Place → List ℕ → List Instruction
 operation_code (TakeArgument to k) places succs = Argument (register_of (place_at places 0)) k ∷ []
 operation_code (TakeConstant to n) places succs = constant_code (register_of (place_at places 0)) n ∷ []
@@ -112,13 +112,13 @@ operation_code (BranchIfHolds c left right) places succs =
     Compare (register_of (place_at places 0)) (right_source right (place_at places 1)) ∷ branch_code c succs
 operation_code (GiveBack v) places succs = return_code (place_at places 0)
 
--- jumps to where blocks begin
+-- jumps resolved to the blocks' first instructions
 abbrev pub resolved : (ℕ → ℕ) → Instruction → Instruction
 resolved start (Jump b) = Jump (start b)
 resolved start (JumpIf c b) = JumpIf c (start b)
 resolved start i = i
 
--- the operation of that number; past the last one there is a jump
+-- the operation with that number; past the last one, a jump
 abbrev pub operation_at : List Operation → ℕ → Operation
 operation_at operations i = slice_index_or operations i GoTo
 
@@ -135,20 +135,20 @@ module _ (operations : List Operation) (out : OutputValue) where
   abbrev pub block_code : FunctionValue → ℕ → List Instruction
   block_code f b = items_code (block_at f b).succs (block_listing f out b)
 
-  -- so many blocks, from the first on
+  -- that many blocks, from the first on
   unfoldable pub blocks_code : FunctionValue → ℕ → List Instruction
   blocks_code f zero = []
   blocks_code f (suc n) = blocks_code f n ++ block_code f n
 
-  -- where a block begins
+  -- the first instruction of a block
   abbrev pub block_start : FunctionValue → ℕ → ℕ
   block_start f b = length (blocks_code f b)
 
-  -- where a jump to a block goes
+  -- the target of a jump to a block
   abbrev pub block_label : FunctionValue → ℕ → ℕ
   block_label f b = if nat_lt b (length f.blocks) then block_start f b else 0
 
--- the code of an allocated function: its blocks, with jumps to where they begin, and a frame of its slots
+-- the code of an allocated function: its blocks, with jumps resolved, and a frame of its slots
 abbrev pub emitted : List Operation → FunctionValue → OutputValue → CodeValue
 emitted operations f out = record {
   instructions = map (resolved (block_label operations out f)) (blocks_code operations out f (length f.blocks));

@@ -1,4 +1,4 @@
--- Why a function isn't compiled.
+-- Why a function is rejected.
 use Rattle.std.specs.Prelude.{ℕ, codes, List, Option, None, Some}
 use Rattle.regalloc2_function.specs.FunctionValue.{FunctionValue}
 use Rattle.regalloc2_function.specs.Machine.{MachineValue}
@@ -7,12 +7,12 @@ use Rattle.codegen.specs.Target.{IsTarget}
 use Rattle.codegen.specs.declared.compiler.CompileError.{CompileError}
 use Rattle.codegen.specs.declared.compiler.CompileError.TheVariants.{Refused, Memory}
 
--- the allocator's reason, for the machine's registers; or memory ran out
+-- the allocator's error, for the machine's registers; or memory ran out
 abbrev pub IsCompileReason : FunctionValue → CompileError → Type 0
 IsCompileReason f (Refused e) = (env : MachineValue) × IsTarget env × IsTestedRunReason f env e
 IsCompileReason f Memory = Unit {0}
 
--- what is said of it; of the allocator's words no clause speaks
+-- the text of the reason; no clause specifies the text of the allocator's errors
 abbrev pub compile_error_text : CompileError → Option (List ℕ)
 compile_error_text (Refused e) = None
 compile_error_text Memory = Some (codes "out of memory")

@@ -1,4 +1,4 @@
--- The machine's registers, as the allocator is told of them.
+-- The machine's registers, as the allocator's `MachineEnv`.
 use Rattle.std.specs.Prelude.{ℕ, ◌≡◌, true, [], None}
 use Rattle.regalloc2_names.specs.Register.{Register}
 use Rattle.regalloc2_names.specs.declared.RegClass.{RegClass}
@@ -6,7 +6,7 @@ use Rattle.regalloc2_names.specs.declared.RegClass.TheVariants.{Int}
 use Rattle.regalloc2_function.specs.Machine.{MachineValue, is_allocatable, scratch_of}
 use Rattle.codegen_machine.specs.Machine.{is_general}
 
--- a machine whose registers are all those for numbers, and no others, without a dedicated scratch register or fixed stack slots
+-- a machine whose registers are exactly those that hold numbers, without a dedicated scratch register or fixed stack slots
 pub record IsTarget (env : MachineValue) : Type 0 where
   pub all : (n : ℕ) → is_general n ≡ true → is_allocatable env Int (record { number = n; class = Int }) ≡ true
   pub allocatable : (class : RegClass) (r : Register) → is_allocatable env class r ≡ true → (r.class ≡ Int) × (is_general r.number ≡ true)

@@ -19,7 +19,7 @@ use std::fmt;
 /// Why a function isn't compiled.
 #[derive(Debug, Drop)]
 pub enum CompileError {
-    /// The allocator refused it.
+    /// The allocator rejected it.
     Refused(TestedRunError),
     /// Memory ran out while code was emitted.
     Memory,
@@ -38,9 +38,11 @@ impl fmt::Display for CompileError {
 
 impl Error for CompileError {}
 
-/// Compiles a function: tests it, allocates registers, and emits code that does what the function does, whatever the arguments.
+/// Compiles a function: tests it, allocates registers, and emits code that behaves as the function
+/// for all arguments.
 ///
-/// An error is the allocator's, or that memory ran out. Not promised: that `Memory` comes only where it did.
+/// An error is the allocator's, or `Memory`. Not guaranteed: that `Memory` is returned only after a
+/// failed allocation.
 pub fn compile(alloc: Global, f: &Procedure) -> Result<Code, CompileError>
     ensures behaves { IfOk result (λ code. BehavesAs f.now (code_of code)) }
     ensures refused { IfErr result (IsCompileReason (function_of_procedure f.now)) }

@@ -38,7 +38,7 @@ fn source(place: Allocation) -> Source
     }
 }
 
-/// A second number, whose operand has a place unless it is given.
+/// A second number: its operand's place, unless it is a constant.
 fn right_source(right: Right, place: Allocation) -> Source
     ensures { result ≡ right_source right place }
 {
@@ -48,7 +48,7 @@ fn right_source(right: Right, place: Allocation) -> Source
     }
 }
 
-/// A register takes what stands in a place.
+/// Copies the number in a place into a register.
 fn fetch(to: usize, from: Allocation) -> Instruction
     ensures { result ≡ fetched to from }
 {
@@ -80,7 +80,7 @@ fn move_between(from: Allocation, to: Allocation) -> Instruction
     }
 }
 
-/// A number, of which 0 is made by less.
+/// Loads a constant; 0 has a shorter instruction.
 fn constant(to: usize, value: u64) -> Instruction
     ensures { result ≡ constant_code to value }
 {
@@ -119,7 +119,7 @@ fn jump(succs: &[Block], position: usize) -> Instruction
     Instruction::Jump { target }
 }
 
-/// One more instruction.
+/// Appends an instruction.
 fn put(code: &mut Vec<Instruction>, instruction: Instruction) -> Result<(), AllocError>
     ensures { OnOk result (code.new.items ≡ code.old.items ++ instruction ∷ []) }
 {
@@ -127,7 +127,7 @@ fn put(code: &mut Vec<Instruction>, instruction: Instruction) -> Result<(), Allo
     Ok(())
 }
 
-/// A shift, by register 1, in which its count is, or by a number.
+/// A shift, by the count in register 1, or by a constant.
 fn shift(operator: ShiftOperator, count: Count, to: usize) -> Instruction
     ensures { result ≡ shift_code operator count to }
 {
@@ -141,7 +141,7 @@ fn shift(operator: ShiftOperator, count: Count, to: usize) -> Instruction
     }
 }
 
-/// What register 0 has above its highest bit, for register 2.
+/// Extends register 0 into register 2.
 fn extension(is_signed: bool) -> Instruction
     ensures { result ≡ extension_code is_signed }
 {
@@ -152,7 +152,7 @@ fn extension(is_signed: bool) -> Instruction
     }
 }
 
-/// A division by a place's number, of register 0 and what is above its highest bit.
+/// Extends register 0, and divides it by a place's number.
 fn emit_divide(
     code: &mut Vec<Instruction>,
     is_signed: bool,
@@ -165,7 +165,7 @@ fn emit_divide(
     put(code, Instruction::Divide { is_signed, from })
 }
 
-/// A comparison, and the register that takes whether its condition holds.
+/// A comparison, and the register that is set to its result.
 fn emit_compare(
     code: &mut Vec<Instruction>,
     condition: Condition,
@@ -180,7 +180,8 @@ fn emit_compare(
     put(code, Instruction::Set { to, condition })
 }
 
-/// A selection: the register has the first number, and takes the second one where the condition's number is 0.
+/// A selection: the register holds the first number, and receives the second if the deciding number
+/// is 0.
 fn emit_select(code: &mut Vec<Instruction>, places: &[Allocation]) -> Result<(), AllocError>
     ensures { OnOk result (code.new.items ≡ code.old.items ++ select_code places.now) }
 {
@@ -198,7 +199,8 @@ fn emit_select(code: &mut Vec<Instruction>, places: &[Allocation]) -> Result<(),
     )
 }
 
-/// A branch: to the first successor if the numbers last compared meet a condition, and else to the second.
+/// A branch: to the first successor if the numbers last compared meet a condition, else to the
+/// second.
 fn emit_branch(
     code: &mut Vec<Instruction>,
     condition: Condition,
@@ -211,7 +213,7 @@ fn emit_branch(
     put(code, jump(succs, 1))
 }
 
-/// A branch: to the first successor if a place's number isn't 0, and else to the second.
+/// A branch: to the first successor if a place's number isn't 0, else to the second.
 fn emit_branch_if(
     code: &mut Vec<Instruction>,
     place: Allocation,
@@ -224,7 +226,7 @@ fn emit_branch_if(
     emit_branch(code, Condition::NotEqual, succs)
 }
 
-/// The end, with a place's number in register 0.
+/// The return of a place's number, in register 0.
 fn emit_return(code: &mut Vec<Instruction>, place: Allocation) -> Result<(), AllocError>
     ensures { OnOk result (code.new.items ≡ code.old.items ++ return_code place) }
 {
@@ -232,7 +234,7 @@ fn emit_return(code: &mut Vec<Instruction>, place: Allocation) -> Result<(), All
     put(code, Instruction::Return)
 }
 
-/// What an operation is, in the places of its operands. Jumps name blocks.
+/// The instructions of an operation, with its operands' places. Jumps name blocks.
 fn emit_operation(
     code: &mut Vec<Instruction>,
     operation: Operation,
@@ -332,7 +334,7 @@ fn emit_block(
     Ok(())
 }
 
-/// An instruction that jumps to where its block begins.
+/// An instruction whose jump is resolved to the first instruction of its block.
 fn resolve(instruction: Instruction, starts: &[usize]) -> Instruction
     ensures { result ≡ resolved (λ b. slice_index starts.now b) instruction }
 {
@@ -349,7 +351,7 @@ fn resolve(instruction: Instruction, starts: &[usize]) -> Instruction
     }
 }
 
-/// Instructions that jump to where their blocks begin.
+/// Instructions whose jumps are resolved to the first instructions of their blocks.
 fn resolve_all(
     alloc: Global,
     code: &[Instruction],
@@ -364,7 +366,8 @@ fn resolve_all(
 
 /// The code of an allocated function.
 ///
-/// Blocks are emitted in order, with jumps that name blocks, and where each begins is noted; then jumps name instructions.
+/// Blocks are emitted in order, with jumps that name blocks, and the first instruction of each is
+/// recorded; then jumps are resolved to instructions.
 pub fn emit(alloc: Global, f: &Procedure, out: &Output) -> Result<Code, AllocError>
     requires in_order { IsInOrder (function_of_procedure f.now) (output_of out.now) }
     requires follow { BlocksFollow (function_of_procedure f.now) }

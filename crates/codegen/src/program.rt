@@ -1,4 +1,4 @@
-//! What the program `compile` does: a function that stands in a text becomes assembly for x86-64, or is run.
+//! The program `compile`: writes a function, given as a text, as x86-64 assembly, or runs it.
 
 mod agree;
 mod numbers;

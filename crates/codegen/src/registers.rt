@@ -1,4 +1,4 @@
-//! The machine's registers, as the allocator is told of them.
+//! The machine's registers, as the allocator's `MachineEnv`.
 
 ghost use Rattle.std.specs.Prelude.{◌≡◌, true, IsTrue, All};
 ghost use Rattle.std.specs.List.{list_all};
@@ -11,10 +11,10 @@ ghost use Rattle.codegen.specs.Target.{IsTarget};
 use regalloc2::{MachineEnv, PReg, PRegSet, RegClass};
 use std::alloc::Global;
 
-/// The registers that a function may overwrite by the system's calling convention.
+/// The caller-saved registers of the System V calling convention.
 const CALLER_SAVED: [usize; 8] = [0, 1, 2, 6, 8, 9, 10, 11];
 
-/// Those that it has to restore.
+/// The callee-saved registers.
 const CALLEE_SAVED: [usize; 6] = [3, 5, 12, 13, 14, 15];
 
 /// The set of the integer registers with these numbers.
@@ -30,7 +30,7 @@ fn registers(numbers: &[usize]) -> PRegSet
     set
 }
 
-/// The registers for numbers: those that a function need not restore are taken first. No register is set aside for moves.
+/// The registers that hold numbers, caller-saved ones preferred. None is reserved as scratch.
 pub fn target(alloc: Global) -> MachineEnv
     ensures { IsTarget (machine_of result) }
 {

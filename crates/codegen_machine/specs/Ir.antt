@@ -1,4 +1,4 @@
--- Procedures over 64-bit integers: what they compute, and which function each is to the allocator.
+-- Procedures over 64-bit integers: what they compute, and the allocator's view of each, its function.
 -- Read first: `Meaning`, the interpreter of a procedure; then `Seen` (`function_of_procedure`), the function of a procedure.
 -- Depends on operands of regalloc2_names, functions of regalloc2_function, and the interpreter's `Meaning` over vregs.
 pub mod Numbers

@@ -1,6 +1,5 @@
--- What the machine does: an interpreter that makes a step for each instruction. It is stuck where there is no instruction, no such register
--- for numbers or slot, where numbers are needed that were compared, and none were since the last instruction that forgets them, and where register 2
--- isn't what a division wants.
+-- The machine's semantics: an interpreter that makes a step for each instruction. It is stuck if there is no instruction, no such register or slot, if a
+-- condition is tested and no numbers have been compared since the flags were last clobbered, and if register 2 doesn't extend a division's dividend.
 use Rattle.std.specs.Prelude.{ℕ, zero, suc, ◌+◌, Bool, true, ◌&&◌, not, nat_eq, nat_lt, if◌then◌else◌, List, slice_get, Option, None, Some}
 use Rattle.codegen_machine.specs.Ir.Numbers.{RunOutcome, Running, Returned, Trapped, Stuck, further, computed, shifted, divided, division_traps, extended}
 use Rattle.codegen_machine.specs.Ir.Numbers.{condition_holds, truth, put}
@@ -12,18 +11,18 @@ use Rattle.codegen_machine.specs.declared.Instruction.TheVariants.{Constant, Cle
 use Rattle.codegen_machine.specs.declared.Instruction.TheVariants.{Shift, ShiftBy, ExtendSign, Divide, Compare, Set, MoveIf, Test, Jump, JumpIf, Return}
 use Rattle.codegen_machine.specs.declared.Code.{Code}
 
--- where the machine is, the numbers of its registers and slots, and those last compared, unless they are forgotten
+-- the current instruction, the numbers in registers and slots, and the numbers last compared, unless an instruction has clobbered them
 pub record MachineState : Type 0 where
   pub pc : ℕ
   pub registers : ℕ → ℕ
   pub frame : ℕ → ℕ
   pub compared : Option (ℕ × ℕ)
 
--- the registers for numbers: all sixteen but those by which the frame and the arguments are reached
+-- the registers that hold numbers: all sixteen but those that address the frame and the arguments
 abbrev pub is_general : ℕ → Bool
 is_general r = nat_lt r 16 && not (nat_eq r 4) && not (nat_eq r 7)
 
--- goes on with the number of a register, of a slot of a frame of so many, or from wherever it is read; or with the numbers last compared
+-- continues with the number in a register, in a slot of a frame with that many slots, or of any source; or with the numbers last compared
 abbrev pub with_register : MachineState → ℕ → (ℕ → RunOutcome MachineState) → RunOutcome MachineState
 with_register s r go = if is_general r then go (s.registers r) else Stuck
 
@@ -39,7 +38,7 @@ abbrev pub with_compared : Option (ℕ × ℕ) → (ℕ → ℕ → RunOutcome M
 with_compared None go = Stuck
 with_compared (Some p) go = go p.0 p.1
 
--- the next instruction, where a register has been written, or a slot, or numbers have been compared
+-- continues at the next instruction, with a register written, or a slot, or with numbers compared
 abbrev pub written : MachineState → ℕ → ℕ → Option (ℕ × ℕ) → RunOutcome MachineState
 written s r n compared =
     if is_general r then Running (record { pc = s.pc + 1; registers = put s.registers r n; frame = s.frame; compared = compared }) else Stuck
@@ -51,7 +50,7 @@ frame_stored slots s k n =
 abbrev pub compared_to : MachineState → ℕ → ℕ → RunOutcome MachineState
 compared_to s a b = Running (record { pc = s.pc + 1; registers = s.registers; frame = s.frame; compared = Some (a, b) })
 
--- Both parts of a division of the number of register 0, where register 2 has what is above its highest bit. It traps as the processor does.
+-- Both results of a division of the number in register 0, which register 2 extends. It traps as the processor does.
 abbrev pub parted : MachineState → Bool → ℕ → MachineState
 parted s signed b = record {
   pc = s.pc + 1;
@@ -65,11 +64,11 @@ divides s signed b =
     if nat_eq (s.registers 2) (extended signed (s.registers 0)) then if division_traps signed (s.registers 0) b then Trapped else Running (parted s signed b)
     else Stuck
 
--- an instruction that is jumped to
+-- a jump to an instruction
 abbrev pub jumped : MachineState → ℕ → RunOutcome MachineState
 jumped s target = Running (record { pc = target; registers = s.registers; frame = s.frame; compared = s.compared })
 
--- what an instruction does; the arguments are given by their numbers, and the frame has so many slots
+-- the effect of an instruction; the arguments are given by their numbers, and the frame has that many slots
 abbrev pub executed : (ℕ → ℕ) → ℕ → Option Instruction → MachineState → RunOutcome MachineState
 executed args slots None s = Stuck
 executed args slots (Some (Constant to n)) s = written s to n s.compared
@@ -92,7 +91,7 @@ executed args slots (Some (Jump target)) s = jumped s target
 executed args slots (Some (JumpIf c target)) s = with_compared s.compared (λ a b. jumped s (if condition_holds c a b then target else s.pc + 1))
 executed args slots (Some Return) s = Returned (s.registers 0)
 
--- code as it is seen: its instructions, and how many slots its frame has
+-- the contents of code: its instructions, and the number of its frame's slots
 pub record CodeValue : Type 0 where
   pub instructions : List Instruction
   pub slots : ℕ
@@ -100,11 +99,11 @@ pub record CodeValue : Type 0 where
 abbrev pub code_of : Code → CodeValue
 code_of c = record { instructions = c.instructions.items; slots = c.slots }
 
--- one step: that of the instruction at which the machine is
+-- one step: that of the current instruction
 abbrev pub machine_step : CodeValue → (ℕ → ℕ) → MachineState → RunOutcome MachineState
 machine_step code args s = executed args code.slots (slice_get code.instructions s.pc) s
 
--- so many steps
+-- that many steps
 unfoldable pub machine_run : CodeValue → (ℕ → ℕ) → ℕ → MachineState → RunOutcome MachineState
 machine_run code args zero s = Running s
 machine_run code args (suc n) s = further (machine_step code args s) (machine_run code args n)

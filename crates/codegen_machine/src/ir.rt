@@ -1,6 +1,8 @@
-//! A small intermediate representation: functions over whole numbers of 64 bits, in blocks with parameters, as a code generator takes them.
+//! A small intermediate representation: functions over 64-bit integers, in blocks with parameters,
+//! as input to a code generator.
 //!
-//! `specs/Numbers.antt` has what operators and conditions are, `specs/Meaning.antt` what a function does, step by step.
+//! `specs/Ir/Numbers.antt` defines operators and conditions, `specs/Ir/Meaning.antt` interprets a
+//! function, step by step.
 
 mod operation;
 mod procedure;

@@ -1,7 +1,9 @@
-//! A machine with sixteen registers and a frame of slots, whose instructions have two addresses: what a code generator emits.
+//! A machine with sixteen registers and a frame of slots, and two-address instructions: the target
+//! of a code generator.
 //!
-//! Registers are numbered as those of x86-64. Two of them aren't for numbers: 4 (`rsp`), by which the frame is reached, and 7 (`rdi`), by
-//! which the arguments are. `specs/Machine.antt` has what each instruction does, step by step.
+//! Registers are numbered as in x86-64. Two of them hold no numbers: 4 (`rsp`) addresses the frame,
+//! and 7 (`rdi`) addresses the arguments. `specs/Machine.antt` defines each instruction, step by
+//! step.
 #![tactic(auto)]
 
 use crate::ir::{Condition, Operator, ShiftOperator};
@@ -10,22 +12,24 @@ pub mod ir;
 pub mod run;
 pub mod text;
 
-/// What stands in the place of a register where none can be named. The machine has no such register, and stops at it.
+/// The register number used where no register can be named. The machine has no such register, and
+/// is stuck at it.
 pub const NO_REGISTER: usize = 16;
 
-/// Where a number is read: a register or a slot of the frame, by its number, or the instruction itself.
+/// The source of a number: a register or a slot of the frame, by its number, or an immediate.
 #[derive(Clone, Copy, Debug, PartialEq, Eq)]
 pub enum Source {
     /// A register.
     Register(usize),
     /// A slot.
     Slot(usize),
-    /// The instruction, which has the number. The processor takes it where an instruction computes with a register or compares one to
-    /// it, and below 2^31.
+    /// An immediate. The processor accepts it where an instruction computes with a register or
+    /// compares it, and below 2^31.
     Number(u32),
 }
 
-/// An instruction. Registers and slots are named by their numbers; a target is the number of an instruction.
+/// An instruction. Registers and slots are given by number; a target is the number of an
+/// instruction.
 #[derive(Clone, Copy, Debug, PartialEq, Eq)]
 pub enum Instruction {
     /// Puts a number into a register.
@@ -35,7 +39,7 @@ pub enum Instruction {
         /// The number.
         value: u64,
     },
-    /// Puts 0 into a register, and forgets the numbers last compared.
+    /// Puts 0 into a register, and clobbers the flags (the numbers last compared).
     Clear {
         /// The register.
         to: usize,
@@ -44,14 +48,14 @@ pub enum Instruction {
     Argument {
         /// The register.
         to: usize,
-        /// Which argument.
+        /// The argument's number.
         index: u32,
     },
     /// Copies a register.
     Move {
-        /// The register that is written.
+        /// The destination register.
         to: usize,
-        /// The register that is read.
+        /// The source register.
         from: usize,
     },
     /// Copies a slot into a register.
@@ -68,37 +72,38 @@ pub enum Instruction {
         /// The register.
         from: usize,
     },
-    /// Computes with a register, and puts the result into it; forgets the numbers last compared.
+    /// Computes with a register, and puts the result into it; clobbers the flags.
     Compute {
-        /// What is computed.
+        /// The operator.
         operator: Operator,
         /// The register with the first number.
         to: usize,
         /// The second number.
         from: Source,
     },
-    /// Moves a register's bits by as many places as the number of register 1; forgets the numbers last compared.
+    /// Shifts a register by the number in register 1; clobbers the flags.
     Shift {
-        /// How.
+        /// The kind of shift.
         operator: ShiftOperator,
         /// The register.
         to: usize,
     },
-    /// Moves a register's bits by a number of places; forgets the numbers last compared.
+    /// Shifts a register by a constant; clobbers the flags.
     ShiftBy {
-        /// How.
+        /// The kind of shift.
         operator: ShiftOperator,
         /// The register.
         to: usize,
-        /// By how many places, modulo 64.
+        /// The count, modulo 64.
         count: u8,
     },
-    /// Puts into register 2 what register 0 has above its highest bit: copies of that bit.
+    /// Extends register 0 into register 2: with zeros, or with copies of its highest bit.
     ExtendSign,
-    /// Divides the number that has register 2 above register 0: puts the quotient into register 0 and the remainder into register 2, and
-    /// forgets the numbers last compared. It traps at a zero divisor, and where the quotient has too many bits.
+    /// Divides the 128-bit number with register 2 as its upper and register 0 as its lower half:
+    /// puts the quotient into register 0 and the remainder into register 2, and clobbers the flags.
+    /// It traps if the divisor is 0 or the quotient doesn't fit 64 bits.
     Divide {
-        /// Whether the numbers have a sign.
+        /// Whether the division is signed.
         is_signed: bool,
         /// The divisor.
         from: Source,
@@ -110,7 +115,7 @@ pub enum Instruction {
         /// The second number.
         right: Source,
     },
-    /// Puts 1 into a register if the numbers last compared meet a condition, and else 0.
+    /// Puts 1 into a register if the numbers last compared meet a condition, else 0.
     Set {
         /// The register.
         to: usize,
@@ -131,27 +136,27 @@ pub enum Instruction {
         /// The number.
         from: Source,
     },
-    /// Goes to an instruction.
+    /// Jumps to an instruction.
     Jump {
         /// Its number.
         target: usize,
     },
-    /// Goes to an instruction if the numbers last compared meet a condition.
+    /// Jumps to an instruction if the numbers last compared meet a condition.
     JumpIf {
         /// The condition.
         condition: Condition,
         /// The instruction's number.
         target: usize,
     },
-    /// Ends with the number of register 0.
+    /// Returns the number in register 0.
     Return,
 }
 
-/// Code: its instructions, by number, from 0 on, where it starts.
+/// Code: its instructions by number. It starts at instruction 0.
 #[derive(Debug, Drop)]
 pub struct Code {
     /// The instructions.
     pub instructions: Vec<Instruction>,
-    /// How many slots the frame has.
+    /// The number of slots in the frame.
     pub slots: usize,
 }

@@ -1,4 +1,5 @@
-//! Interpreters of functions over whole numbers, and of the machine's code: runs of so many steps, as the specs have them.
+//! Interpreters of functions over 64-bit integers and of the machine's code: bounded runs, as the
+//! specs define them.
 
 mod machine;
 mod numbers;

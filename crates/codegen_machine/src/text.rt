@@ -38,11 +38,13 @@
 //! target    = BLOCK [ vregs ] ;
 //! ```
 //!
-//! Operators compute modulo 2^64. A condition is 1 if it holds, else 0; the signed conditions read two's complement. A
-//! shift moves bits by its second number modulo 64; `signed_shift_right` copies the highest bit. `div` is a quotient and
-//! `rem` a remainder: a signed quotient is rounded towards 0, and a signed remainder has the dividend's sign. A division
-//! by 0 traps, and so does a signed one of -2^63 by -1. `select` is its second number if its first isn't 0, else its third. `branch_if` takes its first target if its number isn't 0 or its
-//! condition holds, else its second.
+//! Operators compute modulo 2^64. A condition is 1 if it holds, else 0; the signed conditions read
+//! two's complement. A shift moves bits by its second number modulo 64; `signed_shift_right` copies
+//! the highest bit. `div` is a quotient and `rem` a remainder: a signed quotient is rounded towards
+//! 0, and a signed remainder has the dividend's sign. A division by 0 traps, and so does a signed
+//! one of -2^63 by -1. `select` is its second number if its first isn't 0, else its third.
+//! `branch_if` jumps to its first target if its number isn't 0 or its condition holds, else to its
+//! second.
 //!
 //! Arguments are numbered from 0, below 2^28. A function has at most a million blocks, instructions and vregs, counted
 //! from v0; a larger function is an error at the end of the text. Blocks are numbered as they appear, the entry first.

@@ -5,19 +5,19 @@ use clap::{Arg, ArgAction, ArgMatches, Command, Error, value_parser};
 use codegen::program::{Action, Task};
 use std::alloc::Global;
 
-/// What the help says of statuses.
+/// The help's text about the exit status.
 const STATUSES: &str = "\
 The status is 0; or 1 if the function is rejected, or it and its code don't return alike; or 2 if
 words or input are bad or nothing can be written. Errors are on standard error.";
 
-/// What the words ask for.
+/// The request in the arguments.
 #[derive(Drop)]
 pub struct Request<'a> {
-    /// What is to be done.
+    /// The task.
     pub task: Task<'a>,
-    /// The path of the file to which the answer is written, in place of standard output.
+    /// The path of the file to which the output is written, instead of standard output.
     pub output: Option<&'a str>,
-    /// Whether nothing is written but that words or input are bad.
+    /// Whether nothing is written except errors in the arguments or the input.
     pub is_quiet: bool,
 }
 
@@ -28,7 +28,7 @@ fn file<'a>(alloc: Global) -> Arg<'a> {
         .help("A function, as a text; - is standard input")
 }
 
-/// A command with the options that each has.
+/// A command, with the options common to all.
 fn with_options<'a>(alloc: Global, command: Command<'a>) -> Result<Command<'a>, Error> {
     let output = Arg::new(alloc, "output")
         .short('o')
@@ -98,7 +98,7 @@ fn numbers_of(alloc: Global, given: &ArgMatches<'_>) -> Result<Vec<u64>, Error> 
     Ok(numbers)
 }
 
-/// The task that the matches of a command name.
+/// The task in the matches of a command.
 fn task_of<'a>(
     alloc: Global,
     name: &str,
@@ -121,8 +121,8 @@ fn task_of<'a>(
 }
 
 impl<'a> Request<'a> {
-    /// What the program's words ask for, of which the first is its own name. The error's text is for the user: that the words are bad,
-    /// or the help or the version where that is asked for.
+    /// Parses the program's arguments, the first of which is its own name. The error's text is for
+    /// the user: the error in the arguments, or the help or the version if requested.
     pub fn of(alloc: Global, words: &'a [String]) -> Result<Request<'a>, Error> {
         let mut command = command(alloc)?;
         let matches = command.try_get_matches_from_mut(words)?;

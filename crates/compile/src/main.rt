@@ -1,8 +1,10 @@
-//! `compile`: writes a function that stands in a text as assembly for x86-64, or runs it and its code.
+//! `compile`: writes a function, given as a text, as x86-64 assembly, or runs the function and its
+//! code.
 //!
-//! The words are `FILE`, `run FILE NUMBER..` or `random SEED`, where FILE may be `-` for standard input; `--help` says the same. The status is
-//! 0; or 1 where the function is refused, or it and its code don't return alike within the steps of a run; or 2 where words or text are bad,
-//! the file can't be read or the answer can't be written.
+//! The arguments are `FILE`, `run FILE NUMBER..` or `random SEED`, where FILE may be `-` for
+//! standard input; `--help` lists them too. The exit status is 0; or 1 if the function is rejected,
+//! or the outcomes of the function and of its code differ; or 2 if the arguments or the text are
+//! invalid, the file can't be read or the output can't be written.
 #![tactic(auto)]
 
 mod command;
@@ -14,12 +16,12 @@ use std::fs::File;
 use std::io::{self, BufWriter, Write};
 use std::process::ExitCode;
 
-/// The program's words, its name the first.
+/// The program's arguments, its name first.
 fn words(rt: &(impl Env + AllocGlobal)) -> io::Result<Vec<String>> {
     Ok(env::args(rt)?.collect(rt.alloc())?)
 }
 
-/// Does a task with its input, and answers the status.
+/// Runs a task with its input, and returns the exit status.
 fn perform<O: Write, E: Write>(
     rt: &HostRuntime,
     task: &Task<'_>,
@@ -35,7 +37,7 @@ fn perform<O: Write, E: Write>(
     }
 }
 
-/// Does what is asked for, with its output, and answers the status.
+/// Runs the requested task with its output, and returns the exit status.
 fn perform_all(rt: &HostRuntime, request: &Request<'_>) -> io::Result<u8> {
     let task = &request.task;
     if request.is_quiet {
@@ -44,7 +46,7 @@ fn perform_all(rt: &HostRuntime, request: &Request<'_>) -> io::Result<u8> {
     if let Some(path) = request.output {
         let mut out = BufWriter::new(rt.alloc(), File::create(rt, path)?)?;
         let status = perform(rt, task, &mut out, &mut rt.stderr());
-        // a buffer that is dropped would write once more what a failed write left in it
+        // dropping the buffer would write again the bytes that a failed write left in it
         let _ = out.into_parts();
         return status;
     }

@@ -1,15 +1,17 @@
-//! `ra2`: allocates registers to a stored function, and prints what it gives.
+//! `ra2`: allocates registers to a stored function, and prints the result.
 //!
-//! The word `run` prints the listing of the allocated function, and `check` then judges it; `replay` judges a stored output.
-//! On standard input is the stored function, as JSON; for `replay` an array of it and the output. The status is 0, or 1 if the
-//! function is refused or a fault is found, or 2 if words or input are bad or the output can't be written.
+//! The argument `run` prints the listing of the allocated function, and `check` also checks it;
+//! `replay` checks a stored output. Standard input holds the stored function, as JSON; for
+//! `replay`, an array of the function and the output. The status is 0; or 1 if the function is
+//! rejected or an error is found; or 2 if the arguments or the input are invalid or the output
+//! can't be written.
 #![tactic(auto)]
 
 use std::env::{self, Env};
 use std::io::BufWriter;
 use std::process::ExitCode;
 
-/// The words after the program's name.
+/// The arguments after the program's name.
 fn words(rt: &(impl Env + AllocGlobal)) -> std::io::Result<Vec<String>> {
     Ok(env::args(rt)?.skip(1).collect(rt.alloc())?)
 }
@@ -20,7 +22,7 @@ fn main(rt: HostRuntime) -> ExitCode {
     };
     let out = match BufWriter::new(rt.alloc(), rt.stdout()) {
         Ok(out) => out,
-        // a buffer of no bytes takes no memory
+        // a buffer of no bytes allocates nothing
         Err(_) => BufWriter::with_capacity(rt.alloc(), 0, rt.stdout()).unwrap(),
     };
     let (status, _) = regalloc2_tool::ra2::answer(

@@ -1,7 +1,9 @@
-//! `ra2_text`: allocates registers to a function that is given as a text or as JSON, for people, and explains what is rejected.
+//! `ra2_text`: allocates registers to a function given as a text or as JSON, and explains to a user
+//! what is rejected.
 //!
-//! `ra2_text --help` names the subcommands. The status is 0; or 1 where the function is rejected or something is found; or 2 where words or
-//! input are bad or the output can't be written.
+//! `ra2_text --help` names the subcommands. The status is 0; or 1 if the function is rejected or
+//! something is found; or 2 if the arguments or the input are invalid or the output can't be
+//! written.
 #![tactic(auto)]
 
 use ra2_text_program::{Task, UNUSABLE, answer};
@@ -10,7 +12,7 @@ use std::fs::File;
 use std::io::{self, BufWriter, Read, Write};
 use std::process::ExitCode;
 
-/// The program's words, its name the first.
+/// The program's arguments, its name first.
 fn words(rt: &(impl Env + AllocGlobal)) -> io::Result<Vec<String>> {
     Ok(env::args(rt)?.collect(rt.alloc())?)
 }
@@ -26,7 +28,8 @@ fn bytes_of(rt: &HostRuntime, path: &str) -> io::Result<Vec<u8>> {
     Ok(bytes)
 }
 
-/// Does a task with its input, and answers the status; that a file can't be read is a line on standard error.
+/// Performs a task with its input, and returns the status. A line on standard error reports a file
+/// that can't be read.
 fn perform<O: Write>(rt: &HostRuntime, task: Task<'_>, out: &mut O) -> u8 {
     let alloc = rt.alloc();
     let bytes = match bytes_of(rt, task.path) {
@@ -45,18 +48,18 @@ fn perform<O: Write>(rt: &HostRuntime, task: Task<'_>, out: &mut O) -> u8 {
     }
 }
 
-/// Says that a file can't be read or written, and answers the status.
+/// Reports a file that can't be read or written, and returns the status.
 fn refuse_file(rt: &HostRuntime, path: &str, error: io::Error) -> u8 {
     let _ = eprintln!(rt; "ra2_text: {path}: {error}");
     UNUSABLE
 }
 
-/// Does a task with its input and its output, and answers the status.
+/// Performs a task with its input and its output, and returns the status.
 fn perform_all(rt: &HostRuntime, task: Task<'_>) -> io::Result<u8> {
     if let Some(path) = task.output {
         let mut out = BufWriter::new(rt.alloc(), File::create(rt, path)?)?;
         let status = perform(rt, task, &mut out);
-        // a buffer that is dropped would write once more what a failed write left in it
+        // a dropped buffer would write again what a failed write left in it
         let _ = out.into_parts();
         return Ok(status);
     }

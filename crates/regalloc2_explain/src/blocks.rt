@@ -1,10 +1,11 @@
-//! Blocks and edges that aren't as they have to be.
+//! Invalid blocks and edges.
 
 use crate::cause::{Cause, Site};
 use crate::stored::{arguments_of, block_of, list_of, operands_at, range_of, vreg_of};
 use regalloc2_serialize::{InstOpcode, StoredFunction};
 
-/// How many ways lead into a block: its predecessors, and the function's start into the entry.
+/// How many edges enter a block: one from each predecessor, and for the entry one more from the
+/// function's start.
 fn ways_into(function: &StoredFunction, block: usize) -> usize {
     let preds = list_of(function.block_preds.as_slice(), block).len();
     let starts = usize::from(block == function.entry_block as usize);
@@ -82,7 +83,7 @@ fn edges_into(function: &StoredFunction, block: usize) -> usize {
     leading
 }
 
-/// The cause if a block's predecessors aren't the blocks that lead to it.
+/// The cause if a block's predecessors aren't the blocks with an edge to it.
 fn of_preds(function: &StoredFunction, block: usize) -> Option<Cause> {
     let preds = list_of(function.block_preds.as_slice(), block);
     let listed = preds.len();
@@ -114,7 +115,7 @@ fn ends_within(function: &StoredFunction, first: usize, last: usize) -> Option<u
     None
 }
 
-/// The cause if a block doesn't end as it has to, and where.
+/// The cause if a block doesn't end with a valid last instruction, and the site.
 fn of_end(function: &StoredFunction, block: usize) -> Option<(Cause, Site)> {
     let (first, end) = range_of(function, block);
     let last = end.checked_sub(1)?;
@@ -168,7 +169,7 @@ fn of_passed(succ: usize, arguments: &[u32], params: &[u32]) -> Option<Cause> {
     None
 }
 
-/// The cause of `Branch`: what the block of that last instruction passes.
+/// The cause of `Branch`: the arguments of the block that ends with that instruction.
 pub(crate) fn of_arguments(function: &StoredFunction, inst: usize) -> (Cause, Site) {
     let site = Site::Inst(inst);
     let Some(block) = block_of(function, inst) else {

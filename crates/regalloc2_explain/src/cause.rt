@@ -1,4 +1,4 @@
-//! Causes, and their words.
+//! Causes, and their texts.
 
 use crate::stored::{ClassName, Counted};
 use regalloc2_names::{PReg, RegClass, VReg, VRegText};
@@ -28,10 +28,10 @@ impl fmt::Display for Site {
     }
 }
 
-/// Why a function is refused.
+/// Why a function is rejected.
 #[derive(Clone, Copy)]
 pub enum Cause {
-    /// An edge from a block with several successors to one that is entered in several ways.
+    /// An edge from a block with several successors to a block with several incoming edges.
     CriticalEdge {
         from: usize,
         to: usize,
@@ -42,7 +42,7 @@ pub enum Cause {
     DefinedTwice {
         vreg: VReg,
     },
-    /// A vreg's number isn't below the function's count.
+    /// A vreg's number is not below the function's count.
     PastCount {
         vreg: VReg,
         count: u64,
@@ -51,7 +51,7 @@ pub enum Cause {
     Undefined {
         vreg: VReg,
     },
-    /// A vreg is read under another class than that of its definition.
+    /// A vreg is read with another class than that of its definition.
     OtherClass {
         vreg: VReg,
         defined: VReg,
@@ -76,7 +76,7 @@ pub enum Cause {
         end: usize,
         insts: usize,
     },
-    /// A block's predecessors aren't the blocks that lead to it.
+    /// A block's predecessors aren't the blocks with an edge to it.
     Predecessors {
         block: usize,
         listed: usize,
@@ -86,7 +86,7 @@ pub enum Cause {
     EntryIsLater {
         entry: usize,
     },
-    /// A block goes on past its last instruction.
+    /// A block continues after its last instruction, which is neither a branch nor a return.
     OpenEnd {
         block: usize,
         inst: usize,
@@ -117,7 +117,7 @@ pub enum Cause {
     EntryParams {
         count: usize,
     },
-    /// A branch with operands leads to a block that is entered in several ways.
+    /// A branch with operands leads to a block with several incoming edges.
     BranchOperands {
         inst: usize,
         operands: usize,
@@ -136,7 +136,7 @@ pub enum Cause {
         inst: usize,
         register: PReg,
     },
-    /// Two operands that are held at one time are fixed to one register.
+    /// Two operands that occupy registers at the same time are fixed to one register.
     FixedTwice {
         inst: usize,
         register: PReg,
@@ -168,7 +168,7 @@ pub enum Cause {
         inst: usize,
         register: PReg,
     },
-    /// An operand is under a limit.
+    /// An operand has a limit constraint.
     Limited {
         inst: usize,
     },
@@ -176,15 +176,15 @@ pub enum Cause {
     BranchDefines {
         inst: usize,
     },
-    /// The slots would take more units than numbers of slots count.
+    /// The slots would take more units than slot numbers can count.
     ManySlots {
         vregs: u64,
     },
-    /// Nothing that a test of this crate finds.
+    /// No test of this crate finds a cause.
     Other,
 }
 
-/// The words of causes that lie in blocks and edges; false if it is another cause.
+/// The texts of causes in blocks and edges; false if it is another cause.
 fn write_of_blocks<W: fmt::Write>(
     cause: &Cause,
     f: &mut fmt::Formatter<W>,
@@ -232,7 +232,7 @@ fn write_of_blocks<W: fmt::Write>(
     Ok(true)
 }
 
-/// The words of causes that lie in entries, ends of blocks and arguments; false if it is another cause.
+/// The texts of causes in entries, ends of blocks and arguments; false if it is another cause.
 fn write_of_ends<W: fmt::Write>(
     cause: &Cause,
     f: &mut fmt::Formatter<W>,
@@ -295,7 +295,7 @@ fn write_of_ends<W: fmt::Write>(
     Ok(true)
 }
 
-/// The words of causes that lie in vregs; false if it is another cause.
+/// The texts of causes in vregs; false if it is another cause.
 fn write_of_vregs<W: fmt::Write>(
     cause: &Cause,
     f: &mut fmt::Formatter<W>,
@@ -330,7 +330,7 @@ fn write_of_vregs<W: fmt::Write>(
     Ok(true)
 }
 
-/// The words of causes that lie in an instruction's operands; false if it is another cause.
+/// The texts of causes in an instruction's operands; false if it is another cause.
 fn write_of_operands<W: fmt::Write>(
     cause: &Cause,
     f: &mut fmt::Formatter<W>,
@@ -376,7 +376,7 @@ fn write_of_operands<W: fmt::Write>(
     Ok(true)
 }
 
-/// The words of causes that lie in what the machine has.
+/// The texts of causes in the machine's registers and slots; false if it is another cause.
 fn write_of_resources<W: fmt::Write>(cause: &Cause, f: &mut fmt::Formatter<W>) -> fmt::Result {
     match *cause {
         Cause::Registers {

@@ -1,4 +1,4 @@
-//! Definitions and uses that aren't as they have to be.
+//! Invalid definitions and uses.
 
 use crate::cause::{Cause, Site};
 use crate::stored::{list_of, operand_of, operands_at, range_of, vreg_of};
@@ -6,7 +6,7 @@ use regalloc2_index::Inst;
 use regalloc2_names::VReg;
 use regalloc2_serialize::StoredFunction;
 
-/// The first two definitions of a vreg number, whatever their classes.
+/// The first two definitions of a vreg number, of any class.
 #[derive(Clone, Copy)]
 struct Definitions {
     first: Option<(Site, VReg)>,
@@ -14,7 +14,7 @@ struct Definitions {
 }
 
 impl Definitions {
-    /// Notes a definition.
+    /// Records a definition.
     fn note(&mut self, site: Site, vreg: VReg) {
         if self.first.is_none() {
             self.first = Some((site, vreg));
@@ -23,7 +23,7 @@ impl Definitions {
         }
     }
 
-    /// Notes the parameters of that number.
+    /// Records the parameters of that number.
     fn note_params(&mut self, function: &StoredFunction, block: usize, number: usize) {
         for bits in list_of(function.block_params_in.as_slice(), block) {
             if let Some(vreg) = vreg_of(*bits) {
@@ -34,7 +34,7 @@ impl Definitions {
         }
     }
 
-    /// Notes the definitions of that number by an instruction.
+    /// Records the definitions of that number by an instruction.
     fn note_inst(&mut self, function: &StoredFunction, inst: usize, number: usize) {
         for (k, bits) in operands_at(function, inst).iter().enumerate() {
             if let Some(operand) = operand_of(*bits) {
@@ -45,7 +45,7 @@ impl Definitions {
         }
     }
 
-    /// Notes the definitions of that number in a block.
+    /// Records the definitions of that number in a block.
     fn note_block(&mut self, function: &StoredFunction, block: usize, number: usize) {
         self.note_params(function, block, number);
         let (first, end) = range_of(function, block);

@@ -1,4 +1,4 @@
-//! Why a function is refused, with the lines that say it.
+//! Why a function is rejected, with the lines of the text that show it.
 
 use crate::cause::{Cause, Site};
 use crate::pressure::{
@@ -13,14 +13,14 @@ use regalloc2_serialize::StoredFunction;
 use std::fmt;
 use std::io::{self, Write};
 
-/// Why a function is refused: the cause, where it lies, and another part that belongs to it.
+/// Why a function is rejected: the cause, its site, and another part that belongs to it.
 #[derive(Clone, Copy)]
 pub struct Explanation {
     /// The cause.
     pub cause: Cause,
-    /// Where it lies.
+    /// The site of the cause.
     pub site: Site,
-    /// The definition that it stands against, if it stands against one.
+    /// The definition that it conflicts with, if there is one.
     pub against: Option<Site>,
 }
 
@@ -36,8 +36,9 @@ impl Explanation {
     }
 }
 
-/// Why the allocator refuses a function with that error: it looks for what the error names. Linear in the function, but
-/// for a block whose predecessors are wrong: each of them is counted among the block's.
+/// Why the allocator rejects a function with that error: it searches for what the error names.
+/// Linear in the function, except for a block with wrong predecessors: each of them is counted
+/// among the block's.
 pub fn explain(function: &StoredFunction, error: &RegAllocError) -> Explanation {
     match error {
         RegAllocError::CritEdge(from, to) => {
@@ -140,7 +141,8 @@ impl fmt::Display for Named<'_> {
     }
 }
 
-/// Writes what an instruction needs registers of a class for, a line for each kind.
+/// Writes the operands and clobbers for which an instruction needs registers of a class, a line for
+/// each kind.
 fn write_needs<W: Write>(
     function: &StoredFunction,
     inst: usize,
@@ -175,7 +177,8 @@ fn write_needs<W: Write>(
 }
 
 impl Explanation {
-    /// Writes the cause behind `before` on a line, then the line of the text at which it lies, what it needs or stands against.
+    /// Writes the cause after `before` on a line, then the line of the text that holds its site,
+    /// and what it needs or conflicts with.
     pub fn write<T: fmt::Display, W: Write>(
         &self,
         before: &T,

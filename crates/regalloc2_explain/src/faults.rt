@@ -6,7 +6,7 @@ use regalloc2_names::{Allocation, Operand, PReg, ProgPoint, VReg};
 use regalloc2_serialize::{StoredFunction, StoredInst, StoredMachine};
 use std::fmt;
 
-/// What is wrong with stored numbers: each is one of several that a fault stands for.
+/// What is wrong with stored numbers: each variant is one of the several causes of an error.
 #[derive(Clone, Copy)]
 pub enum StoredCause {
     /// A list by block has another length than there are blocks.
@@ -26,54 +26,54 @@ pub enum StoredCause {
         list: &'static str,
         count: usize,
     },
-    /// The entry is no block.
+    /// The entry isn't a block.
     Entry {
         entry: u32,
         blocks: usize,
     },
-    /// A block lists what is no block, as a predecessor or a successor.
+    /// A block lists a predecessor or a successor that isn't a block.
     Neighbour {
         block: usize,
         role: &'static str,
         named: u32,
         blocks: usize,
     },
-    /// A block's range falls, or ends past the instructions.
+    /// A block's range is descending, or ends past the instructions.
     Range {
         block: usize,
         first: u32,
         end: u32,
         insts: usize,
     },
-    /// A label is of a vreg past the function's count.
+    /// A label is of a vreg that is not below the function's count.
     LabelPastCount {
         label: usize,
         number: u32,
         count: u64,
     },
-    /// A list of registers has an index of none.
+    /// A list of registers has an invalid index.
     Register {
         list: &'static str,
         index: u8,
     },
-    /// An operand's word is that of none.
+    /// An operand's encoding is invalid.
     OperandWord {
         inst: usize,
         operand: usize,
         word: u64,
     },
-    /// An instruction clobbers an index of no register.
+    /// An instruction clobbers an invalid register index.
     Clobber {
         inst: usize,
         index: u8,
     },
-    /// A parameter's or argument's word is that of no vreg.
+    /// A parameter's or argument's encoding isn't that of a vreg.
     VRegWord {
         block: usize,
         role: &'static str,
         word: u32,
     },
-    /// A label's word is that of no vreg.
+    /// A label's encoding isn't that of a vreg.
     LabelWord {
         label: usize,
         word: u32,
@@ -84,25 +84,25 @@ pub enum StoredCause {
         what: &'static str,
         limit: &'static str,
     },
-    /// The size of a class's slots is no power of two up to 2^24.
+    /// The size of a class's slots isn't a power of two up to 2^24.
     SlotSize {
         class: usize,
         size: u64,
     },
-    /// A move's point or places have words of none.
+    /// The encoding of a move's point or place is invalid.
     Move {
         index: usize,
     },
-    /// The place of an operand has a word of none.
+    /// The encoding of an operand's place is invalid.
     Place {
         index: usize,
         word: u32,
     },
-    /// A debug location's points or place have words of none.
+    /// The encoding of a debug location's point or place is invalid.
     Location {
         index: usize,
     },
-    /// The fault stands for one thing alone.
+    /// The error has only one cause.
     Known(StoredFault),
 }
 
@@ -177,7 +177,7 @@ impl StoredCause {
         }
     }
 
-    /// Writes which word or index names nothing.
+    /// Writes which encoding or index names nothing.
     fn write_word<W: fmt::Write>(&self, f: &mut fmt::Formatter<W>) -> fmt::Result {
         match *self {
             Self::Register { list, index } => {
@@ -211,7 +211,7 @@ impl StoredCause {
         }
     }
 
-    /// Writes which limit is passed.
+    /// Writes which limit is exceeded.
     fn write_limit<W: fmt::Write>(&self, f: &mut fmt::Formatter<W>) -> fmt::Result {
         match *self {
             Self::TooMany { count, what, limit } => {
@@ -329,7 +329,7 @@ fn of_classes(function: &StoredFunction) -> Option<StoredCause> {
     None
 }
 
-/// The first number in lists by block that is no block's.
+/// The first number in lists by block that isn't a block's.
 fn of_neighbours(lists: &[Vec<u32>], role: &'static str, blocks: usize) -> Option<StoredCause> {
     for (block, list) in lists.iter().enumerate() {
         if let Some(named) = list.iter().find(|named| **named as usize >= blocks) {
@@ -344,7 +344,7 @@ fn of_neighbours(lists: &[Vec<u32>], role: &'static str, blocks: usize) -> Optio
     None
 }
 
-/// The first range that falls, or ends past so many instructions.
+/// The first range that is descending, or ends past the instructions, of which there are this many.
 fn of_ranges(ranges: &[(u32, u32)], insts: usize) -> Option<StoredCause> {
     for (block, (first, end)) in ranges.iter().enumerate() {
         if first > end || *end as usize > insts {
@@ -393,7 +393,7 @@ fn of_index(function: &StoredFunction) -> Option<StoredCause> {
     of_counted(function.debug_value_labels.as_slice(), function.num_vregs)
 }
 
-/// The first index in a list that is no register's.
+/// The first index in a list that isn't a register's.
 fn of_list(list: &'static str, indexes: &[u8]) -> Option<StoredCause> {
     let index = indexes
         .iter()
@@ -404,19 +404,19 @@ fn of_list(list: &'static str, indexes: &[u8]) -> Option<StoredCause> {
     })
 }
 
-/// The first index in lists that is no register's.
+/// The first index in lists that isn't a register's.
 fn of_lists(list: &'static str, lists: &[Vec<u8>]) -> Option<StoredCause> {
     lists
         .iter()
         .find_map(|indexes| of_list(list, indexes.as_slice()))
 }
 
-/// The index of a scratch register, if it is there and no register's.
+/// The index of a scratch register, if there is one and the index isn't a register's.
 fn of_scratch(index: Option<u8>) -> Option<StoredCause> {
     of_list("scratch_by_class", &[index?])
 }
 
-/// The first index of a machine that is no register's.
+/// The first index of a machine that isn't a register's.
 fn of_machine(machine: &StoredMachine) -> Option<StoredCause> {
     let preferred = machine.preferred_regs_by_class.as_slice();
     if let Some(cause) = of_lists("preferred_regs_by_class", preferred) {
@@ -436,7 +436,7 @@ fn of_machine(machine: &StoredMachine) -> Option<StoredCause> {
     of_list("fixed_stack_slots", machine.fixed_stack_slots.as_slice())
 }
 
-/// The first word or index of one instruction that names nothing.
+/// The first encoding or index of one instruction that names nothing.
 fn of_inst(inst: usize, data: &StoredInst) -> Option<StoredCause> {
     for (operand, word) in data.operands.iter().enumerate() {
         if !Operand::is_bits(*word) {
@@ -457,7 +457,7 @@ fn of_inst(inst: usize, data: &StoredInst) -> Option<StoredCause> {
     })
 }
 
-/// The first word of a block's parameters or arguments that is no vreg's.
+/// The first encoding of a block's parameters or arguments that isn't a vreg's.
 fn of_vregs(block: usize, role: &'static str, words: &[u32]) -> Option<StoredCause> {
     let word = words.iter().find(|word| !VReg::is_bits(**word))?;
     Some(StoredCause::VRegWord {
@@ -467,7 +467,7 @@ fn of_vregs(block: usize, role: &'static str, words: &[u32]) -> Option<StoredCau
     })
 }
 
-/// The first word or index of an instruction that names nothing.
+/// The first encoding or index of an instruction that names nothing.
 fn of_insts(insts: &[StoredInst]) -> Option<StoredCause> {
     for (inst, data) in insts.iter().enumerate() {
         if let Some(cause) = of_inst(inst, data) {
@@ -477,7 +477,7 @@ fn of_insts(insts: &[StoredInst]) -> Option<StoredCause> {
     None
 }
 
-/// The first word of a parameter that is no vreg's.
+/// The first encoding of a parameter that isn't a vreg's.
 fn of_params(lists: &[Vec<u32>]) -> Option<StoredCause> {
     for (block, words) in lists.iter().enumerate() {
         if let Some(cause) = of_vregs(block, "a parameter", words.as_slice()) {
@@ -487,7 +487,7 @@ fn of_params(lists: &[Vec<u32>]) -> Option<StoredCause> {
     None
 }
 
-/// The first word of an argument that is no vreg's.
+/// The first encoding of an argument that isn't a vreg's.
 fn of_passed(lists: &[Vec<Vec<u32>>]) -> Option<StoredCause> {
     for (block, passed) in lists.iter().enumerate() {
         let cause = passed
@@ -500,7 +500,7 @@ fn of_passed(lists: &[Vec<Vec<u32>>]) -> Option<StoredCause> {
     None
 }
 
-/// The first label whose word is no vreg's.
+/// The first label whose encoding isn't a vreg's.
 fn of_labels(labels: &[(u32, u32, u32, u32)]) -> Option<StoredCause> {
     let label = labels.iter().position(|label| !VReg::is_bits(label.0))?;
     Some(StoredCause::LabelWord {
@@ -509,7 +509,7 @@ fn of_labels(labels: &[(u32, u32, u32, u32)]) -> Option<StoredCause> {
     })
 }
 
-/// The first word that names nothing.
+/// The first encoding that names nothing.
 fn of_words(function: &StoredFunction) -> Option<StoredCause> {
     let machine = of_machine(&function.machine_env);
     if machine.is_some() {
@@ -530,7 +530,7 @@ fn of_words(function: &StoredFunction) -> Option<StoredCause> {
     of_labels(function.debug_value_labels.as_slice())
 }
 
-/// The first limit that is passed.
+/// The first limit that is exceeded.
 fn of_limits(function: &StoredFunction) -> Option<StoredCause> {
     let limits = [
         (
@@ -562,7 +562,7 @@ fn of_limits(function: &StoredFunction) -> Option<StoredCause> {
     })
 }
 
-/// What a fault of a stored function stands for. Linear in the function.
+/// The cause of an error in a stored function. Linear in the function.
 pub fn explain_function(function: &StoredFunction, fault: StoredFault) -> StoredCause {
     let found = match fault {
         StoredFault::Lengths => of_lengths(function),
@@ -574,7 +574,7 @@ pub fn explain_function(function: &StoredFunction, fault: StoredFault) -> Stored
     found.unwrap_or(StoredCause::Known(fault))
 }
 
-/// The first word of an output that names nothing.
+/// The first encoding of an output that names nothing.
 fn of_output(output: &StoredOutput) -> Option<StoredCause> {
     let is_place = |word: u32| Allocation::is_bits(word);
     let is_move = |edit: (u32, u32, u32)| {
@@ -600,7 +600,7 @@ fn of_output(output: &StoredOutput) -> Option<StoredCause> {
     Some(StoredCause::Location { index })
 }
 
-/// What a fault of a stored output stands for. Linear in the output.
+/// The cause of an error in a stored output. Linear in the output.
 pub fn explain_output(output: &StoredOutput, fault: StoredFault) -> StoredCause {
     let found = match fault {
         StoredFault::Bits => of_output(output),

@@ -1,4 +1,5 @@
-//! Why a function is refused, or what a finding of the checker comes from: the instruction or block as it is written, and the cause with numbers.
+//! Why a function is rejected, or what causes a finding of the checker: the instruction or block as
+//! it is written, and the cause with numbers.
 //!
 //! All calls take stored functions, also ill-formed ones, whose numbers may name nothing. [`report`] counts and compares allocations.
 #![tactic(auto)]

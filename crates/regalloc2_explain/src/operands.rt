@@ -1,4 +1,4 @@
-//! Operands of a form that the allocator doesn't take.
+//! Operands of a form that the allocator doesn't support.
 
 use crate::cause::{Cause, Site};
 use crate::stored::{is_allocatable, operand_of, operands_at};
@@ -13,12 +13,12 @@ fn reused_index(operand: Operand) -> Option<usize> {
     }
 }
 
-/// Whether an operand is a use at the beginning of its instruction.
+/// Returns whether an operand is an early use.
 fn is_early_use(operand: Operand) -> bool {
     operand.kind() == OperandKind::Use && operand.pos() == OperandPos::Early
 }
 
-/// Whether a reuse may take the place of an operand.
+/// Returns whether a reuse may take the place of an operand.
 fn may_be_reused(function: &StoredFunction, by: Operand, operand: Operand) -> bool {
     if !is_early_use(operand) || operand.as_fixed_nonallocatable().is_some() {
         return false;
@@ -35,17 +35,17 @@ fn may_be_reused(function: &StoredFunction, by: Operand, operand: Operand) -> bo
     }
 }
 
-/// Whether another operand before the index `k` reuses the same one.
+/// Returns whether another operand before the index `k` reuses the same one.
 fn is_reused_before(operands: &[u64], k: usize, index: usize) -> bool {
     operands.iter().take(k).any(|bits| operand_of(*bits).and_then(reused_index) == Some(index))
 }
 
-/// Whether an operand reuses the one at an index, which is below 32 then.
+/// Returns whether an operand reuses the one at an index, which is below 32 then.
 pub(crate) fn is_reused(operands: &[u64], index: usize) -> bool {
     index < 32 && is_reused_before(operands, operands.len(), index)
 }
 
-/// The cause if an operand at the index `k` is a reuse that isn't as it has to be.
+/// The cause if an operand at the index `k` is an invalid reuse.
 fn of_reuse(function: &StoredFunction, inst: usize, k: usize, operand: Operand) -> Option<Cause> {
     let index = reused_index(operand)?;
     if operand.kind() != OperandKind::Def || operand.pos() != OperandPos::Late {
@@ -89,7 +89,7 @@ fn of_clobber(function: &StoredFunction, inst: usize, k: usize, operand: Operand
     None
 }
 
-/// The cause if an operand is under a limit.
+/// The cause if an operand has a limit constraint.
 fn of_limit(_function: &StoredFunction, inst: usize, _k: usize, operand: Operand) -> Option<Cause> {
     match operand.constraint() {
         OperandConstraint::Limit(_) => Some(Cause::Limited { inst }),
@@ -97,7 +97,7 @@ fn of_limit(_function: &StoredFunction, inst: usize, _k: usize, operand: Operand
     }
 }
 
-/// The cause if a branch defines in a place that it doesn't name.
+/// The cause if a branch defines in any register, or by a reuse.
 fn of_branch(function: &StoredFunction, inst: usize, _k: usize, operand: Operand) -> Option<Cause> {
     if function.insts.get(inst)?.op != InstOpcode::Branch || !operand.is_def() {
         return None;

@@ -8,14 +8,14 @@ use std::alloc::{AllocError, Global};
 use std::collections::BTreeSet;
 use std::fmt;
 
-/// A read of a vreg that comes before each write on a path from the entry.
+/// A read of a vreg that precedes each write on a path from the entry.
 #[derive(Drop)]
 pub struct UnwrittenRead {
     /// The vreg.
     pub vreg: VReg,
-    /// What reads it: an operand, or the instruction that passes it as an argument.
+    /// The reader: an operand, or the instruction that passes the vreg as an argument.
     pub site: Site,
-    /// The blocks of a shortest such path, from the entry to the one that reads.
+    /// The blocks of a shortest such path, from the entry to the block that reads.
     pub path: Vec<u32>,
 }
 
@@ -32,28 +32,28 @@ impl fmt::Display for UnwrittenRead {
     }
 }
 
-/// A vreg that a block reads before it writes it, itself or in a block behind it.
+/// A vreg that a block reads before writing it, in the block or in one that follows on a path.
 #[derive(Clone, Copy)]
 struct Need {
     block: u32,
-    /// The word of the vreg.
+    /// The encoding of the vreg.
     vreg: u32,
     site: Site,
-    /// The need of the block behind from which this one came.
+    /// The need of the successor from which this need was derived.
     behind: Option<usize>,
 }
 
-/// Needs in the order in which they are found, each block and vreg once.
+/// Needs in the order in which they are found, once for each block and vreg.
 #[derive(Drop)]
 struct Search {
     needs: Vec<Need>,
     known: BTreeSet<(u32, u32), Global>,
-    /// What blocks write, parameters included.
+    /// The vregs that blocks write, parameters included.
     written: BTreeSet<(u32, u32), Global>,
 }
 
 impl Search {
-    /// Adds a need, if the block's need of that vreg is new.
+    /// Adds a need, if the block has no need of that vreg yet.
     fn add(&mut self, need: Need) -> Result<(), AllocError> {
         let pair = (need.block, need.vreg);
         if self.known.contains(&pair) {
@@ -64,7 +64,7 @@ impl Search {
         Ok(())
     }
 
-    /// Adds a need of a read, unless the block writes the vreg before.
+    /// Adds a need of a read, unless the block writes the vreg earlier.
     fn read(&mut self, block: u32, vreg: u32, site: Site) -> Result<(), AllocError> {
         if self.written.contains(&(block, vreg)) {
             return Ok(());
@@ -96,7 +96,7 @@ impl Search {
         Ok(())
     }
 
-    /// Notes what an instruction's operands write.
+    /// Records what an instruction's operands write.
     fn write_operands(
         &mut self,
         function: &StoredFunction,
@@ -127,7 +127,7 @@ impl Search {
         Ok(())
     }
 
-    /// Notes a block's parameters as written.
+    /// Records a block's parameters as written.
     fn write_params(&mut self, function: &StoredFunction, block: u32) -> Result<(), AllocError> {
         for bits in list_of(function.block_params_in.as_slice(), block as usize) {
             self.written.insert((block, *bits))?;
@@ -146,7 +146,7 @@ impl Search {
         Ok(())
     }
 
-    /// Walks over what a block passes.
+    /// Walks over the arguments that a block passes.
     fn walk_passed(&mut self, function: &StoredFunction, block: u32) -> Result<(), AllocError> {
         let (_, end) = range_of(function, block as usize);
         let site = Site::Inst(end.saturating_sub(1));
@@ -157,7 +157,7 @@ impl Search {
         Ok(())
     }
 
-    /// Finds what each block reads before it writes it.
+    /// Finds what each block reads before writing it.
     fn walk(&mut self, function: &StoredFunction) -> Result<(), AllocError> {
         for block in 0..function.blocks.len() {
             if let Ok(block) = u32::try_from(block) {
@@ -169,7 +169,7 @@ impl Search {
         Ok(())
     }
 
-    /// Passes a need on to the blocks that lead to its block, unless they write the vreg.
+    /// Passes a need on to the predecessors of its block, unless they write the vreg.
     fn pass(&mut self, index: usize, need: Need, preds: &[u32]) -> Result<(), AllocError> {
         for pred in preds {
             if !self.written.contains(&(*pred, need.vreg)) {
@@ -184,14 +184,14 @@ impl Search {
         Ok(())
     }
 
-    /// Whether a need is one of a block's parameter, which each way into the block writes.
+    /// Returns whether a need is one of a block's parameter, which each edge into the block writes.
     fn is_param(function: &StoredFunction, need: Need) -> bool {
         list_of(function.block_params_in.as_slice(), need.block as usize)
             .iter()
             .any(|param| *param == need.vreg)
     }
 
-    /// Passes needs on until one of the entry is found, whose index it answers.
+    /// Passes needs on until one of the entry is found, and returns its index.
     fn run(
         &mut self,
         function: &StoredFunction,
@@ -211,7 +211,7 @@ impl Search {
         Ok(None)
     }
 
-    /// The blocks from that of a need to the one that reads.
+    /// The blocks from that of a need to the block that reads.
     fn path(&self, alloc: Global, index: usize) -> Result<Vec<u32>, AllocError> {
         let mut path = Vec::new(alloc);
         let mut next = Some(index);
@@ -226,7 +226,7 @@ impl Search {
     }
 }
 
-/// Adds a block to the lists of those that lead to its successors.
+/// Adds a block to the lists of predecessors of its successors.
 fn add_edges(edges: &mut [Vec<u32>], block: u32, succs: &[u32]) -> Result<(), AllocError> {
     for succ in succs {
         if let Some(list) = edges.get_mut(*succ as usize) {
@@ -236,7 +236,7 @@ fn add_edges(edges: &mut [Vec<u32>], block: u32, succs: &[u32]) -> Result<(), Al
     Ok(())
 }
 
-/// For each block those that lead to it.
+/// The predecessors of each block.
 fn edges_into(alloc: Global, function: &StoredFunction) -> Result<Vec<Vec<u32>>, AllocError> {
     let mut edges = Vec::new(alloc);
     for _ in 0..function.blocks.len() {
@@ -250,10 +250,11 @@ fn edges_into(alloc: Global, function: &StoredFunction) -> Result<Vec<Vec<u32>>,
     Ok(edges)
 }
 
-/// A read that comes before each write on a path from the entry, on a path of as few blocks as there is one. Nothing if there is no such read.
+/// A read that precedes each write on a path from the entry, with a shortest such path. Nothing if
+/// there is no such read.
 ///
-/// Each pair of a block and a vreg that it needs at its beginning is handled once for each edge into the block. The error is
-/// that memory ran out.
+/// Each pair of a block and a vreg that it needs at its beginning is handled once for each edge
+/// into the block. An error means out of memory.
 pub fn find_unwritten_read(
     alloc: Global,
     function: &StoredFunction,

@@ -1,4 +1,4 @@
-//! Instructions that ask for more registers than there are.
+//! Instructions that require more registers than the machine has.
 //!
 //! An instruction fits as `Fits` says, in `specs/Fitting.antt` of the function's crate.
 
@@ -21,14 +21,14 @@ fn fixed_register(operand: Operand) -> Option<PReg> {
     }
 }
 
-/// Whether the operand of a word may be in any register of a class.
+/// Returns whether the operand of an encoding may be in any register of a class.
 pub(crate) fn is_in_any(bits: u64, class: usize) -> bool {
     operand_of(bits).is_some_and(|operand| {
         operand.constraint() == OperandConstraint::Reg && class_number(operand.class()) == class
     })
 }
 
-/// Whether the operand of a word is fixed to the register of an index.
+/// Returns whether the operand of an encoding is fixed to the register of an index.
 fn is_fixed_to(bits: u64, index: usize) -> bool {
     operand_of(bits).is_some_and(|operand| match operand.constraint() {
         OperandConstraint::FixedReg(register) => register.index() == index,
@@ -36,7 +36,7 @@ fn is_fixed_to(bits: u64, index: usize) -> bool {
     })
 }
 
-/// Whether an instruction names the register of an index, by a fixed operand or a clobber.
+/// Returns whether an instruction names the register of an index, by a fixed operand or a clobber.
 pub(crate) fn names_register(function: &StoredFunction, inst: usize, index: usize) -> bool {
     let Some(data) = function.insts.get(inst) else {
         return false;
@@ -74,7 +74,8 @@ pub(crate) fn count_named(function: &StoredFunction, inst: usize, class: usize) 
         .count()
 }
 
-/// How many registers of a class are kept for moves between stack places: one, where the class has fixed stack slots and no
+/// How many registers of a class are reserved for moves between stack places: one, if the class has
+/// fixed stack slots and no scratch register.
 /// scratch register.
 pub(crate) fn spare(function: &StoredFunction, class: usize) -> usize {
     let machine = &function.machine_env;
@@ -89,7 +90,7 @@ pub(crate) fn spare(function: &StoredFunction, class: usize) -> usize {
     usize::from(has_slots && !has_scratch)
 }
 
-/// Whether an operand, a parameter or an argument is of a class.
+/// Returns whether an operand, a parameter or an argument is of a class.
 fn names_class(function: &StoredFunction, class: usize) -> bool {
     let is_of_class = |bits: &u32| {
         vreg_of(*bits).is_some_and(|vreg| class_number(vreg.class()) == class)
@@ -107,18 +108,19 @@ fn names_class(function: &StoredFunction, class: usize) -> bool {
         .any(|params| params.iter().any(is_of_class))
 }
 
-/// What a class has, once for all instructions.
+/// The registers of a class, counted once for all instructions.
 #[derive(Clone, Copy)]
 struct Supply {
     class: usize,
-    /// How many registers are allocated; enough for anything where the function names no vreg of the class.
+    /// How many registers are allocated; enough for any instruction if the function names no vreg
+    /// of the class.
     available: usize,
-    /// How many of them are kept for moves between stack places.
+    /// How many of them are reserved for moves between stack places.
     spare: usize,
 }
 
 impl Supply {
-    /// What a class has.
+    /// Counts the registers of a class.
     fn of(function: &StoredFunction, class: usize) -> Supply {
         let available = if names_class(function, class) {
             available(function, class)
@@ -133,7 +135,7 @@ impl Supply {
     }
 }
 
-/// The cause if an instruction needs more registers of a class than there are.
+/// The cause if an instruction needs more registers of a class than the machine has.
 fn of_class(function: &StoredFunction, inst: usize, supply: Supply) -> Option<Cause> {
     let Supply {
         class,
@@ -168,7 +170,8 @@ fn of_class(function: &StoredFunction, inst: usize, supply: Supply) -> Option<Ca
     })
 }
 
-/// Whether an operand holds its register at a position, if it is at the index `k`.
+/// Returns whether an operand occupies its register at a position, if the operand is at the index
+/// `k`.
 fn holds_at(operands: &[u64], k: usize, operand: Operand, pos: OperandPos) -> bool {
     let is_def = operand.kind() == OperandKind::Def;
     let is_late = operand.pos() == OperandPos::Late;
@@ -178,12 +181,12 @@ fn holds_at(operands: &[u64], k: usize, operand: Operand, pos: OperandPos) -> bo
     }
 }
 
-/// Whether an operand is a reuse.
+/// Returns whether an operand is a reuse.
 fn is_reuse(operand: Operand) -> bool {
     matches!(operand.constraint(), OperandConstraint::Reuse(_))
 }
 
-/// The registers that operands of an instruction are fixed to and hold at its beginning and at its end, by index.
+/// The registers that fixed operands of an instruction occupy early and late, by index.
 #[derive(Clone, Copy)]
 struct Held {
     early: [bool; 192],
@@ -191,7 +194,8 @@ struct Held {
 }
 
 impl Held {
-    /// Notes that an operand at the index `k` holds a register. Whether another one holds it at the same time.
+    /// Records that an operand at the index `k` occupies a register. Returns whether another
+    /// operand occupies it at the same position.
     fn clashes(&mut self, operands: &[u64], k: usize, operand: Operand, register: PReg) -> bool {
         let index = register.index();
         let is_early = holds_at(operands, k, operand, OperandPos::Early);
@@ -203,7 +207,7 @@ impl Held {
     }
 }
 
-/// The cause if an operand is fixed to a register that it can't have.
+/// The cause if an operand is fixed to a register that it can't get.
 fn of_fixed(function: &StoredFunction, inst: usize) -> Option<(Cause, Site)> {
     let machine = &function.machine_env;
     let operands = operands_at(function, inst);
@@ -233,7 +237,7 @@ fn of_fixed(function: &StoredFunction, inst: usize) -> Option<(Cause, Site)> {
     None
 }
 
-/// The cause if an instruction needs more registers of some class than there are.
+/// The cause if an instruction needs more registers of some class than the machine has.
 fn of_count(function: &StoredFunction, inst: usize, supplies: &[Supply]) -> Option<(Cause, Site)> {
     for supply in supplies {
         if let Some(cause) = of_class(function, inst, *supply) {

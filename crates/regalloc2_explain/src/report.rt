@@ -1,4 +1,5 @@
-//! What a back end's developer asks about an allocation: counts, differences, and the form in which upstream prints it.
+//! A back-end developer's reports about an allocation: counts, differences, and the form in which
+//! upstream prints it.
 
 mod diff;
 mod dump;

@@ -1,12 +1,13 @@
-//! The lines of a text in which blocks and instructions stand.
+//! The lines of a text that hold blocks and instructions.
 
 use crate::cause::Site;
 use std::fmt;
 
-/// The text of a function, in which its blocks and instructions are looked up.
+/// The text of a function, to look up its blocks and instructions.
 #[derive(Clone, Copy)]
 pub struct Source<'t> {
-    /// What stands before a line's number, as `loop.txt:`; nothing if lines have no numbers, as those of a function that was read from JSON.
+    /// The text before a line's number, as `loop.txt:`; nothing if lines have no numbers, as those
+    /// of a function that was read from JSON.
     pub name: Option<&'t str>,
     /// The text.
     pub text: &'t str,
@@ -17,7 +18,7 @@ pub struct Source<'t> {
 /// A part of a text.
 #[derive(Clone, Copy)]
 pub struct SourceLine<'t> {
-    /// What stands before the line's number.
+    /// The text before the line's number.
     name: Option<&'t str>,
     /// The line's number.
     pub number: usize,
@@ -43,12 +44,12 @@ impl fmt::Display for SourceLine<'_> {
     }
 }
 
-/// The bytes of a text before one at a place, and those from there on.
+/// The bytes of a text before a byte index, and those from there on.
 fn split(text: &str, at: usize) -> (&str, &str) {
     text.split_at_checked(at).unwrap_or((text, ""))
 }
 
-/// A line without what a logger writes before it in brackets.
+/// A line without a logger's prefix in brackets.
 fn unlogged(line: &str) -> &str {
     let logged = line
         .strip_prefix('[')
@@ -81,7 +82,7 @@ fn first_word(line: &str) -> &str {
     split(words, len).0
 }
 
-/// Whether a word is made of a name and digits.
+/// Returns whether a word consists of a name and digits.
 fn is_numbered(word: &str, name: &str) -> bool {
     match word.strip_prefix(name) {
         Some(digits) => !digits.is_empty() && digits.bytes().all(|byte| byte.is_ascii_digit()),
@@ -89,7 +90,8 @@ fn is_numbered(word: &str, name: &str) -> bool {
     }
 }
 
-/// Whether a line is that of an instruction; that of a point, which a dump has for a move, begins with `inst3-`.
+/// Returns whether a line is that of an instruction. A dump's line for a move begins with `inst3-`,
+/// and is none.
 fn is_inst(line: &str) -> bool {
     let word = first_word(line);
     if is_numbered(word, "inst") {
@@ -99,12 +101,13 @@ fn is_inst(line: &str) -> bool {
     word == "op" || word == "branch" || word == "ret"
 }
 
-/// Whether a line is that of a block.
+/// Returns whether a line is that of a block.
 fn is_block(line: &str) -> bool {
     is_numbered(first_word(line), "block")
 }
 
-/// How long a line is up to its operands: with the first colon or, in a dump, where that is behind the instruction's number, with the opcode.
+/// The length of a line up to its operands: with the first colon or, in a dump, if that follows the
+/// instruction's number, with the opcode.
 fn head_len(line: &str) -> usize {
     let Some((front, behind)) = line.split_once(':') else {
         return line.len();
@@ -117,8 +120,8 @@ fn head_len(line: &str) -> usize {
     len.saturating_add(indent_of(behind)).saturating_add(opcode)
 }
 
-/// The place in a line at which its `k`th operand begins: the first is behind the line's head, and each other one behind a comma outside
-/// brackets.
+/// The index in a line at which its `k`th operand begins: the first one follows the line's head,
+/// and each other one follows a comma outside brackets.
 fn operand_start(line: &str, k: usize) -> usize {
     let head = head_len(line);
     let (_, operands) = split(line, head);
@@ -138,7 +141,7 @@ fn operand_start(line: &str, k: usize) -> usize {
 }
 
 impl<'t> Source<'t> {
-    /// A part of a line that begins at a place behind what a logger wrote.
+    /// A part of a line that begins at an index after the logger's prefix.
     fn part(&self, number: usize, line: &'t str, start: usize) -> SourceLine<'t> {
         let shown = unlogged(line);
         let logged = line.len().saturating_sub(shown.len());
@@ -179,7 +182,7 @@ impl<'t> Source<'t> {
         Some(self.part(number, line, start))
     }
 
-    /// Where a part of the function is in the text, if it has a line. Linear in the text.
+    /// The location of a part of the function in the text, if it has a line. Linear in the text.
     pub fn find(&self, site: Site) -> Option<SourceLine<'t>> {
         match site {
             Site::Function => None,

@@ -1,10 +1,10 @@
-//! What stored numbers name.
+//! The values that stored numbers name.
 
 use regalloc2_names::{Operand, RegClass, VReg};
 use regalloc2_serialize::{StoredFunction, StoredMachine};
 use std::fmt;
 
-/// The operand of a word, if it is that of one.
+/// The operand of an encoding, if it is valid.
 pub(crate) fn operand_of(bits: u64) -> Option<Operand> {
     if Operand::is_bits(bits) {
         Some(Operand::from_bits(bits))
@@ -13,7 +13,7 @@ pub(crate) fn operand_of(bits: u64) -> Option<Operand> {
     }
 }
 
-/// The vreg of a word, if it is that of one.
+/// The vreg of an encoding, if it is valid.
 pub(crate) fn vreg_of(bits: u32) -> Option<VReg> {
     if VReg::is_bits(bits) {
         Some(VReg::from_bits(bits))
@@ -22,7 +22,7 @@ pub(crate) fn vreg_of(bits: u32) -> Option<VReg> {
     }
 }
 
-/// The words of an instruction's operands; none if there is no such instruction.
+/// The encodings of an instruction's operands; none if there is no such instruction.
 pub(crate) fn operands_at(function: &StoredFunction, inst: usize) -> &[u64] {
     match function.insts.get(inst) {
         Some(data) => data.operands.as_slice(),
@@ -46,7 +46,7 @@ pub(crate) fn list_of(lists: &[Vec<u32>], block: usize) -> &[u32] {
     }
 }
 
-/// The arguments that a block passes to its successor at a position.
+/// The arguments that a block passes to its successor at an index.
 pub(crate) fn arguments_of(function: &StoredFunction, block: usize, position: usize) -> &[u32] {
     match function.block_params_out.get(block) {
         Some(lists) => list_of(lists.as_slice(), position),
@@ -59,7 +59,7 @@ pub(crate) fn block_of(function: &StoredFunction, inst: usize) -> Option<usize> 
     function.blocks.iter().position(|(first, end)| *first as usize <= inst && inst < *end as usize)
 }
 
-/// Whether a register index is listed to be allocated for its own class.
+/// Returns whether a register index is listed to be allocated for its own class.
 pub(crate) fn is_allocatable(machine: &StoredMachine, index: u8) -> bool {
     let class = usize::from(index >> 6);
     let is_in = |lists: &[Vec<u8>]| match lists.get(class) {

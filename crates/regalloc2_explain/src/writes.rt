@@ -15,7 +15,7 @@ pub enum LastWrite {
     Clobber(usize),
     /// A move from that place, at a point before that instruction.
     Move(Allocation, usize),
-    /// Nothing from the beginning of that block on.
+    /// Nothing since the beginning of that block.
     Before(usize),
 }
 
@@ -73,7 +73,7 @@ fn definition_in(
     found
 }
 
-/// Whether an instruction clobbers a place.
+/// Returns whether an instruction clobbers a place.
 fn clobbers(function: &StoredFunction, inst: usize, place: u32) -> bool {
     let Some(data) = function.insts.get(inst) else {
         return false;
@@ -123,9 +123,10 @@ fn move_before(output: &StoredOutput, first: usize, inst: usize, place: u32) -> 
     found
 }
 
-/// What wrote a place last before an instruction reads it, from the beginning of its block on. Nothing if no block holds the instruction.
+/// What wrote a place last before an instruction reads it, from the beginning of the block. Nothing
+/// if no block holds the instruction.
 ///
-/// The output's moves are by rising points. Linear in the block.
+/// The output's moves are sorted by program point. Linear in the block.
 pub fn last_write(
     function: &StoredFunction,
     output: &StoredOutput,

@@ -21,11 +21,11 @@ listed_below o n first i (suc k) h =
     (All-map (IsBelow n) (λ m. ListedMove m) (moves_before o first i) (λ j d w. tt))
     (All-cons (IsBelow n) (ListedInst i) _ (omega arith) (listed_below o n first (i + 1) k (omega arith)))
 
--- of a block that is within the instructions
+-- the items of a block whose range is within the instructions
 pub block_below : (o : OutputValue) (n first end : ℕ) → first < end → end ≤ n → All (IsBelow n) (listing_from o first first (end - first))
 block_below o n first end h w = listed_below o n first first (end - first) (omega arith)
 
--- the first item of such a listing, where it is an instruction
+-- the first item of such a listing, if it is an instruction
 pub first_below : (n i : ℕ) (xs ys : List Listed) (x : InstOrEdit) → All (IsBelow n) xs → xs ≡ item_of x ∷ ys → x ≡ Inst i → i < n
 first_below n i xs ys x h e f =
     let g : xs ≡ ListedInst i ∷ ys = subst (λ (v : InstOrEdit). xs ≡ item_of v ∷ ys) f e in

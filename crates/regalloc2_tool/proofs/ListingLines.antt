@@ -29,7 +29,7 @@ next_operand places os k o p h e q = at_drop_more (operands_text places k) os k 
     (ap (λ x. placed_text k x (place_at places k) ++ operands_text places (k + 1) (drop (k + 1) os)) (sym e)
     ∙ ap (λ x. placed_text k o x ++ operands_text places (k + 1) (drop (k + 1) os)) (sym q))
 
--- where no operand is left, no text of operands is left
+-- if no operand is left, no text of operands is left
 pub no_more_operands : (places : List Place) (os : List OperandValue) (k : ℕ) → length os ≤ k → operands_text places k (drop k os) ≡ []
 unfolding operands_text
 no_more_operands places os k h = at_drop_all (operands_text places k) os k h
@@ -41,7 +41,7 @@ pub record IsInstRead (f : FunctionValue) (o : OutputValue) (i n : ℕ) (end : L
   pub places_are : places ≡ allocs_of o i
   pub operands : os ≡ (inst_at f i).operands
 
--- an instruction's line is its number and what it is, its operands, and the line's end
+-- an instruction's line is its number and its kind, its operands, and the line's end
 pub inst_written : {X E : Type 0} (r : Result X E) (a b c d : Option (List ℕ)) (f : FunctionValue) (o : OutputValue) (i n : ℕ) (end : List ℕ)
     (places : List Place) (os : List OperandValue) → IsInstRead f o i n end places os →
     Appends a b (codes "  inst" ++ (decimal n ++ end)) → Appends b c (operands_text places 0 os) → OnOk r (Appends c d (codes "\n")) →
@@ -76,7 +76,7 @@ next_block f o b h =
     let n : length f.blocks - b ≡ suc (length f.blocks - (b + 1)) = omega arith in
     rw n refl
 
--- where no block is left, no text of blocks is left
+-- if no block is left, no text of blocks is left
 pub no_more_blocks : (f : FunctionValue) (o : OutputValue) (b : ℕ) → length f.blocks ≤ b →
     flat_map (block_text f o) (range_with_len b (length f.blocks - b)) ≡ []
 no_more_blocks f o b h =
@@ -96,11 +96,11 @@ pub next_location : {D : Type 0} (v : D → DebugLocation) (ds : List D) (k : �
 next_location v ds k d h e = at_drop_more (λ xs. flat_map debug_line (map v xs)) ds k d h
     ∙ ap (λ x. debug_line (v x) ++ flat_map debug_line (map v (drop (k + 1) ds))) (sym e)
 
--- where no labelled value is left, no line of labelled values is left
+-- if no labelled value is left, no line of labelled values is left
 pub no_more_locations : {D : Type 0} (v : D → DebugLocation) (ds : List D) (k : ℕ) → length ds ≤ k → flat_map debug_line (map v (drop k ds)) ≡ []
 no_more_locations v ds k h = at_drop_all (λ xs. flat_map debug_line (map v xs)) ds k h
 
--- where a list shows as an output's labelled values, their text is a line for each of its items
+-- if a list shows as an output's labelled values, their text is a line for each of its items
 pub all_locations : {D : Type 0} (v : D → DebugLocation) (o : OutputValue) (ds : List D) → o.debug_locations ≡ map v ds →
     debug_text o ≡ flat_map debug_line (map v ds)
 unfolding debug_text

@@ -16,28 +16,28 @@ use Rattle.regalloc2_function.specs.OutputValue.{MoveValue}
 use Rattle.regalloc2_tool.specs.Listing.{separator_text, placed_text, move_line}
 use Rattle.regalloc2_tool.proofs.WrittenInParts.{written_on_ok}
 
--- the same text, otherwise written
+-- the same text, written another way
 pub same_text : {X E : Type 0} (r : Result X E) (a b : Option (List ℕ)) (t u : List ℕ) → OnOk r (Appends a b t) → t ≡ u → OnOk r (Appends a b u)
 same_text r a b t u w e = subst (λ x. OnOk r (Appends a b x)) e w
 
--- the letter behind a register's number is written with what follows it
+-- the letter after a register's number is written with the text after it
 pub register_ended : (n : ℕ) (end rest : List ℕ) (c : RegClass) (r : Register) → n ≡ r.number → c ≡ r.class → end ≡ class_letter c ++ rest →
     codes "p" ++ (decimal n ++ end) ≡ register_text r ++ rest
 register_ended n end rest c r e q f = simp (f, q, e, append_assoc)
 
--- what precedes a vreg's number is written with the letter before it
+-- the text before a vreg's number is written with the letter before it
 pub head_ended : (k n : ℕ) (head : List ℕ) (kind : OperandKind) (pos : OperandPos) (o : OperandValue) → n ≡ o.vreg.number → kind ≡ o.kind →
     pos ≡ o.position → head ≡ separator_text k ++ kind_text kind pos ++ codes ": " ++ codes "v" →
     head ++ decimal n ≡ separator_text k ++ kind_text o.kind o.position ++ codes ": " ++ vreg_text o.vreg
 head_ended k n head kind pos o e a b f = simp (f, a, b, e, append_assoc)
 
--- a fixed register's number is written between the letters before and behind it
+-- a fixed register's number is written between the letters before and after it
 pub fixed_ended : (n : ℕ) (before end : List ℕ) (c d : RegClass) (r : Register) → n ≡ r.number → d ≡ r.class →
     before ≡ class_letter c ++ codes " " ++ codes "fixed(" ++ codes "p" → end ≡ class_letter d ++ codes ")" ++ codes " [" →
     before ++ (decimal n ++ end) ≡ class_letter c ++ codes " " ++ (codes "fixed(" ++ register_text r ++ codes ")") ++ codes " ["
 fixed_ended n before end c d r e q f g = simp (f, g, q, e, append_assoc)
 
--- a reuse's index is written behind all that is before it
+-- a reuse's index is written after all text before it
 pub reuse_ended : (n : ℕ) (before end : List ℕ) (c : RegClass) → before ≡ class_letter c ++ codes " " ++ codes "reuse(" →
     end ≡ codes ")" ++ codes " [" →
     before ++ (decimal n ++ end) ≡ class_letter c ++ codes " " ++ (codes "reuse(" ++ decimal n ++ codes ")") ++ codes " ["
@@ -78,6 +78,6 @@ slot_place NoPlace n e = absurd cc
 slot_place (InRegister r) n e = absurd cc
 slot_place (InSlot m) n e = let same : n ≡ m = cc in ap slot_text same
 
--- a slot's number is written before what stands behind it
+-- a slot's number is written before the text after it
 pub slot_ended : (n k : ℕ) (rest : List ℕ) → k ≡ n % 16777216 → codes "stack" ++ (decimal k ++ rest) ≡ slot_text n ++ rest
 slot_ended n k rest e = simp (e, append_assoc)

@@ -1,4 +1,4 @@
--- The numbers of the faults of stored numbers, as the programs print them.
+-- The numbers of the errors in stored numbers, as the programs print them.
 use Rattle.std.specs.Prelude.{ℕ}
 use Rattle.regalloc2_function.specs.declared.serialize.StoredFault.{StoredFault}
 use Rattle.regalloc2_function.specs.declared.serialize.StoredFault.TheVariants.{Lengths, Index, Bits, Limit, Memory, Shape}

@@ -1,4 +1,4 @@
--- What a listing wants of a function.
+-- What a listing requires of a function.
 use Rattle.std.specs.Prelude.{ℕ, ◌<◌, ◌≤◌, length}
 use Rattle.regalloc2_function.specs.FunctionValue.{FunctionValue, block_at}
 

@@ -10,11 +10,11 @@ use Rattle.regalloc2_function.specs.OutputValue.{OutputValue, MoveValue, DebugLo
 use Rattle.regalloc2_function.specs.Listing.{Listed, ListedInst, ListedMove, block_listing}
 use Rattle.regalloc2_tool.specs.Text.{point_text}
 
--- what an instruction is
+-- an instruction's kind
 abbrev pub opcode_text : InstValue → List ℕ
 opcode_text i = if i.is_branch then codes "branch" else (if i.is_ret then codes "ret" else codes "op")
 
--- what stands before the kth operand
+-- the text before the kth operand
 abbrev pub separator_text : ℕ → List ℕ
 separator_text k = if nat_eq k 0 then codes ": " else codes ", "
 
@@ -43,11 +43,11 @@ item_line f o (ListedMove m) = move_line m
 unfoldable pub block_text : FunctionValue → OutputValue → ℕ → List ℕ
 block_text f o b = codes "block" ++ decimal b ++ codes ":\n" ++ flat_map (item_line f o) (block_listing f o b)
 
--- how many units the slots take
+-- the units of the slots
 unfoldable pub slots_line : ℕ → List ℕ
 slots_line n = codes "slots " ++ decimal n ++ codes "\n"
 
--- where a labelled value stands, as debug 3 inst1-pre inst4-post p9i
+-- the location of a labelled value, as debug 3 inst1-pre inst4-post p9i
 unfoldable pub debug_line : DebugLocation → List ℕ
 debug_line d = codes "debug " ++ decimal d.label ++ codes " " ++ point_text d.start ++ codes " " ++ point_text d.end ++ codes " " ++ place_text d.place
     ++ codes "\n"
@@ -56,10 +56,10 @@ debug_line d = codes "debug " ++ decimal d.label ++ codes " " ++ point_text d.st
 unfoldable pub blocks_text : FunctionValue → OutputValue → List ℕ
 blocks_text f o = flat_map (block_text f o) (range_with_len 0 (length f.blocks))
 
--- where labelled values stand
+-- the locations of labelled values
 unfoldable pub debug_text : OutputValue → List ℕ
 debug_text o = flat_map debug_line o.debug_locations
 
--- the blocks, the units of slots, and where labelled values stand
+-- the blocks, the units of slots, and the locations of labelled values
 unfoldable pub listing_text : FunctionValue → OutputValue → List ℕ
 listing_text f o = blocks_text f o ++ slots_line o.num_spillslots ++ debug_text o

@@ -1,4 +1,4 @@
--- The numbers of refusals, as the programs print them.
+-- The numbers of the allocator's errors, as the programs print them.
 use Rattle.std.specs.Prelude.{ℕ}
 use Rattle.regalloc2_names.specs.declared.RegAllocError.{RegAllocError}
 use Rattle.regalloc2_names.specs.declared.RegAllocError.TheVariants.{CritEdge, SSA, BB, Branch, EntryLivein, DisallowedBranchArg, TooManyLiveRegs}

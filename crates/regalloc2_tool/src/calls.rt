@@ -1,4 +1,4 @@
-//! What a person asks about a function in a text: the text, read, and calls with their answers.
+//! A user's calls about a function in a text: reading the text, and the calls with their results.
 
 pub mod call;
 pub mod reading;

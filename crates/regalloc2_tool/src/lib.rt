@@ -1,6 +1,8 @@
-//! What the command-line programs share: the listing of an allocated function, and the words for what is rejected or found.
+//! Shared parts of the command-line programs: the listing of an allocated function, and the texts
+//! of errors and findings.
 //!
-//! [`ra2`] is what the program of that name does, [`calls`] what `ra2_text` answers, [`svg`] the picture of an allocated function.
+//! [`ra2`] implements the program of that name, [`calls`] the subcommands of `ra2_text`, and
+//! [`svg`] draws an allocated function.
 #![tactic(auto)]
 
 pub mod calls;

@@ -19,7 +19,7 @@ use std::alloc::Allocator;
 use std::fmt;
 use std::io::{self, Write};
 
-/// A point, as `inst3-pre` or `inst3-post`.
+/// A program point, as `inst3-pre` or `inst3-post`.
 #[derive(Clone, Copy)]
 struct PointText(ProgPoint);
 
@@ -35,7 +35,7 @@ impl fmt::Display for PointText {
     }
 }
 
-/// What an instruction is, as `op`, `branch` or `ret`.
+/// An instruction's kind, as `op`, `branch` or `ret`.
 pub fn opcode_name<F: Function>(f: &F, inst: Inst) -> &'static str
     requires { inst < length (F.function f.now).insts }
     ensures { result.now ≡ opcode_text (inst_at (F.function f.now) inst) }
@@ -49,7 +49,7 @@ pub fn opcode_name<F: Function>(f: &F, inst: Inst) -> &'static str
     }
 }
 
-/// What stands behind an instruction's number: what it is, behind a space.
+/// The text after an instruction's number: a space and the instruction's kind.
 fn opcode_end<F: Function>(f: &F, inst: Inst) -> &'static str
     requires { inst < length (F.function f.now).insts }
     ensures { result.now ≡ codes " " ++ opcode_text (inst_at (F.function f.now) inst) }
@@ -63,7 +63,7 @@ fn opcode_end<F: Function>(f: &F, inst: Inst) -> &'static str
     }
 }
 
-/// The place of an operand; `none` where the list ends before.
+/// The place of an operand; `none` past the end of the list.
 fn place_at(places: &[Allocation], k: usize) -> Allocation
     ensures { result ≡ place_at places.now k }
 {
@@ -145,7 +145,7 @@ fn write_blocks<F: Function, A: Allocator, W: Write>(
     Ok(())
 }
 
-/// Writes where a labelled value stands.
+/// Writes the location of a labelled value.
 #[tactic(auto, unfolding(crate::specs::Listing::debug_line))]
 fn write_debug_location<W: Write>(
     location: (u32, ProgPoint, ProgPoint, Allocation),
@@ -160,7 +160,7 @@ fn write_debug_location<W: Write>(
     writeln!(writer, "debug {label} {from} {to} {place}")
 }
 
-/// Writes where labelled values stand.
+/// Writes the locations of labelled values.
 fn write_debug_locations<A: Allocator, W: Write>(
     output: &Output<A>,
     writer: &mut W,
@@ -173,8 +173,9 @@ fn write_debug_locations<A: Allocator, W: Write>(
     Ok(())
 }
 
-/// Writes the listing of a function that was allocated: block by block its instructions, each with its operands and
-/// their places, and the moves that run before it; then how many units the slots take, and where labelled values stand.
+/// Writes the listing of a function that was allocated: block by block its instructions, each with
+/// its operands and their places, and the moves that run before it; then the units of its slots,
+/// and the locations of labelled values.
 pub fn write_listing<F: Function, A: Allocator, W: Write>(
     f: &F,
     output: &Output<A>,

@@ -1,4 +1,4 @@
-//! Moves, as a listing has them: in few pieces, as `operands` says.
+//! Moves, as a listing writes them: in few pieces, as in `operands`.
 
 ghost use Rattle.std.specs.Prelude.{◌≡◌, ◌++◌, codes, OnOk};
 ghost use Rattle.std.specs.Io.KnownBytes.{Appends};
@@ -11,7 +11,7 @@ use regalloc2_function::Edit;
 use regalloc2_names::{Allocation, PReg, RegClass};
 use std::io::{self, Write};
 
-/// What stands behind the number of a register that is read.
+/// The text after the number of a register that is read.
 fn end_of_source(class: RegClass) -> &'static str
     ensures { result.now ≡ class_letter class ++ codes " -> " }
 {
@@ -22,7 +22,7 @@ fn end_of_source(class: RegClass) -> &'static str
     }
 }
 
-/// What stands behind the number of a register that is written.
+/// The text after the number of a register that is written.
 fn end_of_target(class: RegClass) -> &'static str
     ensures { result.now ≡ class_letter class ++ codes "\n" }
 {

@@ -1,6 +1,7 @@
-//! Operands with their places, as a listing has them.
+//! Operands with their places, as a listing writes them.
 //!
-//! Each piece that a writer is given costs as much as a short text, so texts that stand side by side are joined here.
+//! Each piece that a writer is given costs as much as a short text, so adjacent texts are joined
+//! here.
 
 ghost use Rattle.std.specs.Prelude.{◌≡◌, ◌++◌, None, codes, OnOk};
 ghost use Rattle.std.specs.Fmt.{decimal};
@@ -15,14 +16,14 @@ use regalloc2_names::{
 };
 use std::io::{self, Write};
 
-/// What stands before an operand.
+/// The text before an operand.
 fn separator(k: usize) -> &'static str
     ensures { result.now ≡ separator_text k }
 {
     if k == 0 { ": " } else { ", " }
 }
 
-/// What stands before the number of the first operand's vreg.
+/// The text before the number of the first operand's vreg.
 fn first_head(kind: OperandKind, pos: OperandPos) -> &'static str
     ensures { result.now ≡ codes ": " ++ kind_text kind pos ++ codes ": " ++ codes "v" }
 {
@@ -34,7 +35,7 @@ fn first_head(kind: OperandKind, pos: OperandPos) -> &'static str
     }
 }
 
-/// What stands before the number of a further operand's vreg.
+/// The text before the number of a further operand's vreg.
 fn next_head(kind: OperandKind, pos: OperandPos) -> &'static str
     ensures { result.now ≡ codes ", " ++ kind_text kind pos ++ codes ": " ++ codes "v" }
 {
@@ -46,7 +47,7 @@ fn next_head(kind: OperandKind, pos: OperandPos) -> &'static str
     }
 }
 
-/// What stands before the number of an operand's vreg, as `, Use: v`.
+/// The text before the number of an operand's vreg, as `, Use: v`.
 fn head_of(k: usize, kind: OperandKind, pos: OperandPos) -> &'static str
     ensures { result.now ≡ separator_text k ++ kind_text kind pos ++ codes ": " ++ codes "v" }
 {
@@ -68,7 +69,7 @@ fn letter_of(class: RegClass) -> &'static str
     }
 }
 
-/// What stands between a vreg's number and the place under `Any`.
+/// The text between a vreg's number and the place under `Any`.
 fn any_of(class: RegClass) -> &'static str
     ensures { result.now ≡ class_letter class ++ codes " " ++ codes "any" ++ codes " [" }
 {
@@ -79,7 +80,7 @@ fn any_of(class: RegClass) -> &'static str
     }
 }
 
-/// What stands between a vreg's number and the place under `Reg`.
+/// The text between a vreg's number and the place under `Reg`.
 fn reg_of(class: RegClass) -> &'static str
     ensures { result.now ≡ class_letter class ++ codes " " ++ codes "reg" ++ codes " [" }
 {
@@ -90,7 +91,7 @@ fn reg_of(class: RegClass) -> &'static str
     }
 }
 
-/// What stands between a vreg's number and the place under `Stack`.
+/// The text between a vreg's number and the place under `Stack`.
 fn stack_of(class: RegClass) -> &'static str
     ensures { result.now ≡ class_letter class ++ codes " " ++ codes "stack" ++ codes " [" }
 {
@@ -101,7 +102,7 @@ fn stack_of(class: RegClass) -> &'static str
     }
 }
 
-/// What stands between a vreg's number and that of its fixed register.
+/// The text between a vreg's number and that of its fixed register.
 fn fixed_of(class: RegClass) -> &'static str
     ensures { result.now ≡ class_letter class ++ codes " " ++ codes "fixed(" ++ codes "p" }
 {
@@ -112,7 +113,7 @@ fn fixed_of(class: RegClass) -> &'static str
     }
 }
 
-/// What stands between a fixed register's number and the place.
+/// The text between a fixed register's number and the place.
 fn end_of_fixed(class: RegClass) -> &'static str
     ensures { result.now ≡ class_letter class ++ codes ")" ++ codes " [" }
 {
@@ -123,7 +124,7 @@ fn end_of_fixed(class: RegClass) -> &'static str
     }
 }
 
-/// What stands between a vreg's number and the index of a reuse.
+/// The text between a vreg's number and the index of a reuse.
 fn reuse_of(class: RegClass) -> &'static str
     ensures { result.now ≡ class_letter class ++ codes " " ++ codes "reuse(" }
 {
@@ -134,7 +135,7 @@ fn reuse_of(class: RegClass) -> &'static str
     }
 }
 
-/// What stands behind the number of an operand's register.
+/// The text after the number of an operand's register.
 fn end_of_register(class: RegClass) -> &'static str
     ensures { result.now ≡ class_letter class ++ codes "]" }
 {
@@ -207,7 +208,7 @@ fn write_constraint<W: Write>(
     }
 }
 
-/// Writes the register in which an operand stands.
+/// Writes an operand's register.
 fn write_register<W: Write>(preg: PReg, writer: &mut W) -> io::Result<()>
     ensures { OnOk result (Appends (W.contents writer.old) (W.contents writer.new) (register_text preg ++ codes "]")) }
 {

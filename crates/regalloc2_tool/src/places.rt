@@ -1,4 +1,4 @@
-//! Places that are no registers, with what stands behind them.
+//! Places other than registers, with the text after them.
 
 ghost use Rattle.std.specs.Prelude.{◌≡◌, ◌++◌, OnOk};
 ghost use Rattle.std.specs.Io.KnownBytes.{Appends};
@@ -7,7 +7,7 @@ ghost use Rattle.regalloc2_names.specs.Text.{place_text, slot_text};
 use regalloc2_names::{Allocation, SpillSlot};
 use std::io::{self, Write};
 
-/// Writes a slot, and what stands behind it.
+/// Writes a slot, and the text after it.
 fn write_slot<W: Write>(slot: SpillSlot, rest: &str, writer: &mut W) -> io::Result<()>
     ensures { OnOk result (Appends (W.contents writer.old) (W.contents writer.new) (slot_text slot ++ rest.now)) }
 {
@@ -15,7 +15,7 @@ fn write_slot<W: Write>(slot: SpillSlot, rest: &str, writer: &mut W) -> io::Resu
     write!(writer, "stack{number}{rest}")
 }
 
-/// Writes a place that mostly is a slot, and what stands behind it.
+/// Writes a place that usually is a slot, and the text after it.
 pub(crate) fn write_slot_or_other<W: Write>(
     place: Allocation,
     rest: &str,

@@ -1,5 +1,5 @@
-//! What the program `ra2` does: it reads a stored function, allocates registers to it, and prints what it gives; or it
-//! judges a stored output.
+//! The program `ra2`: reads a stored function, allocates registers to it, and prints the result, or
+//! checks a stored output.
 
 mod judging;
 mod program;

@@ -1,4 +1,4 @@
-//! The numbers of refusals, and words for them.
+//! The numbers of the allocator's errors, and their texts.
 
 ghost use Rattle.std.specs.Prelude.{◌≡◌};
 ghost use Rattle.regalloc2_tool.specs.Refusal.{refusal_number};
@@ -6,7 +6,7 @@ ghost use Rattle.regalloc2_tool.specs.Refusal.{refusal_number};
 use regalloc2_names::RegAllocError;
 use std::fmt;
 
-/// The number of a refusal, counted from 1 in the order in which `RegAllocError` lists them.
+/// The number of a `RegAllocError`, counted from 1 in the order of its variants.
 pub fn number_of(error: RegAllocError) -> u8
     ensures { result ≡ refusal_number error }
 {
@@ -25,7 +25,7 @@ pub fn number_of(error: RegAllocError) -> u8
     }
 }
 
-/// A refusal with its number and its words, as `refused 5: the entry has parameters`.
+/// An allocator's error with its number and its text, as `refused 5: the entry has parameters`.
 #[derive(Clone, Copy)]
 pub struct RefusalText(pub RegAllocError);
 

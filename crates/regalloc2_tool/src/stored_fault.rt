@@ -1,4 +1,4 @@
-//! The numbers of the faults of stored numbers, and words for them.
+//! The error numbers of `StoredFault`, and its texts.
 
 ghost use Rattle.std.specs.Prelude.{◌≡◌};
 ghost use Rattle.regalloc2_tool.specs.Fault.{fault_number};
@@ -7,7 +7,7 @@ use regalloc2_explain::StoredCause;
 use regalloc2_function::StoredFault;
 use std::fmt;
 
-/// The number of a fault of stored numbers, counted from 1 in the order in which `StoredFault` lists them.
+/// The error number of a `StoredFault`, counted from 1 in the order of its variants.
 pub fn number_of(fault: StoredFault) -> u8
     ensures { result ≡ fault_number fault }
 {
@@ -21,7 +21,8 @@ pub fn number_of(fault: StoredFault) -> u8
     }
 }
 
-/// A fault of stored numbers with its number and its cause, as `2: the entry is block1, and the function has 1 block`.
+/// An error in stored numbers, with its error number and its cause, as `2: the entry is block1, and
+/// the function has 1 block`.
 #[derive(Clone, Copy)]
 pub struct FaultText(pub StoredFault, pub StoredCause);
 

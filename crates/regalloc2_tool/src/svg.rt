@@ -1,4 +1,4 @@
-//! A picture, as SVG, of where each vreg stands in an allocated function.
+//! An SVG picture of each vreg's current location in an allocated function.
 
 mod head;
 mod lanes;

@@ -1,4 +1,4 @@
-//! A function and its code, run beside one another.
+//! Runs a function and its code side by side.
 
 use super::random::random_program;
 use crate::compile;
@@ -8,13 +8,13 @@ use codegen_machine::run::{Standing, run_code, run_procedure};
 use codegen_machine::text::read_procedure;
 use std::alloc::{AllocError, Global};
 
-/// After how many steps a run of a function is given up.
+/// The step limit of a function's run.
 const STEPS: u64 = 1_000_000;
 
-/// After how many a run of its code is, which makes several for each.
+/// The step limit of the code's run, which makes several steps for each of the function's.
 const CODE_STEPS: u64 = 100_000_000;
 
-/// How runs of a function and of its code stand after many steps.
+/// The outcomes of a function and of its code at the step limits.
 pub fn run_both(
     alloc: Global,
     procedure: &Procedure,
@@ -30,7 +30,9 @@ pub fn run_both(
     Ok((source, run_code(alloc, code, arguments, steps)?))
 }
 
-/// Whether the function of a seed is read and compiled, and it and its code return one number. Nothing if one of that fails.
+/// Returns whether the function generated from a seed and its code return the same number.
+///
+/// `None` if generating, reading, compiling or running fails.
 pub fn agrees_at_random(alloc: Global, seed: u64) -> Option<bool> {
     let text = random_program(alloc, seed).ok()?;
     let procedure = read_procedure(alloc, text.as_str(), 1).ok()?;

@@ -1,20 +1,20 @@
-//! Numbers that look random.
+//! Pseudo-random numbers.
 
 ghost use Rattle.std.specs.Prelude.{◌<◌};
 
-/// Numbers that look random, the same ones for the same seed.
+/// Pseudo-random numbers, the same ones for the same seed.
 #[derive(Drop)]
 pub struct Random {
     state: u64,
 }
 
 impl Random {
-    /// The numbers of a seed.
+    /// The generator of a seed.
     pub fn new(seed: u64) -> Random {
         Random { state: seed }
     }
 
-    /// The next number, of which the upper bits look more random than the lower ones.
+    /// The next number; its upper bits are more random than its lower ones.
     pub fn next(&mut self) -> u64 {
         self.state = self
             .state
@@ -31,7 +31,7 @@ impl Random {
         (self.next() >> 33) as usize % count
     }
 
-    /// True once in `count` times.
+    /// True one time in `count`.
     pub fn once_in(&mut self, count: usize) -> bool
         requires { 0 < count }
     {

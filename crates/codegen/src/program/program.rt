@@ -1,4 +1,4 @@
-//! What the program does with a text.
+//! Runs the program's tasks.
 
 ghost use Rattle.std.specs.Prelude.{◌≤◌, IfOk};
 
@@ -16,18 +16,18 @@ use std::error::Error;
 use std::fmt;
 use std::io::{self, Read, Write};
 
-/// The status of bad words, of a bad text, and of output that can't be written.
+/// The exit status for invalid arguments, an invalid text, or output that can't be written.
 pub const UNUSABLE: u8 = 2;
 
-/// The status of a refused function, and of runs that don't end alike within their steps.
+/// The exit status for a rejected function, and for runs whose outcomes differ within their steps.
 const REFUSED: u8 = 1;
 
-/// Why a task isn't done.
+/// Why a task fails.
 #[derive(Debug, Drop)]
 enum TaskError {
-    /// A growth was refused.
+    /// An allocation failed.
     Memory,
-    /// Something can't be written.
+    /// The output can't be written.
     Write(io::Error),
 }
 
@@ -54,7 +54,7 @@ impl From<io::Error> for TaskError {
     }
 }
 
-/// The code of a function; nothing if it is refused, of which `err` then gets a line.
+/// The code of a function; if the function is rejected, nothing, and a line on `err`.
 fn code_of<E: Write>(
     alloc: Global,
     procedure: &Procedure,
@@ -75,7 +75,7 @@ fn code_of<E: Write>(
     Ok(None)
 }
 
-/// Does an action with a function, and answers the status.
+/// Applies an action to a function, and returns the exit status.
 fn act<O: Write, E: Write>(
     alloc: Global,
     action: &Action,
@@ -102,7 +102,7 @@ fn act<O: Write, E: Write>(
     }
 }
 
-/// Does an action with the function in a text, and answers the status.
+/// Applies an action to the function in a text, and returns the exit status.
 fn perform<O: Write, E: Write>(
     alloc: Global,
     path: &str,
@@ -123,7 +123,7 @@ fn perform<O: Write, E: Write>(
     }
 }
 
-/// Does a task, and answers the status.
+/// Runs a task, and returns the exit status.
 fn fulfil<R: Read + Drop, O: Write, E: Write>(
     alloc: Global,
     task: &Task<'_>,
@@ -151,11 +151,12 @@ fn fulfil<R: Read + Drop, O: Write, E: Write>(
     Ok(status)
 }
 
-/// Does a task, with what a reader gives where it needs a text, and answers the status.
+/// Runs a task, whose text, if it needs any, is read from a reader; returns the exit status.
 ///
-/// The text's fault, or why there is no whole answer, is a line on `err`, and the status then 2. A refused function is a line there too,
-/// and the status then 1, also where the runs of a function and of its code don't end alike. Else the answer is on `out`, flushed, and
-/// the status 0.
+/// An error in the text, or the reason why the output is incomplete, is a line on `err`, and the
+/// status is 2. A rejected function is a line there too, and the status is 1; it is also 1 if the
+/// runs of a function and of its code have different outcomes. Otherwise the output is on `out`,
+/// flushed, and the status is 0.
 pub fn answer<R: Read + Drop, O: Write, E: Write>(
     alloc: Global,
     task: &Task<'_>,

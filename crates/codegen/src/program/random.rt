@@ -1,4 +1,4 @@
-//! Functions that look random, as texts.
+//! Randomly generated functions, as texts.
 
 ghost use Rattle.std.specs.Prelude.{◌<◌};
 
@@ -33,24 +33,24 @@ const SHIFTS: [&str; 3] = ["shift_left", "shift_right", "signed_shift_right"];
 /// The divisions.
 const DIVISIONS: [&str; 4] = ["div", "rem", "signed_div", "signed_rem"];
 
-/// Where the conditions begin among the operations.
+/// The position of the first condition among the operations.
 const CONDITIONS: usize = 8;
 
-/// A function that is being written. It takes three arguments.
+/// A function that is being written. It has three arguments.
 #[derive(Drop)]
 struct Draft {
     random: Random,
     text: String,
-    /// The virtual registers that are written before the end of the text on each way there.
+    /// The virtual registers written on every path to the end of the text so far.
     known: Vec<u32>,
-    /// How many virtual registers there are.
+    /// The number of vregs.
     num_vregs: u32,
-    /// How many blocks there are.
+    /// The number of blocks.
     num_blocks: u32,
 }
 
 impl Draft {
-    /// The number of a new virtual register.
+    /// The number of a new vreg.
     fn new_vreg(&mut self) -> u32 {
         let number = self.num_vregs;
         self.num_vregs = number.saturating_add(1);
@@ -64,14 +64,14 @@ impl Draft {
         number
     }
 
-    /// One of the virtual registers that are written, the newest ones more often.
+    /// One of the vregs that are written, later ones more often.
     fn pick(&mut self) -> u32 {
         let count = self.known.len().max(1);
         let at = self.random.below(count).max(self.random.below(count));
         self.known.get(at).copied().unwrap_or(0)
     }
 
-    /// Writes an operation of two numbers, of which the second is given once in three times.
+    /// Writes an operation of two numbers; one time in three the second is a constant.
     fn write_pair(&mut self, name: &str) -> Result<(), AllocError> {
         let left = self.pick();
         if self.random.below(3) == 0 {
@@ -84,7 +84,7 @@ impl Draft {
         Ok(())
     }
 
-    /// Writes a shift, by a number or by a virtual register.
+    /// Writes a shift, by a constant or by a vreg.
     fn write_shift(&mut self, name: &str) -> Result<(), AllocError> {
         let left = self.pick();
         if self.random.below(2) == 0 {
@@ -145,7 +145,7 @@ impl Draft {
         Ok(())
     }
 
-    /// Writes up to so many operations, at least one.
+    /// Writes at least one and at most that many operations.
     fn write_operations(&mut self, most: usize) -> Result<(), AllocError>
         requires { 0 < most }
     {
@@ -156,7 +156,7 @@ impl Draft {
         Ok(())
     }
 
-    /// Writes a block of one parameter that goes on to `join` with what it computes.
+    /// Writes a block with one parameter that jumps to `join` with its result.
     fn write_side(&mut self, block: u32, join: u32) -> Result<(), AllocError> {
         let before = self.known.len();
         let param = self.new_vreg();
@@ -169,7 +169,7 @@ impl Draft {
         Ok(())
     }
 
-    /// Writes what decides a branch: a number, or a condition of two.
+    /// Writes the deciding part of a branch: a number, or a condition of two.
     fn write_test(&mut self) -> Result<(), AllocError> {
         let at = self.random.below(2 * (OPERATIONS.len() - CONDITIONS));
         if let Some(name) = OPERATIONS.get(CONDITIONS + at) {
@@ -180,7 +180,7 @@ impl Draft {
         Ok(())
     }
 
-    /// Writes a branch to two blocks, and the block where they meet.
+    /// Writes a branch to two blocks, and the block where they join.
     fn write_fork(&mut self) -> Result<(), AllocError> {
         let (first, second, join) = (self.new_block(), self.new_block(), self.new_block());
         write!(self.text, "  branch_if ")?;
@@ -196,7 +196,8 @@ impl Draft {
         Ok(())
     }
 
-    /// Writes the head of a loop of a few turns, with three parameters, of which the first counts the turns that are left.
+    /// Writes the head of a loop of a few iterations, with three parameters, the first of which
+    /// counts the remaining iterations.
     fn write_head(&mut self, head: u32, body: u32, end: u32) -> Result<[u32; 3], AllocError> {
         let (turns, left, right) = (self.random.below(7), self.pick(), self.pick());
         let count = self.new_vreg();
@@ -213,7 +214,8 @@ impl Draft {
         Ok(params)
     }
 
-    /// Writes a loop of a few turns, whose body passes its second parameter on as the first but one.
+    /// Writes a loop of a few iterations, whose body passes its second parameter on as the second
+    /// last.
     fn write_loop(&mut self) -> Result<(), AllocError> {
         let (head, body, end) = (self.new_block(), self.new_block(), self.new_block());
         let [count, _, right] = self.write_head(head, body, end)?;
@@ -229,7 +231,7 @@ impl Draft {
         Ok(())
     }
 
-    /// Writes the return of a number to which each of the known ones adds.
+    /// Writes the return of a number to which each of the written vregs contributes.
     fn write_return(&mut self) -> Result<(), AllocError> {
         let (mut sum, factor) = (self.new_vreg(), self.new_vreg());
         writeln!(
@@ -248,7 +250,8 @@ impl Draft {
     }
 }
 
-/// The text of a function of three arguments that looks random, the same for the same seed. It ends whatever they are.
+/// Returns the text of a randomly generated function of three arguments, the same for the same
+/// seed. The function terminates for all arguments.
 pub fn random_program(alloc: Global, seed: u64) -> Result<String, AllocError> {
     let mut draft = Draft {
         random: Random::new(seed),

@@ -1,19 +1,19 @@
-//! What the program is asked to do.
+//! The program's tasks.
 
-/// What is done with the function in a text.
+/// The action on a function that is read from a text.
 #[derive(Drop)]
 pub enum Action {
-    /// It is written as assembly.
+    /// Write it as assembly.
     Write,
-    /// It is run with these arguments.
+    /// Run it with these arguments.
     Run(Vec<u64>),
 }
 
-/// What the words ask for.
+/// The task in the arguments.
 #[derive(Drop)]
 pub enum Task<'a> {
-    /// To read a function from the file of that path, and do something with it.
+    /// Read a function from the file at that path, and apply an action to it.
     Read(&'a str, Action),
-    /// To write the text of a function that looks random, of that seed.
+    /// Write the text of a randomly generated function, from that seed.
     Random(u64),
 }

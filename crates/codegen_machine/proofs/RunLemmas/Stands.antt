@@ -1,4 +1,4 @@
--- How runs stand, once they are over and before.
+-- Outcomes of runs, before and after they end.
 use Rattle.std.proofs.Common.{ℕ, zero, suc, ◌≡◌, ◌+◌, ◌-◌, ◌<◌, refl, ap, sym, ◌∙◌, arith}
 use Rattle.std.specs.Prelude.{List}
 use Rattle.regalloc2_function.specs.FunctionValue.{FunctionValue}
@@ -10,14 +10,14 @@ use Rattle.codegen_machine.specs.Run.Runs.{standing_of, run_outcome}
 use Rattle.codegen_machine.specs.declared.run.standing.Standing.{Standing}
 use Rattle.codegen_machine.specs.declared.run.standing.Standing.TheVariants.{Running, Returned, Trapped, Stuck}
 
--- what is over stands as it did, however it would go on
+-- a run that is over keeps its outcome, however many steps follow
 pub stopped : {S : Type 0} (r : Standing) (s : S) (go : S → RunOutcome S) → (r ≡ Running → ⊥) → r ≡ standing_of (further (run_outcome r s) go)
 stopped Running s go over = absurd (over refl)
 stopped (Returned n) s go over = refl
 stopped Trapped s go over = refl
 stopped Stuck s go over = refl
 
--- and is that outcome
+-- and that outcome is its result
 pub over_stays : {S : Type 0} (r : Standing) (s : S) (go : S → RunOutcome S) → (r ≡ Running → ⊥) → further (run_outcome r s) go ≡ run_outcome r s
 over_stays Running s go over = absurd (over refl)
 over_stays (Returned n) s go over = refl
@@ -30,7 +30,7 @@ stands_so (Returned n) s = refl
 stands_so Trapped s = refl
 stands_so Stuck s = refl
 
--- a run of a function that is over after so many steps is so after more
+-- a function's run that is over after some steps is over after more
 run_stays : (f : FunctionValue) (os : List Operation) (args : ℕ → ℕ) (first : ProcedureState) (n k : ℕ) (r : Standing) (s : ProcedureState) →
     (r ≡ Running → ⊥) → procedure_run f os args n first ≡ run_outcome r s → procedure_run f os args (n + k) first ≡ run_outcome r s
 unfolding procedure_run
@@ -39,7 +39,7 @@ run_stays f os args first n (suc k) r s over is =
     let e : n + suc k ≡ suc (n + k) = omega arith in
     rw e (ap (λ o. further o (procedure_step f os args)) (run_stays f os args first n k r s over is) ∙ over_stays r s _ over)
 
--- a step more
+-- one more step
 pub run_more : (f : FunctionValue) (os : List Operation) (args : ℕ → ℕ) (first : ProcedureState) (n : ℕ) (r : Standing) (s t : ProcedureState) →
     procedure_run f os args n first ≡ runs s → procedure_step f os args s ≡ run_outcome r t → procedure_run f os args (n + 1) first ≡ run_outcome r t
 unfolding procedure_run
@@ -47,7 +47,7 @@ run_more f os args first n r s t is step =
     let e : n + 1 ≡ suc n = omega arith in
     rw e (ap (λ o. further o (procedure_step f os args)) is ∙ step)
 
--- and the last one
+-- and the last step
 pub run_ends : (f : FunctionValue) (os : List Operation) (args : ℕ → ℕ) (first : ProcedureState) (n steps : ℕ) (r : Standing) (s t : ProcedureState) →
     n < steps → procedure_run f os args n first ≡ runs s → procedure_step f os args s ≡ run_outcome r t → (r ≡ Running → ⊥) →
     r ≡ standing_of (procedure_run f os args steps first)
@@ -61,7 +61,7 @@ pub run_none : (f : FunctionValue) (os : List Operation) (args : ℕ → ℕ) (f
 unfolding procedure_run
 run_none f os args first = refl
 
--- a run of the machine from its first step on, where it has more steps to make
+-- a run of the machine from its first step, if it has more steps to make
 pub machine_more : (code : CodeValue) (args : ℕ → ℕ) (n : ℕ) (r : Standing) (s t : MachineState) → 0 < n → machine_step code args s ≡ run_outcome r t →
     machine_run code args n s ≡ further (run_outcome r t) (machine_run code args (n - 1))
 unfolding machine_run
@@ -70,7 +70,7 @@ machine_more code args (suc n) r s t some step =
     let e : suc n - 1 ≡ n = omega arith in
     rw e (ap (λ o. further o (machine_run code args n)) step)
 
--- and where it has none
+-- and if it has none
 pub machine_none : (code : CodeValue) (args : ℕ → ℕ) (s : MachineState) → machine_run code args 0 s ≡ runs s
 unfolding machine_run
 machine_none code args s = refl

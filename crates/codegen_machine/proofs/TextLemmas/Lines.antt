@@ -3,13 +3,13 @@ use Rattle.std.proofs.Common.{ℕ, zero, suc, ◌≡◌, ◌+◌, ◌<◌, ◌�
 use Rattle.codegen_machine.specs.declared.Instruction.{Instruction}
 use Rattle.codegen_machine.specs.Text.Assembly.{line_text, lines_text}
 
--- without instructions there is none
+-- no instructions have an empty text
 pub lines_none : (count k : ℕ) → lines_text count k [] ≡ []
 unfolding lines_text
 lines_none count k = refl
 
 module _ (count : ℕ) where
-  -- so many instructions, and one more
+  -- that many instructions, and one more
   lines_more : (all : List Instruction) (n k : ℕ) (d : Instruction) → k < length all →
       lines_text count n (take k all) ++ line_text count (n + k) (get_or all k d) ≡ lines_text count n (take (k + 1) all)
   unfolding lines_text

@@ -1,4 +1,4 @@
--- What a procedure does: an interpreter that makes a step for each line.
+-- The interpretation of a procedure: an interpreter that makes a step for each line.
 use Rattle.std.specs.Prelude.{ℕ, zero, suc, ◌+◌, nat_eq, if◌then◌else◌, List, slice_get, Option, None, Some}
 use Rattle.regalloc2_names.specs.Register.{VirtualRegister}
 use Rattle.regalloc2_function.specs.FunctionValue.{FunctionValue, block_at}
@@ -15,16 +15,16 @@ use Rattle.codegen_machine.specs.declared.ir.operation.Count.TheVariants.{VReg a
 use Rattle.codegen_machine.specs.declared.ir.operation.Right.{Right}
 use Rattle.codegen_machine.specs.declared.ir.operation.Right.TheVariants.{VReg, Number}
 
--- where a run is, and the numbers of the virtual registers
+-- the current line of a run, and the numbers of the virtual registers
 pub record ProcedureState : Type 0 where
   pub at : Location
   pub numbers : VirtualRegister → ℕ
 
--- the next line of the block, where a virtual register has been written
+-- continues at the block's next line, with a vreg written
 abbrev pub onward : ProcedureState → VirtualRegister → ℕ → RunOutcome ProcedureState
 onward s v n = Running (record { at = record { block = s.at.block; inst = s.at.inst + 1 }; numbers = number_set s.numbers v n })
 
--- the first line of the successor at a position, whose parameters take the arguments, all at once
+-- continues at the first line of the successor at a position, with the arguments assigned to its parameters in parallel
 abbrev pub entered : FunctionValue → ProcedureState → ℕ → Option ℕ → RunOutcome ProcedureState
 entered f s k None = Stuck
 entered f s k (Some b) = Running (record {
@@ -35,17 +35,17 @@ entered f s k (Some b) = Running (record {
 abbrev pub along : FunctionValue → ProcedureState → ℕ → RunOutcome ProcedureState
 along f s k = entered f s k (slice_get (block_at f s.at.block).succs k)
 
--- a second number, where virtual registers have these
+-- the value of a second number, given the numbers of vregs
 abbrev pub right_number : (VirtualRegister → ℕ) → Right → ℕ
 right_number numbers (VReg v) = numbers v
 right_number numbers (Number n) = n
 
--- and a count of places
+-- the value of a shift count
 abbrev pub count_number : (VirtualRegister → ℕ) → Count → ℕ
 count_number numbers (CountIn v) = numbers v
 count_number numbers (CountOf n) = n
 
--- what a line does; the arguments are given by their numbers
+-- the effect of a line; the arguments are given by their numbers
 abbrev pub done : FunctionValue → (ℕ → ℕ) → Option Operation → ProcedureState → RunOutcome ProcedureState
 done f args None s = Stuck
 done f args (Some (Argument to k)) s = onward s to (args k)
@@ -62,11 +62,11 @@ done f args (Some (BranchIf v)) s = along f s (if nat_eq (s.numbers v) 0 then 1 
 done f args (Some (BranchIfHolds c left right)) s = along f s (if condition_holds c (s.numbers left) (right_number s.numbers right) then 0 else 1)
 done f args (Some (Return v)) s = Returned (s.numbers v)
 
--- one step: that of the line at which the run is
+-- one step: that of the current line
 abbrev pub procedure_step : FunctionValue → List Operation → (ℕ → ℕ) → ProcedureState → RunOutcome ProcedureState
 procedure_step f operations args s = done f args (slice_get operations s.at.inst) s
 
--- so many steps
+-- that many steps
 unfoldable pub procedure_run : FunctionValue → List Operation → (ℕ → ℕ) → ℕ → ProcedureState → RunOutcome ProcedureState
 procedure_run f operations args zero s = Running s
 procedure_run f operations args (suc n) s = further (procedure_run f operations args n s) (procedure_step f operations args)

@@ -1,4 +1,4 @@
--- Whole numbers of 64 bits: what operators compute of them, and which conditions hold.
+-- 64-bit integers: the results of operators, and the conditions.
 use Rattle.std.specs.Prelude.{ℕ, ◌+◌, ◌-◌, ◌*◌, ◌/◌, ◌%◌, ◌^◌, Bool, false, true, ◌&&◌, ◌||◌, not, nat_eq, nat_lt, nat_le, if◌then◌else◌, bit_and, bit_or, bit_xor}
 use Rattle.codegen_machine.specs.declared.ir.operation.Operator.{Operator}
 use Rattle.codegen_machine.specs.declared.ir.operation.Operator.TheVariants.{Add, Sub, Mul, And, Or, Xor}
@@ -10,7 +10,7 @@ use Rattle.codegen_machine.specs.declared.ir.operation.Condition.{Condition}
 use Rattle.codegen_machine.specs.declared.ir.operation.Condition.TheVariants.{Equal, NotEqual, Less, LessOrEqual, Greater, GreaterOrEqual}
 use Rattle.codegen_machine.specs.declared.ir.operation.Condition.TheVariants.{SignedLess, SignedLessOrEqual, SignedGreater, SignedGreaterOrEqual}
 
--- what an operator computes, modulo 2^64
+-- the result of an operator, modulo 2^64
 abbrev pub computed : Operator → ℕ → ℕ → ℕ
 computed Add a b = (a + b) % 2 ^ 64
 computed Sub a b = (a + (2 ^ 64 - b)) % 2 ^ 64
@@ -19,39 +19,39 @@ computed And a b = bit_and a b
 computed Or a b = bit_or a b
 computed Xor a b = bit_xor a b
 
--- a number whose bits are moved by a count of places, modulo 64
+-- a number shifted by a count, modulo 64
 abbrev pub shifted : ShiftOperator → ℕ → ℕ → ℕ
 shifted Left a n = (a * 2 ^ (n % 64)) % 2 ^ 64
 shifted Right a n = a / 2 ^ (n % 64)
 shifted SignedRight a n = if nat_lt a (2 ^ 63) then a / 2 ^ (n % 64) else 2 ^ 64 - 1 - (2 ^ 64 - 1 - a) / 2 ^ (n % 64)
 
--- a number's rank among those with sign: from 2^63 on they come first
+-- a number's rank in the signed order: numbers from 2^63 on come first
 abbrev pub signed_rank : ℕ → ℕ
 signed_rank a = (a + 2 ^ 63) % 2 ^ 64
 
--- whether a number is negative, with sign; and how far it is from 0
+-- whether a number is negative in two's complement; and its absolute value
 abbrev pub is_negative : ℕ → Bool
 is_negative a = nat_le (2 ^ 63) a
 
 abbrev pub magnitude : ℕ → ℕ
 magnitude a = if is_negative a then 2 ^ 64 - a else a
 
--- so far from 0, above or below
+-- the number with that absolute value, positive or negative
 abbrev pub with_sign : Bool → ℕ → ℕ
 with_sign negative n = if negative then (2 ^ 64 - n) % 2 ^ 64 else n
 
--- a quotient, towards 0, or a remainder, which has the dividend's sign
+-- a quotient, rounded towards 0, or a remainder, which has the dividend's sign
 abbrev pub divided : DivisionPart → Bool → ℕ → ℕ → ℕ
 divided Quotient false a b = a / b
 divided Remainder false a b = a % b
 divided Quotient true a b = with_sign (if is_negative a then not (is_negative b) else is_negative b) (magnitude a / magnitude b)
 divided Remainder true a b = with_sign (is_negative a) (magnitude a % magnitude b)
 
--- whether a division traps: at a zero divisor, and with sign where -2^63 is divided by -1
+-- whether a division traps: if the divisor is 0, or if it is signed and divides -2^63 by -1
 abbrev pub division_traps : Bool → ℕ → ℕ → Bool
 division_traps signed a b = nat_eq b 0 || (signed && (nat_eq a (2 ^ 63) && nat_eq b (2 ^ 64 - 1)))
 
--- what a number has above its highest bit: nothing, or copies of that
+-- the upper half of a number extended to 128 bits: zeros, or copies of its highest bit
 abbrev pub extended : Bool → ℕ → ℕ
 extended signed a = if signed && is_negative a then 2 ^ 64 - 1 else 0
 
@@ -68,22 +68,22 @@ condition_holds SignedLessOrEqual a b = nat_le (signed_rank a) (signed_rank b)
 condition_holds SignedGreater a b = nat_lt (signed_rank b) (signed_rank a)
 condition_holds SignedGreaterOrEqual a b = nat_le (signed_rank b) (signed_rank a)
 
--- 1 for what holds, 0 for what doesn't
+-- 1 if it holds, else 0
 abbrev pub truth : Bool → ℕ
 truth b = if b then 1 else 0
 
--- numbers by number, with one changed
+-- a table of numbers with one entry changed
 abbrev pub put : (ℕ → ℕ) → ℕ → ℕ → ℕ → ℕ
 put m k n q = if nat_eq k q then n else m q
 
--- how a run stands: it goes on in a state, it has ended with a number or by a trap, or it can't go on
+-- the outcome of a run: it still runs, in some state; it has returned a number; it has trapped; or it is stuck
 pub data RunOutcome (S : Type 0) : Type 0 where
   Running : S → RunOutcome S
   Returned : ℕ → RunOutcome S
   Trapped : RunOutcome S
   Stuck : RunOutcome S
 
--- goes on where it still runs
+-- continues if it still runs
 abbrev pub further : {S : Type 0} → RunOutcome S → (S → RunOutcome S) → RunOutcome S
 further (Running s) go = go s
 further (Returned n) go = Returned n

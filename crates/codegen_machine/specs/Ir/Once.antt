@@ -1,4 +1,4 @@
--- Operands are the same in one way at most, so a type may hold that they are.
+-- Proofs that two operands are equal are unique, so a type may hold them.
 use Rattle.std.specs.Prelude.{ℕ, ◌≡◌, zero, suc, List, refl}
 use Rattle.std.specs.Coded.{Coded, Coded-set, coded_ℕ, coded_list, coded×, code_by}
 use Rattle.regalloc2_names.specs.Register.{VirtualRegister, class_code, class_of_code}
@@ -19,7 +19,7 @@ class_back Int = refl
 class_back Float = refl
 class_back Vector = refl
 
--- a constraint as three numbers: which form it has, and what that holds
+-- a constraint as three numbers: its form, and its fields
 abbrev constraint_numbers : OperandConstraint → ℕ × (ℕ × ℕ)
 constraint_numbers Any = (0, (0, 0))
 constraint_numbers Reg = (1, (0, 0))

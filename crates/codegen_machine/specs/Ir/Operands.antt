@@ -1,4 +1,4 @@
--- What an operation reads and writes, as the allocator is told.
+-- The operands and clobbers of an operation, as the allocator reads them.
 use Rattle.std.specs.Prelude.{ℕ, Bool, true, false, List, [], ◌∷◌}
 use Rattle.regalloc2_names.specs.Register.{Register, VirtualRegister, is_register}
 use Rattle.regalloc2_names.specs.Operand.{OperandValue}
@@ -17,24 +17,24 @@ use Rattle.codegen_machine.specs.declared.ir.operation.Count.TheVariants.{VReg a
 use Rattle.codegen_machine.specs.declared.ir.operation.Right.{Right}
 use Rattle.codegen_machine.specs.declared.ir.operation.Right.TheVariants.{VReg, Number}
 
--- a definition at the end of the instruction, and a use at its beginning
+-- a late definition, and an early use
 abbrev pub def_in : OperandConstraint → VirtualRegister → OperandValue
 def_in c v = record { vreg = v; constraint = c; kind = Def; position = Late }
 
 abbrev pub use_in : OperandConstraint → VirtualRegister → OperandValue
 use_in c v = record { vreg = v; constraint = c; kind = Use; position = Early }
 
--- a second number is read from anywhere, unless it is given
+-- a second number may be read from any place, unless it is a constant
 abbrev pub right_in : Right → List OperandValue
 right_in (VReg v) = use_in Any v ∷ []
 right_in (Number n) = []
 
--- a count of places is read from register 1, unless it is given
+-- a shift count is read from register 1, unless it is a constant
 abbrev pub count_in : Count → List OperandValue
 count_in (CountIn v) = use_in (FixedReg (record { number = 1; class = v.class })) v ∷ []
 count_in (CountOf n) = []
 
--- the register into which the processor puts a part of a division, and the one into which it puts the other part
+-- the register into which the processor writes the result of a division, and the register for its other result
 abbrev pub part_register : DivisionPart → ℕ
 part_register Quotient = 0
 part_register Remainder = 2
@@ -43,7 +43,7 @@ abbrev pub other_register : DivisionPart → ℕ
 other_register Quotient = 2
 other_register Remainder = 0
 
--- a division takes its dividend from register 0, and reads its divisor late, from anywhere
+-- a division reads its dividend from register 0, and its divisor late, from any place
 abbrev pub divide_operands : DivisionPart → VirtualRegister → VirtualRegister → VirtualRegister → List OperandValue
 divide_operands part to left right = def_in (FixedReg (record { number = part_register part; class = to.class })) to
     ∷ use_in (FixedReg (record { number = 0; class = left.class })) left
@@ -63,12 +63,12 @@ operands_of (BranchIf v) = use_in Any v ∷ []
 operands_of (BranchIfHolds c left right) = use_in Reg left ∷ right_in right
 operands_of (Return v) = use_in Any v ∷ []
 
--- the registers that an operation overwrites besides its definitions: a division, that of its other part
+-- the clobbers of an operation, besides its definitions: a division clobbers the register of its other result
 abbrev pub is_clobbered : Operation → Register → Bool
 is_clobbered (Divide part signed to left right) r = is_register (record { number = other_register part; class = Int }) r
 is_clobbered o r = false
 
--- the operations that go on to a successor
+-- the operations that jump to a successor
 abbrev pub is_jump : Operation → Bool
 is_jump Jump = true
 is_jump (BranchIf v) = true

@@ -1,4 +1,4 @@
--- Which function a procedure is to the allocator.
+-- The allocator's view of a procedure: its function.
 use Rattle.std.specs.Prelude.{false, map, [], List}
 use Rattle.std.proofs.Common.{arith}
 use Rattle.std.proofs.lemmas.List.{length-map}
@@ -45,7 +45,7 @@ function_of_procedure p = record {
 abbrev pub operations : Procedure → List Operation
 operations p = operations_of p.lines.items
 
--- it keeps the limits of each function
+-- it is within the limits of each function
 pub limited_procedure : (p : Procedure) → IsLimited (function_of_procedure p)
 limited_procedure p = record {
   insts = rw length-map (omega (arith, p.few_lines));

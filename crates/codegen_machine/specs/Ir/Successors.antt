@@ -1,5 +1,5 @@
--- What lines and blocks are a function: blocks have the successors that their last lines go on to, and lines name virtual registers and
--- numbers within bounds.
+-- Whether lines and blocks are a function: blocks have the successors that their last lines require, and lines contain virtual registers and numbers within
+-- bounds.
 use Rattle.std.specs.Prelude.{ℕ, ◌≡◌, ◌-◌, ◌^◌, ◌<◌, ◌⊎◌, Bool, true, false, nat_le, nat_lt, List, map, length, slice_get, Option, None, Some}
 use Rattle.std.specs.List.{list_all}
 use Rattle.codegen_machine.specs.declared.ir.operation.Operation.{Operation}
@@ -12,7 +12,7 @@ use Rattle.codegen_machine.specs.declared.ir.procedure.Part.{Part}
 use Rattle.codegen_machine.specs.declared.ir.procedure.Malformed.{Malformed}
 use Rattle.codegen_machine.specs.declared.ir.procedure.Malformed.TheVariants.{TooLarge, MissingSuccessor, UnknownRegister, LargeNumber}
 
--- how many successors an operation may go on to
+-- the number of successors that an operation requires
 abbrev pub wanted_by : Operation → ℕ
 wanted_by Jump = 1
 wanted_by (BranchIf v) = 2
@@ -22,20 +22,20 @@ wanted_by o = 0
 abbrev pub operations_of : List Line → List Operation
 operations_of lines = map (λ l. l.operation) lines
 
--- there are so many
+-- there are at least as many as the operation requires, if there is an operation
 abbrev pub are_enough : ℕ → Option Operation → Bool
 are_enough count None = true
 are_enough count (Some o) = nat_le (wanted_by o) count
 
--- a block has the successors that its last line may go on to
+-- a block has at least as many successors as its last line requires
 abbrev pub has_successors : List Operation → Part → Bool
 has_successors operations p = are_enough (length p.succs.items) (slice_get operations (p.range.end - 1))
 
--- the virtual registers of a line have numbers below a bound
+-- the vregs of a line have numbers below a bound
 abbrev pub knows_registers : ℕ → Line → Bool
 knows_registers vregs l = list_all (λ o. nat_lt o.vreg.number vregs) (operands_of l.operation)
 
--- a second number is below 2^31, where it is given
+-- a second number is below 2^31, if it is a constant
 abbrev pub is_small : Right → Bool
 is_small (VReg v) = true
 is_small (Number n) = nat_lt n (2 ^ 31)
@@ -49,7 +49,7 @@ has_small_number l = right_is_small l.operation
     right_is_small (BranchIfHolds c left right) = is_small right
     right_is_small o = true
 
--- why these are no function
+-- why blocks and lines are rejected
 abbrev pub IsMalformed : List Part → List Line → ℕ → Malformed → Type 0
 IsMalformed parts lines vregs TooLarge = (1000000 < length parts) ⊎ (1000000 < length lines) ⊎ (1000000 < vregs)
 IsMalformed parts lines vregs MissingSuccessor = list_all (has_successors (operations_of lines)) parts ≡ false

@@ -1,4 +1,4 @@
--- Runs from numbers that are 0, but for the arguments that are given.
+-- Runs whose numbers are 0 at the start, except for the given arguments.
 use Rattle.std.specs.Prelude.{ℕ, List, codes, slice_index, None}
 use Rattle.std.specs.Fmt.{decimal}
 use Rattle.regalloc2_function.specs.Path.{first_of}
@@ -20,21 +20,21 @@ first_state p = record { at = first_of (function_of_procedure p) 0; numbers = λ
 abbrev pub first_machine : MachineState
 first_machine = record { pc = 0; registers = λ r. 0; frame = λ k. 0; compared = None }
 
--- how a run stands, without its state
+-- the outcome of a run, without its state
 abbrev pub standing_of : {S : Type 0} → RunOutcome S → Standing
 standing_of (runs s) = Running
 standing_of (returned n) = Returned n
 standing_of traps = Trapped
 standing_of sticks = Stuck
 
--- and with it
+-- the outcome with its state
 abbrev pub run_outcome : {S : Type 0} → Standing → S → RunOutcome S
 run_outcome Running s = runs s
 run_outcome (Returned n) s = returned n
 run_outcome Trapped s = traps
 run_outcome Stuck s = sticks
 
--- in words
+-- the outcome as the interpreters' type
 abbrev pub standing_text : Standing → List ℕ
 standing_text Running = codes "still running"
 standing_text (Returned n) = decimal n

@@ -1,4 +1,4 @@
--- The states that the interpreters keep, as states of the specs.
+-- The interpreters' states, as states of the specs.
 use Rattle.std.specs.Prelude.{ℕ, ◌≡◌, nat_eq, nat_lt, if◌then◌else◌, Option, None, Some, unwrap_or, slice_index, vec_len}
 use Rattle.std.specs.HashMap.{HashMap, get}
 use Rattle.regalloc2_names.specs.Register.{VirtualRegister}
@@ -17,17 +17,17 @@ use Rattle.codegen_machine.specs.declared.run.standing.Standing.TheVariants.{Stu
 abbrev pub machine_state : Machine → MachineState
 machine_state m = record { pc = m.pc; registers = λ r. slice_index m.registers r; frame = λ k. slice_index m.frame.items k; compared = m.compared }
 
--- the number of a register for numbers, of a slot of a frame of so many, or the one that is given
+-- the number in a register or in a slot of a frame with that many slots, or an immediate
 abbrev pub source_number : ℕ → MachineState → Source → Option ℕ
 source_number slots s (Register r) = if is_general r then Some (s.registers r) else None
 source_number slots s (Slot k) = if nat_lt k slots then Some (s.frame k) else None
 source_number slots s (Number n) = Some n
 
--- what was made is that outcome, stuck where there is no answer, and the frame is as long as before
+-- the interpreter's result is that outcome, stuck if there is no result, and the frame has its length as before
 abbrev pub MakesOutcome : RunOutcome MachineState → Machine → Machine → Option Standing → Type 0
 MakesOutcome outcome old new answer = (outcome ≡ run_outcome (unwrap_or answer Stuck) (machine_state new)) × (vec_len new.frame ≡ vec_len old.frame)
 
--- the numbers of virtual registers, which are kept by their words; the others are 0
+-- the numbers of virtual registers, in a table by their encodings; the others are 0
 abbrev pub numbers_by_vreg : {S : Type 0} → HashMap ℕ ℕ S → VirtualRegister → ℕ
 numbers_by_vreg m v = unwrap_or (get nat_eq m (bits_of_vreg v)) 0
 

@@ -1,4 +1,4 @@
--- Instructions as assembly for x86-64, in the syntax of AT&T, which names the source before the destination.
+-- Instructions as x86-64 assembly in AT&T syntax, in which the source precedes the destination.
 use Rattle.std.specs.Prelude.{ℕ, ◌+◌, Bool, false, nat_eq, if◌then◌else◌, codes, List, [], ◌∷◌, ◌++◌, length, slice_index_or}
 use Rattle.std.specs.Fmt.{decimal}
 use Rattle.codegen_machine.specs.declared.ir.operation.Operator.{Operator}
@@ -46,7 +46,7 @@ shift_name SignedRight = codes "sarq"
 abbrev pub division_name : Bool → List ℕ
 division_name signed = if signed then codes "idivq" else codes "divq"
 
--- the conditions: above and below for numbers without sign, greater and less for those with sign
+-- the conditions' suffixes: above and below for unsigned numbers, greater and less for signed ones
 abbrev pub condition_letters : Condition → List ℕ
 condition_letters Equal = codes "e"
 condition_letters NotEqual = codes "ne"
@@ -59,7 +59,7 @@ condition_letters SignedLessOrEqual = codes "le"
 condition_letters SignedGreater = codes "g"
 condition_letters SignedGreaterOrEqual = codes "ge"
 
--- eight bytes of memory at a register
+-- an operand in memory: eight bytes, addressed by a register
 abbrev pub frame_slot_text : ℕ → List ℕ
 frame_slot_text k = codes "8*" ++ decimal k ++ codes "(%rsp)"
 
@@ -90,36 +90,36 @@ instruction_text (variant.Jump target) = codes "jmp .L" ++ decimal target
 instruction_text (variant.JumpIf c target) = codes "j" ++ condition_letters c ++ codes " .L" ++ decimal target
 instruction_text variant.Return = codes "jmp .Lreturn"
 
--- whether an instruction, the one of that number among so many, only goes on to the next line
+-- whether an instruction with that number, of that many, is only a jump to the next line
 abbrev pub is_next : ℕ → ℕ → Instruction → Bool
 is_next count k (variant.Jump target) = nat_eq target (k + 1)
 is_next count k variant.Return = nat_eq (k + 1) count
 is_next count k i = false
 
--- what is on a line behind its label
+-- the text after a line's label
 abbrev pub line_rest : ℕ → ℕ → Instruction → List ℕ
 line_rest count k i = if is_next count k i then [] else codes " " ++ instruction_text i
 
--- a line, with its label; what only goes on to the next line has nothing else
+-- a line, with its label; a jump to the next line leaves the rest empty
 abbrev pub line_text : ℕ → ℕ → Instruction → List ℕ
 line_text count k i = codes ".L" ++ (decimal k ++ (codes ":" ++ (line_rest count k i ++ 10 ∷ [])))
 
--- instructions of so many, one on each line, with labels by number from k on
+-- the instructions from number k on, of that many, one on each line, with labels by number
 unfoldable pub lines_text : ℕ → ℕ → List Instruction → List ℕ
 lines_text count k [] = []
 lines_text count k (i ∷ rest) = line_text count k i ++ lines_text count (k + 1) rest
 
--- how a function begins: what its caller keeps in registers is put aside
+-- the start of a function: it pushes the registers that it must preserve for its caller
 unfoldable pub entry_text : List ℕ
 entry_text = codes "  .globl compiled\ncompiled:\n"
     ++ codes "  pushq %rbx\n  pushq %rbp\n  pushq %r12\n  pushq %r13\n  pushq %r14\n  pushq %r15\n"
 
--- how it ends: that is taken back
+-- its end: it pops those registers
 unfoldable pub exit_text : List ℕ
 exit_text = codes "  popq %r15\n  popq %r14\n  popq %r13\n  popq %r12\n  popq %rbp\n  popq %rbx\n  ret\n"
     ++ codes "  .section .note.GNU-stack,\"\",@progbits\n"
 
--- code as a function: its frame has room for the slots, and is given back before it ends
+-- code as a function: it allocates a frame for the slots, and frees it before it returns
 abbrev pub assembly_text : Code → List ℕ
 assembly_text c = entry_text ++ (codes "  subq $8*" ++ (decimal c.slots ++ (codes ", %rsp\n" ++ (lines_text (length c.instructions.items) 0 c.instructions.items
     ++ (codes ".Lreturn:\n  addq $8*" ++ (decimal c.slots ++ (codes ", %rsp\n" ++ exit_text)))))))

@@ -1,4 +1,4 @@
-//! What a function's lines do.
+//! The operations of a function's lines.
 
 ghost use Rattle.std.specs.Prelude.{◌≡◌, ◌≤◌, ◌∷◌, ◌++◌, IfOk, OnOk};
 ghost use Rattle.std.proofs.Props.{props};
@@ -12,16 +12,16 @@ use regalloc2::{
 };
 use std::alloc::{AllocError, Global};
 
-/// The register from which the processor takes counts of shifts.
+/// The register from which the processor reads shift counts.
 const COUNT_REGISTER: usize = 1;
 
-/// The register from which it takes dividends, and into which it puts quotients.
+/// The register from which it reads dividends, and into which it writes quotients.
 const QUOTIENT_REGISTER: usize = 0;
 
-/// The register into which it puts remainders.
+/// The register into which it writes remainders.
 const REMAINDER_REGISTER: usize = 2;
 
-/// What is computed of two numbers, modulo 2^64.
+/// An operator on two numbers, modulo 2^64.
 #[derive(Clone, Copy, Debug, PartialEq, Eq)]
 pub enum Operator {
     /// Their sum.
@@ -30,168 +30,169 @@ pub enum Operator {
     Sub,
     /// Their product.
     Mul,
-    /// The bits that both have.
+    /// The bits set in both.
     And,
-    /// The bits that one of them has, or both.
+    /// The bits set in at least one.
     Or,
-    /// The bits that one of them has, and not the other.
+    /// The bits set in exactly one.
     Xor,
 }
 
-/// How a number's bits are moved.
+/// A kind of shift.
 #[derive(Clone, Copy, Debug, PartialEq, Eq)]
 pub enum ShiftOperator {
-    /// To greater places, modulo 2^64.
+    /// To higher bits, modulo 2^64.
     Left,
-    /// To smaller places; zeros come in.
+    /// To lower bits; zeros come in.
     Right,
-    /// To smaller places; copies of the highest bit come in.
+    /// To lower bits; copies of the highest bit come in.
     SignedRight,
 }
 
-/// Which number a division gives.
+/// The result of a division.
 #[derive(Clone, Copy, Debug, PartialEq, Eq)]
 pub enum DivisionPart {
-    /// The quotient, towards 0.
+    /// The quotient, rounded towards 0.
     Quotient,
     /// The remainder, which has the dividend's sign.
     Remainder,
 }
 
-/// How a number compares to another one.
+/// A comparison of a number with another.
 ///
-/// The signed conditions take the numbers from 2^63 on for those less 2^64.
+/// The signed conditions read the numbers in two's complement.
 #[derive(Clone, Copy, Debug, PartialEq, Eq)]
 pub enum Condition {
-    /// They are equal.
+    /// Equal.
     Equal,
-    /// They aren't.
+    /// Not equal.
     NotEqual,
-    /// It is less.
+    /// Less, unsigned.
     Less,
-    /// It is less or equal.
+    /// Less or equal, unsigned.
     LessOrEqual,
-    /// It is greater.
+    /// Greater, unsigned.
     Greater,
-    /// It is greater or equal.
+    /// Greater or equal, unsigned.
     GreaterOrEqual,
-    /// It is less, with sign.
+    /// Less, signed.
     SignedLess,
-    /// It is less or equal, with sign.
+    /// Less or equal, signed.
     SignedLessOrEqual,
-    /// It is greater, with sign.
+    /// Greater, signed.
     SignedGreater,
-    /// It is greater or equal, with sign.
+    /// Greater or equal, signed.
     SignedGreaterOrEqual,
 }
 
 /// The second number of an operation.
 #[derive(Clone, Copy)]
 pub enum Right {
-    /// That of a virtual register.
+    /// The number of a virtual register.
     VReg(VReg),
-    /// This one, below 2^31: an instruction of x86-64 extends greater ones with their sign.
+    /// A constant below 2^31: an instruction of x86-64 sign-extends greater ones.
     Number(u32),
 }
 
-/// By how many places bits are moved, modulo 64.
+/// A shift count, modulo 64.
 #[derive(Clone, Copy)]
 pub enum Count {
-    /// As many as the number of a virtual register.
+    /// The number of a vreg.
     VReg(VReg),
-    /// As many as this.
+    /// A constant.
     Number(u8),
 }
 
-/// What a line does.
+/// The operation of a line.
 #[derive(Clone, Copy)]
 pub enum Operation {
-    /// Takes an argument of the function.
+    /// Reads an argument of the function.
     Argument {
-        /// What takes it.
+        /// The vreg it defines.
         to: VReg,
-        /// Which one.
+        /// The argument's number.
         index: u32,
     },
-    /// A number.
+    /// A constant.
     Constant {
-        /// What takes it.
+        /// The vreg it defines.
         to: VReg,
         /// The number.
         value: u64,
     },
     /// A copy.
     Copy {
-        /// What takes it.
+        /// The vreg it defines.
         to: VReg,
-        /// Of what.
+        /// The vreg it copies.
         from: VReg,
     },
-    /// A sum, difference or product, or bits.
+    /// An operator: a sum, difference, product, or bitwise operation.
     Compute {
-        /// Which one.
+        /// The operator.
         operator: Operator,
-        /// What takes it.
+        /// The vreg it defines.
         to: VReg,
         /// The first number.
         left: VReg,
         /// The second number.
         right: Right,
     },
-    /// A number whose bits are moved.
+    /// A shift.
     Shift {
-        /// How.
+        /// The kind of shift.
         operator: ShiftOperator,
-        /// What takes it.
+        /// The vreg it defines.
         to: VReg,
         /// The number.
         left: VReg,
-        /// By how many places.
+        /// The count.
         count: Count,
     },
-    /// A quotient or remainder. It traps at a zero divisor, and with sign where -2^63 is divided by -1.
+    /// A quotient or remainder. It traps if the divisor is 0, and if it is signed and divides -2^63
+    /// by -1.
     Divide {
-        /// Which one.
+        /// The result: quotient or remainder.
         part: DivisionPart,
-        /// Whether the numbers have a sign.
+        /// Whether the division is signed.
         is_signed: bool,
-        /// What takes it.
+        /// The vreg it defines.
         to: VReg,
         /// The dividend.
         left: VReg,
         /// The divisor.
         right: VReg,
     },
-    /// 1 where a condition holds, and else 0.
+    /// 1 if a condition holds, else 0.
     Compare {
         /// The condition.
         condition: Condition,
-        /// What takes the answer.
+        /// The vreg it defines.
         to: VReg,
         /// The first number.
         left: VReg,
         /// The second number.
         right: Right,
     },
-    /// One of two numbers.
+    /// A selection of one of two numbers.
     Select {
-        /// What takes it.
+        /// The vreg it defines.
         to: VReg,
-        /// The number that decides.
+        /// The deciding number.
         condition: VReg,
-        /// The number that is taken where that isn't 0.
+        /// The result if the deciding number isn't 0.
         yes: VReg,
-        /// The number that is taken where it is.
+        /// The result if it is 0.
         no: VReg,
     },
-    /// Goes to the only successor of its block.
+    /// Jumps to the only successor of its block.
     Jump,
-    /// Goes to the first successor where a number isn't 0, and else to the second.
+    /// Jumps to the first successor if a number isn't 0, else to the second.
     BranchIf {
         /// The number.
         value: VReg,
     },
-    /// Goes to the first successor where a condition holds, and else to the second.
+    /// Jumps to the first successor if a condition holds, else to the second.
     BranchIfHolds {
         /// The condition.
         condition: Condition,
@@ -200,27 +201,27 @@ pub enum Operation {
         /// The second number.
         right: Right,
     },
-    /// Ends with a number.
+    /// Returns a number.
     Return {
         /// The number.
         value: VReg,
     },
 }
 
-/// A line, with what the allocator is told of it.
+/// A line, with its operands and clobbers for the allocator.
 #[derive(Drop)]
 pub struct Line {
-    /// What it does.
+    /// Its operation.
     pub operation: Operation,
-    /// What it reads and writes, and in which places.
+    /// Its operands: the vregs it reads and writes, with their constraints.
     pub operands: Vec<Operand>,
-    /// Which registers it overwrites besides.
+    /// Its clobbers.
     pub clobbers: PRegSet,
     pub ghost agree: { operands.items ≡ operands_of operation } by { operands-once operands.items operation },
     pub ghost overwrites: { (r : Register) → has_register clobbers r ≡ is_clobbered operation r } by { Prim.hlevel props },
 }
 
-/// The operand of a second number, which is read from anywhere; a number has none.
+/// The operand of a second number, which may be read from any place; a constant has none.
 fn add_right(operands: &mut Vec<Operand>, right: Right) -> Result<(), AllocError>
     ensures { OnOk result (operands.new.items ≡ operands.old.items ++ right_in right) }
 {
@@ -233,7 +234,7 @@ fn add_right(operands: &mut Vec<Operand>, right: Right) -> Result<(), AllocError
     }
 }
 
-/// The operands of a shift. The processor takes a count from register 1 alone.
+/// The operands of a shift. The processor reads a count from register 1 only.
 fn shift_operands(
     alloc: Global,
     to: VReg,
@@ -252,7 +253,7 @@ fn shift_operands(
     }
 }
 
-/// The register into which the processor puts a part of a division.
+/// The register into which the processor writes the result of a division.
 fn part_register(part: DivisionPart) -> usize
     ensures value { result ≡ part_register part }
     ensures small { result ≤ 2 }
@@ -263,7 +264,7 @@ fn part_register(part: DivisionPart) -> usize
     }
 }
 
-/// The register into which it puts the other part.
+/// The register into which it writes the division's other result.
 fn other_register(part: DivisionPart) -> usize
     ensures value { result ≡ other_register part }
     ensures small { result ≤ 2 }
@@ -274,7 +275,8 @@ fn other_register(part: DivisionPart) -> usize
     }
 }
 
-/// The operands of a division. The divisor is read while the processor's two registers are written already, so its use is late.
+/// The operands of a division. The divisor is read after the processor's two registers have been
+/// written, so its use is late.
 fn divide_operands(
     alloc: Global,
     part: DivisionPart,
@@ -295,7 +297,7 @@ fn divide_operands(
     [to, left, right].to_vec(alloc)
 }
 
-/// The registers that an operation overwrites besides its definitions.
+/// The clobbers of an operation: registers that it overwrites besides its definitions.
 fn clobbers(operation: Operation) -> PRegSet
     ensures { (r : Register) → has_register result r ≡ is_clobbered operation r }
 {
@@ -308,7 +310,7 @@ fn clobbers(operation: Operation) -> PRegSet
     }
 }
 
-/// The operands of an operation that takes a second number: the others come first.
+/// The operands of an operation with a second number: the others come first.
 fn and_right(alloc: Global, first: &[Operand], right: Right) -> Result<Vec<Operand>, AllocError>
     ensures { IfOk result (λ v. v.items ≡ first.now ++ right_in right) }
 {
@@ -317,7 +319,8 @@ fn and_right(alloc: Global, first: &[Operand], right: Right) -> Result<Vec<Opera
     Ok(operands)
 }
 
-/// What an operation reads and writes. The machine computes in a register, where one number was, and takes the other from anywhere.
+/// The operands of an operation. The machine computes in the first number's register, and reads the
+/// second number from any place.
 fn operands(alloc: Global, operation: &Operation) -> Result<Vec<Operand>, AllocError>
     ensures { IfOk result (λ v. v.items ≡ operands_of operation.now) }
 {
@@ -380,7 +383,7 @@ fn operands(alloc: Global, operation: &Operation) -> Result<Vec<Operand>, AllocE
 }
 
 impl Line {
-    /// The line that does an operation.
+    /// The line of an operation.
     pub fn new(alloc: Global, operation: Operation) -> Result<Line, AllocError>
         ensures { IfOk result (λ l. l.operation ≡ operation) }
     {

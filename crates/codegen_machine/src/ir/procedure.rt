@@ -12,26 +12,26 @@ use std::fmt;
 /// A block of lines.
 #[derive(Drop)]
 pub struct Part {
-    /// Its lines, by their numbers.
+    /// The numbers of its lines.
     pub range: InstRange,
-    /// The blocks that may follow.
+    /// Its successors.
     pub succs: Vec<Block>,
-    /// The blocks that it may follow.
+    /// Its predecessors.
     pub preds: Vec<Block>,
-    /// What takes the arguments with which it is entered.
+    /// Its parameters.
     pub params: Vec<VReg>,
-    /// The arguments for each block that may follow.
+    /// The arguments for each successor.
     pub arguments: Vec<Vec<VReg>>,
 }
 
-/// A function over whole numbers. It starts at block 0.
+/// A function over 64-bit integers. It starts at block 0.
 #[derive(Drop)]
 pub struct Procedure {
     /// Its blocks.
     pub parts: Vec<Part>,
     /// Its lines.
     pub lines: Vec<Line>,
-    /// A number above that of each virtual register.
+    /// A bound above the number of each virtual register.
     pub num_vregs: usize,
     pub ghost few_parts: { vec_len parts < 2 ^ 32 - 1 },
     pub ghost few_lines: { vec_len lines < 2 ^ 30 },
@@ -41,16 +41,16 @@ pub struct Procedure {
     pub ghost successors: { IsTrue (list_all (has_successors (operations_of lines.items)) parts.items) },
 }
 
-/// Why blocks and lines are no function.
+/// Why blocks and lines are rejected.
 #[derive(Clone, Copy, Debug, PartialEq, Eq)]
 pub enum Malformed {
-    /// There are more than a million blocks, lines or virtual registers.
+    /// There are more than a million blocks, lines or vregs.
     TooLarge,
     /// A block ends with a branch to a successor that it doesn't have.
     MissingSuccessor,
-    /// A line names a virtual register whose number isn't below the function's.
+    /// A line names a vreg whose number isn't below the function's.
     UnknownRegister,
-    /// A line has a second number of 2^31 or more.
+    /// A line has a constant of 2^31 or more as its second number.
     LargeNumber,
 }
 
@@ -72,7 +72,7 @@ impl fmt::Display for Malformed {
 
 impl Error for Malformed {}
 
-/// How many successors an operation may go on to.
+/// The number of successors that an operation requires.
 fn successors_wanted(operation: Operation) -> usize
     ensures { result ≡ wanted_by operation }
 {
@@ -83,7 +83,7 @@ fn successors_wanted(operation: Operation) -> usize
     }
 }
 
-/// Whether a block has the successors that its last line may go on to.
+/// Whether a block has at least as many successors as its last line requires.
 fn has_them(lines: &[Line], part: &Part) -> bool
     ensures { result ≡ has_successors (operations_of lines.now) part.now }
 {
@@ -94,14 +94,14 @@ fn has_them(lines: &[Line], part: &Part) -> bool
     }
 }
 
-/// Whether each block has the successors that its last line may go on to.
+/// Whether each block has at least as many successors as its last line requires.
 fn all_have_them(lines: &[Line], parts: &[Part]) -> bool
     ensures { result ≡ list_all (has_successors (operations_of lines.now)) parts.now }
 {
     parts.iter().all(|part| has_them(lines, part))
 }
 
-/// Whether a line's virtual registers have numbers below `num_vregs`.
+/// Whether a line's vregs have numbers below `num_vregs`.
 fn knows_registers(line: &Line, num_vregs: usize) -> bool
     ensures { result ≡ knows_registers num_vregs line.now }
 {
@@ -110,7 +110,7 @@ fn knows_registers(line: &Line, num_vregs: usize) -> bool
         .all(|operand| operand.vreg().vreg() < num_vregs)
 }
 
-/// Whether a line's second number is below 2^31, if it is given.
+/// Whether a line's second number is below 2^31, if it is a constant.
 fn has_small_number(line: &Line) -> bool
     ensures { result ≡ has_small_number line.now }
 {
@@ -125,14 +125,14 @@ fn has_small_number(line: &Line) -> bool
     }
 }
 
-/// Whether each line's virtual registers have numbers below `num_vregs`.
+/// Whether each line's vregs have numbers below `num_vregs`.
 fn all_know_registers(lines: &[Line], num_vregs: usize) -> bool
     ensures { result ≡ list_all (knows_registers num_vregs) lines.now }
 {
     lines.iter().all(|line| knows_registers(line, num_vregs))
 }
 
-/// Whether each line's second number is below 2^31, if it is given.
+/// Whether each line's second number is below 2^31, if it is a constant.
 fn all_are_small(lines: &[Line]) -> bool
     ensures { result ≡ list_all has_small_number lines.now }
 {
@@ -140,11 +140,12 @@ fn all_are_small(lines: &[Line]) -> bool
 }
 
 impl Procedure {
-    /// The function of these blocks and lines.
+    /// Returns the function of these blocks and lines.
     ///
     /// # Errors
     ///
-    /// The first that holds: `TooLarge`, `MissingSuccessor`, `UnknownRegister`, `LargeNumber`.
+    /// The first that applies, in this order: `TooLarge`, `MissingSuccessor`, `UnknownRegister`,
+    /// `LargeNumber`.
     pub fn new(parts: Vec<Part>, lines: Vec<Line>, num_vregs: usize) -> Result<Procedure, Malformed>
         ensures ok { IfOk result (λ p. (p.parts ≡ parts) × (p.lines ≡ lines) × (p.num_vregs ≡ num_vregs)) }
         ensures err { IfErr result (IsMalformed parts.items lines.items num_vregs) }

@@ -13,7 +13,8 @@ use crate::ir::{Condition, DivisionPart, Operator, ShiftOperator};
 use crate::{Code, Instruction, Source};
 use std::alloc::{AllocError, Global};
 
-/// Where the machine is, the numbers of its registers and slots, and those last compared, unless they are forgotten.
+/// The machine's state: the current instruction, the numbers in registers and slots, and the
+/// numbers last compared, unless an instruction has clobbered them.
 #[derive(Drop)]
 pub struct Machine {
     pc: usize,
@@ -22,7 +23,7 @@ pub struct Machine {
     compared: Option<(u64, u64)>,
 }
 
-/// Whether a register is one for numbers.
+/// Whether a register holds numbers.
 fn is_for_numbers(register: usize) -> bool
     ensures { result ≡ is_general register }
 {
@@ -30,7 +31,7 @@ fn is_for_numbers(register: usize) -> bool
 }
 
 impl Machine {
-    /// The number of a register for numbers.
+    /// The number in a register.
     fn register(&self, register: usize) -> Option<u64>
         ensures { result ≡ (if is_general register then Some ((machine_state self.now).registers register) else None) }
     {
@@ -41,14 +42,14 @@ impl Machine {
         }
     }
 
-    /// The number of a slot.
+    /// The number in a slot.
     fn slot(&self, slot: usize) -> Option<u64>
         ensures { result ≡ (if nat_lt slot (vec_len self.now.frame) then Some ((machine_state self.now).frame slot) else None) }
     {
         self.frame.get(slot).copied()
     }
 
-    /// The number that is read from there.
+    /// The number of a source.
     fn source(&self, source: Source) -> Option<u64>
         ensures { result ≡ source_number (vec_len self.now.frame) (machine_state self.now) source }
     {
@@ -59,7 +60,7 @@ impl Machine {
         }
     }
 
-    /// Goes on with a register written.
+    /// Continues at the next instruction, with a register written.
     fn write(&mut self, to: usize, number: u64, compared: Option<(u64, u64)>) -> Option<Standing>
         requires room { self.old.pc + 1 < 2 ^ 64 }
         ensures { MakesOutcome (written (machine_state self.old) to number compared) self.old self.new result }
@@ -73,7 +74,7 @@ impl Machine {
         Some(Standing::Running)
     }
 
-    /// Puts the number of a register or a slot into a register.
+    /// Copies a register or a slot into a register.
     fn fetch(&mut self, to: usize, from: Source) -> Option<Standing>
         requires room { self.old.pc + 1 < 2 ^ 64 }
         ensures { let s = machine_state self.old in
@@ -84,7 +85,7 @@ impl Machine {
         self.write(to, number, compared)
     }
 
-    /// Puts the number of a register into a slot.
+    /// Copies a register into a slot.
     fn store(&mut self, slot: usize, from: usize) -> Option<Standing>
         requires room { self.old.pc + 1 < 2 ^ 64 }
         ensures { let s = machine_state self.old in
@@ -110,7 +111,7 @@ impl Machine {
         self.write(to, compute(operator, left, right), None)
     }
 
-    /// Moves a register's bits by as many places as a number says.
+    /// Shifts a register by a number.
     fn shift_by(&mut self, operator: ShiftOperator, to: usize, count: u64) -> Option<Standing>
         requires room { self.old.pc + 1 < 2 ^ 64 }
         ensures { let s = machine_state self.old in
@@ -120,7 +121,7 @@ impl Machine {
         self.write(to, shift(operator, number, count), None)
     }
 
-    /// Moves a register's bits by as many places as the number of register 1.
+    /// Shifts a register by the number in register 1.
     fn shift(&mut self, operator: ShiftOperator, to: usize) -> Option<Standing>
         requires room { self.old.pc + 1 < 2 ^ 64 }
         ensures { let s = machine_state self.old in MakesOutcome (with_register s to (λ a. with_register s 1
@@ -131,7 +132,7 @@ impl Machine {
         self.write(to, shift(operator, number, count), None)
     }
 
-    /// Copies the highest bit of register 0 into all of register 2.
+    /// Extends register 0 into register 2.
     fn extend_sign(&mut self) -> Option<Standing>
         requires room { self.old.pc + 1 < 2 ^ 64 }
         ensures { let s = machine_state self.old in MakesOutcome (written s 2 (extended true (s.registers 0)) s.compared) self.old self.new result }
@@ -140,7 +141,7 @@ impl Machine {
         self.write(2, number, compared)
     }
 
-    /// Divides the number of register 0.
+    /// Divides the number in register 0.
     fn divide_by(&mut self, is_signed: bool, divisor: u64) -> Option<Standing>
         requires room { self.old.pc + 1 < 2 ^ 64 }
         ensures { MakesOutcome (divides (machine_state self.old) is_signed divisor) self.old self.new result }
@@ -159,7 +160,7 @@ impl Machine {
         Some(Standing::Running)
     }
 
-    /// Divides the number of register 0 by the one that is read from there.
+    /// Divides the number in register 0 by the number of a source.
     fn divide(&mut self, is_signed: bool, from: Source) -> Option<Standing>
         requires room { self.old.pc + 1 < 2 ^ 64 }
         ensures { let s = machine_state self.old in
@@ -169,7 +170,7 @@ impl Machine {
         self.divide_by(is_signed, divisor)
     }
 
-    /// Keeps the numbers that are compared.
+    /// Sets the numbers last compared.
     fn compare(&mut self, left: u64, right: u64) -> Option<Standing>
         requires room { self.old.pc + 1 < 2 ^ 64 }
         ensures { MakesOutcome (compared_to (machine_state self.old) left right) self.old self.new result }
@@ -179,7 +180,7 @@ impl Machine {
         Some(Standing::Running)
     }
 
-    /// Compares a register.
+    /// Compares a register with a number.
     fn compare_to(&mut self, left: usize, right: Source) -> Option<Standing>
         requires room { self.old.pc + 1 < 2 ^ 64 }
         ensures { let s = machine_state self.old in MakesOutcome (with_register s left (λ a. with_source (vec_len self.old.frame) s right
@@ -190,7 +191,7 @@ impl Machine {
         self.compare(left, right)
     }
 
-    /// Puts whether a condition holds into a register.
+    /// Sets a register to 1 if a condition holds, else to 0.
     fn set(&mut self, to: usize, condition: Condition) -> Option<Standing>
         requires room { self.old.pc + 1 < 2 ^ 64 }
         ensures { let s = machine_state self.old in MakesOutcome (with_compared s.compared
@@ -202,7 +203,7 @@ impl Machine {
         self.write(to, number, compared)
     }
 
-    /// Puts a number into a register where a condition holds.
+    /// Puts a number into a register if a condition holds.
     fn move_if(&mut self, condition: Condition, to: usize, from: Source) -> Option<Standing>
         requires room { self.old.pc + 1 < 2 ^ 64 }
         ensures { let s = machine_state self.old in MakesOutcome (with_compared s.compared (λ a b. with_register s to (λ x.
@@ -221,7 +222,7 @@ impl Machine {
         self.write(to, number, compared)
     }
 
-    /// Jumps where a condition holds.
+    /// Jumps if a condition holds.
     fn jump_if(&mut self, condition: Condition, target: usize) -> Option<Standing>
         requires room { self.old.pc + 1 < 2 ^ 64 }
         ensures { let s = machine_state self.old in MakesOutcome (with_compared s.compared
@@ -236,7 +237,7 @@ impl Machine {
         Some(Standing::Running)
     }
 
-    /// Executes an instruction; nothing where the machine is stuck at it.
+    /// Executes an instruction; returns nothing if the machine is stuck at it.
     fn execute(&mut self, arguments: &[u64], instruction: Instruction) -> Option<Standing>
         requires room { self.old.pc + 1 < 2 ^ 64 }
         ensures { MakesOutcome (executed (arguments_of arguments.now) (vec_len self.old.frame) (Some instruction) (machine_state self.old))
@@ -296,14 +297,15 @@ impl Machine {
     }
 }
 
-/// So many zeros.
+/// That many zeros.
 fn zeros(alloc: Global, count: usize) -> Result<Vec<u64>, AllocError>
     ensures { IfOk result (λ v. v.items ≡ replicate count 0) }
 {
     vec![in alloc; 0; count]
 }
 
-/// How a run of code stands after so many steps, which starts with 0 in all registers and slots. Arguments past the given ones are 0.
+/// Returns the outcome of running the code for that many steps, with 0 in all registers and slots
+/// at the start. Arguments past the given ones are 0.
 pub fn run_code(
     alloc: Global,
     code: &Code,

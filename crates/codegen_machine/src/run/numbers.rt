@@ -1,4 +1,4 @@
-//! What is computed of numbers of 64 bits.
+//! Arithmetic of 64-bit integers.
 
 ghost use Rattle.std.specs.Prelude.{◌≡◌, ◌<◌, ◌&&◌, ◌||◌, false, true, nat_eq, not, if◌then◌else◌, slice_index};
 ghost use Rattle.codegen_machine.specs.Ir.Numbers.{computed, condition_holds, divided, division_traps, extended, is_negative, magnitude, shifted, signed_rank, with_sign};
@@ -6,7 +6,7 @@ ghost use Rattle.codegen_machine.specs.Run.Runs.{arguments_of};
 
 use crate::ir::{Condition, DivisionPart, Operator, ShiftOperator};
 
-/// What an operator computes.
+/// The result of an operator.
 pub fn compute(operator: Operator, left: u64, right: u64) -> u64
     ensures { result ≡ computed operator left right }
 {
@@ -20,7 +20,7 @@ pub fn compute(operator: Operator, left: u64, right: u64) -> u64
     }
 }
 
-/// A number whose bits are moved by a count of places, modulo 64.
+/// A number shifted by a count, modulo 64.
 pub fn shift(operator: ShiftOperator, number: u64, count: u64) -> u64
     ensures { result ≡ shifted operator number count }
 {
@@ -33,21 +33,21 @@ pub fn shift(operator: ShiftOperator, number: u64, count: u64) -> u64
     }
 }
 
-/// A number's rank among those with sign: from 2^63 on they come first.
+/// A number's rank in the signed order: numbers from 2^63 on come first.
 fn signed_rank(number: u64) -> u64
     ensures { result ≡ signed_rank number }
 {
     number.wrapping_add(1 << 63)
 }
 
-/// Whether a number is negative, with sign.
+/// Whether a number is negative in two's complement.
 fn is_negative(number: u64) -> bool
     ensures { result ≡ is_negative number }
 {
     1 << 63 <= number
 }
 
-/// How far a number is from 0, with sign.
+/// The absolute value of a number in two's complement.
 fn magnitude(number: u64) -> u64
     ensures value { result ≡ magnitude number }
     ensures some { 0 < number → 0 < result }
@@ -59,7 +59,7 @@ fn magnitude(number: u64) -> u64
     }
 }
 
-/// The number that is so far from 0, below it or above.
+/// The number with that absolute value, negative or not.
 fn with_sign(is_negative: bool, number: u64) -> u64
     ensures { result ≡ with_sign is_negative number }
 {
@@ -70,7 +70,7 @@ fn with_sign(is_negative: bool, number: u64) -> u64
     }
 }
 
-/// A part of a division with sign.
+/// The quotient or remainder of a signed division.
 fn signed_divided(part: DivisionPart, left: u64, right: u64) -> u64
     requires { 0 < right }
     ensures { result ≡ divided part true left right }
@@ -85,7 +85,7 @@ fn signed_divided(part: DivisionPart, left: u64, right: u64) -> u64
     }
 }
 
-/// A part of a division.
+/// The quotient or remainder of a division.
 pub fn divided(part: DivisionPart, is_signed: bool, left: u64, right: u64) -> u64
     requires { 0 < right }
     ensures { result ≡ divided part is_signed left right }
@@ -105,7 +105,7 @@ pub fn does_trap(is_signed: bool, left: u64, right: u64) -> bool
     right == 0 || (is_signed && left == 1 << 63 && right == u64::MAX)
 }
 
-/// What a number has above its highest bit: nothing, or copies of that.
+/// The upper half of a number extended to 128 bits: zeros, or copies of its highest bit.
 pub fn extended(is_signed: bool, number: u64) -> u64
     ensures { result ≡ extended is_signed number }
 {
@@ -134,7 +134,7 @@ pub fn does_hold(condition: Condition, left: u64, right: u64) -> bool
     }
 }
 
-/// An argument; past the given ones they are 0.
+/// An argument; arguments past the given ones are 0.
 pub fn argument(arguments: &[u64], index: u32) -> u64
     ensures { result ≡ arguments_of arguments.now index }
 {

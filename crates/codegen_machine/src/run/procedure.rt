@@ -1,4 +1,4 @@
-//! A function, step by step.
+//! The interpreter of a function, step by step.
 
 ghost use Rattle.std.specs.Prelude.{◌≡◌, ◌<◌, ◌^◌, ◌+◌, IfOk, OnOk, if◌then◌else◌, length, map};
 ghost use Rattle.regalloc2_semantics.specs.Values.Interpreters.{number_set, passed_on};
@@ -19,10 +19,10 @@ use std::alloc::{AllocError, Global};
 use std::collections::HashMap;
 use std::hash::{BuildHasherDefault, FoldHasher};
 
-/// The numbers of the virtual registers that were written, by their words. The others are 0.
+/// The numbers of the virtual registers written so far, by the vregs' encodings. The others are 0.
 type Numbers = HashMap<u32, u64, BuildHasherDefault<FoldHasher>>;
 
-/// Where a run is, and the numbers of the virtual registers.
+/// The current line of a run, and the numbers of the vregs.
 #[derive(Drop)]
 pub struct State {
     block: usize,
@@ -30,14 +30,14 @@ pub struct State {
     numbers: Numbers,
 }
 
-/// The number of a virtual register.
+/// The number of a vreg.
 fn number_of(numbers: &Numbers, vreg: VReg) -> u64
     ensures { result ≡ numbers_by_vreg numbers.now vreg }
 {
     numbers.get(&(vreg.bits() as u32)).copied().unwrap_or(0)
 }
 
-/// Puts a number into a virtual register.
+/// Puts a number into a vreg.
 fn put(numbers: &mut Numbers, vreg: VReg, number: u64) -> Result<(), AllocError>
     ensures { OnOk result (numbers_by_vreg numbers.new ≡ number_set (numbers_by_vreg numbers.old) vreg number) }
 {
@@ -45,7 +45,7 @@ fn put(numbers: &mut Numbers, vreg: VReg, number: u64) -> Result<(), AllocError>
     Ok(())
 }
 
-/// The numbers of virtual registers.
+/// The numbers of vregs.
 fn numbers_at(alloc: Global, numbers: &Numbers, vregs: &[VReg]) -> Result<Vec<u64>, AllocError>
     ensures { IfOk result (λ ns. ns.items ≡ map (numbers_by_vreg numbers.now) vregs.now) }
 {
@@ -55,7 +55,7 @@ fn numbers_at(alloc: Global, numbers: &Numbers, vregs: &[VReg]) -> Result<Vec<u6
         .collect(alloc)
 }
 
-/// The parameters take what the arguments have, all at once.
+/// Assigns the arguments to the parameters, all in parallel.
 fn pass(
     alloc: Global,
     numbers: &mut Numbers,
@@ -106,14 +106,14 @@ fn first_line(procedure: &Procedure, block: usize) -> usize
 }
 
 impl State {
-    /// The number of a virtual register.
+    /// The number of a vreg.
     fn number(&self, vreg: VReg) -> u64
         ensures { result ≡ (state_of self.now).numbers vreg }
     {
         number_of(&self.numbers, vreg)
     }
 
-    /// A second number.
+    /// The value of a second number.
     fn right(&self, right: Right) -> u64
         ensures { result ≡ right_number (numbers_by_vreg self.now.numbers) right }
     {
@@ -123,7 +123,7 @@ impl State {
         }
     }
 
-    /// A count of places.
+    /// The value of a shift count.
     fn count(&self, count: Count) -> u64
         ensures { result ≡ count_number (numbers_by_vreg self.now.numbers) count }
     {
@@ -133,7 +133,7 @@ impl State {
         }
     }
 
-    /// Goes on with the next line of the block, where a virtual register has been written.
+    /// Continues at the block's next line, with a vreg written.
     fn write(&mut self, to: VReg, number: u64) -> Result<Standing, AllocError>
         requires room { self.old.inst + 1 < 2 ^ 64 }
         ensures { IfOk result (λ r. onward (state_of self.old) to number ≡ run_outcome r (state_of self.new)) }
@@ -143,7 +143,7 @@ impl State {
         Ok(Standing::Running)
     }
 
-    /// Goes on with the next line where a virtual register has taken a part of a division, or traps.
+    /// Continues at the next line with a result of a division in a vreg, or traps.
     fn divide(
         &mut self,
         part: DivisionPart,
@@ -162,7 +162,7 @@ impl State {
         self.write(to, divided(part, is_signed, left, right))
     }
 
-    /// Goes on with the successor at a position.
+    /// Continues at the successor at a position.
     fn enter(
         &mut self,
         alloc: Global,
@@ -276,8 +276,8 @@ impl State {
     }
 }
 
-/// How a run of a function stands after so many steps, which starts with 0 in all virtual registers. Arguments past the given
-/// ones are 0.
+/// Returns the outcome of running a function for that many steps, with 0 in all vregs at the
+/// start. Arguments past the given ones are 0.
 pub fn run_procedure(
     alloc: Global,
     procedure: &Procedure,

@@ -1,20 +1,20 @@
-//! How runs stand.
+//! The outcome of a run.
 
 ghost use Rattle.std.specs.Prelude.{Some};
 ghost use Rattle.codegen_machine.specs.Run.Runs.{standing_text};
 
 use std::fmt;
 
-/// How a run stands after some steps.
+/// The outcome of a run after some number of steps.
 #[derive(Clone, Copy, Debug, PartialEq, Eq)]
 pub enum Standing {
-    /// It goes on.
+    /// It still runs.
     Running,
-    /// It has ended with a number.
+    /// It has returned a number.
     Returned(u64),
-    /// It has ended by a trap.
+    /// It has trapped.
     Trapped,
-    /// It can't go on.
+    /// It is stuck.
     Stuck,
 }
 

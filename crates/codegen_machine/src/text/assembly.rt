@@ -8,7 +8,7 @@ use crate::ir::{Condition, Operator, ShiftOperator};
 use crate::{Code, Instruction, Source};
 use std::fmt;
 
-/// How the function begins: with what its caller keeps in registers, put aside.
+/// The start of the function: pushes the registers that it must preserve for its caller.
 #[tactic(auto, unfolding(crate::specs::Text::Assembly::entry_text))]
 fn entry_text() -> &'static str
     ensures { result.now ≡ entry_text }
@@ -24,7 +24,7 @@ compiled:
 "
 }
 
-/// How it ends.
+/// The end of the function: pops those registers.
 #[tactic(auto, unfolding(crate::specs::Text::Assembly::exit_text))]
 fn exit_text() -> &'static str
     ensures { result.now ≡ exit_text }
@@ -122,7 +122,7 @@ fn division_name(is_signed: bool) -> &'static str
     if is_signed { "idivq" } else { "divq" }
 }
 
-/// How the names of instructions end that look whether a condition holds.
+/// The suffix of instructions that test a condition.
 fn condition_letters(condition: Condition) -> &'static str
     ensures { result.now ≡ condition_letters condition }
 {
@@ -156,7 +156,7 @@ impl fmt::Display for SourceText {
     }
 }
 
-/// An instruction as assembly: one for each but `Set`, which takes two.
+/// An instruction as assembly: one machine instruction, but two for `Set`.
 #[derive(Clone, Copy)]
 pub struct InstructionText(pub Instruction);
 
@@ -252,7 +252,8 @@ impl fmt::Display for InstructionText {
     }
 }
 
-/// An instruction of that number, among so many, as a line with its label. What only goes on to the next line is left out.
+/// The instruction with that number, of `count` instructions, as a line with its label. A jump to
+/// the next line is omitted.
 #[derive(Clone, Copy)]
 struct LineText {
     count: usize,
@@ -268,7 +269,7 @@ fn is_after(line: usize, at: usize) -> bool
 }
 
 impl LineText {
-    /// Whether the instruction only goes on to the next line.
+    /// Whether the instruction is only a jump to the next line.
     fn is_next(&self) -> bool
         ensures { result ≡ is_next self.now.count self.now.at self.now.instruction }
     {
@@ -315,10 +316,10 @@ impl fmt::Display for LinesText<'_> {
     }
 }
 
-/// Code as a function `compiled`, which is called from C as `uint64_t compiled(const uint64_t *arguments)`.
+/// Code as a function `compiled`, which C calls as `uint64_t compiled(const uint64_t *arguments)`.
 ///
-/// It keeps the registers that its caller may use. Its frame has to fit the stack, and the assembler takes arguments with numbers
-/// below 2^28 alone.
+/// It preserves its caller's registers. Its frame has to fit the stack, and the assembler accepts
+/// only argument numbers below 2^28.
 #[derive(Clone, Copy)]
 pub struct AssemblyText<'a>(pub &'a Code);
 

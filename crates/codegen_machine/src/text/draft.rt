@@ -1,4 +1,4 @@
-//! What the lines of a text say, and the function that they make.
+//! The lines of a text read so far, and the function they make.
 
 use super::operations::{read_branch, read_value, read_vreg};
 use crate::ir::{Line, Malformed, Operation, Part, Procedure};
@@ -6,16 +6,16 @@ use regalloc2::{Block, Inst, InstRange, VReg};
 use regalloc2_text::cursor::{Cursor, Expected, Flaw, Found, Token};
 use std::alloc::Global;
 
-/// What the lines so far say of a block.
+/// The lines of a block read so far.
 #[derive(Drop)]
 struct DraftBlock {
-    /// Its first line and the one past its last.
+    /// The numbers of its first line and of the line past its last.
     range: (u32, u32),
     params: Vec<VReg>,
     succs: Vec<Block>,
     /// The arguments for each successor.
     arguments: Vec<Vec<VReg>>,
-    /// Whether its last line is there.
+    /// Whether its last line has been read.
     is_ended: bool,
 }
 
@@ -73,16 +73,16 @@ impl DraftBlock {
     }
 }
 
-/// What the lines so far say.
+/// The lines read so far.
 #[derive(Drop)]
 pub struct Draft {
     lines: Vec<Line>,
     blocks: Vec<DraftBlock>,
-    /// One more than the greatest number of a virtual register that the lines show.
+    /// One more than the greatest number of a vreg in the lines.
     num_vregs: u64,
 }
 
-/// As many empty lists.
+/// That many empty lists.
 fn empty_lists(alloc: Global, cursor: &mut Cursor<'_, '_>, count: usize) -> Vec<Vec<Block>> {
     let mut lists = Vec::new(alloc);
     for _ in 0..count {
@@ -106,7 +106,7 @@ fn predecessors(
     preds
 }
 
-/// Notes that a block is followed by its successors, as far as there are such blocks.
+/// Adds a block to the predecessors of its successors, where those blocks exist.
 fn add_pred(
     cursor: &mut Cursor<'_, '_>,
     preds: &mut Vec<Vec<Block>>,
@@ -121,7 +121,7 @@ fn add_pred(
 }
 
 impl Draft {
-    /// Nothing is said.
+    /// A draft without lines.
     pub fn new(alloc: Global) -> Self {
         Draft {
             lines: Vec::new(alloc),
@@ -130,12 +130,13 @@ impl Draft {
         }
     }
 
-    /// The number of the next line; at 2^32 - 1 there are too many, as the function's size will say.
+    /// The number of the next line; at 2^32 - 1 there are too many, which the test of the
+    /// function's size reports.
     fn next_line(&self) -> u32 {
         u32::try_from(self.lines.len()).unwrap_or(u32::MAX)
     }
 
-    /// Reads a line of those tokens.
+    /// Reads a line from its tokens.
     pub fn read_line<'t>(&mut self, alloc: Global, tokens: &[Token<'t>]) -> Result<(), Flaw<'t>> {
         if tokens.is_empty() {
             return Ok(());
@@ -233,7 +234,7 @@ fn parts(
     parts
 }
 
-/// What is said of lines that are no function.
+/// The message for lines that make no valid function.
 fn flaw_of<'t>(malformed: Malformed) -> Flaw<'t> {
     let expected = match malformed {
         Malformed::TooLarge => "at most a million blocks, instructions and virtual registers",

@@ -10,13 +10,13 @@ use regalloc2_text::cursor::Cursor;
 /// The greatest number of an argument, whose address an instruction of x86-64 can still name.
 const LAST_ARGUMENT: u64 = (1 << 28) - 1;
 
-/// The greatest second number that an instruction of x86-64 holds without a sign.
+/// The greatest second number that an instruction of x86-64 holds as an unsigned immediate.
 const LAST_NUMBER: u64 = (1 << 31) - 1;
 
-/// The greatest count of places that is given as a number.
+/// The greatest shift count that is given as a number.
 const LAST_COUNT: u64 = 63;
 
-/// The operator of that name.
+/// The operator with that name.
 fn operator_named(name: &str) -> Option<Operator> {
     match name {
         "add" => Some(Operator::Add),
@@ -29,7 +29,7 @@ fn operator_named(name: &str) -> Option<Operator> {
     }
 }
 
-/// The shift of that name.
+/// The shift with that name.
 fn shift_named(name: &str) -> Option<ShiftOperator> {
     match name {
         "shift_left" => Some(ShiftOperator::Left),
@@ -39,7 +39,7 @@ fn shift_named(name: &str) -> Option<ShiftOperator> {
     }
 }
 
-/// The division of that name: which part it gives, and whether the numbers have a sign.
+/// The division with that name: the part it computes, and whether it is signed.
 fn division_named(name: &str) -> Option<(DivisionPart, bool)> {
     match name {
         "div" => Some((DivisionPart::Quotient, false)),
@@ -50,7 +50,7 @@ fn division_named(name: &str) -> Option<(DivisionPart, bool)> {
     }
 }
 
-/// The condition of that name.
+/// The condition with that name.
 fn condition_named(name: &str) -> Option<Condition> {
     match name {
         "equal" => Some(Condition::Equal),
@@ -80,7 +80,7 @@ pub fn read_vreg(cursor: &mut Cursor<'_, '_>) -> VReg
     VReg::new(number, RegClass::Int)
 }
 
-/// A second number: a virtual register, or a number up to 2147483647.
+/// A second number: a vreg, or a number up to 2147483647.
 fn read_right(cursor: &mut Cursor<'_, '_>) -> Right {
     if cursor.begins("v") {
         Right::VReg(read_vreg(cursor))
@@ -89,14 +89,14 @@ fn read_right(cursor: &mut Cursor<'_, '_>) -> Right {
     }
 }
 
-/// A virtual register and a second number, with a comma between them.
+/// A vreg and a second number, with a comma between them.
 fn read_pair(cursor: &mut Cursor<'_, '_>) -> (VReg, Right) {
     let left = read_vreg(cursor);
     cursor.want(",");
     (left, read_right(cursor))
 }
 
-/// A shift, from its number on: the number and the count, with a comma between them.
+/// A shift, from its first number on: the number and the count, with a comma between them.
 fn read_shift(cursor: &mut Cursor<'_, '_>, operator: ShiftOperator, to: VReg) -> Operation {
     let left = read_vreg(cursor);
     cursor.want(",");
@@ -146,7 +146,7 @@ fn read_select(cursor: &mut Cursor<'_, '_>, to: VReg) -> Operation {
     }
 }
 
-/// A branch, after its name: the number that decides, or a condition and the two numbers that it is asked of.
+/// A branch, after its name: the deciding number, or a condition and the two numbers it compares.
 pub fn read_branch(cursor: &mut Cursor<'_, '_>) -> Operation {
     let Some(condition) = condition_named(cursor.peek().unwrap_or("")) else {
         let value = read_vreg(cursor);
@@ -161,7 +161,7 @@ pub fn read_branch(cursor: &mut Cursor<'_, '_>) -> Operation {
     }
 }
 
-/// What computes the number of a virtual register, from the register on.
+/// The operation that writes a vreg, from the register on.
 pub fn read_value(cursor: &mut Cursor<'_, '_>) -> Operation {
     let to = read_vreg(cursor);
     cursor.want("=");

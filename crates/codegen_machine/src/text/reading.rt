@@ -8,7 +8,8 @@ use crate::ir::Procedure;
 use regalloc2_text::cursor::{TextError, Token, split_line, tokenize};
 use std::alloc::Global;
 
-/// Reads the lines of a text, whose first line has the number `first_line`, into a draft. Answers the number of the last.
+/// Reads the lines of a text, whose first line has the number `first_line`, into a draft. Returns
+/// the number of the last.
 fn read_lines<'t>(
     alloc: Global,
     draft: &mut Draft,
@@ -37,11 +38,12 @@ fn read_lines<'t>(
     Ok(line)
 }
 
-/// The function that a text says, whose first line has the number `first_line`.
+/// Reads a function from a text whose first line has the number `first_line`.
 ///
-/// The first line that can't be read is named in the error, or `Memory` is answered where a growth was refused.
-/// A fault stands on a line of the text and names a column from 1 on; the contract bounds its line by the text's length
-/// in bytes. Whether the function is well-formed is not looked at, nor does the contract say what is read: that is shown by tests.
+/// The error names the first line that can't be read, or is `Memory` if an allocation failed. An
+/// error names a line of the text and a column from 1 on; the contract bounds its line by the
+/// text's length in bytes. The function isn't checked to be well-formed. The contract doesn't
+/// specify the function that is read: tests check that.
 pub fn read_procedure<'t>(
     alloc: Global,
     text: &'t str,

@@ -5,13 +5,13 @@ use regalloc2_function::StoredOutput;
 use regalloc2_serialize::StoredFunction;
 use std::io::{self, Write};
 
-/// The word of a place that is none.
+/// The text of a place that is none.
 const NONE: u32 = 0;
 
-/// A stored move: a point, the place that is read, and the place that is written.
+/// A stored move: a program point, the place that is read, and the place that is written.
 type Move = (u32, u32, u32);
 
-/// The moves at a point, which are the first ones, and those behind it.
+/// The moves at a point, which are the first ones of a list, and the moves after them.
 fn split_point(moves: &[Move], point: u32) -> (&[Move], &[Move]) {
     let count = moves
         .iter()
@@ -30,7 +30,7 @@ fn next_point(first: &[Move], second: &[Move]) -> Option<u32> {
     }
 }
 
-/// Writes moves of one point that one side alone has, a line for each.
+/// Writes the moves at one point that only one side has, a line for each.
 fn write_moves<W: Write>(sign: &str, moves: &[Move], to: &mut W) -> io::Result<()> {
     for (point, from, into) in moves {
         let point = PointText(*point);
@@ -41,7 +41,7 @@ fn write_moves<W: Write>(sign: &str, moves: &[Move], to: &mut W) -> io::Result<(
     Ok(())
 }
 
-/// Writes how the moves of one point differ. Whether they do.
+/// Writes how the moves at one point differ. Returns whether they do.
 fn diff_point<W: Write>(first: &[Move], second: &[Move], to: &mut W) -> io::Result<bool> {
     if first == second {
         return Ok(false);
@@ -51,7 +51,7 @@ fn diff_point<W: Write>(first: &[Move], second: &[Move], to: &mut W) -> io::Resu
     Ok(true)
 }
 
-/// Writes how the moves differ, point by point. Whether they do.
+/// Writes how the moves differ, point by point. Returns whether they do.
 fn diff_moves<W: Write>(first: &[Move], second: &[Move], to: &mut W) -> io::Result<bool> {
     let mut differs = false;
     let mut left = first;
@@ -69,7 +69,7 @@ fn diff_moves<W: Write>(first: &[Move], second: &[Move], to: &mut W) -> io::Resu
     Ok(differs)
 }
 
-/// Writes how the places of an instruction's operands differ. Whether they do.
+/// Writes how the places of an instruction's operands differ. Returns whether they do.
 fn diff_inst<W: Write>(
     function: &StoredFunction,
     first: &StoredOutput,
@@ -94,8 +94,9 @@ fn diff_inst<W: Write>(
     Ok(differs)
 }
 
-/// Writes how two outputs of one function differ: operands with their places in the first and the second, then moves, `-` where the first
-/// has it and `+` where the second does, and slots. Whether they do. Linear in function and outputs.
+/// Writes how two outputs of one function differ: operands with their places in the first and the
+/// second, then moves, `-` if only the first has it and `+` if only the second does, and slots.
+/// Returns whether they differ. Linear in function and outputs.
 pub fn write_diff<W: Write>(
     function: &StoredFunction,
     first: &StoredOutput,

@@ -1,4 +1,4 @@
-//! A function with its allocation in the form in which upstream prints results.
+//! A function with its allocation, in the form in which upstream prints results.
 
 use crate::report::places::{OperandText, PlaceText, RegisterText, operands_at, places_of};
 use regalloc2_function::StoredOutput;
@@ -32,7 +32,7 @@ fn write_head<W: Write>(function: &StoredFunction, block: usize, to: &mut W) -> 
     writeln!(to, "]")
 }
 
-/// What upstream calls an instruction.
+/// Upstream's name for an instruction.
 fn name_of(op: InstOpcode) -> &'static str {
     match op {
         InstOpcode::Op => "op",

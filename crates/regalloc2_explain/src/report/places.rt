@@ -5,7 +5,7 @@ use regalloc2_names::{Allocation, Operand, PReg, ProgPoint};
 use regalloc2_serialize::{StoredFunction, StoredMachine};
 use std::fmt;
 
-/// The operand of a word, if it is that of one.
+/// The operand of an encoding, if it is valid.
 pub(crate) fn operand_of(bits: u64) -> Option<Operand> {
     if Operand::is_bits(bits) {
         Some(Operand::from_bits(bits))
@@ -14,7 +14,8 @@ pub(crate) fn operand_of(bits: u64) -> Option<Operand> {
     }
 }
 
-/// Whether the place of a word is on the stack: a spill slot, or a register that is a fixed stack slot.
+/// Returns whether the place of an encoding is a stack place: a spill slot, or a register that is a
+/// fixed stack slot.
 pub(crate) fn is_memory(machine: &StoredMachine, bits: u32) -> bool {
     if !Allocation::is_bits(bits) {
         return false;
@@ -49,7 +50,7 @@ pub(crate) fn places_of(output: &StoredOutput, inst: usize) -> &[u32] {
         .unwrap_or(&[])
 }
 
-/// The words of an instruction's operands; none if there is no such instruction.
+/// The encodings of an instruction's operands; none if there is no such instruction.
 pub(crate) fn operands_at(function: &StoredFunction, inst: usize) -> &[u64] {
     match function.insts.get(inst) {
         Some(data) => data.operands.as_slice(),
@@ -57,7 +58,7 @@ pub(crate) fn operands_at(function: &StoredFunction, inst: usize) -> &[u64] {
     }
 }
 
-/// A place's word, as `p3i`, `stack5` or `none`.
+/// A place's text, as `p3i`, `stack5` or `none`.
 #[derive(Clone, Copy)]
 pub(crate) struct PlaceText(pub u32);
 
@@ -72,7 +73,7 @@ impl fmt::Display for PlaceText {
     }
 }
 
-/// An operand's word, as `Use: v0i reg`.
+/// An operand's text, as `Use: v0i reg`.
 #[derive(Clone, Copy)]
 pub(crate) struct OperandText(pub u64);
 
@@ -88,7 +89,7 @@ impl fmt::Display for OperandText {
     }
 }
 
-/// A register's index, as `p3i`.
+/// A register's text from its index, as `p3i`.
 #[derive(Clone, Copy)]
 pub(crate) struct RegisterText(pub u8);
 
@@ -103,7 +104,7 @@ impl fmt::Display for RegisterText {
     }
 }
 
-/// A point's number, as `inst3-pre` or `inst3-post`.
+/// A program point's text, as `inst3-pre` or `inst3-post`.
 #[derive(Clone, Copy)]
 pub(crate) struct PointText(pub u32);
 

@@ -13,7 +13,7 @@ pub struct Stats {
     pub insts: usize,
     /// The blocks.
     pub blocks: usize,
-    /// The count of vregs that the function gives.
+    /// The number of vregs that the function reports.
     pub vregs: u64,
     /// The operands by constraint: `any`, `reg`, `stack`, `fixed`, `reuse` and `limit`.
     pub operands: [u64; 6],
@@ -43,7 +43,8 @@ fn index_of(constraint: OperandConstraint) -> usize {
 }
 
 impl Stats {
-    /// The counts of a function with its output. A move from stack to stack, which no faithful output has, counts as a store. Linear in them.
+    /// The counts of a function with its output. A stack-to-stack move, which no faithful output
+    /// has, counts as a store. Linear in both.
     pub fn of(function: &StoredFunction, output: &StoredOutput) -> Stats {
         let mut stats = Stats {
             insts: function.insts.len(),

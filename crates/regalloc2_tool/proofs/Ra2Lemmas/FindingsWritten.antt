@@ -1,4 +1,4 @@
--- What is written of an output that isn't accepted.
+-- The text of an output that isn't accepted.
 use Rattle.std.proofs.Common.{◌≡◌, ◌<◌, ◌≤◌, ◌⊎◌, inl, inr, ℕ, ◌+◌, List, [], ◌∷◌, ◌++◌, length, take, Option, Some, Bool, true, false, Result, Ok}
 use Rattle.std.proofs.Common.{Err, sym, subst, ap, ◌∙◌, slice_index_or}
 use Rattle.std.specs.Prelude.{codes, IfOk}
@@ -31,7 +31,7 @@ pub no_more : {A : Type 0} (es : List (CheckerError A)) (i : ℕ) (old new : Opt
     Appends old new (findings_text es)
 no_more es i old new l written = subst (λ xs. Appends old new (findings_text xs)) (take_all i es l) written
 
--- an answer, and what is written with it
+-- a result, and the text written with it
 abbrev pub Writes : {E : Type 0} → Result Bool E → Bool → Option (List ℕ) → Option (List ℕ) → List ℕ → Type 0
 Writes r b old new text = IfOk r (λ a. (a ≡ b) × Appends old new text)
 
@@ -43,13 +43,13 @@ unfolding IsOutputJudged
 judged {A} (Ok b) f env out old new es h w = subst (λ a. IsOutputJudged A f env out (Appends old new) a) (sym w.0) (es, h, w.1)
 judged (Err y) f env out old new es h w = tt
 
--- no checker was made
+-- building the checker failed because memory ran out
 pub unmade : {A E : Type 0} (r : Result Bool E) (f : FunctionValue) (env : MachineValue) (out : OutputValue) (old new : Option (List ℕ))
     (e : CheckerError A) → e ≡ Memory →
     Writes r false old new (findings_text (e ∷ [])) → IfOk r (IsOutputJudged A f env out (Appends old new))
 unmade r f env out old new e h w = judged r f env out old new (e ∷ []) (subst (λ x. AreFindings f env out (x ∷ [])) (sym h) memory) w
 
--- the output wasn't taken
+-- the checker rejected the output as not well-ordered, or memory ran out
 pub untaken : {A E : Type 0} (r : Result Bool E) (f own : FunctionValue) (env : MachineValue) (out : OutputValue) (old new : Option (List ℕ))
     (e : CheckerError A) → own ≡ f →
     ((e ≡ MalformedOutput) × (IsInOrder own out → ⊥)) ⊎ ((e ≡ Memory) × IsInOrder own out) → Writes r false old new (findings_text (e ∷ [])) →
@@ -64,7 +64,7 @@ here : {A : Type 0} (f : FunctionValue) (env : MachineValue) (out : OutputValue)
 here f env out es (inl m) = subst (λ x. AreFindings f env out x) (sym m) memory
 here f env out es (inr m) = faults es m.0 m.1
 
--- it has faults, or memory ran out
+-- it has errors, or memory ran out
 pub faulty : {A E : Type 0} (r : Result Bool E) (f own : FunctionValue) (env mine : MachineValue) (out : OutputValue) (old new : Option (List ℕ))
     (es shown : List (CheckerError A)) → own ≡ f → mine ≡ env →
     (es ≡ Memory ∷ []) ⊎ ((IsFaithful own mine out → ⊥) × IsReport own mine out es) → shown ≡ es → Writes r false old new (findings_text shown) →
@@ -73,7 +73,7 @@ faulty r f own env mine out old new es shown s m h e w =
     let found : AreFindings f env out es = subst (λ g. AreFindings g env out es) s (subst (λ k. AreFindings own k out es) m (here own mine out es h)) in
     judged r f env out old new shown (subst (λ x. AreFindings f env out x) (sym e) found) w
 
--- it is in order and faithful
+-- it is well-ordered and faithful
 pub faithful : (A : Type 0) {E : Type 0} (r : Result Bool E) (f own : FunctionValue) (env mine : MachineValue) (out : OutputValue) (held : Option OutputValue)
     (old new : Option (List ℕ)) → own ≡ f → mine ≡ env → held ≡ Some out → IsInOrder f out →
     (o : OutputValue) × (held ≡ Some o) × IsFaithful own mine o → Writes r true old new checked_line →

@@ -1,4 +1,4 @@
--- What an output that is judged, and a task that is done or not, come to.
+-- The outcomes of checking an output, and of a task that succeeds or fails.
 use Rattle.std.proofs.Common.{◌≡◌, ℕ, List, [], ◌++◌, Option, None, Some, Bool, true, false, Result, Ok, Err, refl, sym, subst, ap, ◌∙◌, append-nil}
 use Rattle.std.specs.Prelude.{IfOk, IfSome}
 use Rattle.std.specs.Result.{result_ok}
@@ -17,7 +17,7 @@ use Rattle.regalloc2_tool.specs.declared.ra2.task.Command.TheVariants.{Allocate,
 use Rattle.regalloc2_tool.specs.declared.ra2.task.Task.{Task}
 use Rattle.regalloc2_tool.specs.declared.ra2.task.Task.TheVariants.{Run, Check}
 
--- the bytes of the writer before the listing, after it, and after the judgement
+-- the bytes of the writer before the listing, after it, and after the check
 pub judged : (A : Type 0) {E : Type 0} (task : Task) (f : FunctionValue) (env : MachineValue) (out : OutputValue) (old listed new : Option (List ℕ))
     (r : Result Bool E) → task ≡ Check → IsWellFormedAllocation f env out →
     Appends old listed (listing_text f out) → IfOk r (IsOutputJudged A f env out (Appends listed new)) → IfOk r (IsOutcome A task f env (Appends old new))
@@ -41,26 +41,26 @@ flushed A task f env old shown new false k (refused e h w) = refused e h (Append
 flushed A task f env old shown new false k (unaccepted out h e x) = unaccepted out h e
     (x.0, x.1, Appends-kept old shown new (listing_text f out ++ findings_text x.0) x.2 k)
 
--- a buffer that is empty holds nothing back
+-- an empty buffer has no unwritten bytes
 unbuffered : (a : Option (List ℕ)) (bs : List ℕ) → bs ≡ [] → append_known a bs ≡ a
 unbuffered None bs e = refl
 unbuffered (Some x) bs e = ap (λ ys. Some (x ++ ys)) e ∙ ap Some (append-nil x)
 
--- the outcome for a function that is given
+-- the outcome for a given function
 pub outcome : {A E : Type 0} (bytes : Option (List ℕ)) (task : Task) (f : FunctionValue) (env own : MachineValue) (old new : Option (List ℕ))
     (r : Result Bool E) (o : Option Bool) → TextNamesFitting A bytes f env → own ≡ env → o ≡ result_ok r → IfOk r (IsOutcome A task f own (Appends old new)) →
     IfSome o (HasOutcome A bytes (Allocate task) (Appends old new))
 outcome {A} bytes task f env own old new (Ok b) o given e k h = rw k (f, env, given, subst (λ m. IsOutcome A task f m (Appends old new) b) e h)
 outcome bytes task f env own old new (Err y) o given e k h = rw k tt
 
--- the outcome for an output that is given
+-- the outcome for a given output
 pub verdict : {A E : Type 0} (bytes : Option (List ℕ)) (f : FunctionValue) (env own : MachineValue) (out : OutputValue) (old new : Option (List ℕ))
     (r : Result Bool E) (o : Option Bool) → AreGiven A bytes f env out → own ≡ env → o ≡ result_ok r → IfOk r (IsOutputJudged A f own out (Appends old new)) →
     IfSome o (HasOutcome A bytes Replay (Appends old new))
 verdict {A} bytes f env own out old new (Ok b) o given e k h = rw k (f, env, out, given, subst (λ m. IsOutputJudged A f m out (Appends old new) b) e h)
 verdict bytes f env own out old new (Err y) o given e k h = rw k tt
 
--- a flush changes no judgement
+-- a flush changes no result of a check
 still_judged : (A : Type 0) (f : FunctionValue) (env : MachineValue) (out : OutputValue) (old shown new : Option (List ℕ)) (accepted : Bool) → Keeps shown new →
     IsOutputJudged A f env out (Appends old shown) accepted → IsOutputJudged A f env out (Appends old new) accepted
 unfolding IsOutputJudged
@@ -72,7 +72,7 @@ kept : (A : Type 0) (bytes : Option (List ℕ)) (command : Command) (old shown n
 kept A bytes (Allocate task) old shown new accepted k h = (h.0, h.1, h.2, flushed A task h.0 h.1 old shown new accepted k h.3)
 kept A bytes Replay old shown new accepted k h = (h.0, h.1, h.2, h.3, still_judged A h.0 h.1 h.2 old shown new accepted k h.4)
 
--- what is given has the outcome, once the buffer is empty
+-- the input has the outcome, once the buffer is empty
 pub flushed_outcome : (A : Type 0) (bytes : Option (List ℕ)) (command : Command) (old shown new : Option (List ℕ)) (buffer : List ℕ) (accepted b : Bool) →
     accepted ≡ b → Keeps shown (append_known new buffer) → buffer ≡ [] → HasOutcome A bytes command (Appends old shown) accepted →
     HasOutcome A bytes command (Appends old new) b

@@ -1,4 +1,4 @@
--- What is read of a text.
+-- What reading a text returns.
 use Rattle.std.proofs.Common.{◌≡◌, ◌⊎◌, inl, inr, ℕ, List, Bool, false, Option, Some, None, Result, Ok, Err, subst, sym}
 use Rattle.std.specs.Prelude.{IfOk, IfSome, is_some}
 use Rattle.std.specs.Option.{option_map}
@@ -13,12 +13,12 @@ use Rattle.regalloc2_serialize.specs.JsonShape.{IsFunctionAt}
 use Rattle.regalloc2_serialize.specs.declared.data.StoredFunction.{StoredFunction}
 use Rattle.regalloc2_tool.specs.Ra2.Input.{IsOutputFault, IsPairAt, IsTextOf, IsTextOfPair}
 
--- what a result holds that is there
+-- the value in a successful result
 pub taken : {A E : Type 0} (P : A → Type 0) (r : Result A E) (x : A) → Some x ≡ result_ok r → IfOk r P → P x
 taken P (Ok y) x e h = let same : y ≡ x = cc in subst P same h
 taken P (Err y) x e h = absurd cc
 
--- a value that was read of a text, and a function that was read of the value
+-- a value that was read from a text, and a function that was read from the value
 pub text_of : {A E : Type 0} (bytes : Option (List ℕ)) (text : List ℕ) (d : Data) (r : Result (StoredFunction A) E) (o : Option (StoredFunction A)) →
     IfSome bytes (λ xs. text ≡ xs) → read text ≡ Some d → o ≡ result_ok r → IfOk r (λ s. IsFunctionAt d s) → IfSome o (IsTextOf bytes)
 text_of bytes text d (Ok s) o w h e k = rw e (known bytes w)
@@ -28,7 +28,7 @@ text_of bytes text d (Ok s) o w h e k = rw e (known bytes w)
     known (Some xs) v = (d, rw (← v) h, k)
 text_of bytes text d (Err x) o w h e k = rw e tt
 
--- a pair of a function and an output, at a value that was read of a text
+-- a pair of a function and an output, at a value that was read from a text
 pub pair_of : {A : Type 0} (bytes : Option (List ℕ)) (text : List ℕ) (d : Data) (s : StoredFunction A) (o : StoredOutput A) →
     IfSome bytes (λ xs. text ≡ xs) → read text ≡ Some d → IsPairAt d s o → IsTextOfPair bytes s o
 pair_of bytes text d s o w h pair = known bytes w
@@ -37,7 +37,7 @@ pair_of bytes text d s o w h pair = known bytes w
     known None v = tt
     known (Some xs) v = (d, rw (← v) h, pair)
 
--- nothing is found where a test of what is found says so
+-- nothing is found if a test of what is found says so
 pub absent : {X Y : Type 0} (f : X → Y) (r : Option X) (a : Option Y) (b : Bool) → option_map f r ≡ a → b ≡ is_some r → b ≡ false → a ≡ None
 absent f None a b e i n = sym e
 absent f (Some x) a b e i n = absurd cc

@@ -1,4 +1,4 @@
--- What the checker finds of an output that it doesn't accept, and its text.
+-- The checker's findings in an output that it doesn't accept, and their text.
 use Rattle.std.specs.Prelude.{ℕ, Bool, true, false, codes, List, [], ◌∷◌, ◌++◌, flat_map}
 use Rattle.regalloc2_function.specs.FunctionValue.{FunctionValue}
 use Rattle.regalloc2_function.specs.Machine.{MachineValue}
@@ -10,7 +10,7 @@ use Rattle.regalloc2_checker.specs.declared.errors.CheckerError.{CheckerError}
 use Rattle.regalloc2_checker.specs.declared.errors.CheckerError.TheVariants.{MalformedOutput, Memory}
 use Rattle.regalloc2_tool.specs.Ra2.Text.{checked_line}
 
--- that it is out of order, or the faults of one that isn't faithful, or that memory ran out
+-- the output isn't well-ordered, or these are the errors of one that isn't faithful, or memory ran out
 pub data AreFindings {A : Type 0} (f : FunctionValue) (env : MachineValue) (out : OutputValue) : List (CheckerError A) → Type 0 where
   malformed : (IsInOrder f out → ⊥) → AreFindings f env out (MalformedOutput ∷ [])
   faults : (es : List (CheckerError A)) → (IsFaithful f env out → ⊥) → IsReport f env out es → AreFindings f env out es
@@ -20,11 +20,11 @@ pub data AreFindings {A : Type 0} (f : FunctionValue) (env : MachineValue) (out 
 abbrev pub findings_text : {A : Type 0} → List (CheckerError A) → List ℕ
 findings_text es = flat_map (λ e. fault_text e ++ codes "\n") es
 
--- they are written, the checker's memory being an A's
+-- the findings are written; the checker's allocator is an A
 abbrev pub IsUnaccepted : (A : Type 0) → FunctionValue → MachineValue → OutputValue → (List ℕ → Type 0) → Type 0
 IsUnaccepted A f env out IsWritten = (es : List (CheckerError A)) × AreFindings f env out es × IsWritten (findings_text es)
 
--- what judging an output comes to: it is in order and faithful, and a line says so, or it isn't accepted
+-- the result of checking an output: it is well-ordered and faithful, and a line says so, or it isn't accepted
 unfoldable pub IsOutputJudged : (A : Type 0) → FunctionValue → MachineValue → OutputValue → (List ℕ → Type 0) → Bool → Type 0
 IsOutputJudged A f env out IsWritten true = IsInOrder f out × IsFaithful f env out × IsWritten checked_line
 IsOutputJudged A f env out IsWritten false = IsUnaccepted A f env out IsWritten

@@ -1,4 +1,4 @@
--- What the program is given: a text of stored numbers, and the function, the machine and the output that they name.
+-- The program's input: a text of stored numbers, and the function, the machine and the output that they name.
 use Rattle.std.specs.Prelude.{ℕ, ◌≡◌, List, Option, Some, None, IfSome}
 use Rattle.serde_json.specs.Data.{Data}
 use Rattle.serde_json.specs.Find.{at}
@@ -19,11 +19,11 @@ use Rattle.regalloc2_serialize.specs.declared.data.StoredFunction.{StoredFunctio
 use Rattle.regalloc2_tool.specs.declared.ra2.reading.InputError.{InputError}
 use Rattle.regalloc2_tool.specs.declared.ra2.reading.InputError.TheVariants.{Unreadable, BadFunction, BadMachine, BadOutput, NotFramed}
 
--- the bytes, where they are known, are a JSON text of the stored numbers
+-- the bytes, if they are known, are a JSON text of the stored numbers
 abbrev pub IsTextOf : {A : Type 0} → Option (List ℕ) → StoredFunction A → Type 0
 IsTextOf bytes s = IfSome bytes (λ text. (d : Data) × (read text ≡ Some d) × IsFunctionAt d s)
 
--- a value is an array of just two: a function's numbers, and an output's
+-- a value is an array of exactly a function's numbers and an output's
 pub record IsPairAt {A : Type 0} (d : Data) (s : StoredFunction A) (o : StoredOutput A) : Type 0 where
   pub first : Data
   pub second : Data
@@ -42,7 +42,7 @@ IsOutputFault o Index = ⊥
 IsOutputFault o Limit = ⊥
 IsOutputFault o Shape = ⊥
 
--- the bytes are a text of sound numbers, held in an A's memory, which name this function and this machine
+-- the bytes are a text of sound numbers, in memory of an allocator A, which name this function and this machine
 pub record TextNamesFunction (A : Type 0) (bytes : Option (List ℕ)) (f : FunctionValue) (env : MachineValue) : Type 0 where
   pub stored : StoredFunction A
   pub text : IsTextOf bytes stored
@@ -55,7 +55,7 @@ pub record TextNamesFitting (A : Type 0) (bytes : Option (List ℕ)) (f : Functi
   pub named : TextNamesFunction A bytes f env
   pub fits : MachineFits f env
 
--- why the bytes give none; a failed read, and running out of memory, leave any bytes unreadable
+-- why the bytes name none; any bytes may be unreadable, because a read may fail or memory may run out
 abbrev pub IsInputFault : (A : Type 0) → Option (List ℕ) → InputError → Type 0
 IsInputFault A bytes Unreadable = Unit {0}
 IsInputFault A bytes (BadFunction fault) = (s : StoredFunction A) × IsTextOf bytes s × IsFaultOf s fault
@@ -63,7 +63,7 @@ IsInputFault A bytes BadMachine = (f : FunctionValue) × (env : MachineValue) ×
 IsInputFault A bytes (BadOutput fault) = ⊥
 IsInputFault A bytes NotFramed = ⊥
 
--- the bytes, where they are known, are a JSON text of an array of just two: the stored numbers of a function, and those of an output
+-- the bytes, if they are known, are a JSON text of an array of exactly the stored numbers of a function and those of an output
 abbrev pub IsTextOfPair : {A : Type 0} → Option (List ℕ) → StoredFunction A → StoredOutput A → Type 0
 IsTextOfPair bytes s o = IfSome bytes (λ text. (d : Data) × (read text ≡ Some d) × IsPairAt d s o)
 
@@ -78,12 +78,12 @@ pub record TextNamesOutput (A : Type 0) (bytes : Option (List ℕ)) (f : Functio
   pub names : NamesValues stored_output
   pub output : out ≡ output_of_stored stored_output
 
--- and the function is framed, so that the output can be judged
+-- and the function is structurally valid (`IsFramed`), so the output can be checked
 pub record AreGiven (A : Type 0) (bytes : Option (List ℕ)) (f : FunctionValue) (env : MachineValue) (out : OutputValue) : Type 0 where
   pub named : TextNamesOutput A bytes f env out
   pub framed : IsFramed f
 
--- why the bytes give none; a failed read, and running out of memory, leave any bytes unreadable
+-- why the bytes name none; any bytes may be unreadable, because a read may fail or memory may run out
 abbrev pub IsPairFault : (A : Type 0) → Option (List ℕ) → InputError → Type 0
 IsPairFault A bytes Unreadable = Unit {0}
 IsPairFault A bytes (BadFunction fault) = (s : StoredFunction A) × (o : StoredOutput A) × IsTextOfPair bytes s o × IsFaultOf s fault

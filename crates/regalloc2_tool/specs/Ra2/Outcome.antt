@@ -1,4 +1,4 @@
--- What the program's status says, and its text.
+-- What the program's status and its text say of the input.
 use Rattle.std.specs.Prelude.{ℕ, ◌≡◌, Bool, true, false, List, ◌++◌, Option}
 use Rattle.regalloc2_names.specs.declared.RegAllocError.{RegAllocError}
 use Rattle.regalloc2_function.specs.FunctionValue.{FunctionValue}
@@ -17,34 +17,34 @@ use Rattle.regalloc2_tool.specs.declared.ra2.task.Command.TheVariants.{Allocate,
 use Rattle.regalloc2_tool.specs.declared.ra2.task.Task.{Task}
 use Rattle.regalloc2_tool.specs.declared.ra2.task.Task.TheVariants.{Run, Check}
 
--- an output for a well-formed function, of which all holds that `run` promises
+-- an output for a well-formed function, with all that `run` guarantees
 pub record IsWellFormedAllocation (f : FunctionValue) (env : MachineValue) (out : OutputValue) : Type 0 where
   pub well_formed : IsWellFormed env f
   pub allocation : IsAllocation f env out
 
--- what is written of it: the listing; and where it is to be checked, it is faithful, and a line says so
+-- the text written for the output: the listing; and for `Check` the output is faithful, and a line says so
 abbrev pub IsAnswerWritten : Task → FunctionValue → MachineValue → OutputValue → (List ℕ → Type 0) → Type 0
 IsAnswerWritten Run f env out IsWritten = IsWritten (listing_text f out)
 IsAnswerWritten Check f env out IsWritten = IsFaithful f env out × IsWritten (listing_text f out ++ checked_line)
 
--- the task is done: there is such an output, and this is written of it
+-- the task succeeds: there is such an output, and its text is written
 abbrev pub IsDone : Task → FunctionValue → MachineValue → (List ℕ → Type 0) → Type 0
 IsDone task f env IsWritten = (out : OutputValue) × IsWellFormedAllocation f env out × IsAnswerWritten task f env out IsWritten
 
--- it isn't done: the function is refused, for a reason, and the reason's line is written; or there is such an output, but the checker
--- doesn't accept it, and what is written is its listing and what the checker finds of it
+-- the task fails: the function is rejected, for a reason, and the reason's line is written; or there is such an output, but the checker doesn't accept it, and
+-- its listing and the checker's findings are written
 pub data IsTurnedDown (A : Type 0) (task : Task) (f : FunctionValue) (env : MachineValue) (IsWritten : List ℕ → Type 0) : Type 0 where
   refused : (e : RegAllocError) → IsReason f env true e → IsWritten (refusal_line e) → IsTurnedDown A task f env IsWritten
   unaccepted : (out : OutputValue) → IsWellFormedAllocation f env out → task ≡ Check →
       IsUnaccepted A f env out (λ text. IsWritten (listing_text f out ++ text)) →
       IsTurnedDown A task f env IsWritten
 
--- what is accepted is done, and what isn't is turned down
+-- success if accepted, else failure
 abbrev pub IsOutcome : (A : Type 0) → Task → FunctionValue → MachineValue → (List ℕ → Type 0) → Bool → Type 0
 IsOutcome A task f env IsWritten true = IsDone task f env IsWritten
 IsOutcome A task f env IsWritten false = IsTurnedDown A task f env IsWritten
 
--- what bytes and a command have for an outcome, for the function and the machine that the bytes name, and for the output where one is to be judged
+-- the outcome of a command for the function and the machine that the bytes name, and for the output if one is to be checked
 abbrev pub HasOutcome : (A : Type 0) → Option (List ℕ) → Command → (List ℕ → Type 0) → Bool → Type 0
 HasOutcome A bytes (Allocate task) IsWritten accepted = (f : FunctionValue) × (env : MachineValue) × TextNamesFitting A bytes f env
     × IsOutcome A task f env IsWritten accepted

@@ -1,4 +1,4 @@
-//! What can be asked about a stored function, and the answer as a text.
+//! The calls about a stored function, and their results as text.
 
 ghost use Rattle.std.specs.Prelude.{◌≡◌, true, IfOk};
 ghost use Rattle.regalloc2_checker.specs.Cells.{AreCells};
@@ -32,36 +32,38 @@ use std::error::Error;
 use std::fmt;
 use std::io::{self, Write};
 
-/// Nobody has proved a stored function well-formed, so it is tested.
+/// No proof says that a stored function is well-formed, so it is tested.
 const OPTIONS: RegallocOptions = RegallocOptions {
     validate_ssa: true,
     algorithm: Algorithm::Fastalloc,
 };
 
-/// What is asked about a stored function.
+/// A call about a stored function.
 #[derive(Clone, Copy, Debug, PartialEq, Eq)]
 pub enum Call {
-    /// To allocate registers; the answer is the listing.
+    /// To allocate registers; the result is the listing.
     Run,
-    /// To judge the output that is given with the function or, if none is, the one that the allocator gives.
+    /// To check the output that is given with the function or, if none is, the allocator's.
     Check,
-    /// To judge the output that is given with the function.
+    /// To check the output that is given with the function.
     Replay,
-    /// To allocate registers; the answer is the text of the function with its output.
+    /// To allocate registers; the result is the text of the function with its output.
     Allocated,
-    /// To allocate nothing; the answer is the text of the function and of the output that is given with it, in its one form.
+    /// To allocate nothing; the result is the canonical text of the function and of the output that
+    /// is given with it.
     Text,
-    /// To allocate registers; the answer is a picture, as SVG, of where each vreg stands.
+    /// To allocate registers; the result is an SVG picture of each vreg's current location.
     Svg,
-    /// To say whether each read and each argument comes after a write, on every path.
+    /// To report whether a write precedes each read and each argument, on every path.
     Reads,
-    /// To count what the output that is given has or, if none is, the one that the allocator gives; the answer is a table.
+    /// To report counts of the given output or, if there is none, of the allocator's; the result is
+    /// a table.
     Stats,
-    /// The same, as JSON.
+    /// To report the same counts, as JSON.
     StatsJson,
-    /// To write such an output as upstream does.
+    /// To write the given output or, if there is none, the allocator's, as upstream does.
     Dump,
-    /// To compare the output that is given with the one that the allocator gives.
+    /// To compare the given output with the allocator's.
     Diff,
 }
 
@@ -86,14 +88,14 @@ impl Call {
     }
 }
 
-/// Why a call has no whole answer.
+/// Why a call has no complete result.
 #[derive(Debug, Drop)]
 pub enum CallError {
-    /// A growth was refused.
+    /// An allocation failed.
     Memory,
-    /// The text of the answer would read back as another function or output.
+    /// The text of the result would read back as another function or output.
     Differs,
-    /// The answer can't be written.
+    /// The result can't be written.
     Write(io::Error),
 }
 
@@ -136,30 +138,32 @@ impl From<io::Error> for CallError {
     }
 }
 
-/// What a call is about.
+/// The input of a call.
 #[derive(Clone, Copy)]
 pub struct Given<'g, 'o, 's> {
     /// The function and its machine.
     pub function: &'g StoredFunction,
     /// The output that is given with it.
     pub output: Option<&'o StoredOutput>,
-    /// The text in which what is refused or found is shown. Without one, a refusal and a finding are a line each.
+    /// The text in which errors and findings are shown. Without a text, each error and each finding
+    /// is one line.
     pub source: Option<Source<'s>>,
 }
 
-/// How a call ends, when it has an answer.
+/// How a call ends, if it has a result.
 #[derive(Clone, Copy, Debug, PartialEq, Eq)]
 pub enum Verdict {
-    /// Nothing is refused or found.
+    /// Nothing is rejected or found.
     Accepted,
-    /// The allocator refuses the function, or something is found.
+    /// The allocator rejects the function, or something is found.
     Rejected,
-    /// The numbers name no function or no output, the machine doesn't fit the function, or the function isn't framed.
+    /// The numbers name no function or no output, the machine doesn't fit the function, or the
+    /// function isn't structurally valid (`IsFramed`).
     Unusable,
 }
 
 impl Verdict {
-    /// That nothing is found, or that something is.
+    /// The verdict that nothing is found, or that something is.
     fn of(is_accepted: bool) -> Verdict {
         if is_accepted {
             Verdict::Accepted
@@ -169,10 +173,11 @@ impl Verdict {
     }
 }
 
-/// How many findings are explained; of further ones there is a line each, so that many findings take no more time than the text.
+/// How many findings are explained. Each further finding is one line, so many findings take no more
+/// time than the text.
 const EXPLAINED: usize = 10;
 
-/// What stands before a refusal's cause.
+/// The text before an error's cause.
 #[derive(Clone, Copy)]
 struct RefusalHead(RegAllocError);
 
@@ -183,7 +188,7 @@ impl fmt::Display for RefusalHead {
     }
 }
 
-/// Writes why the allocator refuses a function.
+/// Writes why the allocator rejects a function.
 fn write_refusal<E: Write>(
     error: RegAllocError,
     given: &Given<'_, '_, '_>,
@@ -202,7 +207,7 @@ fn write_refusal<E: Write>(
     Ok(())
 }
 
-/// Writes the line of the text where something is, if it has one.
+/// Writes the line of the text that contains a part of the function, if there is such a line.
 fn write_site<W: Write>(site: Site, source: &Source<'_>, to: &mut W) -> Result<(), CallError> {
     if let Some(line) = source.find(site) {
         writeln!(to, "  {line}")?;
@@ -210,7 +215,7 @@ fn write_site<W: Write>(site: Site, source: &Source<'_>, to: &mut W) -> Result<(
     Ok(())
 }
 
-/// The instruction, operand and place of a finding, if it is of one.
+/// The instruction, operand and place that a finding names, if it names them.
 fn place_found(error: &CheckerError) -> Option<(Inst, Operand, Option<Allocation>)> {
     match error {
         CheckerError::MissingAllocation { inst, op } => Some((*inst, *op, None)),
@@ -232,14 +237,15 @@ fn place_found(error: &CheckerError) -> Option<(Inst, Operand, Option<Allocation
     }
 }
 
-/// The index of the first operand of an instruction that is this one.
+/// The index of the first operand of an instruction that equals this one.
 fn operand_index(function: &StoredFunction, inst: Inst, operand: Operand) -> Option<usize> {
     let data = function.insts.get(inst.index())?;
     let bits = operand.bits();
     data.operands.iter().position(|other| *other == bits)
 }
 
-/// Writes the line of the operand that a finding names and, where it reads another value, where its place was written last.
+/// Writes the line of the operand that a finding names and, if the operand reads another value,
+/// what wrote its place last.
 fn explain_finding<W: Write>(
     error: &CheckerError,
     given: &Given<'_, '_, '_>,
@@ -264,7 +270,8 @@ fn explain_finding<W: Write>(
     Ok(())
 }
 
-/// Writes a line for each fault, unless it is that memory was refused, and explains the first ones where there is a text.
+/// Writes a line for each error, unless it is a failed memory allocation, and explains the first
+/// errors if there is a text.
 fn write_findings<W: Write>(
     errors: &[CheckerError],
     given: &Given<'_, '_, '_>,
@@ -282,8 +289,8 @@ fn write_findings<W: Write>(
     Ok(())
 }
 
-/// Writes `checked`, or the faults that the checker finds of an output, or else the first fault of its places as cells. Whether there
-/// are none.
+/// Writes `checked`, or the errors that the checker finds in an output, or else the first error in
+/// its places as cells. Returns whether there are none.
 fn judge<F: Function, W: Write>(
     alloc: Global,
     f: &F,
@@ -323,7 +330,7 @@ fn judge<F: Function, W: Write>(
     }
 }
 
-/// Judges the output that is given.
+/// Checks the output that is given.
 fn replay<F: Function, W: Write, E: Write>(
     alloc: Global,
     f: &F,
@@ -367,7 +374,8 @@ fn write_path<W: Write>(
     write_site(read.site, source, to)
 }
 
-/// Writes whether each read and each argument comes after a write, on every path, and else a path on which one doesn't. Whether so.
+/// Writes whether a write precedes each read and each argument, on every path, and if not, a path
+/// on which none does. Returns the verdict.
 fn judge_reads<F: Function, W: Write>(
     alloc: Global,
     f: &F,
@@ -391,7 +399,7 @@ fn judge_reads<F: Function, W: Write>(
     Ok(true)
 }
 
-/// The verdict of [`judge_reads`], or that the function isn't framed.
+/// The verdict of [`judge_reads`], or that the function isn't structurally valid.
 fn test_reads<F: Function, W: Write, E: Write>(
     alloc: Global,
     f: &F,
@@ -407,7 +415,7 @@ fn test_reads<F: Function, W: Write, E: Write>(
     Ok(Verdict::of(is_accepted))
 }
 
-/// Writes the text of a function, and of an output where there is one.
+/// Writes the text of a function, and of an output if there is one.
 fn write_text<W: Write>(
     alloc: Global,
     function: &StoredFunction,
@@ -438,8 +446,8 @@ fn report<W: Write>(
     Ok(())
 }
 
-/// Writes how an output that is given and another one of the same function differ, and what the checker finds of each. Whether they agree
-/// and nothing is found.
+/// Writes the differences between a given output and another output of the same function, and the
+/// checker's findings in each. Returns whether the outputs agree and nothing is found.
 fn compare<F: Function, W: Write, E: Write>(
     alloc: Global,
     f: &F,
@@ -465,7 +473,7 @@ fn compare<F: Function, W: Write, E: Write>(
     Ok(Verdict::of(is_accepted && !differs))
 }
 
-/// Answers a call about the allocator's output by its stored form.
+/// Performs a call about the allocator's output, on its stored form.
 fn answer_stored<F: Function, W: Write, E: Write>(
     alloc: Global,
     call: Call,
@@ -515,7 +523,8 @@ fn write_misfit<F: Function, E: Write>(
     }
 }
 
-/// Allocates registers to a function, and answers a call, `Replay` and `Reads` as a `Check` of the allocator's output.
+/// Allocates registers to a function, and performs a call; `Replay` and `Reads` are performed as a
+/// `Check` of the allocator's output.
 fn allocate<F: Function, W: Write, E: Write>(
     alloc: Global,
     call: Call,
@@ -549,7 +558,8 @@ fn allocate<F: Function, W: Write, E: Write>(
     Ok(Verdict::Accepted)
 }
 
-/// The function that the stored numbers name; nothing if they name none, of which `err` gets a line.
+/// The function that the stored numbers name; nothing if they name none, which a line on `err` then
+/// reports.
 fn function_of<E: Write>(
     alloc: Global,
     given: &Given<'_, '_, '_>,
@@ -566,7 +576,7 @@ fn function_of<E: Write>(
     }
 }
 
-/// Does a call of [`Call::Diff`] with another output of the same function in place of the allocator's.
+/// Performs [`Call::Diff`] with another output of the same function in place of the allocator's.
 pub fn answer_diff<W: Write, E: Write>(
     alloc: Global,
     given: &Given<'_, '_, '_>,
@@ -580,15 +590,18 @@ pub fn answer_diff<W: Write, E: Write>(
     }
 }
 
-/// Does a call, and writes the answer.
+/// Performs a call, and writes the result.
 ///
-/// The answer is the listing, the text, the picture, counts, upstream's form, how two outputs differ, `checked`, a line for each fault that the checker finds, `written first`, or
-/// `read before written`, which counts as a fault; with a text, lines behind a fault say where it is and what it comes from. What turns
-/// the function or the output down is on `err`: `bad function 2: ..`, `bad machine`, `bad output 3: ..`, `not framed` or `refused 5: ..`,
-/// and with a text its cause and the lines at which it lies. The numbers are those of `number_of` in [`crate::refusal`] and
-/// [`crate::stored_fault`], a fault's its own. [`Call::Text`] tests nothing.
+/// The result is the listing, the text, the picture, counts, upstream's form, the differences
+/// between two outputs, `checked`, a line for each error that the checker finds, `written first`,
+/// or `read before written`, which counts as an error; with a text, the lines after an error show
+/// where it is and what causes it. If the function or the output is rejected, `err` gets `bad
+/// function 2: ..`, `bad machine`, `bad output 3: ..`, `not framed` or `refused 5: ..`, and with a
+/// text the cause and the lines that contain it. The numbers are those of `number_of` in
+/// [`crate::refusal`] and [`crate::stored_fault`]; a finding has its own. [`Call::Text`] tests
+/// nothing.
 ///
-/// The contract doesn't say what is written: that is shown by tests.
+/// The contract doesn't say what is written; tests check it.
 pub fn answer<W: Write, E: Write>(
     alloc: Global,
     call: Call,

@@ -1,4 +1,4 @@
-//! A text that is read for a person.
+//! Reads a user's text.
 
 use regalloc2_text::{Expected, Fault, Found, Text, TextError, read};
 use std::alloc::{AllocError, Global};
@@ -10,7 +10,8 @@ const FIRST_WORDS: [&str; 18] = [
     "branch", "ret", "inst", "move", "slots", "debug", "label", "stored",
 ];
 
-/// The first of the words that begin a line from which the fewest edits lead to this one, where two are enough.
+/// The word that begins a line and is nearest to this one, at most two edits away; the first of
+/// several such words.
 fn nearest_word(alloc: Global, word: &str) -> Result<Option<&'static str>, AllocError> {
     let mut nearest = None;
     let mut bound = 3;
@@ -24,7 +25,7 @@ fn nearest_word(alloc: Global, word: &str) -> Result<Option<&'static str>, Alloc
     Ok(nearest)
 }
 
-/// The same fault, which says what may have been meant where a word begins no line.
+/// The same error, with a suggestion if a word begins no line.
 fn suggesting<'t>(alloc: Global, mut fault: Fault<'t>) -> Result<Fault<'t>, AllocError> {
     if let (Expected::LineBeginning(None), Found::Token(word)) = (fault.expected, fault.found) {
         fault.expected = Expected::LineBeginning(nearest_word(alloc, word)?);
@@ -32,7 +33,8 @@ fn suggesting<'t>(alloc: Global, mut fault: Fault<'t>) -> Result<Fault<'t>, Allo
     Ok(fault)
 }
 
-/// What a text says, as `regalloc2_text::read` answers, but a word that begins no line is told from a similar one that does.
+/// Reads a text as `regalloc2_text::read` does, but the error for a word that begins no line
+/// suggests a similar one that does.
 pub fn read_text<'t>(
     alloc: Global,
     text: &'t str,

@@ -1,4 +1,4 @@
-//! An allocation, and what the checker finds of it, in text.
+//! An allocation and the checker's findings, as text.
 
 ghost use Rattle.std.specs.Prelude.{◌≡◌, true, false, [], ◌∷◌, IfOk};
 ghost use Rattle.std.specs.Io.KnownBytes.{Appends};
@@ -18,7 +18,7 @@ use regalloc2_checker::FaultLine;
 use std::alloc::Allocator;
 use std::io::{self, Write};
 
-/// The program's own function was proved by nobody, so it is tested.
+/// No proof says that the input function is well-formed, so it is tested.
 const OPTIONS: RegallocOptions = RegallocOptions {
     validate_ssa: true,
     algorithm: Algorithm::Fastalloc,
@@ -54,7 +54,8 @@ fn write_checked<O: Write>(out: &mut O) -> io::Result<bool>
     Ok(true)
 }
 
-/// Writes `checked`, or the faults that the checker finds of an output. Whether there are none.
+/// Writes `checked`, or the errors that the checker finds in an output. Returns whether there are
+/// none.
 pub fn judge<A: Allocator + Copy, F: Function, O: Write>(
     alloc: A,
     f: &F,
@@ -78,8 +79,9 @@ pub fn judge<A: Allocator + Copy, F: Function, O: Write>(
     }
 }
 
-/// Allocates registers to a function, writes its listing or the number of the refusal, and judges it if asked. Whether
-/// nothing was refused, and no fault found.
+/// Allocates registers to a function, writes its listing or the number of the error, and checks the
+/// output if the task requires it. Returns whether the function was accepted and no error was
+/// found.
 pub fn show<A: Allocator + Copy, F: Function, O: Write>(
     alloc: A,
     task: Task,

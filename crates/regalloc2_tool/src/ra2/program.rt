@@ -1,4 +1,4 @@
-//! What the program does with its words.
+//! Runs the program with its arguments.
 
 ghost use Rattle.std.specs.Prelude.{◌≡◌, ◌≤◌, None, Some, IfSome, true, false};
 ghost use Rattle.std.specs.Io.Buffered.{writer_inner, writer_contents};
@@ -12,13 +12,13 @@ use super::task::{Command, Task};
 use std::alloc::{Allocator, Global};
 use std::io::{BufWriter, Read, Write};
 
-/// Status of bad words, of bad input and of output that can't be written.
+/// Status of invalid arguments, of invalid input, and of output that can't be written.
 pub const UNUSABLE: u8 = 2;
 
-/// Status of a refused function, and of an output with faults.
+/// Status of a rejected function, and of an output with errors.
 const REFUSED: u8 = 1;
 
-/// Says that the words are bad, and answers the status.
+/// Reports invalid arguments, and returns the status.
 pub fn refuse_words<E: Write>(err: &mut E) -> u8
     ensures { result ≡ 2 }
 {
@@ -26,8 +26,8 @@ pub fn refuse_words<E: Write>(err: &mut E) -> u8
     UNUSABLE
 }
 
-/// Does a task with the function that a reader gives. Whether it was done; nothing after a failed write, or if there is no
-/// function, of which `err` then gets a line.
+/// Performs a task with the function that a reader gives. Returns whether it succeeded; nothing
+/// after a failed write, or if there is no function, which a line on `err` then reports.
 fn allocate<A: Allocator + Copy, R: Read + Drop, O: Write, E: Write>(
     global: Global,
     alloc: A,
@@ -48,8 +48,8 @@ fn allocate<A: Allocator + Copy, R: Read + Drop, O: Write, E: Write>(
     show(alloc, task, &f, f.machine_env(), out).ok()
 }
 
-/// Judges the output that a reader gives with its function. Whether it is accepted; nothing after a failed write, or if
-/// there is no output, of which `err` then gets a line.
+/// Checks the output that a reader gives with its function. Returns whether it is accepted; nothing
+/// after a failed write, or if there is no output, which a line on `err` then reports.
 fn replay<A: Allocator + Copy, R: Read + Drop, O: Write, E: Write>(
     global: Global,
     alloc: A,
@@ -69,7 +69,7 @@ fn replay<A: Allocator + Copy, R: Read + Drop, O: Write, E: Write>(
     judge(alloc, &f, f.machine_env(), &output, out).ok()
 }
 
-/// Obeys a command with what a reader gives.
+/// Performs a command with the input of a reader.
 fn obey<A: Allocator + Copy, R: Read + Drop, O: Write, E: Write>(
     global: Global,
     alloc: A,
@@ -86,7 +86,8 @@ fn obey<A: Allocator + Copy, R: Read + Drop, O: Write, E: Write>(
     }
 }
 
-/// Obeys a command with what a reader gives, and answers the status. What it writes has left the buffer where that is 0 or 1.
+/// Performs a command with the input of a reader, and returns the status. If the status is 0 or 1,
+/// the buffer has been flushed.
 fn perform<A: Allocator + Copy, R: Read + Drop, O: Write + Drop, E: Write>(
     global: Global,
     alloc: A,
@@ -110,18 +111,22 @@ fn perform<A: Allocator + Copy, R: Read + Drop, O: Write + Drop, E: Write>(
     if accepted { 0 } else { REFUSED }
 }
 
-/// What the program does with its words: reads `input`, writes to `out` and `err`, and answers the status, and the writer
-/// behind `out`.
+/// Runs the program with its arguments: reads `input`, writes to `out` and `err`, and returns the
+/// status, and the writer behind `out`.
 ///
-/// The input is the JSON text of a stored function. `run` allocates registers to it, tests included, and writes its listing,
-/// or `refused` and the refusal's number; `check` also judges the output, and then writes `checked` or its faults. For
-/// `replay` the input is an array of just two, a stored function and a stored output, of which it writes what `check` does.
+/// The input is the JSON text of a stored function. `run` tests the function, allocates registers
+/// to it, and writes its listing, or `refused` and the error's number; `check` also checks the
+/// output, and then writes `checked` or the errors in it. For `replay` the input is an array of
+/// exactly a stored function and a stored output; it writes `checked` or the errors in that output.
 ///
-/// The status is 0; or 1 where the function is refused or a fault is found; or 2, with one line on `err`, where words, input,
-/// stored numbers or machine are bad, which is judged in this order; for `replay` it is the words, the input, the function's
-/// numbers, the output's, and whether the function is framed. A failed write to `out` ends it with 2 and no further text.
+/// The status is 0 on success; 1 if the function is rejected or an error is found; or 2, with one
+/// line on `err`, if the arguments, the input, the stored numbers or the machine are invalid,
+/// tested in this order. `replay` tests the arguments, the input, the function's numbers, the
+/// output's numbers, and whether the function is structurally valid (`IsFramed`). A failed write to
+/// `out` ends the program with 2 and no further text.
 ///
-/// `serde_json` takes its memory from `global`, since it has no other; all else comes from `alloc`.
+/// `serde_json` allocates from `global`, since it supports no other allocator; all else allocates
+/// from `alloc`.
 pub fn answer<A: Allocator + Copy, R: Read + Drop, O: Write + Drop, E: Write>(
     global: Global,
     alloc: A,
@@ -142,7 +147,7 @@ pub fn answer<A: Allocator + Copy, R: Read + Drop, O: Write + Drop, E: Write>(
         return (refuse_words(err), untouched);
     };
     let status = perform(global, alloc, command, input, &mut out, err);
-    // a buffer that is dropped would write once more what a failed write left in it
+    // a dropped buffer would write again what a failed write left in it
     let (written, _) = out.into_parts();
     (status, written)
 }

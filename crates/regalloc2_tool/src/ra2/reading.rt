@@ -1,4 +1,4 @@
-//! The function, the machine and the output that the program is given.
+//! Reads the function, the machine and the output from the program's input.
 
 ghost use Rattle.std.specs.Prelude.{Some, IfOk, IfErr, IfSome};
 ghost use Rattle.regalloc2_function.specs.Views.{machine_of, output_of};
@@ -16,18 +16,18 @@ use std::alloc::{Allocator, Global};
 use std::fmt;
 use std::io::{self, Read};
 
-/// Why there is nothing to allocate or to judge.
+/// Why the input gives nothing to allocate or to check.
 #[derive(Drop)]
 pub enum InputError {
-    /// The input can't be read, or is no JSON text of a stored function.
+    /// The input can't be read, or isn't the JSON text of a stored function.
     Unreadable,
     /// The numbers name no function.
     BadFunction(StoredFault),
-    /// The machine doesn't suit the function.
+    /// The machine doesn't fit the function.
     BadMachine,
     /// The numbers name no output.
     BadOutput(StoredFault),
-    /// The function isn't framed, so that no output of it can be judged.
+    /// The function isn't structurally valid (`IsFramed`), so no output of it can be checked.
     NotFramed,
 }
 
@@ -52,7 +52,7 @@ impl fmt::Display for InputError {
     }
 }
 
-/// The stored function whose JSON text the reader gives.
+/// Reads a stored function from its JSON text.
 fn stored_from<A: Allocator + Copy, R: Read + Drop>(
     global: Global,
     alloc: A,
@@ -65,7 +65,8 @@ fn stored_from<A: Allocator + Copy, R: Read + Drop>(
     StoredFunction::from_value(alloc, &value).ok()
 }
 
-/// The function whose JSON text the reader gives, with its machine, which suits it.
+/// Reads a function and its machine from the JSON text of a stored function. The machine fits the
+/// function.
 pub fn function_from<A: Allocator + Copy, R: Read + Drop>(
     global: Global,
     alloc: A,
@@ -87,7 +88,7 @@ pub fn function_from<A: Allocator + Copy, R: Read + Drop>(
     Ok(f)
 }
 
-/// The stored function and output whose JSON texts the reader gives, in an array of just these two.
+/// Reads a stored function and a stored output from the JSON text of an array of exactly these two.
 fn stored_pair_from<A: Allocator + Copy, R: Read + Drop>(
     global: Global,
     alloc: A,
@@ -105,8 +106,8 @@ fn stored_pair_from<A: Allocator + Copy, R: Read + Drop>(
     Some((function, output))
 }
 
-/// The function, with its machine, and the output whose JSON texts the reader gives. The function is framed, so that the
-/// output can be judged.
+/// Reads a function, its machine and an output from the JSON text of an array of exactly a stored
+/// function and a stored output. The function is structurally valid, so the output can be checked.
 pub fn replay_from<A: Allocator + Copy, R: Read + Drop>(
     global: Global,
     alloc: A,

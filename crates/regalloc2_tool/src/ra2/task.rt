@@ -1,28 +1,29 @@
-//! What the program is asked to do.
+//! The program's commands.
 
 ghost use Rattle.std.specs.Prelude.{◌≡◌};
 ghost use Rattle.regalloc2_tool.specs.Ra2.Words.{command_of};
 
-/// What is done with a function.
+/// What to do with a function.
 #[derive(Clone, Copy)]
 pub enum Task {
     /// To allocate registers.
     Run,
-    /// To allocate registers, and to judge the output.
+    /// To allocate registers, and to check the output.
     Check,
 }
 
-/// What the words ask for.
+/// A command of the program.
 #[derive(Clone, Copy)]
 pub enum Command {
     /// A task with a stored function.
     Allocate(Task),
-    /// To judge a stored output of a stored function.
+    /// To check a stored output of a stored function.
     Replay,
 }
 
 impl Command {
-    /// The command that the words name: one word, `run`, `check` or `replay`. Any others are bad.
+    /// The command that the arguments name: exactly one argument, `run`, `check` or `replay`. Any
+    /// others are invalid.
     pub fn of(words: &[String]) -> Option<Command>
         ensures { result ≡ command_of words.now }
     {

@@ -9,13 +9,15 @@ use std::alloc::{AllocError, Allocator};
 pub(crate) struct Lanes<A: Allocator> {
     /// The places, each once: registers before slots, both by rising numbers.
     places: Vec<Allocation, A>,
-    /// The index of a place, a column that shows it and its lane there from the left; by index and column.
+    /// The index of a place, a column that shows it and its lane there from the left; sorted by
+    /// index and column.
     shown: Vec<(usize, usize, usize), A>,
-    /// The left edge of each column, and of what is behind the last.
+    /// The left edge of each column, and of the space after the last.
     edges: Vec<usize, A>,
 }
 
-/// The left edges of so many columns, and of what is behind them. `in_columns` has a pair for each lane, by rising column.
+/// The left edges of this many columns, and of the space after them. `in_columns` has a pair for
+/// each lane, by rising column.
 fn edges_of<A: Allocator>(
     alloc: A,
     columns: usize,
@@ -63,7 +65,8 @@ impl<A: Allocator + Copy> Lanes<A> {
         }
     }
 
-    /// The lanes of so many columns, of which `sightings` says what places they show. An error means out of memory.
+    /// The lanes of this many columns; `sightings` lists the places that each one shows. An error
+    /// means out of memory.
     pub(crate) fn of(
         alloc: A,
         columns: usize,
@@ -104,7 +107,7 @@ impl<A: Allocator> Lanes<A> {
         self.shown.as_slice()
     }
 
-    /// The same from a place's first column on that isn't left of the one of a row.
+    /// The same, from the first column of the place that isn't left of the row's column.
     pub(crate) fn shown_from(&self, index: usize, row: usize) -> &[(usize, usize, usize)] {
         let column = shapes::column_of(row);
         let shown = self.shown.as_slice();

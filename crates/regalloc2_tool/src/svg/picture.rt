@@ -1,4 +1,4 @@
-//! The picture, drawn in two layers: the bars, then what stands on them.
+//! Draws the picture in two layers: the bars, then the boxes and arrows on top of them.
 
 ghost use Rattle.std.specs.Prelude.{◌<◌, length};
 ghost use Rattle.regalloc2_function.specs.OutputValue.{IsInOrder};
@@ -16,12 +16,12 @@ use regalloc2_names::{Allocation, Operand};
 use std::alloc::{AllocError, Allocator, Global};
 use std::io::{self, Write};
 
-/// The rows over which the place of a lane has held what it holds.
+/// The rows over which a lane's place has held its current value.
 #[derive(Clone, Copy)]
 struct Span {
     first: usize,
     last: usize,
-    /// The number of the vreg whose value that is, if an operand has said it.
+    /// The number of the vreg whose value it is, if an operand has named it.
     vreg: Option<usize>,
 }
 
@@ -35,7 +35,7 @@ pub struct Picture<A: Allocator = Global> {
     lanes: Lanes<A>,
     /// What each place holds, by its index.
     spans: Vec<Option<Span>, A>,
-    /// The indexes of places that the current block names, some of them several times.
+    /// The indexes of places that the current block names, possibly repeated.
     named: Vec<usize, A>,
 }
 
@@ -50,7 +50,7 @@ impl<A: Allocator + Copy> Picture<A> {
         }
     }
 
-    /// Lays out the lanes for so many rows.
+    /// Lays out the lanes for this many rows.
     fn lay_out<F: Function, B: Allocator>(
         &mut self,
         f: &F,
@@ -69,7 +69,7 @@ impl<A: Allocator + Copy> Picture<A> {
         Ok(())
     }
 
-    /// The rows over which a place has held what it holds, where it is known to hold something.
+    /// The rows over which a place has held its current value, if it is known to hold one.
     fn span_of(&self, place: Allocation) -> Option<Span> {
         let index = self.lanes.index_of(place)?;
         if index < self.spans.len() {
@@ -79,7 +79,7 @@ impl<A: Allocator + Copy> Picture<A> {
         }
     }
 
-    /// Notes what a place holds.
+    /// Records what a place holds.
     fn set_span(&mut self, place: Allocation, span: Span) -> Result<(), AllocError> {
         let Some(index) = self.lanes.index_of(place) else {
             return Ok(());
@@ -94,8 +94,9 @@ impl<A: Allocator + Copy> Picture<A> {
         Ok(())
     }
 
-    /// Notes that a place is read in a row, by an operand of the vreg of that number, or by a move. If it isn't written in its block before,
-    /// it has held the value since the block's first row. Answers whose value it is, where it is known.
+    /// Records that a place is read in a row, by an operand of the vreg of that number, or by a
+    /// move. A place that its block hasn't written before has held the value since the block's
+    /// first row. Returns the number of the value's vreg, if known.
     fn note_read(
         &mut self,
         place: Allocation,
@@ -138,7 +139,7 @@ impl<A: Allocator + Copy> Picture<A> {
         Ok(())
     }
 
-    /// Draws the bar of what a place holds, until a row where that is given.
+    /// Draws the bar of the value that a place holds, up to a row if one is given.
     fn end_bar<W: Write>(
         &mut self,
         index: usize,
@@ -156,7 +157,7 @@ impl<A: Allocator + Copy> Picture<A> {
         self.draw_bar(index, rows, span.vreg, to)
     }
 
-    /// Notes that a place is written in a row, and draws the bar of what it held.
+    /// Records that a place is written in a row, and draws the bar of its previous value.
     fn note_write<W: Write>(
         &mut self,
         place: Allocation,
@@ -178,7 +179,7 @@ impl<A: Allocator + Copy> Picture<A> {
         Ok(())
     }
 
-    /// Notes what an instruction reads.
+    /// Records what an instruction reads.
     fn note_uses(
         &mut self,
         operands: &[Operand],
@@ -195,7 +196,7 @@ impl<A: Allocator + Copy> Picture<A> {
         Ok(())
     }
 
-    /// Notes what an instruction writes, and draws the bars that end there.
+    /// Records what an instruction writes, and draws the bars that end there.
     fn note_defs<W: Write>(
         &mut self,
         operands: &[Operand],
@@ -212,7 +213,7 @@ impl<A: Allocator + Copy> Picture<A> {
         Ok(())
     }
 
-    /// Draws the bars that a block leaves, those of slots until its last row.
+    /// Draws the bars that are open at a block's end; those of slots reach its last row.
     fn end_block<W: Write>(&mut self, row: usize, to: &mut W) -> io::Result<()> {
         self.named.sort_unstable();
         self.named.dedup();
@@ -231,7 +232,7 @@ impl<A: Allocator + Copy> Picture<A> {
         Ok(())
     }
 
-    /// Draws the bars of a block that begins in a row, and answers the row behind it.
+    /// Draws the bars of a block that begins in a row, and returns the row after it.
     fn draw_block_bars<F: Function, B: Allocator, W: Write>(
         &mut self,
         f: &F,
@@ -332,7 +333,7 @@ impl<A: Allocator + Copy> Picture<A> {
         }
     }
 
-    /// Draws what stands on a block's bars, and answers the row behind it.
+    /// Draws the upper layer of a block, and returns the row after it.
     fn draw_block<F: Function, B: Allocator, W: Write>(
         &self,
         f: &F,
@@ -366,7 +367,7 @@ impl<A: Allocator + Copy> Picture<A> {
         Ok(row)
     }
 
-    /// Draws what stands on the bars of all blocks.
+    /// Draws the upper layer of all blocks.
     fn draw_blocks<F: Function, B: Allocator, W: Write>(
         &self,
         f: &F,
@@ -394,9 +395,10 @@ impl<A: Allocator + Copy> Picture<A> {
         Ok(())
     }
 
-    /// Draws an output of a function, block by block. Linear in its instructions, operands and moves, but for a logarithm.
+    /// Draws an output of a function, block by block. Linear in its instructions, operands and
+    /// moves, up to a logarithmic factor.
     ///
-    /// The contract doesn't say what is written: that is shown by tests.
+    /// The contract doesn't say what is written; tests check it.
     pub fn draw<F: Function, B: Allocator, W: Write>(
         &mut self,
         f: &F,

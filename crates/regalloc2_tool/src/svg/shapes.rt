@@ -1,4 +1,4 @@
-//! The shapes that a picture is made of, and where they stand.
+//! The shapes of a picture, and their positions.
 
 use regalloc2_names::VReg;
 use std::fmt;
@@ -10,10 +10,10 @@ const LANE: usize = 56;
 /// The height of a row.
 const ROW: usize = 20;
 
-/// What stands left of the first lane.
+/// The width of the space left of the first lane.
 const LEFT: usize = 120;
 
-/// What stands above the first row: the legend and the names of lanes.
+/// The height of the space above the first row: the legend and the names of lanes.
 const TOP: usize = 84;
 
 /// How many rows a column has at most, so that no picture is higher than browsers draw.
@@ -22,12 +22,12 @@ const COLUMN_ROWS: usize = 1000;
 /// The width of the legend, in pixels.
 const LEGEND: usize = 720;
 
-/// The column of a row: rows go down a column, and on from the top of the next one.
+/// The column of a row: rows fill a column downwards, then the next one from its top.
 pub(crate) fn column_of(row: usize) -> usize {
     row / COLUMN_ROWS
 }
 
-/// The width of a column of so many lanes.
+/// The width of a column of this many lanes.
 pub(crate) fn width(lanes: usize) -> usize {
     lanes.saturating_mul(LANE).saturating_add(LEFT + LANE / 2)
 }
@@ -37,7 +37,7 @@ pub(crate) fn middle(edge: usize, lane: usize) -> usize {
     width(lane).saturating_add(edge)
 }
 
-/// The colour of the vreg of a number, or of one that isn't known.
+/// The colour of the vreg of a number, or of an unknown vreg.
 #[derive(Clone, Copy)]
 struct Colour(Option<usize>);
 
@@ -60,7 +60,7 @@ fn height(row: usize) -> usize {
         .saturating_add(TOP + ROW / 2)
 }
 
-/// Writes a sample of the legend and the words behind it.
+/// Writes a sample of the legend and the text after it.
 fn sample<W: Write>(x: usize, shape: &str, words: &str, to: &mut W) -> io::Result<()> {
     let behind = x.saturating_add(34);
     writeln!(
@@ -69,7 +69,7 @@ fn sample<W: Write>(x: usize, shape: &str, words: &str, to: &mut W) -> io::Resul
     )
 }
 
-/// Writes what boxes, bars and arrows mean, above the names.
+/// Writes the legend of boxes, bars and arrows, above the names.
 fn legend<W: Write>(to: &mut W) -> io::Result<()> {
     let read =
         "<rect y=\"-8\" width=\"28\" height=\"16\" rx=\"4\" fill=\"white\" stroke=\"black\"/>";
@@ -90,7 +90,7 @@ fn legend<W: Write>(to: &mut W) -> io::Result<()> {
     )
 }
 
-/// Writes what begins a picture of so many rows, whose columns have that width.
+/// Writes the beginning of a picture of this many rows, whose columns have that width.
 pub(crate) fn begin<W: Write>(width: usize, rows: usize, to: &mut W) -> io::Result<()> {
     let width = width.max(LEGEND);
     let bottom = TOP.saturating_add(rows.min(COLUMN_ROWS).saturating_add(1).saturating_mul(ROW));
@@ -106,7 +106,7 @@ pub(crate) fn begin<W: Write>(width: usize, rows: usize, to: &mut W) -> io::Resu
     legend(to)
 }
 
-/// How many columns so many rows take.
+/// How many columns this many rows take.
 pub(crate) fn columns(rows: usize) -> usize {
     rows.saturating_sub(1) / COLUMN_ROWS + 1
 }
@@ -119,7 +119,7 @@ pub(crate) fn name<T: fmt::Display, W: Write>(x: usize, name: &T, to: &mut W) ->
     )
 }
 
-/// Writes the words that stand left of a row, in a column with that left edge.
+/// Writes the text left of a row, in a column with that left edge.
 pub(crate) fn label<T: fmt::Display, W: Write>(
     edge: usize,
     row: usize,
@@ -138,7 +138,8 @@ pub(crate) fn rule<W: Write>(edges: (usize, usize), row: usize, to: &mut W) -> i
     writeln!(to, "<path d=\"M{left},{y} H{right}\" stroke=\"silver\"/>")
 }
 
-/// Writes the part in a column of the bar over those rows, along a lane with that middle: it is that of a vreg where that is known.
+/// Writes one column's part of the bar over these rows, along a lane with that middle, for a vreg
+/// if that is known.
 pub(crate) fn bar<W: Write>(
     x: usize,
     column: usize,
@@ -188,14 +189,14 @@ pub(crate) fn cell<W: Write>(
 /// Writes the arrow of a move, from the middle of a lane to that of another.
 pub(crate) fn arrow<W: Write>(tail: usize, tip: usize, row: usize, to: &mut W) -> io::Result<()> {
     let y = height(row);
-    // from the tip, the way back to the arrow's barbs
+    // from the tip back to the arrow's barbs
     let back = if tail < tip { "-7" } else { "7" };
     write!(to, "<circle cx=\"{tail}\" cy=\"{y}\" r=\"3\"/>")?;
     write!(to, "<path d=\"M{tail},{y} H{tip}\" stroke=\"black\"/>")?;
     writeln!(to, "<path d=\"M{tip},{y} l{back},-3 v6 z\"/>")
 }
 
-/// Writes what ends a picture.
+/// Writes the end of a picture.
 pub(crate) fn end<W: Write>(to: &mut W) -> io::Result<()> {
     writeln!(to, "</svg>")
 }

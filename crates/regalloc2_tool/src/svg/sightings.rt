@@ -14,7 +14,7 @@ use std::alloc::{AllocError, Allocator};
 /// How many rows an instruction takes: one for its early operands, one for the late ones.
 pub(crate) const INST_ROWS: usize = 2;
 
-/// The row of an operand of an instruction that begins in this one.
+/// The row of an operand of an instruction that begins in this row.
 pub(crate) fn row_of(operand: Operand, row: usize) -> usize {
     if operand.is_late() {
         row.saturating_add(1)
@@ -23,20 +23,20 @@ pub(crate) fn row_of(operand: Operand, row: usize) -> usize {
     }
 }
 
-/// Places, each with a column that shows it, some of them several times.
+/// Places, each with a column that shows it, possibly repeated.
 #[derive(Drop)]
 struct Sightings<A: Allocator> {
     seen: Vec<(Allocation, usize), A>,
 }
 
 impl<A: Allocator> Sightings<A> {
-    /// Notes that a row names a place.
+    /// Records that a row names a place.
     fn see(&mut self, place: Allocation, row: usize) -> Result<(), AllocError> {
         self.seen.push((place, shapes::column_of(row)))?;
         Ok(())
     }
 
-    /// Notes the places of the operands of an instruction that begins in a row.
+    /// Records the places of the operands of an instruction that begins in a row.
     fn see_operands(
         &mut self,
         operands: &[Operand],
@@ -49,7 +49,7 @@ impl<A: Allocator> Sightings<A> {
         Ok(())
     }
 
-    /// Notes the places of a block that begins in a row, and answers the row behind it.
+    /// Records the places of a block that begins in a row, and returns the row after it.
     fn see_block<F: Function, B: Allocator>(
         &mut self,
         f: &F,
