@@ -12,7 +12,7 @@ use Rattle.regalloc2_names.specs.Place.{Place, NoPlace, InRegister, InSlot, is_p
 use Rattle.regalloc2_function.specs.OutputValue.{place_at}
 use Rattle.regalloc2_semantics.specs.Values.Interpreters.{read_by, is_late_use, place_set, written_to, numbers_clobbered}
 use Rattle.codegen_machine.specs.Ir.Numbers.{RunOutcome, Running, Trapped, Stuck, divided, division_traps, extended, put}
-use Rattle.codegen_machine.specs.Ir.Operands.{is_clobbered, operands_of, other_register, part_register}
+use Rattle.codegen_machine.specs.Ir.Operands.{is_lost_in, operands_of, other_register, part_register}
 use Rattle.codegen_machine.specs.declared.ir.operation.DivisionPart.{DivisionPart}
 use Rattle.codegen_machine.specs.declared.ir.operation.DivisionPart.TheVariants.{Quotient, Remainder}
 use Rattle.codegen_machine.specs.declared.ir.operation.Operation.{Operation}
@@ -217,7 +217,7 @@ module _ (args : ℕ → ℕ) (starts : ℕ → ℕ) (code : CodeValue) (succs :
 
   -- an operation that continues at the next line
   pub plain_leaves : (o : Operation) (set : PRegSet) (s : MachineState) (ps : List Place) (m : Place → ℕ) → IsPlain o → IsPlaced code.slots o ps →
-      ((r : Register) → has_register set r ≡ is_clobbered o r) → IsKept o set ps m → traps_of o (reads_at o ps m) ≡ false →
+      ((r : Register) → has_register set r ≡ is_lost_in o r) → IsKept o set ps m → traps_of o (reads_at o ps m) ≡ false →
       Agree s.registers s.frame m → StandAt starts code.instructions s.pc (operation_code o ps succs ++ rest) →
       Done args starts code succs rest s (numbers_clobbered set (leaves_of o (reads_at o ps m)) (writes_at args o ps m))
   unfolding written_to
@@ -244,7 +244,7 @@ module _ (args : ℕ → ℕ) (starts : ℕ → ℕ) (code : CodeValue) (succs :
 
   -- and one that traps
   pub plain_traps : (o : Operation) (set : PRegSet) (s : MachineState) (ps : List Place) (m : Place → ℕ) → IsPlain o → IsPlaced code.slots o ps →
-      ((r : Register) → has_register set r ≡ is_clobbered o r) → IsKept o set ps m → traps_of o (reads_at o ps m) ≡ true →
+      ((r : Register) → has_register set r ≡ is_lost_in o r) → IsKept o set ps m → traps_of o (reads_at o ps m) ≡ true →
       Agree s.registers s.frame m → StandAt starts code.instructions s.pc (operation_code o ps succs ++ rest) →
       (j : ℕ) × (machine_run code args j s ≡ Trapped)
   plain_traps (Dividing part signed to left right) set s ps m plain placed has kept traps a h =

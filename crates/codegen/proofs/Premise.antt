@@ -6,7 +6,7 @@ use Rattle.regalloc2_names.specs.RegisterSet.{has_register}
 use Rattle.regalloc2_names.specs.Place.{Place, NoPlace, InRegister, InSlot}
 use Rattle.regalloc2_function.specs.FunctionValue.{FunctionValue, block_at, inst_at}
 use Rattle.regalloc2_function.specs.OutputValue.{OutputValue, allocs_of, place_at}
-use Rattle.codegen_machine.specs.Ir.Operands.{is_clobbered, operands_of, part_register}
+use Rattle.codegen_machine.specs.Ir.Operands.{is_lost_in, operands_of, part_register}
 use Rattle.codegen_machine.specs.declared.ir.operation.Operation.{Operation}
 use Rattle.codegen_machine.specs.declared.ir.operation.Operation.TheVariants.{Argument as TakeArgument, Constant as TakeConstant, Copy, Compute as Computation}
 use Rattle.codegen_machine.specs.declared.ir.operation.Operation.TheVariants.{Shift as Shifting, Divide as Dividing, Compare as Comparison, Select, Jump as GoTo, BranchIf}
@@ -96,7 +96,7 @@ IsEnd o count = ⊥
 pub record IsEmitted (f : FunctionValue) (operations : List Operation) (out : OutputValue) (start : ℕ → ℕ) (code : CodeValue) : Type 0 where
   pub operands : (i : ℕ) → i < length f.insts → (inst_at f i).operands ≡ operands_of (operation_at operations i)
   pub clobbers : (i : ℕ) → i < length f.insts → (r : Register) →
-      has_register (inst_at f i).clobbers r ≡ is_clobbered (operation_at operations i) r
+      has_register (inst_at f i).clobbers r ≡ is_lost_in (operation_at operations i) r
   pub counted : length f.insts ≡ length operations
   pub entry : (f.entry ≡ 0) × (0 < length f.blocks)
   pub filled : (b : ℕ) → b < length f.blocks → (block_at f b).range.first < (block_at f b).range.end

@@ -7,7 +7,7 @@ use Rattle.std.proofs.lemmas.Bool.{and_parts}
 use Rattle.regalloc2_names.specs.Register.{Register}
 use Rattle.regalloc2_names.specs.RegisterSet.{has_register}
 use Rattle.regalloc2_function.specs.FunctionValue.{InstValue, no_inst, no_block, block_at, inst_at}
-use Rattle.codegen_machine.specs.Ir.Operands.{operands_of, is_clobbered, is_jump, is_return}
+use Rattle.codegen_machine.specs.Ir.Operands.{operands_of, is_lost_in, is_jump, is_return}
 use Rattle.codegen_machine.specs.Ir.Successors.{wanted_by, operations_of, are_enough, has_successors, knows_registers}
 use Rattle.codegen_machine.specs.Ir.Seen.{function_of_procedure, inst_of_line, block_of_part, operations}
 use Rattle.codegen_machine.specs.declared.ir.operation.Operation.{Operation}
@@ -19,7 +19,7 @@ use Rattle.codegen.specs.Emitted.{operation_at}
 -- an instruction is that of an operation
 pub record IsInstOf (i : InstValue) (o : Operation) : Type 0 where
   pub operands : i.operands ≡ operands_of o
-  pub clobbers : (r : Register) → has_register i.clobbers r ≡ is_clobbered o r
+  pub clobbers : (r : Register) → has_register i.clobbers r ≡ is_lost_in o r
   pub branches : i.is_branch ≡ is_jump o
   pub returns : i.is_ret ≡ is_return o
 

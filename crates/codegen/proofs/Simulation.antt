@@ -17,7 +17,7 @@ use Rattle.regalloc2_function.specs.Listing.{ListedInst, listing_from}
 use Rattle.regalloc2_function.specs.AllocatedRun.{moves_at}
 use Rattle.regalloc2_semantics.specs.Values.Interpreters.{History, State, read_by, is_late_use, edge_to, numbers_moved, disturbed, written_to, numbers_clobbered}
 use Rattle.codegen_machine.specs.Ir.Numbers.{Returned, Trapped}
-use Rattle.codegen_machine.specs.Ir.Operands.{is_clobbered, operands_of}
+use Rattle.codegen_machine.specs.Ir.Operands.{is_lost_in, operands_of}
 use Rattle.codegen_machine.specs.declared.ir.operation.Operation.{Operation}
 use Rattle.codegen_machine.specs.declared.ir.operation.Operation.TheVariants.{Divide as Dividing}
 use Rattle.codegen_machine.specs.declared.Instruction.{Instruction}
@@ -146,7 +146,7 @@ module _ (f : FunctionValue) (ops : List Operation) (out : OutputValue) (start :
         ∙ ap (λ (m : Place → ℕ). numbers_clobbered (inst_at f d.at.inst).clobbers (choice_of d).leaves m) (sym (written d lt))
 
     -- a block's last operation clobbers nothing
-    end_clobbers : (o : Operation) (count : ℕ) → IsEnd o count → (r : Register) → is_clobbered o r ≡ false
+    end_clobbers : (o : Operation) (count : ℕ) → IsEnd o count → (r : Register) → is_lost_in o r ≡ false
     end_clobbers (Dividing part signed to left right) count end r = absurd end
     end_clobbers o count end r = refl
 

@@ -64,9 +64,9 @@ operands_of (BranchIfHolds c left right) = use_in Reg left ∷ right_in right
 operands_of (Return v) = use_in Any v ∷ []
 
 -- the clobbers of an operation, besides its definitions: a division clobbers the register of its other result
-abbrev pub is_clobbered : Operation → Register → Bool
-is_clobbered (Divide part signed to left right) r = is_register (record { number = other_register part; class = Int }) r
-is_clobbered o r = false
+abbrev pub is_lost_in : Operation → Register → Bool
+is_lost_in (Divide part signed to left right) r = is_register (record { number = other_register part; class = Int }) r
+is_lost_in o r = false
 
 -- the operations that jump to a successor
 abbrev pub is_jump : Operation → Bool

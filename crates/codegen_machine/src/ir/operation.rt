@@ -4,7 +4,7 @@ ghost use Rattle.std.specs.Prelude.{◌≡◌, ◌≤◌, ◌∷◌, ◌++◌, I
 ghost use Rattle.std.proofs.Props.{props};
 ghost use Rattle.regalloc2_names.specs.Register.{Register};
 ghost use Rattle.regalloc2_names.specs.RegisterSet.{has_register};
-ghost use Rattle.codegen_machine.specs.Ir.Operands.{count_in, def_in, divide_operands, is_clobbered, operands_of, other_register, part_register, right_in, use_in};
+ghost use Rattle.codegen_machine.specs.Ir.Operands.{count_in, def_in, divide_operands, is_lost_in, operands_of, other_register, part_register, right_in, use_in};
 ghost use Rattle.codegen_machine.specs.Ir.Once.{operands-once};
 
 use regalloc2::{
@@ -218,7 +218,7 @@ pub struct Line {
     /// Its clobbers.
     pub clobbers: PRegSet,
     pub ghost agree: { operands.items ≡ operands_of operation } by { operands-once operands.items operation },
-    pub ghost overwrites: { (r : Register) → has_register clobbers r ≡ is_clobbered operation r } by { Prim.hlevel props },
+    pub ghost overwrites: { (r : Register) → has_register clobbers r ≡ is_lost_in operation r } by { Prim.hlevel props },
 }
 
 /// The operand of a second number, which may be read from any place; a constant has none.
@@ -299,7 +299,7 @@ fn divide_operands(
 
 /// The clobbers of an operation: registers that it overwrites besides its definitions.
 fn clobbers(operation: Operation) -> PRegSet
-    ensures { (r : Register) → has_register result r ≡ is_clobbered operation r }
+    ensures { (r : Register) → has_register result r ≡ is_lost_in operation r }
 {
     match operation {
         Operation::Divide { part, .. } => {

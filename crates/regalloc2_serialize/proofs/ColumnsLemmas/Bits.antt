@@ -10,7 +10,7 @@ use Rattle.regalloc2_names.specs.Register.{Register, class_code, is_register}
 use Rattle.regalloc2_names.specs.RegisterBits.{register_of_bits, bits_of_register, class_code-class_of_code}
 use Rattle.regalloc2_names.specs.RegisterSet.{has_register}
 use Rattle.regalloc2_names.specs.declared.sets.PRegSet.{PRegSet}
-use Rattle.regalloc2_serialize.specs.Flat.Columns.Value.{has_bit, HasBits, HasBitsBelow}
+use Rattle.regalloc2_serialize.specs.Flat.Columns.Value.{is_bit_set, HasBits, HasBitsBelow}
 
 class-small : (c : RegClass) → class_code c < 3
 class-small Int = omega arith
@@ -36,22 +36,22 @@ pub bits-none : (words : List ℕ) (s : PRegSet) → ((r : Register) → has_reg
 bits-none words s none r = none r ∙ grind (arith, nat_tests)
 
 -- one more index, whose bit is 1
-pub bits-more : (words : List ℕ) (n : ℕ) (old new : PRegSet) → n < 192 → HasBitsBelow words n old → has_bit words n ≡ true →
+pub bits-more : (words : List ℕ) (n : ℕ) (old new : PRegSet) → n < 192 → HasBitsBelow words n old → is_bit_set words n ≡ true →
     ((r : Register) → has_register new r ≡ is_register (register_of_bits n) r || has_register old r) → HasBitsBelow words (n + 1) new
 bits-more words n old new small before one now r =
-    now r ∙ more (bits_of_register r) n r.number (has_bit words (bits_of_register r)) (is_register (register_of_bits n) r) (has_register old r)
-    (before r) (is-place n r small) (λ same. ap (has_bit words) same ∙ one)
+    now r ∙ more (bits_of_register r) n r.number (is_bit_set words (bits_of_register r)) (is_register (register_of_bits n) r) (has_register old r)
+    (before r) (is-place n r small) (λ same. ap (is_bit_set words) same ∙ one)
 
 -- and one whose bit is 0
-pub bits-same : (words : List ℕ) (n : ℕ) (s : PRegSet) → HasBitsBelow words n s → has_bit words n ≡ false → HasBitsBelow words (n + 1) s
+pub bits-same : (words : List ℕ) (n : ℕ) (s : PRegSet) → HasBitsBelow words n s → is_bit_set words n ≡ false → HasBitsBelow words (n + 1) s
 bits-same words n s before zero r =
-    kept (bits_of_register r) n 1 r.number (has_bit words (bits_of_register r)) (has_register s r) (before r)
-    (λ low high. let same : bits_of_register r ≡ n = omega arith in ap (has_bit words) same ∙ zero)
+    kept (bits_of_register r) n 1 r.number (is_bit_set words (bits_of_register r)) (has_register s r) (before r)
+    (λ low high. let same : bits_of_register r ≡ n = omega arith in ap (is_bit_set words) same ∙ zero)
 
 -- a word that is 0
 pub bits-skipped : (words : List ℕ) (w : ℕ) (s : PRegSet) → HasBitsBelow words (32 * w) s → slice_index words w ≡ 0 → HasBitsBelow words (32 * w + 32) s
 bits-skipped words w s before zero r =
-    kept (bits_of_register r) (32 * w) 32 r.number (has_bit words (bits_of_register r)) (has_register s r) (before r)
+    kept (bits_of_register r) (32 * w) 32 r.number (is_bit_set words (bits_of_register r)) (has_register s r) (before r)
     (λ low high.
     let at : bits_of_register r / 32 ≡ w = omega arith in
     let none : bit_at (slice_index words (bits_of_register r / 32)) (bits_of_register r % 32) ≡ 0 =
@@ -60,7 +60,7 @@ bits-skipped words w s before zero r =
 
 -- all indexes
 pub bits-all : (words : List ℕ) (s : PRegSet) → HasBitsBelow words 192 s → HasBits words s
-bits-all words s below r = below r ∙ all (bits_of_register r) r.number (has_bit words (bits_of_register r)) (λ small. omega (arith, class-small r.class))
+bits-all words s below r = below r ∙ all (bits_of_register r) r.number (is_bit_set words (bits_of_register r)) (λ small. omega (arith, class-small r.class))
   where
     all : (x m : ℕ) (t : Bool) → (m < 64 → x < 192) → (nat_lt x 192 && (nat_lt m 64 && t)) ≡ (nat_lt m 64 && t)
     all x m t less = grind (arith, nat_tests)

@@ -4,7 +4,7 @@ use Rattle.std.specs.Prelude.{All, slice_index}
 use Rattle.std.specs.List.{range_with_len}
 use Rattle.std.proofs.lemmas.List.{length-map}
 use Rattle.std.proofs.lemmas.List.FromFn.{length-map-range_with_len, get_or-range_with_len, length-range_with_len}
-use Rattle.regalloc2_serialize.specs.Flat.Columns.Layout.{IsLaidOut, header_of, widths, column}
+use Rattle.regalloc2_serialize.specs.Flat.Columns.Layout.{AreInColumns, header_of, widths, column}
 use Rattle.regalloc2_serialize.proofs.ColumnsLemmas.Starts.{column-count}
 use Rattle.regalloc2_names.specs.Register.{VirtualRegister}
 use Rattle.regalloc2_names.specs.Operand.{OperandValue}
@@ -49,7 +49,7 @@ pub longs-count : {X : Type 0} (f : ℕ → X) (words : List ℕ) (n : ℕ) → 
 longs-count f words n = length-map (longs words n) f ∙ length-map-range_with_len (long_at words) 0 n
 
 -- the words of a column are as many as the header says
-pub count-of : (words : List ℕ) (k : ℕ) → IsLaidOut words → k < 19 → length (column words k) ≡ slice_index (widths (header_of words)) k
+pub count-of : (words : List ℕ) (k : ℕ) → AreInColumns words → k < 19 → length (column words k) ≡ slice_index (widths (header_of words)) k
 count-of words k laid less = column-count words (widths (header_of words)) k less laid.count
 
 -- what holds of each number below another

@@ -95,7 +95,7 @@ abbrev pub label_words : List ℕ → List ℕ
 label_words words = column words 18
 
 -- words are those of a header and its columns, and no more
-pub record IsLaidOut (words : List ℕ) : Type 0 where
+pub record AreInColumns (words : List ℕ) : Type 0 where
   pub layout : slice_index words 0 ≡ 2
   pub count : length words ≡ sum (widths (header_of words))
   pub flags : (header_of words).flags < 4

@@ -3,7 +3,7 @@ use Rattle.std.specs.Prelude.{ℕ, ◌≡◌, ◌+◌, ◌-◌, ◌*◌, ◌/◌
 use Rattle.regalloc2_names.specs.Packing.{IsRegisterIndex, IsVRegBits, IsOperandBits}
 use Rattle.regalloc2_function.specs.declared.serialize.StoredFault.{StoredFault}
 use Rattle.regalloc2_function.specs.declared.serialize.StoredFault.TheVariants.{Lengths, Index, Bits, Limit, Memory, Shape}
-use Rattle.regalloc2_serialize.specs.Flat.Columns.Layout.{IsLaidOut, header_of, scratch_words, slot_words, kind_words, operand_ends, operand_words, inst_ends}
+use Rattle.regalloc2_serialize.specs.Flat.Columns.Layout.{AreInColumns, header_of, scratch_words, slot_words, kind_words, operand_ends, operand_words, inst_ends}
 use Rattle.regalloc2_serialize.specs.Flat.Columns.Layout.{pred_ends, succ_ends, param_ends, pred_words, succ_words, param_words, argument_ends, argument_words}
 use Rattle.regalloc2_serialize.specs.Flat.Columns.Layout.{label_words}
 use Rattle.regalloc2_serialize.specs.Flat.Columns.Value.{long_at}
@@ -59,7 +59,7 @@ pub record ColumnsKeepLimits (words : List ℕ) : Type 0 where
 
 -- what lays out a function
 pub record AreSoundColumns (words : List ℕ) : Type 0 where
-  pub laid_out : IsLaidOut words
+  pub laid_out : AreInColumns words
   pub covered : AllCovered words
   pub within : AreColumnsWithin words
   pub names : ColumnsNameAll words
@@ -67,9 +67,9 @@ pub record AreSoundColumns (words : List ℕ) : Type 0 where
 
 -- the fault that words are refused by: the first of five, or out of memory where there is none
 abbrev pub IsColumnsFault : List ℕ → StoredFault → Type 0
-IsColumnsFault words Shape = IsLaidOut words → ⊥
-IsColumnsFault words Lengths = IsLaidOut words × (AllCovered words → ⊥)
-IsColumnsFault words Index = IsLaidOut words × AllCovered words × (AreColumnsWithin words → ⊥)
-IsColumnsFault words Bits = IsLaidOut words × AllCovered words × AreColumnsWithin words × (ColumnsNameAll words → ⊥)
-IsColumnsFault words Limit = IsLaidOut words × AllCovered words × AreColumnsWithin words × ColumnsNameAll words × (ColumnsKeepLimits words → ⊥)
+IsColumnsFault words Shape = AreInColumns words → ⊥
+IsColumnsFault words Lengths = AreInColumns words × (AllCovered words → ⊥)
+IsColumnsFault words Index = AreInColumns words × AllCovered words × (AreColumnsWithin words → ⊥)
+IsColumnsFault words Bits = AreInColumns words × AllCovered words × AreColumnsWithin words × (ColumnsNameAll words → ⊥)
+IsColumnsFault words Limit = AreInColumns words × AllCovered words × AreColumnsWithin words × ColumnsNameAll words × (ColumnsKeepLimits words → ⊥)
 IsColumnsFault words Memory = AreSoundColumns words

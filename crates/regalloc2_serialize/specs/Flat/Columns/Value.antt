@@ -116,15 +116,15 @@ function_in_columns words sets = record {
 }
 
 -- a set has the registers whose bits are 1 in six words: the bit of an index is in word `index / 32`
-abbrev pub has_bit : List ℕ → ℕ → Bool
-has_bit bits index = nat_eq (bit_at (slice_index bits (index / 32)) (index % 32)) 1
+abbrev pub is_bit_set : List ℕ → ℕ → Bool
+is_bit_set bits index = nat_eq (bit_at (slice_index bits (index / 32)) (index % 32)) 1
 
 abbrev pub HasBits : List ℕ → PRegSet → Type 0
-HasBits bits s = (r : Register) → has_register s r ≡ nat_lt r.number 64 && has_bit bits (bits_of_register r)
+HasBits bits s = (r : Register) → has_register s r ≡ nat_lt r.number 64 && is_bit_set bits (bits_of_register r)
 
 -- the same of the registers with an index below a number
 abbrev pub HasBitsBelow : List ℕ → ℕ → PRegSet → Type 0
-HasBitsBelow bits n s = (r : Register) → has_register s r ≡ nat_lt (bits_of_register r) n && (nat_lt r.number 64 && has_bit bits (bits_of_register r))
+HasBitsBelow bits n s = (r : Register) → has_register s r ≡ nat_lt (bits_of_register r) n && (nat_lt r.number 64 && is_bit_set bits (bits_of_register r))
 
 -- the six words of set k
 abbrev pub bits_at : List ℕ → ℕ → List ℕ

@@ -1,7 +1,7 @@
 //! The columns of words.
 
 ghost use Rattle.std.specs.Prelude.{◌≡◌, ℕ, ◌+◌, ◌*◌, ◌<◌, ◌≤◌, ◌^◌, All, MatchOption, length, take, slice_index, sum};
-ghost use Rattle.regalloc2_serialize.specs.Flat.Columns.Layout.{header_of, widths, column, IsLaidOut};
+ghost use Rattle.regalloc2_serialize.specs.Flat.Columns.Layout.{header_of, widths, column, AreInColumns};
 ghost use Rattle.regalloc2_serialize.specs.Flat.Columns.Layout.{preferred_words, non_preferred_words, scratch_words, slot_words, set_words, kind_words, operand_ends, operand_words, inst_ends};
 ghost use Rattle.regalloc2_serialize.specs.Flat.Columns.Layout.{pred_ends, succ_ends, param_ends, pred_words, succ_words, param_words, argument_ends, argument_words, label_words};
 
@@ -122,7 +122,7 @@ pub struct Cut<'a> {
 impl<'a> Cut<'a> {
     /// The columns of words, if they are laid out in columns. Nothing is allocated.
     pub fn of(words: &'a [u32]) -> Option<Cut<'a>>
-        ensures { MatchOption result (IsLaidOut words.now → ⊥) (λ c. IsLaidOut words.now × (c.words.now ≡ words.now)) }
+        ensures { MatchOption result (AreInColumns words.now → ⊥) (λ c. AreInColumns words.now × (c.words.now ≡ words.now)) }
     {
         if words.len() < 15 || words[0] != 2 {
             return None;

@@ -2,7 +2,7 @@
 
 ghost use Rattle.std.specs.Prelude.{◌≡◌, ℕ, ◌↔◌, ◌+◌, ◌-◌, ◌*◌, ◌/◌, ◌%◌, ◌<◌, ◌≤◌, ◌^◌, IsTrue, All, IfOk, IfErr, length, slice_index};
 ghost use Rattle.regalloc2_names.specs.Packing.{IsRegisterIndex, IsVRegBits, IsOperandBits};
-ghost use Rattle.regalloc2_serialize.specs.Flat.Columns.Layout.{header_of, IsLaidOut};
+ghost use Rattle.regalloc2_serialize.specs.Flat.Columns.Layout.{header_of, AreInColumns};
 ghost use Rattle.regalloc2_serialize.specs.Flat.Columns.Value.{long_at};
 ghost use Rattle.regalloc2_serialize.specs.Flat.Columns.Sound.{Covers, AllCovered, AreColumnsWithin, ColumnsNameAll, ColumnsKeepLimits, AreSoundColumns};
 ghost use Rattle.regalloc2_serialize.specs.Flat.Columns.Sound.{ColumnsNameRegisters, ColumnsNameVRegs, IsColumnsFault};
@@ -195,7 +195,7 @@ impl<'a> Cut<'a> {
 
     /// Tests columns, which allocates nothing.
     pub fn test(&self) -> Result<(), StoredFault>
-        requires { IsLaidOut self.now.words.now }
+        requires { AreInColumns self.now.words.now }
         ensures ok { IfOk result (λ _. AreSoundColumns self.now.words.now) }
         ensures refused { IfErr result (λ e. IsColumnsFault self.now.words.now e) }
     {

@@ -5,7 +5,7 @@ ghost use Rattle.std.specs.List.{range_with_len};
 ghost use Rattle.regalloc2_names.specs.Packing.{IsRegisterIndex, IsVRegBits, IsOperandBits, register_of_bits, operand_of_bits};
 ghost use Rattle.regalloc2_function.specs.FunctionValue.{label_of};
 ghost use Rattle.regalloc2_serialize.specs.TableFunction.Table.{sizes_of_table};
-ghost use Rattle.regalloc2_serialize.specs.Flat.Columns.Value.{has_bit, HasBits, HasBitsBelow, HaveBits, AreNumbered, long_at, longs, label_at};
+ghost use Rattle.regalloc2_serialize.specs.Flat.Columns.Value.{is_bit_set, HasBits, HasBitsBelow, HaveBits, AreNumbered, long_at, longs, label_at};
 ghost use Rattle.regalloc2_serialize.specs.Flat.Columns.Value.{scratch_of_word, column_sizes};
 ghost use Rattle.regalloc2_serialize.specs.Flat.Columns.Sound.{Covers};
 
@@ -20,7 +20,7 @@ use std::alloc::{AllocError, Allocator};
 fn has_bit(words: &[u32], index: usize) -> bool
     requires six { length words.now ≡ 6 }
     requires index { index < 192 }
-    ensures { result ≡ has_bit words.now index }
+    ensures { result ≡ is_bit_set words.now index }
 {
     (words[index / 32] >> (index % 32)) & 1 == 1
 }
