@@ -1,18 +1,18 @@
--- The outcome of a call that allocates, from those of its parts.
-use Rattle.std.proofs.Common.{ℕ, ◌≡◌, inl, inr, List, Result, Ok, Err, refl, sym, subst}
+-- What comes of a call that allocates, from what comes of its parts.
+use Rattle.std.proofs.Common.{ℕ, ◌≡◌, ◌⊎◌, inl, inr, List, Result, Ok, Err, refl, sym, subst}
 use Rattle.std.specs.Prelude.{IfOk, IfErr}
 use Rattle.std.specs.Global.{Vec}
 use Rattle.std.specs.declared.alloc.Global.{Global}
 use Rattle.regalloc2.specs.FunctionValue.{FunctionValue}
 use Rattle.regalloc2.specs.Machine.{MachineValue}
-use Rattle.regalloc2.specs.OutputValue.{OutputValue}
+use Rattle.regalloc2.specs.OutputValue.{OutputValue, IsInOrder}
 use Rattle.regalloc2.specs.Stored.{NamesValues, output_of_stored}
 use Rattle.regalloc2.specs.SourceRun.{IsWrittenFirst}
 use Rattle.regalloc2.specs.Faithful.{IsFaithful}
 use Rattle.regalloc2.specs.WellFormed.{IsWellFormed}
 use Rattle.regalloc2.specs.Promise.{IsAllocation, RunsAsTheFunction, LiveInSlots}
-use Rattle.regalloc2.specs.ErrorsFound.{errors_of}
-use Rattle.regalloc2.specs.Allocated.{IsAllocateReason, IsTestedRunReason}
+use Rattle.regalloc2.specs.Report.{IsReport}
+use Rattle.regalloc2.specs.Allocated.{IsTestedReason, IsTestedRunReason}
 use Rattle.regalloc2.specs.declared.tested.AllocateError.{AllocateError}
 use Rattle.regalloc2.specs.declared.tested.AllocateError.TheVariants.{Misfit, Refused as RunRefused, Faults as RunFaults, Unjudged}
 use Rattle.regalloc2.specs.declared.tested.TestedRunError.{TestedRunError}
@@ -22,10 +22,12 @@ use Rattle.regalloc2_function.specs.declared.serialize.StoredFault.{StoredFault}
 use Rattle.regalloc2_function.specs.declared.serialize.StoredFault.TheVariants.{Lengths, Index, Bits, Limit, Memory, Shape}
 use Rattle.regalloc2_serialize.specs.declared.data.StoredFunction.{StoredFunction}
 use Rattle.regalloc2_serialize.specs.Flat.Flat.{HasLongWord, output_words}
-use Rattle.regalloc2_c.specs.Faults.{StandsForError}
-use Rattle.regalloc2_c.specs.Status.{run_failure, write_failure}
+use Rattle.regalloc2_checker.specs.declared.errors.CheckerError.{CheckerError}
+use Rattle.regalloc2_c.specs.Faults.{IsCheckerVerdict, faults_words, malformed_words}
+use Rattle.regalloc2_c.specs.Status.{allocate_failure, run_failure, write_failure}
 use Rattle.regalloc2_c.specs.Outcome.{NumbersNameFunction, IsAllocatedOutput, IsAllocateFailure, IsTestedOutput, IsRunFailure, IsFound}
 use Rattle.regalloc2_c.specs.declared.failure.Failure.{Failure}
+use Rattle.regalloc2_c.specs.declared.failure.Failure.TheVariants.{Faults}
 
 -- the words of an output that was allocated
 pub allocated_words : (s : StoredFunction Global) (f : FunctionValue) (env : MachineValue) (out : OutputValue) (numbers : StoredOutput Global) →
@@ -63,13 +65,25 @@ tested_words s f env out numbers named formed allocation runs live written same 
 
 -- why nothing was allocated
 pub refused_as : (s : StoredFunction Global) (f : FunctionValue) (env : MachineValue) → NumbersNameFunction s f env → (e : AllocateError Global) →
-    IsAllocateReason f env e → (failure : Failure) → StandsForError e failure → IsAllocateFailure s failure
-refused_as s f env named (Misfit m) h failure same = subst (λ x. IsAllocateFailure s x) (sym same) (f, env, named, h.0, h.1)
-refused_as s f env named (RunRefused r) h failure same = subst (λ x. IsAllocateFailure s x) (sym same) (f, env, named, h.0, h.1)
-refused_as s f env named (RunFaults es) h failure (inl same) = subst (λ x. IsAllocateFailure s x) (sym same) tt
-refused_as s f env named (RunFaults es) h failure (inr told) = subst (λ x. IsAllocateFailure s x) (sym told.1)
-    (f, env, h.1.0, named, h.1.1, h.1.3, errors_of es, h.1.4, told.2)
-refused_as s f env named Unjudged h failure same = subst (λ x. IsAllocateFailure s x) (sym same) tt
+    IsTestedReason f env e → IsAllocateFailure s (allocate_failure e)
+refused_as s f env named (Misfit m) h = (f, env, named, h.0, h.1)
+refused_as s f env named (RunRefused r) h = (f, env, named, h.0, h.1)
+refused_as s f env named (RunFaults es) h = tt
+refused_as s f env named Unjudged h = tt
+
+-- or what was allocated isn't faithful
+faulty : (s : StoredFunction Global) (f : FunctionValue) (env : MachineValue) (out : OutputValue) (e : Failure) → NumbersNameFunction s f env →
+    IsAllocation f env out → (v : Vec ℕ) → e ≡ Faults v → ((IsInOrder f out → ⊥) × (v.items ≡ malformed_words))
+    ⊎ (IsInOrder f out × (IsFaithful f env out → ⊥) × (es : List (CheckerError Global)) × IsReport f env out es × (v.items ≡ faults_words f out es)) →
+    IsAllocateFailure s e
+faulty s f env out e named allocation v same (inl p) = absurd (p.0 allocation.in_order)
+faulty s f env out e named allocation v same (inr p) = subst (λ x. IsAllocateFailure s x) (sym same)
+    (f, env, out, named, allocation, p.1, p.2, p.3, p.4)
+
+pub unaccepted : (s : StoredFunction Global) (f : FunctionValue) (env : MachineValue) (out : OutputValue) (e : Failure) → NumbersNameFunction s f env →
+    IsAllocation f env out → IsCheckerVerdict f env out e → IsAllocateFailure s e
+unaccepted s f env out e named allocation (inl lost) = subst (λ x. IsAllocateFailure s x) (sym lost) tt
+unaccepted s f env out e named allocation (inr t) = faulty s f env out e named allocation t.0 t.1 t.2
 
 -- why a tested run gave nothing
 pub untested_as : (s : StoredFunction Global) (f : FunctionValue) (env : MachineValue) → NumbersNameFunction s f env → (e : TestedRunError) →

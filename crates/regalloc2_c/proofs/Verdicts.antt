@@ -1,6 +1,7 @@
 -- Why an output isn't accepted, from what the checker and the test of cells find.
-use Rattle.std.proofs.Common.{◌≡◌, ◌⊎◌, inl, inr, List, [], ◌∷◌, Result, Ok, Err, refl, sym, subst, ap, ◌∙◌}
+use Rattle.std.proofs.Common.{ℕ, ◌≡◌, ◌⊎◌, inl, inr, List, [], ◌∷◌, Result, Ok, Err, refl, sym, subst}
 use Rattle.std.specs.Prelude.{OnOk, IfErr}
+use Rattle.std.specs.Global.{Vec}
 use Rattle.std.specs.declared.alloc.Global.{Global}
 use Rattle.regalloc2.specs.FunctionValue.{FunctionValue}
 use Rattle.regalloc2.specs.Machine.{MachineValue}
@@ -16,47 +17,56 @@ use Rattle.regalloc2_checker.specs.declared.errors.CheckerError.{CheckerError}
 use Rattle.regalloc2_checker.specs.declared.errors.CheckerError.TheVariants.{MalformedOutput, Memory as CheckerMemory}
 use Rattle.regalloc2_function.specs.declared.serialize.StoredOutput.{StoredOutput}
 use Rattle.regalloc2_serialize.specs.declared.data.StoredFunction.{StoredFunction}
-use Rattle.regalloc2_c.specs.Faults.{IsFaultsTold, IsErrorsFailure, IsCellsTold, IsVerdict, faults_words}
+use Rattle.regalloc2_c.specs.Faults.{IsFaultsTold, IsErrorsFailure, IsCellsTold, IsCheckerVerdict, IsVerdict, faults_words, malformed_words}
 use Rattle.regalloc2_c.specs.Outcome.{NumbersNameFunction, NumbersNameOutput, IsOutput, IsAcceptedOutput, IsCheckFailure, IsFunctionFailure, IsNoStoredOutput}
 use Rattle.regalloc2_c.specs.declared.failure.Failure.{Failure}
 use Rattle.regalloc2_c.specs.declared.failure.Failure.TheVariants.{Unreadable, BadMachine, NoRoom, Faults, NoMemory, NotFramed, BadOutput}
 use Rattle.regalloc2_c.specs.declared.failure.Failure.TheVariants.{ReadBeforeWritten, BadText, BadFunction, Refused}
 
--- an output that isn't well-ordered
-malformed : (f : FunctionValue) (env : MachineValue) (out : OutputValue) (e : CheckerError Global) (failure : Failure) → e ≡ MalformedOutput →
-    (IsInOrder f out → ⊥) → IsFaultsTold (e ∷ []) failure → IsVerdict f env out failure
-malformed f env out e failure same bad (inl lost) = inl lost
-malformed f env out e failure same bad (inr t) = inr (t.0, t.1, (λ h. bad h.0), inl (bad, t.2 ∙ ap (λ x. faults_words (x ∷ [])) same))
-
+-- an output that isn't in order
 pub unprepared : (f : FunctionValue) (env : MachineValue) (out : OutputValue) (e : CheckerError Global) (failure : Failure) →
-    ((e ≡ MalformedOutput) × (IsInOrder f out → ⊥)) ⊎ ((e ≡ CheckerMemory) × IsInOrder f out) → IsErrorsFailure (e ∷ []) failure → IsVerdict f env out failure
-unprepared f env out e failure m (inl q) = inl q.1
-unprepared f env out e failure (inl m) (inr q) = malformed f env out e failure m.0 m.1 q.1
-unprepared f env out e failure (inr m) (inr q) = absurd (q.0 (ap (λ x. x ∷ []) m.0))
+    ((e ≡ MalformedOutput) × (IsInOrder f out → ⊥)) ⊎ ((e ≡ CheckerMemory) × IsInOrder f out) → (e ≡ CheckerMemory → ⊥) →
+    IsFaultsTold malformed_words failure → IsCheckerVerdict f env out failure
+unprepared f env out e failure m other (inl lost) = inl lost
+unprepared f env out e failure (inl m) other (inr t) = inr (t.0, t.1, inl (m.1, t.2))
+unprepared f env out e failure (inr m) other (inr t) = absurd (other m.0)
 
 -- an output that isn't faithful
 unfaithful : (f : FunctionValue) (env : MachineValue) (out : OutputValue) (es : List (CheckerError Global)) (failure : Failure) → IsInOrder f out →
-    (IsFaithful f env out → ⊥) → IsReport f env out es → IsFaultsTold es failure → IsVerdict f env out failure
+    (IsFaithful f env out → ⊥) → IsReport f env out es → IsFaultsTold (faults_words f out es) failure → IsCheckerVerdict f env out failure
 unfaithful f env out es failure order bad report (inl lost) = inl lost
-unfaithful f env out es failure order bad report (inr t) = inr (t.0, t.1, (λ h. bad h.1), inr (inl (order, bad, es, report, t.2)))
+unfaithful f env out es failure order bad report (inr t) = inr (t.0, t.1, inr (order, bad, es, report, t.2))
 
 pub told : (f : FunctionValue) (env : MachineValue) (out : OutputValue) (es : List (CheckerError Global)) (failure : Failure) → IsInOrder f out →
-    (es ≡ CheckerMemory ∷ []) ⊎ ((IsFaithful f env out → ⊥) × IsReport f env out es) → IsErrorsFailure es failure → IsVerdict f env out failure
+    (es ≡ CheckerMemory ∷ []) ⊎ ((IsFaithful f env out → ⊥) × IsReport f env out es) → IsErrorsFailure f out es failure →
+    IsCheckerVerdict f env out failure
 told f env out es failure order p (inl q) = inl q.1
 told f env out es failure order (inl e) (inr q) = absurd (q.0 e)
 told f env out es failure order (inr r) (inr q) = unfaithful f env out es failure order r.0 r.1 q.1
 
+-- what the checker doesn't accept isn't accepted
+faulty : (f : FunctionValue) (env : MachineValue) (out : OutputValue) (e : Failure) (v : Vec ℕ) → e ≡ Faults v →
+    ((IsInOrder f out → ⊥) × (v.items ≡ malformed_words))
+    ⊎ (IsInOrder f out × (IsFaithful f env out → ⊥) × (es : List (CheckerError Global)) × IsReport f env out es × (v.items ≡ faults_words f out es)) →
+    IsVerdict f env out e
+faulty f env out e v same (inl p) = inr (v, same, (λ h. p.0 h.0), inl p)
+faulty f env out e v same (inr p) = inr (v, same, (λ h. p.1 h.1), inr (inl p))
+
+pub not_accepted : (f : FunctionValue) (env : MachineValue) (out : OutputValue) (e : Failure) → IsCheckerVerdict f env out e → IsVerdict f env out e
+not_accepted f env out e (inl lost) = inl lost
+not_accepted f env out e (inr t) = faulty f env out e t.0 t.1 t.2
+
 -- the same of the function and the machine that a checker holds
 pub unprepared_for : {S : Type 0} (function : S → FunctionValue) (a b : S) → a ≡ b → (env : MachineValue) (out : OutputValue) (e : CheckerError Global)
     (failure : Failure) → ((e ≡ MalformedOutput) × (IsInOrder (function a) out → ⊥)) ⊎ ((e ≡ CheckerMemory) × IsInOrder (function a) out) →
-    IsErrorsFailure (e ∷ []) failure → IsVerdict (function b) env out failure
-unprepared_for function a b same env out e failure m q = unprepared (function b) env out e failure
-    (subst (λ x. ((e ≡ MalformedOutput) × (IsInOrder (function x) out → ⊥)) ⊎ ((e ≡ CheckerMemory) × IsInOrder (function x) out)) same m) q
+    (e ≡ CheckerMemory → ⊥) → IsFaultsTold malformed_words failure → IsCheckerVerdict (function b) env out failure
+unprepared_for function a b same env out e failure m other q = unprepared (function b) env out e failure
+    (subst (λ x. ((e ≡ MalformedOutput) × (IsInOrder (function x) out → ⊥)) ⊎ ((e ≡ CheckerMemory) × IsInOrder (function x) out)) same m) other q
 
 pub told_for : {S : Type 0} (function : S → FunctionValue) (a b : S) (m env : MachineValue) → a ≡ b → m ≡ env → (out : OutputValue)
     (es : List (CheckerError Global)) (failure : Failure) → IsInOrder (function b) out →
-    (es ≡ CheckerMemory ∷ []) ⊎ ((IsFaithful (function a) m out → ⊥) × IsReport (function a) m out es) → IsErrorsFailure es failure →
-    IsVerdict (function b) env out failure
+    (es ≡ CheckerMemory ∷ []) ⊎ ((IsFaithful (function a) m out → ⊥) × IsReport (function a) m out es) → IsErrorsFailure (function b) out es failure →
+    IsCheckerVerdict (function b) env out failure
 told_for function a b m env same machine out es failure order p q = told (function b) env out es failure order
     (subst (λ x. (es ≡ CheckerMemory ∷ []) ⊎ ((IsFaithful (function b) x out → ⊥) × IsReport (function b) x out es)) machine
     (subst (λ x. (es ≡ CheckerMemory ∷ []) ⊎ ((IsFaithful (function x) m out → ⊥) × IsReport (function x) m out es)) same p)) q

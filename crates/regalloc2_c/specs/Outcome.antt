@@ -131,7 +131,7 @@ IsAllocateFailure s Unreadable = ⊥
 IsAllocateFailure s (BadMachine m) = IsMisfitOf s m
 IsAllocateFailure s NoRoom = (words : List ℕ) × IsAllocatedOutput s words × HasLongWord words
 IsAllocateFailure s (Faults v) = (f : FunctionValue) × (env : MachineValue) × (out : OutputValue) × NumbersNameFunction s f env × IsAllocation f env out
-    × (IsFaithful f env out → ⊥) × (es : List (CheckerError Global)) × IsReport f env out es × (v.items ≡ faults_words es)
+    × (IsFaithful f env out → ⊥) × (es : List (CheckerError Global)) × IsReport f env out es × (v.items ≡ faults_words f out es)
 IsAllocateFailure s NoMemory = Unit {0}
 IsAllocateFailure s NotFramed = ⊥
 IsAllocateFailure s BadOutput = ⊥

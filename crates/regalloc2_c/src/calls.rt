@@ -4,11 +4,11 @@ ghost use Rattle.std.specs.Prelude.{◌≡◌, ◌+◌, length, IfOk, IfErr};
 ghost use Rattle.regalloc2_c.specs.Outcome.{AreWordsOf, IsJsonOf, IsTextOf, IsAllocatedOutput, IsAllocateFailure, IsTestedOutput, IsRunFailure};
 ghost use Rattle.regalloc2_c.specs.Outcome.{IsAllocationFound, IsRunFound};
 
-use super::failure::{Failure, failure_of_run, failure_to_write};
-use super::faults::failure_of;
+use super::failure::{Failure, failure_of, failure_of_run, failure_to_write};
+use super::judging::checked;
 use super::reading::{stored_from_json, stored_from_text, stored_from_words};
 use regalloc2::serialize::{SerializableFunction, StoredFunction};
-use regalloc2::{allocate, run_tested};
+use regalloc2::{allocate_without_checker, run_tested};
 use regalloc2_serialize::flat::words_of;
 use std::alloc::Global;
 
@@ -21,10 +21,14 @@ fn allocated(alloc: Global, stored: &StoredFunction) -> Result<Vec<u32>, Failure
         Ok(f) => f,
         Err(fault) => return Err(Failure::BadFunction(fault)),
     };
-    let output = match allocate(alloc, &f, f.machine_env()) {
+    let output = match allocate_without_checker(alloc, &f, f.machine_env()) {
         Ok(output) => output,
-        Err(error) => return Err(failure_of(alloc, &error)),
+        Err(error) => return Err(failure_of(&error)),
     };
+    match checked(alloc, &f, &output) {
+        Ok(()) => {}
+        Err(failure) => return Err(failure),
+    }
     let Ok(numbers) = output.stored() else {
         return Err(Failure::NoMemory);
     };

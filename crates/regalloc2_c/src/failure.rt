@@ -1,10 +1,10 @@
 //! Why a call gives nothing.
 
 ghost use Rattle.std.specs.Prelude.{◌≡◌};
-ghost use Rattle.regalloc2_c.specs.Status.{failure_number, run_failure, read_failure, write_failure};
+ghost use Rattle.regalloc2_c.specs.Status.{failure_number, allocate_failure, run_failure, read_failure, write_failure};
 
 use regalloc2::serialize::StoredFault;
-use regalloc2::{RegAllocError, TestedRunError};
+use regalloc2::{AllocateError, RegAllocError, TestedRunError};
 use regalloc2_function::MachineMisfit;
 use regalloc2_tool::{refusal, stored_fault};
 
@@ -51,6 +51,17 @@ pub fn number_of(failure: &Failure) -> u32
         Failure::BadText(..) => 9,
         Failure::BadFunction(fault) => 10 + u32::from(stored_fault::number_of(*fault)),
         Failure::Refused(error) => 20 + u32::from(refusal::number_of(*error)),
+    }
+}
+
+/// The failure that an allocation's error is. Without the checker it has no faults.
+pub fn failure_of(error: &AllocateError) -> Failure
+    ensures { result ≡ allocate_failure error.now }
+{
+    match error {
+        AllocateError::Misfit(misfit) => Failure::BadMachine(*misfit),
+        AllocateError::Refused(error) => Failure::Refused(*error),
+        AllocateError::Faults(_) | AllocateError::Unjudged => Failure::NoMemory,
     }
 }
 

@@ -1,20 +1,90 @@
 //! The words of the faults of an output.
 
-ghost use Rattle.std.specs.Prelude.{◌≡◌, ◌⊎◌, ◌∷◌, ◌++◌, [], ℕ, List, map, OnOk};
+ghost use Rattle.std.specs.Prelude.{◌≡◌, ◌⊎◌, ◌<◌, ◌∷◌, ◌++◌, [], ℕ, List, map, length, OnOk};
 ghost use Rattle.regalloc2_names.specs.Operand.{OperandValue};
 ghost use Rattle.regalloc2_names.specs.RegisterBits.{bits_of_vreg};
-ghost use Rattle.regalloc2_c.specs.Faults.{operand_head, fault_head, fault_words, faults_words, cell_fault_words, IsFaultsTold, IsErrorsFailure};
-ghost use Rattle.regalloc2_c.specs.Faults.{StandsForError, IsCellsTold, fault_vregs};
+ghost use Rattle.regalloc2.specs.Views.{output_of};
+ghost use Rattle.regalloc2_function.specs.OutputValue.{IsInOrder, place_at};
+ghost use Rattle.regalloc2_serialize.specs.Tables.{function_of_serializable};
+ghost use Rattle.regalloc2_c.specs.Faults.{first_index, is_placed, operand_index, operand_head, fault_head, fault_words, faults_words, cell_fault_words};
+ghost use Rattle.regalloc2_c.specs.Faults.{malformed_words, IsFaultsTold, IsErrorsFailure, IsCellsTold, fault_vregs};
 
 use super::failure::Failure;
 use super::words::{NONE, word_of};
 use regalloc2::checker::CheckerError;
-use regalloc2::{AllocateError, Allocation, Inst, Operand, VReg};
+use regalloc2::serialize::SerializableFunction;
+use regalloc2::{Allocation, Function, Inst, Operand, Output, VReg};
 use regalloc2_checker::CellFault;
 use std::alloc::{AllocError, Global};
 
-/// The words of a fault of an operand: the fault's number, the instruction, no index, the operand, its place, another place and a bound.
+/// A function and an output of it.
+#[derive(Clone, Copy)]
+pub struct Judged<'a> {
+    /// The function.
+    pub f: &'a SerializableFunction,
+    /// The output.
+    pub output: &'a Output,
+}
+
+/// The place of an operand; `none` where the list ends before.
+fn place_at(places: &[Allocation], k: usize) -> Allocation
+    ensures { result ≡ place_at places.now k }
+{
+    if k < places.len() {
+        places[k]
+    } else {
+        Allocation::none()
+    }
+}
+
+/// Whether an operand has that word and is in that place.
+fn is_placed(
+    operands: &[Operand],
+    places: &[Allocation],
+    op: Operand,
+    place: Allocation,
+    k: usize,
+) -> bool
+    requires { k < length operands.now }
+    ensures { result ≡ is_placed operands.now places.now op place k }
+{
+    operands[k].bits() == op.bits() && place_at(places, k).bits() == place.bits()
+}
+
+/// The index of the first operand with that word that is in that place, as a word.
+fn index_of(operands: &[Operand], places: &[Allocation], op: Operand, place: Allocation) -> u32
+    ensures { result ≡ first_index (is_placed operands.now places.now op place) 0 (length operands.now) }
+{
+    for k in 0..operands.len() {
+        if is_placed(operands, places, op, place, k) {
+            return word_of(k);
+        }
+    }
+    NONE
+}
+
+/// The index of the first operand of an instruction with that word that is in that place, as a word.
+fn index_in(
+    f: &SerializableFunction,
+    output: &Output,
+    inst: Inst,
+    op: Operand,
+    place: Allocation,
+) -> u32
+    requires { IsInOrder (function_of_serializable f.now) (output_of output.now) }
+    ensures { result ≡ operand_index (function_of_serializable f.now) (output_of output.now) inst op place }
+{
+    if inst.index() < f.num_insts() {
+        index_of(f.inst_operands(inst), output.inst_allocs(inst), op, place)
+    } else {
+        NONE
+    }
+}
+
+/// The words of a fault of an operand: the fault's number, the instruction, the operand's index, the operand, its place, another place and a
+/// bound.
 fn of_operand(
+    judged: Judged<'_>,
     number: u32,
     inst: Inst,
     op: Operand,
@@ -22,13 +92,14 @@ fn of_operand(
     other: Allocation,
     bound: u32,
 ) -> [u32; 8]
-    ensures { result ≡ operand_head number inst op place other bound }
+    requires { IsInOrder (function_of_serializable judged.entry.f.now) (output_of judged.entry.output.now) }
+    ensures { result ≡ operand_head (function_of_serializable judged.entry.f.now) (output_of judged.entry.output.now) number inst op place other bound }
 {
     let bits = op.bits();
     [
         number,
         inst.0,
-        NONE,
+        index_in(judged.f, judged.output, inst, op, place),
         (bits % 4_294_967_296) as u32,
         (bits / 4_294_967_296) as u32,
         place.bits(),
@@ -38,41 +109,44 @@ fn of_operand(
 }
 
 /// The words of a fault up to the list of vregs.
-fn head_of(error: &CheckerError) -> [u32; 8]
-    ensures { result ≡ fault_head error.now }
+fn head_of(judged: Judged<'_>, error: &CheckerError) -> [u32; 8]
+    requires { IsInOrder (function_of_serializable judged.entry.f.now) (output_of judged.entry.output.now) }
+    ensures { result ≡ fault_head (function_of_serializable judged.entry.f.now) (output_of judged.entry.output.now) error.now }
 {
     let none = Allocation::none();
     match error {
-        CheckerError::MissingAllocation { inst, op } => of_operand(1, *inst, *op, none, none, 0),
+        CheckerError::MissingAllocation { inst, op } => of_operand(
+            judged, 1, *inst, *op, none, none, 0,
+        ),
         CheckerError::UnknownValueInAllocation { inst, op, alloc } => {
-            of_operand(2, *inst, *op, *alloc, none, 0)
+            of_operand(judged, 2, *inst, *op, *alloc, none, 0)
         }
         CheckerError::ConflictedValueInAllocation { inst, op, alloc } => {
-            of_operand(3, *inst, *op, *alloc, none, 0)
+            of_operand(judged, 3, *inst, *op, *alloc, none, 0)
         }
         CheckerError::IncorrectValuesInAllocation {
             inst,
             op,
             alloc,
             ..
-        } => { of_operand(4, *inst, *op, *alloc, none, 0) }
+        } => { of_operand(judged, 4, *inst, *op, *alloc, none, 0) }
         CheckerError::ConstraintViolated { inst, op, alloc } => {
-            of_operand(5, *inst, *op, *alloc, none, 0)
+            of_operand(judged, 5, *inst, *op, *alloc, none, 0)
         }
         CheckerError::AllocationIsNotReg { inst, op, alloc } => {
-            of_operand(6, *inst, *op, *alloc, none, 0)
+            of_operand(judged, 6, *inst, *op, *alloc, none, 0)
         }
         CheckerError::AllocationIsNotFixedReg { inst, op, alloc } => {
-            of_operand(7, *inst, *op, *alloc, none, 0)
+            of_operand(judged, 7, *inst, *op, *alloc, none, 0)
         }
         CheckerError::AllocationIsNotReuse {
             inst,
             op,
             alloc,
             expected_alloc,
-        } => { of_operand(8, *inst, *op, *alloc, *expected_alloc, 0) }
+        } => { of_operand(judged, 8, *inst, *op, *alloc, *expected_alloc, 0) }
         CheckerError::AllocationIsNotStack { inst, op, alloc } => {
-            of_operand(9, *inst, *op, *alloc, none, 0)
+            of_operand(judged, 9, *inst, *op, *alloc, none, 0)
         }
         CheckerError::StackToStackMove { into, from } => {
             [10, NONE, NONE, 0, 0, into.bits(), from.bits(), 0]
@@ -82,7 +156,7 @@ fn head_of(error: &CheckerError) -> [u32; 8]
             op,
             alloc,
             range,
-        } => { of_operand(11, *inst, *op, *alloc, none, word_of(range.end)) }
+        } => { of_operand(judged, 11, *inst, *op, *alloc, none, word_of(range.end)) }
         CheckerError::MalformedOutput => [12, NONE, NONE, 0, 0, 0, 0, 0],
         CheckerError::Memory => [13, NONE, NONE, 0, 0, 0, 0, 0],
     }
@@ -130,10 +204,11 @@ fn vregs_of(error: &CheckerError) -> &[VReg]
 }
 
 /// Adds the words of a fault to others.
-fn push_fault(to: &mut Vec<u32>, error: &CheckerError) -> Result<(), AllocError>
-    ensures { OnOk result (to.new.items ≡ to.old.items ++ fault_words error.now) }
+fn push_fault(to: &mut Vec<u32>, judged: Judged<'_>, error: &CheckerError) -> Result<(), AllocError>
+    requires { IsInOrder (function_of_serializable judged.entry.f.now) (output_of judged.entry.output.now) }
+    ensures { OnOk result (to.new.items ≡ to.old.items ++ fault_words (function_of_serializable judged.entry.f.now) (output_of judged.entry.output.now) error.now) }
 {
-    let head = head_of(error);
+    let head = head_of(judged, error);
     let vregs = vregs_of(error);
     push_words(to, &head)?;
     push_length(to, vregs.len())?;
@@ -141,46 +216,52 @@ fn push_fault(to: &mut Vec<u32>, error: &CheckerError) -> Result<(), AllocError>
 }
 
 /// Adds the words of faults to others.
-fn push_faults(to: &mut Vec<u32>, errors: &[CheckerError]) -> Result<(), AllocError>
-    ensures { OnOk result (to.new.items ≡ to.old.items ++ faults_words errors.now) }
+fn push_faults(
+    to: &mut Vec<u32>,
+    judged: Judged<'_>,
+    errors: &[CheckerError],
+) -> Result<(), AllocError>
+    requires { IsInOrder (function_of_serializable judged.entry.f.now) (output_of judged.entry.output.now) }
+    ensures { OnOk result (to.new.items ≡ to.old.items ++ faults_words (function_of_serializable judged.entry.f.now) (output_of judged.entry.output.now) errors.now) }
 {
     push_length(to, errors.len())?;
     for k in 0..errors.len() {
-        push_fault(to, &errors[k])?;
+        push_fault(to, judged, &errors[k])?;
     }
     Ok(())
 }
 
-/// The failure that lists these faults.
-fn faults_failure(alloc: Global, errors: &[CheckerError]) -> Failure
-    ensures { IsFaultsTold errors.now result }
+/// The failure that tells these faults.
+fn faults_failure(alloc: Global, judged: Judged<'_>, errors: &[CheckerError]) -> Failure
+    requires { IsInOrder (function_of_serializable judged.entry.f.now) (output_of judged.entry.output.now) }
+    ensures { IsFaultsTold (faults_words (function_of_serializable judged.entry.f.now) (output_of judged.entry.output.now) errors.now) result }
 {
     let mut words = Vec::new(alloc);
-    match push_faults(&mut words, errors) {
+    match push_faults(&mut words, judged, errors) {
         Ok(()) => Failure::Faults(words),
         Err(_) => Failure::NoMemory,
     }
 }
 
-/// The failure that the checker's errors come to: they are `Memory` alone if a memory allocation failed.
-pub fn failure_of_errors(alloc: Global, errors: &[CheckerError]) -> Failure
-    ensures { IsErrorsFailure errors.now result }
+/// The failure that the checker's errors come to: they are `Memory` alone where memory was refused.
+pub fn failure_of_errors(alloc: Global, judged: Judged<'_>, errors: &[CheckerError]) -> Failure
+    requires { IsInOrder (function_of_serializable judged.entry.f.now) (output_of judged.entry.output.now) }
+    ensures { IsErrorsFailure (function_of_serializable judged.entry.f.now) (output_of judged.entry.output.now) errors.now result }
 {
     match errors {
         [CheckerError::Memory] => Failure::NoMemory,
-        _ => faults_failure(alloc, errors),
+        _ => faults_failure(alloc, judged, errors),
     }
 }
 
-/// The failure that an allocation's error is.
-pub fn failure_of(alloc: Global, error: &AllocateError) -> Failure
-    ensures { StandsForError error.now result }
+/// The failure of an output that isn't in order.
+pub fn malformed(alloc: Global) -> Failure
+    ensures { IsFaultsTold malformed_words result }
 {
-    match error {
-        AllocateError::Misfit(misfit) => Failure::BadMachine(*misfit),
-        AllocateError::Refused(error) => Failure::Refused(*error),
-        AllocateError::Faults(errors) => faults_failure(alloc, errors.errors()),
-        AllocateError::Unjudged => Failure::NoMemory,
+    let mut words = Vec::new(alloc);
+    match push_words(&mut words, &[1, 12, NONE, NONE, 0, 0, 0, 0, 0, 0]) {
+        Ok(()) => Failure::Faults(words),
+        Err(_) => Failure::NoMemory,
     }
 }
 

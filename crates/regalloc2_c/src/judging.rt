@@ -10,14 +10,14 @@ ghost use Rattle.regalloc2.specs.WellFormed.{IsFramed};
 ghost use Rattle.regalloc2_checker.specs.Cells.{AreCells};
 ghost use Rattle.regalloc2_serialize.specs.Flat.Flat.{words_of_triple};
 ghost use Rattle.regalloc2_serialize.specs.Tables.{function_of_serializable};
-ghost use Rattle.regalloc2_c.specs.Faults.{IsVerdict};
+ghost use Rattle.regalloc2_c.specs.Faults.{IsCheckerVerdict, IsVerdict};
 ghost use Rattle.regalloc2_c.specs.Outcome.{AreWordsOf, AreOutputWords, ArePartsOf, NumbersNameFunction, NumbersNameOutput};
 ghost use Rattle.regalloc2_c.specs.Outcome.{IsNoStoredOutput, IsFunctionFailure, IsAcceptedOutput, IsCheckFailure, IsJudgeFound};
 
 use super::failure::{Failure, failure_to_read};
-use super::faults::{failure_of_cells, failure_of_errors};
+use super::faults::{Judged, failure_of_cells, failure_of_errors, malformed};
 use super::reading::stored_from_words;
-use regalloc2::checker::Checker;
+use regalloc2::checker::{Checker, CheckerError};
 use regalloc2::serialize::{SerializableFunction, StoredFault, StoredFunction, StoredOutput};
 use regalloc2::{Output, is_framed};
 use regalloc2_checker::test_cells;
@@ -37,23 +37,24 @@ pub struct Parts<'a> {
     pub offsets: &'a [u32],
 }
 
-/// Runs the checker on an output.
-fn checked(alloc: Global, f: &SerializableFunction, output: &Output) -> Result<(), Failure>
+/// Has the checker judge an output.
+pub fn checked(alloc: Global, f: &SerializableFunction, output: &Output) -> Result<(), Failure>
     requires framed { IsFramed (function_of_serializable f.now) }
     ensures ok { OnOk result (IsInOrder (function_of_serializable f.now) (output_of output.now)
         × IsFaithful (function_of_serializable f.now) (machine_of f.now.machine) (output_of output.now)) }
-    ensures err { IfErr result (IsVerdict (function_of_serializable f.now) (machine_of f.now.machine) (output_of output.now)) }
+    ensures err { IfErr result (IsCheckerVerdict (function_of_serializable f.now) (machine_of f.now.machine) (output_of output.now)) }
 {
     let Ok(mut checker) = Checker::new(alloc, f, f.machine_env()) else {
         return Err(Failure::NoMemory);
     };
     match checker.prepare(output) {
         Ok(()) => {}
-        Err(error) => return Err(failure_of_errors(alloc, &[error])),
+        Err(CheckerError::Memory) => return Err(Failure::NoMemory),
+        Err(_) => return Err(malformed(alloc)),
     }
     match checker.run() {
         Ok(()) => Ok(()),
-        Err(errors) => Err(failure_of_errors(alloc, errors.errors())),
+        Err(errors) => Err(failure_of_errors(alloc, Judged { f, output }, errors.errors())),
     }
 }
 
