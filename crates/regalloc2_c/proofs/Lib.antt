@@ -1,5 +1,5 @@
 -- Lemmas for the C functions: a call's outcome follows from those of its parts.
--- Read first: `found_of` in `Outcomes`, then `told` in `Verdicts`.
+-- Read first: `comes_to` in `Outcomes`, then `told` in `Verdicts`.
 -- Depends on the specs, and on the reasons of errors of regalloc2.
 pub mod Indexes
 pub mod Lines

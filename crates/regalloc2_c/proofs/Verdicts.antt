@@ -16,9 +16,8 @@ use Rattle.regalloc2_checker.specs.declared.cells.CellFault.TheVariants.{Operand
 use Rattle.regalloc2_checker.specs.declared.errors.CheckerError.{CheckerError}
 use Rattle.regalloc2_checker.specs.declared.errors.CheckerError.TheVariants.{MalformedOutput, Memory as CheckerMemory}
 use Rattle.regalloc2_function.specs.declared.serialize.StoredOutput.{StoredOutput}
-use Rattle.regalloc2_serialize.specs.declared.data.StoredFunction.{StoredFunction}
 use Rattle.regalloc2_c.specs.Faults.{IsFaultsTold, IsErrorsFailure, IsCellsTold, IsCheckerVerdict, IsVerdict, faults_words, malformed_words}
-use Rattle.regalloc2_c.specs.Outcome.{NumbersNameFunction, NumbersNameOutput, IsOutput, IsAcceptedOutput, IsCheckFailure, IsFunctionFailure, IsNoStoredOutput}
+use Rattle.regalloc2_c.specs.Outcome.{NumbersNameOutput, IsOutput, IsAcceptedOutput, IsCheckFailure, IsNoStoredOutput}
 use Rattle.regalloc2_c.specs.declared.failure.Failure.{Failure}
 use Rattle.regalloc2_c.specs.declared.failure.Failure.TheVariants.{Unreadable, BadMachine, NoRoom, Faults, NoMemory, NotFramed, BadOutput}
 use Rattle.regalloc2_c.specs.declared.failure.Failure.TheVariants.{ReadBeforeWritten, BadText, BadFunction, Refused}
@@ -95,77 +94,61 @@ apart_for f m env out fault failure machine order faithful h q = apart f env out
     (subst (λ x. IsCellFault f x out fault) machine h) q
 
 -- numbers that name no output
-pub unnamed : (s : StoredFunction Global) (numbers : StoredOutput Global) (e : Failure) →
-    (e ≡ NoMemory) ⊎ ((e ≡ BadOutput) × (NamesValues numbers → ⊥)) → IsCheckFailure (λ o. o ≡ numbers) s e
-unnamed s numbers e (inl lost) = subst (λ x. IsCheckFailure (λ o. o ≡ numbers) s x) (sym lost) tt
-unnamed s numbers e (inr t) = subst (λ x. IsCheckFailure (λ o. o ≡ numbers) s x) (sym t.0) (numbers, refl, t.1)
+pub unnamed : (f : FunctionValue) (env : MachineValue) (numbers : StoredOutput Global) (e : Failure) →
+    (e ≡ NoMemory) ⊎ ((e ≡ BadOutput) × (NamesValues numbers → ⊥)) → IsCheckFailure (λ o. o ≡ numbers) f env e
+unnamed f env numbers e (inl lost) = subst (λ x. IsCheckFailure (λ o. o ≡ numbers) f env x) (sym lost) tt
+unnamed f env numbers e (inr t) = subst (λ x. IsCheckFailure (λ o. o ≡ numbers) f env x) (sym t.0) (numbers, refl, t.1)
 
 -- an output that isn't accepted
-pub rejected : (s : StoredFunction Global) (numbers : StoredOutput Global) (f : FunctionValue) (env : MachineValue) (out : OutputValue) (e : Failure) →
-    NumbersNameFunction s f env → NumbersNameOutput numbers out → IsVerdict f env out e → IsCheckFailure (λ o. o ≡ numbers) s e
-rejected s numbers f env out e named names (inl lost) = subst (λ x. IsCheckFailure (λ o. o ≡ numbers) s x) (sym lost) tt
-rejected s numbers f env out e named names (inr t) = subst (λ x. IsCheckFailure (λ o. o ≡ numbers) s x) (sym t.1)
-    (f, env, out, named, (record { stored = numbers; laid_out = refl; names = names }), t.2, t.3)
+pub rejected : (numbers : StoredOutput Global) (f : FunctionValue) (env : MachineValue) (out : OutputValue) (e : Failure) →
+    NumbersNameOutput numbers out → IsVerdict f env out e → IsCheckFailure (λ o. o ≡ numbers) f env e
+rejected numbers f env out e names (inl lost) = subst (λ x. IsCheckFailure (λ o. o ≡ numbers) f env x) (sym lost) tt
+rejected numbers f env out e names (inr t) = subst (λ x. IsCheckFailure (λ o. o ≡ numbers) f env x) (sym t.1)
+    (out, (record { stored = numbers; laid_out = refl; names = names }), t.2, t.3)
 
 -- what is laid out is an output, if its numbers are
 output_for : (Outs : StoredOutput Global → Type 0) (numbers : StoredOutput Global) → Outs numbers → (out : OutputValue) → IsOutput (λ o. o ≡ numbers) out →
     IsOutput Outs out
 output_for Outs numbers laid out o = record { stored = o.stored; laid_out = subst Outs (sym o.laid_out) laid; names = o.names }
 
-pub accepted_for : (Outs : StoredOutput Global → Type 0) (numbers : StoredOutput Global) → Outs numbers → (s : StoredFunction Global) →
-    IsAcceptedOutput (λ o. o ≡ numbers) s → IsAcceptedOutput Outs s
-accepted_for Outs numbers laid s a = record {
-  f = a.f;
-  env = a.env;
+pub accepted_for : (Outs : StoredOutput Global → Type 0) (numbers : StoredOutput Global) → Outs numbers → (f : FunctionValue) (env : MachineValue) →
+    IsAcceptedOutput (λ o. o ≡ numbers) f env → IsAcceptedOutput Outs f env
+accepted_for Outs numbers laid f env a = record {
   out = a.out;
-  given = a.given;
   output = output_for Outs numbers laid a.out a.output;
   in_order = a.in_order;
   faithful = a.faithful;
   cells = a.cells;
 }
 
-pub failure_for : (Outs : StoredOutput Global → Type 0) (numbers : StoredOutput Global) → Outs numbers → (s : StoredFunction Global) (e : Failure) →
-    IsCheckFailure (λ o. o ≡ numbers) s e → IsCheckFailure Outs s e
-failure_for Outs numbers laid s Unreadable h = absurd (h numbers refl)
-failure_for Outs numbers laid s (BadMachine m) h = h
-failure_for Outs numbers laid s NoRoom h = h
-failure_for Outs numbers laid s (Faults v) h = (h.0, h.1, h.2, h.3, output_for Outs numbers laid h.2 h.4, h.5, h.6)
-failure_for Outs numbers laid s NoMemory h = tt
-failure_for Outs numbers laid s NotFramed h = h
-failure_for Outs numbers laid s BadOutput h = (numbers, laid, λ n. h.2 (subst NamesValues (sym h.1) n))
-failure_for Outs numbers laid s ReadBeforeWritten h = h
-failure_for Outs numbers laid s (BadText line column) h = h
-failure_for Outs numbers laid s (BadFunction fault) h = h
-failure_for Outs numbers laid s (Refused error) h = h
-
--- a function that isn't structurally valid, or that isn't one
-pub unframed : (Outs : StoredOutput Global → Type 0) (s : StoredFunction Global) (e : Failure) → IsFunctionFailure s e → IsCheckFailure Outs s e
-unframed Outs s Unreadable h = absurd h
-unframed Outs s (BadMachine m) h = h
-unframed Outs s NoRoom h = h
-unframed Outs s (Faults v) h = absurd h
-unframed Outs s NoMemory h = tt
-unframed Outs s NotFramed h = h
-unframed Outs s BadOutput h = absurd h
-unframed Outs s ReadBeforeWritten h = h
-unframed Outs s (BadText line column) h = h
-unframed Outs s (BadFunction fault) h = h
-unframed Outs s (Refused error) h = h
+pub failure_for : (Outs : StoredOutput Global → Type 0) (numbers : StoredOutput Global) → Outs numbers → (f : FunctionValue) (env : MachineValue)
+    (e : Failure) → IsCheckFailure (λ o. o ≡ numbers) f env e → IsCheckFailure Outs f env e
+failure_for Outs numbers laid f env Unreadable h = absurd (h numbers refl)
+failure_for Outs numbers laid f env (BadMachine m) h = h
+failure_for Outs numbers laid f env NoRoom h = h
+failure_for Outs numbers laid f env (Faults v) h = (h.0, output_for Outs numbers laid h.0 h.1, h.2, h.3)
+failure_for Outs numbers laid f env NoMemory h = tt
+failure_for Outs numbers laid f env NotFramed h = h
+failure_for Outs numbers laid f env BadOutput h = (numbers, laid, λ n. h.2 (subst NamesValues (sym h.1) n))
+failure_for Outs numbers laid f env ReadBeforeWritten h = h
+failure_for Outs numbers laid f env (BadText line column) h = h
+failure_for Outs numbers laid f env (BadFunction fault) h = h
+failure_for Outs numbers laid f env (Refused error) h = h
 
 -- an output that isn't read
-pub unread : (Outs : StoredOutput Global → Type 0) (s : StoredFunction Global) (e : Failure) → IsNoStoredOutput Outs e → IsCheckFailure Outs s e
-unread Outs s Unreadable h = h
-unread Outs s (BadMachine m) h = h
-unread Outs s NoRoom h = h
-unread Outs s (Faults v) h = absurd h
-unread Outs s NoMemory h = tt
-unread Outs s NotFramed h = absurd h
-unread Outs s BadOutput h = absurd h
-unread Outs s ReadBeforeWritten h = h
-unread Outs s (BadText line column) h = h
-unread Outs s (BadFunction fault) h = absurd h
-unread Outs s (Refused error) h = h
+pub unread : (Outs : StoredOutput Global → Type 0) (f : FunctionValue) (env : MachineValue) (e : Failure) → IsNoStoredOutput Outs e →
+    IsCheckFailure Outs f env e
+unread Outs f env Unreadable h = h
+unread Outs f env (BadMachine m) h = h
+unread Outs f env NoRoom h = h
+unread Outs f env (Faults v) h = absurd h
+unread Outs f env NoMemory h = tt
+unread Outs f env NotFramed h = absurd h
+unread Outs f env BadOutput h = absurd h
+unread Outs f env ReadBeforeWritten h = h
+unread Outs f env (BadText line column) h = h
+unread Outs f env (BadFunction fault) h = h
+unread Outs f env (Refused error) h = h
 
 -- what follows from a result's value or error follows of the result
 pub on_ok : {A E P Q : Type 0} → (P → Q) → (r : Result A E) → OnOk r P → OnOk r Q
@@ -177,14 +160,10 @@ if_err f (Ok x) h = tt
 if_err f (Err e) h = f e h
 
 -- an output that is accepted
-pub accepted : (s : StoredFunction Global) (numbers : StoredOutput Global) (f : FunctionValue) (env : MachineValue) (out : OutputValue) →
-    NumbersNameFunction s f env → NumbersNameOutput numbers out → IsInOrder f out × IsFaithful f env out × AreCells f env out →
-    IsAcceptedOutput (λ o. o ≡ numbers) s
-accepted s numbers f env out named names h = record {
-  f = f;
-  env = env;
+pub accepted : (numbers : StoredOutput Global) (f : FunctionValue) (env : MachineValue) (out : OutputValue) → NumbersNameOutput numbers out →
+    IsInOrder f out × IsFaithful f env out × AreCells f env out → IsAcceptedOutput (λ o. o ≡ numbers) f env
+accepted numbers f env out names h = record {
   out = out;
-  given = named;
   output = record { stored = numbers; laid_out = refl; names = names };
   in_order = h.0;
   faithful = h.1;

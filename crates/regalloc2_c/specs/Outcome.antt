@@ -25,8 +25,11 @@ use Rattle.regalloc2_serialize.specs.Decoded.{NamesFunction, NamesMachine}
 use Rattle.regalloc2_serialize.specs.JsonShape.{IsFunctionAt}
 use Rattle.regalloc2_serialize.specs.Validity.{IsSoundStored, IsFaultOf}
 use Rattle.regalloc2_serialize.specs.declared.data.StoredFunction.{StoredFunction}
-use Rattle.regalloc2_serialize.specs.Flat.Flat.{HasLongWord, function_words, output_words, words_of_triple}
-use Rattle.regalloc2_c.specs.Status.{failure_number}
+use Rattle.regalloc2_function.specs.declared.serialize.StoredFault.{StoredFault}
+use Rattle.regalloc2_serialize.specs.Flat.Columns.Sound.{AreSoundColumns, IsColumnsFault}
+use Rattle.regalloc2_serialize.specs.Flat.Columns.Value.{IsLaidOutAs, IsMachineOf}
+use Rattle.regalloc2_serialize.specs.Flat.Flat.{HasLongWord, output_words, words_of_triple}
+use Rattle.regalloc2_c.specs.Status.{failure_number, columns_failure}
 use Rattle.regalloc2_c.specs.Payload.{failure_words}
 use Rattle.regalloc2_c.specs.Faults.{AreFaultsOf, faults_words}
 use Rattle.regalloc2.specs.Report.{IsReport}
@@ -38,29 +41,36 @@ use Rattle.regalloc2_c.specs.declared.failure.Failure.{Failure}
 use Rattle.regalloc2_c.specs.declared.failure.Failure.TheVariants.{Unreadable, BadMachine, NoRoom, Faults, NoMemory, NotFramed, BadOutput}
 use Rattle.regalloc2_c.specs.declared.failure.Failure.TheVariants.{ReadBeforeWritten, BadText, BadFunction, Refused}
 
--- an input lays out the numbers of a function: as words, or as a JSON text; of any other text no more is said than that it is one
-abbrev pub AreWordsOf : List ℕ → StoredFunction Global → Type 0
-AreWordsOf words s = words ≡ function_words s
+-- words lay out a function and a machine in columns
+pub record AreWordsOf (words : List ℕ) (f : FunctionValue) (env : MachineValue) : Type 0 where
+  pub sound : AreSoundColumns words
+  pub function : IsLaidOutAs words f
+  pub machine : IsMachineOf words env
 
+-- why words lay out none
+abbrev pub AreUnreadWords : List ℕ → Failure → Type 0
+AreUnreadWords words e = (fault : StoredFault) × (e ≡ columns_failure fault) × IsColumnsFault words fault
+
+-- a JSON text has the numbers of a function; of any other text no more is said than that it is one
 abbrev pub IsJsonOf : List ℕ → StoredFunction Global → Type 0
 IsJsonOf bytes s = IsUtf8 bytes × (d : Data) × (read bytes ≡ Some d) × IsFunctionAt d s
 
-abbrev pub IsTextOf : List ℕ → StoredFunction Global → Type 0
-IsTextOf bytes s = IsUtf8 bytes
+abbrev pub IsTextInput : List ℕ → StoredFunction Global → Type 0
+IsTextInput bytes s = IsUtf8 bytes
 
--- why an input of so many lines isn't read: it lays out no function, a line can't be read, or memory ran out; words and JSON have no lines
-abbrev pub IsUnread : (StoredFunction Global → Type 0) → ℕ → Failure → Type 0
-IsUnread Lays lines Unreadable = (s : StoredFunction Global) → Lays s → ⊥
-IsUnread Lays lines (BadMachine m) = ⊥
-IsUnread Lays lines NoRoom = ⊥
-IsUnread Lays lines (Faults v) = ⊥
-IsUnread Lays lines NoMemory = Unit {0}
-IsUnread Lays lines NotFramed = ⊥
-IsUnread Lays lines BadOutput = ⊥
-IsUnread Lays lines ReadBeforeWritten = ⊥
-IsUnread Lays lines (BadText line column) = (1 ≤ line) × (line ≤ lines) × (1 ≤ column)
-IsUnread Lays lines (BadFunction fault) = ⊥
-IsUnread Lays lines (Refused error) = ⊥
+-- why an input of so many lines gives no numbers: it has none, a line can't be read, or memory ran out; JSON has no lines
+abbrev pub HasNoNumbers : (StoredFunction Global → Type 0) → ℕ → Failure → Type 0
+HasNoNumbers Lays lines Unreadable = (s : StoredFunction Global) → Lays s → ⊥
+HasNoNumbers Lays lines (BadMachine m) = ⊥
+HasNoNumbers Lays lines NoRoom = ⊥
+HasNoNumbers Lays lines (Faults v) = ⊥
+HasNoNumbers Lays lines NoMemory = Unit {0}
+HasNoNumbers Lays lines NotFramed = ⊥
+HasNoNumbers Lays lines BadOutput = ⊥
+HasNoNumbers Lays lines ReadBeforeWritten = ⊥
+HasNoNumbers Lays lines (BadText line column) = (1 ≤ line) × (line ≤ lines) × (1 ≤ column)
+HasNoNumbers Lays lines (BadFunction fault) = ⊥
+HasNoNumbers Lays lines (Refused error) = ⊥
 
 -- the failure where a text isn't read
 abbrev pub IsTextFailure : TextError → Failure → Type 0
@@ -73,7 +83,18 @@ pub record NumbersNameFunction (s : StoredFunction Global) (f : FunctionValue) (
   pub function : NamesFunction s f
   pub machine : NamesMachine s.machine_env env
 
--- and an output
+-- the numbers of an input name a function and a machine
+abbrev pub NumbersName : (StoredFunction Global → Type 0) → FunctionValue → MachineValue → Type 0
+NumbersName Lays f env = (s : StoredFunction Global) × Lays s × NumbersNameFunction s f env
+
+-- why they name none
+abbrev pub IsBadFunction : StoredFunction Global → Failure → Type 0
+IsBadFunction s e = (fault : StoredFault) × (e ≡ BadFunction fault) × IsFaultOf s fault
+
+abbrev pub NumbersNameNone : (StoredFunction Global → Type 0) → ℕ → Failure → Type 0
+NumbersNameNone Lays lines e = HasNoNumbers Lays lines e ⊎ ((s : StoredFunction Global) × Lays s × IsBadFunction s e)
+
+-- numbers name an output
 abbrev pub NumbersNameOutput : StoredOutput Global → OutputValue → Type 0
 NumbersNameOutput o out = NamesValues o × (out ≡ output_of_stored o)
 
@@ -95,22 +116,16 @@ pub record IsOutput (Lays : StoredOutput Global → Type 0) (out : OutputValue) 
   pub names : NumbersNameOutput stored out
 
 -- words are those of an output of a function, with all that `allocate` guarantees
-pub record IsAllocatedOutput (s : StoredFunction Global) (words : List ℕ) : Type 0 where
-  pub f : FunctionValue
-  pub env : MachineValue
+pub record IsAllocatedOutput (f : FunctionValue) (env : MachineValue) (words : List ℕ) : Type 0 where
   pub out : OutputValue
-  pub given : NumbersNameFunction s f env
   pub output : IsOutput (AreOutputWords words) out
   pub well_formed : IsWellFormed env f
   pub allocation : IsAllocation f env out
   pub faithful : IsFaithful f env out
 
 -- or that `run_tested` guarantees
-pub record IsTestedOutput (s : StoredFunction Global) (words : List ℕ) : Type 0 where
-  pub f : FunctionValue
-  pub env : MachineValue
+pub record IsTestedOutput (f : FunctionValue) (env : MachineValue) (words : List ℕ) : Type 0 where
   pub out : OutputValue
-  pub given : NumbersNameFunction s f env
   pub output : IsOutput (AreOutputWords words) out
   pub well_formed : IsWellFormed env f
   pub allocation : IsAllocation f env out
@@ -118,54 +133,46 @@ pub record IsTestedOutput (s : StoredFunction Global) (words : List ℕ) : Type 
   pub live : LiveInSlots f out
   pub written : IsWrittenFirst f
 
--- why a function that numbers name has no output, with or without the checker
-abbrev pub IsMisfitOf : StoredFunction Global → MachineMisfit → Type 0
-IsMisfitOf s m = (f : FunctionValue) × (env : MachineValue) × NumbersNameFunction s f env × IsMisfit f env m × (MachineFits f env → ⊥)
-
-abbrev pub IsRefusalOf : StoredFunction Global → RegAllocError → Type 0
-IsRefusalOf s error = (f : FunctionValue) × (env : MachineValue) × NumbersNameFunction s f env × MachineFits f env × IsReason f env true error
-
 -- why nothing is allocated to a function
-abbrev pub IsAllocateFailure : StoredFunction Global → Failure → Type 0
-IsAllocateFailure s Unreadable = ⊥
-IsAllocateFailure s (BadMachine m) = IsMisfitOf s m
-IsAllocateFailure s NoRoom = (words : List ℕ) × IsAllocatedOutput s words × HasLongWord words
-IsAllocateFailure s (Faults v) = (f : FunctionValue) × (env : MachineValue) × (out : OutputValue) × NumbersNameFunction s f env × IsAllocation f env out
-    × (IsFaithful f env out → ⊥) × (es : List (CheckerError Global)) × IsReport f env out es × (v.items ≡ faults_words f out es)
-IsAllocateFailure s NoMemory = Unit {0}
-IsAllocateFailure s NotFramed = ⊥
-IsAllocateFailure s BadOutput = ⊥
-IsAllocateFailure s ReadBeforeWritten = ⊥
-IsAllocateFailure s (BadText line column) = ⊥
-IsAllocateFailure s (BadFunction fault) = IsFaultOf s fault
-IsAllocateFailure s (Refused error) = IsRefusalOf s error
+abbrev pub IsAllocateFailure : FunctionValue → MachineValue → Failure → Type 0
+IsAllocateFailure f env Unreadable = ⊥
+IsAllocateFailure f env (BadMachine m) = IsMisfit f env m × (MachineFits f env → ⊥)
+IsAllocateFailure f env NoRoom = (words : List ℕ) × IsAllocatedOutput f env words × HasLongWord words
+IsAllocateFailure f env (Faults v) = (out : OutputValue) × IsAllocation f env out × (IsFaithful f env out → ⊥)
+    × (es : List (CheckerError Global)) × IsReport f env out es × (v.items ≡ faults_words f out es)
+IsAllocateFailure f env NoMemory = Unit {0}
+IsAllocateFailure f env NotFramed = ⊥
+IsAllocateFailure f env BadOutput = ⊥
+IsAllocateFailure f env ReadBeforeWritten = ⊥
+IsAllocateFailure f env (BadText line column) = ⊥
+IsAllocateFailure f env (BadFunction fault) = ⊥
+IsAllocateFailure f env (Refused error) = MachineFits f env × IsReason f env true error
 
 -- why a tested run gives none
-abbrev pub IsRunFailure : StoredFunction Global → Failure → Type 0
-IsRunFailure s Unreadable = ⊥
-IsRunFailure s (BadMachine m) = IsMisfitOf s m
-IsRunFailure s NoRoom = (words : List ℕ) × IsTestedOutput s words × HasLongWord words
-IsRunFailure s (Faults v) = ⊥
-IsRunFailure s NoMemory = Unit {0}
-IsRunFailure s NotFramed = ⊥
-IsRunFailure s BadOutput = ⊥
-IsRunFailure s ReadBeforeWritten = (f : FunctionValue) × (env : MachineValue) × NumbersNameFunction s f env × MachineFits f env
-    × PassesAllChecks f env true × (IsWrittenFirst f → ⊥)
-IsRunFailure s (BadText line column) = ⊥
-IsRunFailure s (BadFunction fault) = IsFaultOf s fault
-IsRunFailure s (Refused error) = IsRefusalOf s error
+abbrev pub IsRunFailure : FunctionValue → MachineValue → Failure → Type 0
+IsRunFailure f env Unreadable = ⊥
+IsRunFailure f env (BadMachine m) = IsMisfit f env m × (MachineFits f env → ⊥)
+IsRunFailure f env NoRoom = (words : List ℕ) × IsTestedOutput f env words × HasLongWord words
+IsRunFailure f env (Faults v) = ⊥
+IsRunFailure f env NoMemory = Unit {0}
+IsRunFailure f env NotFramed = ⊥
+IsRunFailure f env BadOutput = ⊥
+IsRunFailure f env ReadBeforeWritten = MachineFits f env × PassesAllChecks f env true × (IsWrittenFirst f → ⊥)
+IsRunFailure f env (BadText line column) = ⊥
+IsRunFailure f env (BadFunction fault) = ⊥
+IsRunFailure f env (Refused error) = MachineFits f env × IsReason f env true error
 
--- what is found for an input: words of the function that it lays out; or a failure: it isn't read, or that is why its function has none
-abbrev pub IsFound : (Lays : StoredFunction Global → Type 0) → ℕ → (Are : StoredFunction Global → List ℕ → Type 0) →
-    (Why : StoredFunction Global → Failure → Type 0) → Result (Vec ℕ) Failure → Type 0
-IsFound Lays lines Are Why (Ok v) = (s : StoredFunction Global) × Lays s × Are s v.items
-IsFound Lays lines Are Why (Err e) = IsUnread Lays lines e ⊎ ((s : StoredFunction Global) × Lays s × Why s e)
+-- what an input comes to: words for the function and the machine that it names; or a failure: it names none, or that is why there are no words
+abbrev pub ComesTo : (Names : FunctionValue → MachineValue → Type 0) (None : Failure → Type 0)
+    (Are : FunctionValue → MachineValue → List ℕ → Type 0) (Why : FunctionValue → MachineValue → Failure → Type 0) → Result (Vec ℕ) Failure → Type 0
+ComesTo Names None Are Why (Ok v) = (f : FunctionValue) × (env : MachineValue) × Names f env × Are f env v.items
+ComesTo Names None Are Why (Err e) = None e ⊎ ((f : FunctionValue) × (env : MachineValue) × Names f env × Why f env e)
 
-abbrev pub IsAllocationFound : (StoredFunction Global → Type 0) → ℕ → Result (Vec ℕ) Failure → Type 0
-IsAllocationFound Lays lines found = IsFound Lays lines IsAllocatedOutput IsAllocateFailure found
+abbrev pub IsAllocationFound : (FunctionValue → MachineValue → Type 0) → (Failure → Type 0) → Result (Vec ℕ) Failure → Type 0
+IsAllocationFound Names None found = ComesTo Names None IsAllocatedOutput IsAllocateFailure found
 
-abbrev pub IsRunFound : (StoredFunction Global → Type 0) → Result (Vec ℕ) Failure → Type 0
-IsRunFound Lays found = IsFound Lays 0 IsTestedOutput IsRunFailure found
+abbrev pub IsRunFound : List ℕ → Result (Vec ℕ) Failure → Type 0
+IsRunFound words found = ComesTo (AreWordsOf words) (AreUnreadWords words) IsTestedOutput IsRunFailure found
 
 -- the status and the words of what is found
 abbrev pub status_of : Result (Vec ℕ) Failure → ℕ
@@ -177,28 +184,25 @@ result_of (Ok v) = v.items
 result_of (Err e) = failure_words e
 
 -- a status and its words are handed out if there is room for the words; else nothing is written, and the status says so
-abbrev pub IsGiven : ℕ → List ℕ → List ℕ → List ℕ → ℕ → Type 0
-IsGiven status words old now got = ((length words ≤ length old) × (got ≡ status) × (take (length words) now ≡ words))
+abbrev pub IsWrittenOut : ℕ → List ℕ → List ℕ → List ℕ → ℕ → Type 0
+IsWrittenOut status words old now got = ((length words ≤ length old) × (got ≡ status) × (take (length words) now ≡ words))
     ⊎ ((length old < length words) × (got ≡ failure_number NoRoom) × (now ≡ old))
 
 -- how many words there are is reported whether or not there is room for them
 pub record IsHandedOut (found : Result (Vec ℕ) Failure) (old now : List ℕ) (needed got : ℕ) : Type 0 where
   pub needed_words : needed ≡ length (result_of found)
-  pub given : IsGiven (status_of found) (result_of found) old now got
+  pub given : IsWrittenOut (status_of found) (result_of found) old now got
 
--- what a call comes to
-abbrev pub IsAllocateOutcome : (StoredFunction Global → Type 0) → ℕ → List ℕ → List ℕ → ℕ → ℕ → Type 0
-IsAllocateOutcome Lays lines old now needed got = (found : Result (Vec ℕ) Failure) × IsAllocationFound Lays lines found × IsHandedOut found old now needed got
+-- what a call hands out
+abbrev pub IsAllocateOutcome : (FunctionValue → MachineValue → Type 0) → (Failure → Type 0) → List ℕ → List ℕ → ℕ → ℕ → Type 0
+IsAllocateOutcome Names None old now needed got = (found : Result (Vec ℕ) Failure) × IsAllocationFound Names None found × IsHandedOut found old now needed got
 
 abbrev pub IsRunOutcome : List ℕ → List ℕ → List ℕ → ℕ → ℕ → Type 0
-IsRunOutcome input old now needed got = (found : Result (Vec ℕ) Failure) × IsRunFound (AreWordsOf input) found × IsHandedOut found old now needed got
+IsRunOutcome words old now needed got = (found : Result (Vec ℕ) Failure) × IsRunFound words found × IsHandedOut found old now needed got
 
 -- an output that the checker accepts: it is well-ordered and faithful, and its places are cells of their own
-pub record IsAcceptedOutput (Outs : StoredOutput Global → Type 0) (s : StoredFunction Global) : Type 0 where
-  pub f : FunctionValue
-  pub env : MachineValue
+pub record IsAcceptedOutput (Outs : StoredOutput Global → Type 0) (f : FunctionValue) (env : MachineValue) : Type 0 where
   pub out : OutputValue
-  pub given : NumbersNameFunction s f env
   pub output : IsOutput Outs out
   pub in_order : IsInOrder f out
   pub faithful : IsFaithful f env out
@@ -218,55 +222,38 @@ IsNoStoredOutput Outs (BadText line column) = ⊥
 IsNoStoredOutput Outs (BadFunction fault) = ⊥
 IsNoStoredOutput Outs (Refused error) = ⊥
 
--- why no output of a function can be checked
-abbrev pub IsNotFramed : StoredFunction Global → Type 0
-IsNotFramed s = (f : FunctionValue) × (env : MachineValue) × NumbersNameFunction s f env × (IsFramed f → ⊥)
-
-abbrev pub IsFunctionFailure : StoredFunction Global → Failure → Type 0
-IsFunctionFailure s Unreadable = ⊥
-IsFunctionFailure s (BadMachine m) = ⊥
-IsFunctionFailure s NoRoom = ⊥
-IsFunctionFailure s (Faults v) = ⊥
-IsFunctionFailure s NoMemory = ⊥
-IsFunctionFailure s NotFramed = IsNotFramed s
-IsFunctionFailure s BadOutput = ⊥
-IsFunctionFailure s ReadBeforeWritten = ⊥
-IsFunctionFailure s (BadText line column) = ⊥
-IsFunctionFailure s (BadFunction fault) = IsFaultOf s fault
-IsFunctionFailure s (Refused error) = ⊥
-
 -- why an output isn't accepted
-abbrev pub IsCheckFailure : (StoredOutput Global → Type 0) → StoredFunction Global → Failure → Type 0
-IsCheckFailure Outs s Unreadable = (o : StoredOutput Global) → Outs o → ⊥
-IsCheckFailure Outs s (BadMachine m) = ⊥
-IsCheckFailure Outs s NoRoom = ⊥
-IsCheckFailure Outs s (Faults v) = (f : FunctionValue) × (env : MachineValue) × (out : OutputValue) × NumbersNameFunction s f env × IsOutput Outs out
+abbrev pub IsCheckFailure : (StoredOutput Global → Type 0) → FunctionValue → MachineValue → Failure → Type 0
+IsCheckFailure Outs f env Unreadable = (o : StoredOutput Global) → Outs o → ⊥
+IsCheckFailure Outs f env (BadMachine m) = ⊥
+IsCheckFailure Outs f env NoRoom = ⊥
+IsCheckFailure Outs f env (Faults v) = (out : OutputValue) × IsOutput Outs out
     × (IsInOrder f out × IsFaithful f env out × AreCells f env out → ⊥) × AreFaultsOf f env out v.items
-IsCheckFailure Outs s NoMemory = Unit {0}
-IsCheckFailure Outs s NotFramed = IsNotFramed s
-IsCheckFailure Outs s BadOutput = (o : StoredOutput Global) × Outs o × (NamesValues o → ⊥)
-IsCheckFailure Outs s ReadBeforeWritten = ⊥
-IsCheckFailure Outs s (BadText line column) = ⊥
-IsCheckFailure Outs s (BadFunction fault) = IsFaultOf s fault
-IsCheckFailure Outs s (Refused error) = ⊥
+IsCheckFailure Outs f env NoMemory = Unit {0}
+IsCheckFailure Outs f env NotFramed = IsFramed f → ⊥
+IsCheckFailure Outs f env BadOutput = (o : StoredOutput Global) × Outs o × (NamesValues o → ⊥)
+IsCheckFailure Outs f env ReadBeforeWritten = ⊥
+IsCheckFailure Outs f env (BadText line column) = ⊥
+IsCheckFailure Outs f env (BadFunction fault) = ⊥
+IsCheckFailure Outs f env (Refused error) = ⊥
 
 -- an output that is accepted takes no words
-abbrev pub IsJudgeFound : (StoredFunction Global → Type 0) → (StoredOutput Global → Type 0) → Result (Vec ℕ) Failure → Type 0
-IsJudgeFound Lays Outs found = IsFound Lays 0 (λ s words. (words ≡ []) × IsAcceptedOutput Outs s) (IsCheckFailure Outs) found
+abbrev pub IsJudgeFound : List ℕ → (StoredOutput Global → Type 0) → Result (Vec ℕ) Failure → Type 0
+IsJudgeFound words Outs found = ComesTo (AreWordsOf words) (AreUnreadWords words) (λ f env ws. (ws ≡ []) × IsAcceptedOutput Outs f env)
+    (IsCheckFailure Outs) found
 
 abbrev pub IsJudgeOutcome : List ℕ → (StoredOutput Global → Type 0) → List ℕ → List ℕ → ℕ → ℕ → Type 0
-IsJudgeOutcome input Outs old now needed got = (found : Result (Vec ℕ) Failure) × IsJudgeFound (AreWordsOf input) Outs found
-    × IsHandedOut found old now needed got
+IsJudgeOutcome words Outs old now needed got = (found : Result (Vec ℕ) Failure) × IsJudgeFound words Outs found × IsHandedOut found old now needed got
 
--- the function isn't read, or the output isn't accepted
+-- the words lay out no function, or its output isn't accepted
 abbrev pub IsNotAccepted : List ℕ → List ℕ → Failure → Type 0
-IsNotAccepted input words e = IsUnread (AreWordsOf input) 0 e
-    ⊎ ((s : StoredFunction Global) × AreWordsOf input s × IsCheckFailure (AreOutputWords words) s e)
+IsNotAccepted words output e = AreUnreadWords words e
+    ⊎ ((f : FunctionValue) × (env : MachineValue) × AreWordsOf words f env × IsCheckFailure (AreOutputWords output) f env e)
 
 abbrev pub IsCheckOutcome : List ℕ → List ℕ → ℕ → Type 0
-IsCheckOutcome input words status =
-    ((status ≡ 0) × (s : StoredFunction Global) × AreWordsOf input s × IsAcceptedOutput (AreOutputWords words) s)
-    ⊎ ((e : Failure) × (status ≡ failure_number e) × IsNotAccepted input words e)
+IsCheckOutcome words output status =
+    ((status ≡ 0) × (f : FunctionValue) × (env : MachineValue) × AreWordsOf words f env × IsAcceptedOutput (AreOutputWords output) f env)
+    ⊎ ((e : Failure) × (status ≡ failure_number e) × IsNotAccepted words output e)
 
 -- a text of which so many bytes are written as there is room for, and how many it has
 abbrev pub IsTold : List ℕ → List ℕ → ℕ → Type 0

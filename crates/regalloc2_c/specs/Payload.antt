@@ -35,18 +35,18 @@ misfit_words (SlotIsScratch class r) = 9 ∷ class_code class ∷ bits_of_regist
 misfit_words (NoRegister class) = 10 ∷ class_code class ∷ none ∷ []
 
 -- two blocks, an instruction, and a vreg
-abbrev pub refusal_words : RegAllocError → List ℕ
-refusal_words (CritEdge p b) = p ∷ b ∷ none ∷ none ∷ []
-refusal_words (SSA v i) = none ∷ none ∷ i ∷ bits_of_vreg v ∷ []
-refusal_words (BB b) = b ∷ none ∷ none ∷ none ∷ []
-refusal_words (Branch i) = none ∷ none ∷ i ∷ none ∷ []
-refusal_words EntryLivein = none ∷ none ∷ none ∷ none ∷ []
-refusal_words (DisallowedBranchArg i) = none ∷ none ∷ i ∷ none ∷ []
-refusal_words TooManyLiveRegs = none ∷ none ∷ none ∷ none ∷ []
-refusal_words TooManyOperands = none ∷ none ∷ none ∷ none ∷ []
-refusal_words (Unsupported i) = none ∷ none ∷ i ∷ none ∷ []
-refusal_words TooManySpillSlots = none ∷ none ∷ none ∷ none ∷ []
-refusal_words Memory = none ∷ none ∷ none ∷ none ∷ []
+abbrev pub refusal_payload : RegAllocError → List ℕ
+refusal_payload (CritEdge p b) = p ∷ b ∷ none ∷ none ∷ []
+refusal_payload (SSA v i) = none ∷ none ∷ i ∷ bits_of_vreg v ∷ []
+refusal_payload (BB b) = b ∷ none ∷ none ∷ none ∷ []
+refusal_payload (Branch i) = none ∷ none ∷ i ∷ none ∷ []
+refusal_payload EntryLivein = none ∷ none ∷ none ∷ none ∷ []
+refusal_payload (DisallowedBranchArg i) = none ∷ none ∷ i ∷ none ∷ []
+refusal_payload TooManyLiveRegs = none ∷ none ∷ none ∷ none ∷ []
+refusal_payload TooManyOperands = none ∷ none ∷ none ∷ none ∷ []
+refusal_payload (Unsupported i) = none ∷ none ∷ i ∷ none ∷ []
+refusal_payload TooManySpillSlots = none ∷ none ∷ none ∷ none ∷ []
+refusal_payload Memory = none ∷ none ∷ none ∷ none ∷ []
 
 -- the words of a failure beside its number; a text has a line and a column
 abbrev pub failure_words : Failure → List ℕ
@@ -60,4 +60,4 @@ failure_words BadOutput = []
 failure_words ReadBeforeWritten = []
 failure_words (BadText line column) = line ∷ column ∷ []
 failure_words (BadFunction fault) = []
-failure_words (Refused error) = refusal_words error
+failure_words (Refused error) = refusal_payload error

@@ -39,6 +39,15 @@ run_failure (Misfit m) = BadMachine m
 run_failure (RunRefused error) = Refused error
 run_failure RunReads = ReadBeforeWritten
 
+-- where words are read in columns
+abbrev pub columns_failure : StoredFault → Failure
+columns_failure Shape = Unreadable
+columns_failure Lengths = BadFunction Lengths
+columns_failure Index = BadFunction Index
+columns_failure Bits = BadFunction Bits
+columns_failure Limit = BadFunction Limit
+columns_failure Memory = NoMemory
+
 -- where numbers are read
 abbrev pub read_failure : StoredFault → Failure
 read_failure Shape = Unreadable

@@ -1,7 +1,7 @@
 //! Why a call gives nothing.
 
 ghost use Rattle.std.specs.Prelude.{◌≡◌};
-ghost use Rattle.regalloc2_c.specs.Status.{failure_number, allocate_failure, run_failure, read_failure, write_failure};
+ghost use Rattle.regalloc2_c.specs.Status.{failure_number, allocate_failure, run_failure, columns_failure, read_failure, write_failure};
 
 use regalloc2::serialize::StoredFault;
 use regalloc2::{AllocateError, RegAllocError, TestedRunError};
@@ -73,6 +73,17 @@ pub fn failure_of_run(error: &TestedRunError) -> Failure
         TestedRunError::Misfit(misfit) => Failure::BadMachine(*misfit),
         TestedRunError::Refused(error) => Failure::Refused(*error),
         TestedRunError::ReadBeforeWritten => Failure::ReadBeforeWritten,
+    }
+}
+
+/// The failure where words are read in columns.
+pub fn failure_of_columns(fault: StoredFault) -> Failure
+    ensures { result ≡ columns_failure fault }
+{
+    match fault {
+        StoredFault::Shape => Failure::Unreadable,
+        StoredFault::Memory => Failure::NoMemory,
+        _ => Failure::BadFunction(fault),
     }
 }
 

@@ -5,23 +5,21 @@ ghost use Rattle.regalloc2_names.specs.Operand.{OperandValue};
 ghost use Rattle.regalloc2_names.specs.RegisterBits.{bits_of_vreg};
 ghost use Rattle.regalloc2.specs.Views.{output_of};
 ghost use Rattle.regalloc2_function.specs.OutputValue.{IsInOrder, place_at};
-ghost use Rattle.regalloc2_serialize.specs.Tables.{function_of_serializable};
 ghost use Rattle.regalloc2_c.specs.Faults.{first_index, is_placed, operand_index, operand_head, fault_head, fault_words, faults_words, cell_fault_words};
 ghost use Rattle.regalloc2_c.specs.Faults.{malformed_words, IsFaultsTold, IsErrorsFailure, IsCellsTold, fault_vregs};
 
 use super::failure::Failure;
 use super::words::{NONE, word_of};
 use regalloc2::checker::CheckerError;
-use regalloc2::serialize::SerializableFunction;
 use regalloc2::{Allocation, Function, Inst, Operand, Output, VReg};
 use regalloc2_checker::CellFault;
 use std::alloc::{AllocError, Global};
 
 /// A function and an output of it.
-#[derive(Clone, Copy)]
-pub struct Judged<'a> {
+#[derive(Drop)]
+pub struct Judged<'a, F: Function> {
     /// The function.
-    pub f: &'a SerializableFunction,
+    pub f: &'a F,
     /// The output.
     pub output: &'a Output,
 }
@@ -64,15 +62,15 @@ fn index_of(operands: &[Operand], places: &[Allocation], op: Operand, place: All
 }
 
 /// The index of the first operand of an instruction with that word that is in that place, as a word.
-fn index_in(
-    f: &SerializableFunction,
+fn index_in<F: Function>(
+    f: &F,
     output: &Output,
     inst: Inst,
     op: Operand,
     place: Allocation,
 ) -> u32
-    requires { IsInOrder (function_of_serializable f.now) (output_of output.now) }
-    ensures { result ≡ operand_index (function_of_serializable f.now) (output_of output.now) inst op place }
+    requires { IsInOrder (F.function f.now) (output_of output.now) }
+    ensures { result ≡ operand_index (F.function f.now) (output_of output.now) inst op place }
 {
     if inst.index() < f.num_insts() {
         index_of(f.inst_operands(inst), output.inst_allocs(inst), op, place)
@@ -83,8 +81,8 @@ fn index_in(
 
 /// The words of a fault of an operand: the fault's number, the instruction, the operand's index, the operand, its place, another place and a
 /// bound.
-fn of_operand(
-    judged: Judged<'_>,
+fn of_operand<F: Function>(
+    judged: &Judged<'_, F>,
     number: u32,
     inst: Inst,
     op: Operand,
@@ -92,8 +90,8 @@ fn of_operand(
     other: Allocation,
     bound: u32,
 ) -> [u32; 8]
-    requires { IsInOrder (function_of_serializable judged.entry.f.now) (output_of judged.entry.output.now) }
-    ensures { result ≡ operand_head (function_of_serializable judged.entry.f.now) (output_of judged.entry.output.now) number inst op place other bound }
+    requires { IsInOrder (F.function judged.now.f.now) (output_of judged.now.output.now) }
+    ensures { result ≡ operand_head (F.function judged.now.f.now) (output_of judged.now.output.now) number inst op place other bound }
 {
     let bits = op.bits();
     [
@@ -109,9 +107,9 @@ fn of_operand(
 }
 
 /// The words of a fault up to the list of vregs.
-fn head_of(judged: Judged<'_>, error: &CheckerError) -> [u32; 8]
-    requires { IsInOrder (function_of_serializable judged.entry.f.now) (output_of judged.entry.output.now) }
-    ensures { result ≡ fault_head (function_of_serializable judged.entry.f.now) (output_of judged.entry.output.now) error.now }
+fn head_of<F: Function>(judged: &Judged<'_, F>, error: &CheckerError) -> [u32; 8]
+    requires { IsInOrder (F.function judged.now.f.now) (output_of judged.now.output.now) }
+    ensures { result ≡ fault_head (F.function judged.now.f.now) (output_of judged.now.output.now) error.now }
 {
     let none = Allocation::none();
     match error {
@@ -204,9 +202,9 @@ fn vregs_of(error: &CheckerError) -> &[VReg]
 }
 
 /// Adds the words of a fault to others.
-fn push_fault(to: &mut Vec<u32>, judged: Judged<'_>, error: &CheckerError) -> Result<(), AllocError>
-    requires { IsInOrder (function_of_serializable judged.entry.f.now) (output_of judged.entry.output.now) }
-    ensures { OnOk result (to.new.items ≡ to.old.items ++ fault_words (function_of_serializable judged.entry.f.now) (output_of judged.entry.output.now) error.now) }
+fn push_fault<F: Function>(to: &mut Vec<u32>, judged: &Judged<'_, F>, error: &CheckerError) -> Result<(), AllocError>
+    requires { IsInOrder (F.function judged.now.f.now) (output_of judged.now.output.now) }
+    ensures { OnOk result (to.new.items ≡ to.old.items ++ fault_words (F.function judged.now.f.now) (output_of judged.now.output.now) error.now) }
 {
     let head = head_of(judged, error);
     let vregs = vregs_of(error);
@@ -216,13 +214,13 @@ fn push_fault(to: &mut Vec<u32>, judged: Judged<'_>, error: &CheckerError) -> Re
 }
 
 /// Adds the words of faults to others.
-fn push_faults(
+fn push_faults<F: Function>(
     to: &mut Vec<u32>,
-    judged: Judged<'_>,
+    judged: &Judged<'_, F>,
     errors: &[CheckerError],
 ) -> Result<(), AllocError>
-    requires { IsInOrder (function_of_serializable judged.entry.f.now) (output_of judged.entry.output.now) }
-    ensures { OnOk result (to.new.items ≡ to.old.items ++ faults_words (function_of_serializable judged.entry.f.now) (output_of judged.entry.output.now) errors.now) }
+    requires { IsInOrder (F.function judged.now.f.now) (output_of judged.now.output.now) }
+    ensures { OnOk result (to.new.items ≡ to.old.items ++ faults_words (F.function judged.now.f.now) (output_of judged.now.output.now) errors.now) }
 {
     push_length(to, errors.len())?;
     for k in 0..errors.len() {
@@ -232,9 +230,9 @@ fn push_faults(
 }
 
 /// The failure that tells these faults.
-fn faults_failure(alloc: Global, judged: Judged<'_>, errors: &[CheckerError]) -> Failure
-    requires { IsInOrder (function_of_serializable judged.entry.f.now) (output_of judged.entry.output.now) }
-    ensures { IsFaultsTold (faults_words (function_of_serializable judged.entry.f.now) (output_of judged.entry.output.now) errors.now) result }
+fn faults_failure<F: Function>(alloc: Global, judged: &Judged<'_, F>, errors: &[CheckerError]) -> Failure
+    requires { IsInOrder (F.function judged.now.f.now) (output_of judged.now.output.now) }
+    ensures { IsFaultsTold (faults_words (F.function judged.now.f.now) (output_of judged.now.output.now) errors.now) result }
 {
     let mut words = Vec::new(alloc);
     match push_faults(&mut words, judged, errors) {
@@ -244,9 +242,9 @@ fn faults_failure(alloc: Global, judged: Judged<'_>, errors: &[CheckerError]) ->
 }
 
 /// The failure that the checker's errors come to: they are `Memory` alone where memory was refused.
-pub fn failure_of_errors(alloc: Global, judged: Judged<'_>, errors: &[CheckerError]) -> Failure
-    requires { IsInOrder (function_of_serializable judged.entry.f.now) (output_of judged.entry.output.now) }
-    ensures { IsErrorsFailure (function_of_serializable judged.entry.f.now) (output_of judged.entry.output.now) errors.now result }
+pub fn failure_of_errors<F: Function>(alloc: Global, judged: &Judged<'_, F>, errors: &[CheckerError]) -> Failure
+    requires { IsInOrder (F.function judged.now.f.now) (output_of judged.now.output.now) }
+    ensures { IsErrorsFailure (F.function judged.now.f.now) (output_of judged.now.output.now) errors.now result }
 {
     match errors {
         [CheckerError::Memory] => Failure::NoMemory,

@@ -1,7 +1,7 @@
 //! Hands out a result: a status, words if there is room for them, and how many there are.
 
 ghost use Rattle.std.specs.Prelude.{◌≡◌, ◌≤◌, length, Err};
-ghost use Rattle.regalloc2_c.specs.Outcome.{IsGiven, IsHandedOut};
+ghost use Rattle.regalloc2_c.specs.Outcome.{IsWrittenOut, IsHandedOut};
 
 use super::failure::{Failure, number_of};
 use super::payload::{words_of_misfit, words_of_refusal};
@@ -11,7 +11,7 @@ fn give(status: u32, words: &[u32], out: &mut [u32], needed: &mut usize) -> u32
     requires { status ≤ 31 }
     ensures status { result ≤ 31 }
     ensures needed { needed.new ≡ length words.now }
-    ensures given { IsGiven status words.now out.old out.new result }
+    ensures given { IsWrittenOut status words.now out.old out.new result }
 {
     let count = words.len();
     *needed = count;

@@ -9,17 +9,16 @@ ghost use Rattle.regalloc2.specs.Stored.{NamesValues};
 ghost use Rattle.regalloc2.specs.WellFormed.{IsFramed};
 ghost use Rattle.regalloc2_checker.specs.Cells.{AreCells};
 ghost use Rattle.regalloc2_serialize.specs.Flat.Flat.{words_of_triple};
-ghost use Rattle.regalloc2_serialize.specs.Tables.{function_of_serializable};
 ghost use Rattle.regalloc2_c.specs.Faults.{IsCheckerVerdict, IsVerdict};
-ghost use Rattle.regalloc2_c.specs.Outcome.{AreWordsOf, AreOutputWords, ArePartsOf, NumbersNameFunction, NumbersNameOutput};
-ghost use Rattle.regalloc2_c.specs.Outcome.{IsNoStoredOutput, IsFunctionFailure, IsAcceptedOutput, IsCheckFailure, IsJudgeFound};
+ghost use Rattle.regalloc2_c.specs.Outcome.{AreOutputWords, ArePartsOf, NumbersNameOutput};
+ghost use Rattle.regalloc2_c.specs.Outcome.{IsNoStoredOutput, IsAcceptedOutput, IsCheckFailure, IsJudgeFound};
 
 use super::failure::{Failure, failure_to_read};
 use super::faults::{Judged, failure_of_cells, failure_of_errors, malformed};
-use super::reading::stored_from_words;
+use super::reading::function_from_words;
 use regalloc2::checker::{Checker, CheckerError};
-use regalloc2::serialize::{SerializableFunction, StoredFault, StoredFunction, StoredOutput};
-use regalloc2::{Output, is_framed};
+use regalloc2::serialize::{StoredFault, StoredOutput};
+use regalloc2::{Function, MachineEnv, Output, is_framed};
 use regalloc2_checker::test_cells;
 use regalloc2_serialize::flat::value_of;
 use std::alloc::Global;
@@ -38,13 +37,18 @@ pub struct Parts<'a> {
 }
 
 /// Has the checker judge an output.
-pub fn checked(alloc: Global, f: &SerializableFunction, output: &Output) -> Result<(), Failure>
-    requires framed { IsFramed (function_of_serializable f.now) }
-    ensures ok { OnOk result (IsInOrder (function_of_serializable f.now) (output_of output.now)
-        × IsFaithful (function_of_serializable f.now) (machine_of f.now.machine) (output_of output.now)) }
-    ensures err { IfErr result (IsCheckerVerdict (function_of_serializable f.now) (machine_of f.now.machine) (output_of output.now)) }
+pub fn checked<F: Function>(
+    alloc: Global,
+    f: &F,
+    env: &MachineEnv,
+    output: &Output,
+) -> Result<(), Failure>
+    requires framed { IsFramed (F.function f.now) }
+    ensures ok { OnOk result (IsInOrder (F.function f.now) (output_of output.now)
+        × IsFaithful (F.function f.now) (machine_of env.now) (output_of output.now)) }
+    ensures err { IfErr result (IsCheckerVerdict (F.function f.now) (machine_of env.now) (output_of output.now)) }
 {
-    let Ok(mut checker) = Checker::new(alloc, f, f.machine_env()) else {
+    let Ok(mut checker) = Checker::new(alloc, f, env) else {
         return Err(Failure::NoMemory);
     };
     match checker.prepare(output) {
@@ -54,23 +58,28 @@ pub fn checked(alloc: Global, f: &SerializableFunction, output: &Output) -> Resu
     }
     match checker.run() {
         Ok(()) => Ok(()),
-        Err(errors) => Err(failure_of_errors(alloc, Judged { f, output }, errors.errors())),
+        Err(errors) => Err(failure_of_errors(alloc, &Judged { f, output }, errors.errors())),
     }
 }
 
 /// Runs the checker on an output, and tests that its places are cells of their own.
-fn judge(alloc: Global, f: &SerializableFunction, output: &Output) -> Result<(), Failure>
-    requires framed { IsFramed (function_of_serializable f.now) }
-    ensures ok { OnOk result (IsInOrder (function_of_serializable f.now) (output_of output.now)
-        × IsFaithful (function_of_serializable f.now) (machine_of f.now.machine) (output_of output.now)
-        × AreCells (function_of_serializable f.now) (machine_of f.now.machine) (output_of output.now)) }
-    ensures err { IfErr result (IsVerdict (function_of_serializable f.now) (machine_of f.now.machine) (output_of output.now)) }
+fn judge<F: Function>(
+    alloc: Global,
+    f: &F,
+    env: &MachineEnv,
+    output: &Output,
+) -> Result<(), Failure>
+    requires framed { IsFramed (F.function f.now) }
+    ensures ok { OnOk result (IsInOrder (F.function f.now) (output_of output.now)
+        × IsFaithful (F.function f.now) (machine_of env.now) (output_of output.now)
+        × AreCells (F.function f.now) (machine_of env.now) (output_of output.now)) }
+    ensures err { IfErr result (IsVerdict (F.function f.now) (machine_of env.now) (output_of output.now)) }
 {
-    match checked(alloc, f, output) {
+    match checked(alloc, f, env, output) {
         Ok(()) => {}
         Err(failure) => return Err(failure),
     }
-    match test_cells(alloc, f, f.machine_env(), output) {
+    match test_cells(alloc, f, env, output) {
         Ok(()) => Ok(()),
         Err(fault) => Err(failure_of_cells(alloc, fault)),
     }
@@ -96,7 +105,9 @@ fn moves_from(alloc: Global, words: &[u32]) -> Result<Vec<(u32, u32, u32)>, Fail
     if words.len() % 3 != 0 {
         return Err(Failure::Unreadable);
     }
-    let mut moves = Vec::new(alloc);
+    let Ok(mut moves) = Vec::with_capacity(alloc, words.len() / 3) else {
+        return Err(Failure::NoMemory);
+    };
     for k in 0..words.len() / 3 {
         let Ok(()) = moves.push((words[3 * k], words[3 * k + 1], words[3 * k + 2])) else {
             return Err(Failure::NoMemory);
@@ -110,13 +121,13 @@ fn copy_of(alloc: Global, words: &[u32]) -> Result<Vec<u32>, Failure>
     ensures ok { IfOk result (λ v. v.items ≡ words.now) }
     ensures err { IfErr result (λ e. e ≡ Failure.NoMemory) }
 {
-    let mut copy = Vec::new(alloc);
-    for k in 0..words.len() {
-        let Ok(()) = copy.push(words[k]) else {
-            return Err(Failure::NoMemory);
-        };
+    let Ok(mut copy) = Vec::with_capacity(alloc, words.len()) else {
+        return Err(Failure::NoMemory);
+    };
+    match copy.extend_from_slice(words) {
+        Ok(()) => Ok(copy),
+        Err(_) => Err(Failure::NoMemory),
     }
-    Ok(copy)
 }
 
 /// The numbers of the output that these are the parts of. It has no debug locations.
@@ -158,85 +169,76 @@ fn output_from(alloc: Global, numbers: &StoredOutput) -> Result<Output, Failure>
     }
 }
 
-/// The function that numbers name, if it is structurally valid (`IsFramed`).
-fn framed_function(alloc: Global, stored: &StoredFunction) -> Result<SerializableFunction, Failure>
-    ensures framed { IfOk result (λ f. IsFramed (function_of_serializable f)) }
-    ensures named { IfOk result (λ f. NumbersNameFunction stored.now (function_of_serializable f) (machine_of f.machine)) }
-    ensures err { IfErr result (IsFunctionFailure stored.now) }
-{
-    let f = match SerializableFunction::from_stored(alloc, stored) {
-        Ok(f) => f,
-        Err(fault) => return Err(Failure::BadFunction(fault)),
-    };
-    if !is_framed(&f) {
-        return Err(Failure::NotFramed);
-    }
-    Ok(f)
-}
-
-/// Checks the output of these numbers, of a function whose numbers are given too.
-fn judge_numbers(
+/// Checks the output of these numbers.
+fn judge_numbers<F: Function>(
     alloc: Global,
-    stored: &StoredFunction,
-    f: &SerializableFunction,
+    f: &F,
+    env: &MachineEnv,
     numbers: &StoredOutput,
 ) -> Result<(), Failure>
-    requires framed { IsFramed (function_of_serializable f.now) }
-    requires named { NumbersNameFunction stored.now (function_of_serializable f.now) (machine_of f.now.machine) }
-    ensures ok { OnOk result (IsAcceptedOutput (λ o. o ≡ numbers.now) stored.now) }
-    ensures err { IfErr result (IsCheckFailure (λ o. o ≡ numbers.now) stored.now) }
+    requires framed { IsFramed (F.function f.now) }
+    ensures ok { OnOk result (IsAcceptedOutput (λ o. o ≡ numbers.now) (F.function f.now) (machine_of env.now)) }
+    ensures err { IfErr result (IsCheckFailure (λ o. o ≡ numbers.now) (F.function f.now) (machine_of env.now)) }
 {
     let output = match output_from(alloc, numbers) {
         Ok(output) => output,
         Err(failure) => return Err(failure),
     };
-    judge(alloc, f, &output)
+    judge(alloc, f, env, &output)
 }
 
-/// Checks an output of a function that words lay out.
-pub fn judged(alloc: Global, stored: &StoredFunction, words: &[u32]) -> Result<(), Failure>
-    ensures ok { OnOk result (IsAcceptedOutput (AreOutputWords words.now) stored.now) }
-    ensures err { IfErr result (IsCheckFailure (AreOutputWords words.now) stored.now) }
+/// Checks an output that words lay out.
+pub fn judged<F: Function>(
+    alloc: Global,
+    f: &F,
+    env: &MachineEnv,
+    words: &[u32],
+) -> Result<(), Failure>
+    ensures ok { OnOk result (IsAcceptedOutput (AreOutputWords words.now) (F.function f.now) (machine_of env.now)) }
+    ensures err { IfErr result (IsCheckFailure (AreOutputWords words.now) (F.function f.now) (machine_of env.now)) }
 {
-    let f = match framed_function(alloc, stored) {
-        Ok(f) => f,
-        Err(failure) => return Err(failure),
-    };
+    if !is_framed(f) {
+        return Err(Failure::NotFramed);
+    }
     let numbers = match stored_output(alloc, words) {
         Ok(numbers) => numbers,
         Err(failure) => return Err(failure),
     };
-    judge_numbers(alloc, stored, &f, &numbers)
+    judge_numbers(alloc, f, env, &numbers)
 }
 
-/// Checks an output, given in parts, of a function.
-fn judged_parts(alloc: Global, stored: &StoredFunction, parts: Parts<'_>) -> Result<(), Failure>
+/// Checks an output that is given in parts.
+fn judged_parts<F: Function>(
+    alloc: Global,
+    f: &F,
+    env: &MachineEnv,
+    parts: Parts<'_>,
+) -> Result<(), Failure>
     ensures ok { OnOk result (IsAcceptedOutput (ArePartsOf parts.entry.num_spillslots parts.entry.moves.now parts.entry.places.now
-        parts.entry.offsets.now) stored.now) }
+        parts.entry.offsets.now) (F.function f.now) (machine_of env.now)) }
     ensures err { IfErr result (IsCheckFailure (ArePartsOf parts.entry.num_spillslots parts.entry.moves.now parts.entry.places.now
-        parts.entry.offsets.now) stored.now) }
+        parts.entry.offsets.now) (F.function f.now) (machine_of env.now)) }
 {
-    let f = match framed_function(alloc, stored) {
-        Ok(f) => f,
-        Err(failure) => return Err(failure),
-    };
+    if !is_framed(f) {
+        return Err(Failure::NotFramed);
+    }
     let numbers = match stored_of_parts(alloc, parts) {
         Ok(numbers) => numbers,
         Err(failure) => return Err(failure),
     };
-    judge_numbers(alloc, stored, &f, &numbers)
+    judge_numbers(alloc, f, env, &numbers)
 }
 
 /// Checks an output, given in parts, of the function that words lay out. No words say that it is accepted.
 pub fn judged_of_words(alloc: Global, words: &[u32], parts: Parts<'_>) -> Result<Vec<u32>, Failure>
-    ensures { IsJudgeFound (AreWordsOf words.now) (ArePartsOf parts.entry.num_spillslots parts.entry.moves.now parts.entry.places.now
+    ensures { IsJudgeFound words.now (ArePartsOf parts.entry.num_spillslots parts.entry.moves.now parts.entry.places.now
         parts.entry.offsets.now) result }
 {
-    let stored = match stored_from_words(alloc, words) {
-        Ok(stored) => stored,
+    let f = match function_from_words(alloc, words) {
+        Ok(f) => f,
         Err(failure) => return Err(failure),
     };
-    match judged_parts(alloc, &stored, parts) {
+    match judged_parts(alloc, &f, f.machine_env(), parts) {
         Ok(()) => Ok(Vec::new(alloc)),
         Err(failure) => Err(failure),
     }

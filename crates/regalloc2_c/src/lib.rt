@@ -5,8 +5,8 @@
 #![tactic(auto)]
 
 ghost use Rattle.std.specs.Prelude.{◌≡◌, ◌≤◌, ◌+◌, length};
-ghost use Rattle.regalloc2_c.specs.Outcome.{AreWordsOf, IsJsonOf, IsTextOf, ArePartsOf, IsAllocateOutcome, IsRunOutcome, IsCheckOutcome};
-ghost use Rattle.regalloc2_c.specs.Outcome.{IsJudgeOutcome, IsTold};
+ghost use Rattle.regalloc2_c.specs.Outcome.{AreWordsOf, AreUnreadWords, IsJsonOf, IsTextInput, NumbersName, NumbersNameNone, ArePartsOf};
+ghost use Rattle.regalloc2_c.specs.Outcome.{IsAllocateOutcome, IsRunOutcome, IsJudgeOutcome, IsCheckOutcome, IsTold};
 
 mod calls;
 mod failure;
@@ -22,16 +22,16 @@ use calls::{allocated_of_json, allocated_of_text, allocated_of_words, tested_of_
 use failure::number_of;
 use handing::hand_out;
 use judging::{Parts, judged, judged_of_words};
-use reading::stored_from_words;
+use reading::function_from_words;
 use std::alloc::Global;
 use texts::{fault_words, status_words, tell};
 
 /// The version of the layouts, times 65536, and how many calls there are.
 #[unsafe(no_mangle)]
 pub extern "C" fn regalloc2_c_version() -> u32
-    ensures { result ≡ 65545 }
+    ensures { result ≡ 131081 }
 {
-    65_545
+    131_081
 }
 
 /// Writes what a status says, in English, as far as there is room. Returns how many bytes that takes.
@@ -61,7 +61,7 @@ pub extern "C" fn regalloc2_c_allocate(
     needed: &mut usize,
 ) -> u32
     ensures status { result ≤ 31 }
-    ensures outcome { IsAllocateOutcome (AreWordsOf words.now) 0 out.old out.new needed.new result }
+    ensures outcome { IsAllocateOutcome (AreWordsOf words.now) (AreUnreadWords words.now) out.old out.new needed.new result }
 {
     hand_out(allocated_of_words(alloc, words), out, needed)
 }
@@ -75,7 +75,7 @@ pub extern "C" fn regalloc2_c_allocate_json(
     needed: &mut usize,
 ) -> u32
     ensures status { result ≤ 31 }
-    ensures outcome { IsAllocateOutcome (IsJsonOf json.now) 0 out.old out.new needed.new result }
+    ensures outcome { IsAllocateOutcome (NumbersName (IsJsonOf json.now)) (NumbersNameNone (IsJsonOf json.now) 0) out.old out.new needed.new result }
 {
     hand_out(allocated_of_json(alloc, json), out, needed)
 }
@@ -89,7 +89,7 @@ pub extern "C" fn regalloc2_c_allocate_text(
     needed: &mut usize,
 ) -> u32
     ensures status { result ≤ 31 }
-    ensures outcome { IsAllocateOutcome (IsTextOf text.now) (1 + length text.now) out.old out.new needed.new result }
+    ensures outcome { IsAllocateOutcome (NumbersName (IsTextInput text.now)) (NumbersNameNone (IsTextInput text.now) (1 + length text.now)) out.old out.new needed.new result }
 {
     hand_out(allocated_of_text(alloc, text), out, needed)
 }
@@ -140,11 +140,11 @@ pub extern "C" fn regalloc2_c_check(alloc: Global, words: &[u32], output: &[u32]
     ensures status { result ≤ 31 }
     ensures outcome { IsCheckOutcome words.now output.now result }
 {
-    let stored = match stored_from_words(alloc, words) {
-        Ok(stored) => stored,
+    let f = match function_from_words(alloc, words) {
+        Ok(f) => f,
         Err(failure) => return number_of(&failure),
     };
-    match judged(alloc, &stored, output) {
+    match judged(alloc, &f, f.machine_env(), output) {
         Ok(()) => 0,
         Err(failure) => number_of(&failure),
     }

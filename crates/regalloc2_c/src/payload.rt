@@ -3,7 +3,7 @@
 ghost use Rattle.std.specs.Prelude.{◌≡◌, ◌∷◌, [], ℕ, List};
 ghost use Rattle.regalloc2_names.specs.Register.{class_code};
 ghost use Rattle.regalloc2_names.specs.RegisterBits.{bits_of_register};
-ghost use Rattle.regalloc2_c.specs.Payload.{misfit_words, refusal_words};
+ghost use Rattle.regalloc2_c.specs.Payload.{misfit_words, refusal_payload};
 
 use super::words::NONE;
 use regalloc2::{PReg, RegAllocError, RegClass};
@@ -43,7 +43,7 @@ pub fn words_of_misfit(misfit: MachineMisfit) -> [u32; 3]
 
 /// The two blocks, the instruction and the vreg that an allocation's error names.
 pub fn words_of_refusal(error: RegAllocError) -> [u32; 4]
-    ensures { result ≡ refusal_words error }
+    ensures { result ≡ refusal_payload error }
 {
     match error {
         RegAllocError::CritEdge(from, to) => [from.0, to.0, NONE, NONE],

@@ -1,31 +1,46 @@
 //! The functions that are passed to the calls.
 
 ghost use Rattle.std.specs.Prelude.{IfOk, IfErr, ◌+◌, length};
-ghost use Rattle.regalloc2_c.specs.Outcome.{AreWordsOf, IsJsonOf, IsTextOf, IsTextFailure, IsUnread};
+ghost use Rattle.regalloc2.specs.Views.{machine_of};
+ghost use Rattle.regalloc2_serialize.specs.Flat.Columns.Kept.{function_of_flat};
+ghost use Rattle.regalloc2_serialize.specs.Tables.{function_of_serializable};
+ghost use Rattle.regalloc2_c.specs.Outcome.{AreWordsOf, AreUnreadWords, IsJsonOf, IsTextInput, IsTextFailure, HasNoNumbers};
+ghost use Rattle.regalloc2_c.specs.Outcome.{NumbersNameFunction, NumbersName, IsBadFunction, NumbersNameNone};
 
-use super::failure::{Failure, failure_to_read};
+use super::failure::{Failure, failure_of_columns, failure_to_read};
 use super::words::word_of;
-use regalloc2::serialize::StoredFunction;
-use regalloc2_serialize::flat::value_of;
+use regalloc2::serialize::{SerializableFunction, StoredFunction};
+use regalloc2_serialize::flat::FlatFunction;
 use regalloc2_text::{TextError, read};
 use serde_json::Value;
 use std::alloc::Global;
 
-/// The function that words lay out.
-pub fn stored_from_words(alloc: Global, words: &[u32]) -> Result<StoredFunction, Failure>
-    ensures ok { IfOk result (AreWordsOf words.now) }
-    ensures err { IfErr result (IsUnread (AreWordsOf words.now) 0) }
+/// The function and the machine that words lay out.
+pub fn function_from_words(alloc: Global, words: &[u32]) -> Result<FlatFunction, Failure>
+    ensures ok { IfOk result (λ f. AreWordsOf words.now (function_of_flat f) (machine_of f.machine)) }
+    ensures err { IfErr result (AreUnreadWords words.now) }
 {
-    match value_of::<StoredFunction>(alloc, words) {
-        Ok(stored) => Ok(stored),
-        Err(fault) => Err(failure_to_read(fault)),
+    match FlatFunction::read(alloc, words) {
+        Ok(f) => Ok(f),
+        Err(fault) => Err(failure_of_columns(fault)),
     }
 }
 
-/// The function whose JSON text these bytes are.
-pub fn stored_from_json(alloc: Global, bytes: &[u8]) -> Result<StoredFunction, Failure>
+/// The function and the machine that numbers name.
+fn function_from(alloc: Global, stored: &StoredFunction) -> Result<SerializableFunction, Failure>
+    ensures ok { IfOk result (λ f. NumbersNameFunction stored.now (function_of_serializable f) (machine_of f.machine)) }
+    ensures err { IfErr result (IsBadFunction stored.now) }
+{
+    match SerializableFunction::from_stored(alloc, stored) {
+        Ok(f) => Ok(f),
+        Err(fault) => Err(Failure::BadFunction(fault)),
+    }
+}
+
+/// The numbers of the function whose JSON text these bytes are.
+fn stored_from_json(alloc: Global, bytes: &[u8]) -> Result<StoredFunction, Failure>
     ensures ok { IfOk result (IsJsonOf bytes.now) }
-    ensures err { IfErr result (IsUnread (IsJsonOf bytes.now) 0) }
+    ensures err { IfErr result (HasNoNumbers (IsJsonOf bytes.now) 0) }
 {
     let Ok(text) = str::from_utf8(bytes) else {
         return Err(Failure::Unreadable);
@@ -45,6 +60,17 @@ pub fn stored_from_json(alloc: Global, bytes: &[u8]) -> Result<StoredFunction, F
     }
 }
 
+/// The function and the machine of which these bytes are the JSON text.
+pub fn function_from_json(alloc: Global, bytes: &[u8]) -> Result<SerializableFunction, Failure>
+    ensures ok { IfOk result (λ f. NumbersName (IsJsonOf bytes.now) (function_of_serializable f) (machine_of f.machine)) }
+    ensures err { IfErr result (NumbersNameNone (IsJsonOf bytes.now) 0) }
+{
+    match stored_from_json(alloc, bytes) {
+        Ok(stored) => function_from(alloc, &stored),
+        Err(failure) => Err(failure),
+    }
+}
+
 /// The failure where a text is read.
 fn failure_of_text(error: TextError<'_>) -> Failure
     ensures { IsTextFailure error.entry result }
@@ -55,10 +81,10 @@ fn failure_of_text(error: TextError<'_>) -> Failure
     }
 }
 
-/// The function in a text of these bytes. The contract of the reader doesn't say which that is.
-pub fn stored_from_text(alloc: Global, bytes: &[u8]) -> Result<StoredFunction, Failure>
-    ensures ok { IfOk result (IsTextOf bytes.now) }
-    ensures err { IfErr result (IsUnread (IsTextOf bytes.now) (1 + length bytes.now)) }
+/// The numbers of the function in a text of these bytes. The contract of the reader doesn't say which that is.
+fn stored_from_text(alloc: Global, bytes: &[u8]) -> Result<StoredFunction, Failure>
+    ensures ok { IfOk result (IsTextInput bytes.now) }
+    ensures err { IfErr result (HasNoNumbers (IsTextInput bytes.now) (1 + length bytes.now)) }
 {
     let Ok(text) = str::from_utf8(bytes) else {
         return Err(Failure::Unreadable);
@@ -66,5 +92,16 @@ pub fn stored_from_text(alloc: Global, bytes: &[u8]) -> Result<StoredFunction, F
     match read(alloc, text, 1) {
         Ok(text) => Ok(text.function),
         Err(error) => Err(failure_of_text(error)),
+    }
+}
+
+/// The function and the machine in a text of these bytes.
+pub fn function_from_text(alloc: Global, bytes: &[u8]) -> Result<SerializableFunction, Failure>
+    ensures ok { IfOk result (λ f. NumbersName (IsTextInput bytes.now) (function_of_serializable f) (machine_of f.machine)) }
+    ensures err { IfErr result (NumbersNameNone (IsTextInput bytes.now) (1 + length bytes.now)) }
+{
+    match stored_from_text(alloc, bytes) {
+        Ok(stored) => function_from(alloc, &stored),
+        Err(failure) => Err(failure),
     }
 }
