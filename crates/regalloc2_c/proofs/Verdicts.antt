@@ -16,19 +16,24 @@ use Rattle.regalloc2_checker.specs.declared.cells.CellFault.TheVariants.{Operand
 use Rattle.regalloc2_checker.specs.declared.errors.CheckerError.{CheckerError}
 use Rattle.regalloc2_checker.specs.declared.errors.CheckerError.TheVariants.{MalformedOutput, Memory as CheckerMemory}
 use Rattle.regalloc2_function.specs.declared.serialize.StoredOutput.{StoredOutput}
-use Rattle.regalloc2_c.specs.Faults.{IsFaultsTold, IsErrorsFailure, IsCellsTold, IsCheckerVerdict, IsVerdict, faults_words, malformed_words}
+use Rattle.regalloc2_c.specs.Faults.{IsFaultsTold, IsPrepareFailure, IsErrorsFailure, IsCellsTold, IsCheckerVerdict, IsVerdict, faults_words, malformed_words}
 use Rattle.regalloc2_c.specs.Outcome.{NumbersNameOutput, IsOutput, IsAcceptedOutput, IsCheckFailure, IsNoStoredOutput}
 use Rattle.regalloc2_c.specs.declared.failure.Failure.{Failure}
 use Rattle.regalloc2_c.specs.declared.failure.Failure.TheVariants.{Unreadable, BadMachine, NoRoom, Faults, NoMemory, NotFramed, BadOutput}
 use Rattle.regalloc2_c.specs.declared.failure.Failure.TheVariants.{ReadBeforeWritten, BadText, BadFunction, Refused}
 
 -- an output that isn't in order
-pub unprepared : (f : FunctionValue) (env : MachineValue) (out : OutputValue) (e : CheckerError Global) (failure : Failure) →
-    ((e ≡ MalformedOutput) × (IsInOrder f out → ⊥)) ⊎ ((e ≡ CheckerMemory) × IsInOrder f out) → (e ≡ CheckerMemory → ⊥) →
+malformed : (f : FunctionValue) (env : MachineValue) (out : OutputValue) (failure : Failure) → (IsInOrder f out → ⊥) →
     IsFaultsTold malformed_words failure → IsCheckerVerdict f env out failure
-unprepared f env out e failure m other (inl lost) = inl lost
-unprepared f env out e failure (inl m) other (inr t) = inr (t.0, t.1, inl (m.1, t.2))
-unprepared f env out e failure (inr m) other (inr t) = absurd (other m.0)
+malformed f env out failure bad (inl lost) = inl lost
+malformed f env out failure bad (inr t) = inr (t.0, t.1, inl (bad, t.2))
+
+pub unprepared : (f : FunctionValue) (env : MachineValue) (out : OutputValue) (e : CheckerError Global) (failure : Failure) →
+    ((e ≡ MalformedOutput) × (IsInOrder f out → ⊥)) ⊎ ((e ≡ CheckerMemory) × IsInOrder f out) → IsPrepareFailure e failure →
+    IsCheckerVerdict f env out failure
+unprepared f env out e failure m (inl lost) = inl lost.1
+unprepared f env out e failure (inl m) (inr q) = malformed f env out failure m.1 q.1
+unprepared f env out e failure (inr m) (inr q) = absurd (q.0 m.0)
 
 -- an output that isn't faithful
 unfaithful : (f : FunctionValue) (env : MachineValue) (out : OutputValue) (es : List (CheckerError Global)) (failure : Failure) → IsInOrder f out →
@@ -58,9 +63,9 @@ not_accepted f env out e (inr t) = faulty f env out e t.0 t.1 t.2
 -- the same of the function and the machine that a checker holds
 pub unprepared_for : {S : Type 0} (function : S → FunctionValue) (a b : S) → a ≡ b → (env : MachineValue) (out : OutputValue) (e : CheckerError Global)
     (failure : Failure) → ((e ≡ MalformedOutput) × (IsInOrder (function a) out → ⊥)) ⊎ ((e ≡ CheckerMemory) × IsInOrder (function a) out) →
-    (e ≡ CheckerMemory → ⊥) → IsFaultsTold malformed_words failure → IsCheckerVerdict (function b) env out failure
-unprepared_for function a b same env out e failure m other q = unprepared (function b) env out e failure
-    (subst (λ x. ((e ≡ MalformedOutput) × (IsInOrder (function x) out → ⊥)) ⊎ ((e ≡ CheckerMemory) × IsInOrder (function x) out)) same m) other q
+    IsPrepareFailure e failure → IsCheckerVerdict (function b) env out failure
+unprepared_for function a b same env out e failure m q = unprepared (function b) env out e failure
+    (subst (λ x. ((e ≡ MalformedOutput) × (IsInOrder (function x) out → ⊥)) ⊎ ((e ≡ CheckerMemory) × IsInOrder (function x) out)) same m) q
 
 pub told_for : {S : Type 0} (function : S → FunctionValue) (a b : S) (m env : MachineValue) → a ≡ b → m ≡ env → (out : OutputValue)
     (es : List (CheckerError Global)) (failure : Failure) → IsInOrder (function b) out →
@@ -87,11 +92,6 @@ apart f env out fault failure order faithful h (inl lost) = inl lost
 apart f env out fault failure order faithful h (inr t) =
     let bad = not_cells f env out fault h t.0 in
     inr (t.1, t.2, (λ x. bad x.2), inr (inr (order, faithful, bad, fault, h, t.0, t.3)))
-
-pub apart_for : (f : FunctionValue) (m env : MachineValue) (out : OutputValue) (fault : CellFault) (failure : Failure) → m ≡ env → IsInOrder f out →
-    IsFaithful f env out → IsCellFault f m out fault → IsCellsTold fault failure → IsVerdict f env out failure
-apart_for f m env out fault failure machine order faithful h q = apart f env out fault failure order faithful
-    (subst (λ x. IsCellFault f x out fault) machine h) q
 
 -- numbers that name no output
 pub unnamed : (f : FunctionValue) (env : MachineValue) (numbers : StoredOutput Global) (e : Failure) →

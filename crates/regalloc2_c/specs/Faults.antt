@@ -107,6 +107,10 @@ cell_fault_words CellMemory = 1 ∷ 13 ∷ none ∷ none ∷ 0 ∷ 0 ∷ 0 ∷ 0
 abbrev pub IsFaultsTold : List ℕ → Failure → Type 0
 IsFaultsTold words e = (e ≡ NoMemory) ⊎ ((v : Vec ℕ) × (e ≡ Faults v) × (v.items ≡ words))
 
+-- where the checker didn't take an output: memory was refused, or it isn't in order
+abbrev pub IsPrepareFailure : CheckerError Global → Failure → Type 0
+IsPrepareFailure error e = ((error ≡ Memory) × (e ≡ NoMemory)) ⊎ ((error ≡ Memory → ⊥) × IsFaultsTold malformed_words e)
+
 -- where the checker found errors: `Memory` alone says that memory was refused
 abbrev pub IsErrorsFailure : FunctionValue → OutputValue → List (CheckerError Global) → Failure → Type 0
 IsErrorsFailure f out es e = ((es ≡ Memory ∷ []) × (e ≡ NoMemory)) ⊎ ((es ≡ Memory ∷ [] → ⊥) × IsFaultsTold (faults_words f out es) e)

@@ -6,7 +6,7 @@ ghost use Rattle.regalloc2_names.specs.RegisterBits.{bits_of_vreg};
 ghost use Rattle.regalloc2.specs.Views.{output_of};
 ghost use Rattle.regalloc2_function.specs.OutputValue.{IsInOrder, place_at};
 ghost use Rattle.regalloc2_c.specs.Faults.{first_index, is_placed, operand_index, operand_head, fault_head, fault_words, faults_words, cell_fault_words};
-ghost use Rattle.regalloc2_c.specs.Faults.{malformed_words, IsFaultsTold, IsErrorsFailure, IsCellsTold, fault_vregs};
+ghost use Rattle.regalloc2_c.specs.Faults.{malformed_words, IsFaultsTold, IsPrepareFailure, IsErrorsFailure, IsCellsTold, fault_vregs};
 
 use super::failure::Failure;
 use super::words::{NONE, word_of};
@@ -252,10 +252,13 @@ pub fn failure_of_errors<F: Function>(alloc: Global, judged: &Judged<'_, F>, err
     }
 }
 
-/// The failure of an output that isn't in order.
-pub fn malformed(alloc: Global) -> Failure
-    ensures { IsFaultsTold malformed_words result }
+/// The failure where the checker didn't take an output: memory was refused, or it isn't in order.
+pub fn failure_to_prepare(alloc: Global, error: &CheckerError) -> Failure
+    ensures { IsPrepareFailure error.now result }
 {
+    if let CheckerError::Memory = error {
+        return Failure::NoMemory;
+    }
     let mut words = Vec::new(alloc);
     match push_words(&mut words, &[1, 12, NONE, NONE, 0, 0, 0, 0, 0, 0]) {
         Ok(()) => Failure::Faults(words),

@@ -14,9 +14,9 @@ ghost use Rattle.regalloc2_c.specs.Outcome.{AreOutputWords, ArePartsOf, NumbersN
 ghost use Rattle.regalloc2_c.specs.Outcome.{IsNoStoredOutput, IsAcceptedOutput, IsCheckFailure, IsJudgeFound};
 
 use super::failure::{Failure, failure_to_read};
-use super::faults::{Judged, failure_of_cells, failure_of_errors, malformed};
+use super::faults::{Judged, failure_of_cells, failure_of_errors, failure_to_prepare};
 use super::reading::function_from_words;
-use regalloc2::checker::{Checker, CheckerError};
+use regalloc2::checker::Checker;
 use regalloc2::serialize::{StoredFault, StoredOutput};
 use regalloc2::{Function, MachineEnv, Output, is_framed};
 use regalloc2_checker::test_cells;
@@ -53,8 +53,7 @@ pub fn checked<F: Function>(
     };
     match checker.prepare(output) {
         Ok(()) => {}
-        Err(CheckerError::Memory) => return Err(Failure::NoMemory),
-        Err(_) => return Err(malformed(alloc)),
+        Err(error) => return Err(failure_to_prepare(alloc, &error)),
     }
     match checker.run() {
         Ok(()) => Ok(()),

@@ -1,11 +1,14 @@
-use Rattle.std.proofs.Common.{inl, length, ◌+◌}
-use Rattle.regalloc2_c.specs.Outcome.{IsTextOf, IsAllocatedOutput, IsAllocateFailure}
-use Rattle.regalloc2_c.proofs.Outcomes.{found_of}
+use Rattle.std.proofs.Common.{inl, subst, sym, length, ◌+◌}
+use Rattle.regalloc2.specs.Views.{machine_of}
+use Rattle.regalloc2_serialize.specs.Tables.{function_of_serializable}
+use Rattle.regalloc2_c.specs.Outcome.{IsTextInput, NumbersName, NumbersNameNone, IsAllocatedOutput, IsAllocateFailure}
+use Rattle.regalloc2_c.proofs.Outcomes.{comes_to}
 use Rattle.regalloc2_c.proofs.calls.allocated_of_text.Goals as goal
 
 pub returns-in-Ok : goal.returns-in-Ok
 returns-in-Ok c =
-    found_of (IsTextOf c.args.bytes.now) (1 + length c.args.bytes.now) IsAllocatedOutput IsAllocateFailure c.in-Ok.stored c.in-Ok.ensures.ok
+    comes_to (NumbersName (IsTextInput c.args.bytes.now)) (NumbersNameNone (IsTextInput c.args.bytes.now) (1 + length c.args.bytes.now)) IsAllocatedOutput IsAllocateFailure (function_of_serializable c.in-Ok.f) (machine_of c.machine_env.result.now)
+    (subst (λ m. (NumbersName (IsTextInput c.args.bytes.now)) (function_of_serializable c.in-Ok.f) m) (sym c.machine_env.ensures) c.in-Ok.ensures.ok)
     c.allocated.result c.allocated.ensures.ok c.allocated.ensures.err
 
 pub returns-in-Err : goal.returns-in-Err

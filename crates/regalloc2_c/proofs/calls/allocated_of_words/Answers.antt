@@ -1,12 +1,15 @@
-use Rattle.std.proofs.Common.{inl}
-use Rattle.regalloc2_c.specs.Outcome.{AreWordsOf, IsAllocatedOutput, IsAllocateFailure}
-use Rattle.regalloc2_c.proofs.Outcomes.{found_of}
+use Rattle.std.proofs.Common.{inl, subst, sym}
+use Rattle.regalloc2.specs.Views.{machine_of}
+use Rattle.regalloc2_serialize.specs.Flat.Columns.Kept.{function_of_flat}
+use Rattle.regalloc2_c.specs.Outcome.{AreWordsOf, AreUnreadWords, IsAllocatedOutput, IsAllocateFailure}
+use Rattle.regalloc2_c.proofs.Outcomes.{comes_to}
 use Rattle.regalloc2_c.proofs.calls.allocated_of_words.Goals as goal
 
 pub returns-in-Ok : goal.returns-in-Ok
 returns-in-Ok c =
-    found_of (AreWordsOf c.args.words.now) 0 IsAllocatedOutput IsAllocateFailure c.in-Ok.stored c.in-Ok.ensures.ok c.allocated.result c.allocated.ensures.ok
-    c.allocated.ensures.err
+    comes_to (AreWordsOf c.args.words.now) (AreUnreadWords c.args.words.now) IsAllocatedOutput IsAllocateFailure (function_of_flat c.in-Ok.f) (machine_of c.machine_env.result.now)
+    (subst (λ m. (AreWordsOf c.args.words.now) (function_of_flat c.in-Ok.f) m) (sym c.machine_env.ensures) c.in-Ok.ensures.ok)
+    c.allocated.result c.allocated.ensures.ok c.allocated.ensures.err
 
 pub returns-in-Err : goal.returns-in-Err
 returns-in-Err c = inl c.in-Err.ensures.err
