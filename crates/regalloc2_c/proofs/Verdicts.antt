@@ -1,6 +1,6 @@
 -- Why an output isn't accepted, from what the checker and the test of cells find.
 use Rattle.std.proofs.Common.{ℕ, ◌≡◌, ◌⊎◌, inl, inr, List, [], ◌∷◌, Result, Ok, Err, refl, sym, subst}
-use Rattle.std.specs.Prelude.{OnOk, IfErr}
+use Rattle.std.specs.Prelude.{OnOk, IfOk, IfErr}
 use Rattle.std.specs.Global.{Vec}
 use Rattle.std.specs.declared.alloc.Global.{Global}
 use Rattle.regalloc2.specs.FunctionValue.{FunctionValue}
@@ -154,6 +154,10 @@ unread Outs f env (Refused error) h = h
 pub on_ok : {A E P Q : Type 0} → (P → Q) → (r : Result A E) → OnOk r P → OnOk r Q
 on_ok f (Ok x) h = f h
 on_ok f (Err e) h = tt
+
+pub if_ok : {A E : Type 0} {P Q : A → Type 0} → ((x : A) → P x → Q x) → (r : Result A E) → IfOk r P → IfOk r Q
+if_ok f (Ok x) h = f x h
+if_ok f (Err e) h = tt
 
 pub if_err : {A E : Type 0} {P Q : E → Type 0} → ((e : E) → P e → Q e) → (r : Result A E) → IfErr r P → IfErr r Q
 if_err f (Ok x) h = tt

@@ -8,7 +8,7 @@ use Rattle.regalloc2_c.proofs.calls.allocated.Goals as goal
 pub checked-requires : goal.checked-requires
 checked-requires g c =
     let ok = c.in-Ok.ensures.tested in
-    record { successors = ok.successors; follow = ok.follow; end = ok.end; counted = ok.counted }
+    record { framed = record { successors = ok.successors; follow = ok.follow; end = ok.end; counted = ok.counted } }
 
 pub returns-in-Err-clause-err : goal.returns-in-Err-clause-err
 returns-in-Err-clause-err g c =
