@@ -86,6 +86,14 @@ static struct seen of_forked(call *made_by) {
     return s;
 }
 
+#define GOOD "regs p0i..p1i\nblock0:\n  op: Def: v0i reg\n  branch block1(v0i)\nblock1(v1i):\n  ret: Use: v1i reg\n"
+
+/* The same function as a text, whatever the words are. */
+static uint32_t allocate_good_text(const uint32_t *words, size_t len, uint32_t *result, size_t room, size_t *needed) {
+    (void)words, (void)len;
+    return regalloc2_c_allocate_text((const uint8_t *)GOOD, sizeof GOOD - 1, result, room, needed);
+}
+
 static struct seen text(const char *lines) {
     struct seen s = {0};
     s.status = regalloc2_c_allocate_text((const uint8_t *)lines, strlen(lines), s.words, ROOM, &s.needed);
@@ -155,8 +163,7 @@ static int wrong_allocations(void) {
         + differs("a path that reads first", of_forked(regalloc2_c_run), RA2_READ_BEFORE_WRITTEN, 0, NULL)
         + differs("the same with the checker", of_forked(regalloc2_c_allocate), RA2_FAULTS,
                   WORDS(1, 2, 3, 0, LOW(USE), HIGH(USE), ra2_in_register(1), 0, 0, 0))
-        + differs("the text", text("regs p0i..p1i\nblock0:\n  op: Def: v0i reg\n  branch block1(v0i)\nblock1(v1i):\n  ret: Use: v1i reg\n"), RA2_OK,
-                  fine.needed, NULL)
+        + differs("the text", text(GOOD), RA2_OK, fine.needed, NULL)
         + differs("a line of the text", text("regs p0i..p1i\nblock0:\n  op: Dof: v0i reg\n"), RA2_BAD_TEXT, WORDS(3, 7))
         + differs("bytes that aren't UTF-8", text("regs \xff"), RA2_UNREADABLE, 0, NULL)
         + differs("no JSON", json("["), RA2_UNREADABLE, 0, NULL) + differs("JSON of another shape", json("{}"), RA2_UNREADABLE, 0, NULL);
@@ -234,20 +241,25 @@ static int wrong_refusals(void) {
                   WORDS(RA2_NONE, RA2_NONE, RA2_NONE, RA2_NONE));
 }
 
-/* Refuses memory from the first request on, then from the second one, and so on, until a call needs no more. */
-static int wrong_memory(call *made_by) {
+/* Refuses memory from the first request on, then from the second one, and so on, until a call needs no more. It has to be said by `status` once,
+   which is RA2_BAD_FUNCTION + 5 where a text's numbers are read. */
+static int wrong_memory(call *made_by, uint32_t status) {
     struct seen fine = made(made_by, SAME, LEN, ROOM), s;
     size_t times = 0;
     int wrong = 0;
+    bool said = false;
     do {
         requests = ++times;
         s = made(made_by, SAME, LEN, ROOM);
         requests = SIZE_MAX;
-        wrong += s.status == RA2_NO_MEMORY || s.status == RA2_BAD_FUNCTION + 5 ? s.needed != 0
-            : s.status == RA2_REFUSED + 11                                     ? s.needed != 4 || s.words[2] != RA2_NONE
-                                                                               : s.status != fine.status;
+        said |= s.status == status;
+        wrong += s.status == RA2_NO_MEMORY || s.status == status ? s.needed != 0
+            : s.status == RA2_REFUSED + 11                       ? s.needed != 4 || s.words[2] != RA2_NONE
+                                                                 : s.status != fine.status;
     } while (s.status != fine.status && wrong == 0);
-    return wrong + (times < 10) + differs("enough memory", s, fine.status, fine.needed, fine.words);
+    if (wrong || !said || times < 10)
+        printf("refused memory: status %u after %zu requests\n", s.status, times);
+    return wrong + !said + (times < 10) + differs("enough memory", s, fine.status, fine.needed, fine.words);
 }
 
 static int wrong_judgements(void) {
@@ -279,8 +291,10 @@ static int wrong_texts(void) {
 
 static void *calls(void *wrong) {
     for (int i = 0; i < ROUNDS && *(int *)wrong == 0; i++)
-        *(int *)wrong = wrong_allocations() + wrong_words() + wrong_nulls() + wrong_refusals() + wrong_memory(regalloc2_c_allocate)
-            + wrong_memory(regalloc2_c_run) + wrong_memory(judge_no_places) + wrong_judgements() + wrong_texts();
+        *(int *)wrong = wrong_allocations() + wrong_words() + wrong_nulls() + wrong_refusals()
+            + wrong_memory(regalloc2_c_allocate, RA2_NO_MEMORY) + wrong_memory(regalloc2_c_run, RA2_NO_MEMORY)
+            + wrong_memory(judge_no_places, RA2_NO_MEMORY) + wrong_memory(allocate_good_text, RA2_BAD_FUNCTION + 5) + wrong_judgements()
+            + wrong_texts();
     return NULL;
 }
 

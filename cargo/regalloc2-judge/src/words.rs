@@ -282,6 +282,17 @@ mod tests {
     }
 
     #[test]
+    fn sets_have_one_number_each() {
+        let (mut sets, mut columns) = (Sets::default(), Columns::new());
+        let set = |index| PRegSet::empty().with(PReg::from_index(index));
+        for index in (0..3 * FEW_SETS).chain(0..3 * FEW_SETS) {
+            assert_eq!(sets.number(&mut columns, set(index)), Ok(index as u32 + 1));
+        }
+        assert_eq!(sets.number(&mut columns, PRegSet::empty()), Ok(0));
+        assert_eq!(sets.number(&mut columns, set(192)), Err(Unwritten::Register));
+    }
+
+    #[test]
     fn any_word_is_some_place() {
         let (reg, slot) = (PReg::new(63, RegClass::Vector), SpillSlot::new(SpillSlot::MAX));
         assert_eq!(place(Allocation::reg(reg).bits()), Allocation::reg(reg));

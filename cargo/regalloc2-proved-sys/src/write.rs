@@ -117,6 +117,7 @@ impl Columns {
     /// Sets the machine: its registers, and the indexes of the registers that are fixed stack slots.
     pub fn machine(&mut self, registers: MachineWords, slots: impl Iterator<Item = u32>) {
         self.machine = registers;
+        self.slots.clear();
         self.slots.extend(slots);
     }
 
