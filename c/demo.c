@@ -5,7 +5,7 @@
 #include <stdio.h>
 
 #define VREG(n) (4 * (n))
-/* words of operands of integers, as docs/INPUT.md has them */
+/* the two words of operands of integers, as docs/INPUT.md has them */
 #define DEF_REG(n) (uint32_t)((85899345920ull + (n)) & 0xffffffff), (uint32_t)((85899345920ull + (n)) >> 32)
 #define USE_REG(n) (uint32_t)((103079215104ull + (n)) & 0xffffffff), (uint32_t)((103079215104ull + (n)) >> 32)
 
@@ -18,25 +18,29 @@ static void print_place(uint32_t place) {
         printf("none");
 }
 
+#define NONE 0, 0, 0, 0, 0, 0 /* a set without registers */
+
 static const uint32_t function[] = {
-    3, 2, 0, 1, 0, 0,          /* preferred: p0i and p1i */
-    3, 0, 0, 0,                /* non-preferred */
-    3, 0, 0, 0,                /* scratch */
-    0,                         /* fixed stack slots */
-    0,                         /* entry */
-    3,                         /* instructions */
-    0, 1, DEF_REG(0), 0,       /*   op: Def: v0i reg */
-    2, 0, 0,                   /*   branch */
-    1, 1, USE_REG(1), 0,       /*   ret: Use: v1i reg */
-    2, 0, 2, 2, 3,             /* blocks */
-    2, 0, 1, 0,                /* predecessors */
-    2, 1, 1, 0,                /* successors */
-    2, 0, 1, VREG(1),          /* parameters */
-    2, 1, 1, VREG(0), 0,       /* arguments */
-    2, 0,                      /* vregs */
-    0,                         /* labels */
-    3, 1, 0, 1, 0, 1, 0,       /* sizes of slots */
-    0, 0,                      /* flags */
+    /* the header */
+    RA2_LAYOUT, 0,                    /* entry */
+    3, 2, 2, 0,                       /* how many instructions, blocks, operands, sets of clobbers, */
+    1, 1, 1, 1,                       /* edges, predecessors, parameters, arguments, */
+    2, 0, 0,                          /* vregs, labels, fixed stack slots */
+    0, 0,                             /* flags, sizes of slots */
+    /* the machine */
+    3, 0, 0, 0, 0, 0, NONE, NONE,     /* preferred: p0i and p1i */
+    NONE, NONE, NONE,                 /* non-preferred */
+    0, 0, 0,                          /* scratch */
+    /* instructions */
+    RA2_OP, RA2_BRANCH, RA2_RETURN,   /* none has clobbers */
+    1, 1, 2,                          /* operands' ends */
+    DEF_REG(0), USE_REG(1),           /* operands */
+    /* blocks */
+    2, 3,                             /* instructions' ends */
+    0, 1, 1, 1, 0, 1,                 /* ends of predecessors, successors, parameters */
+    0, 1, VREG(1),                    /* a predecessor, a successor, a parameter */
+    /* the edge */
+    1, VREG(0),                       /* arguments' end, an argument */
 };
 
 static uint32_t out[1 << 16];

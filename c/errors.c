@@ -35,25 +35,31 @@ void rattle_dealloc(uint8_t *p) { free(p); }
 #define DEF 85899345920ull
 #define USE 103079215104ull
 
-/* block0 defines v0 and goes to block1(v0); block1(v1) reads v1 and returns: where its parts begin */
-enum { ENTRY = 15, FIRST_END = 32 };
+#define NONE 0, 0, 0, 0, 0, 0 /* a set without registers */
+/* p0i and p1i, and no other registers */
+#define MACHINE 3, 0, 0, 0, 0, 0, NONE, NONE, NONE, NONE, NONE, 0, 0, 0
+
+/* block0 defines v0 and goes to block1(v0); block1(v1) reads v1 and returns */
 static const uint32_t good[] = {
-    3, 2, 0, 1, 0, 0, 3, 0, 0, 0, 3, 0, 0, 0, 0,      /* machine: p0i and p1i */
-    0,                                                 /* entry */
-    3, 0, 1, LOW(DEF), HIGH(DEF), 0, 2, 0, 0, 1, 1, LOW(USE + 1), HIGH(USE + 1), 0,
-    2, 0, 2, 2, 3,                                     /* blocks */
-    2, 0, 1, 0, 2, 1, 1, 0, 2, 0, 1, 4, 2, 1, 1, 0, 0, /* predecessors, successors, parameters, arguments */
-    2, 0, 0, 3, 1, 0, 1, 0, 1, 0, 0, 0,                /* vregs, labels, sizes, flags */
+    RA2_LAYOUT, 0, 3, 2, 2, 0, 1, 1, 1, 1, 2, 0, 0, 0, 0, MACHINE, /* the header and the machine */
+    RA2_OP, RA2_BRANCH, RA2_RETURN,                                /* instructions */
+    1, 1, 2, LOW(DEF), HIGH(DEF), LOW(USE + 1), HIGH(USE + 1),     /* operands */
+    2, 3, 0, 1, 1, 1, 0, 1,                                        /* ends of instructions, predecessors, successors, parameters */
+    0, 1, 4, 1, 0,                                                 /* these, the edge's arguments' end and its argument */
 };
 enum { LEN = sizeof good / sizeof *good };
 
+/* The word k of a column of that function, and a change that is none. */
+#define AT(column, k) (ra2_column(good, column) + (k))
+#define SAME RA2_AT_LAYOUT, RA2_LAYOUT
+
 /* block0 goes to block1, which defines v0, and to block2, which reads it */
 static const uint32_t forked[] = {
-    3, 2, 0, 1, 0, 0, 3, 0, 0, 0, 3, 0, 0, 0, 0, 0,
-    4, 2, 0, 0, 0, 1, LOW(DEF), HIGH(DEF), 0, 1, 0, 0, 1, 1, LOW(USE), HIGH(USE), 0,
-    3, 0, 1, 1, 3, 3, 4,
-    3, 0, 1, 0, 1, 0, 3, 2, 1, 2, 0, 0, 3, 0, 0, 0, 3, 2, 0, 0, 0, 0,
-    1, 0, 0, 3, 1, 0, 1, 0, 1, 0, 0, 0,
+    RA2_LAYOUT, 0, 4, 3, 2, 0, 2, 2, 0, 0, 1, 0, 0, 0, 0, MACHINE,
+    RA2_BRANCH, RA2_OP, RA2_RETURN, RA2_RETURN,
+    0, 1, 1, 2, LOW(DEF), HIGH(DEF), LOW(USE), HIGH(USE),
+    1, 3, 4, 0, 1, 2, 2, 2, 2, 0, 0, 0,
+    0, 0, 1, 2, 0, 0,
 };
 
 struct seen {
@@ -80,16 +86,36 @@ static struct seen of_forked(call *made_by) {
     return s;
 }
 
+#define GOOD "regs p0i..p1i\nblock0:\n  op: Def: v0i reg\n  branch block1(v0i)\nblock1(v1i):\n  ret: Use: v1i reg\n"
+
+/* The same function as a text, whatever the words are. */
+static uint32_t allocate_good_text(const uint32_t *words, size_t len, uint32_t *result, size_t room, size_t *needed) {
+    (void)words, (void)len;
+    return regalloc2_c_allocate_text((const uint8_t *)GOOD, sizeof GOOD - 1, result, room, needed);
+}
+
 static struct seen text(const char *lines) {
     struct seen s = {0};
     s.status = regalloc2_c_allocate_text((const uint8_t *)lines, strlen(lines), s.words, ROOM, &s.needed);
     return s;
 }
 
+static struct seen json(const char *value) {
+    struct seen s = {0};
+    s.status = regalloc2_c_allocate_json((const uint8_t *)value, strlen(value), s.words, ROOM, &s.needed);
+    return s;
+}
+
+/* Judges an output of the function that has no place. */
+static uint32_t judge_no_places(const uint32_t *words, size_t len, uint32_t *result, size_t room, size_t *needed) {
+    static const uint32_t offsets[] = {0, 0, 0};
+    return regalloc2_c_judge(words, len, 0, NULL, 0, NULL, 0, offsets, 3, result, room, needed);
+}
+
 /* What is said of the output in which one word is another, of a function in which one word is another: by words and in parts. */
 static struct seen judged(size_t at, uint32_t word, size_t changed, uint32_t to, uint32_t *by_words) {
     uint32_t function[LEN];
-    struct seen out = made(regalloc2_c_allocate, 0, 3, LEN, ROOM), s = {0};
+    struct seen out = made(regalloc2_c_allocate, SAME, LEN, ROOM), s = {0};
     memcpy(function, good, sizeof good);
     function[at] = word;
     if (changed < out.needed)
@@ -124,29 +150,83 @@ static int differ(const char *what, size_t at, uint32_t word, size_t changed, ui
 #define WORDS(...) sizeof((uint32_t[]){__VA_ARGS__}) / 4, (uint32_t[]){__VA_ARGS__}
 
 static int wrong_allocations(void) {
-    struct seen fine = made(regalloc2_c_allocate, 0, 3, LEN, ROOM);
+    struct seen fine = made(regalloc2_c_allocate, SAME, LEN, ROOM);
     return differs("the function", fine, RA2_OK, fine.needed, NULL)
-        + differs("without the checker", made(regalloc2_c_run, 0, 3, LEN, ROOM), RA2_OK, fine.needed, fine.words)
-        + differs("no words", made(regalloc2_c_allocate, 0, 3, 0, ROOM), RA2_UNREADABLE, 0, NULL)
-        + differs("a word less", made(regalloc2_c_allocate, 0, 3, LEN - 1, ROOM), RA2_UNREADABLE, 0, NULL)
-        + differs("a float register for integers", made(regalloc2_c_allocate, 3, 64, LEN, ROOM), RA2_BAD_MACHINE, WORDS(2, 0, 64))
-        + differs("no room", made(regalloc2_c_allocate, 0, 3, LEN, 0), RA2_NO_ROOM, fine.needed, NULL)
-        + differs("a word too little room", made(regalloc2_c_allocate, 0, 3, LEN, fine.needed - 1), RA2_NO_ROOM, fine.needed, NULL)
-        + differs("just enough room", made(regalloc2_c_allocate, 0, 3, LEN, fine.needed), RA2_OK, fine.needed, fine.words)
-        + differs("no room for an error", made(regalloc2_c_allocate, ENTRY, 1, LEN, 3), RA2_NO_ROOM, 4, NULL)
-        + differs("a word that is no register", made(regalloc2_c_allocate, 2, 255, LEN, ROOM), RA2_BAD_FUNCTION + 3, 0, NULL)
-        + differs("an entry that is none", made(regalloc2_c_allocate, ENTRY, 1, LEN, ROOM), RA2_REFUSED + 3, WORDS(1, RA2_NONE, RA2_NONE, RA2_NONE))
+        + differs("without the checker", made(regalloc2_c_run, SAME, LEN, ROOM), RA2_OK, fine.needed, fine.words)
+        + differs("a float register for integers", made(regalloc2_c_allocate, AT(RA2_PREFERRED, 2), 1, LEN, ROOM), RA2_BAD_MACHINE,
+                  WORDS(2, 0, 64))
+        + differs("no room", made(regalloc2_c_allocate, SAME, LEN, 0), RA2_NO_ROOM, fine.needed, NULL)
+        + differs("a word too little room", made(regalloc2_c_allocate, SAME, LEN, fine.needed - 1), RA2_NO_ROOM, fine.needed, NULL)
+        + differs("just enough room", made(regalloc2_c_allocate, SAME, LEN, fine.needed), RA2_OK, fine.needed, fine.words)
+        + differs("no room for an error", made(regalloc2_c_allocate, RA2_AT_ENTRY, 1, LEN, 3), RA2_NO_ROOM, 4, NULL)
+        + differs("another entry", made(regalloc2_c_allocate, RA2_AT_ENTRY, 1, LEN, ROOM), RA2_REFUSED + 3, WORDS(1, RA2_NONE, RA2_NONE, RA2_NONE))
         + differs("a path that reads first", of_forked(regalloc2_c_run), RA2_READ_BEFORE_WRITTEN, 0, NULL)
         + differs("the same with the checker", of_forked(regalloc2_c_allocate), RA2_FAULTS,
-                  WORDS(1, 2, 3, RA2_NONE, LOW(USE), HIGH(USE), ra2_in_register(1), 0, 0, 0))
-        + differs("the text", text("regs p0i..p1i\nblock0:\n  op: Def: v0i reg\n  branch block1(v0i)\nblock1(v1i):\n  ret: Use: v1i reg\n"), RA2_OK,
-                  fine.needed, NULL)
+                  WORDS(1, 2, 3, 0, LOW(USE), HIGH(USE), ra2_in_register(1), 0, 0, 0))
+        + differs("the text", text(GOOD), RA2_OK, fine.needed, NULL)
         + differs("a line of the text", text("regs p0i..p1i\nblock0:\n  op: Dof: v0i reg\n"), RA2_BAD_TEXT, WORDS(3, 7))
-        + differs("bytes that aren't UTF-8", text("regs \xff"), RA2_UNREADABLE, 0, NULL);
+        + differs("bytes that aren't UTF-8", text("regs \xff"), RA2_UNREADABLE, 0, NULL)
+        + differs("no JSON", json("["), RA2_UNREADABLE, 0, NULL) + differs("JSON of another shape", json("{}"), RA2_UNREADABLE, 0, NULL);
+}
+
+/* Words that aren't a header and its columns, and numbers of functions that are wrong. RA2_BAD_FUNCTION + 6 comes of no call: where JSON has
+   another shape, it is RA2_UNREADABLE. */
+static int wrong_words(void) {
+    static const uint32_t none = RA2_NONE;
+    const struct {
+        const char *what;
+        size_t at;
+        uint32_t word, status;
+    } changes[] = {
+        {"another layout", RA2_AT_LAYOUT, 1, RA2_UNREADABLE},
+        {"other flags", RA2_AT_FLAGS, 4, RA2_UNREADABLE},
+        {"four sizes", RA2_AT_SIZES, 1 << 24, RA2_UNREADABLE},
+        {"too many operands", RA2_AT_OPERANDS, none, RA2_UNREADABLE},
+        {"ends that fall", AT(RA2_OPERAND_ENDS, 0), 2, RA2_BAD_FUNCTION + 1},
+        {"an operand left over", AT(RA2_OPERAND_ENDS, 2), 1, RA2_BAD_FUNCTION + 1},
+        {"an argument left over", AT(RA2_ARGUMENT_ENDS, 0), 0, RA2_BAD_FUNCTION + 1},
+        {"no entry", RA2_AT_ENTRY, 2, RA2_BAD_FUNCTION + 2},
+        {"no predecessor", AT(RA2_PREDS, 0), 2, RA2_BAD_FUNCTION + 2},
+        {"no set", AT(RA2_KINDS, 0), ra2_kind(1, RA2_OP), RA2_BAD_FUNCTION + 2},
+        {"no kind", AT(RA2_KINDS, 0), 3, RA2_BAD_FUNCTION + 3},
+        {"no operand", AT(RA2_OPERANDS, 0), none, RA2_BAD_FUNCTION + 3},
+        {"no parameter", AT(RA2_PARAMS, 0), none, RA2_BAD_FUNCTION + 3},
+        {"no scratch register", AT(RA2_SCRATCH, 0), 193, RA2_BAD_FUNCTION + 3},
+        {"a slot too large", RA2_AT_SIZES, ra2_sizes(25, 0, 0), RA2_BAD_FUNCTION + 4},
+        {"too many vregs", RA2_AT_VREGS, 1 << 30, RA2_BAD_FUNCTION + 4},
+    };
+    int wrong = differs("no words", made(regalloc2_c_allocate, SAME, 0, ROOM), RA2_UNREADABLE, 0, NULL)
+        + differs("a word less", made(regalloc2_c_allocate, SAME, LEN - 1, ROOM), RA2_UNREADABLE, 0, NULL)
+        + differs("another count", made(regalloc2_c_run, RA2_AT_LABELS, 1, LEN, ROOM), RA2_UNREADABLE, 0, NULL);
+    for (size_t k = 0; k < sizeof changes / sizeof *changes; k++)
+        wrong += differs(changes[k].what, made(k % 2 ? regalloc2_c_run : regalloc2_c_allocate, changes[k].at, changes[k].word, LEN, ROOM),
+                         changes[k].status, 0, NULL);
+    return wrong;
+}
+
+/* Null pointers for memory of length 0. */
+static int wrong_nulls(void) {
+    struct seen s = {.needed = 1};
+    uint8_t byte;
+    int wrong = regalloc2_c_status_text(RA2_OK, NULL, 0) != regalloc2_c_status_text(RA2_OK, &byte, 0)
+        || regalloc2_c_fault_text(1, NULL, 0) != regalloc2_c_fault_text(1, &byte, 0) || regalloc2_c_check(NULL, 0, NULL, 0) != RA2_UNREADABLE
+        || regalloc2_c_check(good, LEN, NULL, 0) != RA2_UNREADABLE;
+    if (wrong)
+        printf("texts or check with null pointers\n");
+    s.status = regalloc2_c_allocate(NULL, 0, NULL, 0, &s.needed), wrong += differs("allocate: null", s, RA2_UNREADABLE, 0, NULL);
+    s.status = regalloc2_c_run(NULL, 0, NULL, 0, &s.needed), wrong += differs("run: null", s, RA2_UNREADABLE, 0, NULL);
+    s.status = regalloc2_c_run(good, LEN, NULL, 0, &s.needed), wrong += differs("run: no room", s, RA2_NO_ROOM, s.needed, NULL);
+    s.status = regalloc2_c_allocate_json(NULL, 0, NULL, 0, &s.needed), wrong += differs("JSON: null", s, RA2_UNREADABLE, 0, NULL);
+    s.status = regalloc2_c_allocate_text(NULL, 0, NULL, 0, &s.needed), wrong += differs("text: null", s, RA2_BAD_FUNCTION + 2, 0, NULL);
+    s.status = regalloc2_c_judge(NULL, 0, 0, NULL, 0, NULL, 0, NULL, 0, NULL, 0, &s.needed);
+    wrong += differs("judge: null", s, RA2_UNREADABLE, 0, NULL);
+    s.status = regalloc2_c_judge(good, LEN, 0, NULL, 0, NULL, 0, NULL, 0, s.words, ROOM, &s.needed);
+    return wrong + differs("no output", s, RA2_FAULTS, WORDS(1, 12, RA2_NONE, RA2_NONE, 0, 0, 0, 0, 0, 0));
 }
 
 #define REFUSED(n, lines, ...) differs(lines, text(lines), RA2_REFUSED + n, WORDS(__VA_ARGS__))
 
+/* All but 8, which 2^32 operands come to. A header can't count them, and as JSON or text they take more than 8 gigabytes. 11 is memory's. */
 static int wrong_refusals(void) {
     return REFUSED(1, "block0:\n  branch block1, block2\nblock1:\n  branch block2\nblock2:\n  ret\n", 0, 2, RA2_NONE, RA2_NONE)
         + REFUSED(2, "block0:\n  op: Def: v0i reg\n  ret: Use: v1i reg\n", RA2_NONE, RA2_NONE, 1, ra2_vreg(RA2_INT, 1))
@@ -155,35 +235,44 @@ static int wrong_refusals(void) {
         + REFUSED(5, "block0(v0i):\n  ret\n", RA2_NONE, RA2_NONE, RA2_NONE, RA2_NONE)
         + REFUSED(6, "block0:\n  op: Def: v0i reg\n  branch block0: Use: v0i reg\n", RA2_NONE, RA2_NONE, 1, RA2_NONE)
         + REFUSED(7, "regs p0i\nblock0:\n  op: Def: v0i reg, Def: v1i reg\n  ret\n", RA2_NONE, RA2_NONE, RA2_NONE, RA2_NONE)
-        + REFUSED(9, "block0:\n  op: Def: v0i reuse(3)\n  ret\n", RA2_NONE, RA2_NONE, 0, RA2_NONE);
+        + REFUSED(9, "block0:\n  op: Def: v0i reuse(3)\n  ret\n", RA2_NONE, RA2_NONE, 0, RA2_NONE)
+        + REFUSED(10, "sizes int 16777216\nblock0:\n  op: Def: v0i stack, Def: v1i stack\n  ret\n", RA2_NONE, RA2_NONE, RA2_NONE, RA2_NONE)
+        + differs("slots too large", made(regalloc2_c_run, RA2_AT_SIZES, ra2_sizes(24, 0, 0), LEN, ROOM), RA2_REFUSED + 10,
+                  WORDS(RA2_NONE, RA2_NONE, RA2_NONE, RA2_NONE));
 }
 
-/* Refuses memory from the first request on, then from the second one, and so on, until a call needs no more. */
-static int wrong_memory(call *made_by) {
-    struct seen fine = made(made_by, 0, 3, LEN, ROOM), s;
+/* Refuses memory from the first request on, then from the second one, and so on, until a call needs no more. It has to be said by `status` once,
+   which is RA2_BAD_FUNCTION + 5 where a text's numbers are read. */
+static int wrong_memory(call *made_by, uint32_t status) {
+    struct seen fine = made(made_by, SAME, LEN, ROOM), s;
     size_t times = 0;
     int wrong = 0;
+    bool said = false;
     do {
         requests = ++times;
-        s = made(made_by, 0, 3, LEN, ROOM);
+        s = made(made_by, SAME, LEN, ROOM);
         requests = SIZE_MAX;
-        wrong += s.status == RA2_NO_MEMORY || s.status == RA2_BAD_FUNCTION + 5 ? s.needed != 0
-            : s.status == RA2_REFUSED + 11                                     ? s.needed != 4 || s.words[2] != RA2_NONE
-                                                                               : s.status != RA2_OK;
-    } while (s.status != RA2_OK && wrong == 0);
-    return wrong + (times < 10) + differs("enough memory", s, RA2_OK, fine.needed, fine.words);
+        said |= s.status == status;
+        wrong += s.status == RA2_NO_MEMORY || s.status == status ? s.needed != 0
+            : s.status == RA2_REFUSED + 11                       ? s.needed != 4 || s.words[2] != RA2_NONE
+                                                                 : s.status != fine.status;
+    } while (s.status != fine.status && wrong == 0);
+    if (wrong || !said || times < 10)
+        printf("refused memory: status %u after %zu requests\n", s.status, times);
+    return wrong + !said + (times < 10) + differs("enough memory", s, fine.status, fine.needed, fine.words);
 }
 
 static int wrong_judgements(void) {
-    struct seen fine = made(regalloc2_c_allocate, 0, 3, LEN, ROOM);
+    struct seen fine = made(regalloc2_c_allocate, SAME, LEN, ROOM);
     size_t places = 3 + 3 * fine.words[2];
-    return differ("the output", 0, 3, ROOM, 0, RA2_OK, 0, NULL)
-        + differ("a place that is missing", 0, 3, places + 1, 0, RA2_FAULTS,
-                 WORDS(2, 1, 0, RA2_NONE, LOW(DEF), HIGH(DEF), 0, 0, 0, 0, 2, 2, RA2_NONE, LOW(USE + 1), HIGH(USE + 1),
-                       fine.words[places + 2], 0, 0, 0))
-        + differ("a place of no kind", 0, 3, places + 1, 0xffffffff, RA2_BAD_OUTPUT, 0, NULL)
-        + differ("a block without an end", FIRST_END, 1, ROOM, 0, RA2_NOT_FRAMED, 0, NULL)
-        + differ("a frame of no units", 0, 3, 0, 0, RA2_FAULTS, 10, NULL);
+    return differ("the output", SAME, ROOM, 0, RA2_OK, 0, NULL)
+        + differ("a place that is missing", SAME, places + 1, 0, RA2_FAULTS,
+                 WORDS(2, 1, 0, 0, LOW(DEF), HIGH(DEF), 0, 0, 0, 0, 2, 2, 0, LOW(USE + 1), HIGH(USE + 1), fine.words[places + 2], 0, 0, 0))
+        + differs("no places", made(judge_no_places, SAME, LEN, ROOM), RA2_FAULTS,
+                  WORDS(2, 1, 0, 0, LOW(DEF), HIGH(DEF), 0, 0, 0, 0, 1, 2, 0, LOW(USE + 1), HIGH(USE + 1), 0, 0, 0, 0))
+        + differ("a place of no kind", SAME, places + 1, 0xffffffff, RA2_BAD_OUTPUT, 0, NULL)
+        + differ("a block without an end", AT(RA2_INST_ENDS, 0), 1, ROOM, 0, RA2_NOT_FRAMED, 0, NULL)
+        + differ("a frame of no units", SAME, 0, 0, RA2_FAULTS, 10, NULL);
 }
 
 static int wrong_texts(void) {
@@ -202,8 +291,10 @@ static int wrong_texts(void) {
 
 static void *calls(void *wrong) {
     for (int i = 0; i < ROUNDS && *(int *)wrong == 0; i++)
-        *(int *)wrong = wrong_allocations() + wrong_refusals() + wrong_memory(regalloc2_c_allocate) + wrong_memory(regalloc2_c_run)
-            + wrong_judgements() + wrong_texts();
+        *(int *)wrong = wrong_allocations() + wrong_words() + wrong_nulls() + wrong_refusals()
+            + wrong_memory(regalloc2_c_allocate, RA2_NO_MEMORY) + wrong_memory(regalloc2_c_run, RA2_NO_MEMORY)
+            + wrong_memory(judge_no_places, RA2_NO_MEMORY) + wrong_memory(allocate_good_text, RA2_BAD_FUNCTION + 5) + wrong_judgements()
+            + wrong_texts();
     return NULL;
 }
 

@@ -5,7 +5,7 @@
 #include <stdlib.h>
 #include <string.h>
 
-enum { WORDS = 1 << 16, BLOCKS = 40, VREGS = 4096 };
+enum { WORDS = 1 << 16, BLOCKS = 40, VREGS = 4096, COLUMN = 4096 };
 
 static uint64_t state = 1;
 static uint32_t below(uint32_t n) {
@@ -16,26 +16,46 @@ static uint32_t below(uint32_t n) {
 static uint32_t words[WORDS], known[VREGS];
 static size_t len, known_len;
 static uint32_t vregs;
-static void add(uint32_t word) { words[len++] = word; }
 
-/* A list of numbers that follow one another. */
-static void add_range(uint32_t first, uint32_t count) {
-    add(count);
+/* The columns, each by its number. */
+static struct {
+    uint32_t words[COLUMN];
+    uint32_t len;
+} columns[RA2_COLUMNS_END];
+
+static void add(int column, uint32_t word) { columns[column].words[columns[column].len++] = word; }
+
+/* Ends the members of a column so far: those of one more instruction, block or edge. */
+static void end(int column, int members) { add(column, columns[members].len); }
+
+/* Adds a set of registers that follow one another. */
+static void add_set(int column, uint32_t first, uint32_t count) {
+    uint32_t set[6] = {0};
     for (uint32_t i = 0; i < count; i++)
-        add(first + i);
+        ra2_add(set, first + i);
+    for (int i = 0; i < 6; i++)
+        add(column, set[i]);
 }
 
 static void add_machine(void) {
-    uint32_t scratch = below(2);
-    add(3), add_range(0, 6), add_range(64, 4), add(0);
-    add(3), add_range(6, 2), add(0), add(0);
-    add(3), add(scratch ? 1 + 9 : 0), add(scratch ? 1 + 73 : 0), add(0);
-    add(0);
+    uint32_t scratch = below(2), slots = below(4) == 0;
+    add_set(RA2_PREFERRED, 0, 6), add_set(RA2_PREFERRED, 64, 4), add_set(RA2_PREFERRED, 0, 0);
+    add_set(RA2_NON_PREFERRED, 6, 2), add_set(RA2_NON_PREFERRED, 0, 0), add_set(RA2_NON_PREFERRED, 0, 0);
+    add(RA2_SCRATCH, scratch ? 1 + 9 : 0), add(RA2_SCRATCH, scratch ? 1 + 73 : 0), add(RA2_SCRATCH, 0);
+    if (slots)
+        add(RA2_SLOTS, ra2_register(RA2_INT, 20));
+    add_set(RA2_SETS, 0, 4), add_set(RA2_SETS, 64, 2);
 }
 
 static void add_operand(uint32_t vreg, uint32_t kind, uint32_t constraint) {
     uint64_t word = ra2_operand(vreg & 3, vreg >> 2, kind, kind == RA2_DEF ? RA2_LATE : RA2_EARLY, constraint);
-    add((uint32_t)word), add((uint32_t)(word >> 32));
+    add(RA2_OPERANDS, (uint32_t)word), add(RA2_OPERANDS, (uint32_t)(word >> 32));
+}
+
+/* Ends an instruction, whose operands are added. Each takes two words. */
+static void end_inst(uint32_t what, uint32_t set) {
+    add(RA2_KINDS, ra2_kind(set, what));
+    add(RA2_OPERAND_ENDS, columns[RA2_OPERANDS].len / 2);
 }
 
 static uint32_t new_vreg(void) { return ra2_vreg(below(4) == 0 ? RA2_FLOAT : RA2_INT, vregs++); }
@@ -50,9 +70,8 @@ static uint32_t known_integer(void) {
 }
 
 /* An instruction that isn't a branch: a definition, if it is none that returns, and uses of what is known. */
-static void add_inst(uint32_t opcode) {
-    uint32_t uses = known_len ? below(4) : 0, defines = opcode == 0 && below(4), fixed = below(4);
-    add(opcode), add(uses + defines);
+static void add_inst(uint32_t what) {
+    uint32_t uses = known_len ? below(4) : 0, defines = what == RA2_OP && below(4), fixed = below(4);
     for (uint32_t i = 0; i < uses; i++) {
         uint32_t vreg = any_known();
         add_operand(vreg, RA2_USE, i == 0 && fixed == 0 ? RA2_FIXED + below(4) : below(3) ? RA2_REG : RA2_ANY);
@@ -62,55 +81,75 @@ static void add_inst(uint32_t opcode) {
         add_operand(vreg, RA2_DEF, fixed == 1 ? RA2_FIXED + below(4) : below(4) ? RA2_REG : RA2_ANY);
         known[known_len++] = vreg;
     }
-    add_range(0, opcode == 0 && fixed != 1 && below(6) == 0 ? 4 : 0);
+    end_inst(what, what == RA2_OP && fixed != 1 && below(6) == 0 ? 1 + below(2) : 0);
 }
 
-/* Where segments begin: block 3 s forks to 3 s + 1 and 3 s + 2, which go to 3 s + 3, a block with parameters. */
-static void add_function(void) {
-    uint32_t segments = below(5), blocks = 3 * segments + 1, ends[BLOCKS], params[BLOCKS], passed[BLOCKS], count = 0;
-    size_t count_at;
-    len = known_len = vregs = 0;
-    add_machine(), add(0), count_at = len, add(0);
-    for (uint32_t b = 0; b < blocks; b++) {
-        size_t shared = known_len;
-        params[b] = b && b % 3 == 0 ? ra2_vreg(RA2_INT, vregs++) : 0;
-        if (b && b % 3 == 0)
-            known[known_len++] = params[b];
-        for (uint32_t i = below(5); i > 0; i--, count++)
-            add_inst(0);
-        passed[b] = known_integer();
-        if (b % 3 && passed[b] == RA2_NONE) {
-            passed[b] = known[known_len++] = ra2_vreg(RA2_INT, vregs++);
-            add(0), add(1), add_operand(passed[b], RA2_DEF, RA2_REG), add(0), count++;
-        }
-        b == blocks - 1 ? add_inst(1) : (add(2), add(0), add(0));
-        ends[b] = ++count;
-        if (b % 3)
-            known_len = shared;
+/* The instructions of block b, of which the last leaves it. Returns the integer that is passed on, or RA2_NONE. */
+static uint32_t add_insts(uint32_t b, uint32_t last) {
+    for (uint32_t i = below(5); i > 0; i--)
+        add_inst(RA2_OP);
+    uint32_t passed = known_integer();
+    if (b % 3 && passed == RA2_NONE) {
+        passed = known[known_len++] = ra2_vreg(RA2_INT, vregs++);
+        add_operand(passed, RA2_DEF, RA2_REG), end_inst(RA2_OP, 0);
     }
-    words[count_at] = count;
-    add(blocks);
-    for (uint32_t b = 0; b < blocks; b++)
-        add(b ? ends[b - 1] : 0), add(ends[b]);
-    add(blocks);
-    for (uint32_t b = 0; b < blocks; b++)
-        b == 0 ? add(0) : b % 3 ? add_range(b - b % 3, 1) : add_range(b - 2, 2);
-    add(blocks);
-    for (uint32_t b = 0; b < blocks; b++)
-        b == blocks - 1 ? add(0) : b % 3 == 0 ? add_range(b + 1, 2) : add_range(b - b % 3 + 3, 1);
-    add(blocks);
-    for (uint32_t b = 0; b < blocks; b++)
-        add_range(params[b], b && b % 3 == 0);
-    add(blocks);
-    for (uint32_t b = 0; b < blocks; b++)
-        if (b == blocks - 1)
-            add(0);
-        else if (b % 3 == 0)
-            add(2), add(0), add(0);
-        else
-            add(1), add_range(passed[b], 1);
-    add(vregs), add(0), add(0);
-    add(3), add(1), add(0), add(1), add(0), add(2), add(0), add(0), add(0);
+    if (b == last)
+        add_inst(RA2_RETURN);
+    else
+        end_inst(RA2_BRANCH, 0);
+    return passed;
+}
+
+/* The edges of block b: block 3 s forks to 3 s + 1 and 3 s + 2, which go to 3 s + 3, a block with parameters. */
+static void add_edges(uint32_t b, uint32_t last, uint32_t passed) {
+    if (b % 3)
+        add(RA2_PREDS, b - b % 3);
+    else if (b)
+        add(RA2_PREDS, b - 2), add(RA2_PREDS, b - 1);
+    if (b % 3) {
+        add(RA2_SUCCS, b - b % 3 + 3), add(RA2_ARGUMENTS, passed), end(RA2_ARGUMENT_ENDS, RA2_ARGUMENTS);
+    } else if (b != last) {
+        add(RA2_SUCCS, b + 1), end(RA2_ARGUMENT_ENDS, RA2_ARGUMENTS);
+        add(RA2_SUCCS, b + 2), end(RA2_ARGUMENT_ENDS, RA2_ARGUMENTS);
+    }
+}
+
+static void add_block(uint32_t b, uint32_t last) {
+    size_t shared = known_len;
+    if (b && b % 3 == 0) {
+        known[known_len++] = ra2_vreg(RA2_INT, vregs++);
+        add(RA2_PARAMS, known[known_len - 1]);
+    }
+    add_edges(b, last, add_insts(b, last));
+    end(RA2_INST_ENDS, RA2_KINDS), end(RA2_PRED_ENDS, RA2_PREDS), end(RA2_SUCC_ENDS, RA2_SUCCS), end(RA2_PARAM_ENDS, RA2_PARAMS);
+    if (b % 3)
+        known_len = shared;
+}
+
+/* Writes the header, and the columns behind it. */
+static void put_function(void) {
+    uint32_t header[RA2_HEADER_WORDS] = {RA2_LAYOUT};
+    header[RA2_AT_INSTS] = columns[RA2_KINDS].len, header[RA2_AT_BLOCKS] = columns[RA2_INST_ENDS].len;
+    header[RA2_AT_OPERANDS] = columns[RA2_OPERANDS].len / 2, header[RA2_AT_SETS] = columns[RA2_SETS].len / 6;
+    header[RA2_AT_EDGES] = columns[RA2_SUCCS].len, header[RA2_AT_PREDS] = columns[RA2_PREDS].len;
+    header[RA2_AT_PARAMS] = columns[RA2_PARAMS].len, header[RA2_AT_ARGUMENTS] = columns[RA2_ARGUMENTS].len;
+    header[RA2_AT_VREGS] = vregs, header[RA2_AT_LABELS] = columns[RA2_LABELS].len / 4, header[RA2_AT_SLOTS] = columns[RA2_SLOTS].len;
+    header[RA2_AT_FLAGS] = below(2) ? RA2_BY_LAST_UNIT : 0, header[RA2_AT_SIZES] = ra2_sizes(0, 0, 1);
+    memcpy(words, header, sizeof header);
+    for (int k = 1; k < RA2_COLUMNS_END; k++)
+        memcpy(words + ra2_column(header, k), columns[k].words, columns[k].len * sizeof *words);
+    len = ra2_column(header, RA2_COLUMNS_END);
+}
+
+static void add_function(void) {
+    uint32_t last = 3 * below(5);
+    known_len = vregs = 0;
+    for (int k = 0; k < RA2_COLUMNS_END; k++)
+        columns[k].len = 0;
+    add_machine();
+    for (uint32_t b = 0; b <= last; b++)
+        add_block(b, last);
+    put_function();
 }
 
 typedef uint32_t call(const uint32_t *, size_t, uint32_t *, size_t, size_t *);

@@ -1,27 +1,72 @@
 /* The allocator and its checker. Link libregalloc2_c.a, and libregalloc2_c_heap.a (regalloc2_c_heap.c), the toolchain's liblibc_c.a, or
    three functions of your own: rattle_alloc, rattle_realloc and rattle_dealloc, declared below.
 
-   Each pointer names memory of its length in words or bytes, aligned as its type; none is null, also where the length is 0. What a call
-   writes overlaps nothing else that it is given, and nobody else reads or writes it during the call; what it only reads nobody writes. The
-   library keeps nothing from call to call, so threads may call at once if the heap functions allow that, as those over malloc do.
+   POINTERS. Each names memory of its length in words or bytes, aligned as its type, and may be null if that length is 0. `needed` has no
+   length and is never null. What a call writes (`text`, `result`, `needed`) overlaps nothing else that it is given, and nobody else reads or
+   writes it during the call; what a call only reads may overlap, and nobody writes it. Nothing can check this.
+   The library keeps nothing from call to call, so threads may call at once if the heap functions allow that, as those over malloc do.
+   Each call is also a macro of its own name, which replaces a null pointer, because the functions themselves take none. `(regalloc2_c_run)` is
+   the function, and so is a name without arguments behind it. An argument that has a comma outside of parentheses, as a compound literal
+   may, has to be put in parentheses.
 
-   All numbers are 32-bit words. A list is its length and then its members; a number of 64 bits is two words, the lower one first.
-   A register is its index (hardware number + 64 * class: 0 integer, 1 float, 2 vector), a vreg 4 * number + class, an operand
-   the 64-bit word of docs/INPUT.md, a point 2 * instruction (+ 1 after it), a place a word whose upper three bits are its kind
-   (0 none, 1 register, 2 slot) and whose lower ones are the register's index or the slot's number.
+   NUMBERS. All are 32-bit words; a number of 64 bits is two, the lower one first. A register is its index (hardware number + 64 * class:
+   0 integer, 1 float, 2 vector), a vreg 4 * number + class, an operand the 64-bit word of docs/INPUT.md, a point 2 * instruction (+ 1
+   after it), a place a word whose upper three bits are its kind (0 none, 1 register, 2 slot) and whose lower ones are the register's index
+   or the slot's number. A set of registers is six words: register r is in it if bit r % 32 of word r / 32 is 1.
 
-   The function, in this order: the machine: a list of three lists of preferred registers, the same of non-preferred ones, a list
-   of three scratch registers (0 for none, else 1 + index), a list of fixed stack slots; the entry block; a list of instructions,
-   each: what it is (0 op, 1 return, 2 branch), a list of operands, two words each, a list of clobbered registers; a list of
-   blocks, each its first instruction and the one past its last; for each block a list of predecessors; of successors; of
-   parameters; and a list of lists of arguments, one for each successor; the number of vregs (two words); a list of labels,
-   each a vreg, first instruction, end, label; the list of the three sizes of slots (two words each); two flags, 0 or 1: whether a
-   slot is named by its last unit, and whether vregs may have several definitions.
+   THE FUNCTION is a header of 15 words, and columns, which follow one another without a gap. The header:
+      0  2, the number of this layout
+      1  the entry block
+      2  I  instructions
+      3  B  blocks
+      4  O  operands of all instructions
+      5  S  sets of clobbers
+      6  E  edges, which are the successors of all blocks
+      7  P  predecessors of all blocks
+      8  Q  parameters of all blocks
+      9  A  arguments of all edges
+     10  V  a number above that of each vreg that is defined
+     11  L  labels
+     12  X  fixed stack slots
+     13     flags: 1 if a slot of several units is named by its last one, and 2 more if vregs may have several definitions
+     14     the logarithms of a slot's units: of an integer in bits 0 to 7, of a float in bits 8 to 15, of a vector in bits 16 to 23
 
-   The output: the units of slots (two words); a list of moves, each a point, a source, a destination; a list of places; a list
-   of offsets, one for each instruction; a list of debug locations, each a label, two points, a place.
+   The columns, and how many words each takes:
+      1  preferred registers       18     a set for each class
+      2  non-preferred registers   18     a set for each class
+      3  scratch registers          3     for each class 0 for none, else 1 + a register
+      4  fixed stack slots          X     registers
+      5  sets of clobbers         6 S     sets, numbered from 1 in their order
+      6  kinds                      I     for each instruction 4 * the number of its set of clobbers, which is 0 for none, + what it is:
+                                          0 op, 1 return, 2 branch
+      7  operands' ends             I     for each instruction
+      8  operands                 2 O
+      9  instructions' ends         B     for each block
+     10  predecessors' ends         B     for each block
+     11  successors' ends           B     for each block
+     12  parameters' ends           B     for each block
+     13  predecessors               P     blocks, one for each edge
+     14  successors                 E     blocks
+     15  parameters                 Q     vregs
+     16  arguments' ends            E     for each successor of each block
+     17  arguments                  A     vregs
+     18  labels                   4 L     each a vreg, its first instruction, the one past its last, a label
+   An end is how many members there are up to it: the operands of instruction 0 are the first ones, up to its end, those of instruction 1
+   go on from there up to its own, and so on. So ends don't fall, and the last is the count in the header (0 if there is no end). The same
+   of the instructions of blocks, which therefore follow one another, and of all other ends. The demo has a small function.
 
-   A call's result is words, whatever its status: `*needed` is how many. If there is room for them they are written;
+   Words that aren't such a header and its columns are RA2_UNREADABLE: word 0 isn't 2, there are fewer or more words than the header says,
+   flags are 4 or more, or sizes 2^24 or more. Else the status is RA2_BAD_FUNCTION plus the first of these that is so:
+     1   ends fall, or the last isn't the count
+     2   the entry, a predecessor or a successor isn't below B, a set isn't at most S, or a label's vreg isn't below V
+     3   a word is no register, vreg, operand or kind
+     4   I or V isn't below 2^30, B not below 2^32 - 1, or a logarithm is above 24
+   Of a function in JSON or in a text these, and 5 for memory, are as `bad function` of docs/INPUT.md. JSON of another shape is RA2_UNREADABLE.
+
+   THE OUTPUT. A list is its length and then its members. The units of slots (two words); a list of moves, each a point, a source, a
+   destination; a list of places; a list of offsets, one for each instruction; a list of debug locations, each a label, two points, a place.
+
+   THE RESULT of a call is words, whatever its status: `*needed` is how many. If there is room for them they are written;
    else the status is RA2_NO_ROOM, nothing is written, and a second call with room for `*needed` words gives the result: so a call is
    made twice at most. The result by status:
      RA2_OK              the output; of regalloc2_c_judge none
@@ -34,18 +79,18 @@
      else                none
    RA2_NONE stands for what isn't named. RA2_NO_ROOM with `*needed` 0 says that a list of the output has 2^32 members or more.
 
-   A fault is 8 words and a list of vregs:
+   A FAULT is 8 words and a list of vregs:
      0   its number: 1 to 12 as `error` of docs/INPUT.md; 14 a place that is no register for the class and no slot of the frame, 15 a move between
          classes, 16 a slot that isn't within the frame, 17 slots that share a unit; regalloc2_c_fault_text has them in words
      1   the instruction, or RA2_NONE
-     2   of 14 the operand's index, or without an instruction the move's; of 15 the move's index; of 16 and 17 the slot; else RA2_NONE
+     2   of 1 to 9 and 11 the index of the first operand of the instruction with the word and the place below; of 14 the operand's index, or
+         without an instruction the move's; of 15 the move's index; of 16 and 17 the slot; else RA2_NONE
      3,4 of 1 to 9 and 11 the operand's word, else 0
      5   of 1 to 9 and 11 the operand's place, of 10 the one that a move writes, else 0
      6   of 8 the reused operand's place, of 10 the one that a move reads, else 0
      7   of 11 the limit, of 17 the other slot, of 14 without instruction and index the debug location's index, else 0
      8.. of 4 a list of the vregs whose values the place holds, else an empty one
-   Faults are in the order of blocks and instructions. Of 14 to 17 the first is listed alone, once there is none of 1 to 12. Of 1 to 11 the
-   operand is the first one of its instruction with that word and that place. */
+   Faults are in the order of blocks and instructions. Of 14 to 17 the first is listed alone, once there is none of 1 to 12. */
 #ifndef REGALLOC2_C_H
 #define REGALLOC2_C_H
 #include <stdbool.h>
@@ -59,7 +104,7 @@ extern "C" {
 
 enum {
     RA2_OK = 0,
-    RA2_UNREADABLE = 1,   /* the words, or the bytes, lay out no function or no output */
+    RA2_UNREADABLE = 1,   /* the words aren't a header and its columns, or no output, or the bytes are no function */
     RA2_BAD_MACHINE = 2,  /* the machine doesn't fit the function */
     RA2_NO_ROOM = 3,      /* the result takes more words than there is room for */
     RA2_FAULTS = 4,       /* the checker found faults, or places aren't cells */
@@ -68,13 +113,13 @@ enum {
     RA2_BAD_OUTPUT = 7,   /* the output's numbers name none */
     RA2_READ_BEFORE_WRITTEN = 8, /* some path reads or passes a vreg before writing it */
     RA2_BAD_TEXT = 9,     /* a line of the text can't be read */
-    RA2_BAD_FUNCTION = 10,/* and 1 to 6: as `bad function` of docs/INPUT.md */
+    RA2_BAD_FUNCTION = 10,/* and 1 to 5: as above */
     RA2_REFUSED = 20,     /* and 1 to 11: as `refused` of docs/INPUT.md */
     RA2_LAST_STATUS = 31
 };
 
 /* 65536 times the version of the layouts, and how many calls this header declares. */
-#define RA2_VERSION 0x00010009u
+#define RA2_VERSION 0x00020009u
 uint32_t regalloc2_c_version(void);
 
 /* A status, or a fault's number, in English. Returns how many bytes that takes, without a zero at the end; at most `text_len` are written. */
@@ -127,6 +172,9 @@ enum {
     RA2_FIXED = 64  /* and the register's number, 0 to 63 */
 };
 
+enum { RA2_OP = 0, RA2_RETURN = 1, RA2_BRANCH = 2 };
+enum { RA2_BY_LAST_UNIT = 1, RA2_SEVERAL_DEFS = 2 };
+
 static inline uint32_t ra2_register(uint32_t class_, uint32_t number) { return 64 * class_ + number; }
 static inline uint32_t ra2_vreg(uint32_t class_, uint32_t number) { return 4 * number + class_; }
 static inline uint64_t ra2_operand(uint32_t class_, uint32_t number, uint32_t kind, uint32_t position, uint32_t constraint) {
@@ -134,6 +182,102 @@ static inline uint64_t ra2_operand(uint32_t class_, uint32_t number, uint32_t ki
 }
 static inline uint32_t ra2_in_register(uint32_t reg) { return 1u << 29 | reg; }
 static inline uint32_t ra2_in_slot(uint32_t slot) { return 2u << 29 | slot; }
+
+/* Words of functions: kinds by the number of a set, the logarithms of a slot's units, and registers added to the six words of a set. */
+static inline uint32_t ra2_kind(uint32_t set, uint32_t what) { return set << 2 | what; }
+static inline uint32_t ra2_sizes(uint32_t int_, uint32_t float_, uint32_t vector) { return int_ | float_ << 8 | vector << 16; }
+static inline void ra2_add(uint32_t *set, uint32_t reg) { set[reg / 32] |= 1u << reg % 32; }
+
+/* The header by index. */
+enum { RA2_LAYOUT = 2 };
+enum {
+    RA2_AT_LAYOUT = 0,
+    RA2_AT_ENTRY = 1,
+    RA2_AT_INSTS = 2,
+    RA2_AT_BLOCKS = 3,
+    RA2_AT_OPERANDS = 4,
+    RA2_AT_SETS = 5,
+    RA2_AT_EDGES = 6,
+    RA2_AT_PREDS = 7,
+    RA2_AT_PARAMS = 8,
+    RA2_AT_ARGUMENTS = 9,
+    RA2_AT_VREGS = 10,
+    RA2_AT_LABELS = 11,
+    RA2_AT_SLOTS = 12,
+    RA2_AT_FLAGS = 13,
+    RA2_AT_SIZES = 14,
+    RA2_HEADER_WORDS = 15
+};
+
+/* The columns by number. */
+enum {
+    RA2_PREFERRED = 1,
+    RA2_NON_PREFERRED = 2,
+    RA2_SCRATCH = 3,
+    RA2_SLOTS = 4,
+    RA2_SETS = 5,
+    RA2_KINDS = 6,
+    RA2_OPERAND_ENDS = 7,
+    RA2_OPERANDS = 8,
+    RA2_INST_ENDS = 9,
+    RA2_PRED_ENDS = 10,
+    RA2_SUCC_ENDS = 11,
+    RA2_PARAM_ENDS = 12,
+    RA2_PREDS = 13,
+    RA2_SUCCS = 14,
+    RA2_PARAMS = 15,
+    RA2_ARGUMENT_ENDS = 16,
+    RA2_ARGUMENTS = 17,
+    RA2_LABELS = 18,
+    RA2_COLUMNS_END = 19
+};
+
+/* The index at which a column begins, from 1, of a function with that header; of RA2_COLUMNS_END how many words the function takes. */
+static inline size_t ra2_column(const uint32_t *header, unsigned column) {
+    const size_t insts = header[RA2_AT_INSTS], blocks = header[RA2_AT_BLOCKS], edges = header[RA2_AT_EDGES];
+    const size_t widths[] = {
+        RA2_HEADER_WORDS, 18, 18, 3, header[RA2_AT_SLOTS], 6 * (size_t)header[RA2_AT_SETS],
+        insts, insts, 2 * (size_t)header[RA2_AT_OPERANDS],
+        blocks, blocks, blocks, blocks, header[RA2_AT_PREDS], edges, header[RA2_AT_PARAMS],
+        edges, header[RA2_AT_ARGUMENTS], 4 * (size_t)header[RA2_AT_LABELS],
+    };
+    size_t start = 0;
+    for (unsigned k = 0; k < column; k++)
+        start += widths[k];
+    return start;
+}
+
+/* Another address in place of a null pointer, for memory of length 0. */
+static inline const uint32_t *ra2_in(const uint32_t *words) {
+    static const uint32_t unused = 0;
+    return words ? words : &unused;
+}
+static inline const uint8_t *ra2_bytes_in(const uint8_t *bytes) {
+    static const uint8_t unused = 0;
+    return bytes ? bytes : &unused;
+}
+static inline uint32_t *ra2_out(uint32_t *words) {
+    static uint32_t unused;
+    return words ? words : &unused;
+}
+static inline uint8_t *ra2_bytes_out(uint8_t *bytes) {
+    static uint8_t unused;
+    return bytes ? bytes : &unused;
+}
+
+/* The calls, with pointers that may be null where their length is 0. */
+#define regalloc2_c_status_text(status, text, text_len) regalloc2_c_status_text(status, ra2_bytes_out(text), text_len)
+#define regalloc2_c_fault_text(number, text, text_len) regalloc2_c_fault_text(number, ra2_bytes_out(text), text_len)
+#define regalloc2_c_allocate(words, len, result, result_len, needed) regalloc2_c_allocate(ra2_in(words), len, ra2_out(result), result_len, needed)
+#define regalloc2_c_allocate_json(json, len, result, result_len, needed) \
+    regalloc2_c_allocate_json(ra2_bytes_in(json), len, ra2_out(result), result_len, needed)
+#define regalloc2_c_allocate_text(text, len, result, result_len, needed) \
+    regalloc2_c_allocate_text(ra2_bytes_in(text), len, ra2_out(result), result_len, needed)
+#define regalloc2_c_run(words, len, result, result_len, needed) regalloc2_c_run(ra2_in(words), len, ra2_out(result), result_len, needed)
+#define regalloc2_c_judge(words, len, num_spillslots, moves, moves_len, places, places_len, offsets, offsets_len, result, result_len, needed) \
+    regalloc2_c_judge(ra2_in(words), len, num_spillslots, ra2_in(moves), moves_len, ra2_in(places), places_len, ra2_in(offsets), offsets_len, \
+                      ra2_out(result), result_len, needed)
+#define regalloc2_c_check(words, len, output, output_len) regalloc2_c_check(ra2_in(words), len, ra2_in(output), output_len)
 
 #ifdef __cplusplus
 }

@@ -84,6 +84,9 @@ for name in ra2 ra2_text example_toy compile; do
 done
 
 compiled_c demo "$here/demo.c" "$library" "$memory" || exit 1
+if command -v "${CXX:-c++}" >/dev/null; then
+    step "demo.c compiles as C++" "${CXX:-c++}" -std=c++11 -Wall -Wextra -Werror -fsyntax-only -x c++ "$here/demo.c"
+fi
 compiled_c errors -pthread "$here/errors.c" "$library" &&
     step "each status once, from ten threads" "$made/bin/errors"
 compiled_c random -g -fsanitize=address "$here/random.c" "$here/regalloc2_c_heap.c" "$library" &&

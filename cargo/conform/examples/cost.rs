@@ -16,8 +16,7 @@ use regalloc2::judged::{Judge, judge};
 use regalloc2::{Algorithm, Ctx, RegallocOptions, run, run_with_ctx};
 use regalloc2_conform::functions::options;
 use regalloc2_conform::json;
-use regalloc2_judge::words::{Labels, function};
-use regalloc2_proved_sys::Words;
+use regalloc2_judge::words::{FunctionWords, Labels};
 use std::hint::black_box;
 use std::time::{Duration, Instant};
 
@@ -26,7 +25,7 @@ fn main() {
     let [task, file, runs] = &args[..] else { panic!("cost TASK FILE RUNS") };
     let (code, env) = json::read(&std::fs::read_to_string(file).expect("a file"));
     let output = upstream::run(&code, &env, &options(Algorithm::Fastalloc)).expect("upstream allocates");
-    let (mut kept, mut ctx, mut words) = (Judge::new(), Ctx::default(), Words::new());
+    let (mut kept, mut ctx, mut words) = (Judge::new(), Ctx::default(), FunctionWords::new());
     let mut once = || match task.as_str() {
         "run" => drop(black_box(run(&code, &env, &options(Algorithm::Fastalloc)).expect("an output"))),
         "run-ctx" => {
@@ -35,8 +34,7 @@ fn main() {
         "judge" => kept.judge(&code, &env, &output).expect("accepted"),
         "judge-new" => judge(&code, &env, &output).expect("accepted"),
         "layout" => {
-            function(&mut words, &code, &env, Labels::LaidOut);
-            black_box(words.get());
+            black_box(words.write(&code, &env, Labels::LaidOut).expect("words"));
         }
         "upstream-run" => drop(black_box(upstream::run(&code, &env, &options(Algorithm::Fastalloc)).expect("an output"))),
         "upstream-tested" => {

@@ -2,7 +2,7 @@
 
 use regalloc2::judged::judge;
 use regalloc2::{
-    Algorithm, Block, Inst, MachineEnv, Operand, OperandConstraint, OperandKind, OperandPos, RegAllocError, RegClass,
+    Algorithm, Block, Inst, InstRange, MachineEnv, Operand, OperandConstraint, OperandKind, OperandPos, RegAllocError, RegClass,
     RegallocOptions, VReg, run,
 };
 use regalloc2_conform::functions::{Code, Kind, Line, Part, int, machine, options, straight};
@@ -49,6 +49,18 @@ fn errors_are_upstream_s() {
     let mut parts = vec![part(Kind::Branch, &[], &[(1, &[])]), part(Kind::Ret, &[], &[])];
     parts[1].params.push(v(0));
     assert_eq!(error(&Code::of(parts, 1)), "Some(Branch(Inst(0)))");
+}
+
+/// Blocks that don't follow one another from the first instruction to the last: no output can be judged.
+#[test]
+fn blocks_that_are_out_of_order() {
+    let range = |first, end| InstRange::new(Inst::new(first), Inst::new(end));
+    for (block, wrong) in [(0, range(1, 1)), (1, range(0, 2)), (1, range(1, 1)), (1, range(1, 3))] {
+        let mut code = Code::of(vec![part(Kind::Branch, &[], &[(1, &[])]), part(Kind::Ret, &[], &[])], 0);
+        code.ranges[block] = wrong;
+        let error = run(&code, &machine(), &options(Algorithm::Fastalloc)).unwrap_err();
+        assert!(matches!(error, RegAllocError::BB(at) if at == Block::new(block)), "{error:?}");
+    }
 }
 
 #[test]

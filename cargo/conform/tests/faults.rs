@@ -2,8 +2,8 @@
 
 use regalloc2::judged::{Fault, OperandFault, OrderFault, Rejection, Unjudged, judge};
 use regalloc2::{
-    Allocation, Block, Edit, Inst, MachineEnv, Operand, OperandConstraint, OperandKind, OperandPos, Output, PReg, ProgPoint,
-    RegClass, SpillSlot, VReg,
+    Allocation, Block, Edit, Inst, InstRange, MachineEnv, Operand, OperandConstraint, OperandKind, OperandPos, Output, PReg,
+    ProgPoint, RegClass, SpillSlot, VReg,
 };
 use regalloc2_conform::functions::{Code, int, machine, straight};
 use regalloc2_proved_sys::Status;
@@ -88,6 +88,14 @@ fn values() {
     let Fault::Operand { inst, index, op, place, what } = &found[0] else { panic!() };
     assert_eq!((inst.index(), *index, op.vreg(), *place), (1, 1, v(0), p(1)));
     assert_eq!(*what, OperandFault::OtherValues(vec![v(1)]));
+    // the same operand three times: the index is that of the first one in the wrong place
+    let uses = [Operand::reg_use(v(0)); 3];
+    let code = straight(&[&[Operand::reg_def(v(0)), Operand::reg_def(v(1))], &uses], 2);
+    faults(
+        &code,
+        &output(&code, 0, &[], &[p(0), p(1), p(0), p(1), p(1)]),
+        &["inst1 operand 1 `Use: v0i reg` in p1i: the place holds v1 and not the operand's value"],
+    );
 }
 
 #[test]
@@ -207,15 +215,26 @@ fn no_verdict() {
     other.allocs[0] = Allocation::from_bits(7 << 29);
     says(&code, &other, Unjudged::BadOutput, "a number of the output is no encoding");
     let mut other = code.clone();
-    other.lines.pop();
+    other.preds[0].push(Block::new(1));
     says(&other, &fine, Unjudged::BadFunction(2), &Status::BadFunction(2).to_string());
     let mut other = code.clone();
     other.lines[0].operands[0] = Operand::from_bits(3 << 32);
     says(&other, &fine, Unjudged::BadFunction(3), &Status::BadFunction(3).to_string());
     let mut other = code.clone();
+    other.lines[0].clobbers.add(PReg::from_index(192));
+    says(&other, &fine, Unjudged::BadFunction(3), &Status::BadFunction(3).to_string());
+    let mut other = code.clone();
+    other.num_vregs = usize::MAX;
+    says(&other, &fine, Unjudged::BadFunction(4), &Status::BadFunction(4).to_string());
+    let mut other = code.clone();
     other.succs[0].push(Block::new(0));
     other.arguments[0].push(vec![]);
     says(&other, &fine, Unjudged::NotFramed, "the function isn't structurally valid");
+    for (first, end) in [(1, 3), (0, 2), (2, 2), (0, 4)] {
+        let mut other = code.clone();
+        other.ranges[0] = InstRange::new(Inst::new(first), Inst::new(end));
+        says(&other, &fine, Unjudged::NotFramed, "the function isn't structurally valid");
+    }
 }
 
 /// Two slots that share a unit; the values are right by the names of places.

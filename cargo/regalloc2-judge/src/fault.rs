@@ -1,6 +1,7 @@
 //! The judge's results.
 
 use crate::locate::fixed_register;
+use crate::words::Unwritten;
 use regalloc2::{Allocation, Inst, Operand, ProgPoint, SpillSlot, VReg};
 use regalloc2_proved_sys::{Status, fault_text};
 use std::fmt;
@@ -143,12 +144,12 @@ pub enum OrderFault {
 pub enum Unjudged {
     /// Memory ran out.
     NoMemory,
-    /// A length in the function doesn't fit 32 bits.
+    /// A count of the function doesn't fit 32 bits.
     TooLarge,
     /// The function isn't structurally valid: blocks don't follow one another, a block doesn't end in its only branch or return, or a
     /// successor doesn't get as many arguments as it has parameters.
     NotFramed,
-    /// A number of the function is no encoding, or too large. The numbers 1 to 6 are those of `bad function` in docs/INPUT.md.
+    /// A number of the function is no encoding, or too large. `c/regalloc2_c.h` has the numbers.
     BadFunction(u32),
     /// A number of the output is no encoding.
     BadOutput,
@@ -161,6 +162,16 @@ pub enum Unjudged {
 impl From<Unjudged> for Rejection {
     fn from(why: Unjudged) -> Self {
         Rejection::Unjudged(why)
+    }
+}
+
+impl From<Unwritten> for Rejection {
+    fn from(why: Unwritten) -> Self {
+        Rejection::Unjudged(match why {
+            Unwritten::TooLarge => Unjudged::TooLarge,
+            Unwritten::Block(_) => Unjudged::NotFramed,
+            Unwritten::Register => Unjudged::BadFunction(3),
+        })
     }
 }
 

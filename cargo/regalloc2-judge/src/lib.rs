@@ -10,7 +10,8 @@ pub mod words;
 pub use fault::{Fault, MoveFault, OperandFault, OrderFault, Rejection, SlotFault, Unjudged};
 
 use regalloc2::{Function, MachineEnv, Output};
-use regalloc2_proved_sys::{self as sys, Parts, Room, Status, Words};
+use regalloc2_proved_sys::{self as sys, Parts, Room, Status};
+use words::{FunctionWords, Labels};
 
 /// Judges an output of a function for a machine.
 ///
@@ -40,7 +41,7 @@ pub fn assert_faithful(f: &impl Function, env: &MachineEnv, output: &Output) {
 /// Threads may judge at once, each with its own `Judge`.
 #[derive(Clone, Debug, Default)]
 pub struct Judge {
-    function: Words,
+    function: FunctionWords,
     moves: Vec<u32>,
     places: Vec<u32>,
     room: Room,
@@ -61,10 +62,9 @@ impl Judge {
         if !words::agree() {
             return Err(Unjudged::Encoding.into());
         }
-        words::function(&mut self.function, f, env, words::Labels::LeftOut);
         words::moves(&mut self.moves, output);
         words::places(&mut self.places, output);
-        let function = self.function.get().ok_or(Unjudged::TooLarge)?;
+        let function = self.function.write(f, env, Labels::LeftOut)?;
         let parts = Parts {
             num_spillslots: output.num_spillslots as u64,
             moves: &self.moves,

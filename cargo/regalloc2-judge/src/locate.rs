@@ -1,7 +1,7 @@
 //! Translates the library's faults to upstream's types.
 //!
-//! The library names an operand by its encoding and its place, and a stack-to-stack move by its places. The index in the instruction is
-//! the library's if it names one; else, and in the list of moves, the index is that of the first match.
+//! The library names an operand by its instruction and its index, and a stack-to-stack move by its places: its index in the list of moves
+//! is that of the next match, in the order of the faults.
 
 use crate::fault::{Fault, MoveFault, OperandFault, SlotFault};
 use crate::{order, words};
@@ -20,23 +20,11 @@ fn instruction(f: &impl Function, number: u32) -> Option<Inst> {
     ((number as usize) < f.num_insts()).then(|| Inst::new(number as usize))
 }
 
-/// Returns the fault of the operand with this encoding and this place: at the fault's index if that fits, else the first.
+/// Returns the fault of the operand that the library names.
 fn operand(f: &impl Function, output: &Output, fault: &FaultWords, what: OperandFault) -> Option<Fault> {
-    let inst = instruction(f, fault.inst)?;
-    let fits = |index: &usize| {
-        operand_at(f, output, inst, *index).is_some_and(|(op, place)| op.bits() == fault.operand && place.bits() == fault.place)
-    };
-    let named = Some(fault.index as usize).filter(fits);
-    let index = named.or_else(|| (0..f.inst_operands(inst).len()).find(fits))?;
-    let (op, place) = operand_at(f, output, inst, index)?;
-    Some(Fault::Operand { inst, index, op, place, what })
-}
-
-/// Returns the fault of the operand with this index.
-fn operand_of_index(f: &impl Function, output: &Output, fault: &FaultWords) -> Option<Fault> {
     let (inst, index) = (instruction(f, fault.inst)?, fault.index as usize);
     let (op, place) = operand_at(f, output, inst, index)?;
-    Some(Fault::Operand { inst, index, op, place, what: OperandFault::NoCell })
+    Some(Fault::Operand { inst, index, op, place, what })
 }
 
 fn edit(output: &Output, index: usize, what: MoveFault) -> Option<Fault> {
@@ -86,7 +74,7 @@ fn located(f: &impl Function, output: &Output, fault: &FaultWords, next: &mut us
     match fault.number {
         10 => stack_to_stack(output, fault, next),
         12 => Some(Fault::Order(order::fault(f, output))),
-        14 if instruction(f, fault.inst).is_some() => operand_of_index(f, output, fault),
+        14 if instruction(f, fault.inst).is_some() => operand(f, output, fault, OperandFault::NoCell),
         14 => edit(output, fault.index as usize, MoveFault::NoCell),
         15 => edit(output, fault.index as usize, MoveFault::OtherClass),
         16 => Some(slot(fault.index, SlotFault::OutsideFrame)),

@@ -7,10 +7,11 @@ use regalloc2::{
     Allocation, Block, Edit, Function, Inst, InstRange, MachineEnv, Operand, OperandConstraint, OperandKind, OperandPos, Output,
     PReg, PRegSet, ProgPoint, RegClass, SpillSlot, VReg,
 };
-use regalloc2_proved_sys::{self as sys, InstKind, Words};
+use regalloc2_proved_sys::{self as sys, Columns, InstKind, MachineWords, SetWords, Settings};
+use std::collections::HashMap;
 use std::sync::OnceLock;
 
-/// Whether [`function`] writes debug labels.
+/// Whether [`FunctionWords::write`] writes debug labels.
 #[derive(Clone, Copy, Debug, PartialEq, Eq)]
 pub enum Labels {
     /// It writes them, for an allocation.
@@ -53,26 +54,41 @@ fn operands_agree() -> bool {
     })
 }
 
-fn registers(to: &mut Words, set: &PRegSet) {
-    if *set == PRegSet::empty() {
-        return to.word(0);
+/// The reason why a function has no words.
+#[derive(Clone, Copy, Debug, PartialEq, Eq)]
+pub enum Unwritten {
+    /// A count doesn't fit 32 bits.
+    TooLarge,
+    /// This block is empty, doesn't begin where the one before it ends, or is the last and doesn't end at the last instruction.
+    Block(Block),
+    /// A set has a register that is of no class.
+    Register,
+}
+
+/// Returns the words of a set, which are bits.
+fn set_words(set: PRegSet) -> Result<SetWords, Unwritten> {
+    let mut words = SetWords::default();
+    for reg in set {
+        sys::add_register(&mut words, reg.index()).ok_or(Unwritten::Register)?;
     }
-    to.counted(set.into_iter().map(|reg| reg.index() as u32));
+    Ok(words)
 }
 
-fn vregs(to: &mut Words, vregs: &[VReg]) {
-    to.words(vregs.iter().map(|vreg| vreg.bits() as u32));
+fn sets_words(sets: [PRegSet; 3]) -> Result<[SetWords; 3], Unwritten> {
+    let [int, float, vector] = sets;
+    Ok([set_words(int)?, set_words(float)?, set_words(vector)?])
 }
 
-fn blocks(to: &mut Words, blocks: &[Block]) {
-    to.words(blocks.iter().map(|block| block.raw_u32()));
+fn bits(vregs: &[VReg]) -> impl Iterator<Item = u32> {
+    vregs.iter().map(|vreg| vreg.bits() as u32)
 }
 
-fn machine(to: &mut Words, env: &MachineEnv) {
-    to.list(env.preferred_regs_by_class.iter(), registers);
-    to.list(env.non_preferred_regs_by_class.iter(), registers);
-    to.words(env.scratch_by_class.iter().map(|reg| reg.map_or(0, |reg| reg.index() as u32 + 1)));
-    to.words(env.fixed_stack_slots.iter().map(|reg| reg.index() as u32));
+fn numbers(blocks: &[Block]) -> impl Iterator<Item = u32> {
+    blocks.iter().map(|block| block.raw_u32())
+}
+
+fn indexes(regs: &[PReg]) -> impl Iterator<Item = u32> {
+    regs.iter().map(|reg| reg.index() as u32)
 }
 
 /// Returns the first and the last instruction of a range, if any. `InstRange::len` requires that the range isn't reversed.
@@ -82,63 +98,150 @@ fn ends(range: InstRange) -> Option<(Inst, Inst)> {
     Some((first, insts.next_back().unwrap_or(first)))
 }
 
-/// Writes a block's first instruction and one past its last. An empty range is written as `0..0`, which the library rejects too.
-fn range(to: &mut Words, f: &impl Function, block: Block) {
-    let (first, end) = match ends(f.block_insns(block)) {
-        Some((first, last)) => (first.raw_u32(), last.raw_u32().saturating_add(1)),
-        None => (0, 0),
-    };
-    to.word(first);
-    to.word(end);
-}
-
-/// Writes the arguments for each successor. A block that doesn't end in a branch has none.
-fn arguments(to: &mut Words, f: &impl Function, block: Block) {
-    let last = ends(f.block_insns(block)).map(|(_, last)| last);
-    let branch = last.filter(|last| (last.raw_u32() as usize) < f.num_insts() && f.is_branch(*last));
-    to.list(0..f.block_succs(block).len(), |to, k| vregs(to, branch.map_or(&[], |inst| f.branch_blockparams(block, inst, k))));
-}
-
-fn inst(to: &mut Words, f: &impl Function, inst: Inst) {
-    let kind = if f.is_ret(inst) {
+fn kind(f: &impl Function, inst: Inst) -> InstKind {
+    if f.is_ret(inst) {
         InstKind::Return
     } else if f.is_branch(inst) {
         InstKind::Branch
     } else {
         InstKind::Op
-    };
-    to.word(kind as u32);
-    to.longs(f.inst_operands(inst).iter().map(|op| op.bits()));
-    registers(to, &f.inst_clobbers(inst));
+    }
 }
 
-fn labels(to: &mut Words, labels: &[(VReg, Inst, Inst, u32)]) {
-    to.list(labels.iter(), |to, (vreg, from, end, label)| {
-        to.word(vreg.bits() as u32);
-        to.word(from.raw_u32());
-        to.word(end.raw_u32());
-        to.word(*label);
-    });
+/// How many sets of clobbers are searched in turn, before a table is asked.
+const FEW_SETS: usize = 8;
+
+/// The sets of clobbers by their numbers, of which code has few: the first ones in a list, the others in a table.
+#[derive(Clone, Debug, Default)]
+struct Sets {
+    few: Vec<PRegSet>,
+    others: HashMap<PRegSet, u32>,
 }
 
-/// Writes a function and its machine.
-pub fn function(to: &mut Words, f: &impl Function, env: &MachineEnv, which: Labels) {
-    let each_block = || (0..f.num_blocks()).map(Block::new);
-    to.clear();
-    to.reserve(8 * f.num_insts().min(1 << 20) + 64);
-    machine(to, env);
-    to.word(f.entry_block().raw_u32());
-    to.list((0..f.num_insts()).map(Inst::new), |to, i| inst(to, f, i));
-    to.list(each_block(), |to, block| range(to, f, block));
-    to.list(each_block(), |to, block| blocks(to, f.block_preds(block)));
-    to.list(each_block(), |to, block| blocks(to, f.block_succs(block)));
-    to.list(each_block(), |to, block| vregs(to, f.block_params(block)));
-    to.list(each_block(), |to, block| arguments(to, f, block));
-    to.long(f.num_vregs() as u64);
-    labels(to, if which == Labels::LaidOut { f.debug_value_labels() } else { &[] });
-    to.longs(CLASSES.into_iter().map(|class| f.spillslot_size(class) as u64));
-    to.flag(f.multi_spillslot_named_by_last_slot());
-    to.flag(f.allow_multiple_vreg_defs());
+impl Sets {
+    fn clear(&mut self) {
+        self.few.clear();
+        self.others.clear();
+    }
+
+    /// Returns the number of a set, which is added to the columns if it isn't there. The empty one has the number 0.
+    #[inline]
+    fn number(&mut self, to: &mut Columns, set: PRegSet) -> Result<u32, Unwritten> {
+        if set == PRegSet::empty() {
+            return Ok(0);
+        }
+        match self.few.iter().position(|known| *known == set) {
+            Some(k) => Ok(k as u32 + 1),
+            None => self.find(to, set),
+        }
+    }
+
+    #[inline(never)]
+    fn find(&mut self, to: &mut Columns, set: PRegSet) -> Result<u32, Unwritten> {
+        if let Some(number) = self.others.get(&set) {
+            return Ok(*number);
+        }
+        let number = to.set(set_words(set)?);
+        if self.few.len() < FEW_SETS {
+            self.few.push(set);
+        } else {
+            self.others.insert(set, number);
+        }
+        Ok(number)
+    }
+}
+
+/// Writes functions as words, and keeps the memory from one function to the next.
+#[derive(Clone, Debug, Default)]
+pub struct FunctionWords {
+    columns: Columns,
+    sets: Sets,
+}
+
+impl FunctionWords {
+    /// Returns a writer without memory.
+    pub fn new() -> Self {
+        Self::default()
+    }
+
+    fn machine(&mut self, env: &MachineEnv) -> Result<(), Unwritten> {
+        let registers = MachineWords {
+            preferred: sets_words(env.preferred_regs_by_class)?,
+            non_preferred: sets_words(env.non_preferred_regs_by_class)?,
+            scratch: env.scratch_by_class.map(|reg| reg.map(|reg| reg.index() as u32)),
+        };
+        self.columns.machine(registers, indexes(&env.fixed_stack_slots));
+        Ok(())
+    }
+
+    fn insts(&mut self, f: &impl Function) -> Result<(), Unwritten> {
+        for inst in (0..f.num_insts()).map(Inst::new) {
+            let set = self.sets.number(&mut self.columns, f.inst_clobbers(inst))?;
+            self.columns.inst(kind(f, inst), set, f.inst_operands(inst).iter().map(|op| op.bits()));
+        }
+        Ok(())
+    }
+
+    /// Writes a block, whose instructions end before `end`. A block that doesn't end in a branch passes no arguments.
+    fn block(&mut self, f: &impl Function, block: Block, last: Inst, end: u32) {
+        let branches = f.is_branch(last);
+        for (k, succ) in f.block_succs(block).iter().enumerate() {
+            let arguments = if branches { f.branch_blockparams(block, last, k) } else { &[] };
+            self.columns.edge(succ.raw_u32(), bits(arguments));
+        }
+        self.columns.block(end, numbers(f.block_preds(block)), bits(f.block_params(block)));
+    }
+
+    fn blocks(&mut self, f: &impl Function) -> Result<(), Unwritten> {
+        let (count, insts) = (f.num_blocks(), f.num_insts() as u32);
+        let mut at = 0;
+        for block in (0..count).map(Block::new) {
+            let (first, last) = ends(f.block_insns(block)).ok_or(Unwritten::Block(block))?;
+            let end = last.raw_u32().saturating_add(1);
+            let is_last = block.index() + 1 == count;
+            if first.raw_u32() != at || end > insts || is_last && end != insts {
+                return Err(Unwritten::Block(block));
+            }
+            self.block(f, block, last, end);
+            at = end;
+        }
+        Ok(())
+    }
+
+    fn labels(&mut self, f: &impl Function) {
+        for (vreg, from, end, label) in f.debug_value_labels() {
+            self.columns.label([vreg.bits() as u32, from.raw_u32(), end.raw_u32(), *label]);
+        }
+    }
+
+    /// Returns the words of a function and its machine.
+    ///
+    /// # Errors
+    ///
+    /// [`Unwritten`] if the layout has no words for it.
+    pub fn write(&mut self, f: &impl Function, env: &MachineEnv, which: Labels) -> Result<&[u32], Unwritten> {
+        let (insts, blocks) = (f.num_insts(), f.num_blocks());
+        if insts.max(blocks) >= u32::MAX as usize {
+            return Err(Unwritten::TooLarge);
+        }
+        self.columns.clear();
+        self.sets.clear();
+        self.columns.reserve(insts.min(1 << 20), blocks.min(1 << 20));
+        self.machine(env)?;
+        self.insts(f)?;
+        self.blocks(f)?;
+        if which == Labels::LaidOut {
+            self.labels(f);
+        }
+        let settings = Settings {
+            entry: f.entry_block().raw_u32(),
+            num_vregs: f.num_vregs(),
+            slot_sizes: CLASSES.map(|class| f.spillslot_size(class)),
+            named_by_last_slot: f.multi_spillslot_named_by_last_slot(),
+            several_definitions: f.allow_multiple_vreg_defs(),
+        };
+        self.columns.words(settings).ok_or(Unwritten::TooLarge)
+    }
 }
 
 /// Writes an output's moves: point, source and destination of each.
@@ -176,6 +279,17 @@ mod tests {
     fn encodings_agree() {
         assert!(sys::agrees(), "version {:x}", sys::version());
         assert!(names_agree() && operands_agree());
+    }
+
+    #[test]
+    fn sets_have_one_number_each() {
+        let (mut sets, mut columns) = (Sets::default(), Columns::new());
+        let set = |index| PRegSet::empty().with(PReg::from_index(index));
+        for index in (0..3 * FEW_SETS).chain(0..3 * FEW_SETS) {
+            assert_eq!(sets.number(&mut columns, set(index)), Ok(index as u32 + 1));
+        }
+        assert_eq!(sets.number(&mut columns, PRegSet::empty()), Ok(0));
+        assert_eq!(sets.number(&mut columns, set(192)), Err(Unwritten::Register));
     }
 
     #[test]

@@ -49,7 +49,7 @@ mod raw {
 }
 
 /// The library version that this crate expects: 65536 times the version of the layouts, plus the number of calls.
-pub const VERSION: u32 = 0x0001_0009;
+pub const VERSION: u32 = 0x0002_0009;
 
 /// Returns the version of the linked library.
 pub fn version() -> u32 {
@@ -133,9 +133,9 @@ impl Room {
     }
 }
 
-/// Returns a length that fits nearly every output: an output takes less than a word for each word of its function.
+/// Returns a length that fits nearly every output: an output takes less than two words for each word of its function.
 fn expected(function: &[u32]) -> usize {
-    function.len().saturating_add(256)
+    function.len().saturating_mul(2).saturating_add(256)
 }
 
 /// Allocates registers to a function in words, and checks the output.
@@ -228,18 +228,25 @@ pub fn check(function: &[u32], output: &[u32]) -> Status {
 #[cfg(test)]
 mod tests {
     use super::*;
-    use crate::{NONE, OutputWords, RefusalWords, faults};
+    use crate::{Columns, InstKind, MachineWords, NONE, OutputWords, RefusalWords, Settings, faults};
 
-    const DEF: [u32; 2] = [0, 20];
-    const USE: [u32; 2] = [1, 24];
+    const DEF: u64 = 20 << 32;
+    const USE: u64 = 24 << 32 | 1;
 
     /// block0 defines v0 and goes to block1(v0), which reads its parameter v1 and returns.
     fn two_blocks(entry: u32) -> Vec<u32> {
-        let mut words = vec![3, 2, 0, 1, 0, 0, 3, 0, 0, 0, 3, 0, 0, 0, 0, entry];
-        words.extend([3, 0, 1, DEF[0], DEF[1], 0, 2, 0, 0, 1, 1, USE[0], USE[1], 0]);
-        words.extend([2, 0, 2, 2, 3, 2, 0, 1, 0, 2, 1, 1, 0, 2, 0, 1, 4, 2, 1, 1, 0, 0]);
-        words.extend([2, 0, 0, 3, 1, 0, 1, 0, 1, 0, 0, 0]);
-        words
+        let mut columns = Columns::new();
+        let preferred = [[3, 0, 0, 0, 0, 0], [0; 6], [0; 6]];
+        columns.machine(MachineWords { preferred, ..MachineWords::default() }, [].into_iter());
+        columns.inst(InstKind::Op, 0, [DEF].into_iter());
+        columns.inst(InstKind::Branch, 0, [].into_iter());
+        columns.inst(InstKind::Return, 0, [USE].into_iter());
+        columns.edge(1, [0].into_iter());
+        columns.block(2, [].into_iter(), [].into_iter());
+        columns.block(3, [0].into_iter(), [4].into_iter());
+        let settings =
+            Settings { entry, num_vregs: 2, slot_sizes: [1; 3], named_by_last_slot: false, several_definitions: false };
+        columns.words(settings).unwrap().to_vec()
     }
 
     #[test]
@@ -271,7 +278,8 @@ mod tests {
         assert_eq!(judge(&function, parts, &mut other).status, Status::Ok);
         let wrong = judge(&function, Parts { places: &[0, output.places[1]], ..parts }, &mut other);
         assert_eq!(wrong.status, Status::Faults);
-        assert_eq!(faults(wrong.words).unwrap()[0].number, 1);
+        let found = faults(wrong.words).unwrap();
+        assert_eq!((found[0].number, found[0].inst, found[0].index, found[0].operand), (1, 0, 0, DEF));
     }
 
     #[test]

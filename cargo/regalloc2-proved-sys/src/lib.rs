@@ -13,4 +13,4 @@ pub use calls::{
 };
 pub use read::{FaultWords, MisfitWords, NONE, OutputWords, ReadFault, RefusalWords, faults};
 pub use status::Status;
-pub use write::{InstKind, Words};
+pub use write::{Columns, InstKind, LAYOUT, MachineWords, SetWords, Settings, add_register};

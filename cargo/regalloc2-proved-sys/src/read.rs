@@ -107,7 +107,7 @@ pub struct FaultWords<'a> {
     pub number: u32,
     /// The instruction.
     pub inst: u32,
-    /// The index of an operand or a move, or a slot.
+    /// The index of an operand or of a move, or a slot.
     pub index: u32,
     /// The operand's encoding.
     pub operand: u64,
@@ -147,11 +147,11 @@ mod tests {
     #[test]
     fn two_faults() {
         let place = 1 << 29 | 3;
-        let words = [2, 4, 7, NONE, 5, 24, place, 0, 0, 2, 8, 12, 12, NONE, NONE, 0, 0, 0, 0, 0, 0];
+        let words = [2, 4, 7, 1, 5, 24, place, 0, 0, 2, 8, 12, 12, NONE, NONE, 0, 0, 0, 0, 0, 0];
         let read = faults(&words).unwrap();
         assert_eq!(read.len(), 2);
-        assert_eq!((read[0].number, read[0].inst, read[0].operand, read[0].place), (4, 7, 5 + (24 << 32), place));
-        assert_eq!(read[0].vregs, [8, 12]);
+        assert_eq!((read[0].number, read[0].inst, read[0].index), (4, 7, 1));
+        assert_eq!((read[0].operand, read[0].place, read[0].vregs), (5 + (24 << 32), place, &[8, 12][..]));
         assert_eq!((read[1].number, read[1].inst, read[1].vregs), (12, NONE, &[][..]));
         assert!((0..words.len()).all(|n| faults(&words[..n]).is_err()));
     }

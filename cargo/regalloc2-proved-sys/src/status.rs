@@ -7,7 +7,7 @@ use std::fmt;
 pub enum Status {
     /// The call succeeded.
     Ok,
-    /// The words encode no function or no output: the layout is wrong, or a number is too large.
+    /// The words aren't a header and its columns, or no output; the bytes are no function.
     Unreadable,
     /// The machine doesn't fit the function, for the reason in [`MisfitWords`](crate::MisfitWords).
     BadMachine,
@@ -25,7 +25,7 @@ pub enum Status {
     ReadBeforeWritten,
     /// A line of the text can't be read.
     BadText,
-    /// A number of the function is no encoding, or too large. The numbers 1 to 6 are those of `bad function` in docs/INPUT.md.
+    /// A number of the function is no encoding, or too large. `regalloc2_c.h` has the numbers 1 to 5.
     BadFunction(u32),
     /// The allocator's error. The numbers 1 to 11 are those of `refused` in docs/INPUT.md; [`RefusalWords`](crate::RefusalWords) names the place.
     Refused(u32),

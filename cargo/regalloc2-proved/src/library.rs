@@ -1,7 +1,7 @@
 //! Calls the proved allocator.
 
-use regalloc2_judge::words::{self, Labels, place, vreg};
-use regalloc2_proved_sys::{self as sys, Answer, FaultWords, NONE, OutputWords, RefusalWords, Room, Status, Words};
+use regalloc2_judge::words::{self, FunctionWords, Labels, Unwritten, place, vreg};
+use regalloc2_proved_sys::{self as sys, Answer, FaultWords, NONE, OutputWords, RefusalWords, Room, Status};
 use upstream::{Block, Edit, Function, Inst, MachineEnv, Output, ProgPoint, RegAllocError, VReg};
 
 /// The reason why the proved allocator returns no output.
@@ -15,7 +15,7 @@ pub(crate) enum Refusal {
 /// The proved allocator's memory.
 #[derive(Default)]
 pub(crate) struct Library {
-    function: Words,
+    function: FunctionWords,
     room: Room,
 }
 
@@ -30,6 +30,14 @@ fn inst(number: u32) -> Inst {
 /// Returns the refusal of a form that no instruction has.
 fn form() -> Refusal {
     Refusal::Form(Inst::invalid())
+}
+
+/// Returns the refusal of a function that has no words.
+fn refusal_of(why: Unwritten) -> Refusal {
+    match why {
+        Unwritten::Block(block) => Refusal::Of(RegAllocError::BB(block)),
+        Unwritten::TooLarge | Unwritten::Register => form(),
+    }
 }
 
 /// Returns upstream's error for a status.
@@ -96,8 +104,7 @@ impl Library {
         if !words::agree() {
             return Err(form());
         }
-        words::function(&mut self.function, f, env, Labels::LaidOut);
-        let function = self.function.get().ok_or_else(form)?;
+        let function = self.function.write(f, env, Labels::LaidOut).map_err(refusal_of)?;
         let answer = sys::run(function, &mut self.room);
         match answer.status {
             Status::Ok => return read(answer.words, output),
