@@ -5,3 +5,4 @@ pub mod Status
 pub mod Payload
 pub mod Faults
 pub mod Outcome
+pub mod Texts

@@ -254,8 +254,3 @@ abbrev pub IsCheckOutcome : List ℕ → List ℕ → ℕ → Type 0
 IsCheckOutcome words output status =
     ((status ≡ 0) × (f : FunctionValue) × (env : MachineValue) × AreWordsOf words f env × IsAcceptedOutput (AreOutputWords output) f env)
     ⊎ ((e : Failure) × (status ≡ failure_number e) × IsNotAccepted words output e)
-
--- a text of which so many bytes are written as there is room for, and how many it has
-abbrev pub IsTold : List ℕ → List ℕ → ℕ → Type 0
-IsTold old now count = (text : List ℕ) × (0 < length text) × IsUtf8 text × (count ≡ length text)
-    × ((length text ≤ length old → take (length text) now ≡ text) × (length old < length text → now ≡ take (length old) text))

@@ -1,11 +1,22 @@
 //! What statuses and faults say, in English.
 
-ghost use Rattle.std.specs.Prelude.{◌<◌, length};
-ghost use Rattle.regalloc2_c.specs.Outcome.{IsTold};
+ghost use Rattle.std.specs.Prelude.{◌≡◌, slice_index_or};
+ghost use Rattle.regalloc2_c.specs.Texts.{status_text, failure_texts, refusal_texts, no_status, fault_text, IsTold};
 
 /// What a status says.
 pub fn status_words(status: u32) -> &'static str
-    ensures { 0 < length result.now }
+    ensures { result.now ≡ status_text status }
+{
+    if status < 20 {
+        failure_words(status)
+    } else {
+        refusal_words(status - 20)
+    }
+}
+
+/// What a status below 20 says.
+fn failure_words(status: u32) -> &'static str
+    ensures { result.now ≡ slice_index_or failure_texts status no_status }
 {
     match status {
         0 => "the call succeeded",
@@ -18,41 +29,44 @@ pub fn status_words(status: u32) -> &'static str
         7 => "the output's numbers name none",
         8 => "a virtual register is read before it is written",
         9 => "a line of the text can't be read",
+        10 => "no status",
         11 => "bad function: lists by block or by class have different lengths",
         12 => "bad function: a block, a range or a label is out of range",
         13 => "bad function: a word names nothing",
         14 => "bad function: a limit is passed",
         15 => "bad function: out of memory",
         16 => "bad function: a value has another shape",
-        21..=31 => refusal_words(status),
         _ => "no status",
     }
 }
 
-/// What the status of an allocator's error says.
-fn refusal_words(status: u32) -> &'static str
-    ensures { 0 < length result.now }
+/// What the number of an allocator's error says.
+fn refusal_words(number: u32) -> &'static str
+    ensures { result.now ≡ slice_index_or refusal_texts number no_status }
 {
-    match status {
-        21 => "refused: an edge is critical",
-        22 => "refused: a virtual register isn't defined where it is used, or twice",
-        23 => "refused: a block is malformed",
-        24 => "refused: a branch isn't the last instruction of its block, or the last is none",
-        25 => "refused: the entry has parameters or predecessors",
-        26 => "refused: a branch's arguments don't match",
-        27 => "refused: an instruction has too few registers",
-        28 => "refused: too many operands",
-        29 => "refused: an operand isn't supported",
-        30 => "refused: too many spill slots",
-        _ => "refused: out of memory",
+    match number {
+        0 => "no status",
+        1 => "refused: an edge is critical",
+        2 => "refused: a virtual register isn't defined where it is used, or twice",
+        3 => "refused: a block is malformed",
+        4 => "refused: a branch isn't the last instruction of its block, or the last is none",
+        5 => "refused: the entry has parameters or predecessors",
+        6 => "refused: a branch's arguments don't match",
+        7 => "refused: an instruction has too few registers",
+        8 => "refused: too many operands",
+        9 => "refused: an operand isn't supported",
+        10 => "refused: too many spill slots",
+        11 => "refused: out of memory",
+        _ => "no status",
     }
 }
 
 /// What a fault's number says.
 pub fn fault_words(number: u32) -> &'static str
-    ensures { 0 < length result.now }
+    ensures { result.now ≡ fault_text number }
 {
     match number {
+        0 => "no fault",
         1 => "an operand has no place",
         2 => "the place doesn't hold a value on every path",
         3 => "the place holds values that conflict",
@@ -76,8 +90,7 @@ pub fn fault_words(number: u32) -> &'static str
 
 /// Writes words as far as there is room, and says how many bytes they are.
 pub fn tell(words: &str, text: &mut [u8]) -> usize
-    requires { 0 < length words.now }
-    ensures { IsTold text.old text.new result }
+    ensures { IsTold words.now text.old text.new result }
 {
     let bytes = words.as_bytes();
     let count = bytes.len();
