@@ -1,5 +1,5 @@
 -- Lemmas on the first number that passes a test.
-use Rattle.std.proofs.Common.{ℕ, ◌≡◌, ◌<◌, ◌+◌, ◌-◌, zero, suc, Bool, true, false, if◌then◌else◌, refl, sym, subst, arith}
+use Rattle.std.proofs.Common.{ℕ, ◌≡◌, ◌<◌, ◌+◌, ◌-◌, suc, Bool, true, false, if◌then◌else◌, refl, sym, subst, arith}
 use Rattle.regalloc2_c.specs.Payload.{as_word, none}
 use Rattle.regalloc2_c.specs.Faults.{first_index}
 

@@ -15,7 +15,6 @@ use Rattle.regalloc2_function.specs.OutputValue.{OutputValue, IsInOrder, place_a
 use Rattle.regalloc2_function.specs.Faithful.{IsFaithful}
 use Rattle.regalloc2_checker.specs.Cells.{AreCells}
 use Rattle.regalloc2_checker.specs.CellFaults.{IsCellFault}
-use Rattle.regalloc2_checker.specs.ErrorsFound.{errors_of}
 use Rattle.regalloc2_checker.specs.Report.{IsReport, invalid_operand}
 use Rattle.regalloc2_checker.specs.declared.cells.CellFault.{CellFault}
 use Rattle.regalloc2_checker.specs.declared.cells.CellFault.TheVariants.{Operand, MoveEnd, OtherClass, Location, Slot, Shared, Memory as CellMemory}

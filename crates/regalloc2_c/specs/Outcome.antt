@@ -10,8 +10,6 @@ use Rattle.regalloc2.specs.FunctionValue.{FunctionValue}
 use Rattle.regalloc2.specs.Machine.{MachineValue}
 use Rattle.regalloc2.specs.Fitting.{MachineFits}
 use Rattle.regalloc2_function.specs.Misfit.{IsMisfit}
-use Rattle.regalloc2_function.specs.declared.misfit.MachineMisfit.{MachineMisfit}
-use Rattle.regalloc2_names.specs.declared.RegAllocError.{RegAllocError}
 use Rattle.regalloc2.specs.OutputValue.{OutputValue, IsInOrder}
 use Rattle.regalloc2.specs.Stored.{NamesValues, output_of_stored}
 use Rattle.regalloc2.specs.Faithful.{IsFaithful}

@@ -62,13 +62,7 @@ fn index_of(operands: &[Operand], places: &[Allocation], op: Operand, place: All
 }
 
 /// The index of the first operand of an instruction with that word that is in that place, as a word.
-fn index_in<F: Function>(
-    f: &F,
-    output: &Output,
-    inst: Inst,
-    op: Operand,
-    place: Allocation,
-) -> u32
+fn index_in<F: Function>(f: &F, output: &Output, inst: Inst, op: Operand, place: Allocation) -> u32
     requires { IsInOrder (F.function f.now) (output_of output.now) }
     ensures { result ≡ operand_index (F.function f.now) (output_of output.now) inst op place }
 {
@@ -202,7 +196,11 @@ fn vregs_of(error: &CheckerError) -> &[VReg]
 }
 
 /// Adds the words of a fault to others.
-fn push_fault<F: Function>(to: &mut Vec<u32>, judged: &Judged<'_, F>, error: &CheckerError) -> Result<(), AllocError>
+fn push_fault<F: Function>(
+    to: &mut Vec<u32>,
+    judged: &Judged<'_, F>,
+    error: &CheckerError,
+) -> Result<(), AllocError>
     requires { IsInOrder (F.function judged.now.f.now) (output_of judged.now.output.now) }
     ensures { OnOk result (to.new.items ≡ to.old.items ++ fault_words (F.function judged.now.f.now) (output_of judged.now.output.now) error.now) }
 {
@@ -230,7 +228,11 @@ fn push_faults<F: Function>(
 }
 
 /// The failure that tells these faults.
-fn faults_failure<F: Function>(alloc: Global, judged: &Judged<'_, F>, errors: &[CheckerError]) -> Failure
+fn faults_failure<F: Function>(
+    alloc: Global,
+    judged: &Judged<'_, F>,
+    errors: &[CheckerError],
+) -> Failure
     requires { IsInOrder (F.function judged.now.f.now) (output_of judged.now.output.now) }
     ensures { IsFaultsTold (faults_words (F.function judged.now.f.now) (output_of judged.now.output.now) errors.now) result }
 {
@@ -242,7 +244,11 @@ fn faults_failure<F: Function>(alloc: Global, judged: &Judged<'_, F>, errors: &[
 }
 
 /// The failure that the checker's errors come to: they are `Memory` alone where memory was refused.
-pub fn failure_of_errors<F: Function>(alloc: Global, judged: &Judged<'_, F>, errors: &[CheckerError]) -> Failure
+pub fn failure_of_errors<F: Function>(
+    alloc: Global,
+    judged: &Judged<'_, F>,
+    errors: &[CheckerError],
+) -> Failure
     requires { IsInOrder (F.function judged.now.f.now) (output_of judged.now.output.now) }
     ensures { IsErrorsFailure (F.function judged.now.f.now) (output_of judged.now.output.now) errors.now result }
 {
