@@ -51,9 +51,9 @@
      16  arguments' ends            E     for each successor of each block
      17  arguments                  A     vregs
      18  labels                   4 L     each a vreg, its first instruction, the one past its last, a label
-   An end is how many members there are up to it: the operands of instruction 0 are the first ones, up to its end, those of instruction 1
-   go on from there up to its own, and so on. So ends don't fall, and the last is the count in the header (0 if there is no end). The same
-   of the instructions of blocks, which therefore follow one another, and of all other ends. The demo has a small function.
+   An end counts members, not words, up to the last one of its instruction, block or edge: the operands of instruction k are those from end
+   k - 1, or from 0, up to end k. So ends don't fall, and the last is the count in the header; without ends the count is 0. The instructions of
+   blocks, which therefore follow one another, and all others lie in the same way. demo.c has a small function.
 
    Words that aren't such a header and its columns are RA2_UNREADABLE: word 0 isn't 2, there are fewer or more words than the header says,
    flags are 4 or more, or sizes 2^24 or more. Else the status is RA2_BAD_FUNCTION plus the first of these that is so:
@@ -188,7 +188,7 @@ static inline uint32_t ra2_kind(uint32_t set, uint32_t what) { return set << 2 |
 static inline uint32_t ra2_sizes(uint32_t int_, uint32_t float_, uint32_t vector) { return int_ | float_ << 8 | vector << 16; }
 static inline void ra2_add(uint32_t *set, uint32_t reg) { set[reg / 32] |= 1u << reg % 32; }
 
-/* The header by index. */
+/* The header by index. The layout's number is RA2_LAYOUT. */
 enum { RA2_LAYOUT = 2 };
 enum {
     RA2_AT_LAYOUT = 0,
