@@ -7,6 +7,7 @@
 mod blocks;
 mod cause;
 mod definitions;
+mod edges;
 mod explanation;
 mod faults;
 mod operands;
@@ -15,6 +16,7 @@ mod pressure;
 pub mod report;
 mod source;
 mod stored;
+mod write_search;
 mod writes;
 
 pub use cause::{Cause, Site};
@@ -22,4 +24,5 @@ pub use explanation::{Explanation, explain, misfit_at};
 pub use faults::{StoredCause, explain_function, explain_output};
 pub use paths::{UnwrittenRead, find_unwritten_read};
 pub use source::{Source, SourceLine};
-pub use writes::{LastWrite, last_write};
+pub use write_search::{LastWrites, WriteOnPath, last_writes};
+pub use writes::LastWrite;

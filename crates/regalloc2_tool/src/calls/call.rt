@@ -16,7 +16,7 @@ use regalloc2_analysis::liveness::reads_written;
 use regalloc2_checker::{CellFault, Checker, CheckerError, test_cells};
 use regalloc2_explain::report::{Stats, StatsJson, write_diff, write_dump};
 use regalloc2_explain::{
-    Site, Source, explain, explain_function, explain_output, find_unwritten_read, last_write,
+    Site, Source, explain, explain_function, explain_output, find_unwritten_read, last_writes,
     misfit_at,
 };
 use regalloc2_fastalloc::{Algorithm, RegallocOptions, run};
@@ -247,6 +247,7 @@ fn operand_index(function: &StoredFunction, inst: Inst, operand: Operand) -> Opt
 /// Writes the line of the operand that a finding names and, if the operand reads another value,
 /// what wrote its place last.
 fn explain_finding<W: Write>(
+    alloc: Global,
     error: &CheckerError,
     given: &Given<'_, '_, '_>,
     source: &Source<'_>,
@@ -264,8 +265,8 @@ fn explain_finding<W: Write>(
     let (Some(place), Some(output)) = (place, given.output) else {
         return Ok(());
     };
-    if let Some(written) = last_write(given.function, output, number, place) {
-        writeln!(to, "  {place} is {written}")?;
+    if let Some(writes) = last_writes(alloc, given.function, output, number, place)? {
+        writes.write(to)?;
     }
     Ok(())
 }
@@ -273,6 +274,7 @@ fn explain_finding<W: Write>(
 /// Writes a line for each error, unless it is a failed memory allocation, and explains the first
 /// errors if there is a text.
 fn write_findings<W: Write>(
+    alloc: Global,
     errors: &[CheckerError],
     given: &Given<'_, '_, '_>,
     to: &mut W,
@@ -283,7 +285,7 @@ fn write_findings<W: Write>(
         }
         writeln!(to, "{error}")?;
         if let (Some(source), true) = (&given.source, k < EXPLAINED) {
-            explain_finding(error, given, source, to)?;
+            explain_finding(alloc, error, given, source, to)?;
         }
     }
     Ok(())
@@ -308,7 +310,7 @@ fn judge<F: Function, W: Write>(
         return Err(CallError::Memory);
     };
     if let Err(error) = checker.prepare(output) {
-        write_findings(&[error], given, to)?;
+        write_findings(alloc, &[error], given, to)?;
         return Ok(false);
     }
     match checker.run() {
@@ -324,7 +326,7 @@ fn judge<F: Function, W: Write>(
             }
         },
         Err(errors) => {
-            write_findings(errors.errors(), given, to)?;
+            write_findings(alloc, errors.errors(), given, to)?;
             Ok(false)
         }
     }
