@@ -7,7 +7,9 @@
 mod blocks;
 mod cause;
 mod definitions;
+mod edges;
 mod explanation;
+mod fault_site;
 mod faults;
 mod operands;
 mod paths;
@@ -15,6 +17,7 @@ mod pressure;
 pub mod report;
 mod source;
 mod stored;
+mod write_search;
 mod writes;
 
 pub use cause::{Cause, Site};
@@ -22,4 +25,5 @@ pub use explanation::{Explanation, explain, misfit_at};
 pub use faults::{StoredCause, explain_function, explain_output};
 pub use paths::{UnwrittenRead, find_unwritten_read};
 pub use source::{Source, SourceLine};
-pub use writes::{LastWrite, last_write};
+pub use write_search::{LastWrites, WriteOnPath, last_writes};
+pub use writes::LastWrite;

@@ -1,6 +1,7 @@
 //! A path on which a vreg is read before it is written.
 
 use crate::cause::Site;
+use crate::edges::{Along, edges_into};
 use crate::stored::{arguments_of, list_of, operand_of, operands_at, range_of, vreg_of};
 use regalloc2_names::{OperandPos, VReg, VRegText};
 use regalloc2_serialize::StoredFunction;
@@ -23,12 +24,8 @@ pub struct UnwrittenRead {
 impl fmt::Display for UnwrittenRead {
     fn fmt<W: fmt::Write>(&self, f: &mut fmt::Formatter<W>) -> fmt::Result {
         let vreg = VRegText(self.vreg);
-        write!(f, "{vreg} is read before it is written along ")?;
-        for (k, block) in self.path.iter().enumerate() {
-            let before = if k == 0 { "" } else { ", " };
-            write!(f, "{before}block{block}")?;
-        }
-        Ok(())
+        let path = Along(self.path.as_slice());
+        write!(f, "{vreg} is read before it is written{path}")
     }
 }
 
@@ -224,30 +221,6 @@ impl Search {
         }
         Ok(path)
     }
-}
-
-/// Adds a block to the lists of predecessors of its successors.
-fn add_edges(edges: &mut [Vec<u32>], block: u32, succs: &[u32]) -> Result<(), AllocError> {
-    for succ in succs {
-        if let Some(list) = edges.get_mut(*succ as usize) {
-            list.push(block)?;
-        }
-    }
-    Ok(())
-}
-
-/// The predecessors of each block.
-fn edges_into(alloc: Global, function: &StoredFunction) -> Result<Vec<Vec<u32>>, AllocError> {
-    let mut edges = Vec::new(alloc);
-    for _ in 0..function.blocks.len() {
-        edges.push(Vec::new(alloc))?;
-    }
-    for (block, succs) in function.block_succs.iter().enumerate() {
-        if let Ok(block) = u32::try_from(block) {
-            add_edges(edges.as_mut_slice(), block, succs.as_slice())?;
-        }
-    }
-    Ok(edges)
 }
 
 /// A read that precedes each write on a path from the entry, with a shortest such path. Nothing if

@@ -1,8 +1,8 @@
-//! Where a place was written last before an instruction reads it.
+//! The last write of a place by instructions and moves in a block.
 
-use crate::stored::{block_of, operand_of, operands_at, range_of};
+use crate::stored::{operand_of, operands_at};
 use regalloc2_function::StoredOutput;
-use regalloc2_names::{Allocation, PReg};
+use regalloc2_names::{Allocation, InstPosition, PReg, ProgPoint};
 use regalloc2_serialize::StoredFunction;
 use std::fmt;
 
@@ -13,25 +13,36 @@ pub enum LastWrite {
     Definition(usize, usize),
     /// The clobbers of an instruction.
     Clobber(usize),
-    /// A move from that place, at a point before that instruction.
-    Move(Allocation, usize),
-    /// Nothing since the beginning of that block.
-    Before(usize),
+    /// A move from that place, at that point.
+    Move(Allocation, ProgPoint),
 }
 
-/// As `written last by inst3`, `clobbered last by inst3`, `written last by a move from p0i before inst3` or
-/// `not written from the beginning of block1 on`.
+/// As `written last by inst3`, `clobbered last by inst3` or `written last by a move from p0i before inst3`.
 impl fmt::Display for LastWrite {
     fn fmt<W: fmt::Write>(&self, f: &mut fmt::Formatter<W>) -> fmt::Result {
         match self {
             LastWrite::Definition(inst, _) => write!(f, "written last by inst{inst}"),
             LastWrite::Clobber(inst) => write!(f, "clobbered last by inst{inst}"),
-            LastWrite::Move(from, inst) => {
-                write!(f, "written last by a move from {from} before inst{inst}")
+            LastWrite::Move(from, point) => {
+                let side = match point.pos() {
+                    InstPosition::Before => "before",
+                    InstPosition::After => "after",
+                };
+                let inst = point.to_index() >> 1;
+                write!(f, "written last by a move from {from} {side} inst{inst}")
             }
-            LastWrite::Before(block) => {
-                write!(f, "not written from the beginning of block{block} on")
+        }
+    }
+}
+
+impl LastWrite {
+    /// The last program point that isn't behind the write.
+    fn point(&self) -> u64 {
+        match self {
+            LastWrite::Definition(inst, _) | LastWrite::Clobber(inst) => {
+                (*inst as u64).saturating_mul(2)
             }
+            LastWrite::Move(_, point) => u64::from(point.to_index()),
         }
     }
 }
@@ -101,53 +112,59 @@ fn write_by(
     None
 }
 
-/// The last move into a place at the points after the instruction before this one and before this one.
-fn move_before(output: &StoredOutput, first: usize, inst: usize, place: u32) -> Option<LastWrite> {
-    let at = (inst as u64).saturating_mul(2);
-    let from = if inst > first {
-        at.saturating_sub(1)
-    } else {
-        at
-    };
+/// The last of the instructions from `first` until `end` that writes a place.
+fn last_by_inst(
+    function: &StoredFunction,
+    output: &StoredOutput,
+    first: usize,
+    end: usize,
+    place: u32,
+) -> Option<LastWrite> {
+    for inst in (first..end.min(function.insts.len())).rev() {
+        let write = write_by(function, output, inst, place);
+        if write.is_some() {
+            return write;
+        }
+    }
+    None
+}
+
+/// The last move into a place at the points from `first` until `end`.
+fn last_by_move(output: &StoredOutput, first: u64, end: u64, place: u32) -> Option<LastWrite> {
     let edits = output.edits.as_slice();
-    let begin = edits.partition_point(|edit| u64::from(edit.0) < from);
+    let begin = edits.partition_point(|edit| u64::from(edit.0) < first);
     let mut found = None;
     for (point, source, target) in edits.iter().skip(begin) {
-        if u64::from(*point) > at {
+        if u64::from(*point) >= end {
             break;
         }
-        if *target == place && Allocation::is_bits(*source) {
-            found = Some(LastWrite::Move(Allocation::from_bits(*source), inst));
+        let is_valid = ProgPoint::is_index(*point) && Allocation::is_bits(*source);
+        if *target == place && is_valid {
+            let from = Allocation::from_bits(*source);
+            found = Some(LastWrite::Move(from, ProgPoint::from_index(*point)));
         }
     }
     found
 }
 
-/// What wrote a place last before an instruction reads it, from the beginning of the block. Nothing
-/// if no block holds the instruction.
+/// The last write of a place by the instructions from `first` until `end`, and by the moves from
+/// the point before the first one until the point `until`.
 ///
-/// The output's moves are sorted by program point. Linear in the block.
-pub fn last_write(
+/// The output's moves are sorted by program point. Linear in those instructions and moves.
+pub(crate) fn last_between(
     function: &StoredFunction,
     output: &StoredOutput,
-    inst: usize,
-    place: Allocation,
+    first: usize,
+    end: usize,
+    until: u64,
+    place: u32,
 ) -> Option<LastWrite> {
-    let block = block_of(function, inst)?;
-    let (first, _) = range_of(function, block);
-    let place = place.bits();
-    for back in 0..inst.saturating_sub(first).saturating_add(1) {
-        let at = inst.saturating_sub(back);
-        let by_move = move_before(output, first, at, place);
-        if by_move.is_some() {
-            return by_move;
-        }
-        if at > first {
-            let by_inst = write_by(function, output, at - 1, place);
-            if by_inst.is_some() {
-                return by_inst;
-            }
-        }
+    let by_inst = last_by_inst(function, output, first, end, place);
+    let start = (first as u64).saturating_mul(2);
+    let by_move = last_by_move(output, start, until, place);
+    match (by_inst, by_move) {
+        (Some(inst), Some(moved)) if moved.point() <= inst.point() => Some(inst),
+        (inst, None) => inst,
+        (_, moved) => moved,
     }
-    Some(LastWrite::Before(block))
 }

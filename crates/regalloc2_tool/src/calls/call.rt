@@ -16,7 +16,7 @@ use regalloc2_analysis::liveness::reads_written;
 use regalloc2_checker::{CellFault, Checker, CheckerError, test_cells};
 use regalloc2_explain::report::{Stats, StatsJson, write_diff, write_dump};
 use regalloc2_explain::{
-    Site, Source, explain, explain_function, explain_output, find_unwritten_read, last_write,
+    Site, Source, explain, explain_function, explain_output, find_unwritten_read, last_writes,
     misfit_at,
 };
 use regalloc2_fastalloc::{Algorithm, RegallocOptions, run};
@@ -215,6 +215,18 @@ fn write_site<W: Write>(site: Site, source: &Source<'_>, to: &mut W) -> Result<(
     Ok(())
 }
 
+/// Writes the line of the text with numbers that name nothing, if there are a text and such a line.
+fn write_fault_site<W: Write>(
+    site: Site,
+    given: &Given<'_, '_, '_>,
+    to: &mut W,
+) -> Result<(), CallError> {
+    match &given.source {
+        Some(source) => write_site(site, source, to),
+        None => Ok(()),
+    }
+}
+
 /// The instruction, operand and place that a finding names, if it names them.
 fn place_found(error: &CheckerError) -> Option<(Inst, Operand, Option<Allocation>)> {
     match error {
@@ -247,6 +259,7 @@ fn operand_index(function: &StoredFunction, inst: Inst, operand: Operand) -> Opt
 /// Writes the line of the operand that a finding names and, if the operand reads another value,
 /// what wrote its place last.
 fn explain_finding<W: Write>(
+    alloc: Global,
     error: &CheckerError,
     given: &Given<'_, '_, '_>,
     source: &Source<'_>,
@@ -264,8 +277,8 @@ fn explain_finding<W: Write>(
     let (Some(place), Some(output)) = (place, given.output) else {
         return Ok(());
     };
-    if let Some(written) = last_write(given.function, output, number, place) {
-        writeln!(to, "  {place} is {written}")?;
+    if let Some(writes) = last_writes(alloc, given.function, output, number, place)? {
+        writes.write(to)?;
     }
     Ok(())
 }
@@ -273,6 +286,7 @@ fn explain_finding<W: Write>(
 /// Writes a line for each error, unless it is a failed memory allocation, and explains the first
 /// errors if there is a text.
 fn write_findings<W: Write>(
+    alloc: Global,
     errors: &[CheckerError],
     given: &Given<'_, '_, '_>,
     to: &mut W,
@@ -283,7 +297,7 @@ fn write_findings<W: Write>(
         }
         writeln!(to, "{error}")?;
         if let (Some(source), true) = (&given.source, k < EXPLAINED) {
-            explain_finding(error, given, source, to)?;
+            explain_finding(alloc, error, given, source, to)?;
         }
     }
     Ok(())
@@ -308,7 +322,7 @@ fn judge<F: Function, W: Write>(
         return Err(CallError::Memory);
     };
     if let Err(error) = checker.prepare(output) {
-        write_findings(&[error], given, to)?;
+        write_findings(alloc, &[error], given, to)?;
         return Ok(false);
     }
     match checker.run() {
@@ -324,7 +338,7 @@ fn judge<F: Function, W: Write>(
             }
         },
         Err(errors) => {
-            write_findings(errors.errors(), given, to)?;
+            write_findings(alloc, errors.errors(), given, to)?;
             Ok(false)
         }
     }
@@ -340,15 +354,17 @@ fn replay<F: Function, W: Write, E: Write>(
     err: &mut E,
 ) -> Result<Verdict, CallError> {
     let Some(stored) = given.output else {
-        writeln!(err, "bad text: no allocation")?;
+        writeln!(err, "bad input: no output")?;
         return Ok(Verdict::Unusable);
     };
     let output = match Output::from_stored(alloc, stored) {
         Ok(output) => output,
         Err(StoredFault::Memory) => return Err(CallError::Memory),
         Err(fault) => {
-            let fault = FaultText(fault, explain_output(stored, fault));
+            let cause = explain_output(stored, fault);
+            let fault = FaultText(fault, cause);
             writeln!(err, "bad output {fault}")?;
+            write_fault_site(cause.output_site(stored), given, err)?;
             return Ok(Verdict::Unusable);
         }
     };
@@ -458,7 +474,7 @@ fn compare<F: Function, W: Write, E: Write>(
     err: &mut E,
 ) -> Result<Verdict, CallError> {
     let (Some(output), Some(another)) = (given.output, other.output) else {
-        writeln!(err, "bad text: no allocation")?;
+        writeln!(err, "bad input: no output")?;
         return Ok(Verdict::Unusable);
     };
     let differs = write_diff(given.function, output, another, to)?;
@@ -569,8 +585,10 @@ fn function_of<E: Write>(
         Ok(f) => Ok(Some(f)),
         Err(StoredFault::Memory) => Err(CallError::Memory),
         Err(fault) => {
-            let fault = FaultText(fault, explain_function(given.function, fault));
+            let cause = explain_function(given.function, fault);
+            let fault = FaultText(fault, cause);
             writeln!(err, "bad function {fault}")?;
+            write_fault_site(cause.site(given.function), given, err)?;
             Ok(None)
         }
     }
