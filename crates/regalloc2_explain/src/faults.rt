@@ -1,5 +1,10 @@
 //! Why stored numbers name no function or output.
 
+ghost use Rattle.std.specs.Prelude.{Some};
+ghost use Rattle.std.specs.Fmt.{WritesOnOk};
+ghost use Rattle.regalloc2_explain.specs.FaultGroup.{IsIndexCause, IsLengthCause, IsLimitCause, IsOutputCause, IsWordCause};
+ghost use Rattle.regalloc2_explain.specs.FaultText.{cause_text};
+
 use crate::stored::{ClassName, Counted, class_of_number};
 use regalloc2_function::{StoredFault, StoredOutput};
 use regalloc2_names::{Allocation, Operand, PReg, ProgPoint, VReg};
@@ -108,7 +113,10 @@ pub enum StoredCause {
 
 impl StoredCause {
     /// Writes what is wrong with the length of a list.
-    fn write_length<W: fmt::Write>(&self, f: &mut fmt::Formatter<W>) -> fmt::Result {
+    fn write_length<W: fmt::Write>(&self, f: &mut fmt::Formatter<W>) -> fmt::Result
+        requires { IsLengthCause self.now }
+        ensures { WritesOnOk W.write_str_gives f.old result (cause_text self.now) f.new }
+    {
         match *self {
             Self::BlockList {
                 list,
@@ -130,12 +138,15 @@ impl StoredCause {
                 let count = Counted(count, "member");
                 write!(f, "{list} has {count} for 3 classes")
             }
-            _ => self.write_index(f),
+            _ => unreachable!(),
         }
     }
 
     /// Writes what is wrong with a number that is out of range.
-    fn write_index<W: fmt::Write>(&self, f: &mut fmt::Formatter<W>) -> fmt::Result {
+    fn write_index<W: fmt::Write>(&self, f: &mut fmt::Formatter<W>) -> fmt::Result
+        requires { IsIndexCause self.now }
+        ensures { WritesOnOk W.write_str_gives f.old result (cause_text self.now) f.new }
+    {
         match *self {
             Self::Entry { entry, blocks } => {
                 let blocks = Counted(blocks, "block");
@@ -173,12 +184,15 @@ impl StoredCause {
                 f,
                 "label {label}, counted from 0, is of v{number}, and only numbers below {count} are defined"
             ),
-            _ => self.write_word(f),
+            _ => unreachable!(),
         }
     }
 
     /// Writes which encoding or index names nothing.
-    fn write_word<W: fmt::Write>(&self, f: &mut fmt::Formatter<W>) -> fmt::Result {
+    fn write_word<W: fmt::Write>(&self, f: &mut fmt::Formatter<W>) -> fmt::Result
+        requires { IsWordCause self.now }
+        ensures { WritesOnOk W.write_str_gives f.old result (cause_text self.now) f.new }
+    {
         match *self {
             Self::Register { list, index } => {
                 write!(f, "{list} has {index}, which is no register's index")
@@ -207,12 +221,15 @@ impl StoredCause {
                 f,
                 "label {label}, counted from 0, is of {word}, which is no virtual register's word"
             ),
-            _ => self.write_limit(f),
+            _ => unreachable!(),
         }
     }
 
     /// Writes which limit is exceeded.
-    fn write_limit<W: fmt::Write>(&self, f: &mut fmt::Formatter<W>) -> fmt::Result {
+    fn write_limit<W: fmt::Write>(&self, f: &mut fmt::Formatter<W>) -> fmt::Result
+        requires { IsLimitCause self.now }
+        ensures { WritesOnOk W.write_str_gives f.old result (cause_text self.now) f.new }
+    {
         match *self {
             Self::TooMany { count, what, limit } => {
                 write!(f, "there are {count} {what}, and the limit is {limit}")
@@ -224,12 +241,15 @@ impl StoredCause {
                     "a slot of the class {class} takes {size} units, which is no power of two from 1 to 2^24"
                 )
             }
-            _ => self.write_output(f),
+            _ => unreachable!(),
         }
     }
 
-    /// Writes what is wrong with an output, or the text of the error.
-    fn write_output<W: fmt::Write>(&self, f: &mut fmt::Formatter<W>) -> fmt::Result {
+    /// Writes what is wrong with an output.
+    fn write_output<W: fmt::Write>(&self, f: &mut fmt::Formatter<W>) -> fmt::Result
+        requires { IsOutputCause self.now }
+        ensures { WritesOnOk W.write_str_gives f.old result (cause_text self.now) f.new }
+    {
         match *self {
             Self::Move { index } => {
                 write!(
@@ -249,16 +269,32 @@ impl StoredCause {
                     "debug location {index}, counted from 0, has a word of no point or place"
                 )
             }
-            Self::Known(fault) => write!(f, "{fault}"),
-            _ => write!(f, ""),
+            _ => unreachable!(),
         }
     }
 }
 
 /// As `block1 lists block7 as a successor, and the function has 3 blocks`.
 impl fmt::Display for StoredCause {
+    ghost output = { λ c. Some (cause_text c) };
+
     fn fmt<W: fmt::Write>(&self, f: &mut fmt::Formatter<W>) -> fmt::Result {
-        self.write_length(f)
+        match *self {
+            Self::BlockList { .. } | Self::ArgumentLists { .. } | Self::ClassList { .. } =>
+                self.write_length(f),
+            Self::Entry { .. }
+            | Self::Neighbour { .. }
+            | Self::Range { .. }
+            | Self::LabelPastCount { .. } => self.write_index(f),
+            Self::Register { .. }
+            | Self::OperandWord { .. }
+            | Self::Clobber { .. }
+            | Self::VRegWord { .. }
+            | Self::LabelWord { .. } => self.write_word(f),
+            Self::TooMany { .. } | Self::SlotSize { .. } => self.write_limit(f),
+            Self::Move { .. } | Self::Place { .. } | Self::Location { .. } => self.write_output(f),
+            Self::Known(fault) => write!(f, "{fault}"),
+        }
     }
 }
 

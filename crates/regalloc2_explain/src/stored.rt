@@ -1,5 +1,8 @@
 //! The values that stored numbers name.
 
+ghost use Rattle.std.specs.Prelude.{Some, ◌≡◌};
+ghost use Rattle.regalloc2_explain.specs.FaultText.{class_word, counted_text, numbered_class};
+
 use regalloc2_names::{Operand, RegClass, VReg};
 use regalloc2_serialize::{StoredFunction, StoredMachine};
 use std::fmt;
@@ -80,7 +83,9 @@ pub(crate) fn class_number(class: RegClass) -> usize {
 }
 
 /// The class of a number, from 0.
-pub(crate) fn class_of_number(number: usize) -> RegClass {
+pub(crate) fn class_of_number(number: usize) -> RegClass
+    ensures { result ≡ numbered_class number }
+{
     match number {
         0 => RegClass::Int,
         1 => RegClass::Float,
@@ -93,6 +98,8 @@ pub(crate) fn class_of_number(number: usize) -> RegClass {
 pub(crate) struct ClassName(pub RegClass);
 
 impl fmt::Display for ClassName {
+    ghost output = { λ t. Some (class_word t.0) };
+
     fn fmt<W: fmt::Write>(&self, f: &mut fmt::Formatter<W>) -> fmt::Result {
         f.write_str(match self.0 {
             RegClass::Int => "int",
@@ -107,6 +114,8 @@ impl fmt::Display for ClassName {
 pub(crate) struct Counted(pub usize, pub &'static str);
 
 impl fmt::Display for Counted {
+    ghost output = { λ t. Some (counted_text t.0 t.1.now) };
+
     fn fmt<W: fmt::Write>(&self, f: &mut fmt::Formatter<W>) -> fmt::Result {
         let Counted(count, noun) = self;
         let ending = if *count == 1 { "" } else { "s" };

@@ -1,7 +1,7 @@
 //! The error numbers of `StoredFault`, and its texts.
 
-ghost use Rattle.std.specs.Prelude.{◌≡◌};
-ghost use Rattle.regalloc2_tool.specs.Fault.{fault_number};
+ghost use Rattle.std.specs.Prelude.{◌≡◌, Some};
+ghost use Rattle.regalloc2_tool.specs.Fault.{fault_number, stored_fault_text};
 
 use regalloc2_explain::StoredCause;
 use regalloc2_function::StoredFault;
@@ -27,6 +27,8 @@ pub fn number_of(fault: StoredFault) -> u8
 pub struct FaultText(pub StoredFault, pub StoredCause);
 
 impl fmt::Display for FaultText {
+    ghost output = { λ t. Some (stored_fault_text t.0 t.1) };
+
     fn fmt<W: fmt::Write>(&self, f: &mut fmt::Formatter<W>) -> fmt::Result {
         let number = number_of(self.0);
         let cause = self.1;
