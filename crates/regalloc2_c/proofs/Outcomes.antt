@@ -24,7 +24,7 @@ use Rattle.regalloc2_serialize.specs.Flat.Flat.{HasLongWord, output_words}
 use Rattle.regalloc2_checker.specs.declared.errors.CheckerError.{CheckerError}
 use Rattle.regalloc2_c.specs.Faults.{IsCheckerVerdict, faults_words, malformed_words}
 use Rattle.regalloc2_c.specs.Status.{allocate_failure, run_failure, write_failure}
-use Rattle.regalloc2_c.specs.Outcome.{IsAllocatedOutput, IsAllocateFailure, IsTestedOutput, IsRunFailure, ComesTo}
+use Rattle.regalloc2_c.specs.Outcome.{IsAllocatedOutput, IsAllocateFailure, IsTestedOutput, IsRunFailure, ResultsIn}
 use Rattle.regalloc2_c.specs.declared.failure.Failure.{Failure}
 use Rattle.regalloc2_c.specs.declared.failure.Failure.TheVariants.{Faults}
 
@@ -101,6 +101,6 @@ untested_unlisted f env words tested Shape long = tt
 -- what an input comes to, from what comes of the function and the machine that it names
 pub comes_to : (Names : FunctionValue → MachineValue → Type 0) (None : Failure → Type 0) (Are : FunctionValue → MachineValue → List ℕ → Type 0)
     (Why : FunctionValue → MachineValue → Failure → Type 0) (f : FunctionValue) (env : MachineValue) → Names f env → (found : Result (Vec ℕ) Failure) →
-    IfOk found (λ v. Are f env v.items) → IfErr found (Why f env) → ComesTo Names None Are Why found
+    IfOk found (λ v. Are f env v.items) → IfErr found (Why f env) → ResultsIn Names None Are Why found
 comes_to Names None Are Why f env names (Ok v) ok err = (f, env, names, ok)
 comes_to Names None Are Why f env names (Err e) ok err = inr (f, env, names, err)

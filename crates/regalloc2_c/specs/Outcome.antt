@@ -161,16 +161,16 @@ IsRunFailure f env (BadFunction fault) = ⊥
 IsRunFailure f env (Refused error) = MachineFits f env × IsReason f env true error
 
 -- what an input comes to: words for the function and the machine that it names; or a failure: it names none, or that is why there are no words
-abbrev pub ComesTo : (Names : FunctionValue → MachineValue → Type 0) (None : Failure → Type 0)
+abbrev pub ResultsIn : (Names : FunctionValue → MachineValue → Type 0) (None : Failure → Type 0)
     (Are : FunctionValue → MachineValue → List ℕ → Type 0) (Why : FunctionValue → MachineValue → Failure → Type 0) → Result (Vec ℕ) Failure → Type 0
-ComesTo Names None Are Why (Ok v) = (f : FunctionValue) × (env : MachineValue) × Names f env × Are f env v.items
-ComesTo Names None Are Why (Err e) = None e ⊎ ((f : FunctionValue) × (env : MachineValue) × Names f env × Why f env e)
+ResultsIn Names None Are Why (Ok v) = (f : FunctionValue) × (env : MachineValue) × Names f env × Are f env v.items
+ResultsIn Names None Are Why (Err e) = None e ⊎ ((f : FunctionValue) × (env : MachineValue) × Names f env × Why f env e)
 
 abbrev pub IsAllocationFound : (FunctionValue → MachineValue → Type 0) → (Failure → Type 0) → Result (Vec ℕ) Failure → Type 0
-IsAllocationFound Names None found = ComesTo Names None IsAllocatedOutput IsAllocateFailure found
+IsAllocationFound Names None found = ResultsIn Names None IsAllocatedOutput IsAllocateFailure found
 
 abbrev pub IsRunFound : List ℕ → Result (Vec ℕ) Failure → Type 0
-IsRunFound words found = ComesTo (AreWordsOf words) (AreUnreadWords words) IsTestedOutput IsRunFailure found
+IsRunFound words found = ResultsIn (AreWordsOf words) (AreUnreadWords words) IsTestedOutput IsRunFailure found
 
 -- the status and the words of what is found
 abbrev pub status_of : Result (Vec ℕ) Failure → ℕ
@@ -237,7 +237,7 @@ IsCheckFailure Outs f env (Refused error) = ⊥
 
 -- an output that is accepted takes no words
 abbrev pub IsJudgeFound : List ℕ → (StoredOutput Global → Type 0) → Result (Vec ℕ) Failure → Type 0
-IsJudgeFound words Outs found = ComesTo (AreWordsOf words) (AreUnreadWords words) (λ f env ws. (ws ≡ []) × IsAcceptedOutput Outs f env)
+IsJudgeFound words Outs found = ResultsIn (AreWordsOf words) (AreUnreadWords words) (λ f env ws. (ws ≡ []) × IsAcceptedOutput Outs f env)
     (IsCheckFailure Outs) found
 
 abbrev pub IsJudgeOutcome : List ℕ → (StoredOutput Global → Type 0) → List ℕ → List ℕ → ℕ → ℕ → Type 0

@@ -39,8 +39,8 @@ refusal_texts = no_status
     ∷ codes "refused: too many spill slots"
     ∷ codes "refused: out of memory" ∷ []
 
-abbrev pub status_text : ℕ → List ℕ
-status_text status = if nat_lt status 20 then slice_index_or failure_texts status no_status else slice_index_or refusal_texts (status - 20) no_status
+abbrev pub text_of_status : ℕ → List ℕ
+text_of_status status = if nat_lt status 20 then slice_index_or failure_texts status no_status else slice_index_or refusal_texts (status - 20) no_status
 
 abbrev pub no_fault : List ℕ
 no_fault = codes "no fault"
@@ -65,8 +65,8 @@ fault_texts = no_fault
     ∷ codes "a slot isn't within the frame"
     ∷ codes "two slots share a unit" ∷ []
 
-abbrev pub fault_text : ℕ → List ℕ
-fault_text number = slice_index_or fault_texts number no_fault
+abbrev pub text_of_fault : ℕ → List ℕ
+text_of_fault number = slice_index_or fault_texts number no_fault
 
 -- of a text so many bytes are written as there is room for, and its length is returned
 abbrev pub IsTold : List ℕ → List ℕ → List ℕ → ℕ → Type 0

@@ -7,7 +7,7 @@
 ghost use Rattle.std.specs.Prelude.{◌≡◌, ◌≤◌, ◌+◌, length};
 ghost use Rattle.regalloc2_c.specs.Outcome.{AreWordsOf, AreUnreadWords, IsJsonOf, IsTextInput, NumbersName, NumbersNameNone, ArePartsOf};
 ghost use Rattle.regalloc2_c.specs.Outcome.{IsAllocateOutcome, IsRunOutcome, IsJudgeOutcome, IsCheckOutcome};
-ghost use Rattle.regalloc2_c.specs.Texts.{status_text, fault_text, IsTold};
+ghost use Rattle.regalloc2_c.specs.Texts.{text_of_status, text_of_fault, IsTold};
 
 mod calls;
 mod failure;
@@ -38,7 +38,7 @@ pub extern "C" fn regalloc2_c_version() -> u32
 /// Writes what a status says, in English, as far as there is room. Returns how many bytes that takes.
 #[unsafe(no_mangle)]
 pub extern "C" fn regalloc2_c_status_text(status: u32, text: &mut [u8]) -> usize
-    ensures { IsTold (status_text status) text.old text.new result }
+    ensures { IsTold (text_of_status status) text.old text.new result }
 {
     tell(status_words(status), text)
 }
@@ -46,7 +46,7 @@ pub extern "C" fn regalloc2_c_status_text(status: u32, text: &mut [u8]) -> usize
 /// Writes what a fault's number says, in English, as far as there is room. Returns how many bytes that takes.
 #[unsafe(no_mangle)]
 pub extern "C" fn regalloc2_c_fault_text(number: u32, text: &mut [u8]) -> usize
-    ensures { IsTold (fault_text number) text.old text.new result }
+    ensures { IsTold (text_of_fault number) text.old text.new result }
 {
     tell(fault_words(number), text)
 }

@@ -1,11 +1,11 @@
 //! What statuses and faults say, in English.
 
 ghost use Rattle.std.specs.Prelude.{◌≡◌, slice_index_or};
-ghost use Rattle.regalloc2_c.specs.Texts.{status_text, failure_texts, refusal_texts, no_status, fault_text, IsTold};
+ghost use Rattle.regalloc2_c.specs.Texts.{text_of_status, failure_texts, refusal_texts, no_status, text_of_fault, IsTold};
 
 /// What a status says.
 pub fn status_words(status: u32) -> &'static str
-    ensures { result.now ≡ status_text status }
+    ensures { result.now ≡ text_of_status status }
 {
     if status < 20 {
         failure_words(status)
@@ -63,7 +63,7 @@ fn refusal_words(number: u32) -> &'static str
 
 /// What a fault's number says.
 pub fn fault_words(number: u32) -> &'static str
-    ensures { result.now ≡ fault_text number }
+    ensures { result.now ≡ text_of_fault number }
 {
     match number {
         0 => "no fault",

@@ -11,7 +11,7 @@ returns-in-Entry g c = λ plain ok.
 pub returns-in-Neighbour : goal.returns-in-Neighbour
 returns-in-Neighbour g c = λ plain ok.
     has_written_of_eq _ _ _ _ _ (rw c.in-Neighbour.is
-        (joined_eight (codes "block") _ (codes " lists block") _ (codes " as a ") _ (codes ", and the function has ") _))
+    (joined_eight (codes "block") _ (codes " lists block") _ (codes " as a ") _ (codes ", and the function has ") _))
     (c.write-in-Neighbour.ensures.writes plain ok)
 
 pub returns-in-Range : goal.returns-in-Range
