@@ -13,7 +13,7 @@ fn ways_into(function: &StoredFunction, block: usize) -> usize {
 }
 
 /// The site of a block's last instruction, or of its line if it has none.
-fn end_of(function: &StoredFunction, block: usize) -> Site {
+pub(crate) fn end_of(function: &StoredFunction, block: usize) -> Site {
     let (first, end) = range_of(function, block);
     if first < end {
         Site::Inst(end - 1)

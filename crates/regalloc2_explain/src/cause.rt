@@ -15,15 +15,18 @@ pub enum Site {
     Inst(usize),
     /// An operand, by the number of its instruction and its index there.
     Operand(usize, usize),
+    /// A move of an output, by its index.
+    Move(usize),
 }
 
-/// As `block1`, `inst3` or, for an operand, that of its instruction.
+/// As `block1`, `inst3`, `move 0` or, for an operand, that of its instruction.
 impl fmt::Display for Site {
     fn fmt<W: fmt::Write>(&self, f: &mut fmt::Formatter<W>) -> fmt::Result {
         match self {
             Site::Function => f.write_str("the function"),
             Site::Block(block) => write!(f, "block{block}"),
             Site::Inst(inst) | Site::Operand(inst, _) => write!(f, "inst{inst}"),
+            Site::Move(index) => write!(f, "move {index}"),
         }
     }
 }

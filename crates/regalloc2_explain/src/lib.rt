@@ -9,6 +9,7 @@ mod cause;
 mod definitions;
 mod edges;
 mod explanation;
+mod fault_site;
 mod faults;
 mod operands;
 mod paths;

@@ -1,9 +1,9 @@
-//! The lines of a text that hold blocks and instructions.
+//! The lines of a text that hold blocks, instructions and moves.
 
 use crate::cause::Site;
 use std::fmt;
 
-/// The text of a function, to look up its blocks and instructions.
+/// The text of a function, to look up its blocks, instructions and moves.
 #[derive(Clone, Copy)]
 pub struct Source<'t> {
     /// The text before a line's number, as `loop.txt:`; nothing if lines have no numbers, as those
@@ -106,6 +106,13 @@ fn is_block(line: &str) -> bool {
     is_numbered(first_word(line), "block")
 }
 
+/// Returns whether a line is that of a move. A dump's begins with the move's point and a colon.
+fn is_move(line: &str) -> bool {
+    let shown = without_comment(line);
+    let words = shown.split_once(':').map_or(shown, |(_, behind)| behind);
+    first_word(words) == "move"
+}
+
 /// The length of a line up to its operands: with the first colon or, in a dump, if that follows the
 /// instruction's number, with the opcode.
 fn head_len(line: &str) -> usize {
@@ -182,6 +189,18 @@ impl<'t> Source<'t> {
         Some(self.part(number, line, start))
     }
 
+    /// The line of the `k`th move.
+    fn move_line(&self, k: usize) -> Option<SourceLine<'t>> {
+        let (index, line) = self
+            .text
+            .lines()
+            .enumerate()
+            .filter(|(_, line)| is_move(unlogged(line)))
+            .nth(k)?;
+        let number = self.first_line.saturating_add(index);
+        Some(self.part(number, line, indent_of(unlogged(line))))
+    }
+
     /// The location of a part of the function in the text, if it has a line. Linear in the text.
     pub fn find(&self, site: Site) -> Option<SourceLine<'t>> {
         match site {
@@ -189,6 +208,7 @@ impl<'t> Source<'t> {
             Site::Block(block) => self.block_line(block),
             Site::Inst(inst) => self.inst_line(inst, None),
             Site::Operand(inst, operand) => self.inst_line(inst, Some(operand)),
+            Site::Move(index) => self.move_line(index),
         }
     }
 }

@@ -215,6 +215,18 @@ fn write_site<W: Write>(site: Site, source: &Source<'_>, to: &mut W) -> Result<(
     Ok(())
 }
 
+/// Writes the line of the text with numbers that name nothing, if there are a text and such a line.
+fn write_fault_site<W: Write>(
+    site: Site,
+    given: &Given<'_, '_, '_>,
+    to: &mut W,
+) -> Result<(), CallError> {
+    match &given.source {
+        Some(source) => write_site(site, source, to),
+        None => Ok(()),
+    }
+}
+
 /// The instruction, operand and place that a finding names, if it names them.
 fn place_found(error: &CheckerError) -> Option<(Inst, Operand, Option<Allocation>)> {
     match error {
@@ -349,8 +361,10 @@ fn replay<F: Function, W: Write, E: Write>(
         Ok(output) => output,
         Err(StoredFault::Memory) => return Err(CallError::Memory),
         Err(fault) => {
-            let fault = FaultText(fault, explain_output(stored, fault));
+            let cause = explain_output(stored, fault);
+            let fault = FaultText(fault, cause);
             writeln!(err, "bad output {fault}")?;
+            write_fault_site(cause.output_site(stored), given, err)?;
             return Ok(Verdict::Unusable);
         }
     };
@@ -571,8 +585,10 @@ fn function_of<E: Write>(
         Ok(f) => Ok(Some(f)),
         Err(StoredFault::Memory) => Err(CallError::Memory),
         Err(fault) => {
-            let fault = FaultText(fault, explain_function(given.function, fault));
+            let cause = explain_function(given.function, fault);
+            let fault = FaultText(fault, cause);
             writeln!(err, "bad function {fault}")?;
+            write_fault_site(cause.site(given.function), given, err)?;
             Ok(None)
         }
     }
