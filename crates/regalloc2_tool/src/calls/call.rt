@@ -354,7 +354,7 @@ fn replay<F: Function, W: Write, E: Write>(
     err: &mut E,
 ) -> Result<Verdict, CallError> {
     let Some(stored) = given.output else {
-        writeln!(err, "bad text: no allocation")?;
+        writeln!(err, "bad input: no output")?;
         return Ok(Verdict::Unusable);
     };
     let output = match Output::from_stored(alloc, stored) {
@@ -474,7 +474,7 @@ fn compare<F: Function, W: Write, E: Write>(
     err: &mut E,
 ) -> Result<Verdict, CallError> {
     let (Some(output), Some(another)) = (given.output, other.output) else {
-        writeln!(err, "bad text: no allocation")?;
+        writeln!(err, "bad input: no output")?;
         return Ok(Verdict::Unusable);
     };
     let differs = write_diff(given.function, output, another, to)?;
