@@ -102,6 +102,9 @@ fi
 "$made/bin/compile" "$top/crates/compile/data/sum.txt" >"$made/compiled.s" &&
     compiled_c compiled "$here/compiled.c" -x assembler "$made/compiled.s"
 
+step "refuse.c compiles" "$cc" -O2 -shared -fPIC -o "$made/refuse.so" "$top/bench/refuse.c" -ldl
+REFUSE=$made/refuse.so
+export REFUSE
 transcript >"$made/transcript"
 step "the programs print what test.txt says" diff "$here/test.txt" "$made/transcript"
 step "200 functions return what compile says of them" "$here/compare.sh" "$made/bin/compile" 200
