@@ -1,17 +1,30 @@
 -- Where the blocks and instructions of partial blocks are laid out, and that the function is structurally valid.
-use Rattle.std.proofs.Common.{◌≡◌, ◌∙◌, ℕ, zero, suc, ◌+◌, ◌-◌, ◌<◌, List, [], ◌∷◌, ◌++◌, length, get_or, take, sym, ap, arith}
+use Rattle.std.proofs.Common.{◌≡◌, ◌∙◌, ℕ, zero, suc, ◌+◌, ◌-◌, ◌<◌, List, [], ◌∷◌, ◌++◌, length, get_or, take, refl, sym, ap, arith}
 use Rattle.std.specs.Prelude.{slice_index, slice_index_or}
 use Rattle.std.proofs.Math.ListN.{get_or-map as get_or_map}
-use Rattle.std.proofs.lemmas.List.{get_or_append_left, get_or-append-add, length-append, length-map, take_all, take_more}
+use Rattle.std.proofs.lemmas.List.{append-nil, get_or_append_left, get_or-append-add, length-append, length-map, take_all, take_more}
+use Rattle.std.proofs.lemmas.List.Concat.{flat_map-append}
 use Rattle.regalloc2_function.specs.FunctionValue.{FunctionValue, BlockValue, InstValue, block_at, inst_at, no_block, no_inst}
 use Rattle.regalloc2_function.specs.WellFormed.{EndsAt, FollowsAt, CountedAt, IsFramed, last_of}
 use Rattle.regalloc2_serialize.specs.TableFunction.Draft.{DraftValue, declared_with, draft_at}
 use Rattle.regalloc2_serialize.specs.TableFunction.Built.{without_preds, placed_block, blocks_from, insts_of}
 use Rattle.regalloc2_rewrite.specs.Laid.{HasDrafts, IsFramedDraft, start_of}
-use Rattle.regalloc2_serialize.proofs.TableFunctionLemmas.BuiltLaws.{insts_of-push, length-blocks_from}
 
 abbrev no_draft : DraftValue
 no_draft = declared_with []
+
+insts-push : (ds : List DraftValue) (d : DraftValue) → insts_of (ds ++ d ∷ []) ≡ insts_of ds ++ d.insts
+insts-push ds d = flat_map-append (λ (x : DraftValue). x.insts) ds (d ∷ []) ∙ ap (λ (is : List InstValue). insts_of ds ++ is) (append-nil d.insts)
+
+many-placed : (s : ℕ) (ds : List DraftValue) → length (blocks_from s ds) ≡ length ds
+many-placed s [] = refl
+many-placed s (d ∷ ds) = ap suc (many-placed (s + length d.insts) ds)
+
+-- a block has the successors of its partial block
+pub succs-placed : (s : ℕ) (ds : List DraftValue) (n : ℕ) → (get_or (blocks_from s ds) n no_block).succs ≡ (draft_at ds n).succs
+succs-placed s [] n = refl
+succs-placed s (d ∷ ds) zero = refl
+succs-placed s (d ∷ ds) (suc n) = succs-placed (s + length d.insts) ds n
 
 placed-at : (s : ℕ) (ds : List DraftValue) (n : ℕ) → n < length ds →
     get_or (blocks_from s ds) n no_block ≡ placed_block (s + start_of ds n) (draft_at ds n)
@@ -38,7 +51,7 @@ inst-placed (d ∷ ds) (suc n) j less within =
 pub start-next : (ds : List DraftValue) (n : ℕ) → n < length ds → start_of ds (n + 1) ≡ start_of ds n + length (draft_at ds n).insts
 start-next ds n less =
     let split : take (n + 1) ds ≡ take n ds ++ draft_at ds n ∷ [] = take_more ds n no_draft less in
-    ap (λ (xs : List DraftValue). length (insts_of xs)) split ∙ ap length (insts_of-push (take n ds) (draft_at ds n))
+    ap (λ (xs : List DraftValue). length (insts_of xs)) split ∙ ap length (insts-push (take n ds) (draft_at ds n))
     ∙ length-append (insts_of (take n ds)) (draft_at ds n).insts
 
 zero-more : (n : ℕ) → 0 + n ≡ n
@@ -56,7 +69,7 @@ pub record IsLaidAt (ds : List DraftValue) (f : FunctionValue) (n : ℕ) : Type 
 module _ (ds : List DraftValue) (f : FunctionValue) (h : HasDrafts ds f) where
   -- there are as many blocks as partial blocks
   pub count-laid : length f.blocks ≡ length ds
-  count-laid = sym (length-map f.blocks without_preds) ∙ ap length h.blocks ∙ length-blocks_from 0 ds
+  count-laid = sym (length-map f.blocks without_preds) ∙ ap length h.blocks ∙ many-placed 0 ds
 
   -- each block has the parts of its partial block
   pub laid-at : (n : ℕ) → n < length ds → IsLaidAt ds f n

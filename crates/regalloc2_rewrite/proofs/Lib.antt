@@ -1,6 +1,6 @@
--- Lemmas for functions that are laid out anew: they are structurally valid, and have the same paths.
--- Read first: `renumbered` in `RenumberLaws`; then `same-paths` in `SamePaths`, `framed-laid` in `LaidLaws`, `preds-agree` in `PredCounts`.
--- Depends on the specs, and on the lemmas for the builder of regalloc2_serialize.
+-- Lemmas for functions that are laid out anew: they are structurally valid, have the same paths, and no critical edge if edges are split.
+-- Read first: `renumbered` in `RenumberLaws` and `is-split` in `SplitLaws`; then `SamePaths`, `SplitPaths`, `LaidLaws`, `PredCounts`.
+-- Depends on the specs. `Marks`, `SplitSteps`: loops; `EdgeLists`, `SplitDrafts`: the numbers of new blocks; `WayCounts`, `SplitPreds`: ways into blocks.
 pub mod EdgeLists
 pub mod LaidLaws
 pub mod Lists

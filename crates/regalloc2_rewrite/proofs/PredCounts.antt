@@ -1,24 +1,14 @@
 -- A block's predecessors are its listings among successors, counted.
-use Rattle.std.proofs.Common.{◌≡◌, ◌∙◌, ℕ, zero, suc, ◌+◌, ◌<◌, Bool, true, false, cond, nat_eq, List, [], ◌∷◌, ◌++◌, get_or, map, refl, sym, ap, arith}
+use Rattle.std.proofs.Common.{◌≡◌, ◌∙◌, ℕ, zero, suc, ◌+◌, ◌<◌, Bool, true, false, cond, nat_eq, List, [], ◌∷◌, get_or, map, refl, sym, ap, arith}
 use Rattle.std.proofs.Math.ListN.{get_or-map as get_or_map}
 use Rattle.std.proofs.lemmas.Bool.Decides.{nat_tests}
-use Rattle.std.proofs.lemmas.List.Sums.{sum_by-append, sum_by-cons}
 use Rattle.regalloc2_function.specs.FunctionValue.{FunctionValue, BlockValue, block_at, no_block}
 use Rattle.regalloc2_function.specs.WellFormed.{PredecessorsAgree, times_in}
 use Rattle.regalloc2_serialize.specs.TableFunction.Draft.{DraftValue, declared_with, draft_at}
 use Rattle.regalloc2_serialize.specs.TableFunction.Built.{without_preds, edges_to, preds_from}
 use Rattle.regalloc2_rewrite.specs.Laid.{HasDrafts}
-use Rattle.regalloc2_serialize.proofs.TableFunctionLemmas.BuiltLaws.{succs_at-blocks_from}
-use Rattle.regalloc2_rewrite.proofs.LaidLaws.{count-laid}
-
-abbrev one : ℕ → ℕ → ℕ
-one p x = cond (nat_eq x p) 1 0
-
-times-append : (p : ℕ) (xs ys : List ℕ) → times_in p (xs ++ ys) ≡ times_in p xs + times_in p ys
-times-append p xs ys = sum_by-append (λ x. cond (nat_eq x p) 1 0) xs ys
-
-times-cons : (p x : ℕ) (xs : List ℕ) → times_in p (x ∷ xs) ≡ one p x + times_in p xs
-times-cons p x xs = sum_by-cons (λ x. cond (nat_eq x p) 1 0) x xs
+use Rattle.regalloc2_rewrite.proofs.LaidLaws.{count-laid, succs-placed}
+use Rattle.regalloc2_rewrite.proofs.WayCounts.{one, times-append, times-cons}
 
 -- the edges from a block list it as often as it lists their end
 edge-itself : (b p s : ℕ) → times_in p (cond (nat_eq s b) (p ∷ []) []) ≡ one b s
@@ -75,7 +65,7 @@ pub preds-agree : (ds : List DraftValue) (f : FunctionValue) → HasDrafts ds f 
 preds-agree ds f h n less p =
     let succs : (block_at f p).succs ≡ (draft_at ds p).succs =
     ap (λ (b : BlockValue). b.succs) (sym (get_or_map without_preds f.blocks p no_block) ∙ ap (λ (bs : List BlockValue). get_or bs p no_block) h.blocks)
-    ∙ succs_at-blocks_from 0 ds p in
+    ∙ succs-placed 0 ds p in
     let at : p ≡ 0 + p = omega arith in
     rw (h.preds n (omega (arith, count-laid ds f h, less)), succs)
     (ap (λ (k : ℕ). times_in k (preds_from n 0 (map (λ d. d.succs) ds))) at
