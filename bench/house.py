@@ -42,12 +42,14 @@ FLOORS = [
         ("ra2", "program: JSON"),
         ("ra2_text_program", "subcommands, text or JSON"),
         ("ra2_text", "program: texts")])],
-    [("Code generator", [
-        ("codegen_machine", "functions, machine, text"),
-        ("codegen", "the compiler"),
-        ("compile", "program"),
-        ("example_call", "program: one call"),
-        ("example_toy", "program: a client")])],
+    [("Rewriting", [
+        ("regalloc2_rewrite", "split edges, renumber")]),
+     ("Code generator", [
+         ("codegen_machine", "functions, machine, text"),
+         ("codegen", "the compiler"),
+         ("compile", "program"),
+         ("example_call", "program: one call"),
+         ("example_toy", "program: a client")])],
     [("Tests", [
         ("regalloc2_test_alloc", "failing allocator"),
         ("regalloc2_unit_tests", "parts"),
@@ -69,6 +71,7 @@ WIDE = 2 * MARGIN + 6 * ROOM + 5 * GAP
 COLOURS = {
     "Names and functions": "#e8eef7", "Stored forms": "#f3ecdf", "Analysis": "#e6f2e6", "Moves": "#f2e8f2",
     "Allocator": "#fbe9e0", "Checker": "#e2f1f3", "Front": "#fff6d6", "Tools": "#f3ecdf", "Code generator": "#eeeeee",
+    "Rewriting": "#f3ecdf",
     "Tests": "#eeeeee",
 }
 

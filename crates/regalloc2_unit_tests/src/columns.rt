@@ -96,7 +96,7 @@ fn write_refusals(alloc: Global, words: &[u32], out: &mut Report) {
 }
 
 /// Writes what all calls give.
-fn write_function<F: Function>(f: &F, out: &mut Report) {
+pub fn write_function<F: Function>(f: &F, out: &mut Report) {
     out.row("counts", &(f.num_insts(), f.num_blocks(), f.num_vregs()));
     out.row("entry", &f.entry_block());
     for b in 0..f.num_blocks() {

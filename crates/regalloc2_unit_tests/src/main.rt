@@ -8,6 +8,7 @@ mod indexes;
 mod names;
 mod parts;
 mod report;
+mod rewriting;
 mod sets;
 
 use report::Report;
@@ -18,6 +19,7 @@ fn main(rt: HostRuntime) -> io::Result<()> {
     let text = io::read_to_string(alloc, rt.stdin())?;
     let mut report = Report::new(alloc);
     columns::write_all(alloc, &mut report)?;
+    rewriting::write_all(alloc, &mut report);
     indexes::write_all(alloc, &mut report)?;
     names::write_all(&mut report);
     sets::write_all(alloc, &mut report)?;

@@ -1,0 +1,32 @@
+use Rattle.std.proofs.Common.{arith, ◌≡◌, ◌∙◌, ◌+◌, ◌∷◌, [], ℕ, List, length, ap, subst}
+use Rattle.std.specs.Prelude.{slice_index}
+use Rattle.regalloc2_function.specs.FunctionValue.{FunctionValue, block_at}
+use Rattle.regalloc2_function.specs.WellFormed.{times_in}
+use Rattle.regalloc2_rewrite.specs.SplitEdges.{AgreeUpToTwo}
+use Rattle.regalloc2_rewrite.proofs.SplitSteps.{entered-all, listed-next, listed_by}
+use Rattle.regalloc2_rewrite.proofs.edges.entries_of.Goals as goal
+
+pub loop-block-preserved : goal.loop-block-preserved
+loop-block-preserved g c =
+    let f : FunctionValue = g.F.Function.function c.args.f.now in
+    let now : List ℕ = c.loop-block.counts.items in
+    let next : List ℕ = c.count_entries.new.counts.items in
+    let n : ℕ = c.loop-block.block in
+    let same : c.block_succs.result.now ≡ (block_at f n).succs = c.block_succs.ensures ∙ ap (λ (b : ℕ). (block_at f b).succs) c.new.ensures in
+    record {
+      long = c.count_entries.ensures.long ∙ c.loop-block.invariant.long;
+      counted = λ t less. listed-next f now next n t (c.loop-block.invariant.counted t less)
+          (subst (λ ss. AgreeUpToTwo (slice_index next t) (slice_index now t + times_in t ss)) same
+          (c.count_entries.ensures.counted t (omega (arith, c.loop-block.invariant.long, less))));
+    }
+
+pub returns-clause-counted : goal.returns-clause-counted
+returns-clause-counted g c t less =
+    let f : FunctionValue = g.F.Function.function c.args.f.now in
+    let now : List ℕ = c.loop-block.counts.items in
+    let next : List ℕ = c.count_entry.new.counts.items in
+    let end : c.loop-block.block ≡ length f.blocks =
+    omega (arith, c.loop-block-test.false, c.loop-block.auto.block-end, c.num_blocks-block-end.ensures.count) in
+    entered-all f now next t (subst (λ (n : ℕ). AgreeUpToTwo (slice_index now t) (listed_by f n t)) end (c.loop-block.invariant.counted t less))
+    (subst (λ (e : ℕ). AgreeUpToTwo (slice_index next t) (slice_index now t + times_in t (e ∷ []))) c.entry_block.ensures
+    (c.count_entry.ensures.counted t (omega (arith, c.loop-block.invariant.long, less))))

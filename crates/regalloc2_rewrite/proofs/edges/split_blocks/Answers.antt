@@ -1,0 +1,36 @@
+use Rattle.std.proofs.Common.{rules, arith, ◌≡◌, ◌∙◌, ◌+◌, ◌++◌, ◌∷◌, [], ℕ, List, length, map, ap, subst, sym}
+use Rattle.std.proofs.lemmas.List.{map-append, map-id}
+use Rattle.std.proofs.lemmas.Result.{IfOk-at_ok}
+use Rattle.std.proofs.lemmas.Iterator.Adapters.{fact_from_extend, YieldsList-from_vec}
+use Rattle.regalloc2_function.specs.FunctionValue.{FunctionValue}
+use Rattle.regalloc2_serialize.specs.declared.table_function.builder.BlockDraft.{BlockDraft}
+use Rattle.regalloc2_serialize.specs.TableFunction.Draft.{draft_of}
+use Rattle.regalloc2_rewrite.specs.SplitEdges.{AreJumps, kept_block}
+use Rattle.regalloc2_rewrite.proofs.Lists.{filled-more}
+use Rattle.regalloc2_rewrite.proofs.SplitSteps.{all-made}
+use Rattle.regalloc2_rewrite.proofs.edges.split_blocks.Goals as goal
+
+pub loop-block-preserved : goal.loop-block-preserved
+loop-block-preserved g c =
+    let f : FunctionValue = g.F.Function.function c.args.f.now in
+    let n : ℕ = c.loop-block.block in
+    let e : c.push.new.self.items ≡ c.loop-block.drafts.items ++ c.in_ok-draft.draft ∷ [] = search rules in
+    let here : draft_of c.in_ok-draft.draft ≡ kept_block f n = c.in_ok-draft.ensures.ok ∙ ap (kept_block f) c.new.ensures in
+    record {
+      drafts = ap (map draft_of) e ∙ map-append draft_of c.loop-block.drafts.items (c.in_ok-draft.draft ∷ [])
+          ∙ filled-more (kept_block f) (map draft_of c.loop-block.drafts.items) (draft_of c.in_ok-draft.draft) n c.loop-block.invariant.drafts here;
+      jumps = subst (λ (b : ℕ). AreJumps c.args.none f (b + 1) 0 (map draft_of c.split_block.new.jumps.items)) c.new.ensures c.in_ok-draft.ensures.jumps;
+    }
+
+pub returns-clause-ok : goal.returns-clause-ok
+returns-clause-ok g c =
+    let f : FunctionValue = g.F.Function.function c.args.f.now in
+    let all : c.loop-block.block ≡ length f.blocks =
+    omega (arith, c.loop-block-test.false, c.loop-block.auto.block-end, c.num_blocks-block-end.ensures.count) in
+    let e : c.extend.new.self.items ≡ c.loop-block.drafts.items ++ c.loop-block.jumps.items = IfOk-at_ok
+    (λ _. c.extend.new.self.items ≡ c.loop-block.drafts.items ++ c.loop-block.jumps.items) c.in_ok-extend.was
+    (fact_from_extend (λ x. x) c.extend.result c.extend.ensures.ran (λ it b. YieldsList-from_vec {s = it} _ b.0 (b.1 ∙ c.loop-block.jumps.ok.0))
+    (λ xs e h. h.0 ∙ ap (λ (l : List (BlockDraft g.row.A.Denot)). c.loop-block.drafts.items ++ l) (sym (map-id xs) ∙ e))) in
+    ap (map draft_of) e ∙ map-append draft_of c.loop-block.drafts.items c.loop-block.jumps.items
+    ∙ all-made c.args.none f c.loop-block.block (map draft_of c.loop-block.drafts.items) (map draft_of c.loop-block.jumps.items) all
+    c.loop-block.invariant.drafts c.loop-block.invariant.jumps

@@ -1,0 +1,49 @@
+use Rattle.std.proofs.Common.{rules, arith, ◌≡◌, ◌∙◌, ◌<◌, ◌++◌, ◌∷◌, [], true, false, ℕ, List, length, map, ap, sym}
+use Rattle.std.specs.Prelude.{slice_index}
+use Rattle.std.proofs.lemmas.List.{get_or_default, length-map, map-append}
+use Rattle.regalloc2_function.specs.FunctionValue.{FunctionValue, block_at}
+use Rattle.regalloc2_function.specs.SourceRun.{arguments_at}
+use Rattle.regalloc2_serialize.specs.TableFunction.Draft.{DraftValue, draft_of}
+use Rattle.regalloc2_rewrite.specs.SplitEdges.{is_critical, jump_on}
+use Rattle.regalloc2_rewrite.proofs.EdgeLists.{edge}
+use Rattle.regalloc2_rewrite.proofs.SplitSteps.{critical-jumps, critical-more, critical-succ, jump-made, plain-jumps}
+use Rattle.regalloc2_rewrite.proofs.edges.split_edge.Goals as goal
+
+pub returns-then-not-has_critical_edge-clause-jumps : goal.returns-then-not-has_critical_edge-clause-jumps
+returns-then-not-has_critical_edge-clause-jumps g c =
+    let f : FunctionValue = g.F.Function.function c.args.f.now in
+    let plain : is_critical f c.args.block c.args.k ≡ false = sym c.has_critical_edge.ensures ∙ c.if-not-has_critical_edge.true in
+    plain-jumps c.args.none f c.args.block c.args.k (map draft_of c.args.jumps.now.items) plain c.requires.jumps
+
+pub returns-then-number-ge-BLOCK_LIMIT-clause-err : goal.returns-then-number-ge-BLOCK_LIMIT-clause-err
+returns-then-number-ge-BLOCK_LIMIT-clause-err g c =
+    let f : FunctionValue = g.F.Function.function c.args.f.now in
+    let critical : is_critical f c.args.block c.args.k ≡ true = sym c.has_critical_edge.ensures ∙ c.if-not-has_critical_edge.false in
+    let more = critical-more c.args.none f c.args.block c.args.k (map draft_of c.args.jumps.now.items) c.requires.block c.requires.position critical
+    c.requires.jumps in
+    omega (arith, more, c.if-number-ge-BLOCK_LIMIT.true, c.num_blocks.ensures.count, c.len.ensures, length-map c.args.jumps.now.items draft_of)
+
+pub returns-clause-succ : goal.returns-clause-succ
+returns-clause-succ g c =
+    let f : FunctionValue = g.F.Function.function c.args.f.now in
+    let critical : is_critical f c.args.block c.args.k ≡ true = sym c.has_critical_edge.ensures ∙ c.if-not-has_critical_edge.false in
+    let at = critical-succ c.args.none f c.args.block c.args.k (map draft_of c.args.jumps.now.items) critical c.requires.jumps in
+    omega (arith, at, c.new.ensures, c.num_blocks.ensures.count, c.len.ensures, length-map c.args.jumps.now.items draft_of)
+
+pub returns-clause-jumps : goal.returns-clause-jumps
+returns-clause-jumps g c =
+    let f : FunctionValue = g.F.Function.function c.args.f.now in
+    let b : ℕ = c.args.block in
+    let k : ℕ = c.args.k in
+    let critical : is_critical f b k ≡ true = sym c.has_critical_edge.ensures ∙ c.if-not-has_critical_edge.false in
+    let inside : k < length c.block_succs.result.now = omega (arith, ap length c.block_succs.ensures, c.requires.position) in
+    let to : c.index-block_succs-k.result ≡ slice_index (block_at f b).succs k =
+    c.index-block_succs-k.is ∙ get_or_default c.block_succs.result.now k c.index-block_succs-k.result 0 inside
+    ∙ ap (λ (ss : List ℕ). slice_index ss k) c.block_succs.ensures in
+    let passed : c.in_ok-arguments.arguments.items ≡ arguments_at f b k = search rules in
+    let made : draft_of c.in_ok-jump.jump ≡ jump_on c.args.none f (edge b k) =
+    jump-made c.args.none f b k c.index-block_succs-k.result c.in_ok-arguments.arguments.items (draft_of c.in_ok-jump.jump) to passed c.in_ok-jump.ensures in
+    let e : c.push.new.self.items ≡ c.args.jumps.now.items ++ c.in_ok-jump.jump ∷ [] = search rules in
+    ap (map draft_of) e ∙ map-append draft_of c.args.jumps.now.items (c.in_ok-jump.jump ∷ [])
+    ∙ ap (λ (d : DraftValue). map draft_of c.args.jumps.now.items ++ d ∷ []) made
+    ∙ critical-jumps c.args.none f b k (map draft_of c.args.jumps.now.items) critical c.requires.jumps

@@ -1,0 +1,44 @@
+use Rattle.std.proofs.Common.{rules, arith, ◌≡◌, ◌∙◌, ◌++◌, ◌∷◌, [], ℕ, length, map, ap}
+use Rattle.std.specs.List.{range_with_len}
+use Rattle.std.proofs.lemmas.List.{map-append}
+use Rattle.regalloc2_function.specs.FunctionValue.{FunctionValue, block_at}
+use Rattle.regalloc2_serialize.specs.TableFunction.Draft.{draft_of}
+use Rattle.regalloc2_rewrite.specs.SplitEdges.{split_arguments, split_succ}
+use Rattle.regalloc2_rewrite.proofs.Lists.{filled-more}
+use Rattle.regalloc2_rewrite.proofs.SplitSteps.{jumps-next}
+use Rattle.regalloc2_rewrite.proofs.edges.split_edges.Goals as goal
+
+pub loop-k-preserved : goal.loop-k-preserved
+loop-k-preserved g c =
+    let f : FunctionValue = g.F.Function.function c.args.f.now in
+    let e : c.push.new.self.items ≡ c.loop-k.succs.items ++ c.in_ok-succ.succ ∷ [] = search rules in
+    let d : c.push-in-loop-k.new.self.items ≡ c.loop-k.lists.items ++ c.in_ok-succ.arguments ∷ [] = search rules in
+    record {
+      succs = e
+          ∙ filled-more (split_succ f c.args.block) c.loop-k.succs.items c.in_ok-succ.succ c.loop-k.k c.loop-k.invariant.succs c.in_ok-succ.ensures.succ;
+      lists = ap (map (λ v. v.items)) d ∙ map-append (λ v. v.items) c.loop-k.lists.items (c.in_ok-succ.arguments ∷ [])
+          ∙ filled-more (split_arguments f c.args.block) (map (λ v. v.items) c.loop-k.lists.items) c.in_ok-succ.arguments.items c.loop-k.k
+          c.loop-k.invariant.lists c.in_ok-succ.ensures.arguments;
+      jumps = c.in_ok-succ.ensures.jumps;
+    }
+
+pub returns-clause-succs : goal.returns-clause-succs
+returns-clause-succs g c =
+    let f : FunctionValue = g.F.Function.function c.args.f.now in
+    let all : c.loop-k.k ≡ length (block_at f c.args.block).succs =
+    omega (arith, c.loop-k-test.false, c.loop-k.auto.k-end, ap length c.block_succs-k-end.ensures) in
+    c.loop-k.invariant.succs ∙ ap (λ (n : ℕ). map (split_succ f c.args.block) (range_with_len 0 n)) all
+
+pub returns-clause-arguments : goal.returns-clause-arguments
+returns-clause-arguments g c =
+    let f : FunctionValue = g.F.Function.function c.args.f.now in
+    let all : c.loop-k.k ≡ length (block_at f c.args.block).succs =
+    omega (arith, c.loop-k-test.false, c.loop-k.auto.k-end, ap length c.block_succs-k-end.ensures) in
+    c.loop-k.invariant.lists ∙ ap (λ (n : ℕ). map (split_arguments f c.args.block) (range_with_len 0 n)) all
+
+pub returns-clause-jumps : goal.returns-clause-jumps
+returns-clause-jumps g c =
+    let f : FunctionValue = g.F.Function.function c.args.f.now in
+    let all : c.loop-k.k ≡ length (block_at f c.args.block).succs =
+    omega (arith, c.loop-k-test.false, c.loop-k.auto.k-end, ap length c.block_succs-k-end.ensures) in
+    jumps-next c.args.none f c.args.block c.loop-k.k (map draft_of c.loop-k.jumps.items) all c.loop-k.invariant.jumps
