@@ -5,30 +5,30 @@ use Rattle.std.proofs.lemmas.Bool.Decides.{nat_tests}
 use Rattle.std.proofs.lemmas.List.{get_or-set_other, get_or-set_same, get_or_default, take_all, take_more}
 use Rattle.std.proofs.lemmas.List.Elements.{All-append, All-cons, All-nil}
 use Rattle.std.proofs.lemmas.List.Sums.{passes_at_first}
-use Rattle.regalloc2_rewrite.specs.Renumbered.{IsOrder, number_in}
+use Rattle.regalloc2_rewrite.specs.Renumbered.{ListsEachOnce, new_number}
 use Rattle.regalloc2_rewrite.proofs.SamePaths.{low, number-at}
 
 -- a block's number in an order, if it is below `n`; else the number of none
 abbrev pub marked : List ℕ → ℕ → ℕ → ℕ
-marked order n b = if nat_lt (number_in order b) n then number_in order b else 4294967295
+marked order n b = if nat_lt (new_number order b) n then new_number order b else 4294967295
 
 -- no number is below 0
 pub marked-none : (order : List ℕ) (b : ℕ) → marked order 0 b ≡ 4294967295
-marked-none order b = let e : nat_lt (number_in order b) 0 ≡ false = grind (arith, nat_tests) in rw e refl
+marked-none order b = let e : nat_lt (new_number order b) 0 ≡ false = grind (arith, nat_tests) in rw e refl
 
 -- a block that isn't the next member keeps its mark
-marked-same : (order : List ℕ) (n b : ℕ) → number_in order b ≢ n → marked order (n + 1) b ≡ marked order n b
-marked-same order n b apart = by (nat_lt (number_in order b) n) refl
+marked-same : (order : List ℕ) (n b : ℕ) → new_number order b ≢ n → marked order (n + 1) b ≡ marked order n b
+marked-same order n b apart = by (nat_lt (new_number order b) n) refl
   where
-    by : (c : Bool) → nat_lt (number_in order b) n ≡ c → marked order (n + 1) b ≡ marked order n b
-    by true e = let f : nat_lt (number_in order b) (n + 1) ≡ true = grind (arith, nat_tests) in rw (e, f) refl
-    by false e = let f : nat_lt (number_in order b) (n + 1) ≡ false = grind (arith, nat_tests) in rw (e, f) refl
+    by : (c : Bool) → nat_lt (new_number order b) n ≡ c → marked order (n + 1) b ≡ marked order n b
+    by true e = let f : nat_lt (new_number order b) (n + 1) ≡ true = grind (arith, nat_tests) in rw (e, f) refl
+    by false e = let f : nat_lt (new_number order b) (n + 1) ≡ false = grind (arith, nat_tests) in rw (e, f) refl
 
 -- the block that an order has at a number is the one of that number
-there : (order : List ℕ) (n b x : ℕ) → n < length order → x ≡ get_or order n x → number_in order b ≡ n → x ≡ b
+there : (order : List ℕ) (n b x : ℕ) → n < length order → x ≡ get_or order n x → new_number order b ≡ n → x ≡ b
 there order n b x less is e =
-    let passes : nat_eq (get_or order (number_in order b) 0) b ≡ true = passes_at_first (λ y. nat_eq y b) order 0 (omega (arith, e, less)) in
-    let at : get_or order (number_in order b) 0 ≡ b = grind (arith, nat_tests) in
+    let passes : nat_eq (get_or order (new_number order b) 0) b ≡ true = passes_at_first (λ y. nat_eq y b) order 0 (omega (arith, e, less)) in
+    let at : get_or order (new_number order b) 0 ≡ b = grind (arith, nat_tests) in
     is ∙ get_or_default order n x 0 less ∙ ap (λ (k : ℕ). get_or order k 0) (sym e) ∙ at
 
 -- a block without a mark gets the next member's number
@@ -37,21 +37,21 @@ pub mark-new : (order numbers : List ℕ) (n x count : ℕ) → n < length order
     (b : ℕ) → b < count → slice_index (set numbers x n) b ≡ marked order (n + 1) b
 mark-new order numbers n x count less is small within unset marks in-count b below = by (nat_eq b x) refl
   where
-    least : number_in order x ≤ n
+    least : new_number order x ≤ n
     least = low order x n (sym is)
 
-    not-yet : nat_lt (number_in order x) n ≡ false
-    not-yet = cases (nat_lt (number_in order x) n) refl
+    not-yet : nat_lt (new_number order x) n ≡ false
+    not-yet = cases (nat_lt (new_number order x) n) refl
       where
-        cases : (c : Bool) → nat_lt (number_in order x) n ≡ c → nat_lt (number_in order x) n ≡ false
+        cases : (c : Bool) → nat_lt (new_number order x) n ≡ c → nat_lt (new_number order x) n ≡ false
         cases false e = e
         cases true e =
-            let lower : number_in order x < n = grind (arith, nat_tests) in
-            let mark : marked order n x ≡ number_in order x = rw e refl in
+            let lower : new_number order x < n = grind (arith, nat_tests) in
+            let mark : marked order n x ≡ new_number order x = rw e refl in
             absurd (omega (arith, marks x in-count, unset, mark, lower, small))
 
-    now : number_in order x ≡ n
-    now = let up : n ≤ number_in order x = grind (arith, nat_tests) in omega (arith, least, up)
+    now : new_number order x ≡ n
+    now = let up : n ≤ new_number order x = grind (arith, nat_tests) in omega (arith, least, up)
 
     by : (c : Bool) → nat_eq b x ≡ c → slice_index (set numbers x n) b ≡ marked order (n + 1) b
     by true e =
@@ -70,17 +70,17 @@ pub mark-old : (order numbers : List ℕ) (n x count : ℕ) → n < length order
     (b : ℕ) → b < count → slice_index numbers b ≡ marked order (n + 1) b
 mark-old order numbers n x count less is in-count set-before marks b below = marks b below ∙ sym (marked-same order n b apart)
   where
-    earlier : number_in order x < n
-    earlier = cases (nat_lt (number_in order x) n) refl
+    earlier : new_number order x < n
+    earlier = cases (nat_lt (new_number order x) n) refl
       where
-        cases : (c : Bool) → nat_lt (number_in order x) n ≡ c → number_in order x < n
+        cases : (c : Bool) → nat_lt (new_number order x) n ≡ c → new_number order x < n
         cases true e = grind (arith, nat_tests)
         cases false e = let mark : marked order n x ≡ 4294967295 = rw e refl in absurd (set-before (marks x in-count ∙ mark))
 
-    apart : number_in order b ≢ n
+    apart : new_number order b ≢ n
     apart at =
         let same : x ≡ b = there order n b x less is at in
-        let later : number_in order x ≡ n = ap (number_in order) same ∙ at in
+        let later : new_number order x ≡ n = ap (new_number order) same ∙ at in
         omega (arith, earlier, later)
 
 -- the members so far and the next one are blocks
@@ -92,28 +92,28 @@ within-more order n x count less is below all =
 
 -- after all members, a marked block is in the order, by its number
 pub marked-all : (order : List ℕ) (n b : ℕ) → n ≡ length order → n < 4294967295 → marked order n b ≢ 4294967295 →
-    (marked order n b ≡ number_in order b) × Contains order b
-marked-all order n b long small some = by (nat_lt (number_in order b) n) refl
+    (marked order n b ≡ new_number order b) × Contains order b
+marked-all order n b long small some = by (nat_lt (new_number order b) n) refl
   where
-    by : (c : Bool) → nat_lt (number_in order b) n ≡ c → (marked order n b ≡ number_in order b) × Contains order b
+    by : (c : Bool) → nat_lt (new_number order b) n ≡ c → (marked order n b ≡ new_number order b) × Contains order b
     by false e = let none : marked order n b ≡ 4294967295 = rw e refl in absurd (some none)
     by true e =
-        let less : number_in order b < length order = grind (arith, nat_tests) in
-        let passes : nat_eq (get_or order (number_in order b) 0) b ≡ true = passes_at_first (λ y. nat_eq y b) order 0 less in
-        let at : get_or order (number_in order b) 0 ≡ b = grind (arith, nat_tests) in
-        (rw e refl, (number_in order b, less, get_or_default order (number_in order b) b 0 less ∙ at))
+        let less : new_number order b < length order = grind (arith, nat_tests) in
+        let passes : nat_eq (get_or order (new_number order b) 0) b ≡ true = passes_at_first (λ y. nat_eq y b) order 0 less in
+        let at : get_or order (new_number order b) 0 ≡ b = grind (arith, nat_tests) in
+        (rw e refl, (new_number order b, less, get_or_default order (new_number order b) b 0 less ∙ at))
 
 -- and an unmarked block isn't
 pub unmarked : (order : List ℕ) (n b : ℕ) → n ≡ length order → n < 4294967295 → marked order n b ≡ 4294967295 → Contains order b → ⊥
 unmarked order n b long small none has =
-    let less : number_in order b < length order = (number-at order b has).0 in
-    let yes : nat_lt (number_in order b) n ≡ true = grind (arith, nat_tests) in
-    let mark : marked order n b ≡ number_in order b = rw yes refl in
+    let less : new_number order b < length order = (number-at order b has).0 in
+    let yes : nat_lt (new_number order b) n ≡ true = grind (arith, nat_tests) in
+    let mark : marked order n b ≡ new_number order b = rw yes refl in
     omega (arith, mark, none, less, long, small)
 
 -- if each block has its mark after all members, the list is an order
 pub all-marked : (order numbers : List ℕ) (count : ℕ) → length order ≡ count → count < 4294967295 → All (λ b. b < count) (take count order) →
-    ((b : ℕ) → b < count → slice_index numbers b ≡ marked order count b) → ((b : ℕ) → b < count → slice_index numbers b ≢ 4294967295) → IsOrder count order
+    ((b : ℕ) → b < count → slice_index numbers b ≡ marked order count b) → ((b : ℕ) → b < count → slice_index numbers b ≢ 4294967295) → ListsEachOnce count order
 all-marked order numbers count long small within marks some =
     let whole : take count order ≡ order = take_all count order (omega (arith, long)) in
     record {
@@ -123,7 +123,7 @@ all-marked order numbers count long small within marks some =
     }
 
 -- after all members of an order, each block has its mark
-pub order-marked : (order numbers : List ℕ) (count : ℕ) → length numbers ≡ count → count < 4294967295 → IsOrder count order →
+pub order-marked : (order numbers : List ℕ) (count : ℕ) → length numbers ≡ count → count < 4294967295 → ListsEachOnce count order →
     ((b : ℕ) → b < count → slice_index numbers b ≡ marked order count b) → All (λ n. n ≢ 4294967295) numbers
 order-marked order numbers count long small is marks k d less at =
     let below : k < count = omega (arith, long, less) in
@@ -132,6 +132,6 @@ order-marked order numbers count long small is marks k d less at =
 -- and then the mark of each block is its number
 pub marked-number : (order numbers : List ℕ) (count : ℕ) → length order ≡ count → count < 4294967295 →
     ((b : ℕ) → b < count → slice_index numbers b ≡ marked order count b) → ((b : ℕ) → b < count → slice_index numbers b ≢ 4294967295) →
-    (b : ℕ) → b < count → slice_index numbers b ≡ number_in order b
+    (b : ℕ) → b < count → slice_index numbers b ≡ new_number order b
 marked-number order numbers count long small marks some b less =
     marks b less ∙ (marked-all order count b (sym long) small (λ none. some b less (marks b less ∙ none))).0

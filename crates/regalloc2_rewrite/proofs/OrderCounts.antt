@@ -12,7 +12,7 @@ use Rattle.std.proofs.lemmas.List.Sums.{sum_by-cons}
 use Rattle.regalloc2_function.specs.FunctionValue.{FunctionValue, block_at, inst_at}
 use Rattle.regalloc2_function.specs.WellFormed.{BlocksFollow}
 use Rattle.regalloc2_serialize.specs.TableFunction.Built.{insts_of}
-use Rattle.regalloc2_rewrite.specs.Renumbered.{IsOrder, renamed}
+use Rattle.regalloc2_rewrite.specs.Renumbered.{ListsEachOnce, renamed}
 
 behind : (x z : ℕ) (xs : List ℕ) → x < z → Contains (x ∷ xs) z → Contains xs z
 behind x z xs less (zero, within, is) = absurd (omega (arith, is, less))
@@ -60,7 +60,7 @@ total-from f a (suc n) follow e =
 
 -- the blocks in an order have the function's instructions
 pub order-keeps-insts : (number : ℕ → ℕ) (f : FunctionValue) (order : List ℕ) → BlocksFollow f → f.entry < length f.blocks →
-    IsOrder (length f.blocks) order → length (insts_of (map (renamed number f) order)) ≡ length f.insts
+    ListsEachOnce (length f.blocks) order → length (insts_of (map (renamed number f) order)) ≡ length f.insts
 order-keeps-insts number f order follow some is =
     let same : sum_by (size f) order ≡ sum_by (size f) (range_with_len 0 (length f.blocks)) =
     sum_by-IsPermutation (size f) (range_with_len 0 (length f.blocks)) order

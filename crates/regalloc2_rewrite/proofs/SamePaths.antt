@@ -10,7 +10,7 @@ use Rattle.regalloc2_function.specs.FunctionValue.{FunctionValue, block_at, inst
 use Rattle.regalloc2_function.specs.Path.{Way, Onward, ToSuccessor, Location, first_of, next_of, end_of, HasWay, IsPath, last_inst}
 use Rattle.regalloc2_function.specs.SourceRun.{Stamp, Source, assigned, after_defs, arguments_at, passed, over_edge, source_before}
 use Rattle.regalloc2_function.specs.WellFormed.{IsFramed}
-use Rattle.regalloc2_rewrite.specs.Renumbered.{IsOrder, IsMoved, HasSamePaths, number_in}
+use Rattle.regalloc2_rewrite.specs.Renumbered.{ListsEachOnce, IsRenumberedBlock, HasSamePaths, new_number}
 
 -- sources that agree at each vreg
 pub record Alike (m n : Source) : Type 0 where
@@ -44,18 +44,18 @@ passed-alike (p ∷ ps) (x ∷ xs) m n k l h g =
 
 -- a structurally valid function, and one with its blocks in that order
 pub record HasMovedBlocks (f : FunctionValue) (order : List ℕ) (g : FunctionValue) : Type 0 where
-  pub listed : IsOrder (length f.blocks) order
+  pub listed : ListsEachOnce (length f.blocks) order
   pub framed : IsFramed f
-  pub blocks : (n : ℕ) → n < length f.blocks → IsMoved f order (slice_index order n) g n
-  pub entry : g.entry ≡ number_in order f.entry
+  pub blocks : (n : ℕ) → n < length f.blocks → IsRenumberedBlock f order (slice_index order n) g n
+  pub entry : g.entry ≡ new_number order f.entry
 
 -- the number of a listed block is at most each position that lists it
-pub low : (order : List ℕ) (b k : ℕ) → slice_index_or order k b ≡ b → number_in order b ≤ k
-low order b k is = by (nat_lt k (number_in order b)) refl
+pub low : (order : List ℕ) (b k : ℕ) → slice_index_or order k b ≡ b → new_number order b ≤ k
+low order b k is = by (nat_lt k (new_number order b)) refl
   where
-    by : (c : Bool) → nat_lt k (number_in order b) ≡ c → number_in order b ≤ k
+    by : (c : Bool) → nat_lt k (new_number order b) ≡ c → new_number order b ≤ k
     by true e =
-        let less : k < number_in order b = grind (arith, nat_tests) in
+        let less : k < new_number order b = grind (arith, nat_tests) in
         let no : nat_eq (get_or order k b) b ≡ false = fails_before_first (λ x. nat_eq x b) order k b less in
         let same : get_or order k b ≡ b = is in
         let yes : nat_eq (get_or order k b) b ≡ true = grind (arith, nat_tests) in
@@ -63,18 +63,18 @@ low order b k is = by (nat_lt k (number_in order b)) refl
     by false e = grind (arith, nat_tests)
 
 -- the order has a block that it lists at the block's number
-pub number-at : (order : List ℕ) (b : ℕ) → Contains order b → (number_in order b < length order) × (slice_index order (number_in order b) ≡ b)
+pub number-at : (order : List ℕ) (b : ℕ) → Contains order b → (new_number order b < length order) × (slice_index order (new_number order b) ≡ b)
 number-at order b has =
-    let least : number_in order b ≤ has.0 = low order b has.0 has.2 in
-    let less : number_in order b < length order = omega (arith, least, has.1) in
-    let passes : nat_eq (get_or order (number_in order b) 0) b ≡ true = passes_at_first (λ x. nat_eq x b) order 0 less in
+    let least : new_number order b ≤ has.0 = low order b has.0 has.2 in
+    let less : new_number order b < length order = omega (arith, least, has.1) in
+    let passes : nat_eq (get_or order (new_number order b) 0) b ≡ true = passes_at_first (λ x. nat_eq x b) order 0 less in
     (less, grind (arith, nat_tests))
 
 -- where the other function has a location
 abbrev moved_to : FunctionValue → List ℕ → FunctionValue → Location → Location
 moved_to f order g l = record {
-  block = number_in order l.block;
-  inst = (block_at g (number_in order l.block)).range.first + (l.inst - (block_at f l.block).range.first);
+  block = new_number order l.block;
+  inst = (block_at g (new_number order l.block)).range.first + (l.inst - (block_at f l.block).range.first);
 }
 
 -- a location in its block
@@ -84,27 +84,27 @@ record IsIn (f : FunctionValue) (l : Location) : Type 0 where
   end : l.inst < (block_at f l.block).range.end
 
 module _ (f : FunctionValue) (order : List ℕ) (g : FunctionValue) (h : HasMovedBlocks f order g) where
-  moved : (b : ℕ) → b < length f.blocks → IsMoved f order b g (number_in order b)
+  moved : (b : ℕ) → b < length f.blocks → IsRenumberedBlock f order b g (new_number order b)
   moved b less =
       let at = number-at order b (h.listed.each b less) in
-      subst (λ c. IsMoved f order c g (number_in order b)) at.1 (h.blocks (number_in order b) (omega (arith, at.0, h.listed.long)))
+      subst (λ c. IsRenumberedBlock f order c g (new_number order b)) at.1 (h.blocks (new_number order b) (omega (arith, at.0, h.listed.long)))
 
   first-in : (b : ℕ) → b < length f.blocks → IsIn f (first_of f b)
   first-in b less = record { block = less; first = omega arith; end = (h.framed.follow b less).0 }
 
-  first-moved : (b : ℕ) → first_of g (number_in order b) ≡ moved_to f order g (first_of f b)
+  first-moved : (b : ℕ) → first_of g (new_number order b) ≡ moved_to f order g (first_of f b)
   first-moved b =
-      let n : ℕ = number_in order b in
+      let n : ℕ = new_number order b in
       let e : (block_at g n).range.first ≡ (block_at g n).range.first + ((block_at f b).range.first - (block_at f b).range.first) = omega arith in
       ap (λ (i : ℕ). record { block = n; inst = i }) e
 
   target : (b k : ℕ) → b < length f.blocks → k < length (block_at f b).succs →
-      slice_index (block_at g (number_in order b)).succs k ≡ number_in order (slice_index (block_at f b).succs k)
+      slice_index (block_at g (new_number order b)).succs k ≡ new_number order (slice_index (block_at f b).succs k)
   target b k less within =
-      rw (moved b less).succs (get_or-map (number_in order) (block_at f b).succs k 0 0 within)
+      rw (moved b less).succs (get_or-map (new_number order) (block_at f b).succs k 0 0 within)
 
-  count-succs : (b : ℕ) → b < length f.blocks → length (block_at g (number_in order b)).succs ≡ length (block_at f b).succs
-  count-succs b less = ap length (moved b less).succs ∙ length-map (block_at f b).succs (number_in order)
+  count-succs : (b : ℕ) → b < length f.blocks → length (block_at g (new_number order b)).succs ≡ length (block_at f b).succs
+  count-succs b less = ap length (moved b less).succs ∙ length-map (block_at f b).succs (new_number order)
 
   way-there : (l : Location) (w : Way) → IsIn f l → HasWay f l w → HasWay g (moved_to f order g l) w
   way-there l Onward is way = omega (arith, (moved l.block is.block).long, is.first, way)
@@ -127,7 +127,7 @@ module _ (f : FunctionValue) (order : List ℕ) (g : FunctionValue) (h : HasMove
 
   next-moved : (l : Location) (w : Way) → IsIn f l → HasWay f l w → next_of g (moved_to f order g l) w ≡ moved_to f order g (next_of f l w)
   next-moved l Onward is way =
-      let n : ℕ = number_in order l.block in
+      let n : ℕ = new_number order l.block in
       let e : (block_at g n).range.first + (l.inst - (block_at f l.block).range.first) + 1
       ≡ (block_at g n).range.first + (l.inst + 1 - (block_at f l.block).range.first) = omega (arith, is.first) in
       ap (λ (i : ℕ). record { block = n; inst = i }) e

@@ -16,7 +16,7 @@ use Rattle.regalloc2_serialize.specs.declared.table_function.builder.BuildError.
 use Rattle.regalloc2_serialize.specs.declared.table_function.builder.BuildError.TheVariants.{Memory, NoBlock, TooManyBlocks, TooManyInsts, TooManyVRegs}
 use Rattle.regalloc2_rewrite.specs.Laid.{HasDrafts, IsLaidLike}
 use Rattle.regalloc2_rewrite.specs.Rewritten.{rewrite_error}
-use Rattle.regalloc2_rewrite.specs.SplitEdges.{IsBetween, IsKept, IsOfEdge, IsSplit, IsUnsplit, is_critical, jump_on, kept_block, number_on, split_drafts}
+use Rattle.regalloc2_rewrite.specs.SplitEdges.{IsBetween, IsKeptBlock, IsOfEdge, HasSplitEdges, IsUnsplit, is_critical, jump_on, kept_block, number_on, split_drafts}
 use Rattle.regalloc2_rewrite.proofs.EdgeLists.{edge, edges-counted}
 use Rattle.regalloc2_rewrite.proofs.LaidLaws.{count-laid, framed-laid, laid-at}
 use Rattle.regalloc2_rewrite.proofs.SplitDrafts.{all, all-many, arguments-plain, arguments-split, count-kept, draft-between, draft-kept, edge-number, framed-all, long-kept, number-within, on-edge, start-kept, succ-plain, succ-split}
@@ -70,7 +70,7 @@ module _ (none : PRegSet) (empty : (r : Register) → has_register none r ≡ fa
       ap (λ xs. slice_index_or xs k []) (laid-at (all none f) g h b (omega (arith, all-many none f, less))).arguments
       ∙ ap (λ (d : DraftValue). slice_index_or d.arguments k []) (draft-kept none f b less)
 
-  kept-at : (b : ℕ) → b < length f.blocks → IsKept f b g
+  kept-at : (b : ℕ) → b < length f.blocks → IsKeptBlock f b g
   kept-at b less =
       let here = laid-at (all none f) g h b (omega (arith, all-many none f, less)) in
       let is : draft_at (all none f) b ≡ kept_block f b = draft-kept none f b less in
@@ -106,7 +106,7 @@ module _ (none : PRegSet) (empty : (r : Register) → has_register none r ≡ fa
 
 -- a function with blocks on its critical edges
 pub is-split : (none : PRegSet) → ((r : Register) → has_register none r ≡ false) → (f g : FunctionValue) → IsFramed f →
-    IsLaidLike f f.entry f.labels (split_drafts none f) g → IsSplit f g
+    IsLaidLike f f.entry f.labels (split_drafts none f) g → HasSplitEdges f g
 is-split none empty f g framed laid =
     let h : HasDrafts (all none f) g = laid.laid in
     let total = insts-many none f framed in

@@ -9,14 +9,14 @@ use Rattle.regalloc2_function.specs.FunctionValue.{FunctionValue, InstValue, blo
 use Rattle.regalloc2_function.specs.Path.{Way, Onward, ToSuccessor, Location, first_of, next_of, end_of, HasWay, IsPath, last_inst}
 use Rattle.regalloc2_function.specs.SourceRun.{Source, Stamp, after_defs, arguments_at, assigned, over_edge, passed, source_after, source_before}
 use Rattle.regalloc2_function.specs.WellFormed.{IsFramed}
-use Rattle.regalloc2_rewrite.specs.SplitEdges.{HasPathsThrough, IsBetween, IsKept, is_critical, stamp_through, step_through, through}
+use Rattle.regalloc2_rewrite.specs.SplitEdges.{HasPathsThrough, IsBetween, IsKeptBlock, is_critical, stamp_through, step_through, through}
 use Rattle.regalloc2_rewrite.proofs.Numbers.{not-same, yes-same}
 use Rattle.regalloc2_rewrite.proofs.SplitInsts.{ends-within}
 
 -- a structurally valid function, and one with its blocks and others on its critical edges
 pub record HasSplitBlocks (f g : FunctionValue) : Type 0 where
   pub framed : IsFramed f
-  pub kept : (b : ℕ) → b < length f.blocks → IsKept f b g
+  pub kept : (b : ℕ) → b < length f.blocks → IsKeptBlock f b g
   pub insts : (i : ℕ) → i < length f.insts → inst_at g i ≡ inst_at f i
   pub entry : g.entry ≡ f.entry
 

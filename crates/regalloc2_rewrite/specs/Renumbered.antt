@@ -12,19 +12,19 @@ use Rattle.regalloc2_rewrite.specs.declared.error.RewriteError.{RewriteError}
 use Rattle.regalloc2_rewrite.specs.declared.error.RewriteError.TheVariants.{Memory, Unframed, NoOrder, Labels, TooManyBlocks, TooManyInsts}
 
 -- an order lists each of so many blocks once
-pub record IsOrder (count : ℕ) (order : List ℕ) : Type 0 where
+pub record ListsEachOnce (count : ℕ) (order : List ℕ) : Type 0 where
   pub long : length order ≡ count
   pub within : All (λ b. b < count) order
   pub each : (b : ℕ) → b < count → Contains order b
 
 -- the new number of a block: its position in the order
-abbrev pub number_in : List ℕ → ℕ → ℕ
-number_in order b = position_or_len (λ x. nat_eq x b) order
+abbrev pub new_number : List ℕ → ℕ → ℕ
+new_number order b = position_or_len (λ x. nat_eq x b) order
 
 -- block `n` of `g` is block `b` of `f`, but for the numbers of its successors and instructions
-pub record IsMoved (f : FunctionValue) (order : List ℕ) (b : ℕ) (g : FunctionValue) (n : ℕ) : Type 0 where
+pub record IsRenumberedBlock (f : FunctionValue) (order : List ℕ) (b : ℕ) (g : FunctionValue) (n : ℕ) : Type 0 where
   pub params : (block_at g n).params ≡ (block_at f b).params
-  pub succs : (block_at g n).succs ≡ map (number_in order) (block_at f b).succs
+  pub succs : (block_at g n).succs ≡ map (new_number order) (block_at f b).succs
   pub arguments : (k : ℕ) → k < length (block_at f b).succs → arguments_at g n k ≡ arguments_at f b k
   pub long : (block_at g n).range.end + (block_at f b).range.first ≡ (block_at g n).range.first + (block_at f b).range.end
   pub insts : (j : ℕ) → (block_at f b).range.first + j < (block_at f b).range.end →
@@ -41,8 +41,8 @@ pub record IsRenumbered (f : FunctionValue) (order : List ℕ) (g : FunctionValu
   pub framed : IsFramed g
   pub predecessors : PredecessorsAgree g
   pub count : length g.blocks ≡ length f.blocks
-  pub blocks : (n : ℕ) → n < length f.blocks → IsMoved f order (slice_index order n) g n
-  pub entry : g.entry ≡ number_in order f.entry
+  pub blocks : (n : ℕ) → n < length f.blocks → IsRenumberedBlock f order (slice_index order n) g n
+  pub entry : g.entry ≡ new_number order f.entry
   pub num_vregs : g.num_vregs ≡ f.num_vregs
   pub slot_sizes : g.slot_sizes ≡ f.slot_sizes
   pub named_by_last_slot : g.named_by_last_slot ≡ f.named_by_last_slot
@@ -53,7 +53,7 @@ pub record IsRenumbered (f : FunctionValue) (order : List ℕ) (g : FunctionValu
 -- why blocks have no numbers
 abbrev pub IsUnnumbered : ℕ → List ℕ → RewriteError → Type 0
 IsUnnumbered count order Memory = Unit {0}
-IsUnnumbered count order NoOrder = IsOrder count order → ⊥
+IsUnnumbered count order NoOrder = ListsEachOnce count order → ⊥
 IsUnnumbered count order Unframed = ⊥
 IsUnnumbered count order Labels = ⊥
 IsUnnumbered count order TooManyBlocks = ⊥
@@ -64,7 +64,7 @@ abbrev pub IsUnrenumbered : FunctionValue → List ℕ → RewriteError → Type
 IsUnrenumbered f order Memory = Unit {0}
 IsUnrenumbered f order Unframed = IsFramed f → ⊥
 IsUnrenumbered f order Labels = 0 < length f.labels
-IsUnrenumbered f order NoOrder = IsOrder (length f.blocks) order → ⊥
+IsUnrenumbered f order NoOrder = ListsEachOnce (length f.blocks) order → ⊥
 IsUnrenumbered f order TooManyBlocks = ⊥
 IsUnrenumbered f order TooManyInsts = ⊥
 

@@ -46,7 +46,7 @@ pub record IsBetween (f : FunctionValue) (b k : ℕ) (g : FunctionValue) (n : �
   pub arguments : arguments_at g n 0 ≡ arguments_at f b k
 
 -- block `b` is the same, but for the ends of its critical edges, each of which is a block of its own that takes no arguments
-pub record IsKept (f : FunctionValue) (b : ℕ) (g : FunctionValue) : Type 0 where
+pub record IsKeptBlock (f : FunctionValue) (b : ℕ) (g : FunctionValue) : Type 0 where
   pub range : (block_at g b).range ≡ (block_at f b).range
   pub params : (block_at g b).params ≡ (block_at f b).params
   pub count : length (block_at g b).succs ≡ length (block_at f b).succs
@@ -90,11 +90,11 @@ pub record HasPathsThrough (f g : FunctionValue) : Type 0 where
       source_before g (through f ws) v ≡ option_map (stamp_through f ws) (source_before f ws v)
 
 -- `g` is `f` with a block on each critical edge, and no other change
-pub record IsSplit (f g : FunctionValue) : Type 0 where
+pub record HasSplitEdges (f g : FunctionValue) : Type 0 where
   pub framed : IsFramed g
   pub predecessors : PredecessorsAgree g
   pub no_critical_edge : NoCriticalEdge g
-  pub kept : (b : ℕ) → b < length f.blocks → IsKept f b g
+  pub kept : (b : ℕ) → b < length f.blocks → IsKeptBlock f b g
   pub new : (n : ℕ) → length f.blocks ≤ n → n < length g.blocks → IsOfEdge f g n
   pub insts : (i : ℕ) → i < length f.insts → inst_at g i ≡ inst_at f i
   pub count : length g.insts + length f.blocks ≡ length f.insts + length g.blocks

@@ -5,7 +5,7 @@ ghost use Rattle.regalloc2_function.specs.FunctionValue.{block_at};
 ghost use Rattle.regalloc2_function.specs.WellFormed.{IsFramed, SuccessorsAreBlocks, times_in};
 ghost use Rattle.regalloc2_serialize.specs.TableFunction.Table.{function_of_table};
 ghost use Rattle.regalloc2_serialize.specs.TableFunction.Draft.{draft_of};
-ghost use Rattle.regalloc2_rewrite.specs.SplitEdges.{AgreeUpToTwo, AreJumps, IsSplit, IsUnsplit, entries_into, is_critical, kept_block, split_arguments, split_drafts, split_succ};
+ghost use Rattle.regalloc2_rewrite.specs.SplitEdges.{AgreeUpToTwo, AreJumps, HasSplitEdges, IsUnsplit, entries_into, is_critical, kept_block, split_arguments, split_drafts, split_succ};
 
 use crate::copied::{copied_range, laid_like};
 use crate::error::RewriteError;
@@ -248,7 +248,7 @@ pub fn split_critical_edges<F: Function, A: Allocator + Copy>(
     alloc: A,
     f: &F,
 ) -> Result<TableFunction<A>, RewriteError>
-    ensures ok { IfOk result (λ g. IsSplit (F.function f.now) (function_of_table g)) }
+    ensures ok { IfOk result (λ g. HasSplitEdges (F.function f.now) (function_of_table g)) }
     ensures err { IfErr result (λ e. IsUnsplit (F.function f.now) e) }
 {
     if !is_framed(f) {

@@ -4,7 +4,7 @@ use Rattle.std.proofs.lemmas.Result.{err_from_is_err_and}
 use Rattle.regalloc2_function.specs.FunctionValue.{FunctionValue, label_of}
 use Rattle.regalloc2_function.specs.WellFormed.{IsFramed}
 use Rattle.regalloc2_serialize.specs.TableFunction.Draft.{draft_of}
-use Rattle.regalloc2_rewrite.specs.Renumbered.{IsOrder, number_in, renamed}
+use Rattle.regalloc2_rewrite.specs.Renumbered.{ListsEachOnce, new_number, renamed}
 use Rattle.regalloc2_rewrite.proofs.RenumberLaws.{renumbered-by-table, unbuilt-by-table}
 use Rattle.regalloc2_rewrite.proofs.order.renumber.Goals as goal
 
@@ -14,8 +14,8 @@ returns-clause-ok g c =
     let order : List ℕ = c.args.order.now in
     let numbers : List ℕ = c.in_ok-numbers.numbers.items in
     let framed : IsFramed f = c.is_framed.ensures.0 c.if-not-is_framed.false in
-    let is : IsOrder (length f.blocks) order = subst (λ n. IsOrder n order) c.num_blocks.ensures.count c.in_ok-numbers.ensures.order in
-    let table : (b : ℕ) → b < length f.blocks → slice_index numbers b ≡ number_in order b =
+    let is : ListsEachOnce (length f.blocks) order = subst (λ n. ListsEachOnce n order) c.num_blocks.ensures.count c.in_ok-numbers.ensures.order in
+    let table : (b : ℕ) → b < length f.blocks → slice_index numbers b ≡ new_number order b =
     λ b less. c.in_ok-numbers.ensures.numbers b (omega (arith, c.num_blocks.ensures.count, less)) in
     let same : map draft_of c.in_ok-drafts.drafts.items ≡ map (renamed (λ s. slice_index numbers s) f) order =
     rw c.as_slice.ensures.value at c.in_ok-drafts.ensures in
@@ -31,8 +31,8 @@ returns-in_err-laid_like-clause-err g c =
     let order : List ℕ = c.args.order.now in
     let numbers : List ℕ = c.in_ok-numbers.numbers.items in
     let framed : IsFramed f = c.is_framed.ensures.0 c.if-not-is_framed.false in
-    let is : IsOrder (length f.blocks) order = subst (λ n. IsOrder n order) c.num_blocks.ensures.count c.in_ok-numbers.ensures.order in
-    let table : (b : ℕ) → b < length f.blocks → slice_index numbers b ≡ number_in order b =
+    let is : ListsEachOnce (length f.blocks) order = subst (λ n. ListsEachOnce n order) c.num_blocks.ensures.count c.in_ok-numbers.ensures.order in
+    let table : (b : ℕ) → b < length f.blocks → slice_index numbers b ≡ new_number order b =
     λ b less. c.in_ok-numbers.ensures.numbers b (omega (arith, c.num_blocks.ensures.count, less)) in
     let same : map draft_of c.in_ok-drafts.drafts.items ≡ map (renamed (λ s. slice_index numbers s) f) order =
     rw c.as_slice.ensures.value at c.in_ok-drafts.ensures in
