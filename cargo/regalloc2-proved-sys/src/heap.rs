@@ -1,6 +1,6 @@
 //! The library's memory: `rattle_alloc`, `rattle_realloc` and `rattle_dealloc`.
 //!
-//! A call allocates many small blocks, and frees all of them. `malloc` and `free` would take a third of a run's cost. Therefore a
+//! A call allocates many small blocks, and frees all of them. A `malloc` and a `free` for each would cost more. Therefore a
 //! thread in a call cuts small blocks from chunks, and keeps freed blocks in lists by size. Larger blocks, and blocks allocated outside
 //! a call, are `malloc`'s. At a call's end the thread keeps at most [`KEPT`] bytes of chunks.
 
