@@ -3,5 +3,6 @@
 -- Depends on blocks and paths of regalloc2_function, and on the builder of regalloc2_serialize.
 pub mod Laid
 pub mod Renumbered
+pub mod RewriteText
 pub mod Rewritten
 pub mod SplitEdges

@@ -27,8 +27,13 @@ pub enum RewriteError {
 
 /// As `the order doesn't list each block once`.
 impl fmt::Display for RewriteError {
+    ghost use Rattle.std.specs.Prelude.{Some};
+    ghost use Rattle.regalloc2_rewrite.specs.RewriteText.{rewrite_text};
+
+    ghost output = { λ e. Some (rewrite_text e) };
+
     fn fmt<W: fmt::Write>(&self, f: &mut fmt::Formatter<W>) -> fmt::Result {
-        match *self {
+        match self {
             Self::Memory => write!(f, "out of memory"),
             Self::Unframed => write!(f, "the function isn't structurally valid"),
             Self::NoOrder => write!(f, "the order doesn't list each block once"),
