@@ -63,6 +63,16 @@ pub fn class_named(name: &str) -> Option<RegClass> {
     }
 }
 
+/// The class of that name in upstream's `Debug`.
+fn class_in_debug(name: &str) -> Option<RegClass> {
+    match name {
+        "Int" => Some(RegClass::Int),
+        "Float" => Some(RegClass::Float),
+        "Vector" => Some(RegClass::Vector),
+        _ => None,
+    }
+}
+
 /// The kind and the position of that name.
 fn kind_named(name: &str) -> Option<(OperandKind, OperandPos)> {
     match name {
@@ -156,11 +166,73 @@ impl Cursor<'_, '_> {
         }
     }
 
+    /// A number up to `max` behind a name and `=`, as `hw = 3`.
+    fn number_part(&mut self, name: &'static str, max: u64) -> u64
+        ensures left { tokens_left self.new ≤ tokens_left self.old }
+        ensures up_to { result ≤ max }
+    {
+        self.want(name);
+        self.want("=");
+        self.number(max)
+    }
+
+    /// A class behind its name and `=`, as `class = Int`.
+    fn class_part(&mut self) -> RegClass
+        ensures { tokens_left self.new ≤ tokens_left self.old }
+    {
+        self.want("class");
+        self.want("=");
+        match self.peek().and_then(class_in_debug) {
+            Some(class) => {
+                self.advance();
+                class
+            }
+            None => {
+                self.misfit("`Int`, `Float` or `Vector`");
+                RegClass::Int
+            }
+        }
+    }
+
+    /// What follows `PReg` in upstream's `Debug`: `(hw = 3, class = Int, index = 3)`.
+    fn register_parts(&mut self) -> Named
+        ensures left { tokens_left self.new ≤ tokens_left self.old }
+        ensures up_to { result.number ≤ PReg.MAX }
+    {
+        self.want("(");
+        let number = self.number_part("hw", PReg::MAX as u64) as usize;
+        self.want(",");
+        let class = self.class_part();
+        self.want(",");
+        let index = self.number_part("index", 255);
+        if index != PReg::new(number, class).index() as u64 {
+            self.misfit_before("the index of that register");
+        }
+        self.want(")");
+        Named { number, class }
+    }
+
+    /// What follows `VReg` in upstream's `Debug`: `(vreg = 3, class = Int)`.
+    fn vreg_parts(&mut self) -> Named
+        ensures left { tokens_left self.new ≤ tokens_left self.old }
+        ensures up_to { result.number ≤ VReg.MAX }
+    {
+        self.want("(");
+        let number = self.number_part("vreg", VReg::MAX as u64) as usize;
+        self.want(",");
+        let class = self.class_part();
+        self.want(")");
+        Named { number, class }
+    }
+
     /// A register.
     pub fn register(&mut self) -> Named
         ensures left { tokens_left self.new ≤ tokens_left self.old }
         ensures up_to { result.number ≤ PReg.MAX }
     {
+        if self.has("PReg") {
+            return self.register_parts();
+        }
         self.letter_named('p', PReg::MAX, &NO_REGISTER)
     }
 
@@ -185,6 +257,9 @@ impl Cursor<'_, '_> {
         ensures left { tokens_left self.new ≤ tokens_left self.old }
         ensures up_to { result.number ≤ VReg.MAX }
     {
+        if self.has("VReg") {
+            return self.vreg_parts();
+        }
         self.letter_named('v', VReg::MAX, &NO_VREG)
     }
 
@@ -330,7 +405,7 @@ impl Cursor<'_, '_> {
             Allocation::none().bits()
         } else if self.begins("stack") {
             Allocation::stack(SpillSlot::new(self.slot())).bits()
-        } else if self.begins("p") {
+        } else if self.begins("p") || self.begins("PReg") {
             let named = self.register();
             Allocation::reg(PReg::new(named.number, named.class)).bits()
         } else {
@@ -361,7 +436,13 @@ impl Cursor<'_, '_> {
             self.bits_end(ProgPoint::is_index(bits));
             return bits;
         }
-        let inst = Inst(self.named("inst", "a point"));
+        // upstream's `Debug` of a point begins so
+        let name = if self.begins("progpoint") {
+            "progpoint"
+        } else {
+            "inst"
+        };
+        let inst = Inst(self.named(name, "a point"));
         if inst != Inst::invalid() && inst.index() >= 1 << 30 {
             self.misfit_before("an instruction below 1073741824");
             return 0;
