@@ -20,7 +20,7 @@ ghost use Rattle.std.specs.List.Sorted.{IsPermutation, IsNonDecreasingBy};
 ghost use Rattle.regalloc2_names.specs.Place.{Place};
 ghost use Rattle.regalloc2_names.specs.PlaceBits.{bits_of_place};
 ghost use Rattle.regalloc2_parts.specs.AtOnce.{ends_of, AreReal, HasOneSourceEach, IsOfMoves, IsPlace};
-ghost use Rattle.regalloc2_parts.specs.Giving.{AreFair, AreProper, IsTidied, IsWriterOf, AreMovesApart, AreNexts, IsOrder, IsMoveChain};
+ghost use Rattle.regalloc2_parts.specs.Giving.{to_at, AreFair, AreProper, IsTidied, IsWriterOf, AreMovesApart, AreNexts, IsOrder, IsMoveChain};
 ghost use Rattle.regalloc2_parts.specs.Giving.{CanFollow, CanOpen, CanGive, CanBegin, IsGiving, LeadsTo, HasGoneOn, IsGivenOut, AreSameDone, state_at};
 ghost use Rattle.regalloc2_parts.specs.Resolved.{moves_listed, has_scratch, IsResolution, IsRunnable};
 ghost use Rattle.regalloc2_parts.specs.declared.moves.order.State.TheVariants.{Todo, Pending, Done};
@@ -213,7 +213,40 @@ fn find_writer<T: Copy + Default>(moves: &[(Allocation, Allocation, T)], place: 
     }
 }
 
-/// For each move, the index of the one that writes its source, or past the end if none does.
+/// Whether a move has an index, and writes a place.
+fn is_writer<T: Copy + Default>(
+    moves: &[(Allocation, Allocation, T)],
+    at: usize,
+    place: Allocation,
+) -> bool
+    requires proper { AreProper (ends_of moves.now) }
+    requires real { IsPlace place }
+    ensures { IsTrue result ↔ ((at < length moves.now) × (to_at (ends_of moves.now) at ≡ place)) }
+{
+    at < moves.len() && moves[at].1.bits() == place.bits()
+}
+
+/// The index of the move that writes a place, or past the end if no move does. It searches only if
+/// the move of index `guess` doesn't write the place.
+fn find_writer_near<T: Copy + Default>(
+    moves: &[(Allocation, Allocation, T)],
+    place: Allocation,
+    guess: usize,
+) -> usize
+    requires sorted { IsNonDecreasingBy (λ (m : Place × Place × _). bits_of_place m.1) moves.now }
+    requires proper { AreProper (ends_of moves.now) }
+    requires real { IsPlace place }
+    ensures { IsWriterOf (ends_of moves.now) place result }
+{
+    if is_writer(moves, guess, place) {
+        return guess;
+    }
+    find_writer(moves, place)
+}
+
+/// For each move, the index of the one that writes its source, or past the end if none does. Slots
+/// of arguments and of parameters are mostly numbered in one order, so the guess is the index after
+/// the last one found.
 fn find_nexts<'a, T: Copy + Default, B: Allocator>(
     alloc: &'a B,
     moves: &[(Allocation, Allocation, T)],
@@ -223,8 +256,11 @@ fn find_nexts<'a, T: Copy + Default, B: Allocator>(
     ensures ok { IfOk result (λ nexts. AreNexts (ends_of moves.now) nexts.items) }
 {
     let mut nexts = SmallVec::new(alloc);
+    let mut guess = 0;
     for m in moves {
-        nexts.push(find_writer(moves, m.0))?;
+        let found = find_writer_near(moves, m.0, guess);
+        nexts.push(found)?;
+        guess = found.wrapping_add(1);
     }
     Ok(nexts)
 }

@@ -7,8 +7,8 @@ use Rattle.regalloc2_parts.proofs.Lists.{length_ends, read_from}
 use Rattle.regalloc2_parts.proofs.Searching.{AreNextsTo, nexts_more}
 use Rattle.regalloc2_parts.proofs.moves.order.find_nexts.Goals as goal
 
-pub find_writer-requires-clause-real : goal.find_writer-requires-clause-real
-find_writer-requires-clause-real g c =
+pub find_writer_near-found-requires-clause-real : goal.find_writer_near-found-requires-clause-real
+find_writer_near-found-requires-clause-real g c =
     let many : length (ends_of c.args.moves.now) ≡ length c.args.moves.now = length_ends c.args.moves.now in
     let low : c.loop-m.m-index < length (ends_of c.args.moves.now) = omega arith in
     subst (λ (p : Place). IsPlace p) (sym (read_from c.args.moves.now c.loop-m.m-index c.m-item.result c.loop-m-test.true c.m-item.is))
@@ -16,8 +16,8 @@ find_writer-requires-clause-real g c =
 
 pub loop-m-preserved : goal.loop-m-preserved
 loop-m-preserved g c =
-    let is : IsWriterOf (ends_of c.args.moves.now) (from_at (ends_of c.args.moves.now) c.loop-m.m-index) c.find_writer.result =
-    subst (λ (p : Place). IsWriterOf (ends_of c.args.moves.now) p c.find_writer.result)
-    (read_from c.args.moves.now c.loop-m.m-index c.m-item.result c.loop-m-test.true c.m-item.is) c.find_writer.ensures in
+    let is : IsWriterOf (ends_of c.args.moves.now) (from_at (ends_of c.args.moves.now) c.loop-m.m-index) c.find_writer_near-found.result =
+    subst (λ (p : Place). IsWriterOf (ends_of c.args.moves.now) p c.find_writer_near-found.result)
+    (read_from c.args.moves.now c.loop-m.m-index c.m-item.result c.loop-m-test.true c.m-item.is) c.find_writer_near-found.ensures in
     subst (λ x. AreNextsTo (ends_of c.args.moves.now) x (c.loop-m.m-index + 1)) (sym c.in_ok-push.ensures.ok)
-    (nexts_more (ends_of c.args.moves.now) c.loop-m.nexts.items c.loop-m.m-index c.find_writer.result c.loop-m.invariant is)
+    (nexts_more (ends_of c.args.moves.now) c.loop-m.nexts.items c.loop-m.m-index c.find_writer_near-found.result c.loop-m.invariant is)
