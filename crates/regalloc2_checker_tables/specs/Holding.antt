@@ -91,8 +91,10 @@ pub record LosesSome (size : ℕ) (has other : ℕ → ℕ → Bool) : Type 0 wh
   pub here : has place bits ≡ true
   pub not_there : other place bits ≡ false
 
--- a meet of the positions from one up to another, below a bound: the array keeps what a saved copy has too; and whether the copy has more there, or more was found before
-pub record IsMetBetween (s : List NumberSet) (e : NumberCopies) (t : List NumberSet) (f : NumberCopies) (k from end bound : ℕ) (before after : Bool) : Type 0 where
+-- a meet of the positions from one up to another, as far as they are below a bound: the array keeps what a saved copy has too. `after` says whether the
+-- copy has more there, or `before` is set
+pub record IsMetBetween (s : List NumberSet) (e : NumberCopies) (t : List NumberSet) (f : NumberCopies) (k from end bound : ℕ) (before after : Bool)
+    : Type 0 where
   pub still : AreStill s e t f
   pub done : (i y : ℕ) → from ≤ i → i < end → i < bound → held t f i y ≡ (is_member s (saved_number e k i) y && held s e i y)
   pub low : (i : ℕ) → i < from → number_now f i ≡ number_now e i
