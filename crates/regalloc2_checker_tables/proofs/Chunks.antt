@@ -1,5 +1,5 @@
 -- Chunks of an array and of saved copies of it.
-use Rattle.std.proofs.Common.{ℕ, ◌≡◌, ◌+◌, ◌*◌, ◌<◌, ◌≤◌, arith, List, length, get_or, sym, ap, ◌∙◌, subst}
+use Rattle.std.proofs.Common.{ℕ, ◌≡◌, ◌+◌, ◌*◌, ◌<◌, ◌≤◌, ◌/◌, ◌%◌, arith, List, length, get_or, sym, ap, ◌∙◌, subst}
 use Rattle.std.proofs.Common.{Bool, true, false, nat_eq, refl, ◌-◌}
 use Rattle.std.specs.Prelude.{not}
 use Rattle.std.specs.List.{between}
@@ -9,7 +9,8 @@ use Rattle.std.proofs.lemmas.Slice.Eq.{slice_eq-Decides}
 use Rattle.std.proofs.lemmas.List.{ext_get_or}
 use Rattle.std.proofs.lemmas.List.Edits.{get_or-between, length-between}
 use Rattle.regalloc2_checker_tables.specs.SavedCopies.{Copies, saved_at, number_in_cell, IsChunkAt}
-use Rattle.regalloc2_checker_tables.specs.SavedNumbers.{AreChunksKept}
+use Rattle.regalloc2_checker_tables.specs.SavedCopies.{AreSameBetween}
+use Rattle.regalloc2_checker_tables.specs.SavedNumbers.{AreChunksKept, ArePartsAlike}
 
 -- if all numbers are zeros, each chunk is at the beginning of the words
 pub chunks-new : (words cells : List ℕ) (bases : Copies) → length words ≡ 64 → ((i : ℕ) → get_or words i 0 ≡ 0) → ((i : ℕ) → get_or cells i 0 ≡ 0) →
@@ -21,6 +22,16 @@ chunks-new words cells bases long wz cz same bz sz = record {
   known = λ j l small.
       subst (λ (b : ℕ). IsChunkAt words cells j b) (sym (bz j)) (record { within = omega arith; same = λ t lt. cz (64 * j + t) ∙ sym (wz (0 + t)) });
 }
+
+-- chunks that begin where those of a saved copy do have its numbers
+pub chunks-alike : (words cells : List ℕ) (bases : Copies) (k from end : ℕ) → AreChunksKept words cells bases → end ≤ length bases.cells →
+    AreSameBetween bases k from end → ArePartsAlike words cells bases k (64 * from) (64 * end)
+chunks-alike words cells bases k from end h l same i lo hi =
+    let e = same (i / 64) (omega arith) (omega arith) in
+    let small = h.small k (i / 64) (omega arith) in
+    let at = h.known (i / 64) (omega arith) (omega arith) in
+    let whole : 64 * (i / 64) + i % 64 ≡ i = omega arith in
+    ap (λ n. get_or cells n 0) (sym whole) ∙ at.same (i % 64) (omega arith) ∙ ap (λ b. get_or words (b + i % 64) 0) e
 
 -- parts of two lists that are equal have the same numbers
 pub parts-same : (xs ys : List ℕ) (a b n t : ℕ) → between a (a + n) xs ≡ between b (b + n) ys → t < n → get_or xs (a + t) 0 ≡ get_or ys (b + t) 0

@@ -1,5 +1,5 @@
 -- Which vregs places hold, in tables by number and in the one that is worked on. Places are named by their positions.
-use Rattle.std.specs.Prelude.{ℕ, ◌≡◌, ◌<◌, ◌≤◌, Bool, true, false, ◌&&◌, nat_eq, List, [], length, get_or}
+use Rattle.std.specs.Prelude.{ℕ, ◌≡◌, ◌<◌, ◌≤◌, ◌⊎◌, Bool, true, false, ◌&&◌, nat_eq, List, [], length, get_or}
 use Rattle.std.specs.List.{list_any}
 use Rattle.std.specs.List.Sorted.{IsStrictlyIncreasing}
 use Rattle.regalloc2_shape.specs.Numbers.{NumberSet, has_number}
@@ -91,11 +91,14 @@ pub record LosesSome (size : ℕ) (has other : ℕ → ℕ → Bool) : Type 0 wh
   pub here : has place bits ≡ true
   pub not_there : other place bits ≡ false
 
--- how far a meet went: the array has what it had and a saved copy has too, below a position
-pub record IsMetBelow (s : List NumberSet) (e : NumberCopies) (t : List NumberSet) (f : NumberCopies) (k from bound : ℕ) (changed : Bool) : Type 0 where
+-- a meet of the positions from one up to another, as far as they are below a bound: the array keeps what a saved copy has too. `after` says whether the
+-- copy has more there, or `before` is set
+pub record IsMetBetween (s : List NumberSet) (e : NumberCopies) (t : List NumberSet) (f : NumberCopies) (k from end bound : ℕ) (before after : Bool)
+    : Type 0 where
   pub still : AreStill s e t f
-  pub done : (i y : ℕ) → i < from → i < bound → held t f i y ≡ (is_member s (saved_number e k i) y && held s e i y)
-  pub rest : (i : ℕ) → from ≤ i → number_now f i ≡ number_now e i
+  pub done : (i y : ℕ) → from ≤ i → i < end → i < bound → held t f i y ≡ (is_member s (saved_number e k i) y && held s e i y)
+  pub low : (i : ℕ) → i < from → number_now f i ≡ number_now e i
+  pub rest : (i : ℕ) → end ≤ i → number_now f i ≡ number_now e i
   pub fewer : (i y : ℕ) → i < length e.cells → held t f i y ≡ true → held s e i y ≡ true
-  pub less : changed ≡ true → LosesSome bound (λ i y. is_member s (saved_number e k i) y) (held s e)
-  pub same : changed ≡ false → (i y : ℕ) → i < from → i < bound → is_member s (saved_number e k i) y ≡ true → held s e i y ≡ true
+  pub less : after ≡ true → (before ≡ true) ⊎ (d : LosesSome bound (λ i y. is_member s (saved_number e k i) y) (held s e)) × (from ≤ d.place)
+  pub same : after ≡ false → (before ≡ false) × ((i y : ℕ) → from ≤ i → i < end → i < bound → is_member s (saved_number e k i) y ≡ true → held s e i y ≡ true)

@@ -6,12 +6,12 @@
 //! saved copies, so neither saving nor loading a copy goes over all chunks.
 
 ghost use Rattle.std.specs.Prelude.{◌≡◌, ◌≢◌, ℕ, ◌+◌, ◌*◌, ◌/◌, ◌%◌, ◌-◌, ◌^◌, ◌<◌, ◌≤◌, length, get_or, slice_set};
-ghost use Rattle.std.specs.Prelude.{IfOk, OnOk, OnErr, MatchOption};
+ghost use Rattle.std.specs.Prelude.{IfOk, OnOk, OnErr, None, Some};
 ghost use Rattle.regalloc2_checker_tables.specs.SavedCopies.{number_in_cell, saved_at, AreMoreWords};
 ghost use Rattle.regalloc2_checker_tables.specs.SavedNumbers.{copy_count, saved_number, number_now, AreAlikeBetween, AreChunksKept, AreCopiesKept, AreLoaded};
-ghost use Rattle.regalloc2_checker_tables.specs.SavedNumbers.{AreSaved, ArePartsAlike};
+ghost use Rattle.regalloc2_checker_tables.specs.SavedNumbers.{AreSaved};
 
-use crate::versions::{Versions, copy_chunk, difference_in, is_same_chunk};
+use crate::versions::{Versions, copy_chunk, is_same_chunk};
 use std::alloc::{AllocError, Allocator};
 use std::marker::Model;
 
@@ -114,61 +114,6 @@ fn save_chunks<A: Allocator + Copy>(
     Ok(())
 }
 
-/// The first position from one on at which the array differs from a saved copy. It is past the chunks before a given one.
-fn first_position<A: Allocator + Copy>(
-    words: &[u32],
-    bases: &Versions<A>,
-    copy: usize,
-    cells: &[u32],
-    from: usize,
-    start: usize,
-) -> Option<usize>
-    requires copy { copy < length bases.now.saved }
-    requires kept { AreChunksKept words.now cells.now bases.now }
-    requires start { ArePartsAlike words.now cells.now bases.now copy from (64 * start) }
-    ensures { MatchOption result (ArePartsAlike words.now cells.now bases.now copy from (length cells.now))
-        (λ i. (from ≤ i) × (i < length cells.now) × (get_or cells.now i 0 ≢ get_or words.now (saved_at bases.now copy (i / 64) + i % 64) 0)
-        × ArePartsAlike words.now cells.now bases.now copy from i) }
-{
-    let mut first = start;
-    'chunks: while let Some(chunk) = bases.next_difference(copy, first) {
-        let base = bases.saved(copy, chunk) as usize;
-        let found = difference_in(words, base, cells, 64 * chunk, from);
-        if found.is_some() {
-            return found;
-        }
-        first = chunk + 1;
-    }
-    None
-}
-
-/// The same, for any position. The rest of the chunk around the position is compared at once, since
-/// positions that differ are often in one chunk.
-fn next_position<A: Allocator + Copy>(
-    words: &[u32],
-    bases: &Versions<A>,
-    copy: usize,
-    cells: &[u32],
-    from: usize,
-) -> Option<usize>
-    requires copy { copy < length bases.now.saved }
-    requires kept { AreChunksKept words.now cells.now bases.now }
-    ensures { MatchOption result (ArePartsAlike words.now cells.now bases.now copy from (length cells.now))
-        (λ i. (from ≤ i) × (i < length cells.now) × (get_or cells.now i 0 ≢ get_or words.now (saved_at bases.now copy (i / 64) + i % 64) 0)
-        × ArePartsAlike words.now cells.now bases.now copy from i) }
-{
-    let chunk = from / 64;
-    if from % 64 == 0 || chunk >= bases.len() {
-        return first_position(words, bases, copy, cells, from, chunk);
-    }
-    let base = bases.saved(copy, chunk) as usize;
-    let found = difference_in(words, base, cells, 64 * chunk, from);
-    if found.is_some() {
-        return found;
-    }
-    first_position(words, bases, copy, cells, from, chunk + 1)
-}
-
 impl<A: Allocator + Copy> Entries<A> {
     /// Zeros, for so many positions and so many saved copies.
     pub fn new(alloc: A, count: usize, size: usize) -> Result<Entries<A>, AllocError>
@@ -218,14 +163,23 @@ impl<A: Allocator + Copy> Entries<A> {
         self.bases.set(position / 64, UNSAVED);
     }
 
-    /// The number at a position of a saved copy.
-    pub fn saved(&self, copy: usize, position: usize) -> u32
+    /// Where a chunk of a saved copy begins among the words.
+    pub fn base(&self, copy: usize, chunk: usize) -> usize
         requires copy { copy < copy_count self.now }
-        requires position { position < length self.now.cells }
-        ensures { result ≡ saved_number self.now copy position }
+        requires chunk { 64 * chunk + 64 ≤ length self.now.cells }
+        ensures within { result + 64 ≤ length self.now.words }
+        ensures small { result < 2 ^ 32 }
+        ensures words { (t : ℕ) → t < 64 → get_or self.now.words (result + t) 0 ≡ saved_number self.now copy (64 * chunk + t) }
     {
-        let base = self.bases.saved(copy, position / 64) as usize;
-        self.words[base + position % 64]
+        self.bases.saved(copy, chunk) as usize
+    }
+
+    /// A word.
+    pub fn word(&self, index: usize) -> u32
+        requires { index < length self.now.words }
+        ensures { result ≡ get_or self.now.words index 0 }
+    {
+        self.words[index]
     }
 
     /// Gives the array the numbers of a saved copy.
@@ -260,12 +214,13 @@ impl<A: Allocator + Copy> Entries<A> {
         self.bases.save(copy)
     }
 
-    /// The first position from one on at which the array differs from a saved copy.
-    pub fn next_difference(&self, copy: usize, from: usize) -> Option<usize>
+    /// The first chunk from one on that may differ from that of a saved copy.
+    pub fn next_chunk(&self, copy: usize, from: usize) -> Option<usize>
         requires { copy < copy_count self.now }
-        ensures { MatchOption result (AreAlikeBetween self.now copy from (length self.now.cells))
-            (λ i. (from ≤ i) × (i < length self.now.cells) × (number_now self.now i ≢ saved_number self.now copy i) × AreAlikeBetween self.now copy from i) }
+        ensures none { result ≡ None → AreAlikeBetween self.now copy (64 * from) (length self.now.cells) }
+        ensures some { (j : ℕ) → result ≡ Some j → (from ≤ j) × (64 * j + 64 ≤ length self.now.cells) × (j < 2 ^ 57)
+            × AreAlikeBetween self.now copy (64 * from) (64 * j) }
     {
-        next_position(&self.words, &self.bases, copy, &self.cells, from)
+        self.bases.next_difference(copy, from)
     }
 }

@@ -1,6 +1,6 @@
 //! Tables of which vregs places hold.
 
-ghost use Rattle.std.specs.Prelude.{◌≡◌, ◌≢◌, ◌⊎◌, None, Some, ℕ, ◌<◌, ◌≤◌, ◌^◌, ◌==◌, true, false, ◌&&◌, ◌||◌};
+ghost use Rattle.std.specs.Prelude.{◌≡◌, ◌≢◌, ◌⊎◌, ℕ, ◌+◌, ◌*◌, ◌<◌, ◌≤◌, ◌^◌, ◌==◌, true, false, ◌&&◌, ◌||◌};
 ghost use Rattle.std.specs.Prelude.{[], nat_eq, nat_lt, if◌then◌else◌, length, get_or};
 ghost use Rattle.std.specs.Prelude.{◌↔◌, Contains, IfOk, OnOk, OnErr};
 ghost use Rattle.std.specs.Bool.{OnTrue, OnFalse};
@@ -12,7 +12,7 @@ ghost use Rattle.regalloc2_checker_tables.specs.SavedNumbers.{copy_count, number
 ghost use Rattle.regalloc2_checker_tables.specs.EntrySets.{is_member, IsSetOf, IsLess};
 ghost use Rattle.regalloc2_checker_tables.specs.Holding.{count_of, held, holds_now, holds_in, AreBelow, AreStill, AreMoreHomes};
 ghost use Rattle.regalloc2_checker_tables.specs.Holding.{is_in, AreKeptTables, HoldsNow, IsHome};
-ghost use Rattle.regalloc2_checker_tables.specs.Holding.{LosesSome};
+ghost use Rattle.regalloc2_checker_tables.specs.Holding.{LosesSome, IsMetBetween};
 
 use crate::entries::Entries;
 use crate::positions::Positions;
@@ -266,50 +266,74 @@ fn is_changed(before: bool, had: u32, common: u32) -> bool
     common != had
 }
 
-/// Keeps at a position only what a saved copy has too; returns whether the copy has more, or had so
-/// before.
+/// Keeps at a position only what a set has too; returns whether the set has more, or `before` is set.
 fn meet_at<A: Allocator + Copy>(
     entries: &mut Entries<A>,
     sets: &mut Sets<A>,
-    table: usize,
     place: usize,
+    had: u32,
     before: bool,
 ) -> Result<bool, AllocError>
-    requires table { table < copy_count entries.old }
     requires place { place < length entries.old.cells }
     requires below { AreBelow sets.old entries.old }
-    requires saved { saved_number entries.old table place < length sets.old }
+    requires had { had < length sets.old }
     ensures still { AreStill sets.old entries.old sets.new entries.new }
+    ensures words { entries.new.words ≡ entries.old.words }
     ensures others { (i : ℕ) → (i ≡ place → ⊥) → number_now entries.new i ≡ number_now entries.old i }
-    ensures met { OnOk result ((y : ℕ) → held sets.new entries.new place y
-        ≡ (is_member sets.old (saved_number entries.old table place) y && held sets.old entries.old place y)) }
-    ensures less { IfOk result (λ less. less ≡ true → (before ≡ true)
-        ⊎ IsLess (is_member sets.old (saved_number entries.old table place)) (held sets.old entries.old place)) }
+    ensures met { OnOk result ((y : ℕ) → held sets.new entries.new place y ≡ (is_member sets.old had y && held sets.old entries.old place y)) }
+    ensures less { IfOk result (λ less. less ≡ true → (before ≡ true) ⊎ IsLess (is_member sets.old had) (held sets.old entries.old place)) }
     ensures same { IfOk result (λ less. less ≡ false → (before ≡ false)
-        × ((y : ℕ) → is_member sets.old (saved_number entries.old table place) y ≡ true → held sets.old entries.old place y ≡ true)) }
+        × ((y : ℕ) → is_member sets.old had y ≡ true → held sets.old entries.old place y ≡ true)) }
     ensures err { OnErr result (entries.new ≡ entries.old) }
 {
-    let had = entries.saved(table, place);
+    if entries.get(place) == had {
+        return Ok(before);
+    }
     let common = sets.common(had, entries.get(place))?;
     entries.set(place, common);
     Ok(is_changed(before, had, common))
 }
 
-/// The first position from one on, below a bound, at which the array differs from a saved copy.
-fn next_below<A: Allocator + Copy>(
-    entries: &Entries<A>,
-    table: usize,
-    from: usize,
-    bound: usize,
-) -> Option<usize>
-    requires table { table < copy_count entries.now }
-    requires bound { bound ≤ length entries.now.cells }
-    ensures none { result ≡ None → (i : ℕ) → from ≤ i → i < bound → number_now entries.now i ≡ saved_number entries.now table i }
-    ensures some { (p : ℕ) → result ≡ Some p → (from ≤ p) × (p < bound)
-        × ((i : ℕ) → from ≤ i → i < p → number_now entries.now i ≡ saved_number entries.now table i) }
+/// How many positions of a chunk are below a bound.
+fn count_below(chunk: usize, bound: usize) -> usize
+    ensures few { result ≤ 64 }
+    ensures below { 0 < result → 64 * chunk + result ≤ bound }
+    ensures rest { result < 64 → bound ≤ 64 * chunk + result }
 {
-    let place = entries.next_difference(table, from)?;
-    if place < bound { Some(place) } else { None }
+    let whole = bound / 64;
+    if chunk < whole {
+        return 64;
+    }
+    if chunk == whole { bound % 64 } else { 0 }
+}
+
+/// Keeps in a chunk of the array only what a saved copy has too, at the positions below a bound; returns whether the copy
+/// has more, or `before` is set.
+fn meet_chunk<A: Allocator + Copy>(
+    entries: &mut Entries<A>,
+    sets: &mut Sets<A>,
+    table: usize,
+    chunk: usize,
+    bound: usize,
+    before: bool,
+) -> Result<bool, AllocError>
+    requires table { table < copy_count entries.old }
+    requires chunk { 64 * chunk + 64 ≤ length entries.old.cells }
+    requires small { chunk < 2 ^ 57 }
+    requires bound { bound ≤ length entries.old.cells }
+    requires below { AreBelow sets.old entries.old }
+    requires saved { (i : ℕ) → i < length entries.old.cells → saved_number entries.old table i < length sets.old }
+    ensures still { AreStill sets.old entries.old sets.new entries.new }
+    ensures fewer { (i y : ℕ) → i < length entries.old.cells → held sets.new entries.new i y ≡ true → held sets.old entries.old i y ≡ true }
+    ensures met { IfOk result (λ less. IsMetBetween sets.old entries.old sets.new entries.new table (64 * chunk) (64 * (chunk + 1)) bound before less) }
+{
+    let base = entries.base(table, chunk);
+    let mut is_less = before;
+    for t in 0..count_below(chunk, bound) {
+        let had = entries.word(base + t);
+        is_less = meet_at(entries, sets, 64 * chunk + t, had, is_less)?;
+    }
+    Ok(is_less)
 }
 
 /// Keeps in the array only what a saved copy has too, at the positions below a bound; returns
@@ -335,9 +359,9 @@ fn meet_entries<A: Allocator + Copy>(
 {
     let mut is_less = false;
     let mut from = 0;
-    'meets: while let Some(place) = next_below(entries, table, from, bound) {
-        is_less = meet_at(entries, sets, table, place, is_less)?;
-        from = place + 1;
+    'chunks: while let Some(chunk) = entries.next_chunk(table, from) {
+        is_less = meet_chunk(entries, sets, table, chunk, bound, is_less)?;
+        from = chunk + 1;
     }
     Ok(is_less)
 }

@@ -83,7 +83,7 @@ fn equal_groups(words: &[u32], base: usize, cells: &[u32], first: usize, from: u
 }
 
 /// The first position from `from` on, in a chunk of the array, at which it differs from a chunk of words.
-pub fn difference_in(
+fn difference_in(
     words: &[u32],
     base: usize,
     cells: &[u32],

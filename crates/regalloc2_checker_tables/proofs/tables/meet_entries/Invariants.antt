@@ -1,9 +1,12 @@
-use Rattle.std.proofs.Common.{◌-◌}
-use Rattle.regalloc2_checker_tables.specs.Holding.{IsMetBelow}
+use Rattle.std.proofs.Common.{false, ◌*◌, ◌-◌, ◌≤◌, length}
+use Rattle.regalloc2_checker_tables.specs.Holding.{IsMetBetween}
 use Rattle.regalloc2_checker_tables.proofs.tables.meet_entries.Given as goal
 
-abbrev pub invariant-meets : goal.invariant-meets
-invariant-meets g l = IsMetBelow l.fn.sets l.fn.entries l.sets l.entries l.table l.from l.bound l.is_less
+abbrev pub invariant-chunks : goal.invariant-chunks
+invariant-chunks g l = record {
+  inside : 64 * l.from ≤ length l.fn.entries.cells;
+  met : IsMetBetween l.fn.sets l.fn.entries l.sets l.entries l.table 0 (64 * l.from) l.bound false l.is_less;
+}
 
-abbrev pub decreases-meets : goal.decreases-meets
-decreases-meets g l = l.bound - l.from
+abbrev pub decreases-chunks : goal.decreases-chunks
+decreases-chunks g l = length l.fn.entries.cells - l.from
