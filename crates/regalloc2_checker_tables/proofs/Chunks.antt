@@ -1,26 +1,45 @@
 -- Chunks of an array and of saved copies of it.
 use Rattle.std.proofs.Common.{ℕ, ◌≡◌, ◌+◌, ◌*◌, ◌<◌, ◌≤◌, arith, List, length, get_or, sym, ap, ◌∙◌, subst}
-use Rattle.std.proofs.Common.{Bool, true, false, nat_eq, refl, ◌-◌}
+use Rattle.std.proofs.Common.{Bool, true, false, nat_eq, refl, ◌-◌, ◌/◌, ◌%◌, inl, inr}
 use Rattle.std.specs.Prelude.{not}
 use Rattle.std.specs.List.{between}
 use Rattle.std.specs.Cmp.Lexicographic.{pointwise}
+use Rattle.std.proofs.lemmas.Bool.{cases_lt}
 use Rattle.std.proofs.lemmas.Bool.Decides.{Decides-eqb}
 use Rattle.std.proofs.lemmas.Slice.Eq.{slice_eq-Decides}
 use Rattle.std.proofs.lemmas.List.{ext_get_or}
 use Rattle.std.proofs.lemmas.List.Edits.{get_or-between, length-between}
-use Rattle.regalloc2_checker_tables.specs.SavedCopies.{Copies, saved_at, number_in_cell, IsChunkAt}
-use Rattle.regalloc2_checker_tables.specs.SavedNumbers.{AreChunksKept}
+use Rattle.regalloc2_checker_tables.specs.SavedCopies.{Copies, saved_at, number_in_cell, IsChunkAt, AreSameBetween}
+use Rattle.regalloc2_checker_tables.specs.SavedNumbers.{AreChunksKept, ArePartsAlike}
 
 -- if all numbers are zeros, each chunk is at the beginning of the words
 pub chunks-new : (words cells : List ℕ) (bases : Copies) → length words ≡ 64 → ((i : ℕ) → get_or words i 0 ≡ 0) → ((i : ℕ) → get_or cells i 0 ≡ 0) →
-    length cells ≡ 64 * length bases.cells → ((i : ℕ) → number_in_cell bases i ≡ 0) → ((k i : ℕ) → saved_at bases k i ≡ 0) → AreChunksKept words cells bases
-chunks-new words cells bases long wz cz same bz sz = record {
-  long = same;
+    length cells % 64 ≡ 0 → length cells ≤ 64 * length bases.cells → ((i : ℕ) → number_in_cell bases i ≡ 0) → ((k i : ℕ) → saved_at bases k i ≡ 0) →
+    AreChunksKept words cells bases
+chunks-new words cells bases long wz cz whole few bz sz = record {
+  whole = whole;
+  long = few;
   within = λ k j l. (let e = sz k j in omega arith);
   small = λ k j l. (let e = sz k j in omega arith);
   known = λ j l small.
       subst (λ (b : ℕ). IsChunkAt words cells j b) (sym (bz j)) (record { within = omega arith; same = λ t lt. cz (64 * j + t) ∙ sym (wz (0 + t)) });
+  past_now = λ j h l. bz j;
+  past_saved = λ k j h l. sz k j;
 }
+
+-- if a saved copy's bases are those of the array from a chunk on, and all before that chunk is alike, all is
+pub parts-from : (words cells : List ℕ) (bases : Copies) (k from first : ℕ) → AreChunksKept words cells bases → ArePartsAlike words cells bases k from (64 * first) →
+    AreSameBetween bases k first (length bases.cells) → ArePartsAlike words cells bases k from (length cells)
+parts-from words cells bases k from first h before same i low l = elim (cases_lt i (64 * first)) [
+  | inl b ↦ before i low b
+  | inr n ↦
+      let long = h.long in
+      let e : 64 * (i / 64) + i % 64 ≡ i = omega arith in
+      let b : number_in_cell bases (i / 64) ≡ saved_at bases k (i / 64) = same (i / 64) (omega arith) (omega arith) in
+      let small = h.small k (i / 64) (omega arith) in
+      let c : IsChunkAt words cells (i / 64) (number_in_cell bases (i / 64)) = h.known (i / 64) (omega arith) (omega arith) in
+      ap (λ n. get_or cells n 0) (sym e) ∙ c.same (i % 64) (omega arith) ∙ ap (λ n. get_or words (n + i % 64) 0) b
+]
 
 -- parts of two lists that are equal have the same numbers
 pub parts-same : (xs ys : List ℕ) (a b n t : ℕ) → between a (a + n) xs ≡ between b (b + n) ys → t < n → get_or xs (a + t) 0 ≡ get_or ys (b + t) 0

@@ -158,7 +158,7 @@ fn next_position<A: Allocator + Copy>(
         × ArePartsAlike words.now cells.now bases.now copy from i) }
 {
     let chunk = from / 64;
-    if from % 64 == 0 || chunk >= bases.len() {
+    if from % 64 == 0 || from >= cells.len() {
         return first_position(words, bases, copy, cells, from, chunk);
     }
     let base = bases.saved(copy, chunk) as usize;
@@ -182,7 +182,7 @@ impl<A: Allocator + Copy> Entries<A> {
         let mut words = Vec::new(alloc);
         words.resize(64, 0)?;
         let mut cells = Vec::new(alloc);
-        cells.resize(64 * bases.len(), 0)?;
+        cells.resize(64 * (size / 64 + 1), 0)?;
         Ok(Entries {
             words,
             cells,
