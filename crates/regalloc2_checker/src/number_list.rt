@@ -32,7 +32,8 @@ impl<A: Allocator + Copy> NumberList<A> {
         // Odd, so that numbers two or four apart take all remainders, and not every second or fourth alone.
         last.resize(expected / 2 * 2 + 1, 0)?;
         Ok(NumberList {
-            numbers: Vec::new(alloc),
+            // Most lists of a small function fit without growing.
+            numbers: Vec::with_capacity(alloc, expected.min(64))?,
             last,
         })
     }

@@ -4,6 +4,7 @@ use Rattle.std.proofs.Common.{Bool, true, false, nat_eq, refl, ◌-◌}
 use Rattle.std.specs.Prelude.{not}
 use Rattle.std.specs.List.{between}
 use Rattle.std.specs.Cmp.Lexicographic.{pointwise}
+use Rattle.std.proofs.lemmas.Bool.{cases_lt}
 use Rattle.std.proofs.lemmas.Bool.Decides.{Decides-eqb}
 use Rattle.std.proofs.lemmas.Slice.Eq.{slice_eq-Decides}
 use Rattle.std.proofs.lemmas.List.{ext_get_or}
@@ -14,13 +15,17 @@ use Rattle.regalloc2_checker_tables.specs.SavedNumbers.{AreChunksKept, ArePartsA
 
 -- if all numbers are zeros, each chunk is at the beginning of the words
 pub chunks-new : (words cells : List ℕ) (bases : Copies) → length words ≡ 64 → ((i : ℕ) → get_or words i 0 ≡ 0) → ((i : ℕ) → get_or cells i 0 ≡ 0) →
-    length cells ≡ 64 * length bases.cells → ((i : ℕ) → number_in_cell bases i ≡ 0) → ((k i : ℕ) → saved_at bases k i ≡ 0) → AreChunksKept words cells bases
-chunks-new words cells bases long wz cz same bz sz = record {
-  long = same;
+    length cells % 64 ≡ 0 → length cells ≤ 64 * length bases.cells → ((i : ℕ) → number_in_cell bases i ≡ 0) → ((k i : ℕ) → saved_at bases k i ≡ 0) →
+    AreChunksKept words cells bases
+chunks-new words cells bases long wz cz whole few bz sz = record {
+  whole = whole;
+  long = few;
   within = λ k j l. (let e = sz k j in omega arith);
   small = λ k j l. (let e = sz k j in omega arith);
   known = λ j l small.
       subst (λ (b : ℕ). IsChunkAt words cells j b) (sym (bz j)) (record { within = omega arith; same = λ t lt. cz (64 * j + t) ∙ sym (wz (0 + t)) });
+  past_now = λ j h l. bz j;
+  past_saved = λ k j h l. sz k j;
 }
 
 -- chunks that begin where those of a saved copy do have its numbers

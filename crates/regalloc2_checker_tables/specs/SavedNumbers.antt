@@ -33,12 +33,16 @@ AreAlikeBetween v k from end = (i : ℕ) → from ≤ i → i < end → number_n
 abbrev pub ArePartsAlike : List ℕ → List ℕ → Copies → ℕ → ℕ → ℕ → Type 0
 ArePartsAlike words cells bases k from end = (i : ℕ) → from ≤ i → i < end → get_or cells i 0 ≡ get_or words (saved_at bases k (i / 64) + i % 64) 0
 
--- what stays true of the parts: the chunks of saved copies are within the words, and each chunk of the array that is stored is where its base says
+-- what stays true of the parts: the chunks of saved copies are within the words, each chunk of the array that is stored is where its base says,
+-- and bases past the array's chunks are zeros
 pub record AreChunksKept (words cells : List ℕ) (bases : Copies) : Type 0 where
-  pub long : length cells ≡ 64 * length bases.cells
+  pub whole : length cells % 64 ≡ 0
+  pub long : length cells ≤ 64 * length bases.cells
   pub within : (k j : ℕ) → j < length bases.cells → saved_at bases k j + 64 ≤ length words
   pub small : (k j : ℕ) → j < length bases.cells → saved_at bases k j < 4294967295
   pub known : (j : ℕ) → j < length bases.cells → number_in_cell bases j < 4294967295 → IsChunkAt words cells j (number_in_cell bases j)
+  pub past_now : (j : ℕ) → length cells ≤ 64 * j → j < length bases.cells → number_in_cell bases j ≡ 0
+  pub past_saved : (k j : ℕ) → length cells ≤ 64 * j → j < length bases.cells → saved_at bases k j ≡ 0
 
 -- only the working array of the chunks' bases changed
 pub record AreCopiesKept (old new : Copies) : Type 0 where

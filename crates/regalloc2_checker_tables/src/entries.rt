@@ -127,7 +127,7 @@ impl<A: Allocator + Copy> Entries<A> {
         let mut words = Vec::new(alloc);
         words.resize(64, 0)?;
         let mut cells = Vec::new(alloc);
-        cells.resize(64 * bases.len(), 0)?;
+        cells.resize(64 * (size / 64 + 1), 0)?;
         Ok(Entries {
             words,
             cells,

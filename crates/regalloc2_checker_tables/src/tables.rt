@@ -17,7 +17,7 @@ ghost use Rattle.regalloc2_checker_tables.specs.Holding.{LosesSome, IsMetBetween
 use crate::entries::Entries;
 use crate::positions::Positions;
 use crate::sets::Sets;
-use regalloc2_names::{Allocation, PReg, SpillSlot};
+use regalloc2_names::{Allocation, PReg};
 use regalloc2_shape::indexset::IndexSet;
 use std::alloc::{AllocError, Allocator};
 use std::marker::Model;
@@ -53,45 +53,38 @@ struct Hints<A: Allocator> {
     slots: Vec<usize, A>,
 }
 
-/// The slot of a place's bits, if it is one.
-fn slot_of(bits: u32) -> Option<SpillSlot> {
-    if !Allocation::is_bits(bits) {
-        return None;
+/// Puts a number at an index, if the list is that long.
+fn put_at(numbers: &mut [usize], index: usize, number: usize) {
+    if index < numbers.len() {
+        numbers[index] = number;
     }
-    Allocation::from_bits(bits).as_stack()
-}
-
-/// Where slots may be listed, as far as their indexes are below four times the number of places.
-fn listed_slots<A: Allocator + Copy>(
-    alloc: A,
-    places: &Positions<A>,
-) -> Result<Vec<usize, A>, AllocError> {
-    let mut slots = Vec::new(alloc);
-    slots.resize(places.len().saturating_mul(4), 0)?;
-    for position in 0..places.len() {
-        let Some(slot) = slot_of(places.number(position)) else {
-            continue;
-        };
-        if let Some(listed) = slots.get_mut(slot.index()) {
-            *listed = position;
-        }
-    }
-    Ok(slots)
 }
 
 impl<A: Allocator + Copy> Hints<A> {
-    /// Where places are listed, as far as it is found.
+    /// Where places are listed, if they are registers, or slots whose indexes are below four times the number of places.
     fn of(alloc: A, places: &Positions<A>) -> Result<Hints<A>, AllocError> {
-        let mut registers = Vec::with_capacity(alloc, PReg::NUM_INDEX)?;
-        for index in 0..PReg::NUM_INDEX {
-            if !PReg::is_index(index) {
-                continue;
-            }
-            let place = Allocation::reg(PReg::from_index(index));
-            registers.push(places.find(place.bits(), 0).unwrap_or(0))?;
+        let mut registers = Vec::new(alloc);
+        registers.resize(PReg::NUM_INDEX, 0)?;
+        let mut slots = Vec::new(alloc);
+        slots.resize(places.len().saturating_mul(4), 0)?;
+        let mut hints = Hints { registers, slots };
+        for position in 0..places.len() {
+            hints.note(places.number(position), position);
         }
-        let slots = listed_slots(alloc, places)?;
-        Ok(Hints { registers, slots })
+        Ok(hints)
+    }
+
+    /// Notes where a place is listed, by its bits.
+    fn note(&mut self, bits: u32, position: usize) {
+        if !Allocation::is_bits(bits) {
+            return;
+        }
+        let place = Allocation::from_bits(bits);
+        if place.is_stack() {
+            put_at(&mut self.slots, place.index(), position);
+        } else {
+            put_at(&mut self.registers, place.index(), position);
+        }
     }
 
     /// Where a place may be listed.

@@ -1,10 +1,7 @@
-use Rattle.std.proofs.Common.{◌*◌, arith, refl}
+use Rattle.std.proofs.Common.{◌*◌, ◌/◌, ◌+◌, arith, refl}
 use Rattle.regalloc2_checker_tables.proofs.Rows.{zeros}
 use Rattle.regalloc2_checker_tables.proofs.Chunks.{chunks-new}
 use Rattle.regalloc2_checker_tables.proofs.entries.Entries.new.Goals as goal
-
-pub overflow_mul-len : goal.overflow_mul-len
-overflow_mul-len g c = omega (arith, c.len.ensures, c.in_ok-bases.ensures.long)
 
 pub invariant_of-result : goal.invariant_of-result
 invariant_of-result g c =
@@ -12,13 +9,14 @@ invariant_of-result g c =
     (omega (arith, c.in_ok-resize.ensures.len, c.resize.new.self.ok.0))
     (λ i. zeros c.resize.new.self.items 64 i (omega (arith, c.in_ok-resize.ensures.len, c.resize.new.self.ok.0))
     (λ k l. c.in_ok-resize.ensures.by_index.1 k 0 refl (omega (arith, c.new-words.ensures.len)) l))
-    (λ i. zeros c.resize-2.new.self.items (64 * c.len.result) i (omega (arith, c.in_ok-resize-2.ensures.len, c.resize-2.new.self.ok.0))
+    (λ i. zeros c.resize-2.new.self.items (64 * (c.args.size / 64 + 1)) i (omega (arith, c.in_ok-resize-2.ensures.len, c.resize-2.new.self.ok.0))
     (λ k l. c.in_ok-resize-2.ensures.by_index.1 k 0 refl (omega (arith, c.new-cells.ensures.len)) l))
-    (omega (arith, c.in_ok-resize-2.ensures.len, c.resize-2.new.self.ok.0, c.len.ensures)) c.in_ok-bases.ensures.cells c.in_ok-bases.ensures.saved
+    (omega (arith, c.in_ok-resize-2.ensures.len, c.resize-2.new.self.ok.0)) (omega (arith, c.in_ok-resize-2.ensures.len, c.resize-2.new.self.ok.0, c.in_ok-bases.ensures.long))
+    c.in_ok-bases.ensures.cells c.in_ok-bases.ensures.saved
 
 pub returns-clause-cells : goal.returns-clause-cells
 returns-clause-cells g c i =
-    zeros c.resize-2.new.self.items (64 * c.len.result) i (omega (arith, c.in_ok-resize-2.ensures.len, c.resize-2.new.self.ok.0))
+    zeros c.resize-2.new.self.items (64 * (c.args.size / 64 + 1)) i (omega (arith, c.in_ok-resize-2.ensures.len, c.resize-2.new.self.ok.0))
     (λ k l. c.in_ok-resize-2.ensures.by_index.1 k 0 refl (omega (arith, c.new-cells.ensures.len)) l)
 
 pub returns-clause-saved : goal.returns-clause-saved
