@@ -28,8 +28,8 @@ chunks-new words cells bases long wz cz whole few bz sz = record {
 }
 
 -- if a saved copy's bases are those of the array from a chunk on, and all before that chunk is alike, all is
-pub parts-from : (words cells : List ℕ) (bases : Copies) (k from first : ℕ) → AreChunksKept words cells bases → ArePartsAlike words cells bases k from (64 * first) →
-    AreSameBetween bases k first (length bases.cells) → ArePartsAlike words cells bases k from (length cells)
+pub parts-from : (words cells : List ℕ) (bases : Copies) (k from first : ℕ) → AreChunksKept words cells bases →
+    ArePartsAlike words cells bases k from (64 * first) → AreSameBetween bases k first (length bases.cells) → ArePartsAlike words cells bases k from (length cells)
 parts-from words cells bases k from first h before same i low l = elim (cases_lt i (64 * first)) [
   | inl b ↦ before i low b
   | inr n ↦
