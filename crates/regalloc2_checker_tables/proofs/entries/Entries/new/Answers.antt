@@ -11,7 +11,8 @@ invariant_of-result g c =
     (λ k l. c.in_ok-resize.ensures.by_index.1 k 0 refl (omega (arith, c.new-words.ensures.len)) l))
     (λ i. zeros c.resize-2.new.self.items (64 * (c.args.size / 64 + 1)) i (omega (arith, c.in_ok-resize-2.ensures.len, c.resize-2.new.self.ok.0))
     (λ k l. c.in_ok-resize-2.ensures.by_index.1 k 0 refl (omega (arith, c.new-cells.ensures.len)) l))
-    (omega (arith, c.in_ok-resize-2.ensures.len, c.resize-2.new.self.ok.0)) (omega (arith, c.in_ok-resize-2.ensures.len, c.resize-2.new.self.ok.0, c.in_ok-bases.ensures.long))
+    (omega (arith, c.in_ok-resize-2.ensures.len, c.resize-2.new.self.ok.0))
+    (omega (arith, c.in_ok-resize-2.ensures.len, c.resize-2.new.self.ok.0, c.in_ok-bases.ensures.long))
     c.in_ok-bases.ensures.cells c.in_ok-bases.ensures.saved
 
 pub returns-clause-cells : goal.returns-clause-cells
