@@ -1,38 +1,24 @@
 -- Sets of one member, and the empty one.
 use Rattle.std.proofs.Common.{inl, inr, ℕ, ◌≡◌, ◌<◌, arith, Bool, true}
-use Rattle.std.proofs.Common.{false, cond, nat_eq, eq-eqb, List, [], ◌∷◌, ◌++◌, refl, sym, ap, ◌∙◌, subst}
-use Rattle.std.proofs.Common.{length, get_or, zero, suc, ◌-◌}
+use Rattle.std.proofs.Common.{false, cond, nat_eq, eq-eqb, List, [], refl, sym, ap, ◌∙◌}
+use Rattle.std.proofs.Common.{get_or, ◌-◌}
 use Rattle.std.specs.Prelude.{◌&&◌, if◌then◌else◌, Option, None, Some}
 use Rattle.std.specs.Bool.{OnTrue, OnFalse}
-use Rattle.std.proofs.Math.ListN.{length-append}
-use Rattle.std.proofs.lemmas.Bool.{cases_eq, cases_lt, eqb-true, ne_eqb}
-use Rattle.std.proofs.lemmas.List.{get_or-append_right, get_or_append_left}
+use Rattle.std.proofs.lemmas.Bool.{cases_eq, eqb-true, ne_eqb}
 use Rattle.regalloc2_shape.specs.Numbers.{NumberSet, has_number}
-use Rattle.regalloc2_checker_tables.specs.EntrySets.{has_bits, is_member, IsSetOf, AreMore, AreEntrySets, IsGrown, IsLess}
+use Rattle.regalloc2_checker_tables.specs.EntrySets.{has_bits, is_member, IsSetOf, AreMore, IsGrown, IsLess}
 use Rattle.regalloc2_checker_tables.specs.declared.sets.Grown.{Grown}
-use Rattle.regalloc2_checker_tables.proofs.Bits.{changed-is, none-is, alone, added-is, added-more, bits-small}
+use Rattle.regalloc2_checker_tables.proofs.Bits.{changed-is, none-is, alone, bits-small}
 
-same-some : (a b : ℕ) → ◌≡◌ {A = Option ℕ} (Some a) (Some b) → a ≡ b
+-- equal numbers, if their options are
+pub same-some : (a b : ℕ) → ◌≡◌ {A = Option ℕ} (Some a) (Some b) → a ≡ b
 same-some a b e = cc
-
-none-some : (b : ℕ) → ◌≡◌ {A = Option ℕ} None (Some b) → ⊥
-none-some b e = absurd cc
 
 -- a number put into an empty set is its one member
 pub single-is : (s t : NumberSet) (x : ℕ) → x < 4294967296 → ((i : ℕ) → has_number s i ≡ false) →
     ((i : ℕ) → has_number t i ≡ cond (nat_eq i x) true (has_number s i)) → (y : ℕ) → has_bits t y ≡ nat_eq y x
 single-is s t x small none h y =
     changed-is s t x true small h y ∙ ap (λ b. if nat_eq y x then true else b) (none-is s none y) ∙ alone (nat_eq y x)
-
--- under whatever name
-pub single-as : (s t : NumberSet) (x : ℕ) → x < 4294967296 → ((i : ℕ) → has_number s i ≡ false) →
-    ((i : ℕ) → has_number t i ≡ cond (nat_eq i x) true (has_number s i)) → (b : ℕ) → ◌≡◌ {A = Option ℕ} (Some x) (Some b) → (y : ℕ) →
-    has_bits t y ≡ nat_eq y b
-single-as s t x small none h b e y = single-is s t x small none h y ∙ ap (λ k. nat_eq y k) (same-some x b e)
-
--- where no member is kept, none is said to be alone
-pub none-kept : (s : NumberSet) (b : ℕ) → ◌≡◌ {A = Option ℕ} None (Some b) → (y : ℕ) → has_bits s y ≡ nat_eq y b
-none-kept s b e y = absurd (none-some b e)
 
 -- a set that can have no member has none
 pub none-there : (s : NumberSet) → ((y : ℕ) → has_bits s y ≡ true → ⊥) → (y : ℕ) → has_bits s y ≡ false
@@ -56,59 +42,6 @@ alone-is s m here other y = elim (cases_eq y m) [
     not : (b : Bool) → (b ≡ true → ⊥) → b ≡ false
     not true h = absurd (h refl)
     not false h = refl
-
--- the empty set alone is known
-pub known-first : (sets : List NumberSet) (only : List (Option ℕ)) (s : NumberSet) → sets ≡ s ∷ [] → only ≡ None ∷ [] → ((i : ℕ) → has_number s i ≡ false) →
-    AreEntrySets sets only
-known-first sets only s e d none =
-    subst (λ (l : List NumberSet). AreEntrySets l only) (sym e) (subst (λ (o : List (Option ℕ)). AreEntrySets (s ∷ []) o) (sym d) (record {
-      long = refl;
-      first = omega arith;
-      empty = λ y. none-is s none y;
-      lone = λ n b l h. absurd (at n b l h);
-    }))
-  where
-    at : (n b : ℕ) → n < 1 → get_or (None ∷ []) n None ≡ Some b → ⊥
-    at zero b l h = none-some b h
-    at (suc n) b l h = none-some b h
-
--- one more is known
-pub known-more : (sets new : List NumberSet) (only more : List (Option ℕ)) (s : NumberSet) (o : Option ℕ) → AreEntrySets sets only → new ≡ sets ++ s ∷ [] →
-    more ≡ only ++ o ∷ [] → ((b : ℕ) → o ≡ Some b → (y : ℕ) → has_bits s y ≡ nat_eq y b) → AreEntrySets new more
-known-more sets new only more s o h e d g =
-    let a = length-append sets (s ∷ []) in
-    let b = length-append only (o ∷ []) in
-    let k : length new ≡ length (sets ++ s ∷ []) = ap length e in
-    let m : length more ≡ length (only ++ o ∷ []) = ap length d in
-    let long = h.long in
-    let first = h.first in
-    record {
-      long = omega arith;
-      first = omega arith;
-      empty = λ y. (added-more sets new s e).kept 0 y first ∙ h.empty y;
-      lone = λ n c l is y. elim (cases_lt n (length sets)) [
-        | inl low ↦ (added-more sets new s e).kept n y low ∙ h.lone n c low (sym (old n (omega arith)) ∙ is) y
-        | inr high ↦ (added-is sets new n s (has_bits s) (omega arith) e (λ z. refl)).members y ∙ g c (sym (last n (omega arith)) ∙ is) y
-      ];
-    }
-  where
-    old : (n : ℕ) → n < length only → get_or more n None ≡ get_or only n None
-    old n l = ap (λ (x : List (Option ℕ)). get_or x n None) d ∙ get_or_append_left only (o ∷ []) None n l
-
-    last : (n : ℕ) → n ≡ length only → get_or more n None ≡ o
-    last n q = ap (λ (x : List (Option ℕ)). get_or x n None) d ∙ get_or-append_right only (o ∷ []) n n None (sym q) (omega arith)
-        ∙ ap (λ k. get_or (o ∷ []) k None) (self n)
-      where
-        self : (n : ℕ) → n - n ≡ 0
-        self n = omega arith
-
--- the empty set, under its number
-pub empty-is : (sets : List NumberSet) (only : List (Option ℕ)) (has : ℕ → Bool) → AreEntrySets sets only → ((y : ℕ) → has y ≡ false) → IsSetOf sets 0 has
-empty-is sets only has h none = record { below = h.first; members = λ y. h.empty y ∙ sym (none y) }
-
--- the same of equal lists of sets
-pub set-of : (sets new : List NumberSet) (n : ℕ) (has : ℕ → Bool) → sets ≡ new → IsSetOf sets n has → IsSetOf new n has
-set-of sets new n has e h = subst (λ (s : List NumberSet). IsSetOf s n has) e h
 
 -- equal tests
 pub set-is : (sets : List NumberSet) (n : ℕ) (f g : ℕ → Bool) → ((y : ℕ) → f y ≡ g y) → IsSetOf sets n f → IsSetOf sets n g
@@ -196,13 +129,6 @@ lone-none has other only h less y = elim (cases_eq y only) [
     and-false : (b : Bool) → (b && false) ≡ false
     and-false true = refl
     and-false false = refl
-
--- the empty set is all that it has in common with another
-pub empty-common : (sets : List NumberSet) (set other : ℕ) → ((y : ℕ) → is_member sets 0 y ≡ false) → set ≡ 0 → (y : ℕ) →
-    is_member sets set y ≡ (is_member sets set y && is_member sets other y)
-empty-common sets set other none e y =
-    let f : is_member sets set y ≡ false = ap (λ n. is_member sets n y) e ∙ none y in
-    f ∙ sym (ap (λ b. b && is_member sets other y) f)
 
 -- no set is kept
 pub grown-none : (sets : List NumberSet) → IsGrown sets None

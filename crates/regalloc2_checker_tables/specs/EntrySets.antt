@@ -1,6 +1,6 @@
 -- Sets of bits, by number. Bits are words of 32 bits.
-use Rattle.std.specs.Prelude.{ℕ, ◌≡◌, ◌<◌, ◌≤◌, Bool, true, false, ◌&&◌, nat_eq, nat_lt, List, [], length, get_or, if◌then◌else◌}
-use Rattle.std.specs.Prelude.{Option, None, Some}
+use Rattle.std.specs.Prelude.{ℕ, zero, suc, ◌/◌, ◌%◌, ◌^◌, ◌≡◌, ◌<◌, ◌≤◌, Bool, true, false, ◌&&◌, nat_eq, nat_lt, if◌then◌else◌}
+use Rattle.std.specs.Prelude.{List, [], ◌∷◌, ◌++◌, length, get_or, Option, Some}
 use Rattle.regalloc2_shape.specs.Numbers.{NumberSet, has_number, times_listed}
 use Rattle.regalloc2_checker_tables.specs.declared.sets.Grown.{Grown}
 
@@ -22,12 +22,18 @@ pub record IsSetOf (sets : List NumberSet) (n : ℕ) (has : ℕ → Bool) : Type
   pub below : n < length sets
   pub members : (y : ℕ) → is_member sets n y ≡ has y
 
--- what stays true of sets, and of what is kept beside them: the first is empty, and each for which one member is kept has that alone
-pub record AreEntrySets (sets : List NumberSet) (only : List (Option ℕ)) : Type 0 where
-  pub long : length only ≡ length sets
-  pub first : 0 < length sets
-  pub empty : (y : ℕ) → is_member sets 0 y ≡ false
-  pub lone : (n b : ℕ) → n < length sets → get_or only n None ≡ Some b → (y : ℕ) → is_member sets n y ≡ nat_eq y b
+-- the set that has bits alone
+abbrev pub set_of_one : ℕ → NumberSet
+set_of_one b = (b / 64, 2 ^ (b % 64)) ∷ []
+
+-- the sets that have bits alone, for so many first bits
+unfoldable pub sets_of_one : ℕ → List NumberSet
+sets_of_one zero = []
+sets_of_one (suc k) = sets_of_one k ++ set_of_one k ∷ []
+
+-- the sets by number: the empty one, those of one member below 2^31 - 1, and those that are kept
+unfoldable pub all_sets : List NumberSet → List NumberSet
+all_sets kept = [] ∷ (sets_of_one 2147483647 ++ kept)
 
 -- each member is listed once, and nothing else
 abbrev pub ListsBits : (ℕ → Bool) → List ℕ → Type 0

@@ -1,6 +1,6 @@
 //! Sets of the bits of vregs, which are never changed once they are made.
 
-ghost use Rattle.std.specs.Prelude.{◌≡◌, ℕ, ◌<◌, ◌++◌, ◌∷◌, [], true, false, ◌&&◌, nat_eq, if◌then◌else◌, length, IfOk, OnErr};
+ghost use Rattle.std.specs.Prelude.{◌≡◌, ℕ, ◌<◌, ◌≤◌, ◌++◌, ◌∷◌, [], true, false, ◌&&◌, nat_eq, if◌then◌else◌, length, IfOk, OnErr};
 ghost use Rattle.std.specs.Bool.{OnTrue, OnFalse};
 ghost use Rattle.regalloc2_shape.specs.Numbers.{has_number};
 ghost use Rattle.regalloc2_checker_tables.specs.EntrySets.{has_bits, is_member, AreMore, IsSetOf, ListsBits, IsLess};
@@ -9,16 +9,17 @@ use regalloc2_shape::indexset::IndexSet;
 use std::alloc::{AllocError, Allocator};
 use std::marker::Model;
 
+/// The number of the first set that is kept. A lower number stands for the empty set, or for a set of one member, which
+/// is one less than the number.
+const FIRST: u32 = 1 << 31;
+
 /// Sets of bits, by number. The first is the empty one.
 ///
-/// Most have one member alone, which is kept beside the set, so that it needn't be looked for. `singles` says, for bits,
-/// which set may have them alone. The set that was last made of another and one member more is kept too, since many places
-/// may get that member one after another.
+/// Most have one member alone, and are kept nowhere, since the number says the member. The set that was last made of
+/// another and one member more is noted, since many places may get that member one after another.
 #[derive(Drop)]
 pub struct Sets<A: Allocator> {
-    sets: Vec<IndexSet<A>, A>,
-    lone: Vec<Option<u32>, A>,
-    singles: Vec<u32, A>,
+    kept: Vec<IndexSet<A>, A>,
     grown: Option<Grown>,
     alloc: A,
 }
@@ -34,13 +35,13 @@ pub struct Grown {
 impl<A: Allocator> Model for Sets<A> {
     ghost use Rattle.std.specs.Prelude.{List};
     ghost use Rattle.regalloc2_shape.specs.Numbers.{NumberSet};
-    ghost use Rattle.regalloc2_checker_tables.specs.EntrySets.{AreEntrySets, IsGrown};
+    ghost use Rattle.regalloc2_checker_tables.specs.EntrySets.{all_sets, IsGrown};
 
     ghost Value = { List NumberSet };
 
-    ghost view = { λ s. s.sets.items };
+    ghost view = { λ s. all_sets s.kept.items };
 
-    ghost invariant = { λ s. AreEntrySets s.sets.items s.lone.items × IsGrown s.sets.items s.grown };
+    ghost invariant = { λ s. IsGrown (all_sets s.kept.items) s.grown };
 }
 
 /// Whether bits are a member.
@@ -48,43 +49,6 @@ fn has_bits<A: Allocator + Copy>(set: &IndexSet<A>, bits: u32) -> bool
     ensures { result ≡ has_bits set.now bits }
 {
     set.get(bits as usize)
-}
-
-/// Whether each member of a set is one of another.
-fn is_subset<A: Allocator + Copy>(set: &IndexSet<A>, other: &IndexSet<A>) -> bool
-    ensures yes { OnTrue result ((y : ℕ) → has_bits set.now y ≡ true → has_bits other.now y ≡ true) }
-    ensures no { OnFalse result (IsLess (has_bits set.now) (has_bits other.now)) }
-{
-    for member in set.iter() {
-        let Ok(bits) = u32::try_from(member) else {
-            continue;
-        };
-        if !has_bits(other, bits) {
-            return false;
-        }
-    }
-    true
-}
-
-/// The members of both sets.
-fn intersection<A: Allocator + Copy>(
-    alloc: A,
-    set: &IndexSet<A>,
-    other: &IndexSet<A>,
-) -> Result<IndexSet<A>, AllocError>
-    ensures { IfOk result (λ both. (y : ℕ) → has_bits both y ≡ (has_bits set.now y && has_bits other.now y)) }
-{
-    let mut both = IndexSet::new(alloc);
-    for member in set.iter() {
-        let Ok(bits) = u32::try_from(member) else {
-            continue;
-        };
-        if !has_bits(other, bits) {
-            continue;
-        }
-        both.set(bits as usize, true)?;
-    }
-    Ok(both)
 }
 
 /// The members of a set, in no guaranteed order.
@@ -130,24 +94,15 @@ fn has_no_other<A: Allocator + Copy>(set: &IndexSet<A>, only: u32) -> bool
 }
 
 impl<A: Allocator + Copy> Sets<A> {
-    /// The empty set alone. So many sets of one member will be kept for bits.
-    pub fn new(alloc: A, count: usize) -> Result<Sets<A>, AllocError>
-        ensures { IfOk result (λ s. IsSetOf s 0 (λ y. false)) }
+    /// The empty set, and those of one member.
+    pub fn new(alloc: A) -> Sets<A>
+        ensures { IsSetOf result 0 (λ y. false) }
     {
-        // Most bits get a set of their own, and some sets have more members.
-        let mut sets = Vec::with_capacity(alloc, (count / 2).saturating_add(count))?;
-        sets.push(IndexSet::new(alloc))?;
-        let mut lone = Vec::new(alloc);
-        lone.push(None)?;
-        let mut singles = Vec::new(alloc);
-        singles.resize(count, 0)?;
-        Ok(Sets {
-            sets,
-            lone,
-            singles,
+        Sets {
+            kept: Vec::new(alloc),
             grown: None,
             alloc,
-        })
+        }
     }
 
     /// The one member of a set, if it is known to have one alone.
@@ -155,7 +110,23 @@ impl<A: Allocator + Copy> Sets<A> {
         requires { set < length self.now }
         ensures { (b : ℕ) → result ≡ Some b → IsSetOf self.now set (λ y. nat_eq y b) }
     {
-        self.lone[set as usize]
+        let _ = &self.kept;
+        if set >= FIRST {
+            return None;
+        }
+        if set == 0 {
+            return None;
+        }
+        Some(set - 1)
+    }
+
+    /// A set that is kept.
+    fn kept(&self, set: u32) -> &IndexSet<A>
+        requires kept { 2147483648 ≤ set }
+        requires set { set < length self.now }
+        ensures { (y : ℕ) → has_bits result.now y ≡ is_member self.now set y }
+    {
+        &self.kept[(set - FIRST) as usize]
     }
 
     /// Whether bits are a member of a set.
@@ -163,14 +134,14 @@ impl<A: Allocator + Copy> Sets<A> {
         requires { set < length self.now }
         ensures { result ≡ is_member self.now set bits }
     {
-        let _ = &self.sets;
+        let _ = &self.kept;
+        if set >= FIRST {
+            return has_bits(self.kept(set), bits);
+        }
         if set == 0 {
             return false;
         }
-        match self.only(set) {
-            Some(only) => bits == only,
-            None => has_bits(&self.sets[set as usize], bits),
-        }
+        bits == set - 1
     }
 
     /// The members of a set, in no guaranteed order.
@@ -178,60 +149,35 @@ impl<A: Allocator + Copy> Sets<A> {
         requires { set < length self.now }
         ensures { IfOk result (λ members. ListsBits (is_member self.now set) members.items) }
     {
-        listed(self.alloc, &self.sets[set as usize])
+        let _ = &self.kept;
+        if set >= FIRST {
+            return listed(self.alloc, self.kept(set));
+        }
+        let mut members = Vec::new(self.alloc);
+        if set == 0 {
+            return Ok(members);
+        }
+        members.push(set - 1)?;
+        Ok(members)
     }
 
-    /// Adds a set, and its one member, if that is known; returns its number.
+    /// Adds a set, and returns its number.
     #[inline(always)]
-    fn add(&mut self, set: IndexSet<A>, only: Option<u32>) -> Result<u32, AllocError>
-        requires { (b : ℕ) → only ≡ Some b → (y : ℕ) → has_bits set y ≡ nat_eq y b }
+    fn add(&mut self, set: IndexSet<A>) -> Result<u32, AllocError>
         ensures more { AreMore self.old self.new }
         ensures found { IfOk result (λ n. IsSetOf self.new n (has_bits set)) }
     {
-        let Ok(number) = u32::try_from(self.sets.len()) else {
+        let Ok(index) = u32::try_from(self.kept.len()) else {
             return Err(AllocError);
         };
-        self.lone.reserve(1)?;
-        self.sets.push(set)?;
-        self.lone.push_reserved(only);
-        Ok(number)
+        if index >= FIRST {
+            return Err(AllocError);
+        }
+        self.kept.push(set)?;
+        Ok(FIRST + index)
     }
 
-    /// Where the number of the set that has bits alone is kept.
-    fn slot(&self, bits: u32) -> usize {
-        let index = bits as usize / 4;
-        if index < self.singles.len() {
-            return index;
-        }
-        index.checked_rem(self.singles.len()).unwrap_or(0)
-    }
-
-    /// The number of the set that has bits alone, if it is kept.
-    fn kept_single(&self, bits: u32) -> Option<u32>
-        ensures { (n : ℕ) → result ≡ Some n → IsSetOf self.now n (λ y. nat_eq y bits) }
-    {
-        let number = self.singles.get(self.slot(bits)).copied()?;
-        if number as usize >= self.sets.len() {
-            return None;
-        }
-        if self.only(number)? == bits {
-            Some(number)
-        } else {
-            None
-        }
-    }
-
-    /// Keeps the number of the set that has bits alone.
-    fn keep_single(&mut self, bits: u32, number: u32)
-        ensures { self.new ≡ self.old }
-    {
-        let slot = self.slot(bits);
-        if slot < self.singles.len() {
-            self.singles[slot] = number;
-        }
-    }
-
-    /// Adds a set of one member. It stands apart, so that where the set is kept no room is made for a new one.
+    /// Adds a set of one member, which no number below the others stands for.
     #[inline(never)]
     fn new_single(&mut self, bits: u32) -> Result<u32, AllocError>
         ensures more { AreMore self.old self.new }
@@ -239,9 +185,7 @@ impl<A: Allocator + Copy> Sets<A> {
     {
         let mut set = IndexSet::new(self.alloc);
         set.set(bits as usize, true)?;
-        let number = self.add(set, Some(bits))?;
-        self.keep_single(bits, number);
-        Ok(number)
+        self.add(set)
     }
 
     /// A set of one member.
@@ -249,8 +193,9 @@ impl<A: Allocator + Copy> Sets<A> {
         ensures more { AreMore self.old self.new }
         ensures found { IfOk result (λ n. IsSetOf self.new n (λ y. nat_eq y bits)) }
     {
-        if let Some(number) = self.kept_single(bits) {
-            return Ok(number);
+        let _ = &self.kept;
+        if bits < FIRST - 1 {
+            return Ok(bits + 1);
         }
         self.new_single(bits)
     }
@@ -260,14 +205,33 @@ impl<A: Allocator + Copy> Sets<A> {
         ensures more { AreMore self.old self.new }
         ensures found { IfOk result (λ n. IsSetOf self.new n (has_bits set)) }
     {
-        let _ = &self.sets;
+        let _ = &self.kept;
         let Some(member) = member_of(&set) else {
             return Ok(0);
         };
         if has_no_other(&set, member) {
             return self.single(member);
         }
-        self.add(set, None)
+        self.add(set)
+    }
+
+    /// A copy of a set.
+    #[inline(always)]
+    fn copied(&self, set: u32) -> Result<IndexSet<A>, AllocError>
+        requires { set < length self.now }
+        ensures { IfOk result (λ s. (y : ℕ) → has_bits s y ≡ is_member self.now set y) }
+    {
+        let _ = &self.kept;
+        let mut copy = IndexSet::new(self.alloc);
+        if set >= FIRST {
+            copy.assign(self.kept(set))?;
+            return Ok(copy);
+        }
+        if set == 0 {
+            return Ok(copy);
+        }
+        copy.set((set - 1) as usize, true)?;
+        Ok(copy)
     }
 
     /// A set with its one member changed: `bits` is a member or none.
@@ -276,8 +240,7 @@ impl<A: Allocator + Copy> Sets<A> {
         requires { set < length self.now }
         ensures { IfOk result (λ s. (y : ℕ) → has_bits s y ≡ (if nat_eq y bits then is_in else is_member self.now set y)) }
     {
-        let mut copy = IndexSet::new(self.alloc);
-        copy.assign(&self.sets[set as usize])?;
+        let mut copy = self.copied(set)?;
         copy.set(bits as usize, is_in)?;
         Ok(copy)
     }
@@ -286,7 +249,7 @@ impl<A: Allocator + Copy> Sets<A> {
     fn kept_grown(&self, set: u32, bits: u32) -> Option<u32>
         ensures { (n : ℕ) → result ≡ Some n → IsSetOf self.now n (λ y. if nat_eq y bits then true else is_member self.now set y) }
     {
-        let _ = &self.sets;
+        let _ = &self.kept;
         let grown = self.grown?;
         if grown.from == set && grown.bits == bits {
             return Some(grown.number);
@@ -315,7 +278,7 @@ impl<A: Allocator + Copy> Sets<A> {
         ensures found { IfOk result (λ n. IsSetOf self.new n (λ y. if nat_eq y bits then true else is_member self.old set y)) }
     {
         let more = self.changed(set, bits, true)?;
-        let number = self.add(more, None)?;
+        let number = self.add(more)?;
         self.keep_grown(set, bits, number);
         Ok(number)
     }
@@ -326,7 +289,7 @@ impl<A: Allocator + Copy> Sets<A> {
         ensures more { AreMore self.old self.new }
         ensures found { IfOk result (λ n. IsSetOf self.new n (λ y. if nat_eq y bits then true else is_member self.old set y)) }
     {
-        let _ = &self.sets;
+        let _ = &self.kept;
         if self.has(set, bits) {
             return Ok(set);
         }
@@ -356,7 +319,7 @@ impl<A: Allocator + Copy> Sets<A> {
         ensures more { AreMore self.old self.new }
         ensures found { IfOk result (λ n. IsSetOf self.new n (λ y. if nat_eq y bits then false else is_member self.old set y)) }
     {
-        let _ = &self.sets;
+        let _ = &self.kept;
         if !self.has(set, bits) {
             return Ok(set);
         }
@@ -366,25 +329,59 @@ impl<A: Allocator + Copy> Sets<A> {
         self.shrunk(set, bits)
     }
 
-    /// The members of two sets.
+    /// The members that another set has too.
+    fn intersection(&self, set: &IndexSet<A>, other: u32) -> Result<IndexSet<A>, AllocError>
+        requires { other < length self.now }
+        ensures { IfOk result (λ both. (y : ℕ) → has_bits both y ≡ (has_bits set.now y && is_member self.now other y)) }
+    {
+        let mut both = IndexSet::new(self.alloc);
+        for member in set.iter() {
+            let Ok(bits) = u32::try_from(member) else {
+                continue;
+            };
+            if !self.has(other, bits) {
+                continue;
+            }
+            both.set(bits as usize, true)?;
+        }
+        Ok(both)
+    }
+
+    /// The members of two sets, of which the first is kept.
     #[inline(never)]
     fn both(&mut self, set: u32, other: u32) -> Result<u32, AllocError>
+        requires kept { 2147483648 ≤ set }
         requires set { set < length self.old }
         requires other { other < length self.old }
         ensures more { AreMore self.old self.new }
         ensures found { IfOk result (λ n. IsSetOf self.new n (λ y. is_member self.old set y && is_member self.old other y)) }
     {
-        let _ = &self.sets;
+        let _ = &self.kept;
         if let Some(only) = self.only(other) {
             if self.has(set, only) {
                 return Ok(other);
             }
             return Ok(0);
         }
-        let first = &self.sets[set as usize];
-        let second = &self.sets[other as usize];
-        let both = intersection(self.alloc, first, second)?;
+        let both = self.intersection(self.kept(set), other)?;
         self.settle(both)
+    }
+
+    /// Whether another set has each member.
+    fn is_subset(&self, set: &IndexSet<A>, other: u32) -> bool
+        requires { other < length self.now }
+        ensures yes { OnTrue result ((y : ℕ) → has_bits set.now y ≡ true → is_member self.now other y ≡ true) }
+        ensures no { OnFalse result (IsLess (has_bits set.now) (is_member self.now other)) }
+    {
+        for member in set.iter() {
+            let Ok(bits) = u32::try_from(member) else {
+                continue;
+            };
+            if !self.has(other, bits) {
+                return false;
+            }
+        }
+        true
     }
 
     /// Whether each member of a set is one of another.
@@ -394,10 +391,14 @@ impl<A: Allocator + Copy> Sets<A> {
         ensures yes { OnTrue result ((y : ℕ) → is_member self.now set y ≡ true → is_member self.now other y ≡ true) }
         ensures no { OnFalse result (IsLess (is_member self.now set) (is_member self.now other)) }
     {
-        if let Some(only) = self.only(set) {
-            return self.has(other, only);
+        let _ = &self.kept;
+        if set >= FIRST {
+            return self.is_subset(self.kept(set), other);
         }
-        is_subset(&self.sets[set as usize], &self.sets[other as usize])
+        if set == 0 {
+            return true;
+        }
+        self.has(other, set - 1)
     }
 
     /// The members of both sets. The number is that of the first exactly where each of its members is one of the other.
@@ -408,14 +409,11 @@ impl<A: Allocator + Copy> Sets<A> {
         ensures found { IfOk result (λ n. IsSetOf self.new n (λ y. is_member self.old set y && is_member self.old other y)) }
         ensures less { IfOk result (λ n. (n ≡ set → ⊥) → IsLess (is_member self.old set) (is_member self.old other)) }
     {
-        let _ = &self.sets;
-        if set == 0 {
-            return Ok(set);
-        }
+        let _ = &self.kept;
         if self.is_within(set, other) {
             return Ok(set);
         }
-        if let Some(_only) = self.only(set) {
+        if set < FIRST {
             return Ok(0);
         }
         self.both(set, other)

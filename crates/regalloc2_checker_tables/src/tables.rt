@@ -396,7 +396,7 @@ impl<A: Allocator + Copy> Tables<A> {
         }
         let hints = Hints::of(alloc, &places)?;
         let entries = Entries::new(alloc, count, places.len())?;
-        let sets = Sets::new(alloc, vregs.len())?;
+        let sets = Sets::new(alloc);
         let homes = empty_homes(alloc, vregs.len())?;
         Ok(Tables {
             places,

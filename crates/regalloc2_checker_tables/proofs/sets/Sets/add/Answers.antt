@@ -1,40 +1,29 @@
-use Rattle.std.proofs.Common.{ℕ, List, [], ◌∷◌, ◌++◌, arith, ap, sym, ◌∙◌, refl, subst}
-use Rattle.std.specs.Prelude.{Option}
+use Rattle.std.proofs.Common.{List, arith, ap, sym, ◌∙◌, refl, subst, ◌+◌}
 use Rattle.regalloc2_shape.specs.Numbers.{NumberSet}
-use Rattle.regalloc2_checker_tables.specs.EntrySets.{has_bits, AreEntrySets, IsGrown}
-use Rattle.regalloc2_checker_tables.proofs.Bits.{added-is, added-more, same-sets}
-use Rattle.regalloc2_checker_tables.proofs.Lone.{known-more}
+use Rattle.regalloc2_checker_tables.specs.EntrySets.{has_bits, all_sets, IsGrown}
+use Rattle.regalloc2_checker_tables.proofs.AllSets.{push-at, push-more}
+use Rattle.regalloc2_checker_tables.proofs.Bits.{same-sets}
 use Rattle.regalloc2_checker_tables.proofs.Lone.{grown-more}
 use Rattle.regalloc2_checker_tables.proofs.sets.Sets.add.Goals as goal
 
-pub returns-in_err-reserve-clause-more : goal.returns-in_err-reserve-clause-more
-returns-in_err-reserve-clause-more g c = same-sets c.args.self.now c.self.inside.sets.items c.self.view_is
-
 pub returns-in_err-push-clause-more : goal.returns-in_err-push-clause-more
-returns-in_err-push-clause-more g c = same-sets c.args.self.now c.push.new.self.items (c.in_err-push.ensures.items ∙ c.self.view_is)
+returns-in_err-push-clause-more g c =
+    same-sets c.args.self.now (all_sets c.push.new.self.items) (ap (λ (l : List NumberSet). all_sets l) c.in_err-push.ensures.items ∙ c.self.view_is)
+
+pub invariant_of-self : goal.invariant_of-self
+invariant_of-self g c =
+    subst (λ (l : List NumberSet). IsGrown (all_sets l) c.self.inside.grown) (sym c.in_err-push.ensures.items) c.self.invariant
 
 pub invariant_of-self-2 : goal.invariant_of-self-2
-invariant_of-self-2 g c = (
-  known-more c.self.inside.sets.items c.push.new.self.items c.self.inside.lone.items c.push_reserved.new.self.items c.args.set c.args.only
-      c.self.invariant.0 c.in_ok-push.ensures.items
-      (c.push_reserved.ensures.items ∙ ap (λ (l : List (Option ℕ)). l ++ c.args.only ∷ []) c.reserve.ensures.items) c.requires,
-  grown-more c.self.inside.sets.items c.push.new.self.items c.self.inside.grown
-      (added-more c.self.inside.sets.items c.push.new.self.items c.args.set c.in_ok-push.ensures.items) c.self.invariant.1,
-)
+invariant_of-self-2 g c =
+    grown-more (all_sets c.self.inside.kept.items) (all_sets c.push.new.self.items) c.self.inside.grown
+    (push-more (all_sets c.self.inside.kept.items) c.self.inside.kept.items c.push.new.self.items c.args.set refl c.in_ok-push.ensures.items)
+    c.self.invariant
 
 pub returns-clause-more : goal.returns-clause-more
-returns-clause-more g c =
-    added-more c.args.self.now c.push.new.self.items c.args.set
-    (c.in_ok-push.ensures.items ∙ ap (λ (l : List NumberSet). l ++ c.args.set ∷ []) c.self.view_is)
+returns-clause-more g c = push-more c.args.self.now c.self.inside.kept.items c.push.new.self.items c.args.set c.self.view_is c.in_ok-push.ensures.items
 
 pub returns-clause-found : goal.returns-clause-found
 returns-clause-found g c =
-    added-is c.self.inside.sets.items c.push.new.self.items c.in-Ok.number c.args.set (has_bits c.args.set)
-    (omega (arith, c.in-Ok.ensures.1, c.len.ensures, c.self.inside.sets.ok.0)) c.in_ok-push.ensures.items (λ y. refl)
-
-pub invariant_of-self-in_err-push : goal.invariant_of-self-in_err-push
-invariant_of-self-in_err-push g c = (
-  subst (λ (l : List NumberSet). AreEntrySets l c.reserve.new.self.items) (sym c.in_err-push.ensures.items)
-      (subst (λ (o : List (Option ℕ)). AreEntrySets c.self.inside.sets.items o) (sym c.in_ok-reserve.ensures.items) c.self.invariant.0),
-  subst (λ (l : List NumberSet). IsGrown l c.self.inside.grown) (sym c.in_err-push.ensures.items) c.self.invariant.1,
-)
+    push-at c.self.inside.kept.items c.push.new.self.items c.args.set (2147483648 + c.in-Ok.index) (has_bits c.args.set) c.in_ok-push.ensures.items
+    (omega (arith, c.in-Ok.ensures.1, c.len.ensures, c.self.inside.kept.ok.0)) (λ y. refl)

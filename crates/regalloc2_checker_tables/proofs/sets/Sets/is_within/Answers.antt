@@ -1,14 +1,31 @@
-use Rattle.std.proofs.Common.{refl}
-use Rattle.regalloc2_checker_tables.specs.EntrySets.{is_member}
+use Rattle.std.proofs.Common.{arith, ◌-◌}
+use Rattle.regalloc2_index.proofs.Bools.{not_both}
+use Rattle.regalloc2_checker_tables.specs.EntrySets.{has_bits, is_member}
+use Rattle.regalloc2_checker_tables.proofs.AllSets.{empty-at, one-at, within-as, less-as}
 use Rattle.regalloc2_checker_tables.proofs.Lone.{lone-within, lone-less}
 use Rattle.regalloc2_checker_tables.proofs.sets.Sets.is_within.Goals as goal
 
-pub returns-in-Some-clause-yes : goal.returns-in-Some-clause-yes
-returns-in-Some-clause-yes g c =
-    lone-within (is_member c.args.self.now c.args.set) (is_member c.args.self.now c.args.other) c.in-Some.only c.has.result
-    (c.in-Some.ensures c.in-Some.only refl).members c.has.ensures
+pub returns-then-set-ge-FIRST-clause-yes : goal.returns-then-set-ge-FIRST-clause-yes
+returns-then-set-ge-FIRST-clause-yes g c =
+    within-as (has_bits c.kept.result.now) (is_member c.args.self.now c.args.set) (is_member c.args.self.now c.args.other) c.is_subset.result c.kept.ensures
+    c.is_subset.ensures.yes
 
-pub returns-in-Some-clause-no : goal.returns-in-Some-clause-no
-returns-in-Some-clause-no g c =
-    lone-less c.args.self.now c.args.set c.in-Some.only (is_member c.args.self.now c.args.other) c.has.result (c.in-Some.ensures c.in-Some.only refl)
-    c.has.ensures
+pub returns-then-set-ge-FIRST-clause-no : goal.returns-then-set-ge-FIRST-clause-no
+returns-then-set-ge-FIRST-clause-no g c =
+    less-as (has_bits c.kept.result.now) (is_member c.args.self.now c.args.set) (is_member c.args.self.now c.args.other) c.is_subset.result c.kept.ensures
+    c.is_subset.ensures.no
+
+pub returns-then-set-eq0-clause-yes : goal.returns-then-set-eq0-clause-yes
+returns-then-set-eq0-clause-yes g c y h =
+    absurd (not_both (is_member c.args.self.now c.args.set y) h
+    (empty-at c.args.self.now c.self.inside.kept.items c.args.set c.self.view_is c.if-set-eq0.true y))
+
+pub returns-clause-yes : goal.returns-clause-yes
+returns-clause-yes g c =
+    lone-within (is_member c.args.self.now c.args.set) (is_member c.args.self.now c.args.other) (c.args.set - 1) c.has.result
+    (one-at c.args.self.now c.self.inside.kept.items c.args.set (c.args.set - 1) c.self.view_is (omega arith) (omega arith)).members c.has.ensures
+
+pub returns-clause-no : goal.returns-clause-no
+returns-clause-no g c =
+    lone-less c.args.self.now c.args.set (c.args.set - 1) (is_member c.args.self.now c.args.other) c.has.result
+    (one-at c.args.self.now c.self.inside.kept.items c.args.set (c.args.set - 1) c.self.view_is (omega arith) (omega arith)) c.has.ensures

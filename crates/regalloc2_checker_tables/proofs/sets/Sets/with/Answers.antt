@@ -1,9 +1,8 @@
-use Rattle.std.proofs.Common.{ℕ, ◌≡◌, List, false, sym, subst}
-use Rattle.regalloc2_shape.specs.Numbers.{NumberSet}
+use Rattle.std.proofs.Common.{sym, refl}
 use Rattle.regalloc2_checker_tables.specs.EntrySets.{is_member}
+use Rattle.regalloc2_checker_tables.proofs.AllSets.{empty-at}
 use Rattle.regalloc2_checker_tables.proofs.Bits.{ok-as}
-use Rattle.regalloc2_checker_tables.proofs.Lone.{with-same, set-is}
-use Rattle.regalloc2_checker_tables.proofs.Lone.{with-empty}
+use Rattle.regalloc2_checker_tables.proofs.Lone.{with-same, with-empty, set-is}
 use Rattle.regalloc2_checker_tables.proofs.sets.Sets.with.Goals as goal
 
 pub returns-then-has-clause-found : goal.returns-then-has-clause-found
@@ -16,4 +15,4 @@ pub returns-then-set-eq0-clause-found : goal.returns-then-set-eq0-clause-found
 returns-then-set-eq0-clause-found g c =
     ok-as _ _ c.single.result
     (λ n h. set-is c.single.new.self n _ _ (with-empty c.args.self.now c.args.set c.args.bits
-    (subst (λ (s : List NumberSet). (y : ℕ) → is_member s 0 y ≡ false) c.self.view_is c.self.invariant.0.empty) c.if-set-eq0.true) h) c.single.ensures.found
+    (empty-at c.args.self.now c.self.inside.kept.items 0 c.self.view_is refl) c.if-set-eq0.true) h) c.single.ensures.found

@@ -1,7 +1,7 @@
 use Rattle.std.proofs.Common.{sym, refl}
 use Rattle.regalloc2_checker_tables.specs.EntrySets.{is_member}
-use Rattle.regalloc2_checker_tables.proofs.Lone.{without-same, empty-is, set-of}
-use Rattle.regalloc2_checker_tables.proofs.Lone.{without-lone}
+use Rattle.regalloc2_checker_tables.proofs.AllSets.{empty-is}
+use Rattle.regalloc2_checker_tables.proofs.Lone.{without-same, without-lone}
 use Rattle.regalloc2_checker_tables.proofs.sets.Sets.without.Goals as goal
 
 pub returns-then-not-has-clause-found : goal.returns-then-not-has-clause-found
@@ -12,6 +12,5 @@ returns-then-not-has-clause-found g c = record {
 
 pub returns-in-Some-clause-found : goal.returns-in-Some-clause-found
 returns-in-Some-clause-found g c =
-    set-of c.self.inside.sets.items c.args.self.now 0 _ c.self.view_is
-    (empty-is c.self.inside.sets.items c.self.inside.lone.items _ c.self.invariant.0
-    (without-lone c.args.self.now c.args.set c.args.bits c.in-Some._only (c.in-Some.ensures c.in-Some._only refl) (sym c.if-not-has.ensures)))
+    empty-is c.args.self.now c.self.inside.kept.items _ c.self.view_is
+    (without-lone c.args.self.now c.args.set c.args.bits c.in-Some._only (c.in-Some.ensures c.in-Some._only refl) (sym c.if-not-has.ensures))

@@ -1,9 +1,9 @@
 use Rattle.std.proofs.Common.{ℕ, ◌≡◌, ◌<◌, List, arith, true, ap, sym, ◌∙◌}
 use Rattle.regalloc2_shape.specs.Numbers.{times_listed}
-use Rattle.regalloc2_checker_tables.specs.EntrySets.{has_bits}
+use Rattle.regalloc2_checker_tables.specs.EntrySets.{is_member}
 use Rattle.regalloc2_checker_tables.proofs.Bits.{bits-in, bits-small}
 use Rattle.regalloc2_checker_tables.proofs.Walked.{times-nil, walked-on, walked-is, walked-more, walked-end}
-use Rattle.regalloc2_checker_tables.proofs.sets.is_subset.Goals as goal
+use Rattle.regalloc2_checker_tables.proofs.sets.Sets.is_subset.Goals as goal
 
 pub loop-member-init : goal.loop-member-init
 loop-member-init g c = record {
@@ -15,26 +15,26 @@ pub loop-member-preserved-in_default : goal.loop-member-preserved-in_default
 loop-member-preserved-in_default g c = record {
   all = walked-on c.args.set.now c.loop-member.yielded c.loop-member.member-iterator c.next.new.self c.in-Some.member c.loop-member.invariant.all
       c.in-Some.ensures.steps;
-  there = walked-more (λ y. y < 4294967296 → has_bits c.args.other.now y ≡ true) c.loop-member.yielded c.in-Some.member c.loop-member.invariant.there
-      (λ l. absurd (c.in_default.ensures l));
+  there = walked-more (λ y. y < 4294967296 → is_member c.args.self.now c.args.other y ≡ true) c.loop-member.yielded c.in-Some.member
+      c.loop-member.invariant.there (λ l. absurd (c.in_default.ensures l));
 }
 
 pub loop-member-preserved : goal.loop-member-preserved
 loop-member-preserved g c = record {
   all = walked-on c.args.set.now c.loop-member.yielded c.loop-member.member-iterator c.next.new.self c.in-Some.member c.loop-member.invariant.all
       c.in-Some.ensures.steps;
-  there = walked-more (λ y. y < 4294967296 → has_bits c.args.other.now y ≡ true) c.loop-member.yielded c.in-Some.member c.loop-member.invariant.there
-      (λ l. ap (λ n. has_bits c.args.other.now n) (sym c.in-Ok.ensures.1) ∙ sym c.if-not-has_bits.ensures);
+  there = walked-more (λ y. y < 4294967296 → is_member c.args.self.now c.args.other y ≡ true) c.loop-member.yielded c.in-Some.member
+      c.loop-member.invariant.there (λ l. ap (λ n. is_member c.args.self.now c.args.other n) (sym c.in-Ok.ensures.1) ∙ sym c.if-not-has.ensures);
 }
 
-pub returns-then-not-has_bits-clause-no : goal.returns-then-not-has_bits-clause-no
-returns-then-not-has_bits-clause-no g c = record {
+pub returns-then-not-has-clause-no : goal.returns-then-not-has-clause-no
+returns-then-not-has-clause-no g c = record {
   bits = c.in-Some.member;
   small = c.in-Ok.ensures.0;
   here = bits-in c.args.set.now c.in-Some.member c.in-Ok.ensures.0
       (walked-is c.args.set.now c.loop-member.yielded c.loop-member.member-iterator c.next.new.self c.in-Some.member c.loop-member.invariant.all
       c.in-Some.ensures.steps);
-  not_there = ap (λ n. has_bits c.args.other.now n) (sym c.in-Ok.ensures.1) ∙ sym c.if-not-has_bits.ensures;
+  not_there = ap (λ n. is_member c.args.self.now c.args.other n) (sym c.in-Ok.ensures.1) ∙ sym c.if-not-has.ensures;
 }
 
 pub returns-clause-yes : goal.returns-clause-yes
