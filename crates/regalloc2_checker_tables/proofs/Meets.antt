@@ -67,8 +67,11 @@ met-at s t e f k p end bound had a b below pb one is-had at = record {
     | inr n ↦ sym (ap (λ z. is_member t z y) (w.others i n) ∙ w.still.more.kept (number_now e i) y (below i l)) ∙ is
   ];
   less = λ q. lost (w.more q);
-  same = λ q. let h = w.same q in (h.0, λ i y lo hi bo is. (let z : i ≡ p = omega arith in
-      ap (λ n. held s e n y) z ∙ h.1 y (ap (λ n. is_member s (saved_number e k n) y) (sym z) ∙ is)));
+  same = λ q. let h = w.same q in (
+    h.0,
+    λ i y lo hi bo is. (let z : i ≡ p = omega arith in
+        ap (λ n. held s e n y) z ∙ h.1 y (ap (λ n. is_member s (saved_number e k n) y) (sym z) ∙ is)),
+  );
 }
   where
     w : IsMetAt s t e f (saved_number e k p) p a b
@@ -160,15 +163,17 @@ met-then s t u e f g k from mid next end bound a b c x ord w = record {
     kept : (b ≡ false) × ((i y : ℕ) → next ≤ i → i < end → i < bound → is_member t (saved_number f k i) y ≡ true → held t f i y ≡ true) →
         (a ≡ false) × ((i y : ℕ) → from ≤ i → i < end → i < bound → is_member s (saved_number e k i) y ≡ true → held s e i y ≡ true)
     kept h =
-        let first = x.met.same h.0 in
-        (first.0, λ i y lo hi bo is. (let ins = x.inside in let aft = x.after in elim (cases_lt i next) [
-          | inl n ↦ elim (cases_lt i mid) [
-            | inl m ↦ first.1 i y lo m bo is
-            | inr m ↦ sym (same-there s t e f k from mid next bound a b x i y m n (omega arith)) ∙ is
-          ]
-          | inr n ↦ sym (now-there s t e f k from mid next bound a b x i y (omega arith) (omega arith))
-              ∙ h.1 i y n hi bo (saved-there s t e f k from mid next bound a b x i y (omega arith) ∙ is)
-        ]))
+        let first = x.met.same h.0 in (
+          first.0,
+          λ i y lo hi bo is. (let ins = x.inside in let aft = x.after in elim (cases_lt i next) [
+            | inl n ↦ elim (cases_lt i mid) [
+              | inl m ↦ first.1 i y lo m bo is
+              | inr m ↦ sym (same-there s t e f k from mid next bound a b x i y m n (omega arith)) ∙ is
+            ]
+            | inr n ↦ sym (now-there s t e f k from mid next bound a b x i y (omega arith) (omega arith))
+                ∙ h.1 i y n hi bo (saved-there s t e f k from mid next bound a b x i y (omega arith) ∙ is)
+          ]),
+        )
 
 -- the rest of the positions, at which the array and the saved copy have the same numbers
 pub met-end : (s t : List NumberSet) (e f : NumberCopies) (k from mid end bound : ℕ) (a b : Bool) → IsMetUpTo s t e f k from mid end bound a b →

@@ -14,12 +14,11 @@ returns-clause-none g c e =
 pub returns-clause-some : goal.returns-clause-some
 returns-clause-some g c j e =
     let at = MatchOption-at_some _ _ j e c.next_difference.ensures in
-    let long = ap (λ (o : NumberCopies). length o.cells) c.self.view_is in
-    (
+    let long = ap (λ (o : NumberCopies). length o.cells) c.self.view_is in (
       at.0,
       omega (arith, at.1, long, c.self.invariant.long),
       omega (arith, at.1, c.self.invariant.long, c.self.inside.cells.ok.0, c.self.inside.cells.ok.1, c.self.inside.cells.small),
       subst (λ (o : NumberCopies). AreAlikeBetween o c.args.copy (64 * c.args.from) (64 * j)) c.self.view_is
-      (chunks-alike c.self.inside.words.items c.self.inside.cells.items c.self.inside.bases c.args.copy c.args.from j c.self.invariant
-      (omega (arith, at.1)) at.3),
+          (chunks-alike c.self.inside.words.items c.self.inside.cells.items c.self.inside.bases c.args.copy c.args.from j c.self.invariant
+          (omega (arith, at.1)) at.3),
     )
