@@ -4,10 +4,7 @@ use Rattle.std.proofs.Common.{subst, arith, nat_eq, lt-ltb, le-ltb, eq-eqb}
 use Rattle.std.specs.Prelude.{slice_index, option_map, filter, All}
 use Rattle.std.specs.List.{AllByRecursion}
 use Rattle.std.proofs.lemmas.List.Elements.{All-map, All-filter, recursion_from_All}
-use Rattle.regalloc2_names.specs.declared.RegClass.TheVariants.{Int}
-use Rattle.regalloc2_names.specs.declared.sets.PRegSet.{PRegSet}
 use Rattle.regalloc2_names.specs.Register.{Register, VirtualRegister}
-use Rattle.regalloc2_names.specs.RegisterSet.{has_register}
 use Rattle.regalloc2_names.specs.Operand.{OperandValue, is_reading}
 use Rattle.regalloc2_names.specs.Place.{Place}
 use Rattle.regalloc2_function.specs.FunctionValue.{FunctionValue, block_at, inst_at}
@@ -17,17 +14,17 @@ use Rattle.regalloc2_function.specs.Listing.{ListedInst, listing_from}
 use Rattle.regalloc2_function.specs.AllocatedRun.{moves_at}
 use Rattle.regalloc2_semantics.specs.Values.Interpreters.{History, State, read_by, is_late_use, edge_to, numbers_moved, disturbed, written_to, numbers_clobbered}
 use Rattle.codegen_machine.specs.Ir.Numbers.{Returned, Trapped}
-use Rattle.codegen_machine.specs.Ir.Operands.{is_lost_in, operands_of}
+use Rattle.codegen_machine.specs.Ir.Operands.{is_lost_in}
 use Rattle.codegen_machine.specs.declared.ir.operation.Operation.{Operation}
 use Rattle.codegen_machine.specs.declared.ir.operation.Operation.TheVariants.{Divide as Dividing}
 use Rattle.codegen_machine.specs.declared.Instruction.{Instruction}
 use Rattle.codegen_machine.specs.Machine.{CodeValue, MachineState, machine_run}
 use Rattle.codegen.specs.Emitted.{operation_at, operation_code, items_code, block_code, block_start}
 use Rattle.codegen.proofs.Premise.{CanMove, IsPlain, IsEnd, IsEmitted}
-use Rattle.codegen.proofs.Choices.{Choice, source_reads, found_by, found_reads, place_after, place_next, ReadAlike}
+use Rattle.codegen.proofs.Choices.{Choice, found_by, found_reads, place_after, place_next, ReadAlike}
 use Rattle.codegen.proofs.Runs.{Comes, comes_on, ends_then}
 use Rattle.codegen.proofs.Stands.{StandAt, block_stands}
-use Rattle.codegen.proofs.Places.{Agree, register_place, Moved, moves_run}
+use Rattle.codegen.proofs.Places.{Agree, Moved, moves_run}
 use Rattle.codegen.proofs.Steps.{value_of, way_of, chosen, leaves_of, traps_of, undisturbed, reads_at, writes_at, Done, Left, last_leaves}
 use Rattle.codegen.proofs.Divisions.{unclobbered, IsKept, is_kept, plain_leaves, plain_traps}
 
@@ -147,7 +144,7 @@ module _ (f : FunctionValue) (ops : List Operation) (out : OutputValue) (start :
 
     -- a block's last operation clobbers nothing
     end_clobbers : (o : Operation) (count : ℕ) → IsEnd o count → (r : Register) → is_lost_in o r ≡ false
-    end_clobbers (Dividing part signed to left right) count end r = absurd end
+    end_clobbers (Dividing w part signed to left right) count end r = absurd end
     end_clobbers o count end r = refl
 
     agree_written : (d : State Place) → d.at.inst < length f.insts → IsEnd (op_of d) (length (succs_of d)) → (registers frame : ℕ → ℕ) →
@@ -264,7 +261,7 @@ module _ (f : FunctionValue) (ops : List Operation) (out : OutputValue) (start :
         pick (suc n) e = plain_follows c d s at r calm n e
 
     end_calm : (o : Operation) (count : ℕ) (xs : List ℕ) → IsEnd o count → traps_of o xs ≡ true → ⊥
-    end_calm (Dividing part signed to left right) count xs end traps = end
+    end_calm (Dividing w part signed to left right) count xs end traps = end
     end_calm o count xs end traps = cc
 
     -- and one that traps is a trap of the machine

@@ -10,6 +10,7 @@ use Rattle.codegen_machine.specs.declared.ir.operation.Operation.TheVariants.{Ar
 use Rattle.codegen_machine.specs.declared.ir.operation.Operation.TheVariants.{Shift as Shifting, Divide as Dividing, Compare as Comparison, Select, Jump as GoTo, BranchIf}
 use Rattle.codegen_machine.specs.declared.ir.operation.Operation.TheVariants.{BranchIfHolds}
 use Rattle.codegen_machine.specs.declared.ir.operation.Operation.TheVariants.{Return as GiveBack}
+use Rattle.codegen_machine.specs.declared.ir.operation.Width.{Width}
 use Rattle.codegen_machine.specs.declared.ir.operation.ShiftOperator.{ShiftOperator}
 use Rattle.codegen_machine.specs.declared.ir.operation.Condition.{Condition}
 use Rattle.codegen_machine.specs.declared.ir.operation.Condition.TheVariants.{Equal, NotEqual}
@@ -70,23 +71,28 @@ branch_code c succs = JumpIf c (slice_index succs 0) ∷ Jump (slice_index succs
 abbrev pub branch_if_code : Place → List ℕ → List Instruction
 branch_if_code p succs = Test (source_of p) ∷ branch_code NotEqual succs
 
+-- a branch to the first successor if two numbers meet a condition, else to the second
+abbrev pub branch_if_holds_code : Width → Condition → Right → List Place → List ℕ → List Instruction
+branch_if_holds_code w c right places succs =
+    Compare w (register_of (place_at places 0)) (right_source right (place_at places 1)) ∷ branch_code c succs
+
 -- a shift, by the count in register 1 or by a constant
-abbrev pub shift_code : ShiftOperator → Count → ℕ → Instruction
-shift_code o (CountIn v) r = Shift o r
-shift_code o (CountOf n) r = ShiftBy o r n
+abbrev pub shift_code : Width → ShiftOperator → Count → ℕ → Instruction
+shift_code w o (CountIn v) r = Shift w o r
+shift_code w o (CountOf n) r = ShiftBy w o r n
 
 -- Extends register 0 into register 2; then divides by a place's number.
-abbrev pub extension_code : Bool → Instruction
-extension_code true = ExtendSign
-extension_code false = Clear 2
+abbrev pub extension_code : Width → Bool → Instruction
+extension_code w true = ExtendSign w
+extension_code w false = Clear 2
 
-abbrev pub divide_code : Bool → Place → List Instruction
-divide_code signed p = extension_code signed ∷ Divide signed (source_of p) ∷ []
+abbrev pub divide_code : Width → Bool → Place → List Instruction
+divide_code w signed p = extension_code w signed ∷ Divide w signed (source_of p) ∷ []
 
 -- a comparison, whose result is written to a register
-abbrev pub compare_code : Condition → Right → List Place → List Instruction
-compare_code c right places =
-    Compare (register_of (place_at places 1)) (right_source right (place_at places 2)) ∷ Set (register_of (place_at places 0)) c ∷ []
+abbrev pub compare_code : Width → Condition → Right → List Place → List Instruction
+compare_code w c right places =
+    Compare w (register_of (place_at places 1)) (right_source right (place_at places 2)) ∷ Set (register_of (place_at places 0)) c ∷ []
 
 -- a selection: the register holds the first number, and receives the second if the deciding number is 0
 abbrev pub select_code : List Place → List Instruction
@@ -101,15 +107,14 @@ abbrev pub operation_code : Operation → List Place → List ℕ → List Instr
 operation_code (TakeArgument to k) places succs = Argument (register_of (place_at places 0)) k ∷ []
 operation_code (TakeConstant to n) places succs = constant_code (register_of (place_at places 0)) n ∷ []
 operation_code (Copy to from) places succs = fetched (register_of (place_at places 0)) (place_at places 1) ∷ []
-operation_code (Computation o to left right) places succs = Compute o (register_of (place_at places 0)) (right_source right (place_at places 2)) ∷ []
-operation_code (Shifting o to left count) places succs = shift_code o count (register_of (place_at places 0)) ∷ []
-operation_code (Dividing part signed to left right) places succs = divide_code signed (place_at places 2)
-operation_code (Comparison c to left right) places succs = compare_code c right places
+operation_code (Computation w o to left right) places succs = Compute w o (register_of (place_at places 0)) (right_source right (place_at places 2)) ∷ []
+operation_code (Shifting w o to left count) places succs = shift_code w o count (register_of (place_at places 0)) ∷ []
+operation_code (Dividing w part signed to left right) places succs = divide_code w signed (place_at places 2)
+operation_code (Comparison w c to left right) places succs = compare_code w c right places
 operation_code (Select to c one other) places succs = select_code places
 operation_code GoTo places succs = Jump (slice_index succs 0) ∷ []
 operation_code (BranchIf v) places succs = branch_if_code (place_at places 0) succs
-operation_code (BranchIfHolds c left right) places succs =
-    Compare (register_of (place_at places 0)) (right_source right (place_at places 1)) ∷ branch_code c succs
+operation_code (BranchIfHolds w c left right) places succs = branch_if_holds_code w c right places succs
 operation_code (GiveBack v) places succs = return_code (place_at places 0)
 
 -- jumps resolved to the blocks' first instructions
