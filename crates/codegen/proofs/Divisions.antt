@@ -220,12 +220,12 @@ module _ (args : ℕ → ℕ) (starts : ℕ → ℕ) (code : CodeValue) (succs :
       ap (λ (b : Bool). cond (not b) (m (place_at ps 1) ∷ m (place_at ps 2) ∷ []) (m (place_at ps 2) ∷ [])) read
 
   -- an operation that continues at the next line
-  pub plain_leaves : (o : Operation) (set : PRegSet) (s : MachineState) (ps : List Place) (m : Place → ℕ) → IsPlain o → IsPlaced code.slots o ps →
+  pub plain_leaves : (next : ℕ) (o : Operation) (set : PRegSet) (s : MachineState) (ps : List Place) (m : Place → ℕ) → IsPlain o → IsPlaced code.slots o ps →
       ((r : Register) → has_register set r ≡ is_lost_in o r) → IsKept o set ps m → traps_of o (reads_at o ps m) ≡ false →
-      Agree s.registers s.frame m → StandAt starts code.instructions s.pc (operation_code o ps succs ++ rest) →
+      Agree s.registers s.frame m → StandAt starts code.instructions s.pc (operation_code o ps succs next ++ rest) →
       Done args starts code succs rest s (numbers_clobbered set (leaves_of o (reads_at o ps m)) (writes_at args o ps m))
   unfolding written_to
-  plain_leaves (Dividing w part signed to left right) set s ps m plain placed has kept calm a h =
+  plain_leaves next (Dividing w part signed to left right) set s ps m plain placed has kept calm a h =
       let first : place_at ps 0 ≡ register_place (part_register part) = place_is (place_at ps 0) (part_register part) placed.0.0 placed.0.1 in
       let second : place_at ps 1 ≡ register_place 0 = place_is (place_at ps 1) 0 placed.1.0 placed.1.1 in
       let read : reads_at (Dividing w part signed to left right) ps m ≡ m (register_place 0) ∷ m (place_at ps 2) ∷ [] =
@@ -237,8 +237,8 @@ module _ (args : ℕ → ℕ) (starts : ℕ → ℕ) (code : CodeValue) (succs :
       (numbers_clobbered set (λ n. divided_at w (other_part part) signed (m (register_place 0)) (m (place_at ps 2)))
       (place_set m p (divided_at w part signed (m (register_place 0)) (m (place_at ps 2)))))) (sym first)
       (divide_done w part signed m set (place_at ps 2) s has (subst (λ (p : Place). Keeps set m p (place_at ps 2)) first kept) placed.2 a h)) calm
-  plain_leaves o set s ps m plain placed has kept calm a h =
-      let d : Done args starts code succs rest s (writes_at args o ps m) = plain_done args starts code succs rest o s ps m plain placed a h in
+  plain_leaves next o set s ps m plain placed has kept calm a h =
+      let d : Done args starts code succs rest s (writes_at args o ps m) = plain_done args starts code succs rest next o s ps m plain placed a h in
       record {
         to = d.to;
         comes = d.comes;
@@ -247,18 +247,18 @@ module _ (args : ℕ → ℕ) (starts : ℕ → ℕ) (code : CodeValue) (succs :
       }
 
   -- and one that traps
-  pub plain_traps : (o : Operation) (set : PRegSet) (s : MachineState) (ps : List Place) (m : Place → ℕ) → IsPlain o → IsPlaced code.slots o ps →
+  pub plain_traps : (next : ℕ) (o : Operation) (set : PRegSet) (s : MachineState) (ps : List Place) (m : Place → ℕ) → IsPlain o → IsPlaced code.slots o ps →
       ((r : Register) → has_register set r ≡ is_lost_in o r) → IsKept o set ps m → traps_of o (reads_at o ps m) ≡ true →
-      Agree s.registers s.frame m → StandAt starts code.instructions s.pc (operation_code o ps succs ++ rest) →
+      Agree s.registers s.frame m → StandAt starts code.instructions s.pc (operation_code o ps succs next ++ rest) →
       (j : ℕ) × (machine_run code args j s ≡ Trapped)
-  plain_traps (Dividing w part signed to left right) set s ps m plain placed has kept traps a h =
+  plain_traps next (Dividing w part signed to left right) set s ps m plain placed has kept traps a h =
       let first : place_at ps 0 ≡ register_place (part_register part) = place_is (place_at ps 0) (part_register part) placed.0.0 placed.0.1 in
       let second : place_at ps 1 ≡ register_place 0 = place_is (place_at ps 1) 0 placed.1.0 placed.1.1 in
       let read : reads_at (Dividing w part signed to left right) ps m ≡ m (register_place 0) ∷ m (place_at ps 2) ∷ [] =
       reads w part signed to left right ps m plain.1 ∙ ap (λ (p : Place). m p ∷ m (place_at ps 2) ∷ []) second in
       divide_traps w part signed m set (place_at ps 2) s has (subst (λ (p : Place). Keeps set m p (place_at ps 2)) first kept) placed.2 a h
       (subst (λ (xs : List ℕ). division_traps w signed (slice_index xs 0) (slice_index xs 1) ≡ true) read traps)
-  plain_traps o set s ps m plain placed has kept traps a h = absurd cc
+  plain_traps next o set s ps m plain placed has kept traps a h = absurd cc
 
   -- the interpreters' late use guarantees that it is kept
   pub is_kept : (o : Operation) (set : PRegSet) (ps : List Place) (m : Place → ℕ) (v : VirtualRegister → ℕ) → IsPlain o →

@@ -16,6 +16,11 @@
 //! instructions for a line, and one for a move. Jumps name blocks at first; once all blocks are
 //! emitted, `resolve` replaces the blocks by the numbers of instructions.
 //!
+//! A branch is two jumps, the second unconditional. If its first successor is the next block, it
+//! jumps to the second successor under the opposite condition, and then to the next line. The code
+//! keeps a jump to the next line, so each step of the function is a step of the machine; the text
+//! omits it.
+//!
 //! The machine (`codegen_machine`) is *stuck* where a processor would misbehave: at a slot outside
 //! the frame, at the registers of the stack pointer and of the arguments, at a jump out of the
 //! code, at a condition whose flags another instruction has clobbered, and at a division whose
