@@ -1,14 +1,13 @@
 -- A machine that follows a procedure's steps behaves as the procedure: for any relation of their states that each step preserves.
-use Rattle.std.proofs.Common.{ℕ, zero, suc, ◌≡◌, ◌+◌, ◌≤◌, ◌⊎◌, inl, inr, List, refl, sym, ap, ◌∙◌, subst, arith}
+use Rattle.std.proofs.Common.{ℕ, zero, suc, ◌≡◌, ◌≤◌, ◌⊎◌, inl, inr, List, refl, sym, ap, ◌∙◌, subst, arith}
 use Rattle.std.specs.Prelude.{None}
 use Rattle.regalloc2_function.specs.FunctionValue.{FunctionValue}
 use Rattle.codegen_machine.specs.Ir.Numbers.{RunOutcome, Running, Returned, Trapped, Stuck, further}
 use Rattle.codegen_machine.specs.Ir.Meaning.{ProcedureState, procedure_step, procedure_run}
-use Rattle.codegen_machine.specs.Ir.Seen.{function_of_procedure, operations}
 use Rattle.codegen_machine.specs.declared.ir.operation.Operation.{Operation}
 use Rattle.codegen_machine.specs.declared.ir.procedure.Procedure.{Procedure}
 use Rattle.codegen_machine.specs.Machine.{CodeValue, MachineState, machine_run}
-use Rattle.codegen.specs.Behaves.{Beginning, procedure_after, machine_after, BehavesAs}
+use Rattle.codegen.specs.Behaves.{Beginning, procedure_after, BehavesAs}
 use Rattle.codegen.proofs.Runs.{IsOver, Comes, comes_here, comes_on, runs_then, ends_then, longer, one_end}
 
 -- What the procedure's outcome after some steps implies for the machine's run: it runs for as many steps, returns the same number, or traps too.

@@ -1,5 +1,5 @@
 -- A division: its two instructions do to the machine what it does to places, and the divisor stays in its current location.
-use Rattle.std.proofs.Common.{ℕ, zero, suc, ◌≡◌, ◌+◌, Bool, true, false, cond, not, List, [], ◌∷◌, ◌++◌, Option, Some, None, refl, sym, ap, ◌∙◌, subst}
+use Rattle.std.proofs.Common.{ℕ, ◌≡◌, ◌+◌, Bool, true, false, cond, not, List, [], ◌∷◌, ◌++◌, Option, Some, None, refl, sym, ap, ◌∙◌, subst}
 use Rattle.std.proofs.Common.{arith, nat_eq, eqb-true, eq-eqb}
 use Rattle.std.specs.Prelude.{◌&&◌, slice_index}
 use Rattle.regalloc2_names.specs.declared.RegClass.TheVariants.{Int}
@@ -8,11 +8,12 @@ use Rattle.regalloc2_names.specs.Operand.{is_reading}
 use Rattle.regalloc2_names.specs.Register.{Register, VirtualRegister, is_register}
 use Rattle.regalloc2_names.specs.RegisterSet.{has_register}
 use Rattle.regalloc2_names.specs.Same.{is_register-true}
-use Rattle.regalloc2_names.specs.Place.{Place, NoPlace, InRegister, InSlot, is_place}
+use Rattle.regalloc2_names.specs.Place.{Place, NoPlace, InRegister, InSlot}
 use Rattle.regalloc2_function.specs.OutputValue.{place_at}
 use Rattle.regalloc2_semantics.specs.Values.Interpreters.{read_by, is_late_use, place_set, written_to, numbers_clobbered}
-use Rattle.codegen_machine.specs.Ir.Numbers.{RunOutcome, Running, Trapped, Stuck, divided, division_traps, extended, put}
+use Rattle.codegen_machine.specs.Ir.Numbers.{Running, Trapped, Stuck, divided_at, division_traps, extended, put}
 use Rattle.codegen_machine.specs.Ir.Operands.{is_lost_in, operands_of, other_register, part_register}
+use Rattle.codegen_machine.specs.declared.ir.operation.Width.{Width}
 use Rattle.codegen_machine.specs.declared.ir.operation.DivisionPart.{DivisionPart}
 use Rattle.codegen_machine.specs.declared.ir.operation.DivisionPart.TheVariants.{Quotient, Remainder}
 use Rattle.codegen_machine.specs.declared.ir.operation.Operation.{Operation}
@@ -26,7 +27,7 @@ use Rattle.codegen.proofs.Choices.{Choice}
 use Rattle.codegen.proofs.Runs.{Comes, comes_by, comes_on, ends_then, traps_by}
 use Rattle.codegen.proofs.Stands.{StandAt}
 use Rattle.codegen.proofs.Places.{Agree, register_place, int_place, wrote, writes, agree_register, reads_source}
-use Rattle.codegen.proofs.Steps.{value_of, leaves_of, traps_of, other_part, reads_at, writes_at, Done, plain_done}
+use Rattle.codegen.proofs.Steps.{leaves_of, traps_of, other_part, reads_at, writes_at, Done, plain_done}
 
 abbrev int_register : ℕ → Register
 int_register n = record { number = n; class = Int }
@@ -126,13 +127,13 @@ both_agree Remainder numbers m set w registers frame has a = record {
 }
 
 module _ (args : ℕ → ℕ) (starts : ℕ → ℕ) (code : CodeValue) (succs : List ℕ) (rest : List Instruction) where
-  module _ (part : DivisionPart) (signed : Bool) (m : Place → ℕ) (set : PRegSet) (q : Place) (s : MachineState)
+  module _ (w : Width) (part : DivisionPart) (signed : Bool) (m : Place → ℕ) (set : PRegSet) (q : Place) (s : MachineState)
       (has : (r : Register) → has_register set r ≡ is_register (int_register (other_register part)) r)
       (keeps : Keeps set m (register_place (part_register part)) q) (here : IsHere code.slots q) (a : Agree s.registers s.frame m)
-      (h : StandAt starts code.instructions s.pc (divide_code signed q ++ rest)) where
+      (h : StandAt starts code.instructions s.pc (divide_code w signed q ++ rest)) where
     -- the extension of the dividend
     abbrev above : ℕ
-    above = extended signed (s.registers 0)
+    above = extended w signed (s.registers 0)
 
     -- once register 2 holds it
     abbrev ready : Option (ℕ × ℕ) → MachineState
@@ -142,20 +143,21 @@ module _ (args : ℕ → ℕ) (starts : ℕ → ℕ) (code : CodeValue) (succs :
     agree_ready compared = agree_register s.registers s.frame m a (register_place 2) (refl, refl) above
 
     -- the division, by the divisor's number
-    outcome : (compared : Option (ℕ × ℕ)) → executed args code.slots (Some (Divide signed (source_of q))) (ready compared) ≡ divides (ready compared) signed (m q)
+    outcome : (compared : Option (ℕ × ℕ)) →
+        executed args code.slots (Some (Divide w signed (source_of q))) (ready compared) ≡ divides (ready compared) w signed (m q)
     outcome compared =
-        reads_source code.slots (ready compared) (place_set m (register_place 2) above) (agree_ready compared) q here (λ b. divides (ready compared) signed b)
-        ∙ ap (λ (b : ℕ). divides (ready compared) signed b) (stays part m set above has q keeps)
+        reads_source code.slots (ready compared) (place_set m (register_place 2) above) (agree_ready compared) q here (λ b. divides (ready compared) w signed b)
+        ∙ ap (λ (b : ℕ). divides (ready compared) w signed b) (stays part m set above has q keeps)
 
     -- it isn't stuck
-    goes : (compared : Option (ℕ × ℕ)) → divides (ready compared) signed (m q)
-        ≡ cond (division_traps signed (s.registers 0) (m q)) Trapped (Running (parted (ready compared) signed (m q)))
+    goes : (compared : Option (ℕ × ℕ)) → divides (ready compared) w signed (m q)
+        ≡ cond (division_traps w signed (s.registers 0) (m q)) Trapped (Running (parted (ready compared) w signed (m q)))
     goes compared =
-        ap (λ (b : Bool). cond b (cond (division_traps signed (s.registers 0) (m q)) Trapped (Running (parted (ready compared) signed (m q)))) Stuck)
+        ap (λ (b : Bool). cond b (cond (division_traps w signed (s.registers 0) (m q)) Trapped (Running (parted (ready compared) w signed (m q)))) Stuck)
         (eq-eqb above above refl)
 
-    by_dividend : division_traps signed (s.registers 0) (m q) ≡ division_traps signed (m (register_place 0)) (m q)
-    by_dividend = ap (λ (n : ℕ). division_traps signed n (m q)) (a.in_registers 0)
+    by_dividend : division_traps w signed (s.registers 0) (m q) ≡ division_traps w signed (m (register_place 0)) (m q)
+    by_dividend = ap (λ (n : ℕ). division_traps w signed n (m q)) (a.in_registers 0)
 
     -- the extension
     record IsReady : Type 0 where
@@ -165,76 +167,78 @@ module _ (args : ℕ → ℕ) (starts : ℕ → ℕ) (code : CodeValue) (succs :
     is_ready : (b : Bool) → signed ≡ b → IsReady
     is_ready true e = record {
       compared = s.compared;
-      comes = comes_by code args ExtendSign s (ready s.compared)
-          (h.0 ∙ ap (λ (b : Bool). Some (resolved starts (extension_code b))) e)
-          (writes s 2 (extended true (s.registers 0)) s.compared refl ∙ ap (λ (b : Bool). Running (wrote s 2 (extended b (s.registers 0)) s.compared)) (sym e));
+      comes = comes_by code args (ExtendSign w) s (ready s.compared)
+          (h.0 ∙ ap (λ (b : Bool). Some (resolved starts (extension_code w b))) e)
+          (writes s 2 (extended w true (s.registers 0)) s.compared refl
+          ∙ ap (λ (b : Bool). Running (wrote s 2 (extended w b (s.registers 0)) s.compared)) (sym e));
     }
     is_ready false e = record {
       compared = None;
       comes = comes_by code args (Clear 2) s (ready None)
-          (h.0 ∙ ap (λ (b : Bool). Some (resolved starts (extension_code b))) e)
-          (writes s 2 0 None refl ∙ ap (λ (b : Bool). Running (wrote s 2 (extended b (s.registers 0)) None)) (sym e));
+          (h.0 ∙ ap (λ (b : Bool). Some (resolved starts (extension_code w b))) e)
+          (writes s 2 0 None refl ∙ ap (λ (b : Bool). Running (wrote s 2 (extended w b (s.registers 0)) None)) (sym e));
     }
 
-    divide_done : division_traps signed (m (register_place 0)) (m q) ≡ false → Done args starts code succs rest s
-        (numbers_clobbered set (λ p. divided (other_part part) signed (m (register_place 0)) (m q))
-        (place_set m (register_place (part_register part)) (divided part signed (m (register_place 0)) (m q))))
+    divide_done : division_traps w signed (m (register_place 0)) (m q) ≡ false → Done args starts code succs rest s
+        (numbers_clobbered set (λ p. divided_at w (other_part part) signed (m (register_place 0)) (m q))
+        (place_set m (register_place (part_register part)) (divided_at w part signed (m (register_place 0)) (m q))))
     divide_done calm =
         let r : IsReady = is_ready signed refl in
         let u : MachineState = ready r.compared in
-        let v : MachineState = parted u signed (m q) in
-        let acts : executed args code.slots (Some (Divide signed (source_of q))) u ≡ Running v =
+        let v : MachineState = parted u w signed (m q) in
+        let acts : executed args code.slots (Some (Divide w signed (source_of q))) u ≡ Running v =
         outcome r.compared ∙ goes r.compared ∙ ap (λ (b : Bool). cond b Trapped (Running v)) (by_dividend ∙ calm) in
         record {
           to = v;
-          comes = comes_on code args 1 1 1 s u v (omega arith) r.comes (comes_by code args (Divide signed (source_of q)) u v h.1.0 acts);
-          agree = subst (λ (n : ℕ). Agree v.registers v.frame (numbers_clobbered set (λ p. divided (other_part part) signed n (m q))
-              (place_set m (register_place (part_register part)) (divided part signed n (m q))))) (a.in_registers 0)
-              (both_agree part (λ x. divided x signed (s.registers 0) (m q)) m set above s.registers s.frame has a);
+          comes = comes_on code args 1 1 1 s u v (omega arith) r.comes (comes_by code args (Divide w signed (source_of q)) u v h.1.0 acts);
+          agree = subst (λ (n : ℕ). Agree v.registers v.frame (numbers_clobbered set (λ p. divided_at w (other_part part) signed n (m q))
+              (place_set m (register_place (part_register part)) (divided_at w part signed n (m q))))) (a.in_registers 0)
+              (both_agree part (λ x. divided_at w x signed (s.registers 0) (m q)) m set above s.registers s.frame has a);
           stands = h.1.1;
         }
 
-    divide_traps : division_traps signed (m (register_place 0)) (m q) ≡ true → (j : ℕ) × (machine_run code args j s ≡ Trapped)
+    divide_traps : division_traps w signed (m (register_place 0)) (m q) ≡ true → (j : ℕ) × (machine_run code args j s ≡ Trapped)
     divide_traps traps =
         let r : IsReady = is_ready signed refl in
         let u : MachineState = ready r.compared in
-        let v : MachineState = parted u signed (m q) in
-        let acts : executed args code.slots (Some (Divide signed (source_of q))) u ≡ Trapped =
+        let v : MachineState = parted u w signed (m q) in
+        let acts : executed args code.slots (Some (Divide w signed (source_of q))) u ≡ Trapped =
         outcome r.compared ∙ goes r.compared ∙ ap (λ (b : Bool). cond b Trapped (Running v)) (by_dividend ∙ traps) in
-        ends_then code args 1 1 s u Trapped r.comes (traps_by code args (Divide signed (source_of q)) u h.1.0 acts)
+        ends_then code args 1 1 s u Trapped r.comes (traps_by code args (Divide w signed (source_of q)) u h.1.0 acts)
 
   -- the divisor of an operation, if it is a division, keeps its number
   abbrev pub IsKept : Operation → PRegSet → List Place → (Place → ℕ) → Type 0
-  IsKept (Dividing part signed to left right) set ps m = Keeps set m (place_at ps 0) (place_at ps 2)
+  IsKept (Dividing w part signed to left right) set ps m = Keeps set m (place_at ps 0) (place_at ps 2)
   IsKept o set ps m = Unit {0}
 
   -- what a division reads
-  reads : (part : DivisionPart) (signed : Bool) (to left right : VirtualRegister) (ps : List Place) (m : Place → ℕ) → nat_eq left.number 1073741823 ≡ false →
-      reads_at (Dividing part signed to left right) ps m ≡ m (place_at ps 1) ∷ m (place_at ps 2) ∷ []
+  reads : (w : Width) (part : DivisionPart) (signed : Bool) (to left right : VirtualRegister) (ps : List Place) (m : Place → ℕ) →
+      nat_eq left.number 1073741823 ≡ false →
+      reads_at (Dividing w part signed to left right) ps m ≡ m (place_at ps 1) ∷ m (place_at ps 2) ∷ []
   unfolding read_by
-  reads part signed to left right ps m read =
+  reads w part signed to left right ps m read =
       ap (λ (b : Bool). cond (not b) (m (place_at ps 1) ∷ m (place_at ps 2) ∷ []) (m (place_at ps 2) ∷ [])) read
 
   -- an operation that continues at the next line
-  pub plain_leaves : (o : Operation) (set : PRegSet) (s : MachineState) (ps : List Place) (m : Place → ℕ) → IsPlain o → IsPlaced code.slots o ps →
+  pub plain_leaves : (next : ℕ) (o : Operation) (set : PRegSet) (s : MachineState) (ps : List Place) (m : Place → ℕ) → IsPlain o → IsPlaced code.slots o ps →
       ((r : Register) → has_register set r ≡ is_lost_in o r) → IsKept o set ps m → traps_of o (reads_at o ps m) ≡ false →
-      Agree s.registers s.frame m → StandAt starts code.instructions s.pc (operation_code o ps succs ++ rest) →
+      Agree s.registers s.frame m → StandAt starts code.instructions s.pc (operation_code o ps succs next ++ rest) →
       Done args starts code succs rest s (numbers_clobbered set (leaves_of o (reads_at o ps m)) (writes_at args o ps m))
   unfolding written_to
-  plain_leaves (Dividing part signed to left right) set s ps m plain placed has kept calm a h =
+  plain_leaves next (Dividing w part signed to left right) set s ps m plain placed has kept calm a h =
       let first : place_at ps 0 ≡ register_place (part_register part) = place_is (place_at ps 0) (part_register part) placed.0.0 placed.0.1 in
       let second : place_at ps 1 ≡ register_place 0 = place_is (place_at ps 1) 0 placed.1.0 placed.1.1 in
-      let read : reads_at (Dividing part signed to left right) ps m ≡ m (register_place 0) ∷ m (place_at ps 2) ∷ [] =
-      reads part signed to left right ps m plain.1 ∙ ap (λ (p : Place). m p ∷ m (place_at ps 2) ∷ []) second in
-      subst (λ (xs : List ℕ). division_traps signed (slice_index xs 0) (slice_index xs 1) ≡ false → Done args starts code succs rest s
-      (numbers_clobbered set (λ p. divided (other_part part) signed (slice_index xs 0) (slice_index xs 1))
-      (place_set m (place_at ps 0) (divided part signed (slice_index xs 0) (slice_index xs 1))))) (sym read)
-      (subst (λ (p : Place). division_traps signed (m (register_place 0)) (m (place_at ps 2)) ≡ false → Done args starts code succs rest s
-      (numbers_clobbered set (λ n. divided (other_part part) signed (m (register_place 0)) (m (place_at ps 2)))
-      (place_set m p (divided part signed (m (register_place 0)) (m (place_at ps 2)))))) (sym first)
-      (divide_done part signed m set (place_at ps 2) s has (subst (λ (p : Place). Keeps set m p (place_at ps 2)) first kept) placed.2 a h)) calm
-  plain_leaves o set s ps m plain placed has kept calm a h =
-      let d : Done args starts code succs rest s (writes_at args o ps m) = plain_done args starts code succs rest o s ps m plain placed a h in
+      let read : reads_at (Dividing w part signed to left right) ps m ≡ m (register_place 0) ∷ m (place_at ps 2) ∷ [] =
+      reads w part signed to left right ps m plain.1 ∙ ap (λ (p : Place). m p ∷ m (place_at ps 2) ∷ []) second in
+      subst (λ (xs : List ℕ). division_traps w signed (slice_index xs 0) (slice_index xs 1) ≡ false → Done args starts code succs rest s
+      (numbers_clobbered set (λ p. divided_at w (other_part part) signed (slice_index xs 0) (slice_index xs 1))
+      (place_set m (place_at ps 0) (divided_at w part signed (slice_index xs 0) (slice_index xs 1))))) (sym read)
+      (subst (λ (p : Place). division_traps w signed (m (register_place 0)) (m (place_at ps 2)) ≡ false → Done args starts code succs rest s
+      (numbers_clobbered set (λ n. divided_at w (other_part part) signed (m (register_place 0)) (m (place_at ps 2)))
+      (place_set m p (divided_at w part signed (m (register_place 0)) (m (place_at ps 2)))))) (sym first)
+      (divide_done w part signed m set (place_at ps 2) s has (subst (λ (p : Place). Keeps set m p (place_at ps 2)) first kept) placed.2 a h)) calm
+  plain_leaves next o set s ps m plain placed has kept calm a h =
+      let d : Done args starts code succs rest s (writes_at args o ps m) = plain_done args starts code succs rest next o s ps m plain placed a h in
       record {
         to = d.to;
         comes = d.comes;
@@ -243,18 +247,18 @@ module _ (args : ℕ → ℕ) (starts : ℕ → ℕ) (code : CodeValue) (succs :
       }
 
   -- and one that traps
-  pub plain_traps : (o : Operation) (set : PRegSet) (s : MachineState) (ps : List Place) (m : Place → ℕ) → IsPlain o → IsPlaced code.slots o ps →
+  pub plain_traps : (next : ℕ) (o : Operation) (set : PRegSet) (s : MachineState) (ps : List Place) (m : Place → ℕ) → IsPlain o → IsPlaced code.slots o ps →
       ((r : Register) → has_register set r ≡ is_lost_in o r) → IsKept o set ps m → traps_of o (reads_at o ps m) ≡ true →
-      Agree s.registers s.frame m → StandAt starts code.instructions s.pc (operation_code o ps succs ++ rest) →
+      Agree s.registers s.frame m → StandAt starts code.instructions s.pc (operation_code o ps succs next ++ rest) →
       (j : ℕ) × (machine_run code args j s ≡ Trapped)
-  plain_traps (Dividing part signed to left right) set s ps m plain placed has kept traps a h =
+  plain_traps next (Dividing w part signed to left right) set s ps m plain placed has kept traps a h =
       let first : place_at ps 0 ≡ register_place (part_register part) = place_is (place_at ps 0) (part_register part) placed.0.0 placed.0.1 in
       let second : place_at ps 1 ≡ register_place 0 = place_is (place_at ps 1) 0 placed.1.0 placed.1.1 in
-      let read : reads_at (Dividing part signed to left right) ps m ≡ m (register_place 0) ∷ m (place_at ps 2) ∷ [] =
-      reads part signed to left right ps m plain.1 ∙ ap (λ (p : Place). m p ∷ m (place_at ps 2) ∷ []) second in
-      divide_traps part signed m set (place_at ps 2) s has (subst (λ (p : Place). Keeps set m p (place_at ps 2)) first kept) placed.2 a h
-      (subst (λ (xs : List ℕ). division_traps signed (slice_index xs 0) (slice_index xs 1) ≡ true) read traps)
-  plain_traps o set s ps m plain placed has kept traps a h = absurd cc
+      let read : reads_at (Dividing w part signed to left right) ps m ≡ m (register_place 0) ∷ m (place_at ps 2) ∷ [] =
+      reads w part signed to left right ps m plain.1 ∙ ap (λ (p : Place). m p ∷ m (place_at ps 2) ∷ []) second in
+      divide_traps w part signed m set (place_at ps 2) s has (subst (λ (p : Place). Keeps set m p (place_at ps 2)) first kept) placed.2 a h
+      (subst (λ (xs : List ℕ). division_traps w signed (slice_index xs 0) (slice_index xs 1) ≡ true) read traps)
+  plain_traps next o set s ps m plain placed has kept traps a h = absurd cc
 
   -- the interpreters' late use guarantees that it is kept
   pub is_kept : (o : Operation) (set : PRegSet) (ps : List Place) (m : Place → ℕ) (v : VirtualRegister → ℕ) → IsPlain o →
@@ -262,7 +266,7 @@ module _ (args : ℕ → ℕ) (starts : ℕ → ℕ) (code : CodeValue) (succs :
       ((x : Choice) → read_by is_late_use (λ k u. numbers_clobbered set x.leaves (written_to x.writes ps 0 (operands_of o) m) (place_at ps k)) 0 (operands_of o)
       ≡ read_by is_late_use (λ k u. v u.vreg) 0 (operands_of o)) → IsKept o set ps m
   unfolding written_to read_by
-  is_kept (Dividing part signed to left right) set ps m v plain same late = λ x.
+  is_kept (Dividing w part signed to left right) set ps m v plain same late = λ x.
       let after : Place → ℕ = numbers_clobbered set x.leaves (place_set m (place_at ps 0) (x.writes 0)) in
       let p : ℕ = after (place_at ps 2) in
       let one : p ∷ [] ≡ v right ∷ [] =

@@ -27,19 +27,19 @@ next_within n x left rest h is =
 
 module _ (operations : List Operation) (out : OutputValue) where
   -- one item of a listing is emitted, and the others are left
-  pub one_item : (succs : List ℕ) (whole code more : List Instruction) (x : Listed) (left rest : List Listed) →
-      code ++ items_code operations out succs left ≡ whole → left ≡ x ∷ rest → more ≡ code ++ item_code operations out succs x →
-      more ++ items_code operations out succs rest ≡ whole
+  pub one_item : (succs : List ℕ) (next : ℕ) (whole code more : List Instruction) (x : Listed) (left rest : List Listed) →
+      code ++ items_code operations out succs next left ≡ whole → left ≡ x ∷ rest → more ≡ code ++ item_code operations out succs next x →
+      more ++ items_code operations out succs next rest ≡ whole
   unfolding items_code
-  one_item succs whole code more x left rest h is grown =
-      rw grown (append_assoc code (item_code operations out succs x) (items_code operations out succs rest)
-      ∙ ap (λ xs. code ++ items_code operations out succs xs) (sym is) ∙ h)
+  one_item succs next whole code more x left rest h is grown =
+      rw grown (append_assoc code (item_code operations out succs next x) (items_code operations out succs next rest)
+      ∙ ap (λ xs. code ++ items_code operations out succs next xs) (sym is) ∙ h)
 
   -- no item is left
-  pub no_item : (succs : List ℕ) (whole code : List Instruction) (left : List Listed) → code ++ items_code operations out succs left ≡ whole →
+  pub no_item : (succs : List ℕ) (next : ℕ) (whole code : List Instruction) (left : List Listed) → code ++ items_code operations out succs next left ≡ whole →
       left ≡ [] → code ≡ whole
   unfolding items_code
-  no_item succs whole code left h none = sym (append-nil code) ∙ ap (λ xs. code ++ items_code operations out succs xs) (sym none) ∙ h
+  no_item succs next whole code left h none = sym (append-nil code) ∙ ap (λ xs. code ++ items_code operations out succs next xs) (sym none) ∙ h
 
   -- no block is emitted
   pub no_block_yet : (f : FunctionValue) → [] ≡ blocks_code operations out f 0

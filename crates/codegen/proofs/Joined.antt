@@ -13,13 +13,12 @@ use Rattle.codegen_machine.specs.Ir.Meaning.{ProcedureState, procedure_step}
 use Rattle.codegen_machine.specs.declared.ir.operation.Operation.{Operation}
 use Rattle.codegen_machine.specs.Ir.Seen.{function_of_procedure, operations}
 use Rattle.codegen_machine.specs.declared.ir.procedure.Procedure.{Procedure}
-use Rattle.codegen_machine.specs.Machine.{CodeValue, MachineState, machine_run}
+use Rattle.codegen_machine.specs.Machine.{CodeValue, MachineState}
 use Rattle.codegen.specs.Emitted.{operation_at, blocks_code}
 use Rattle.codegen.specs.Behaves.{Beginning, procedure_after, BehavesAs}
 use Rattle.codegen.proofs.Premise.{IsEmitted}
 use Rattle.codegen.proofs.Choices.{Choice, leavings, source_reads, source_next, found_reads, place_next, ReadAlike, Together, StepsOn, AlikeByChoices}
 use Rattle.codegen.proofs.Chosen.{chosen_run_alike}
-use Rattle.codegen.proofs.Runs.{Comes}
 use Rattle.codegen.proofs.Places.{Agree}
 use Rattle.codegen.proofs.Steps.{traps_of, chosen}
 use Rattle.codegen.proofs.Simulation.{At, Follows, at_start, step_follows, step_traps}

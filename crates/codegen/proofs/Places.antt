@@ -129,26 +129,26 @@ module _ (args : ℕ → ℕ) (slots : ℕ) (starts : ℕ → ℕ) where
     agree = agree_slot s.registers s.frame numbers a n (numbers from);
   }
 
-module _ (operations : List Operation) (out : OutputValue) (succs : List ℕ) (args : ℕ → ℕ) (starts : ℕ → ℕ) (code : CodeValue) where
+module _ (operations : List Operation) (out : OutputValue) (succs : List ℕ) (next : ℕ) (args : ℕ → ℕ) (starts : ℕ → ℕ) (code : CodeValue) where
   -- the machine has run the moves, up to the code after them
   pub record Moved (s : MachineState) (numbers : Place → ℕ) (rest : List Listed) : Type 0 where
     pub to : MachineState
     pub comes : Comes code args 0 s to
     pub agree : Agree to.registers to.frame numbers
-    pub stands : StandAt starts code.instructions to.pc (items_code operations out succs rest)
+    pub stands : StandAt starts code.instructions to.pc (items_code operations out succs next rest)
 
   -- moves run as the places' do
   pub moves_run : (ms : List MoveValue) (rest : List Listed) (s : MachineState) (numbers : Place → ℕ) →
       AllByRecursion (λ m. CanMove code.slots m.from m.to) ms →
-      Agree s.registers s.frame numbers → StandAt starts code.instructions s.pc (items_code operations out succs (map (λ m. ListedMove m) ms ++ rest)) →
+      Agree s.registers s.frame numbers → StandAt starts code.instructions s.pc (items_code operations out succs next (map (λ m. ListedMove m) ms ++ rest)) →
       Moved s (numbers_moved ms numbers) rest
   unfolding numbers_moved items_code
   moves_run [] rest s numbers can a h = record { to = s; comes = comes_here code args s; agree = a; stands = h }
   moves_run (m ∷ ms) rest s numbers can a h =
       let one : Moves args code.slots starts s (resolved starts (move_code m.from m.to)) (place_set numbers m.to (numbers m.from)) =
       one_move args code.slots starts s numbers m.from m.to a can.0 in
-      let others : StandAt starts code.instructions one.to.pc (items_code operations out succs (map (λ m. ListedMove m) ms ++ rest)) =
-      subst (λ (n : ℕ). StandAt starts code.instructions n (items_code operations out succs (map (λ m. ListedMove m) ms ++ rest))) (sym one.next) h.1 in
+      let others : StandAt starts code.instructions one.to.pc (items_code operations out succs next (map (λ m. ListedMove m) ms ++ rest)) =
+      subst (λ (n : ℕ). StandAt starts code.instructions n (items_code operations out succs next (map (λ m. ListedMove m) ms ++ rest))) (sym one.next) h.1 in
       let all : Moved one.to (numbers_moved ms (place_set numbers m.to (numbers m.from))) rest =
       moves_run ms rest one.to (place_set numbers m.to (numbers m.from)) can.1 one.agree others in
       let first : Comes code args 1 s one.to = comes_by code args (resolved starts (move_code m.from m.to)) s one.to h.0 one.acts in

@@ -53,8 +53,8 @@ IsCountRead (CountIn v) = nat_eq v.number 1073741823 ≡ false
 IsCountRead (CountOf n) = Unit {0}
 
 abbrev pub IsRead : Operation → Type 0
-IsRead (Shifting o to left count) = IsCountRead count
-IsRead (Dividing part signed to left right) = (nat_eq to.number 1073741823 ≡ false) × (nat_eq left.number 1073741823 ≡ false)
+IsRead (Shifting w o to left count) = IsCountRead count
+IsRead (Dividing w part signed to left right) = (nat_eq to.number 1073741823 ≡ false) × (nat_eq left.number 1073741823 ≡ false)
 IsRead o = Unit {0}
 
 -- the places of an operation's operands are such that it can be emitted
@@ -62,33 +62,33 @@ abbrev pub IsPlaced : ℕ → Operation → List Place → Type 0
 IsPlaced slots (TakeArgument to k) ps = IsGeneral (place_at ps 0)
 IsPlaced slots (TakeConstant to n) ps = IsGeneral (place_at ps 0)
 IsPlaced slots (Copy to from) ps = IsGeneral (place_at ps 0) × IsHere slots (place_at ps 1)
-IsPlaced slots (Computation o to left right) ps = IsGeneral (place_at ps 0) × (place_at ps 0 ≡ place_at ps 1) × IsRightHere slots right (place_at ps 2)
-IsPlaced slots (Shifting o to left count) ps = IsGeneral (place_at ps 0) × (place_at ps 0 ≡ place_at ps 1) × IsCountHere count (place_at ps 2)
-IsPlaced slots (Dividing part signed to left right) ps = (IsGeneral (place_at ps 0) × (register_of (place_at ps 0) ≡ part_register part))
+IsPlaced slots (Computation w o to left right) ps = IsGeneral (place_at ps 0) × (place_at ps 0 ≡ place_at ps 1) × IsRightHere slots right (place_at ps 2)
+IsPlaced slots (Shifting w o to left count) ps = IsGeneral (place_at ps 0) × (place_at ps 0 ≡ place_at ps 1) × IsCountHere count (place_at ps 2)
+IsPlaced slots (Dividing w part signed to left right) ps = (IsGeneral (place_at ps 0) × (register_of (place_at ps 0) ≡ part_register part))
     × (IsGeneral (place_at ps 1) × (register_of (place_at ps 1) ≡ 0)) × IsHere slots (place_at ps 2)
-IsPlaced slots (Comparison c to left right) ps = IsGeneral (place_at ps 0) × IsGeneral (place_at ps 1) × IsRightHere slots right (place_at ps 2)
+IsPlaced slots (Comparison w c to left right) ps = IsGeneral (place_at ps 0) × IsGeneral (place_at ps 1) × IsRightHere slots right (place_at ps 2)
 IsPlaced slots (Select to c one other) ps =
     IsGeneral (place_at ps 0) × (place_at ps 0 ≡ place_at ps 1) × IsHere slots (place_at ps 2) × IsHere slots (place_at ps 3)
 IsPlaced slots GoTo ps = Unit {0}
 IsPlaced slots (BranchIf v) ps = IsHere slots (place_at ps 0)
-IsPlaced slots (BranchIfHolds c left right) ps = IsGeneral (place_at ps 0) × IsRightHere slots right (place_at ps 1)
+IsPlaced slots (BranchIfHolds w c left right) ps = IsGeneral (place_at ps 0) × IsRightHere slots right (place_at ps 1)
 IsPlaced slots (GiveBack v) ps = IsHere slots (place_at ps 0)
 
 -- an operation that continues at the next line, and reads all its uses
 abbrev pub IsPlain : Operation → Type 0
 IsPlain GoTo = ⊥
 IsPlain (BranchIf v) = ⊥
-IsPlain (BranchIfHolds c left right) = ⊥
+IsPlain (BranchIfHolds w c left right) = ⊥
 IsPlain (GiveBack v) = ⊥
-IsPlain (Shifting o to left count) = IsCountRead count
-IsPlain (Dividing part signed to left right) = (nat_eq to.number 1073741823 ≡ false) × (nat_eq left.number 1073741823 ≡ false)
+IsPlain (Shifting w o to left count) = IsCountRead count
+IsPlain (Dividing w part signed to left right) = (nat_eq to.number 1073741823 ≡ false) × (nat_eq left.number 1073741823 ≡ false)
 IsPlain o = Unit {0}
 
 -- one that ends a block with that many successors
 abbrev pub IsEnd : Operation → ℕ → Type 0
 IsEnd GoTo count = 0 < count
 IsEnd (BranchIf v) count = 1 < count
-IsEnd (BranchIfHolds c left right) count = 1 < count
+IsEnd (BranchIfHolds w c left right) count = 1 < count
 IsEnd (GiveBack v) count = Unit {0}
 IsEnd o count = ⊥
 

@@ -113,23 +113,23 @@ module _ (env : MachineValue) (out : OutputValue) (t : IsTarget env) where
         general to.class (place_at ps 0) (h.proper 0 d (omega arith) refl) (h.meets 0 d (omega arith)),
         here from.class (place_at ps 1) (h.proper 1 d (omega arith) refl),
       )
-  is_placed (Computation o to left right) ps read h =
+  is_placed (Computation w o to left right) ps read h =
       let d : OperandValue = def_in Reg to in
       let same : place_at ps 0 ≡ place_at ps 1 = (h.meets 0 d (omega arith)).2 in
       let first : IsGeneral (place_at ps 1) = general left.class (place_at ps 1) (h.proper 1 d (omega arith) refl) (h.meets 1 d (omega arith)) in
       (subst IsGeneral (sym same) first, same, right_here right (def_in (Reuse 1) to ∷ use_in Reg left ∷ []) ps h)
-  is_placed (Shifting o to left count) ps read h =
+  is_placed (Shifting w o to left count) ps read h =
       let d : OperandValue = def_in Reg to in
       let same : place_at ps 0 ≡ place_at ps 1 = (h.meets 0 d (omega arith)).2 in
       let first : IsGeneral (place_at ps 1) = general left.class (place_at ps 1) (h.proper 1 d (omega arith) refl) (h.meets 1 d (omega arith)) in
       (subst IsGeneral (sym same) first, same, count_here count to left ps read h)
-  is_placed (Dividing part signed to left right) ps read h =
+  is_placed (Dividing w part signed to left right) ps read h =
       let d : OperandValue = def_in Reg to in (
         fixed_here to.class (part_register part) (place_at ps 0) (h.proper 0 d (omega arith) read.0) (h.meets 0 d (omega arith)),
         fixed_here left.class 0 (place_at ps 1) (h.proper 1 d (omega arith) read.1) (h.meets 1 d (omega arith)),
         here right.class (place_at ps 2) (h.proper 2 d (omega arith) refl),
       )
-  is_placed (Comparison c to left right) ps read h =
+  is_placed (Comparison w c to left right) ps read h =
       let d : OperandValue = def_in Reg to in (
         general to.class (place_at ps 0) (h.proper 0 d (omega arith) refl) (h.meets 0 d (omega arith)),
         general left.class (place_at ps 1) (h.proper 1 d (omega arith) refl) (h.meets 1 d (omega arith)),
@@ -146,7 +146,7 @@ module _ (env : MachineValue) (out : OutputValue) (t : IsTarget env) where
       )
   is_placed GoTo ps read h = tt
   is_placed (BranchIf v) ps read h = let d : OperandValue = use_in Any v in here v.class (place_at ps 0) (h.proper 0 d (omega arith) refl)
-  is_placed (BranchIfHolds c left right) ps read h =
+  is_placed (BranchIfHolds w c left right) ps read h =
       let d : OperandValue = use_in Reg left in (
         general left.class (place_at ps 0) (h.proper 0 d (omega arith) refl) (h.meets 0 d (omega arith)),
         right_here right (use_in Reg left ∷ []) ps h,
@@ -162,13 +162,13 @@ not_same m n less = pick (nat_eq m n) refl
     pick true e = let same : m ≡ n = eqb-true m n e in absurd (omega (arith, same))
 
 is_read : (vregs : ℕ) (o : Operation) → vregs < 2 ^ 30 → list_all (λ x. nat_lt x.vreg.number vregs) (operands_of o) ≡ true → IsRead o
-is_read vregs (Shifting o to left (CountIn v)) few h =
+is_read vregs (Shifting w o to left (CountIn v)) few h =
     let uses : (nat_lt left.number vregs && (nat_lt v.number vregs && true)) ≡ true = (and_parts _ _ h).1 in
     let last : (nat_lt v.number vregs && true) ≡ true = (and_parts _ _ uses).1 in
     let known : nat_lt v.number vregs ≡ true = (and_parts _ _ last).0 in
     not_same v.number 1073741823 (let less : v.number < vregs = ltb-true _ _ known in omega arith)
-is_read vregs (Shifting o to left (CountOf n)) few h = tt
-is_read vregs (Dividing part signed to left right) few h =
+is_read vregs (Shifting w o to left (CountOf n)) few h = tt
+is_read vregs (Dividing w part signed to left right) few h =
     let first : nat_lt to.number vregs ≡ true = (and_parts _ _ h).0 in
     let uses : (nat_lt left.number vregs && (nat_lt right.number vregs && true)) ≡ true = (and_parts _ _ h).1 in
     let second : nat_lt left.number vregs ≡ true = (and_parts _ _ uses).0 in (
@@ -181,17 +181,17 @@ is_read vregs o few h = tt
 is_plain : (o : Operation) → IsRead o → is_jump o ≡ false → is_return o ≡ false → IsPlain o
 is_plain GoTo read j r = absurd cc
 is_plain (BranchIf v) read j r = absurd cc
-is_plain (BranchIfHolds c left right) read j r = absurd cc
+is_plain (BranchIfHolds w c left right) read j r = absurd cc
 is_plain (GiveBack v) read j r = absurd cc
-is_plain (Shifting o to left count) read j r = read
-is_plain (Dividing part signed to left right) read j r = read
+is_plain (Shifting w o to left count) read j r = read
+is_plain (Dividing w part signed to left right) read j r = read
 is_plain o read j r = tt
 
 -- and one that does ends its block
 is_end : (o : Operation) (count : ℕ) → (is_jump o ≡ true) ⊎ (is_return o ≡ true) → wanted_by o ≤ count → IsEnd o count
 is_end GoTo count e w = omega arith
 is_end (BranchIf v) count e w = omega arith
-is_end (BranchIfHolds c left right) count e w = omega arith
+is_end (BranchIfHolds width c left right) count e w = omega arith
 is_end (GiveBack v) count e w = tt
 is_end o count e w = absurd (elim e [ inl j ↦ cc | inr r ↦ cc ])
 

@@ -4,10 +4,7 @@ use Rattle.std.proofs.Common.{subst, arith, nat_eq, lt-ltb, le-ltb, eq-eqb}
 use Rattle.std.specs.Prelude.{slice_index, option_map, filter, All}
 use Rattle.std.specs.List.{AllByRecursion}
 use Rattle.std.proofs.lemmas.List.Elements.{All-map, All-filter, recursion_from_All}
-use Rattle.regalloc2_names.specs.declared.RegClass.TheVariants.{Int}
-use Rattle.regalloc2_names.specs.declared.sets.PRegSet.{PRegSet}
 use Rattle.regalloc2_names.specs.Register.{Register, VirtualRegister}
-use Rattle.regalloc2_names.specs.RegisterSet.{has_register}
 use Rattle.regalloc2_names.specs.Operand.{OperandValue, is_reading}
 use Rattle.regalloc2_names.specs.Place.{Place}
 use Rattle.regalloc2_function.specs.FunctionValue.{FunctionValue, block_at, inst_at}
@@ -17,17 +14,17 @@ use Rattle.regalloc2_function.specs.Listing.{ListedInst, listing_from}
 use Rattle.regalloc2_function.specs.AllocatedRun.{moves_at}
 use Rattle.regalloc2_semantics.specs.Values.Interpreters.{History, State, read_by, is_late_use, edge_to, numbers_moved, disturbed, written_to, numbers_clobbered}
 use Rattle.codegen_machine.specs.Ir.Numbers.{Returned, Trapped}
-use Rattle.codegen_machine.specs.Ir.Operands.{is_lost_in, operands_of}
+use Rattle.codegen_machine.specs.Ir.Operands.{is_lost_in}
 use Rattle.codegen_machine.specs.declared.ir.operation.Operation.{Operation}
 use Rattle.codegen_machine.specs.declared.ir.operation.Operation.TheVariants.{Divide as Dividing}
 use Rattle.codegen_machine.specs.declared.Instruction.{Instruction}
 use Rattle.codegen_machine.specs.Machine.{CodeValue, MachineState, machine_run}
 use Rattle.codegen.specs.Emitted.{operation_at, operation_code, items_code, block_code, block_start}
 use Rattle.codegen.proofs.Premise.{CanMove, IsPlain, IsEnd, IsEmitted}
-use Rattle.codegen.proofs.Choices.{Choice, source_reads, found_by, found_reads, place_after, place_next, ReadAlike}
+use Rattle.codegen.proofs.Choices.{Choice, found_by, found_reads, place_after, place_next, ReadAlike}
 use Rattle.codegen.proofs.Runs.{Comes, comes_on, ends_then}
 use Rattle.codegen.proofs.Stands.{StandAt, block_stands}
-use Rattle.codegen.proofs.Places.{Agree, register_place, Moved, moves_run}
+use Rattle.codegen.proofs.Places.{Agree, Moved, moves_run}
 use Rattle.codegen.proofs.Steps.{value_of, way_of, chosen, leaves_of, traps_of, undisturbed, reads_at, writes_at, Done, Left, last_leaves}
 use Rattle.codegen.proofs.Divisions.{unclobbered, IsKept, is_kept, plain_leaves, plain_traps}
 
@@ -47,7 +44,7 @@ module _ (f : FunctionValue) (ops : List Operation) (out : OutputValue) (start :
     pub begins : (block_at f d.at.block).range.first ≤ d.at.inst
     pub ends : d.at.inst + suc left ≡ (block_at f d.at.block).range.end
     pub stands : StandAt start code.instructions s.pc
-        (items_code ops out (block_at f d.at.block).succs (listing_from out (block_at f d.at.block).range.first d.at.inst (suc left)))
+        (items_code ops out (block_at f d.at.block).succs (d.at.block + 1) (listing_from out (block_at f d.at.block).range.first d.at.inst (suc left)))
     pub agree : Agree s.registers s.frame d.numbers
 
   -- if the machine is at the start of a block with the interpreter's numbers, it is at the boundary of the block's first instruction
@@ -62,8 +59,9 @@ module _ (f : FunctionValue) (ops : List Operation) (out : OutputValue) (start :
       let here : StandAt start code.instructions (block_start ops out f b) (block_code ops out f b) =
       block_stands f ops out start code.instructions (length f.blocks) ok.instructions b lt in
       let whole : StandAt start code.instructions (block_start ops out f b)
-      (items_code ops out (block_at f b).succs (listing_from out first first (suc (end - first - 1)))) =
-      subst (λ (k : ℕ). StandAt start code.instructions (block_start ops out f b) (items_code ops out (block_at f b).succs (listing_from out first first k)))
+      (items_code ops out (block_at f b).succs (b + 1) (listing_from out first first (suc (end - first - 1)))) =
+      subst (λ (k : ℕ). StandAt start code.instructions (block_start ops out f b)
+      (items_code ops out (block_at f b).succs (b + 1) (listing_from out first first k)))
       n here in
       record {
         left = end - first - 1;
@@ -71,7 +69,7 @@ module _ (f : FunctionValue) (ops : List Operation) (out : OutputValue) (start :
         begins = omega arith;
         ends = omega arith;
         stands = subst (λ (p : ℕ). StandAt start code.instructions p
-            (items_code ops out (block_at f b).succs (listing_from out first first (suc (end - first - 1))))) (sym at) whole;
+            (items_code ops out (block_at f b).succs (b + 1) (listing_from out first first (suc (end - first - 1))))) (sym at) whole;
         agree = a;
       }
 
@@ -100,7 +98,7 @@ module _ (f : FunctionValue) (ops : List Operation) (out : OutputValue) (start :
 
   -- the code after the instruction, if that many others are left
   abbrev behind : State Place → ℕ → List Instruction
-  behind d n = items_code ops out (succs_of d) (listing_from out (block_at f d.at.block).range.first (d.at.inst + 1) n)
+  behind d n = items_code ops out (succs_of d) (d.at.block + 1) (listing_from out (block_at f d.at.block).range.first (d.at.inst + 1) n)
 
   -- the state after a step, by the edge or fall-through that it follows
   abbrev state_on : State Place → Way → State Place
@@ -147,7 +145,7 @@ module _ (f : FunctionValue) (ops : List Operation) (out : OutputValue) (start :
 
     -- a block's last operation clobbers nothing
     end_clobbers : (o : Operation) (count : ℕ) → IsEnd o count → (r : Register) → is_lost_in o r ≡ false
-    end_clobbers (Dividing part signed to left right) count end r = absurd end
+    end_clobbers (Dividing w part signed to left right) count end r = absurd end
     end_clobbers o count end r = refl
 
     agree_written : (d : State Place) → d.at.inst < length f.insts → IsEnd (op_of d) (length (succs_of d)) → (registers frame : ℕ → ℕ) →
@@ -176,20 +174,21 @@ module _ (f : FunctionValue) (ops : List Operation) (out : OutputValue) (start :
 
     -- the machine after the moves
     through : (d : State Place) (s : MachineState) (at : At f ops out start code d s) →
-        Moved ops out (succs_of d) args start code s (after_moves d)
+        Moved ops out (succs_of d) (d.at.block + 1) args start code s (after_moves d)
         (ListedInst d.at.inst ∷ listing_from out (block_at f d.at.block).range.first (d.at.inst + 1) at.left)
     unfolding listing_from
     through d s at =
-        moves_run ops out (succs_of d) args start code (moves_at f out d.at)
+        moves_run ops out (succs_of d) (d.at.block + 1) args start code (moves_at f out d.at)
         (ListedInst d.at.inst ∷ listing_from out (block_at f d.at.block).range.first (d.at.inst + 1) at.left) s d.numbers
         (can_move_before code.slots (block_at f d.at.block).range.first d.at.inst out.edits ok.moves) at.agree at.stands
 
     -- the code after the moves
     stands_there : (d : State Place) (s : MachineState) (at : At f ops out start code d s) (n : ℕ) → at.left ≡ n →
-        StandAt start code.instructions (through d s at).to.pc (operation_code (op_of d) (places_of d) (succs_of d) ++ behind d n)
+        StandAt start code.instructions (through d s at).to.pc (operation_code (op_of d) (places_of d) (succs_of d) (d.at.block + 1) ++ behind d n)
     unfolding items_code
     stands_there d s at n e =
-        subst (λ (k : ℕ). StandAt start code.instructions (through d s at).to.pc (operation_code (op_of d) (places_of d) (succs_of d) ++ behind d k))
+        subst (λ (k : ℕ). StandAt start code.instructions (through d s at).to.pc
+        (operation_code (op_of d) (places_of d) (succs_of d) (d.at.block + 1) ++ behind d k))
         e (through d s at).stands
 
     -- an operation inside a block
@@ -202,7 +201,8 @@ module _ (f : FunctionValue) (ops : List Operation) (out : OutputValue) (start :
         let done : Done args start code (succs_of d) (behind d (suc n)) (through d s at).to
         (numbers_clobbered (inst_at f d.at.inst).clobbers (leaves_of (op_of d) (reads_at (op_of d) (places_of d) (after_moves d)))
         (writes_at args (op_of d) (places_of d) (after_moves d))) =
-        plain_leaves args start code (succs_of d) (behind d (suc n)) (op_of d) (inst_at f d.at.inst).clobbers (through d s at).to (places_of d) (after_moves d)
+        plain_leaves args start code (succs_of d) (behind d (suc n)) (d.at.block + 1) (op_of d) (inst_at f d.at.inst).clobbers (through d s at).to
+        (places_of d) (after_moves d)
         plain (ok.placed d.at.inst lt) (ok.clobbers d.at.inst lt) (kept c d r lt plain)
         (subst (λ (xs : List ℕ). traps_of (op_of d) xs ≡ false) (reads d lt) calm) (through d s at).agree (stands_there d s at (suc n) e) in
         let comes : Comes code args 1 s done.to = comes_on code args 0 1 1 s (through d s at).to done.to (omega arith) (through d s at).comes done.comes in
@@ -239,7 +239,7 @@ module _ (f : FunctionValue) (ops : List Operation) (out : OutputValue) (start :
         let l : Left args start code (succs_of d) (behind d 0) (through d s at).to (reads_at (op_of d) (places_of d) (after_moves d))
         (writes_at args (op_of d) (places_of d) (after_moves d))
         (edge_to (length (succs_of d)) (way_of (op_of d) (reads_at (op_of d) (places_of d) (after_moves d)))) =
-        last_leaves args start code (succs_of d) (behind d 0) (op_of d) (through d s at).to (places_of d) (after_moves d)
+        last_leaves args start code (succs_of d) (behind d 0) (d.at.block + 1) (op_of d) (through d s at).to (places_of d) (after_moves d)
         (ok.ends d.at.block d.at.inst at.block at.begins last) (ok.placed d.at.inst lt) (through d s at).agree (stands_there d s at 0 e) in
         let follows : Follows d s (option_map (state_on d)
         (edge_to (length (succs_of d)) (way_of (op_of d) (found_reads f out stir d)))) =
@@ -264,7 +264,7 @@ module _ (f : FunctionValue) (ops : List Operation) (out : OutputValue) (start :
         pick (suc n) e = plain_follows c d s at r calm n e
 
     end_calm : (o : Operation) (count : ℕ) (xs : List ℕ) → IsEnd o count → traps_of o xs ≡ true → ⊥
-    end_calm (Dividing part signed to left right) count xs end traps = end
+    end_calm (Dividing w part signed to left right) count xs end traps = end
     end_calm o count xs end traps = cc
 
     -- and one that traps is a trap of the machine
@@ -281,7 +281,8 @@ module _ (f : FunctionValue) (ops : List Operation) (out : OutputValue) (start :
             let more : d.at.inst + 1 < (block_at f d.at.block).range.end = omega (arith, at.ends, e) in
             let plain : IsPlain (op_of d) = ok.plain d.at.block d.at.inst at.block at.begins more in
             let t : (j : ℕ) × (machine_run code args j (through d s at).to ≡ Trapped) =
-            plain_traps args start code (succs_of d) (behind d (suc n)) (op_of d) (inst_at f d.at.inst).clobbers (through d s at).to (places_of d) (after_moves d)
+            plain_traps args start code (succs_of d) (behind d (suc n)) (d.at.block + 1) (op_of d) (inst_at f d.at.inst).clobbers (through d s at).to
+            (places_of d) (after_moves d)
             plain (ok.placed d.at.inst lt) (ok.clobbers d.at.inst lt) (kept c d r lt plain)
             (subst (λ (xs : List ℕ). traps_of (op_of d) xs ≡ true) (reads d lt) traps) (through d s at).agree (stands_there d s at (suc n) e) in
             ends_then code args 0 t.0 s (through d s at).to Trapped (through d s at).comes t.1

@@ -9,7 +9,7 @@ use Rattle.regalloc2_function.specs.FunctionValue.{FunctionValue, block_at}
 use Rattle.regalloc2_function.specs.OutputValue.{OutputValue}
 use Rattle.regalloc2_function.specs.Path.{Way, Onward, ToSuccessor, next_of}
 use Rattle.regalloc2_semantics.specs.Values.Interpreters.{History, State, read_by, edge_to, way_on, numbers_defined, passed_over}
-use Rattle.codegen_machine.specs.Ir.Numbers.{RunOutcome, Running, Returned, Trapped, Stuck, shifted, divided, division_traps, condition_holds}
+use Rattle.codegen_machine.specs.Ir.Numbers.{RunOutcome, Running, Returned, Trapped, Stuck, shifted_at, divided_at, division_traps, condition_holds, widened}
 use Rattle.codegen_machine.specs.Ir.Operands.{divide_operands, operands_of}
 use Rattle.codegen_machine.specs.Ir.Meaning.{ProcedureState, onward, entered, along, done, procedure_step}
 use Rattle.codegen_machine.specs.declared.ir.operation.Operation.{Operation}
@@ -75,33 +75,34 @@ module _ (f : FunctionValue) (args : ℕ → ℕ) where
   plain_goes (TakeArgument to k) c plain calm = refl
   plain_goes (TakeConstant to n) c plain calm = refl
   plain_goes (Copy to from) c plain calm = refl
-  plain_goes (Computation o to left (VReg v)) c plain calm = refl
-  plain_goes (Computation o to left (Given n)) c plain calm = refl
-  plain_goes (Shifting o to left (CountIn v)) c plain calm =
+  plain_goes (Computation w o to left (VReg v)) c plain calm = refl
+  plain_goes (Computation w o to left (Given n)) c plain calm = refl
+  plain_goes (Shifting w o to left (CountIn v)) c plain calm =
       let x : ℕ = c.numbers left in
       let n : ℕ = c.numbers v in
-      subst (λ (b : Bool). onward (seen c) to (shifted o x n) ≡ onward (seen c) to (shifted o x (slice_index (x ∷ cond (not b) (n ∷ []) []) 1))) (sym plain)
+      subst (λ (b : Bool). onward (seen c) to (shifted_at w o x n)
+      ≡ onward (seen c) to (shifted_at w o x (slice_index (x ∷ cond (not b) (n ∷ []) []) 1))) (sym plain)
       refl
-  plain_goes (Shifting o to left (CountOf n)) c plain calm = refl
-  plain_goes (Dividing part signed to left right) c plain calm =
-      let o : Operation = Dividing part signed to left right in
-      subst (λ (xs : List ℕ). division_traps signed (slice_index xs 0) (slice_index xs 1) ≡ false →
-      done f args (Some o) (seen c) ≡ onward (seen c) to (divided part signed (slice_index xs 0) (slice_index xs 1)))
+  plain_goes (Shifting w o to left (CountOf n)) c plain calm = refl
+  plain_goes (Dividing w part signed to left right) c plain calm =
+      let o : Operation = Dividing w part signed to left right in
+      subst (λ (xs : List ℕ). division_traps w signed (slice_index xs 0) (slice_index xs 1) ≡ false →
+      done f args (Some o) (seen c) ≡ onward (seen c) to (divided_at w part signed (slice_index xs 0) (slice_index xs 1)))
       (sym (divide_reads part to left right c.numbers plain.1))
-      (λ so. ap (λ (b : Bool). cond b Trapped (onward (seen c) to (divided part signed (c.numbers left) (c.numbers right)))) so) calm
-  plain_goes (Comparison o to left (VReg v)) c plain calm = refl
-  plain_goes (Comparison o to left (Given n)) c plain calm = refl
+      (λ so. ap (λ (b : Bool). cond b Trapped (onward (seen c) to (divided_at w part signed (c.numbers left) (c.numbers right)))) so) calm
+  plain_goes (Comparison w o to left (VReg v)) c plain calm = refl
+  plain_goes (Comparison w o to left (Given n)) c plain calm = refl
   plain_goes (Select to test one other) c plain calm = refl
   plain_goes o c plain calm = absurd plain
 
   -- and one that traps
   plain_traps : (o : Operation) (c : State VirtualRegister) → IsPlain o → traps_of o (reads_of (operands_of o) c.numbers) ≡ true →
       done f args (Some o) (seen c) ≡ Trapped
-  plain_traps (Dividing part signed to left right) c plain traps =
-      let o : Operation = Dividing part signed to left right in
-      subst (λ (xs : List ℕ). division_traps signed (slice_index xs 0) (slice_index xs 1) ≡ true → done f args (Some o) (seen c) ≡ Trapped)
+  plain_traps (Dividing w part signed to left right) c plain traps =
+      let o : Operation = Dividing w part signed to left right in
+      subst (λ (xs : List ℕ). division_traps w signed (slice_index xs 0) (slice_index xs 1) ≡ true → done f args (Some o) (seen c) ≡ Trapped)
       (sym (divide_reads part to left right c.numbers plain.1))
-      (λ so. ap (λ (b : Bool). cond b Trapped (onward (seen c) to (divided part signed (c.numbers left) (c.numbers right)))) so) traps
+      (λ so. ap (λ (b : Bool). cond b Trapped (onward (seen c) to (divided_at w part signed (c.numbers left) (c.numbers right)))) so) traps
   plain_traps o c plain traps = absurd cc
 
   -- an edge
@@ -129,13 +130,13 @@ module _ (f : FunctionValue) (args : ℕ → ℕ) where
   last_goes (BranchIf v) c end =
       edge_goes (c.numbers v ∷ []) c ((c.at.inst, c.numbers v ∷ []) ∷ c.history) (cond (nat_eq (c.numbers v) 0) 1 0)
       (which (nat_eq (c.numbers v) 0) 1 0 (length (block_at f c.at.block).succs) end (omega arith))
-  last_goes (BranchIfHolds o left (VReg v)) c end =
+  last_goes (BranchIfHolds w o left (VReg v)) c end =
       edge_goes (c.numbers left ∷ c.numbers v ∷ []) c ((c.at.inst, c.numbers left ∷ c.numbers v ∷ []) ∷ c.history)
-      (cond (condition_holds o (c.numbers left) (c.numbers v)) 0 1)
-      (which (condition_holds o (c.numbers left) (c.numbers v)) 0 1 (length (block_at f c.at.block).succs) (omega arith) end)
-  last_goes (BranchIfHolds o left (Given n)) c end =
-      edge_goes (c.numbers left ∷ []) c ((c.at.inst, c.numbers left ∷ []) ∷ c.history) (cond (condition_holds o (c.numbers left) n) 0 1)
-      (which (condition_holds o (c.numbers left) n) 0 1 (length (block_at f c.at.block).succs) (omega arith) end)
+      (cond (condition_holds o (widened w (c.numbers left)) (widened w (c.numbers v))) 0 1)
+      (which (condition_holds o (widened w (c.numbers left)) (widened w (c.numbers v))) 0 1 (length (block_at f c.at.block).succs) (omega arith) end)
+  last_goes (BranchIfHolds w o left (Given n)) c end =
+      edge_goes (c.numbers left ∷ []) c ((c.at.inst, c.numbers left ∷ []) ∷ c.history) (cond (condition_holds o (widened w (c.numbers left)) (widened w n)) 0 1)
+      (which (condition_holds o (widened w (c.numbers left)) (widened w n)) 0 1 (length (block_at f c.at.block).succs) (omega arith) end)
   last_goes (GiveBack v) c end = refl
   last_goes o c end = absurd end
 
@@ -187,7 +188,7 @@ module _ (f : FunctionValue) (args : ℕ → ℕ) where
           goes_on (operation_at ops c.at.inst) c (ok.plain c.at.block c.at.inst block begins more) calm more
 
   end_calm : (o : Operation) (count : ℕ) (xs : List ℕ) → IsEnd o count → traps_of o xs ≡ true → ⊥
-  end_calm (Dividing part signed to left right) count xs end traps = end
+  end_calm (Dividing w part signed to left right) count xs end traps = end
   end_calm o count xs end traps = cc
 
   -- a step of the procedure that traps

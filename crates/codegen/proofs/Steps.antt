@@ -1,18 +1,23 @@
 -- One operation: its emitted code does to the machine what the operation does to places.
 use Rattle.std.proofs.Common.{ℕ, ◌≡◌, ◌+◌, ◌<◌, Bool, true, false, cond, not, List, [], ◌∷◌, ◌++◌, length, Option, Some, None, refl, sym, ap, ◌∙◌, subst}
-use Rattle.std.proofs.Common.{arith, nat_eq, lt-ltb, eqb-true}
-use Rattle.std.specs.Prelude.{slice_get, slice_index}
+use Rattle.std.proofs.Common.{arith, nat_eq, lt-ltb, le-ltb, eqb-true, ⊎_elim}
+use Rattle.std.specs.Prelude.{nat_lt, nat_le, slice_get, slice_index}
+use Rattle.std.proofs.Math.Bool.{not-not}
+use Rattle.std.proofs.lemmas.Bool.Decides.{leb_tells}
 use Rattle.regalloc2_names.specs.Operand.{is_reading}
 use Rattle.regalloc2_names.specs.Place.{Place, NoPlace, InRegister, InSlot}
 use Rattle.regalloc2_function.specs.OutputValue.{place_at}
 use Rattle.regalloc2_function.specs.Path.{Way, Onward, ToSuccessor}
 use Rattle.regalloc2_semantics.specs.Values.Interpreters.{read_by, place_set, written_to, disturbed, edge_to}
-use Rattle.codegen_machine.specs.Ir.Numbers.{RunOutcome, Running, Returned, computed, shifted, divided, division_traps, condition_holds, truth}
+use Rattle.codegen_machine.specs.Ir.Numbers.{RunOutcome, Running, Returned, computed_at, shifted_at, divided_at, division_traps}
+use Rattle.codegen_machine.specs.Ir.Numbers.{condition_holds, signed_rank, widened, truth}
 use Rattle.codegen_machine.specs.Ir.Operands.{operands_of}
+use Rattle.codegen_machine.specs.declared.ir.operation.Width.{Width}
 use Rattle.codegen_machine.specs.declared.ir.operation.Operator.{Operator}
 use Rattle.codegen_machine.specs.declared.ir.operation.ShiftOperator.{ShiftOperator}
 use Rattle.codegen_machine.specs.declared.ir.operation.Condition.{Condition}
-use Rattle.codegen_machine.specs.declared.ir.operation.Condition.TheVariants.{Equal, NotEqual}
+use Rattle.codegen_machine.specs.declared.ir.operation.Condition.TheVariants.{Equal, NotEqual, Less, LessOrEqual, Greater, GreaterOrEqual}
+use Rattle.codegen_machine.specs.declared.ir.operation.Condition.TheVariants.{SignedLess, SignedLessOrEqual, SignedGreater, SignedGreaterOrEqual}
 use Rattle.codegen_machine.specs.declared.ir.operation.Operation.{Operation}
 use Rattle.codegen_machine.specs.declared.ir.operation.Operation.TheVariants.{Argument as TakeArgument, Constant as TakeConstant, Copy, Compute as Computation}
 use Rattle.codegen_machine.specs.declared.ir.operation.Operation.TheVariants.{Shift as Shifting, Divide as Dividing, Compare as Comparison, Select, Jump as GoTo, BranchIf}
@@ -29,7 +34,7 @@ use Rattle.codegen_machine.specs.declared.Instruction.TheVariants.{Constant, Cle
 use Rattle.codegen_machine.specs.declared.Instruction.TheVariants.{Return}
 use Rattle.codegen_machine.specs.Machine.{CodeValue, MachineState, is_general, with_register, with_source, written, compared_to, jumped, executed, machine_run}
 use Rattle.codegen.specs.Emitted.{register_of, source_of, right_source, fetched, constant_code, branch_code, branch_if_code, compare_code, select_code}
-use Rattle.codegen.specs.Emitted.{shift_code, resolved, operation_at, operation_code}
+use Rattle.codegen.specs.Emitted.{opposite, shift_code, resolved, operation_code}
 use Rattle.codegen.proofs.Premise.{IsGeneral, IsHere, IsRightHere, IsCountHere, IsPlaced, IsPlain, IsEnd}
 use Rattle.codegen.proofs.Choices.{Choice}
 use Rattle.codegen.proofs.Runs.{Comes, comes_by, comes_on, ends_by, ends_then}
@@ -51,10 +56,10 @@ abbrev pub value_of : (ℕ → ℕ) → Operation → List ℕ → ℕ
 value_of args (TakeArgument to k) xs = args k
 value_of args (TakeConstant to n) xs = n
 value_of args (Copy to from) xs = slice_index xs 0
-value_of args (Computation o to left right) xs = computed o (slice_index xs 0) (right_read right (slice_index xs 1))
-value_of args (Shifting o to left count) xs = shifted o (slice_index xs 0) (count_read count (slice_index xs 1))
-value_of args (Dividing part signed to left right) xs = divided part signed (slice_index xs 0) (slice_index xs 1)
-value_of args (Comparison c to left right) xs = truth (condition_holds c (slice_index xs 0) (right_read right (slice_index xs 1)))
+value_of args (Computation w o to left right) xs = computed_at w o (slice_index xs 0) (right_read right (slice_index xs 1))
+value_of args (Shifting w o to left count) xs = shifted_at w o (slice_index xs 0) (count_read count (slice_index xs 1))
+value_of args (Dividing w part signed to left right) xs = divided_at w part signed (slice_index xs 0) (slice_index xs 1)
+value_of args (Comparison w c to left right) xs = truth (condition_holds c (widened w (slice_index xs 0)) (widened w (right_read right (slice_index xs 1))))
 value_of args (Select to c one other) xs = cond (nat_eq (slice_index xs 2) 0) (slice_index xs 1) (slice_index xs 0)
 value_of args o xs = 0
 
@@ -62,7 +67,7 @@ value_of args o xs = 0
 abbrev pub way_of : Operation → List ℕ → Option ℕ
 way_of GoTo xs = Some 0
 way_of (BranchIf v) xs = Some (cond (nat_eq (slice_index xs 0) 0) 1 0)
-way_of (BranchIfHolds c left right) xs = Some (cond (condition_holds c (slice_index xs 0) (right_read right (slice_index xs 1))) 0 1)
+way_of (BranchIfHolds w c left right) xs = Some (cond (condition_holds c (widened w (slice_index xs 0)) (widened w (right_read right (slice_index xs 1)))) 0 1)
 way_of o xs = None
 
 -- the other result of a division
@@ -72,12 +77,12 @@ other_part Remainder = Quotient
 
 -- the number that an operation leaves in the registers that it clobbers
 abbrev pub leaves_of : Operation → List ℕ → Place → ℕ
-leaves_of (Dividing part signed to left right) xs p = divided (other_part part) signed (slice_index xs 0) (slice_index xs 1)
+leaves_of (Dividing w part signed to left right) xs p = divided_at w (other_part part) signed (slice_index xs 0) (slice_index xs 1)
 leaves_of o xs p = 0
 
 -- whether it traps
 abbrev pub traps_of : Operation → List ℕ → Bool
-traps_of (Dividing part signed to left right) xs = division_traps signed (slice_index xs 0) (slice_index xs 1)
+traps_of (Dividing w part signed to left right) xs = division_traps w signed (slice_index xs 0) (slice_index xs 1)
 traps_of o xs = false
 
 -- the effect of an operation, by what it reads
@@ -90,18 +95,18 @@ unfolding disturbed
 undisturbed (TakeArgument to k) noise ps numbers = refl
 undisturbed (TakeConstant to n) noise ps numbers = refl
 undisturbed (Copy to from) noise ps numbers = refl
-undisturbed (Computation o to left (VReg v)) noise ps numbers = refl
-undisturbed (Computation o to left (Given n)) noise ps numbers = refl
-undisturbed (Shifting o to left (CountIn v)) noise ps numbers = refl
-undisturbed (Shifting o to left (CountOf n)) noise ps numbers = refl
-undisturbed (Dividing part signed to left right) noise ps numbers = refl
-undisturbed (Comparison c to left (VReg v)) noise ps numbers = refl
-undisturbed (Comparison c to left (Given n)) noise ps numbers = refl
+undisturbed (Computation w o to left (VReg v)) noise ps numbers = refl
+undisturbed (Computation w o to left (Given n)) noise ps numbers = refl
+undisturbed (Shifting w o to left (CountIn v)) noise ps numbers = refl
+undisturbed (Shifting w o to left (CountOf n)) noise ps numbers = refl
+undisturbed (Dividing w part signed to left right) noise ps numbers = refl
+undisturbed (Comparison w c to left (VReg v)) noise ps numbers = refl
+undisturbed (Comparison w c to left (Given n)) noise ps numbers = refl
 undisturbed (Select to c one other) noise ps numbers = refl
 undisturbed GoTo noise ps numbers = refl
 undisturbed (BranchIf v) noise ps numbers = refl
-undisturbed (BranchIfHolds c left (VReg v)) noise ps numbers = refl
-undisturbed (BranchIfHolds c left (Given n)) noise ps numbers = refl
+undisturbed (BranchIfHolds w c left (VReg v)) noise ps numbers = refl
+undisturbed (BranchIfHolds w c left (Given n)) noise ps numbers = refl
 undisturbed (GiveBack v) noise ps numbers = refl
 
 -- what an operation reads in its places
@@ -114,7 +119,7 @@ writes_at args o ps numbers = written_to (λ k. value_of args o (reads_at o ps n
 
 -- an operation that continues at the next line and clobbers nothing
 abbrev pub IsSimple : Operation → Type 0
-IsSimple (Dividing part signed to left right) = ⊥
+IsSimple (Dividing w part signed to left right) = ⊥
 IsSimple o = IsPlain o
 
 -- the state after numbers have been compared
@@ -124,6 +129,25 @@ compared_state s a b = record { pc = s.pc + 1; registers = s.registers; frame = 
 -- and after a jump
 abbrev pub jump_state : MachineState → ℕ → MachineState
 jump_state s target = record { pc = target; registers = s.registers; frame = s.frame; compared = s.compared }
+
+at_least : (a b : ℕ) → nat_le b a ≡ not (nat_lt a b)
+at_least a b = ⊎_elim (λ t. t.0 ∙ sym (ap not (le-ltb a b t.1))) (λ t. t.0 ∙ sym (ap not (lt-ltb a b t.1))) (leb_tells b a)
+
+above : (a b : ℕ) → nat_lt b a ≡ not (nat_le a b)
+above a b = ⊎_elim (λ t. le-ltb b a t.1 ∙ sym (ap not t.0)) (λ t. lt-ltb b a t.1 ∙ sym (ap not t.0)) (leb_tells a b)
+
+-- the opposite condition holds exactly if the condition doesn't
+opposite_holds : (c : Condition) (x y : ℕ) → condition_holds (opposite c) x y ≡ not (condition_holds c x y)
+opposite_holds Equal x y = refl
+opposite_holds NotEqual x y = sym (not-not (nat_eq x y))
+opposite_holds Less x y = at_least x y
+opposite_holds LessOrEqual x y = above x y
+opposite_holds Greater x y = at_least y x
+opposite_holds GreaterOrEqual x y = above y x
+opposite_holds SignedLess x y = at_least (signed_rank x) (signed_rank y)
+opposite_holds SignedLessOrEqual x y = above (signed_rank x) (signed_rank y)
+opposite_holds SignedGreater x y = at_least (signed_rank y) (signed_rank x)
+opposite_holds SignedGreaterOrEqual x y = above (signed_rank y) (signed_rank x)
 
 module _ (args : ℕ → ℕ) (starts : ℕ → ℕ) (code : CodeValue) (succs : List ℕ) (rest : List Instruction) where
   -- the machine has executed an operation, up to the code after it
@@ -151,44 +175,46 @@ module _ (args : ℕ → ℕ) (starts : ℕ → ℕ) (code : CodeValue) (succs :
   reads_right (VReg v) s numbers r h a go = reads_source code.slots s numbers a r h go
   reads_right (Given n) s numbers r h a go = refl
 
-  compute_done : (o : Operator) (right : Right) (s : MachineState) (numbers : Place → ℕ) (p q r : Place) → IsGeneral p → p ≡ q →
+  compute_done : (w : Width) (o : Operator) (right : Right) (s : MachineState) (numbers : Place → ℕ) (p q r : Place) → IsGeneral p → p ≡ q →
       IsRightHere code.slots right r →
       Agree s.registers s.frame numbers →
-      StandAt starts code.instructions s.pc (Compute o (register_of p) (right_source right r) ∷ rest) →
-      Done s (place_set numbers p (computed o (numbers q) (right_read right (numbers r))))
-  compute_done o right s numbers p q r hp e hr a h =
+      StandAt starts code.instructions s.pc (Compute w o (register_of p) (right_source right r) ∷ rest) →
+      Done s (place_set numbers p (computed_at w o (numbers q) (right_read right (numbers r))))
+  compute_done w o right s numbers p q r hp e hr a h =
       let y : ℕ = right_read right (numbers r) in
-      by_one (Compute o (register_of p) (right_source right r)) s None numbers p (computed o (numbers q) y) hp a
-      (reads_register s numbers a p hp (λ x. with_source code.slots s (right_source right r) (λ y. written s (register_of p) (computed o x y) None))
-      ∙ reads_right right s numbers r hr a (λ y. written s (register_of p) (computed o (numbers p) y) None)
-      ∙ writes_place s p (computed o (numbers p) y) None hp
-      ∙ ap (λ (x : Place). Running (wrote s (register_of p) (computed o (numbers x) y) None)) e) h
+      by_one (Compute w o (register_of p) (right_source right r)) s None numbers p (computed_at w o (numbers q) y) hp a
+      (reads_register s numbers a p hp (λ x. with_source code.slots s (right_source right r) (λ y. written s (register_of p) (computed_at w o x y) None))
+      ∙ reads_right right s numbers r hr a (λ y. written s (register_of p) (computed_at w o (numbers p) y) None)
+      ∙ writes_place s p (computed_at w o (numbers p) y) None hp
+      ∙ ap (λ (x : Place). Running (wrote s (register_of p) (computed_at w o (numbers x) y) None)) e) h
 
-  shift_done : (o : ShiftOperator) (count : Count) (s : MachineState) (numbers : Place → ℕ) (p q r : Place) → IsGeneral p → p ≡ q → IsCountHere count r →
-      Agree s.registers s.frame numbers → StandAt starts code.instructions s.pc (shift_code o count (register_of p) ∷ rest) →
-      Done s (place_set numbers p (shifted o (numbers q) (count_read count (numbers r))))
-  shift_done o (CountIn v) s numbers p q r hp e hr a h =
-      by_one (Shift o (register_of p)) s None numbers p (shifted o (numbers q) (numbers r)) hp a
-      (reads_register s numbers a p hp (λ x. with_register s 1 (λ n. written s (register_of p) (shifted o x n) None))
-      ∙ ap (λ (k : ℕ). with_register s k (λ n. written s (register_of p) (shifted o (numbers p) n) None)) (sym hr.1)
-      ∙ reads_register s numbers a r hr.0 (λ n. written s (register_of p) (shifted o (numbers p) n) None)
-      ∙ writes_place s p (shifted o (numbers p) (numbers r)) None hp
-      ∙ ap (λ (x : Place). Running (wrote s (register_of p) (shifted o (numbers x) (numbers r)) None)) e) h
-  shift_done o (CountOf n) s numbers p q r hp e hr a h =
-      by_one (ShiftBy o (register_of p) n) s None numbers p (shifted o (numbers q) n) hp a
-      (reads_register s numbers a p hp (λ x. written s (register_of p) (shifted o x n) None)
-      ∙ writes_place s p (shifted o (numbers p) n) None hp
-      ∙ ap (λ (x : Place). Running (wrote s (register_of p) (shifted o (numbers x) n) None)) e) h
+  shift_done : (w : Width) (o : ShiftOperator) (count : Count) (s : MachineState) (numbers : Place → ℕ) (p q r : Place) →
+      IsGeneral p → p ≡ q → IsCountHere count r →
+      Agree s.registers s.frame numbers → StandAt starts code.instructions s.pc (shift_code w o count (register_of p) ∷ rest) →
+      Done s (place_set numbers p (shifted_at w o (numbers q) (count_read count (numbers r))))
+  shift_done w o (CountIn v) s numbers p q r hp e hr a h =
+      by_one (Shift w o (register_of p)) s None numbers p (shifted_at w o (numbers q) (numbers r)) hp a
+      (reads_register s numbers a p hp (λ x. with_register s 1 (λ n. written s (register_of p) (shifted_at w o x n) None))
+      ∙ ap (λ (k : ℕ). with_register s k (λ n. written s (register_of p) (shifted_at w o (numbers p) n) None)) (sym hr.1)
+      ∙ reads_register s numbers a r hr.0 (λ n. written s (register_of p) (shifted_at w o (numbers p) n) None)
+      ∙ writes_place s p (shifted_at w o (numbers p) (numbers r)) None hp
+      ∙ ap (λ (x : Place). Running (wrote s (register_of p) (shifted_at w o (numbers x) (numbers r)) None)) e) h
+  shift_done w o (CountOf n) s numbers p q r hp e hr a h =
+      by_one (ShiftBy w o (register_of p) n) s None numbers p (shifted_at w o (numbers q) n) hp a
+      (reads_register s numbers a p hp (λ x. written s (register_of p) (shifted_at w o x n) None)
+      ∙ writes_place s p (shifted_at w o (numbers p) n) None hp
+      ∙ ap (λ (x : Place). Running (wrote s (register_of p) (shifted_at w o (numbers x) n) None)) e) h
 
   -- numbers are compared
-  compares : (right : Right) (s : MachineState) (numbers : Place → ℕ) (q r : Place) → IsGeneral q → IsRightHere code.slots right r →
+  compares : (w : Width) (right : Right) (s : MachineState) (numbers : Place → ℕ) (q r : Place) → IsGeneral q → IsRightHere code.slots right r →
       Agree s.registers s.frame numbers →
-      slice_get code.instructions s.pc ≡ Some (Compare (register_of q) (right_source right r)) →
-      Comes code args 1 s (compared_state s (numbers q) (right_read right (numbers r)))
-  compares right s numbers q r hq hr a h =
-      comes_by code args (Compare (register_of q) (right_source right r)) s (compared_state s (numbers q) (right_read right (numbers r))) h
-      (reads_register s numbers a q hq (λ x. with_source code.slots s (right_source right r) (λ y. compared_to s x y))
-      ∙ reads_right right s numbers r hr a (λ y. compared_to s (numbers q) y))
+      slice_get code.instructions s.pc ≡ Some (Compare w (register_of q) (right_source right r)) →
+      Comes code args 1 s (compared_state s (widened w (numbers q)) (widened w (right_read right (numbers r))))
+  compares w right s numbers q r hq hr a h =
+      comes_by code args (Compare w (register_of q) (right_source right r)) s
+      (compared_state s (widened w (numbers q)) (widened w (right_read right (numbers r)))) h
+      (reads_register s numbers a q hq (λ x. with_source code.slots s (right_source right r) (λ y. compared_to s (widened w x) (widened w y)))
+      ∙ reads_right right s numbers r hr a (λ y. compared_to s (widened w (numbers q)) (widened w y)))
 
   -- a number is compared to 0
   tests : (s : MachineState) (numbers : Place → ℕ) (q : Place) → IsHere code.slots q → Agree s.registers s.frame numbers →
@@ -205,16 +231,18 @@ module _ (args : ℕ → ℕ) (starts : ℕ → ℕ) (code : CodeValue) (succs :
     stands = done.stands;
   }
 
-  compare_done : (c : Condition) (right : Right) (s : MachineState) (numbers : Place → ℕ) (ps : List Place) → IsGeneral (place_at ps 0) →
+  compare_done : (w : Width) (c : Condition) (right : Right) (s : MachineState) (numbers : Place → ℕ) (ps : List Place) → IsGeneral (place_at ps 0) →
       IsGeneral (place_at ps 1) →
       IsRightHere code.slots right (place_at ps 2) → Agree s.registers s.frame numbers →
-      StandAt starts code.instructions s.pc (compare_code c right ps ++ rest) →
-      Done s (place_set numbers (place_at ps 0) (truth (condition_holds c (numbers (place_at ps 1)) (right_read right (numbers (place_at ps 2))))))
-  compare_done c right s numbers ps hp hq hr a h =
-      let x : ℕ = numbers (place_at ps 1) in
-      let y : ℕ = right_read right (numbers (place_at ps 2)) in
+      StandAt starts code.instructions s.pc (compare_code w c right ps ++ rest) →
+      Done s (place_set numbers (place_at ps 0)
+      (truth (condition_holds c (widened w (numbers (place_at ps 1))) (widened w (right_read right (numbers (place_at ps 2)))))))
+  compare_done w c right s numbers ps hp hq hr a h =
+      let x : ℕ = widened w (numbers (place_at ps 1)) in
+      let y : ℕ = widened w (right_read right (numbers (place_at ps 2))) in
       let t : MachineState = compared_state s x y in
-      done_later s t (place_set numbers (place_at ps 0) (truth (condition_holds c x y))) (compares right s numbers (place_at ps 1) (place_at ps 2) hq hr a h.0)
+      done_later s t (place_set numbers (place_at ps 0) (truth (condition_holds c x y)))
+      (compares w right s numbers (place_at ps 1) (place_at ps 2) hq hr a h.0)
       (by_one (Set (register_of (place_at ps 0)) c) t t.compared numbers (place_at ps 0) (truth (condition_holds c x y)) hp a
       (writes_place t (place_at ps 0) (truth (condition_holds c x y)) t.compared hp) h.1)
 
@@ -260,31 +288,31 @@ module _ (args : ℕ → ℕ) (starts : ℕ → ℕ) (code : CodeValue) (succs :
       general (InSlot n) h = absurd h
 
   -- an operation that continues at the next line and clobbers nothing
-  pub plain_done : (o : Operation) (s : MachineState) (ps : List Place) (numbers : Place → ℕ) → IsSimple o → IsPlaced code.slots o ps →
+  pub plain_done : (next : ℕ) (o : Operation) (s : MachineState) (ps : List Place) (numbers : Place → ℕ) → IsSimple o → IsPlaced code.slots o ps →
       Agree s.registers s.frame numbers →
-      StandAt starts code.instructions s.pc (operation_code o ps succs ++ rest) → Done s (writes_at args o ps numbers)
+      StandAt starts code.instructions s.pc (operation_code o ps succs next ++ rest) → Done s (writes_at args o ps numbers)
   unfolding written_to read_by
-  plain_done (TakeArgument to k) s ps numbers plain placed a h =
+  plain_done next (TakeArgument to k) s ps numbers plain placed a h =
       by_one (Argument (register_of (place_at ps 0)) k) s s.compared numbers (place_at ps 0) (args k) placed a
       (writes_place s (place_at ps 0) (args k) s.compared placed) h
-  plain_done (TakeConstant to n) s ps numbers plain placed a h = constant_done n s numbers (place_at ps 0) placed a h
-  plain_done (Copy to from) s ps numbers plain placed a h = copy_done s numbers (place_at ps 0) (place_at ps 1) placed.0 placed.1 a h
-  plain_done (Computation o to left (VReg v)) s ps numbers plain placed a h =
-      compute_done o (VReg v) s numbers (place_at ps 0) (place_at ps 1) (place_at ps 2) placed.0 placed.1 placed.2 a h
-  plain_done (Computation o to left (Given n)) s ps numbers plain placed a h =
-      compute_done o (Given n) s numbers (place_at ps 0) (place_at ps 1) (place_at ps 2) placed.0 placed.1 placed.2 a h
-  plain_done (Shifting o to left (CountIn v)) s ps numbers plain placed a h =
+  plain_done next (TakeConstant to n) s ps numbers plain placed a h = constant_done n s numbers (place_at ps 0) placed a h
+  plain_done next (Copy to from) s ps numbers plain placed a h = copy_done s numbers (place_at ps 0) (place_at ps 1) placed.0 placed.1 a h
+  plain_done next (Computation w o to left (VReg v)) s ps numbers plain placed a h =
+      compute_done w o (VReg v) s numbers (place_at ps 0) (place_at ps 1) (place_at ps 2) placed.0 placed.1 placed.2 a h
+  plain_done next (Computation w o to left (Given n)) s ps numbers plain placed a h =
+      compute_done w o (Given n) s numbers (place_at ps 0) (place_at ps 1) (place_at ps 2) placed.0 placed.1 placed.2 a h
+  plain_done next (Shifting w o to left (CountIn v)) s ps numbers plain placed a h =
       let p : Place = place_at ps 0 in
       let x : ℕ = numbers (place_at ps 1) in
       let n : ℕ = numbers (place_at ps 2) in
-      subst (λ (b : Bool). Done s (place_set numbers p (shifted o x (slice_index (x ∷ cond (not b) (n ∷ []) []) 1)))) (sym plain)
-      (shift_done o (CountIn v) s numbers p (place_at ps 1) (place_at ps 2) placed.0 placed.1 placed.2 a h)
-  plain_done (Shifting o to left (CountOf n)) s ps numbers plain placed a h =
-      shift_done o (CountOf n) s numbers (place_at ps 0) (place_at ps 1) (place_at ps 2) placed.0 placed.1 placed.2 a h
-  plain_done (Comparison c to left (VReg v)) s ps numbers plain placed a h = compare_done c (VReg v) s numbers ps placed.0 placed.1 placed.2 a h
-  plain_done (Comparison c to left (Given n)) s ps numbers plain placed a h = compare_done c (Given n) s numbers ps placed.0 placed.1 placed.2 a h
-  plain_done (Select to c one other) s ps numbers plain placed a h = select_done s numbers ps placed.0 placed.1 placed.2 placed.3 a h
-  plain_done o s ps numbers plain placed a h = absurd plain
+      subst (λ (b : Bool). Done s (place_set numbers p (shifted_at w o x (slice_index (x ∷ cond (not b) (n ∷ []) []) 1)))) (sym plain)
+      (shift_done w o (CountIn v) s numbers p (place_at ps 1) (place_at ps 2) placed.0 placed.1 placed.2 a h)
+  plain_done next (Shifting w o to left (CountOf n)) s ps numbers plain placed a h =
+      shift_done w o (CountOf n) s numbers (place_at ps 0) (place_at ps 1) (place_at ps 2) placed.0 placed.1 placed.2 a h
+  plain_done next (Comparison w c to left (VReg v)) s ps numbers plain placed a h = compare_done w c (VReg v) s numbers ps placed.0 placed.1 placed.2 a h
+  plain_done next (Comparison w c to left (Given n)) s ps numbers plain placed a h = compare_done w c (Given n) s numbers ps placed.0 placed.1 placed.2 a h
+  plain_done next (Select to c one other) s ps numbers plain placed a h = select_done s numbers ps placed.0 placed.1 placed.2 placed.3 a h
+  plain_done next o s ps numbers plain placed a h = absurd plain
 
   -- the machine is at the start of a block
   pub record Entered (s : MachineState) (k : ℕ) (numbers : Place → ℕ) : Type 0 where
@@ -325,47 +353,72 @@ module _ (args : ℕ → ℕ) (starts : ℕ → ℕ) (code : CodeValue) (succs :
   over_edge : (s : MachineState) (read : List ℕ) (k : ℕ) (numbers : Place → ℕ) → Entered s k numbers → Left s read numbers (edge_to (length succs) (Some k))
   over_edge s read k numbers e = subst (λ (x : Bool). Left s read numbers (cond x (Some (ToSuccessor k)) None)) (sym (lt-ltb k (length succs) e.there)) e
 
-  -- a branch, once numbers have been compared
-  branches : (c : Condition) (s : MachineState) (x y : ℕ) (numbers : Place → ℕ) → 1 < length succs → Agree s.registers s.frame numbers →
-      StandAt starts code.instructions (s.pc + 1) (branch_code c succs ++ rest) →
+  -- a branch, once numbers have been compared: the first successor's jump comes first
+  straight : (c : Condition) (s : MachineState) (x y : ℕ) (numbers : Place → ℕ) → 1 < length succs → Agree s.registers s.frame numbers →
+      StandAt starts code.instructions (s.pc + 1) (JumpIf c (slice_index succs 0) ∷ Jump (slice_index succs 1) ∷ rest) →
       (b : Bool) → condition_holds c x y ≡ b → Entered (compared_state s x y) (cond b 0 1) numbers
-  branches c s x y numbers lt a h true e =
+  straight c s x y numbers lt a h true e =
       enters (JumpIf c (starts (slice_index succs 0))) (compared_state s x y) 0 numbers (omega arith) a h.0
       (ap (λ (b : Bool). jumped (compared_state s x y) (cond b (starts (slice_index succs 0)) (s.pc + 1 + 1))) e)
-  branches c s x y numbers lt a h false e =
+  straight c s x y numbers lt a h false e =
       let u : MachineState = jump_state (compared_state s x y) (s.pc + 1 + 1) in
       let acts : executed args code.slots (Some (JumpIf c (starts (slice_index succs 0)))) (compared_state s x y) ≡ Running u =
       ap (λ (b : Bool). jumped (compared_state s x y) (cond b (starts (slice_index succs 0)) (s.pc + 1 + 1))) e in
       later (compared_state s x y) u 1 numbers (comes_by code args (JumpIf c (starts (slice_index succs 0))) (compared_state s x y) u h.0 acts)
       (enters (Jump (starts (slice_index succs 1))) u 1 numbers lt a h.1.0 refl)
 
+  -- or last
+  inverted : (c : Condition) (s : MachineState) (x y : ℕ) (numbers : Place → ℕ) → 1 < length succs → Agree s.registers s.frame numbers →
+      StandAt starts code.instructions (s.pc + 1) (JumpIf (opposite c) (slice_index succs 1) ∷ Jump (slice_index succs 0) ∷ rest) →
+      (b : Bool) → condition_holds c x y ≡ b → Entered (compared_state s x y) (cond b 0 1) numbers
+  inverted c s x y numbers lt a h true e =
+      let u : MachineState = jump_state (compared_state s x y) (s.pc + 1 + 1) in
+      let acts : executed args code.slots (Some (JumpIf (opposite c) (starts (slice_index succs 1)))) (compared_state s x y) ≡ Running u =
+      ap (λ (b : Bool). jumped (compared_state s x y) (cond b (starts (slice_index succs 1)) (s.pc + 1 + 1))) (opposite_holds c x y ∙ ap not e) in
+      later (compared_state s x y) u 0 numbers (comes_by code args (JumpIf (opposite c) (starts (slice_index succs 1))) (compared_state s x y) u h.0 acts)
+      (enters (Jump (starts (slice_index succs 0))) u 0 numbers (omega arith) a h.1.0 refl)
+  inverted c s x y numbers lt a h false e =
+      enters (JumpIf (opposite c) (starts (slice_index succs 1))) (compared_state s x y) 1 numbers lt a h.0
+      (ap (λ (b : Bool). jumped (compared_state s x y) (cond b (starts (slice_index succs 1)) (s.pc + 1 + 1))) (opposite_holds c x y ∙ ap not e))
+
+  branches : (next : ℕ) (c : Condition) (s : MachineState) (x y : ℕ) (numbers : Place → ℕ) → 1 < length succs → Agree s.registers s.frame numbers →
+      StandAt starts code.instructions (s.pc + 1) (branch_code c succs next ++ rest) →
+      Entered (compared_state s x y) (cond (condition_holds c x y) 0 1) numbers
+  branches next c s x y numbers lt a h = pick (nat_eq (slice_index succs 0) next) h
+    where
+      pick : (b : Bool) → StandAt starts code.instructions (s.pc + 1) (cond b (JumpIf (opposite c) (slice_index succs 1) ∷ Jump (slice_index succs 0) ∷ [])
+          (JumpIf c (slice_index succs 0) ∷ Jump (slice_index succs 1) ∷ []) ++ rest) →
+          Entered (compared_state s x y) (cond (condition_holds c x y) 0 1) numbers
+      pick true h = inverted c s x y numbers lt a h (condition_holds c x y) refl
+      pick false h = straight c s x y numbers lt a h (condition_holds c x y) refl
+
   -- from the comparison on
-  forks : (c : Condition) (s : MachineState) (x y : ℕ) (read : List ℕ) (numbers : Place → ℕ) → 1 < length succs → Agree s.registers s.frame numbers →
-      Comes code args 1 s (compared_state s x y) → StandAt starts code.instructions (s.pc + 1) (branch_code c succs ++ rest) →
+  forks : (next : ℕ) (c : Condition) (s : MachineState) (x y : ℕ) (read : List ℕ) (numbers : Place → ℕ) → 1 < length succs → Agree s.registers s.frame numbers →
+      Comes code args 1 s (compared_state s x y) → StandAt starts code.instructions (s.pc + 1) (branch_code c succs next ++ rest) →
       Left s read numbers (edge_to (length succs) (Some (cond (condition_holds c x y) 0 1)))
-  forks c s x y read numbers lt a first h =
+  forks next c s x y read numbers lt a first h =
       over_edge s read (cond (condition_holds c x y) 0 1) numbers
-      (later s (compared_state s x y) (cond (condition_holds c x y) 0 1) numbers first (branches c s x y numbers lt a h (condition_holds c x y) refl))
+      (later s (compared_state s x y) (cond (condition_holds c x y) 0 1) numbers first (branches next c s x y numbers lt a h))
 
   -- with the successors swapped
   turned : (b : Bool) → ◌≡◌ {A = ℕ} (cond (not b) 0 1) (cond b 1 0)
   turned true = refl
   turned false = refl
 
-  forks_if : (s : MachineState) (p : Place) (numbers : Place → ℕ) → IsHere code.slots p → 1 < length succs → Agree s.registers s.frame numbers →
-      StandAt starts code.instructions s.pc (branch_if_code p succs ++ rest) →
+  forks_if : (next : ℕ) (s : MachineState) (p : Place) (numbers : Place → ℕ) → IsHere code.slots p → 1 < length succs → Agree s.registers s.frame numbers →
+      StandAt starts code.instructions s.pc (branch_if_code p succs next ++ rest) →
       Left s (numbers p ∷ []) numbers (edge_to (length succs) (Some (cond (nat_eq (numbers p) 0) 1 0)))
-  forks_if s p numbers hp lt a h =
+  forks_if next s p numbers hp lt a h =
       subst (λ (k : ℕ). Left s (numbers p ∷ []) numbers (edge_to (length succs) (Some k))) (turned (nat_eq (numbers p) 0))
-      (forks NotEqual s (numbers p) 0 (numbers p ∷ []) numbers lt a (tests s numbers p hp a h.0) h.1)
+      (forks next NotEqual s (numbers p) 0 (numbers p ∷ []) numbers lt a (tests s numbers p hp a h.0) h.1)
 
-  forks_so : (c : Condition) (right : Right) (s : MachineState) (p q : Place) (read : List ℕ) (numbers : Place → ℕ) → IsGeneral p →
+  forks_so : (next : ℕ) (w : Width) (c : Condition) (right : Right) (s : MachineState) (p q : Place) (read : List ℕ) (numbers : Place → ℕ) → IsGeneral p →
       IsRightHere code.slots right q →
       1 < length succs → Agree s.registers s.frame numbers →
-      StandAt starts code.instructions s.pc (Compare (register_of p) (right_source right q) ∷ branch_code c succs ++ rest) →
-      Left s read numbers (edge_to (length succs) (Some (cond (condition_holds c (numbers p) (right_read right (numbers q))) 0 1)))
-  forks_so c right s p q read numbers hp hq lt a h =
-      forks c s (numbers p) (right_read right (numbers q)) read numbers lt a (compares right s numbers p q hp hq a h.0) h.1
+      StandAt starts code.instructions s.pc (Compare w (register_of p) (right_source right q) ∷ branch_code c succs next ++ rest) →
+      Left s read numbers (edge_to (length succs) (Some (cond (condition_holds c (widened w (numbers p)) (widened w (right_read right (numbers q)))) 0 1)))
+  forks_so next w c right s p q read numbers hp hq lt a h =
+      forks next c s (widened w (numbers p)) (widened w (right_read right (numbers q))) read numbers lt a (compares w right s numbers p q hp hq a h.0) h.1
 
   returns : (s : MachineState) (p : Place) (numbers : Place → ℕ) → IsHere code.slots p → Agree s.registers s.frame numbers →
       StandAt starts code.instructions s.pc (fetched 0 p ∷ Return ∷ rest) → (j : ℕ) × (machine_run code args j s ≡ Returned (numbers p))
@@ -375,16 +428,16 @@ module _ (args : ℕ → ℕ) (starts : ℕ → ℕ) (code : CodeValue) (succs :
       ends_then code args 1 1 s t (Returned (numbers p)) first (ends_by code args Return t (numbers p) h.1.0 refl)
 
   -- a block's last line
-  pub last_leaves : (o : Operation) (s : MachineState) (ps : List Place) (numbers : Place → ℕ) → IsEnd o (length succs) → IsPlaced code.slots o ps →
-      Agree s.registers s.frame numbers → StandAt starts code.instructions s.pc (operation_code o ps succs ++ rest) →
+  pub last_leaves : (next : ℕ) (o : Operation) (s : MachineState) (ps : List Place) (numbers : Place → ℕ) → IsEnd o (length succs) → IsPlaced code.slots o ps →
+      Agree s.registers s.frame numbers → StandAt starts code.instructions s.pc (operation_code o ps succs next ++ rest) →
       Left s (reads_at o ps numbers) (writes_at args o ps numbers) (edge_to (length succs) (way_of o (reads_at o ps numbers)))
   unfolding written_to read_by
-  last_leaves GoTo s ps numbers ends placed a h =
+  last_leaves next GoTo s ps numbers ends placed a h =
       over_edge s [] 0 numbers (enters (Jump (starts (slice_index succs 0))) s 0 numbers ends a h.0 refl)
-  last_leaves (BranchIf v) s ps numbers ends placed a h = forks_if s (place_at ps 0) numbers placed ends a h
-  last_leaves (BranchIfHolds c left (VReg v)) s ps numbers ends placed a h =
-      forks_so c (VReg v) s (place_at ps 0) (place_at ps 1) (numbers (place_at ps 0) ∷ numbers (place_at ps 1) ∷ []) numbers placed.0 placed.1 ends a h
-  last_leaves (BranchIfHolds c left (Given n)) s ps numbers ends placed a h =
-      forks_so c (Given n) s (place_at ps 0) (place_at ps 1) (numbers (place_at ps 0) ∷ []) numbers placed.0 placed.1 ends a h
-  last_leaves (GiveBack v) s ps numbers ends placed a h = returns s (place_at ps 0) numbers placed a h
-  last_leaves o s ps numbers ends placed a h = absurd ends
+  last_leaves next (BranchIf v) s ps numbers ends placed a h = forks_if next s (place_at ps 0) numbers placed ends a h
+  last_leaves next (BranchIfHolds w c left (VReg v)) s ps numbers ends placed a h =
+      forks_so next w c (VReg v) s (place_at ps 0) (place_at ps 1) (numbers (place_at ps 0) ∷ numbers (place_at ps 1) ∷ []) numbers placed.0 placed.1 ends a h
+  last_leaves next (BranchIfHolds w c left (Given n)) s ps numbers ends placed a h =
+      forks_so next w c (Given n) s (place_at ps 0) (place_at ps 1) (numbers (place_at ps 0) ∷ []) numbers placed.0 placed.1 ends a h
+  last_leaves next (GiveBack v) s ps numbers ends placed a h = returns s (place_at ps 0) numbers placed a h
+  last_leaves next o s ps numbers ends placed a h = absurd ends

@@ -1,6 +1,7 @@
 -- The emitted code: one to three instructions for each item of a block's listing, block after block. Jumps name blocks at first, and then the blocks' first
 -- instructions.
-use Rattle.std.specs.Prelude.{ℕ, Bool, true, false, zero, suc, nat_lt, nat_eq, if◌then◌else◌, List, [], ◌∷◌, ◌++◌, map, length, slice_index, slice_index_or}
+use Rattle.std.specs.Prelude.{ℕ, zero, suc, ◌+◌, Bool, true, false, nat_lt, nat_eq, if◌then◌else◌}
+use Rattle.std.specs.Prelude.{List, [], ◌∷◌, ◌++◌, map, length, slice_index, slice_index_or}
 use Rattle.regalloc2_names.specs.Place.{Place, NoPlace, InRegister, InSlot}
 use Rattle.regalloc2_function.specs.FunctionValue.{FunctionValue, block_at}
 use Rattle.regalloc2_function.specs.OutputValue.{OutputValue, allocs_of, place_at}
@@ -10,9 +11,11 @@ use Rattle.codegen_machine.specs.declared.ir.operation.Operation.TheVariants.{Ar
 use Rattle.codegen_machine.specs.declared.ir.operation.Operation.TheVariants.{Shift as Shifting, Divide as Dividing, Compare as Comparison, Select, Jump as GoTo, BranchIf}
 use Rattle.codegen_machine.specs.declared.ir.operation.Operation.TheVariants.{BranchIfHolds}
 use Rattle.codegen_machine.specs.declared.ir.operation.Operation.TheVariants.{Return as GiveBack}
+use Rattle.codegen_machine.specs.declared.ir.operation.Width.{Width}
 use Rattle.codegen_machine.specs.declared.ir.operation.ShiftOperator.{ShiftOperator}
 use Rattle.codegen_machine.specs.declared.ir.operation.Condition.{Condition}
-use Rattle.codegen_machine.specs.declared.ir.operation.Condition.TheVariants.{Equal, NotEqual}
+use Rattle.codegen_machine.specs.declared.ir.operation.Condition.TheVariants.{Equal, NotEqual, Less, LessOrEqual, Greater, GreaterOrEqual}
+use Rattle.codegen_machine.specs.declared.ir.operation.Condition.TheVariants.{SignedLess, SignedLessOrEqual, SignedGreater, SignedGreaterOrEqual}
 use Rattle.codegen_machine.specs.declared.ir.operation.Count.{Count}
 use Rattle.codegen_machine.specs.declared.ir.operation.Count.TheVariants.{VReg as CountIn, Number as CountOf}
 use Rattle.codegen_machine.specs.declared.ir.operation.Right.{Right}
@@ -62,31 +65,52 @@ move_code from (InSlot n) = Store n (register_of from)
 abbrev pub constant_code : ℕ → ℕ → Instruction
 constant_code to n = if nat_eq n 0 then Clear to else Constant to n
 
--- a branch to the first successor if the numbers last compared meet a condition, else to the second
-abbrev pub branch_code : Condition → List ℕ → List Instruction
-branch_code c succs = JumpIf c (slice_index succs 0) ∷ Jump (slice_index succs 1) ∷ []
+-- the condition that holds exactly if another doesn't
+abbrev pub opposite : Condition → Condition
+opposite Equal = NotEqual
+opposite NotEqual = Equal
+opposite Less = GreaterOrEqual
+opposite LessOrEqual = Greater
+opposite Greater = LessOrEqual
+opposite GreaterOrEqual = Less
+opposite SignedLess = SignedGreaterOrEqual
+opposite SignedLessOrEqual = SignedGreater
+opposite SignedGreater = SignedLessOrEqual
+opposite SignedGreaterOrEqual = SignedLess
+
+-- A branch to the first successor if the numbers last compared meet a condition, else to the second. If the first is the block that is emitted next,
+-- its jump comes last: to the next line, which the text omits.
+abbrev pub branch_code : Condition → List ℕ → ℕ → List Instruction
+branch_code c succs next =
+    if nat_eq (slice_index succs 0) next then JumpIf (opposite c) (slice_index succs 1) ∷ Jump (slice_index succs 0) ∷ []
+    else JumpIf c (slice_index succs 0) ∷ Jump (slice_index succs 1) ∷ []
 
 -- a branch to the first successor if a place's number isn't 0, else to the second
-abbrev pub branch_if_code : Place → List ℕ → List Instruction
-branch_if_code p succs = Test (source_of p) ∷ branch_code NotEqual succs
+abbrev pub branch_if_code : Place → List ℕ → ℕ → List Instruction
+branch_if_code p succs next = Test (source_of p) ∷ branch_code NotEqual succs next
+
+-- a branch to the first successor if two numbers meet a condition, else to the second
+abbrev pub branch_if_holds_code : Width → Condition → Right → List Place → List ℕ → ℕ → List Instruction
+branch_if_holds_code w c right places succs next =
+    Compare w (register_of (place_at places 0)) (right_source right (place_at places 1)) ∷ branch_code c succs next
 
 -- a shift, by the count in register 1 or by a constant
-abbrev pub shift_code : ShiftOperator → Count → ℕ → Instruction
-shift_code o (CountIn v) r = Shift o r
-shift_code o (CountOf n) r = ShiftBy o r n
+abbrev pub shift_code : Width → ShiftOperator → Count → ℕ → Instruction
+shift_code w o (CountIn v) r = Shift w o r
+shift_code w o (CountOf n) r = ShiftBy w o r n
 
 -- Extends register 0 into register 2; then divides by a place's number.
-abbrev pub extension_code : Bool → Instruction
-extension_code true = ExtendSign
-extension_code false = Clear 2
+abbrev pub extension_code : Width → Bool → Instruction
+extension_code w true = ExtendSign w
+extension_code w false = Clear 2
 
-abbrev pub divide_code : Bool → Place → List Instruction
-divide_code signed p = extension_code signed ∷ Divide signed (source_of p) ∷ []
+abbrev pub divide_code : Width → Bool → Place → List Instruction
+divide_code w signed p = extension_code w signed ∷ Divide w signed (source_of p) ∷ []
 
 -- a comparison, whose result is written to a register
-abbrev pub compare_code : Condition → Right → List Place → List Instruction
-compare_code c right places =
-    Compare (register_of (place_at places 1)) (right_source right (place_at places 2)) ∷ Set (register_of (place_at places 0)) c ∷ []
+abbrev pub compare_code : Width → Condition → Right → List Place → List Instruction
+compare_code w c right places =
+    Compare w (register_of (place_at places 1)) (right_source right (place_at places 2)) ∷ Set (register_of (place_at places 0)) c ∷ []
 
 -- a selection: the register holds the first number, and receives the second if the deciding number is 0
 abbrev pub select_code : List Place → List Instruction
@@ -96,21 +120,20 @@ select_code places = Test (source_of (place_at places 3)) ∷ MoveIf Equal (regi
 abbrev pub return_code : Place → List Instruction
 return_code p = fetched 0 p ∷ Return ∷ []
 
--- the instructions of an operation, with its operands' places; jumps name blocks
-abbrev pub operation_code : Operation → List Place → List ℕ → List Instruction
-operation_code (TakeArgument to k) places succs = Argument (register_of (place_at places 0)) k ∷ []
-operation_code (TakeConstant to n) places succs = constant_code (register_of (place_at places 0)) n ∷ []
-operation_code (Copy to from) places succs = fetched (register_of (place_at places 0)) (place_at places 1) ∷ []
-operation_code (Computation o to left right) places succs = Compute o (register_of (place_at places 0)) (right_source right (place_at places 2)) ∷ []
-operation_code (Shifting o to left count) places succs = shift_code o count (register_of (place_at places 0)) ∷ []
-operation_code (Dividing part signed to left right) places succs = divide_code signed (place_at places 2)
-operation_code (Comparison c to left right) places succs = compare_code c right places
-operation_code (Select to c one other) places succs = select_code places
-operation_code GoTo places succs = Jump (slice_index succs 0) ∷ []
-operation_code (BranchIf v) places succs = branch_if_code (place_at places 0) succs
-operation_code (BranchIfHolds c left right) places succs =
-    Compare (register_of (place_at places 0)) (right_source right (place_at places 1)) ∷ branch_code c succs
-operation_code (GiveBack v) places succs = return_code (place_at places 0)
+-- the instructions of an operation, with its operands' places, in a block with these successors before a block with that number; jumps name blocks
+abbrev pub operation_code : Operation → List Place → List ℕ → ℕ → List Instruction
+operation_code (TakeArgument to k) places succs next = Argument (register_of (place_at places 0)) k ∷ []
+operation_code (TakeConstant to n) places succs next = constant_code (register_of (place_at places 0)) n ∷ []
+operation_code (Copy to from) places succs next = fetched (register_of (place_at places 0)) (place_at places 1) ∷ []
+operation_code (Computation w o to left right) places succs next = Compute w o (register_of (place_at places 0)) (right_source right (place_at places 2)) ∷ []
+operation_code (Shifting w o to left count) places succs next = shift_code w o count (register_of (place_at places 0)) ∷ []
+operation_code (Dividing w part signed to left right) places succs next = divide_code w signed (place_at places 2)
+operation_code (Comparison w c to left right) places succs next = compare_code w c right places
+operation_code (Select to c one other) places succs next = select_code places
+operation_code GoTo places succs next = Jump (slice_index succs 0) ∷ []
+operation_code (BranchIf v) places succs next = branch_if_code (place_at places 0) succs next
+operation_code (BranchIfHolds w c left right) places succs next = branch_if_holds_code w c right places succs next
+operation_code (GiveBack v) places succs next = return_code (place_at places 0)
 
 -- jumps resolved to the blocks' first instructions
 abbrev pub resolved : (ℕ → ℕ) → Instruction → Instruction
@@ -123,17 +146,17 @@ abbrev pub operation_at : List Operation → ℕ → Operation
 operation_at operations i = slice_index_or operations i GoTo
 
 module _ (operations : List Operation) (out : OutputValue) where
-  -- an item of the listing of a block with these successors
-  abbrev pub item_code : List ℕ → Listed → List Instruction
-  item_code succs (ListedInst i) = operation_code (operation_at operations i) (allocs_of out i) succs
-  item_code succs (ListedMove m) = move_code m.from m.to ∷ []
+  -- an item of the listing of a block with these successors, before a block with that number
+  abbrev pub item_code : List ℕ → ℕ → Listed → List Instruction
+  item_code succs next (ListedInst i) = operation_code (operation_at operations i) (allocs_of out i) succs next
+  item_code succs next (ListedMove m) = move_code m.from m.to ∷ []
 
-  unfoldable pub items_code : List ℕ → List Listed → List Instruction
-  items_code succs [] = []
-  items_code succs (x ∷ xs) = item_code succs x ++ items_code succs xs
+  unfoldable pub items_code : List ℕ → ℕ → List Listed → List Instruction
+  items_code succs next [] = []
+  items_code succs next (x ∷ xs) = item_code succs next x ++ items_code succs next xs
 
   abbrev pub block_code : FunctionValue → ℕ → List Instruction
-  block_code f b = items_code (block_at f b).succs (block_listing f out b)
+  block_code f b = items_code (block_at f b).succs (b + 1) (block_listing f out b)
 
   -- that many blocks, from the first on
   unfoldable pub blocks_code : FunctionValue → ℕ → List Instruction

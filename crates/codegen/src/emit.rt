@@ -1,6 +1,6 @@
 //! From an allocated function to the machine's instructions.
 
-ghost use Rattle.std.specs.Prelude.{◌≡◌, ◌<◌, [], ◌∷◌, ◌++◌, IfOk, OnOk, length, map, slice_index};
+ghost use Rattle.std.specs.Prelude.{◌≡◌, ◌<◌, ◌+◌, [], ◌∷◌, ◌++◌, IfOk, OnOk, length, map, slice_index};
 ghost use Rattle.regalloc2_function.specs.FunctionValue.{block_at};
 ghost use Rattle.regalloc2_function.specs.Listing.{IsListedWithin};
 ghost use Rattle.regalloc2_function.specs.OutputValue.{IsInOrder, place_at};
@@ -8,11 +8,11 @@ ghost use Rattle.regalloc2_function.specs.Views.{item_of, output_of};
 ghost use Rattle.regalloc2_function.specs.WellFormed.{BlocksFollow};
 ghost use Rattle.codegen_machine.specs.Ir.Seen.{function_of_procedure, operations};
 ghost use Rattle.codegen_machine.specs.Machine.{code_of};
-ghost use Rattle.codegen.specs.Emitted.{register_of, source_of, right_source, fetched, move_code, constant_code, operation_code, item_code, resolved};
-ghost use Rattle.codegen.specs.Emitted.{branch_code, branch_if_code, compare_code, divide_code, extension_code, return_code, select_code, shift_code};
+ghost use Rattle.codegen.specs.Emitted.{register_of, source_of, right_source, fetched, move_code, constant_code, operation_code, opposite, item_code, resolved};
+ghost use Rattle.codegen.specs.Emitted.{branch_code, branch_if_code, branch_if_holds_code, compare_code, divide_code, extension_code, return_code, select_code, shift_code};
 ghost use Rattle.codegen.specs.Emitted.{block_code, emitted};
 
-use codegen_machine::ir::{Condition, Count, Operation, Procedure, Right, ShiftOperator};
+use codegen_machine::ir::{Condition, Count, Operation, Procedure, Right, ShiftOperator, Width};
 use codegen_machine::{Code, Instruction, NO_REGISTER, Source};
 use regalloc2::{Allocation, Block, Function, InstOrEdit, Output};
 use std::alloc::{AllocError, Global};
@@ -128,12 +128,17 @@ fn put(code: &mut Vec<Instruction>, instruction: Instruction) -> Result<(), Allo
 }
 
 /// A shift, by the count in register 1, or by a constant.
-fn shift(operator: ShiftOperator, count: Count, to: usize) -> Instruction
-    ensures { result ≡ shift_code operator count to }
+fn shift(width: Width, operator: ShiftOperator, count: Count, to: usize) -> Instruction
+    ensures { result ≡ shift_code width operator count to }
 {
     match count {
-        Count::VReg(_) => Instruction::Shift { operator, to },
+        Count::VReg(_) => Instruction::Shift {
+            width,
+            operator,
+            to,
+        },
         Count::Number(count) => Instruction::ShiftBy {
+            width,
             operator,
             to,
             count,
@@ -142,11 +147,11 @@ fn shift(operator: ShiftOperator, count: Count, to: usize) -> Instruction
 }
 
 /// Extends register 0 into register 2.
-fn extension(is_signed: bool) -> Instruction
-    ensures { result ≡ extension_code is_signed }
+fn extension(width: Width, is_signed: bool) -> Instruction
+    ensures { result ≡ extension_code width is_signed }
 {
     if is_signed {
-        Instruction::ExtendSign
+        Instruction::ExtendSign { width }
     } else {
         Instruction::Clear { to: 2 }
     }
@@ -155,28 +160,37 @@ fn extension(is_signed: bool) -> Instruction
 /// Extends register 0, and divides it by a place's number.
 fn emit_divide(
     code: &mut Vec<Instruction>,
+    width: Width,
     is_signed: bool,
     divisor: Allocation,
 ) -> Result<(), AllocError>
-    ensures { OnOk result (code.new.items ≡ code.old.items ++ divide_code is_signed divisor) }
+    ensures { OnOk result (code.new.items ≡ code.old.items ++ divide_code width is_signed divisor) }
 {
-    put(code, extension(is_signed))?;
+    put(code, extension(width, is_signed))?;
     let from = source(divisor);
-    put(code, Instruction::Divide { is_signed, from })
+    put(
+        code,
+        Instruction::Divide {
+            width,
+            is_signed,
+            from,
+        },
+    )
 }
 
 /// A comparison, and the register that is set to its result.
 fn emit_compare(
     code: &mut Vec<Instruction>,
+    width: Width,
     condition: Condition,
     right: Right,
     places: &[Allocation],
 ) -> Result<(), AllocError>
-    ensures { OnOk result (code.new.items ≡ code.old.items ++ compare_code condition right places.now) }
+    ensures { OnOk result (code.new.items ≡ code.old.items ++ compare_code width condition right places.now) }
 {
     let (to, left) = (register(place(places, 0)), register(place(places, 1)));
     let right = right_source(right, place(places, 2));
-    put(code, Instruction::Compare { left, right })?;
+    put(code, Instruction::Compare { width, left, right })?;
     put(code, Instruction::Set { to, condition })
 }
 
@@ -199,18 +213,43 @@ fn emit_select(code: &mut Vec<Instruction>, places: &[Allocation]) -> Result<(),
     )
 }
 
+/// The condition that holds exactly if another doesn't.
+fn opposite(condition: Condition) -> Condition
+    ensures { result ≡ opposite condition }
+{
+    match condition {
+        Condition::Equal => Condition::NotEqual,
+        Condition::NotEqual => Condition::Equal,
+        Condition::Less => Condition::GreaterOrEqual,
+        Condition::LessOrEqual => Condition::Greater,
+        Condition::Greater => Condition::LessOrEqual,
+        Condition::GreaterOrEqual => Condition::Less,
+        Condition::SignedLess => Condition::SignedGreaterOrEqual,
+        Condition::SignedLessOrEqual => Condition::SignedGreater,
+        Condition::SignedGreater => Condition::SignedLessOrEqual,
+        Condition::SignedGreaterOrEqual => Condition::SignedLess,
+    }
+}
+
 /// A branch: to the first successor if the numbers last compared meet a condition, else to the
-/// second.
+/// second. If the first is block `next`, its jump comes last: to the next line, which the text
+/// omits.
 fn emit_branch(
     code: &mut Vec<Instruction>,
     condition: Condition,
     succs: &[Block],
+    next: usize,
 ) -> Result<(), AllocError>
-    ensures { OnOk result (code.new.items ≡ code.old.items ++ branch_code condition succs.now) }
+    ensures { OnOk result (code.new.items ≡ code.old.items ++ branch_code condition succs.now next) }
 {
-    let target = successor(succs, 0);
+    let (first, second) = (successor(succs, 0), successor(succs, 1));
+    let (condition, target, other) = if first == next {
+        (opposite(condition), second, first)
+    } else {
+        (condition, first, second)
+    };
     put(code, Instruction::JumpIf { condition, target })?;
-    put(code, jump(succs, 1))
+    put(code, Instruction::Jump { target: other })
 }
 
 /// A branch: to the first successor if a place's number isn't 0, else to the second.
@@ -218,12 +257,32 @@ fn emit_branch_if(
     code: &mut Vec<Instruction>,
     place: Allocation,
     succs: &[Block],
+    next: usize,
 ) -> Result<(), AllocError>
-    ensures { OnOk result (code.new.items ≡ code.old.items ++ branch_if_code place succs.now) }
+    ensures { OnOk result (code.new.items ≡ code.old.items ++ branch_if_code place succs.now next) }
 {
     let from = source(place);
     put(code, Instruction::Test { from })?;
-    emit_branch(code, Condition::NotEqual, succs)
+    emit_branch(code, Condition::NotEqual, succs, next)
+}
+
+/// A branch: to the first successor if two numbers meet a condition, else to the second.
+fn emit_branch_if_holds(
+    code: &mut Vec<Instruction>,
+    width: Width,
+    condition: Condition,
+    right: Right,
+    places: &[Allocation],
+    succs: &[Block],
+    next: usize,
+) -> Result<(), AllocError>
+    ensures { OnOk result (code.new.items ≡ code.old.items ++ branch_if_holds_code width condition right places.now succs.now next) }
+{
+    let left = register(place(places, 0));
+    let right = right_source(right, place(places, 1));
+    let comparison = Instruction::Compare { width, left, right };
+    put(code, comparison)?;
+    emit_branch(code, condition, succs, next)
 }
 
 /// The return of a place's number, in register 0.
@@ -234,14 +293,16 @@ fn emit_return(code: &mut Vec<Instruction>, place: Allocation) -> Result<(), All
     put(code, Instruction::Return)
 }
 
-/// The instructions of an operation, with its operands' places. Jumps name blocks.
+/// The instructions of an operation, with its operands' places, in a block before block `next`.
+/// Jumps name blocks.
 fn emit_operation(
     code: &mut Vec<Instruction>,
     operation: Operation,
     places: &[Allocation],
     succs: &[Block],
+    next: usize,
 ) -> Result<(), AllocError>
-    ensures { OnOk result (code.new.items ≡ code.old.items ++ operation_code operation places.now succs.now) }
+    ensures { OnOk result (code.new.items ≡ code.old.items ++ operation_code operation places.now succs.now next) }
 {
     let first = place(places, 0);
     let to = register(first);
@@ -250,36 +311,48 @@ fn emit_operation(
         Operation::Constant { value, .. } => put(code, constant(to, value)),
         Operation::Copy { .. } => put(code, fetch(to, place(places, 1))),
         Operation::Compute {
+            width,
             operator,
             right,
             ..
         } => {
             let from = right_source(right, place(places, 2));
-            put(code, Instruction::Compute { operator, to, from })
+            put(
+                code,
+                Instruction::Compute {
+                    width,
+                    operator,
+                    to,
+                    from,
+                },
+            )
         }
         Operation::Shift {
+            width,
             operator,
             count,
             ..
-        } => put(code, shift(operator, count, to)),
-        Operation::Divide { is_signed, .. } => emit_divide(code, is_signed, place(places, 2)),
+        } => put(code, shift(width, operator, count, to)),
+        Operation::Divide {
+            width,
+            is_signed,
+            ..
+        } => emit_divide(code, width, is_signed, place(places, 2)),
         Operation::Compare {
+            width,
             condition,
             right,
             ..
-        } => emit_compare(code, condition, right, places),
+        } => emit_compare(code, width, condition, right, places),
         Operation::Select { .. } => emit_select(code, places),
         Operation::Jump => put(code, jump(succs, 0)),
-        Operation::BranchIf { .. } => emit_branch_if(code, first, succs),
+        Operation::BranchIf { .. } => emit_branch_if(code, first, succs, next),
         Operation::BranchIfHolds {
+            width,
             condition,
             right,
             ..
-        } => {
-            let right = right_source(right, place(places, 1));
-            put(code, Instruction::Compare { left: to, right })?;
-            emit_branch(code, condition, succs)
-        }
+        } => emit_branch_if_holds(code, width, condition, right, places, succs, next),
         Operation::Return { .. } => emit_return(code, first),
     }
 }
@@ -296,7 +369,7 @@ fn emit_item(
     requires block { block < length (function_of_procedure f.now).blocks }
     requires within { IsListedWithin 0 (length (function_of_procedure f.now).insts) (item_of item.now) }
     ensures { OnOk result (code.new.items ≡ code.old.items
-        ++ item_code (operations f.now) (output_of out.now) (block_at (function_of_procedure f.now) block).succs (item_of item.now)) }
+        ++ item_code (operations f.now) (output_of out.now) (block_at (function_of_procedure f.now) block).succs (block + 1) (item_of item.now)) }
 {
     match item {
         InstOrEdit::Inst(inst) => {
@@ -306,6 +379,7 @@ fn emit_item(
                 operation,
                 out.inst_allocs(*inst),
                 f.block_succs(block),
+                block.index() + 1,
             )
         }
         InstOrEdit::Edit(edit) => {

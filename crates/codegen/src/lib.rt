@@ -9,11 +9,17 @@
 //!
 //! A line's operation determines its operands and clobbers (`codegen_machine::ir`). Where the
 //! processor has two-address instructions, the result reuses the register of the first number, and
-//! the second number is read from a register, a slot or an immediate. A division reads its dividend
-//! from register 0, extends it into register 2, and writes quotient and remainder to these two: one
-//! is the result, the other's register is clobbered, and the divisor is read late. The emitter
-//! writes one to three instructions for a line, and one for a move. Jumps name blocks at first;
-//! once all blocks are emitted, `resolve` replaces the blocks by the numbers of instructions.
+//! the second number is read from a register, a slot or an immediate. A 32-bit form is emitted as
+//! the same instructions with another width. A division reads its dividend from register 0, extends
+//! it into register 2, and writes quotient and remainder to these two: one is the result, the
+//! other's register is clobbered, and the divisor is read late. The emitter writes one to three
+//! instructions for a line, and one for a move. Jumps name blocks at first; once all blocks are
+//! emitted, `resolve` replaces the blocks by the numbers of instructions.
+//!
+//! A branch is two jumps, the second unconditional. If its first successor is the next block, it
+//! jumps to the second successor under the opposite condition, and then to the next line. The code
+//! keeps a jump to the next line, so each step of the function is a step of the machine; the text
+//! omits it.
 //!
 //! The machine (`codegen_machine`) is *stuck* where a processor would misbehave: at a slot outside
 //! the frame, at the registers of the stack pointer and of the arguments, at a jump out of the

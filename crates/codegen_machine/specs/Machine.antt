@@ -1,8 +1,9 @@
 -- The machine's semantics: an interpreter that makes a step for each instruction. It is stuck if there is no instruction, no such register or slot, if a
 -- condition is tested and no numbers have been compared since the flags were last clobbered, and if register 2 doesn't extend a division's dividend.
 use Rattle.std.specs.Prelude.{ℕ, zero, suc, ◌+◌, Bool, true, ◌&&◌, not, nat_eq, nat_lt, if◌then◌else◌, List, slice_get, Option, None, Some}
-use Rattle.codegen_machine.specs.Ir.Numbers.{RunOutcome, Running, Returned, Trapped, Stuck, further, computed, shifted, divided, division_traps, extended}
-use Rattle.codegen_machine.specs.Ir.Numbers.{condition_holds, truth, put}
+use Rattle.codegen_machine.specs.Ir.Numbers.{RunOutcome, Running, Returned, Trapped, Stuck, further, computed_at, shifted_at, divided_at, division_traps}
+use Rattle.codegen_machine.specs.Ir.Numbers.{extended, widened, condition_holds, truth, put}
+use Rattle.codegen_machine.specs.declared.ir.operation.Width.{Width}
 use Rattle.codegen_machine.specs.declared.ir.operation.DivisionPart.TheVariants.{Quotient, Remainder}
 use Rattle.codegen_machine.specs.declared.Source.{Source}
 use Rattle.codegen_machine.specs.declared.Source.TheVariants.{Register, Slot, Number}
@@ -51,17 +52,18 @@ abbrev pub compared_to : MachineState → ℕ → ℕ → RunOutcome MachineStat
 compared_to s a b = Running (record { pc = s.pc + 1; registers = s.registers; frame = s.frame; compared = Some (a, b) })
 
 -- Both results of a division of the number in register 0, which register 2 extends. It traps as the processor does.
-abbrev pub parted : MachineState → Bool → ℕ → MachineState
-parted s signed b = record {
+abbrev pub parted : MachineState → Width → Bool → ℕ → MachineState
+parted s w signed b = record {
   pc = s.pc + 1;
-  registers = put (put s.registers 0 (divided Quotient signed (s.registers 0) b)) 2 (divided Remainder signed (s.registers 0) b);
+  registers = put (put s.registers 0 (divided_at w Quotient signed (s.registers 0) b)) 2 (divided_at w Remainder signed (s.registers 0) b);
   frame = s.frame;
   compared = None;
 }
 
-abbrev pub divides : MachineState → Bool → ℕ → RunOutcome MachineState
-divides s signed b =
-    if nat_eq (s.registers 2) (extended signed (s.registers 0)) then if division_traps signed (s.registers 0) b then Trapped else Running (parted s signed b)
+abbrev pub divides : MachineState → Width → Bool → ℕ → RunOutcome MachineState
+divides s w signed b =
+    if nat_eq (s.registers 2) (extended w signed (s.registers 0))
+    then if division_traps w signed (s.registers 0) b then Trapped else Running (parted s w signed b)
     else Stuck
 
 -- a jump to an instruction
@@ -77,12 +79,12 @@ executed args slots (Some (Argument to k)) s = written s to (args k) s.compared
 executed args slots (Some (Move to from)) s = with_register s from (λ n. written s to n s.compared)
 executed args slots (Some (Load to k)) s = with_slot slots s k (λ n. written s to n s.compared)
 executed args slots (Some (Store k from)) s = with_register s from (λ n. frame_stored slots s k n)
-executed args slots (Some (Compute o to from)) s = with_register s to (λ a. with_source slots s from (λ b. written s to (computed o a b) None))
-executed args slots (Some (Shift o to)) s = with_register s to (λ a. with_register s 1 (λ n. written s to (shifted o a n) None))
-executed args slots (Some (ShiftBy o to n)) s = with_register s to (λ a. written s to (shifted o a n) None)
-executed args slots (Some ExtendSign) s = written s 2 (extended true (s.registers 0)) s.compared
-executed args slots (Some (Divide signed from)) s = with_source slots s from (λ b. divides s signed b)
-executed args slots (Some (Compare left right)) s = with_register s left (λ a. with_source slots s right (λ b. compared_to s a b))
+executed args slots (Some (Compute w o to from)) s = with_register s to (λ a. with_source slots s from (λ b. written s to (computed_at w o a b) None))
+executed args slots (Some (Shift w o to)) s = with_register s to (λ a. with_register s 1 (λ n. written s to (shifted_at w o a n) None))
+executed args slots (Some (ShiftBy w o to n)) s = with_register s to (λ a. written s to (shifted_at w o a n) None)
+executed args slots (Some (ExtendSign w)) s = written s 2 (extended w true (s.registers 0)) s.compared
+executed args slots (Some (Divide w signed from)) s = with_source slots s from (λ b. divides s w signed b)
+executed args slots (Some (Compare w left right)) s = with_register s left (λ a. with_source slots s right (λ b. compared_to s (widened w a) (widened w b)))
 executed args slots (Some (Set to c)) s = with_compared s.compared (λ a b. written s to (truth (condition_holds c a b)) s.compared)
 executed args slots (Some (MoveIf c to from)) s = with_compared s.compared (λ a b. with_register s to (λ x. with_source slots s from
     (λ y. written s to (if condition_holds c a b then y else x) s.compared)))

@@ -1,13 +1,14 @@
 //! A small intermediate representation: functions over 64-bit integers, in blocks with parameters,
 //! as input to a code generator.
 //!
-//! `specs/Ir/Numbers.antt` defines operators and conditions, `specs/Ir/Meaning.antt` interprets a
-//! function, step by step.
+//! Operators, shifts, divisions and conditions have a 32-bit form ([`Width`]).
+//! `specs/Ir/Numbers.antt` defines them, `specs/Ir/Meaning.antt` interprets a function, step by
+//! step.
 
 mod operation;
 mod procedure;
 
 pub use operation::{
-    Condition, Count, DivisionPart, Line, Operation, Operator, Right, ShiftOperator,
+    Condition, Count, DivisionPart, Line, Operation, Operator, Right, ShiftOperator, Width,
 };
 pub use procedure::{Malformed, Part, Procedure};

@@ -6,7 +6,7 @@
 //! step.
 #![tactic(auto)]
 
-use crate::ir::{Condition, Operator, ShiftOperator};
+use crate::ir::{Condition, Operator, ShiftOperator, Width};
 
 pub mod ir;
 pub mod run;
@@ -74,6 +74,8 @@ pub enum Instruction {
     },
     /// Computes with a register, and puts the result into it; clobbers the flags.
     Compute {
+        /// How many bits of the numbers it reads.
+        width: Width,
         /// The operator.
         operator: Operator,
         /// The register with the first number.
@@ -83,6 +85,8 @@ pub enum Instruction {
     },
     /// Shifts a register by the number in register 1; clobbers the flags.
     Shift {
+        /// How many bits of the numbers it reads.
+        width: Width,
         /// The kind of shift.
         operator: ShiftOperator,
         /// The register.
@@ -90,19 +94,26 @@ pub enum Instruction {
     },
     /// Shifts a register by a constant; clobbers the flags.
     ShiftBy {
+        /// How many bits of the numbers it reads.
+        width: Width,
         /// The kind of shift.
         operator: ShiftOperator,
         /// The register.
         to: usize,
-        /// The count, modulo 64.
+        /// The count, modulo the width.
         count: u8,
     },
     /// Extends register 0 into register 2: with zeros, or with copies of its highest bit.
-    ExtendSign,
-    /// Divides the 128-bit number with register 2 as its upper and register 0 as its lower half:
-    /// puts the quotient into register 0 and the remainder into register 2, and clobbers the flags.
-    /// It traps if the divisor is 0 or the quotient doesn't fit 64 bits.
+    ExtendSign {
+        /// How many bits of register 0 it reads.
+        width: Width,
+    },
+    /// Divides the number with register 2 as its upper and register 0 as its lower half: puts the
+    /// quotient into register 0 and the remainder into register 2, and clobbers the flags. It traps
+    /// if the divisor is 0 or the quotient doesn't fit the width.
     Divide {
+        /// How many bits of the numbers it reads.
+        width: Width,
         /// Whether the division is signed.
         is_signed: bool,
         /// The divisor.
@@ -110,6 +121,8 @@ pub enum Instruction {
     },
     /// Compares two numbers.
     Compare {
+        /// How many bits of the numbers it reads.
+        width: Width,
         /// The register with the first number.
         left: usize,
         /// The second number.

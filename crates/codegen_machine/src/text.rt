@@ -28,10 +28,10 @@
 //! value     = vreg "=" ( "argument" number | "constant" number | "copy" vreg | ( operator | condition ) pair
 //!           | shift vreg "," ( vreg | number ) | division vreg "," vreg | "select" vreg "," vreg "," vreg ) ;
 //! pair      = vreg "," ( vreg | number ) ;                        (* the number is to 2147483647 *)
-//! operator  = "add" | "sub" | "mul" | "and" | "or" | "xor" ;
-//! shift     = "shift_left" | "shift_right" | "signed_shift_right" ;   (* a number after it is to 63 *)
-//! division  = [ "signed_" ] ( "div" | "rem" ) ;
-//! condition = "equal" | "not_equal" | [ "signed_" ] ( "less" | "less_or_equal" | "greater" | "greater_or_equal" ) ;
+//! operator  = ( "add" | "sub" | "mul" | "and" | "or" | "xor" ) [ "32" ] ;
+//! shift     = ( "shift_left" | "shift_right" | "signed_shift_right" ) [ "32" ] ;   (* a number after it is to 63, or to 31 *)
+//! division  = [ "signed_" ] ( "div" | "rem" ) [ "32" ] ;
+//! condition = ( "equal" | "not_equal" | [ "signed_" ] ( "less" | "less_or_equal" | "greater" | "greater_or_equal" ) ) [ "32" ] ;
 //! jump      = "jump" target ;
 //! branch    = "branch_if" ( vreg | condition pair ) target "," target ;
 //! return    = "return" vreg ;
@@ -42,9 +42,12 @@
 //! two's complement. A shift moves bits by its second number modulo 64; `signed_shift_right` copies
 //! the highest bit. `div` is a quotient and `rem` a remainder: a signed quotient is rounded towards
 //! 0, and a signed remainder has the dividend's sign. A division by 0 traps, and so does a signed
-//! one of -2^63 by -1. `select` is its second number if its first isn't 0, else its third.
-//! `branch_if` jumps to its first target if its number isn't 0 or its condition holds, else to its
-//! second.
+//! one of the least number by -1. `select` is its second number if its first isn't 0, else its
+//! third. `branch_if` jumps to its first target if its number isn't 0 or its condition holds, else
+//! to its second.
+//!
+//! An operation whose name ends with `32` reads the lower 32 bits of its numbers, counts shifts
+//! modulo 32, and writes a result below 2^32.
 //!
 //! Arguments are numbered from 0, below 2^28. A function has at most a million blocks, instructions and vregs, counted
 //! from v0; a larger function is an error at the end of the text. Blocks are numbered as they appear, the entry first.

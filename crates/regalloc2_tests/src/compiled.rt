@@ -29,7 +29,7 @@ fn show<W: Write>(alloc: Global, text: &[u8], to: &mut W) -> io::Result<()> {
 }
 
 /// Functions of two arguments, which are run.
-const RUNS: [(&str, u64, u64); 23] = [
+const RUNS: [(&str, u64, u64); 34] = [
     ("v2 = and v0, v1", 12, 10),
     ("v2 = or v0, 10", 12, 0),
     ("v2 = xor v0, v1", 12, 10),
@@ -53,6 +53,17 @@ const RUNS: [(&str, u64, u64); 23] = [
     ("v2 = signed_div v0, v1", LEAST, MINUS_ONE),
     ("v2 = signed_rem v0, v1", LEAST, MINUS_ONE),
     ("v2 = div v0, v1", LEAST, MINUS_ONE),
+    ("v2 = add32 v0, 1", MINUS_ONE, 0),
+    ("v2 = sub32 v0, v1", HIGH, 1),
+    ("v2 = mul32 v0, v1", HIGH + 3, HIGH + 5),
+    ("v2 = less32 v0, 5", HIGH, 0),
+    ("v2 = signed_less32 v0, 5", HALF_LEAST, 0),
+    ("v2 = shift_left32 v0, v1", 3, 31),
+    ("v2 = shift_right32 v0, v1", HIGH + HALF_LEAST, 32),
+    ("v2 = signed_shift_right32 v0, 31", HALF_LEAST, 0),
+    ("v2 = div32 v0, v1", HIGH + 7, HIGH + 2),
+    ("v2 = signed_rem32 v0, v1", HALF_LEAST + 1, 10),
+    ("v2 = signed_div32 v0, v1", HALF_LEAST, MINUS_ONE),
 ];
 
 /// -1 modulo 2^64.
@@ -60,6 +71,12 @@ const MINUS_ONE: u64 = u64::MAX;
 
 /// -2^63 modulo 2^64.
 const LEAST: u64 = 1 << 63;
+
+/// A bit above the lower 32.
+const HIGH: u64 = 1 << 32;
+
+/// -2^31 modulo 2^32.
+const HALF_LEAST: u64 = 1 << 31;
 
 /// Writes what a function returns that has this line, and what its code does.
 fn show_run<W: Write>(

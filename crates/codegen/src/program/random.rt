@@ -71,28 +71,37 @@ impl Draft {
         self.known.get(at).copied().unwrap_or(0)
     }
 
+    /// The end of an operation's name: one time in four it is a 32-bit form.
+    fn ending(&mut self) -> &'static str {
+        if self.random.once_in(4) { "32" } else { "" }
+    }
+
     /// Writes an operation of two numbers; one time in three the second is a constant.
     fn write_pair(&mut self, name: &str) -> Result<(), AllocError> {
-        let left = self.pick();
+        let (ending, left) = (self.ending(), self.pick());
         if self.random.below(3) == 0 {
             let number = self.random.next() >> 33 >> (self.random.next() >> 59);
-            write!(self.text, "{name} v{left}, {number}")?;
+            write!(self.text, "{name}{ending} v{left}, {number}")?;
         } else {
             let right = self.pick();
-            write!(self.text, "{name} v{left}, v{right}")?;
+            write!(self.text, "{name}{ending} v{left}, v{right}")?;
         }
         Ok(())
     }
 
     /// Writes a shift, by a constant or by a vreg.
     fn write_shift(&mut self, name: &str) -> Result<(), AllocError> {
-        let left = self.pick();
+        let (ending, left) = (self.ending(), self.pick());
         if self.random.below(2) == 0 {
-            let places = self.random.below(64);
-            write!(self.text, "{name} v{left}, {places}")?;
+            let places = if ending.is_empty() {
+                self.random.below(64)
+            } else {
+                self.random.below(32)
+            };
+            write!(self.text, "{name}{ending} v{left}, {places}")?;
         } else {
             let count = self.pick();
-            write!(self.text, "{name} v{left}, v{count}")?;
+            write!(self.text, "{name}{ending} v{left}, v{count}")?;
         }
         Ok(())
     }
@@ -107,7 +116,11 @@ impl Draft {
         )?;
         let at = self.random.below(DIVISIONS.len());
         let name = DIVISIONS.get(at).copied().unwrap_or("div");
-        write!(self.text, "  v{to} = {name} v{dividend}, v{divisor}")?;
+        let ending = self.ending();
+        write!(
+            self.text,
+            "  v{to} = {name}{ending} v{dividend}, v{divisor}"
+        )?;
         Ok(())
     }
 

@@ -5,8 +5,8 @@ use Rattle.regalloc2_function.specs.FunctionValue.{FunctionValue, block_at}
 use Rattle.regalloc2_function.specs.Path.{Location, first_of}
 use Rattle.regalloc2_function.specs.SourceRun.{arguments_at}
 use Rattle.regalloc2_semantics.specs.Values.Interpreters.{number_set, passed_on}
-use Rattle.codegen_machine.specs.Ir.Numbers.{RunOutcome, Running, Returned, Trapped, Stuck, further, computed, shifted, divided, division_traps, condition_holds}
-use Rattle.codegen_machine.specs.Ir.Numbers.{truth}
+use Rattle.codegen_machine.specs.Ir.Numbers.{RunOutcome, Running, Returned, Trapped, Stuck, further, computed_at, shifted_at, divided_at, division_traps}
+use Rattle.codegen_machine.specs.Ir.Numbers.{condition_holds, widened, truth}
 use Rattle.codegen_machine.specs.declared.ir.operation.Operation.{Operation}
 use Rattle.codegen_machine.specs.declared.ir.operation.Operation.TheVariants.{Argument, Constant, Copy, Compute, Shift, Divide, Compare, Select, Jump, BranchIf, BranchIfHolds}
 use Rattle.codegen_machine.specs.declared.ir.operation.Operation.TheVariants.{Return}
@@ -51,15 +51,17 @@ done f args None s = Stuck
 done f args (Some (Argument to k)) s = onward s to (args k)
 done f args (Some (Constant to n)) s = onward s to n
 done f args (Some (Copy to from)) s = onward s to (s.numbers from)
-done f args (Some (Compute o to left right)) s = onward s to (computed o (s.numbers left) (right_number s.numbers right))
-done f args (Some (Shift o to left count)) s = onward s to (shifted o (s.numbers left) (count_number s.numbers count))
-done f args (Some (Divide part signed to left right)) s =
-    if division_traps signed (s.numbers left) (s.numbers right) then Trapped else onward s to (divided part signed (s.numbers left) (s.numbers right))
-done f args (Some (Compare c to left right)) s = onward s to (truth (condition_holds c (s.numbers left) (right_number s.numbers right)))
+done f args (Some (Compute w o to left right)) s = onward s to (computed_at w o (s.numbers left) (right_number s.numbers right))
+done f args (Some (Shift w o to left count)) s = onward s to (shifted_at w o (s.numbers left) (count_number s.numbers count))
+done f args (Some (Divide w part signed to left right)) s =
+    if division_traps w signed (s.numbers left) (s.numbers right) then Trapped else onward s to (divided_at w part signed (s.numbers left) (s.numbers right))
+done f args (Some (Compare w c to left right)) s =
+    onward s to (truth (condition_holds c (widened w (s.numbers left)) (widened w (right_number s.numbers right))))
 done f args (Some (Select to c one other)) s = onward s to (if nat_eq (s.numbers c) 0 then s.numbers other else s.numbers one)
 done f args (Some Jump) s = along f s 0
 done f args (Some (BranchIf v)) s = along f s (if nat_eq (s.numbers v) 0 then 1 else 0)
-done f args (Some (BranchIfHolds c left right)) s = along f s (if condition_holds c (s.numbers left) (right_number s.numbers right) then 0 else 1)
+done f args (Some (BranchIfHolds w c left right)) s =
+    along f s (if condition_holds c (widened w (s.numbers left)) (widened w (right_number s.numbers right)) then 0 else 1)
 done f args (Some (Return v)) s = Returned (s.numbers v)
 
 -- one step: that of the current line

@@ -4,6 +4,8 @@ use Rattle.codegen_machine.specs.declared.ir.operation.Operator.{Operator}
 use Rattle.codegen_machine.specs.declared.ir.operation.Operator.TheVariants.{Add, Sub, Mul, And, Or, Xor}
 use Rattle.codegen_machine.specs.declared.ir.operation.ShiftOperator.{ShiftOperator}
 use Rattle.codegen_machine.specs.declared.ir.operation.ShiftOperator.TheVariants.{Left, Right, SignedRight}
+use Rattle.codegen_machine.specs.declared.ir.operation.Width.{Width}
+use Rattle.codegen_machine.specs.declared.ir.operation.Width.TheVariants.{Full, Half}
 use Rattle.codegen_machine.specs.declared.ir.operation.DivisionPart.{DivisionPart}
 use Rattle.codegen_machine.specs.declared.ir.operation.DivisionPart.TheVariants.{Quotient, Remainder}
 use Rattle.codegen_machine.specs.declared.ir.operation.Condition.{Condition}
@@ -24,6 +26,27 @@ abbrev pub shifted : ShiftOperator → ℕ → ℕ → ℕ
 shifted Left a n = (a * 2 ^ (n % 64)) % 2 ^ 64
 shifted Right a n = a / 2 ^ (n % 64)
 shifted SignedRight a n = if nat_lt a (2 ^ 63) then a / 2 ^ (n % 64) else 2 ^ 64 - 1 - (2 ^ 64 - 1 - a) / 2 ^ (n % 64)
+
+-- the bits of a number that an operation of a width reads
+abbrev pub at_width : Width → ℕ → ℕ
+at_width Full n = n
+at_width Half n = n % 2 ^ 32
+
+-- the same bits, sign-extended to 64, which keeps the unsigned order and the signed order
+abbrev pub widened : Width → ℕ → ℕ
+widened Full n = n
+widened Half n = if nat_lt (n % 2 ^ 32) (2 ^ 31) then n % 2 ^ 32 else n % 2 ^ 32 + (2 ^ 64 - 2 ^ 32)
+
+-- the result of an operator, at a width
+abbrev pub computed_at : Width → Operator → ℕ → ℕ → ℕ
+computed_at w o a b = at_width w (computed o a b)
+
+-- a shift by a count, modulo the width
+abbrev pub shifted_at : Width → ShiftOperator → ℕ → ℕ → ℕ
+shifted_at Full o a n = shifted o a n
+shifted_at Half Left a n = shifted Left a (n % 32) % 2 ^ 32
+shifted_at Half Right a n = shifted Right (a % 2 ^ 32) (n % 32)
+shifted_at Half SignedRight a n = shifted SignedRight (widened Half a) (n % 32) % 2 ^ 32
 
 -- a number's rank in the signed order: numbers from 2^63 on come first
 abbrev pub signed_rank : ℕ → ℕ
@@ -47,13 +70,24 @@ divided Remainder false a b = a % b
 divided Quotient true a b = with_sign (if is_negative a then not (is_negative b) else is_negative b) (magnitude a / magnitude b)
 divided Remainder true a b = with_sign (is_negative a) (magnitude a % magnitude b)
 
--- whether a division traps: if the divisor is 0, or if it is signed and divides -2^63 by -1
-abbrev pub division_traps : Bool → ℕ → ℕ → Bool
-division_traps signed a b = nat_eq b 0 || (signed && (nat_eq a (2 ^ 63) && nat_eq b (2 ^ 64 - 1)))
+-- the quotient or remainder of a division, at a width
+abbrev pub divided_at : Width → DivisionPart → Bool → ℕ → ℕ → ℕ
+divided_at Full part signed a b = divided part signed a b
+divided_at Half part false a b = divided part false (a % 2 ^ 32) (b % 2 ^ 32)
+divided_at Half part true a b = divided part true (widened Half a) (widened Half b) % 2 ^ 32
 
--- the upper half of a number extended to 128 bits: zeros, or copies of its highest bit
-abbrev pub extended : Bool → ℕ → ℕ
-extended signed a = if signed && is_negative a then 2 ^ 64 - 1 else 0
+-- the least signed number of a width, sign-extended
+abbrev pub least : Width → ℕ
+least Full = 2 ^ 63
+least Half = 2 ^ 64 - 2 ^ 31
+
+-- whether a division traps: if the divisor is 0, or if it is signed and divides the least number by -1
+abbrev pub division_traps : Width → Bool → ℕ → ℕ → Bool
+division_traps w signed a b = nat_eq (at_width w b) 0 || (signed && (nat_eq (widened w a) (least w) && nat_eq (widened w b) (2 ^ 64 - 1)))
+
+-- the upper half of a number extended to twice its width: zeros, or copies of its highest bit
+abbrev pub extended : Width → Bool → ℕ → ℕ
+extended w signed a = if signed && is_negative (widened w a) then at_width w (2 ^ 64 - 1) else 0
 
 -- whether a condition holds
 abbrev pub condition_holds : Condition → ℕ → ℕ → Bool

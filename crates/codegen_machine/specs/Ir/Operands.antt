@@ -53,26 +53,26 @@ abbrev pub operands_of : Operation → List OperandValue
 operands_of (Argument to k) = def_in Reg to ∷ []
 operands_of (Constant to n) = def_in Reg to ∷ []
 operands_of (Copy to from) = def_in Reg to ∷ use_in Any from ∷ []
-operands_of (Compute o to left right) = def_in (Reuse 1) to ∷ use_in Reg left ∷ right_in right
-operands_of (Shift o to left count) = def_in (Reuse 1) to ∷ use_in Reg left ∷ count_in count
-operands_of (Divide part signed to left right) = divide_operands part to left right
-operands_of (Compare c to left right) = def_in Reg to ∷ use_in Reg left ∷ right_in right
+operands_of (Compute w o to left right) = def_in (Reuse 1) to ∷ use_in Reg left ∷ right_in right
+operands_of (Shift w o to left count) = def_in (Reuse 1) to ∷ use_in Reg left ∷ count_in count
+operands_of (Divide w part signed to left right) = divide_operands part to left right
+operands_of (Compare w c to left right) = def_in Reg to ∷ use_in Reg left ∷ right_in right
 operands_of (Select to c one other) = def_in (Reuse 1) to ∷ use_in Reg one ∷ use_in Any other ∷ use_in Any c ∷ []
 operands_of Jump = []
 operands_of (BranchIf v) = use_in Any v ∷ []
-operands_of (BranchIfHolds c left right) = use_in Reg left ∷ right_in right
+operands_of (BranchIfHolds w c left right) = use_in Reg left ∷ right_in right
 operands_of (Return v) = use_in Any v ∷ []
 
 -- the clobbers of an operation, besides its definitions: a division clobbers the register of its other result
 abbrev pub is_lost_in : Operation → Register → Bool
-is_lost_in (Divide part signed to left right) r = is_register (record { number = other_register part; class = Int }) r
+is_lost_in (Divide w part signed to left right) r = is_register (record { number = other_register part; class = Int }) r
 is_lost_in o r = false
 
 -- the operations that jump to a successor
 abbrev pub is_jump : Operation → Bool
 is_jump Jump = true
 is_jump (BranchIf v) = true
-is_jump (BranchIfHolds c left right) = true
+is_jump (BranchIfHolds w c left right) = true
 is_jump o = false
 
 -- the operation that returns

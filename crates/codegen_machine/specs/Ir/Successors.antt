@@ -16,7 +16,7 @@ use Rattle.codegen_machine.specs.declared.ir.procedure.Malformed.TheVariants.{To
 abbrev pub wanted_by : Operation → ℕ
 wanted_by Jump = 1
 wanted_by (BranchIf v) = 2
-wanted_by (BranchIfHolds c left right) = 2
+wanted_by (BranchIfHolds w c left right) = 2
 wanted_by o = 0
 
 abbrev pub operations_of : List Line → List Operation
@@ -44,9 +44,9 @@ abbrev pub has_small_number : Line → Bool
 has_small_number l = right_is_small l.operation
   where
     right_is_small : Operation → Bool
-    right_is_small (Compute o to left right) = is_small right
-    right_is_small (Compare c to left right) = is_small right
-    right_is_small (BranchIfHolds c left right) = is_small right
+    right_is_small (Compute w o to left right) = is_small right
+    right_is_small (Compare w c to left right) = is_small right
+    right_is_small (BranchIfHolds w c left right) = is_small right
     right_is_small o = true
 
 -- why blocks and lines are rejected

@@ -5,6 +5,8 @@ use Rattle.codegen_machine.specs.declared.ir.operation.Operator.{Operator}
 use Rattle.codegen_machine.specs.declared.ir.operation.Operator.TheVariants.{Add, Sub, Mul, And, Or, Xor}
 use Rattle.codegen_machine.specs.declared.ir.operation.ShiftOperator.{ShiftOperator}
 use Rattle.codegen_machine.specs.declared.ir.operation.ShiftOperator.TheVariants.{Left, Right, SignedRight}
+use Rattle.codegen_machine.specs.declared.ir.operation.Width.{Width}
+use Rattle.codegen_machine.specs.declared.ir.operation.Width.TheVariants.{Full, Half}
 use Rattle.codegen_machine.specs.declared.ir.operation.Condition.{Condition}
 use Rattle.codegen_machine.specs.declared.ir.operation.Condition.TheVariants.{Equal, NotEqual, Less, LessOrEqual, Greater, GreaterOrEqual}
 use Rattle.codegen_machine.specs.declared.ir.operation.Condition.TheVariants.{SignedLess, SignedLessOrEqual, SignedGreater, SignedGreaterOrEqual}
@@ -24,27 +26,44 @@ abbrev pub byte_names : List (List ℕ)
 byte_names = codes "%al" ∷ codes "%cl" ∷ codes "%dl" ∷ codes "%bl" ∷ codes "%spl" ∷ codes "%bpl" ∷ codes "%sil" ∷ codes "%dil"
     ∷ codes "%r8b" ∷ codes "%r9b" ∷ codes "%r10b" ∷ codes "%r11b" ∷ codes "%r12b" ∷ codes "%r13b" ∷ codes "%r14b" ∷ codes "%r15b" ∷ []
 
+-- the names of their lower 32 bits
+abbrev pub half_names : List (List ℕ)
+half_names = codes "%eax" ∷ codes "%ecx" ∷ codes "%edx" ∷ codes "%ebx" ∷ codes "%esp" ∷ codes "%ebp" ∷ codes "%esi" ∷ codes "%edi"
+    ∷ codes "%r8d" ∷ codes "%r9d" ∷ codes "%r10d" ∷ codes "%r11d" ∷ codes "%r12d" ∷ codes "%r13d" ∷ codes "%r14d" ∷ codes "%r15d" ∷ []
+
+abbrev pub half_name : ℕ → List ℕ
+half_name r = slice_index_or half_names r (codes "%none")
+
 abbrev pub register_name : ℕ → List ℕ
 register_name r = slice_index_or register_names r (codes "%none")
 
 abbrev pub byte_name : ℕ → List ℕ
 byte_name r = slice_index_or byte_names r (codes "%none")
 
+-- the name of a register at a width, and the last letter of an instruction's name
+abbrev pub name_at : Width → ℕ → List ℕ
+name_at Full r = register_name r
+name_at Half r = half_name r
+
+abbrev pub letter : Width → List ℕ
+letter Full = codes "q"
+letter Half = codes "l"
+
 abbrev pub operator_name : Operator → List ℕ
-operator_name Add = codes "addq"
-operator_name Sub = codes "subq"
-operator_name Mul = codes "imulq"
-operator_name And = codes "andq"
-operator_name Or = codes "orq"
-operator_name Xor = codes "xorq"
+operator_name Add = codes "add"
+operator_name Sub = codes "sub"
+operator_name Mul = codes "imul"
+operator_name And = codes "and"
+operator_name Or = codes "or"
+operator_name Xor = codes "xor"
 
 abbrev pub shift_name : ShiftOperator → List ℕ
-shift_name Left = codes "shlq"
-shift_name Right = codes "shrq"
-shift_name SignedRight = codes "sarq"
+shift_name Left = codes "shl"
+shift_name Right = codes "shr"
+shift_name SignedRight = codes "sar"
 
 abbrev pub division_name : Bool → List ℕ
-division_name signed = if signed then codes "idivq" else codes "divq"
+division_name signed = if signed then codes "idiv" else codes "div"
 
 -- the conditions' suffixes: above and below for unsigned numbers, greater and less for signed ones
 abbrev pub condition_letters : Condition → List ℕ
@@ -63,10 +82,10 @@ condition_letters SignedGreaterOrEqual = codes "ge"
 abbrev pub frame_slot_text : ℕ → List ℕ
 frame_slot_text k = codes "8*" ++ decimal k ++ codes "(%rsp)"
 
-abbrev pub source_text : Source → List ℕ
-source_text (Register r) = register_name r
-source_text (Slot k) = frame_slot_text k
-source_text (Number n) = codes "$" ++ decimal n
+abbrev pub source_text : Width → Source → List ℕ
+source_text w (Register r) = name_at w r
+source_text w (Slot k) = frame_slot_text k
+source_text w (Number n) = codes "$" ++ decimal n
 
 -- an instruction, as addq %rcx, %rax
 abbrev pub instruction_text : Instruction → List ℕ
@@ -76,16 +95,17 @@ instruction_text (variant.Argument to k) = codes "movq 8*" ++ decimal k ++ codes
 instruction_text (variant.Move to from) = codes "movq " ++ register_name from ++ codes ", " ++ register_name to
 instruction_text (variant.Load to k) = codes "movq " ++ frame_slot_text k ++ codes ", " ++ register_name to
 instruction_text (variant.Store k from) = codes "movq " ++ register_name from ++ codes ", " ++ frame_slot_text k
-instruction_text (variant.Compute o to from) = operator_name o ++ codes " " ++ source_text from ++ codes ", " ++ register_name to
-instruction_text (variant.Shift o to) = shift_name o ++ codes " %cl, " ++ register_name to
-instruction_text (variant.ShiftBy o to n) = shift_name o ++ codes " $" ++ decimal n ++ codes ", " ++ register_name to
-instruction_text variant.ExtendSign = codes "cqto"
-instruction_text (variant.Divide signed from) = division_name signed ++ codes " " ++ source_text from
-instruction_text (variant.Compare left right) = codes "cmpq " ++ source_text right ++ codes ", " ++ register_name left
+instruction_text (variant.Compute w o to from) = operator_name o ++ letter w ++ codes " " ++ source_text w from ++ codes ", " ++ name_at w to
+instruction_text (variant.Shift w o to) = shift_name o ++ letter w ++ codes " %cl, " ++ name_at w to
+instruction_text (variant.ShiftBy w o to n) = shift_name o ++ letter w ++ codes " $" ++ decimal n ++ codes ", " ++ name_at w to
+instruction_text (variant.ExtendSign Full) = codes "cqto"
+instruction_text (variant.ExtendSign Half) = codes "cltd"
+instruction_text (variant.Divide w signed from) = division_name signed ++ letter w ++ codes " " ++ source_text w from
+instruction_text (variant.Compare w left right) = codes "cmp" ++ letter w ++ codes " " ++ source_text w right ++ codes ", " ++ name_at w left
 instruction_text (variant.Set to c) = codes "set" ++ condition_letters c ++ codes " " ++ byte_name to ++ codes "; movzbq " ++ byte_name to ++ codes ", "
     ++ register_name to
-instruction_text (variant.MoveIf c to from) = codes "cmov" ++ condition_letters c ++ codes "q " ++ source_text from ++ codes ", " ++ register_name to
-instruction_text (variant.Test from) = codes "cmpq $0, " ++ source_text from
+instruction_text (variant.MoveIf c to from) = codes "cmov" ++ condition_letters c ++ codes "q " ++ source_text Full from ++ codes ", " ++ register_name to
+instruction_text (variant.Test from) = codes "cmpq $0, " ++ source_text Full from
 instruction_text (variant.Jump target) = codes "jmp .L" ++ decimal target
 instruction_text (variant.JumpIf c target) = codes "j" ++ condition_letters c ++ codes " .L" ++ decimal target
 instruction_text variant.Return = codes "jmp .Lreturn"

@@ -21,7 +21,7 @@ const QUOTIENT_REGISTER: usize = 0;
 /// The register into which it writes remainders.
 const REMAINDER_REGISTER: usize = 2;
 
-/// An operator on two numbers, modulo 2^64.
+/// An operator on two numbers, modulo 2^64 or 2^32.
 #[derive(Clone, Copy, Debug, PartialEq, Eq)]
 pub enum Operator {
     /// Their sum.
@@ -41,12 +41,21 @@ pub enum Operator {
 /// A kind of shift.
 #[derive(Clone, Copy, Debug, PartialEq, Eq)]
 pub enum ShiftOperator {
-    /// To higher bits, modulo 2^64.
+    /// To higher bits, modulo 2^64 or 2^32.
     Left,
     /// To lower bits; zeros come in.
     Right,
     /// To lower bits; copies of the highest bit come in.
     SignedRight,
+}
+
+/// How many bits of its numbers an operation reads.
+#[derive(Clone, Copy, Debug, PartialEq, Eq)]
+pub enum Width {
+    /// All 64.
+    Full,
+    /// The lower 32. The result is below 2^32.
+    Half,
 }
 
 /// The result of a division.
@@ -94,7 +103,7 @@ pub enum Right {
     Number(u32),
 }
 
-/// A shift count, modulo 64.
+/// A shift count, modulo the width.
 #[derive(Clone, Copy)]
 pub enum Count {
     /// The number of a vreg.
@@ -129,6 +138,8 @@ pub enum Operation {
     },
     /// An operator: a sum, difference, product, or bitwise operation.
     Compute {
+        /// How many bits of the numbers it reads.
+        width: Width,
         /// The operator.
         operator: Operator,
         /// The vreg it defines.
@@ -140,6 +151,8 @@ pub enum Operation {
     },
     /// A shift.
     Shift {
+        /// How many bits of the numbers it reads.
+        width: Width,
         /// The kind of shift.
         operator: ShiftOperator,
         /// The vreg it defines.
@@ -149,9 +162,11 @@ pub enum Operation {
         /// The count.
         count: Count,
     },
-    /// A quotient or remainder. It traps if the divisor is 0, and if it is signed and divides -2^63
-    /// by -1.
+    /// A quotient or remainder. It traps if the divisor is 0, and if it is signed and divides the
+    /// least number by -1.
     Divide {
+        /// How many bits of the numbers it reads.
+        width: Width,
         /// The result: quotient or remainder.
         part: DivisionPart,
         /// Whether the division is signed.
@@ -165,6 +180,8 @@ pub enum Operation {
     },
     /// 1 if a condition holds, else 0.
     Compare {
+        /// How many bits of the numbers it reads.
+        width: Width,
         /// The condition.
         condition: Condition,
         /// The vreg it defines.
@@ -194,6 +211,8 @@ pub enum Operation {
     },
     /// Jumps to the first successor if a condition holds, else to the second.
     BranchIfHolds {
+        /// How many bits of the numbers it reads.
+        width: Width,
         /// The condition.
         condition: Condition,
         /// The first number.

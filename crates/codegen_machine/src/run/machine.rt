@@ -1,15 +1,17 @@
 //! The machine, step by step.
 
 ghost use Rattle.std.specs.Prelude.{◌≡◌, ◌+◌, ◌<◌, ◌^◌, IfOk, true, nat_lt, if◌then◌else◌, replicate, vec_len};
-ghost use Rattle.codegen_machine.specs.Ir.Numbers.{computed, condition_holds, extended, shifted, truth};
+ghost use Rattle.codegen_machine.specs.Ir.Numbers.{computed_at, condition_holds, extended, shifted_at, truth, widened};
 ghost use Rattle.codegen_machine.specs.Machine.{code_of, compared_to, divides, executed, is_general, jumped, machine_run, machine_step};
 ghost use Rattle.codegen_machine.specs.Machine.{frame_stored, with_compared, with_register, with_source, written};
 ghost use Rattle.codegen_machine.specs.Run.Runs.{arguments_of, first_machine, standing_of, run_outcome};
 ghost use Rattle.codegen_machine.specs.Run.States.{machine_state, source_number, MakesOutcome};
 
-use super::numbers::{argument, compute, divided, does_hold, does_trap, extended, shift};
+use super::numbers::{
+    argument, compute_at, divided_at, does_hold, does_trap, extended, shift_at, widened,
+};
 use super::standing::Standing;
-use crate::ir::{Condition, DivisionPart, Operator, ShiftOperator};
+use crate::ir::{Condition, DivisionPart, Operator, ShiftOperator, Width};
 use crate::{Code, Instruction, Source};
 use std::alloc::{AllocError, Global};
 
@@ -101,73 +103,87 @@ impl Machine {
     }
 
     /// Computes with a register.
-    fn compute(&mut self, operator: Operator, to: usize, from: Source) -> Option<Standing>
+    fn compute(
+        &mut self,
+        width: Width,
+        operator: Operator,
+        to: usize,
+        from: Source,
+    ) -> Option<Standing>
         requires room { self.old.pc + 1 < 2 ^ 64 }
         ensures { let s = machine_state self.old in MakesOutcome (with_register s to (λ a. with_source (vec_len self.old.frame) s from
-            (λ b. written s to (computed operator a b) None))) self.old self.new result }
+            (λ b. written s to (computed_at width operator a b) None))) self.old self.new result }
     {
         let left = self.register(to)?;
         let right = self.source(from)?;
-        self.write(to, compute(operator, left, right), None)
+        self.write(to, compute_at(width, operator, left, right), None)
     }
 
     /// Shifts a register by a number.
-    fn shift_by(&mut self, operator: ShiftOperator, to: usize, count: u64) -> Option<Standing>
+    fn shift_by(
+        &mut self,
+        width: Width,
+        operator: ShiftOperator,
+        to: usize,
+        count: u64,
+    ) -> Option<Standing>
         requires room { self.old.pc + 1 < 2 ^ 64 }
         ensures { let s = machine_state self.old in
-            MakesOutcome (with_register s to (λ a. written s to (shifted operator a count) None)) self.old self.new result }
+            MakesOutcome (with_register s to (λ a. written s to (shifted_at width operator a count) None)) self.old self.new result }
     {
         let number = self.register(to)?;
-        self.write(to, shift(operator, number, count), None)
+        self.write(to, shift_at(width, operator, number, count), None)
     }
 
     /// Shifts a register by the number in register 1.
-    fn shift(&mut self, operator: ShiftOperator, to: usize) -> Option<Standing>
+    fn shift(&mut self, width: Width, operator: ShiftOperator, to: usize) -> Option<Standing>
         requires room { self.old.pc + 1 < 2 ^ 64 }
         ensures { let s = machine_state self.old in MakesOutcome (with_register s to (λ a. with_register s 1
-            (λ n. written s to (shifted operator a n) None))) self.old self.new result }
+            (λ n. written s to (shifted_at width operator a n) None))) self.old self.new result }
     {
         let number = self.register(to)?;
         let count = self.register(1)?;
-        self.write(to, shift(operator, number, count), None)
+        self.write(to, shift_at(width, operator, number, count), None)
     }
 
     /// Extends register 0 into register 2.
-    fn extend_sign(&mut self) -> Option<Standing>
+    fn extend_sign(&mut self, width: Width) -> Option<Standing>
         requires room { self.old.pc + 1 < 2 ^ 64 }
-        ensures { let s = machine_state self.old in MakesOutcome (written s 2 (extended true (s.registers 0)) s.compared) self.old self.new result }
+        ensures { let s = machine_state self.old in MakesOutcome (written s 2 (extended width true (s.registers 0)) s.compared) self.old self.new result }
     {
-        let (number, compared) = (extended(true, self.registers[0]), self.compared);
+        let (number, compared) = (extended(width, true, self.registers[0]), self.compared);
         self.write(2, number, compared)
     }
 
     /// Divides the number in register 0.
-    fn divide_by(&mut self, is_signed: bool, divisor: u64) -> Option<Standing>
+    fn divide_by(&mut self, width: Width, is_signed: bool, divisor: u64) -> Option<Standing>
         requires room { self.old.pc + 1 < 2 ^ 64 }
-        ensures { MakesOutcome (divides (machine_state self.old) is_signed divisor) self.old self.new result }
+        ensures { MakesOutcome (divides (machine_state self.old) width is_signed divisor) self.old self.new result }
     {
         let dividend = self.registers[0];
-        if self.registers[2] != extended(is_signed, dividend) {
+        if self.registers[2] != extended(width, is_signed, dividend) {
             return None;
         }
-        if does_trap(is_signed, dividend, divisor) {
+        if does_trap(width, is_signed, dividend, divisor) {
             return Some(Standing::Trapped);
         }
-        self.registers[0] = divided(DivisionPart::Quotient, is_signed, dividend, divisor);
-        self.registers[2] = divided(DivisionPart::Remainder, is_signed, dividend, divisor);
+        let quotient = divided_at(width, DivisionPart::Quotient, is_signed, dividend, divisor);
+        let remainder = divided_at(width, DivisionPart::Remainder, is_signed, dividend, divisor);
+        self.registers[0] = quotient;
+        self.registers[2] = remainder;
         self.compared = None;
         self.pc += 1;
         Some(Standing::Running)
     }
 
     /// Divides the number in register 0 by the number of a source.
-    fn divide(&mut self, is_signed: bool, from: Source) -> Option<Standing>
+    fn divide(&mut self, width: Width, is_signed: bool, from: Source) -> Option<Standing>
         requires room { self.old.pc + 1 < 2 ^ 64 }
         ensures { let s = machine_state self.old in
-            MakesOutcome (with_source (vec_len self.old.frame) s from (λ b. divides s is_signed b)) self.old self.new result }
+            MakesOutcome (with_source (vec_len self.old.frame) s from (λ b. divides s width is_signed b)) self.old self.new result }
     {
         let divisor = self.source(from)?;
-        self.divide_by(is_signed, divisor)
+        self.divide_by(width, is_signed, divisor)
     }
 
     /// Sets the numbers last compared.
@@ -181,14 +197,14 @@ impl Machine {
     }
 
     /// Compares a register with a number.
-    fn compare_to(&mut self, left: usize, right: Source) -> Option<Standing>
+    fn compare_to(&mut self, width: Width, left: usize, right: Source) -> Option<Standing>
         requires room { self.old.pc + 1 < 2 ^ 64 }
         ensures { let s = machine_state self.old in MakesOutcome (with_register s left (λ a. with_source (vec_len self.old.frame) s right
-            (λ b. compared_to s a b))) self.old self.new result }
+            (λ b. compared_to s (widened width a) (widened width b)))) self.old self.new result }
     {
         let left = self.register(left)?;
         let right = self.source(right)?;
-        self.compare(left, right)
+        self.compare(widened(width, left), widened(width, right))
     }
 
     /// Sets a register to 1 if a condition holds, else to 0.
@@ -253,16 +269,30 @@ impl Machine {
             Instruction::Move { to, from } => self.fetch(to, Source::Register(from)),
             Instruction::Load { to, slot } => self.fetch(to, Source::Slot(slot)),
             Instruction::Store { slot, from } => self.store(slot, from),
-            Instruction::Compute { operator, to, from } => self.compute(operator, to, from),
-            Instruction::Shift { operator, to } => self.shift(operator, to),
+            Instruction::Compute {
+                width,
+                operator,
+                to,
+                from,
+            } => self.compute(width, operator, to, from),
+            Instruction::Shift {
+                width,
+                operator,
+                to,
+            } => self.shift(width, operator, to),
             Instruction::ShiftBy {
+                width,
                 operator,
                 to,
                 count,
-            } => self.shift_by(operator, to, u64::from(count)),
-            Instruction::ExtendSign => self.extend_sign(),
-            Instruction::Divide { is_signed, from } => self.divide(is_signed, from),
-            Instruction::Compare { left, right } => self.compare_to(left, right),
+            } => self.shift_by(width, operator, to, u64::from(count)),
+            Instruction::ExtendSign { width } => self.extend_sign(width),
+            Instruction::Divide {
+                width,
+                is_signed,
+                from,
+            } => self.divide(width, is_signed, from),
+            Instruction::Compare { width, left, right } => self.compare_to(width, left, right),
             Instruction::Set { to, condition } => self.set(to, condition),
             Instruction::MoveIf {
                 condition,

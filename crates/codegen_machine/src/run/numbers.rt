@@ -1,13 +1,55 @@
 //! Arithmetic of 64-bit integers.
 
 ghost use Rattle.std.specs.Prelude.{◌≡◌, ◌<◌, ◌&&◌, ◌||◌, false, true, nat_eq, not, if◌then◌else◌, slice_index};
-ghost use Rattle.codegen_machine.specs.Ir.Numbers.{computed, condition_holds, divided, division_traps, extended, is_negative, magnitude, shifted, signed_rank, with_sign};
+ghost use Rattle.codegen_machine.specs.Ir.Numbers.{at_width, computed, computed_at, condition_holds, divided, divided_at, division_traps, extended};
+ghost use Rattle.codegen_machine.specs.Ir.Numbers.{is_negative, least, magnitude, shifted, shifted_at, signed_rank, widened, with_sign};
 ghost use Rattle.codegen_machine.specs.Run.Runs.{arguments_of};
 
-use crate::ir::{Condition, DivisionPart, Operator, ShiftOperator};
+use crate::ir::{Condition, DivisionPart, Operator, ShiftOperator, Width};
+
+/// A number's lower 32 bits.
+fn lower_half(number: u64) -> u64
+    ensures { result ≡ at_width Width.Half number }
+{
+    number % (1 << 32)
+}
+
+/// The bits of a number that an operation of a width reads.
+fn at_width(width: Width, number: u64) -> u64
+    ensures { result ≡ at_width width number }
+{
+    match width {
+        Width::Full => number,
+        Width::Half => lower_half(number),
+    }
+}
+
+/// The same bits, sign-extended to 64.
+pub fn widened(width: Width, number: u64) -> u64
+    ensures { result ≡ widened width number }
+{
+    match width {
+        Width::Full => number,
+        Width::Half => {
+            let low = number % (1 << 32);
+            if low < 1 << 31 {
+                low
+            } else {
+                low + 0xffff_ffff_0000_0000
+            }
+        }
+    }
+}
+
+/// The result of an operator, at a width.
+pub fn compute_at(width: Width, operator: Operator, left: u64, right: u64) -> u64
+    ensures { result ≡ computed_at width operator left right }
+{
+    at_width(width, compute(operator, left, right))
+}
 
 /// The result of an operator.
-pub fn compute(operator: Operator, left: u64, right: u64) -> u64
+fn compute(operator: Operator, left: u64, right: u64) -> u64
     ensures { result ≡ computed operator left right }
 {
     match operator {
@@ -20,8 +62,22 @@ pub fn compute(operator: Operator, left: u64, right: u64) -> u64
     }
 }
 
+/// A number shifted by a count, modulo the width.
+pub fn shift_at(width: Width, operator: ShiftOperator, number: u64, count: u64) -> u64
+    ensures { result ≡ shifted_at width operator number count }
+{
+    match (width, operator) {
+        (Width::Full, _) => shift(operator, number, count),
+        (Width::Half, ShiftOperator::Left) => lower_half(shift(operator, number, count % 32)),
+        (Width::Half, ShiftOperator::Right) => shift(operator, lower_half(number), count % 32),
+        (Width::Half, ShiftOperator::SignedRight) => {
+            lower_half(shift(operator, widened(width, number), count % 32))
+        }
+    }
+}
+
 /// A number shifted by a count, modulo 64.
-pub fn shift(operator: ShiftOperator, number: u64, count: u64) -> u64
+fn shift(operator: ShiftOperator, number: u64, count: u64) -> u64
     ensures { result ≡ shifted operator number count }
 {
     let places = (count % 64) as u32;
@@ -85,8 +141,23 @@ fn signed_divided(part: DivisionPart, left: u64, right: u64) -> u64
     }
 }
 
+/// The quotient or remainder of a division, at a width.
+pub fn divided_at(width: Width, part: DivisionPart, is_signed: bool, left: u64, right: u64) -> u64
+    requires { 0 < at_width width right }
+    ensures { result ≡ divided_at width part is_signed left right }
+{
+    match width {
+        Width::Full => divided(part, is_signed, left, right),
+        Width::Half if is_signed => {
+            let (left, right) = (widened(width, left), widened(width, right));
+            lower_half(signed_divided(part, left, right))
+        }
+        Width::Half => divided(part, false, lower_half(left), lower_half(right)),
+    }
+}
+
 /// The quotient or remainder of a division.
-pub fn divided(part: DivisionPart, is_signed: bool, left: u64, right: u64) -> u64
+fn divided(part: DivisionPart, is_signed: bool, left: u64, right: u64) -> u64
     requires { 0 < right }
     ensures { result ≡ divided part is_signed left right }
 {
@@ -97,20 +168,31 @@ pub fn divided(part: DivisionPart, is_signed: bool, left: u64, right: u64) -> u6
     }
 }
 
-/// Whether a division traps.
-pub fn does_trap(is_signed: bool, left: u64, right: u64) -> bool
-    ensures value { result ≡ division_traps is_signed left right }
-    ensures some { result ≡ false → 0 < right }
+/// The least signed number of a width, sign-extended.
+fn least(width: Width) -> u64
+    ensures { result ≡ least width }
 {
-    right == 0 || (is_signed && left == 1 << 63 && right == u64::MAX)
+    match width {
+        Width::Full => 1 << 63,
+        Width::Half => 0xffff_ffff_8000_0000,
+    }
 }
 
-/// The upper half of a number extended to 128 bits: zeros, or copies of its highest bit.
-pub fn extended(is_signed: bool, number: u64) -> u64
-    ensures { result ≡ extended is_signed number }
+/// Whether a division traps.
+pub fn does_trap(width: Width, is_signed: bool, left: u64, right: u64) -> bool
+    ensures value { result ≡ division_traps width is_signed left right }
+    ensures some { result ≡ false → 0 < at_width width right }
 {
-    if is_signed && is_negative(number) {
-        u64::MAX
+    let is_least = widened(width, left) == least(width);
+    at_width(width, right) == 0 || (is_signed && is_least && widened(width, right) == u64::MAX)
+}
+
+/// The upper half of a number extended to twice its width: zeros, or copies of its highest bit.
+pub fn extended(width: Width, is_signed: bool, number: u64) -> u64
+    ensures { result ≡ extended width is_signed number }
+{
+    if is_signed && is_negative(widened(width, number)) {
+        at_width(width, u64::MAX)
     } else {
         0
     }

@@ -5,15 +5,15 @@ ghost use Rattle.regalloc2_semantics.specs.Values.Interpreters.{number_set, pass
 ghost use Rattle.regalloc2_function.specs.FunctionValue.{block_at};
 ghost use Rattle.regalloc2_function.specs.Path.{first_of};
 ghost use Rattle.regalloc2_function.specs.SourceRun.{arguments_at};
-ghost use Rattle.codegen_machine.specs.Ir.Numbers.{divided, division_traps, Trapped};
+ghost use Rattle.codegen_machine.specs.Ir.Numbers.{condition_holds, divided_at, division_traps, widened, Trapped};
 ghost use Rattle.codegen_machine.specs.Ir.Meaning.{along, count_number, onward, right_number, procedure_run, procedure_step};
 ghost use Rattle.codegen_machine.specs.Ir.Seen.{function_of_procedure, operations};
 ghost use Rattle.codegen_machine.specs.Run.Runs.{arguments_of, first_state, standing_of, run_outcome};
 ghost use Rattle.codegen_machine.specs.Run.States.{numbers_by_vreg, state_of};
 
-use super::numbers::{argument, compute, divided, does_hold, does_trap, shift};
+use super::numbers::{argument, compute_at, divided_at, does_hold, does_trap, shift_at, widened};
 use super::standing::Standing;
-use crate::ir::{Count, DivisionPart, Operation, Procedure, Right};
+use crate::ir::{Condition, Count, DivisionPart, Operation, Procedure, Right, Width};
 use regalloc2::{Block, Function, VReg};
 use std::alloc::{AllocError, Global};
 use std::collections::HashMap;
@@ -133,6 +133,15 @@ impl State {
         }
     }
 
+    /// Whether a condition holds.
+    fn holds(&self, width: Width, condition: Condition, left: VReg, right: Right) -> bool
+        ensures { result ≡ condition_holds condition (widened width (numbers_by_vreg self.now.numbers left))
+            (widened width (right_number (numbers_by_vreg self.now.numbers) right)) }
+    {
+        let (left, right) = (self.number(left), self.right(right));
+        does_hold(condition, widened(width, left), widened(width, right))
+    }
+
     /// Continues at the block's next line, with a vreg written.
     fn write(&mut self, to: VReg, number: u64) -> Result<Standing, AllocError>
         requires room { self.old.inst + 1 < 2 ^ 64 }
@@ -146,6 +155,7 @@ impl State {
     /// Continues at the next line with a result of a division in a vreg, or traps.
     fn divide(
         &mut self,
+        width: Width,
         part: DivisionPart,
         is_signed: bool,
         to: VReg,
@@ -153,13 +163,14 @@ impl State {
         right: u64,
     ) -> Result<Standing, AllocError>
         requires room { self.old.inst + 1 < 2 ^ 64 }
-        ensures { IfOk result (λ r. (if division_traps is_signed left right then Trapped else onward (state_of self.old) to (divided part is_signed left right))
+        ensures { IfOk result (λ r. (if division_traps width is_signed left right then Trapped
+            else onward (state_of self.old) to (divided_at width part is_signed left right))
             ≡ run_outcome r (state_of self.new)) }
     {
-        if does_trap(is_signed, left, right) {
+        if does_trap(width, is_signed, left, right) {
             return Ok(Standing::Trapped);
         }
-        self.write(to, divided(part, is_signed, left, right))
+        self.write(to, divided_at(width, part, is_signed, left, right))
     }
 
     /// Continues at the successor at a position.
@@ -212,24 +223,27 @@ impl State {
                 self.write(to, number)
             }
             Operation::Compute {
+                width,
                 operator,
                 to,
                 left,
                 right,
             } => {
-                let number = compute(operator, self.number(left), self.right(right));
+                let number = compute_at(width, operator, self.number(left), self.right(right));
                 self.write(to, number)
             }
             Operation::Shift {
+                width,
                 operator,
                 to,
                 left,
                 count,
             } => {
-                let number = shift(operator, self.number(left), self.count(count));
+                let number = shift_at(width, operator, self.number(left), self.count(count));
                 self.write(to, number)
             }
             Operation::Divide {
+                width,
                 part,
                 is_signed,
                 to,
@@ -237,15 +251,16 @@ impl State {
                 right,
             } => {
                 let (left, right) = (self.number(left), self.number(right));
-                self.divide(part, is_signed, to, left, right)
+                self.divide(width, part, is_signed, to, left, right)
             }
             Operation::Compare {
+                width,
                 condition,
                 to,
                 left,
                 right,
             } => {
-                let holds = does_hold(condition, self.number(left), self.right(right));
+                let holds = self.holds(width, condition, left, right);
                 self.write(to, u64::from(holds))
             }
             Operation::Select {
@@ -264,11 +279,12 @@ impl State {
                 self.enter(alloc, procedure, position)
             }
             Operation::BranchIfHolds {
+                width,
                 condition,
                 left,
                 right,
             } => {
-                let holds = does_hold(condition, self.number(left), self.right(right));
+                let holds = self.holds(width, condition, left, right);
                 self.enter(alloc, procedure, usize::from(!holds))
             }
             Operation::Return { value } => Ok(Standing::Returned(self.number(value))),

@@ -1,10 +1,10 @@
 //! Code as assembly for x86-64, in the syntax of AT&T.
 
 ghost use Rattle.std.specs.Prelude.{◌≡◌, ◌+◌, length, nat_eq, Some};
-ghost use Rattle.codegen_machine.specs.Text.Assembly.{byte_name, condition_letters, division_name, operator_name, register_name, shift_name};
+ghost use Rattle.codegen_machine.specs.Text.Assembly.{byte_name, condition_letters, division_name, half_name, letter, name_at, operator_name, register_name, shift_name};
 ghost use Rattle.codegen_machine.specs.Text.Assembly.{assembly_text, entry_text, exit_text, instruction_text, is_next, line_text, lines_text, source_text};
 
-use crate::ir::{Condition, Operator, ShiftOperator};
+use crate::ir::{Condition, Operator, ShiftOperator, Width};
 use crate::{Code, Instruction, Source};
 use std::fmt;
 
@@ -90,17 +90,62 @@ fn byte_name(register: usize) -> &'static str
     }
 }
 
+/// The name of a register's lower 32 bits.
+fn half_name(register: usize) -> &'static str
+    ensures { result.now ≡ half_name register }
+{
+    match register {
+        0 => "%eax",
+        1 => "%ecx",
+        2 => "%edx",
+        3 => "%ebx",
+        4 => "%esp",
+        5 => "%ebp",
+        6 => "%esi",
+        7 => "%edi",
+        8 => "%r8d",
+        9 => "%r9d",
+        10 => "%r10d",
+        11 => "%r11d",
+        12 => "%r12d",
+        13 => "%r13d",
+        14 => "%r14d",
+        15 => "%r15d",
+        _ => "%none",
+    }
+}
+
+/// The name of a register at a width.
+fn name_at(width: Width, register: usize) -> &'static str
+    ensures { result.now ≡ name_at width register }
+{
+    match width {
+        Width::Full => register_name(register),
+        Width::Half => half_name(register),
+    }
+}
+
+/// The last letter of an instruction's name at a width.
+fn letter(width: Width) -> &'static str
+    ensures { result.now ≡ letter width }
+{
+    match width {
+        Width::Full => "q",
+        Width::Half => "l",
+    }
+}
+
 /// The name of an operator's instruction.
 fn operator_name(operator: Operator) -> &'static str
     ensures { result.now ≡ operator_name operator }
 {
     match operator {
-        Operator::Add => "addq",
-        Operator::Sub => "subq",
-        Operator::Mul => "imulq",
-        Operator::And => "andq",
-        Operator::Or => "orq",
-        Operator::Xor => "xorq",
+        Operator::Add => "add",
+        Operator::Sub => "sub",
+        Operator::Mul => "imul",
+        Operator::And => "and",
+        Operator::Or => "or",
+        Operator::Xor => "xor",
     }
 }
 
@@ -109,9 +154,9 @@ fn shift_name(operator: ShiftOperator) -> &'static str
     ensures { result.now ≡ shift_name operator }
 {
     match operator {
-        ShiftOperator::Left => "shlq",
-        ShiftOperator::Right => "shrq",
-        ShiftOperator::SignedRight => "sarq",
+        ShiftOperator::Left => "shl",
+        ShiftOperator::Right => "shr",
+        ShiftOperator::SignedRight => "sar",
     }
 }
 
@@ -119,7 +164,7 @@ fn shift_name(operator: ShiftOperator) -> &'static str
 fn division_name(is_signed: bool) -> &'static str
     ensures { result.now ≡ division_name is_signed }
 {
-    if is_signed { "idivq" } else { "divq" }
+    if is_signed { "idiv" } else { "div" }
 }
 
 /// The suffix of instructions that test a condition.
@@ -140,16 +185,16 @@ fn condition_letters(condition: Condition) -> &'static str
     }
 }
 
-/// A register, eight bytes of the frame, or a number.
+/// A register or a slot of the frame at a width, or a number.
 #[derive(Clone, Copy)]
-struct SourceText(Source);
+struct SourceText(Width, Source);
 
 impl fmt::Display for SourceText {
-    ghost output = { λ t. Some (source_text t.0) };
+    ghost output = { λ t. Some (source_text t.0 t.1) };
 
     fn fmt<W: fmt::Write>(&self, f: &mut fmt::Formatter<W>) -> fmt::Result {
-        match self.0 {
-            Source::Register(register) => f.write_str(register_name(register)),
+        match self.1 {
+            Source::Register(register) => f.write_str(name_at(self.0, register)),
             Source::Slot(slot) => write!(f, "8*{slot}(%rsp)"),
             Source::Number(number) => write!(f, "${number}"),
         }
@@ -189,34 +234,50 @@ impl fmt::Display for InstructionText {
                 let from = register_name(from);
                 write!(f, "movq {from}, 8*{slot}(%rsp)")
             }
-            Instruction::Compute { operator, to, from } => {
-                let (name, to, from) = (
-                    operator_name(operator),
-                    register_name(to),
-                    SourceText(from),
-                );
-                write!(f, "{name} {from}, {to}")
+            Instruction::Compute {
+                width,
+                operator,
+                to,
+                from,
+            } => {
+                let (name, letter) = (operator_name(operator), letter(width));
+                let (to, from) = (name_at(width, to), SourceText(width, from));
+                write!(f, "{name}{letter} {from}, {to}")
             }
-            Instruction::Shift { operator, to } => {
-                let (name, to) = (shift_name(operator), register_name(to));
-                write!(f, "{name} %cl, {to}")
+            Instruction::Shift {
+                width,
+                operator,
+                to,
+            } => {
+                let (name, letter, to) = (shift_name(operator), letter(width), name_at(width, to));
+                write!(f, "{name}{letter} %cl, {to}")
             }
             Instruction::ShiftBy {
+                width,
                 operator,
                 to,
                 count,
             } => {
-                let (name, to) = (shift_name(operator), register_name(to));
-                write!(f, "{name} ${count}, {to}")
+                let (name, letter, to) = (shift_name(operator), letter(width), name_at(width, to));
+                write!(f, "{name}{letter} ${count}, {to}")
             }
-            Instruction::ExtendSign => f.write_str("cqto"),
-            Instruction::Divide { is_signed, from } => {
-                let (name, from) = (division_name(is_signed), SourceText(from));
-                write!(f, "{name} {from}")
+            Instruction::ExtendSign { width } => f.write_str(match width {
+                Width::Full => "cqto",
+                Width::Half => "cltd",
+            }),
+            Instruction::Divide {
+                width,
+                is_signed,
+                from,
+            } => {
+                let (name, letter) = (division_name(is_signed), letter(width));
+                let from = SourceText(width, from);
+                write!(f, "{name}{letter} {from}")
             }
-            Instruction::Compare { left, right } => {
-                let (left, right) = (register_name(left), SourceText(right));
-                write!(f, "cmpq {right}, {left}")
+            Instruction::Compare { width, left, right } => {
+                let (letter, left) = (letter(width), name_at(width, left));
+                let right = SourceText(width, right);
+                write!(f, "cmp{letter} {right}, {left}")
             }
             Instruction::Set { to, condition } => {
                 let (byte, to, letters) = (
@@ -234,12 +295,12 @@ impl fmt::Display for InstructionText {
                 let (letters, to, from) = (
                     condition_letters(condition),
                     register_name(to),
-                    SourceText(from),
+                    SourceText(Width::Full, from),
                 );
                 write!(f, "cmov{letters}q {from}, {to}")
             }
             Instruction::Test { from } => {
-                let from = SourceText(from);
+                let from = SourceText(Width::Full, from);
                 write!(f, "cmpq $0, {from}")
             }
             Instruction::Jump { target } => write!(f, "jmp .L{target}"),

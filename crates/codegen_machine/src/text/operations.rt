@@ -3,7 +3,7 @@
 ghost use Rattle.std.specs.Prelude.{◌≤◌};
 ghost use Rattle.regalloc2_text.specs.Cursor.Cursor.{tokens_left};
 
-use crate::ir::{Condition, Count, DivisionPart, Operation, Operator, Right, ShiftOperator};
+use crate::ir::{Condition, Count, DivisionPart, Operation, Operator, Right, ShiftOperator, Width};
 use regalloc2::{RegClass, VReg};
 use regalloc2_text::cursor::Cursor;
 
@@ -14,7 +14,22 @@ const LAST_ARGUMENT: u64 = (1 << 28) - 1;
 const LAST_NUMBER: u64 = (1 << 31) - 1;
 
 /// The greatest shift count that is given as a number.
-const LAST_COUNT: u64 = 63;
+fn last_count(width: Width) -> u64
+    ensures { result ≤ 63 }
+{
+    match width {
+        Width::Full => 63,
+        Width::Half => 31,
+    }
+}
+
+/// An operation's name without the `32` of a 32-bit form, and its width.
+fn split_width(name: &str) -> (&str, Width) {
+    match name.strip_suffix("32") {
+        Some(name) => (name, Width::Half),
+        None => (name, Width::Full),
+    }
+}
 
 /// The operator with that name.
 fn operator_named(name: &str) -> Option<Operator> {
@@ -97,15 +112,21 @@ fn read_pair(cursor: &mut Cursor<'_, '_>) -> (VReg, Right) {
 }
 
 /// A shift, from its first number on: the number and the count, with a comma between them.
-fn read_shift(cursor: &mut Cursor<'_, '_>, operator: ShiftOperator, to: VReg) -> Operation {
+fn read_shift(
+    cursor: &mut Cursor<'_, '_>,
+    width: Width,
+    operator: ShiftOperator,
+    to: VReg,
+) -> Operation {
     let left = read_vreg(cursor);
     cursor.want(",");
     let count = if cursor.begins("v") {
         Count::VReg(read_vreg(cursor))
     } else {
-        Count::Number(cursor.number(LAST_COUNT) as u8)
+        Count::Number(cursor.number(last_count(width)) as u8)
     };
     Operation::Shift {
+        width,
         operator,
         to,
         left,
@@ -116,6 +137,7 @@ fn read_shift(cursor: &mut Cursor<'_, '_>, operator: ShiftOperator, to: VReg) ->
 /// A division, from its dividend on: the dividend and the divisor, with a comma between them.
 fn read_division(
     cursor: &mut Cursor<'_, '_>,
+    width: Width,
     (part, is_signed): (DivisionPart, bool),
     to: VReg,
 ) -> Operation {
@@ -123,6 +145,7 @@ fn read_division(
     cursor.want(",");
     let right = read_vreg(cursor);
     Operation::Divide {
+        width,
         part,
         is_signed,
         to,
@@ -148,24 +171,59 @@ fn read_select(cursor: &mut Cursor<'_, '_>, to: VReg) -> Operation {
 
 /// A branch, after its name: the deciding number, or a condition and the two numbers it compares.
 pub fn read_branch(cursor: &mut Cursor<'_, '_>) -> Operation {
-    let Some(condition) = condition_named(cursor.peek().unwrap_or("")) else {
+    let (name, width) = split_width(cursor.peek().unwrap_or(""));
+    let Some(condition) = condition_named(name) else {
         let value = read_vreg(cursor);
         return Operation::BranchIf { value };
     };
     cursor.advance();
     let (left, right) = read_pair(cursor);
     Operation::BranchIfHolds {
+        width,
         condition,
         left,
         right,
     }
 }
 
+/// An operation of two numbers, from its name on; nothing if it has another name.
+fn read_named(cursor: &mut Cursor<'_, '_>, to: VReg) -> Option<Operation> {
+    let (name, width) = split_width(cursor.peek().unwrap_or(""));
+    if let Some(operator) = operator_named(name) {
+        cursor.advance();
+        let (left, right) = read_pair(cursor);
+        return Some(Operation::Compute {
+            width,
+            operator,
+            to,
+            left,
+            right,
+        });
+    }
+    if let Some(condition) = condition_named(name) {
+        cursor.advance();
+        let (left, right) = read_pair(cursor);
+        return Some(Operation::Compare {
+            width,
+            condition,
+            to,
+            left,
+            right,
+        });
+    }
+    if let Some(operator) = shift_named(name) {
+        cursor.advance();
+        return Some(read_shift(cursor, width, operator, to));
+    }
+    let division = division_named(name)?;
+    cursor.advance();
+    Some(read_division(cursor, width, division, to))
+}
+
 /// The operation that writes a vreg, from the register on.
 pub fn read_value(cursor: &mut Cursor<'_, '_>) -> Operation {
     let to = read_vreg(cursor);
     cursor.want("=");
-    let name = cursor.peek().unwrap_or("");
     if cursor.has("argument") {
         let index = cursor.number(LAST_ARGUMENT) as u32;
         return Operation::Argument { to, index };
@@ -174,33 +232,8 @@ pub fn read_value(cursor: &mut Cursor<'_, '_>) -> Operation {
         let from = read_vreg(cursor);
         return Operation::Copy { to, from };
     }
-    if let Some(operator) = operator_named(name) {
-        cursor.advance();
-        let (left, right) = read_pair(cursor);
-        return Operation::Compute {
-            operator,
-            to,
-            left,
-            right,
-        };
-    }
-    if let Some(condition) = condition_named(name) {
-        cursor.advance();
-        let (left, right) = read_pair(cursor);
-        return Operation::Compare {
-            condition,
-            to,
-            left,
-            right,
-        };
-    }
-    if let Some(operator) = shift_named(name) {
-        cursor.advance();
-        return read_shift(cursor, operator, to);
-    }
-    if let Some(division) = division_named(name) {
-        cursor.advance();
-        return read_division(cursor, division, to);
+    if let Some(operation) = read_named(cursor, to) {
+        return operation;
     }
     if cursor.has("select") {
         return read_select(cursor, to);

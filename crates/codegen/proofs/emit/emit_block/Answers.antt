@@ -1,4 +1,4 @@
-use Rattle.std.proofs.Common.{ap, ◌++◌, length}
+use Rattle.std.proofs.Common.{ap, ◌+◌, ◌++◌, length}
 use Rattle.regalloc2_function.specs.FunctionValue.{block_at}
 use Rattle.regalloc2_function.specs.Following.{end_within}
 use Rattle.regalloc2_function.specs.Views.{output_of}
@@ -11,7 +11,7 @@ pub loop-item-init : goal.loop-item-init
 loop-item-init c =
     let f = function_of_procedure c.args.f.now in
     let b = block_at f c.args.block in
-    let code = items_code (operations c.args.f.now) (output_of c.args.out.now) b.succs in (
+    let code = items_code (operations c.args.f.now) (output_of c.args.out.now) b.succs (c.args.block + 1) in (
       rw c.into_iter-item-iterator.ensures.into_iter_gives (all_wider b.range.first b.range.end (length f.insts) _
           (end_within f c.requires.follow c.args.block c.requires.block) c.block_insts_and_edits-item-items.ensures.within),
       rw c.into_iter-item-iterator.ensures.into_iter_gives (ap (λ xs. c.args.code.now.items ++ code xs)
@@ -24,8 +24,8 @@ emit_item-requires-clause-within c = (next_within _ _ _ _ c.loop-item.invariant.
 pub loop-item-preserved : goal.loop-item-preserved
 loop-item-preserved c = (
   (next_within _ _ _ _ c.loop-item.invariant.0 c.in-Some.ensures.steps).1,
-  one_item (operations c.args.f.now) (output_of c.args.out.now) _ _ _ _ _ _ _ c.loop-item.invariant.1 c.in-Some.ensures.steps c.in_ok-emit_item.ensures,
+  one_item (operations c.args.f.now) (output_of c.args.out.now) _ _ _ _ _ _ _ _ c.loop-item.invariant.1 c.in-Some.ensures.steps c.in_ok-emit_item.ensures,
 )
 
 pub returns : goal.returns
-returns c = no_item (operations c.args.f.now) (output_of c.args.out.now) _ _ _ _ c.loop-item.invariant.1 c.in-None.ensures.steps.0
+returns c = no_item (operations c.args.f.now) (output_of c.args.out.now) _ _ _ _ _ c.loop-item.invariant.1 c.in-None.ensures.steps.0
