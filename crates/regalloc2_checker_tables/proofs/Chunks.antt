@@ -1,6 +1,6 @@
 -- Chunks of an array and of saved copies of it.
 use Rattle.std.proofs.Common.{ℕ, ◌≡◌, ◌+◌, ◌*◌, ◌<◌, ◌≤◌, ◌/◌, ◌%◌, arith, List, length, get_or, sym, ap, ◌∙◌, subst}
-use Rattle.std.proofs.Common.{Bool, true, false, nat_eq, refl, ◌-◌}
+use Rattle.std.proofs.Common.{Bool, true, false, nat_eq, refl, ◌-◌, ◌≢◌, inl, inr}
 use Rattle.std.specs.Prelude.{not}
 use Rattle.std.specs.List.{between}
 use Rattle.std.specs.Cmp.Lexicographic.{pointwise}
@@ -37,6 +37,14 @@ chunks-alike words cells bases k from end h l same i lo hi =
     let at = h.known (i / 64) (omega arith) (omega arith) in
     let whole : 64 * (i / 64) + i % 64 ≡ i = omega arith in
     ap (λ n. get_or cells n 0) (sym whole) ∙ at.same (i % 64) (omega arith) ∙ ap (λ b. get_or words (b + i % 64) 0) e
+
+-- a chunk whose base differs from that of a saved copy is one of the array's
+pub chunk-inside : (words cells : List ℕ) (bases : Copies) (k j : ℕ) → AreChunksKept words cells bases → j < length bases.cells →
+    number_in_cell bases j ≢ saved_at bases k j → 64 * j + 64 ≤ length cells
+chunk-inside words cells bases k j h l differs = elim (cases_lt (64 * j) (length cells)) [
+  | inl b ↦ (let whole = h.whole in omega arith)
+  | inr n ↦ absurd (differs (h.past_now j (omega arith) l ∙ sym (h.past_saved k j (omega arith) l)))
+]
 
 -- parts of two lists that are equal have the same numbers
 pub parts-same : (xs ys : List ℕ) (a b n t : ℕ) → between a (a + n) xs ≡ between b (b + n) ys → t < n → get_or xs (a + t) 0 ≡ get_or ys (b + t) 0

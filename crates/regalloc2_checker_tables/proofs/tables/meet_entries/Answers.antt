@@ -1,4 +1,4 @@
-use Rattle.std.proofs.Common.{inl, inr, false, ◌+◌, ◌*◌, length, arith, ◌∙◌}
+use Rattle.std.proofs.Common.{inl, inr, false, ◌+◌, ◌*◌, length, arith}
 use Rattle.regalloc2_checker_tables.specs.Holding.{IsMetBetween}
 use Rattle.regalloc2_checker_tables.proofs.Holders.{still-then}
 use Rattle.regalloc2_checker_tables.proofs.Meets.{met-none, met-then, met-end}
