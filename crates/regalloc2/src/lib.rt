@@ -60,6 +60,7 @@ pub mod ssa {
 
 /// A function that is kept in tables, and its builder, for clients that have no type of their own for one.
 pub mod table {
+    pub use regalloc2_serialize::InstOpcode;
     pub use regalloc2_serialize::table_function::{
         BlockDraft, BuildError, SlotUnits, TableBlock, TableBuilder, TableFunction, TableInst,
     };

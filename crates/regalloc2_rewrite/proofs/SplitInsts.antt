@@ -1,5 +1,6 @@
 -- Split edges keep the instructions, and add one for each new block.
-use Rattle.std.proofs.Common.{◌≡◌, ◌∙◌, ℕ, zero, suc, ◌+◌, ◌-◌, ◌<◌, ◌≤◌, Bool, true, false, List, [], ◌∷◌, ◌++◌, length, get_or, map, refl, sym, ap, arith}
+use Rattle.std.proofs.Common.{◌≡◌, ◌∙◌, ℕ, zero, suc, inl, inr, ◌+◌, ◌-◌, ◌<◌, ◌≤◌, Bool, true, false, refl, sym, ap, arith}
+use Rattle.std.proofs.Common.{List, [], ◌∷◌, ◌++◌, length, get_or, map}
 use Rattle.std.specs.Prelude.{nat_lt}
 use Rattle.std.specs.List.{range_with_len}
 use Rattle.std.proofs.lemmas.List.{append-nil, get_or_append_left, length-append}
@@ -7,9 +8,11 @@ use Rattle.std.proofs.lemmas.List.Concat.{flat_map-append}
 use Rattle.std.proofs.lemmas.List.FromFn.{get_or-map-range_with_len, length-map-range_with_len}
 use Rattle.regalloc2_names.specs.declared.sets.PRegSet.{PRegSet}
 use Rattle.regalloc2_function.specs.FunctionValue.{FunctionValue, block_at, inst_at, no_inst}
-use Rattle.regalloc2_function.specs.WellFormed.{BlocksFollow, IsFramed}
+use Rattle.regalloc2_function.specs.WellFormed.{BlocksEnd, BlocksFollow, IsFramed, last_of}
+use Rattle.regalloc2_serialize.specs.CopyOfFunction.{shown_inst}
 use Rattle.regalloc2_serialize.specs.TableFunction.Draft.{DraftValue}
 use Rattle.regalloc2_serialize.specs.TableFunction.Built.{insts_of}
+use Rattle.regalloc2_serialize.proofs.Whole.{inst-kept}
 use Rattle.regalloc2_rewrite.specs.SplitEdges.{Edge, edges_before, jump_on, kept_block, split_drafts}
 use Rattle.regalloc2_rewrite.proofs.Numbers.{is-below, is-past}
 
@@ -106,6 +109,20 @@ module _ (none : PRegSet) (f : FunctionValue) (framed : IsFramed f) where
       let at : 0 + i ≡ i = omega arith in
       ap (λ xs. get_or xs i no_inst) apart ∙ get_or_append_left (insts_of kept) (insts_of jumps) no_inst i (omega (arith, kept-many, less))
       ∙ ap (λ xs. get_or xs i no_inst) (insts-kept f framed) ∙ get_or-map-range_with_len (inst_at f) 0 (length f.insts) i i no_inst less at
+
+-- no instruction of a structurally valid function's block is both a branch and a return: a copy has all of it
+pub inst-shown : (f : FunctionValue) → BlocksEnd f → (b : ℕ) → b < length f.blocks → (i : ℕ) → (block_at f b).range.first ≤ i → i < (block_at f b).range.end →
+    shown_inst (inst_at f i) ≡ inst_at f i
+inst-shown f ends b less i from upto = inst-kept (inst_at f i) (by (nat_lt i (last_of (block_at f b))) refl)
+  where
+    by : (c : Bool) → nat_lt i (last_of (block_at f b)) ≡ c → (inst_at f i).is_branch ≡ true → (inst_at f i).is_ret ≡ false
+    by true e branch = ((ends b less).1 i from upto (is-below i (last_of (block_at f b)) e)).1
+    by false e branch =
+        let last : i ≡ last_of (block_at f b) = omega (arith, is-past i (last_of (block_at f b)) e, upto) in
+        elim (ends b less).0 [
+          | inl jump ↦ ap (λ (n : ℕ). (inst_at f n).is_ret) last ∙ jump.1
+          | inr ret ↦ absurd (let none : (inst_at f i).is_branch ≡ false = ap (λ (n : ℕ). (inst_at f n).is_branch) last ∙ ret.0 in cc)
+        ]
 
 -- each block's instructions are the function's
 pub ends-within : (f : FunctionValue) → BlocksFollow f → (b : ℕ) → b < length f.blocks → (block_at f b).range.end ≤ length f.insts

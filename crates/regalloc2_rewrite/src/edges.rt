@@ -7,11 +7,12 @@ ghost use Rattle.regalloc2_serialize.specs.TableFunction.Table.{function_of_tabl
 ghost use Rattle.regalloc2_serialize.specs.TableFunction.Draft.{draft_of};
 ghost use Rattle.regalloc2_rewrite.specs.SplitEdges.{AgreeUpToTwo, AreJumps, HasSplitEdges, IsUnsplit, entries_into, is_critical, kept_block, split_arguments, split_drafts, split_succ};
 
-use crate::copied::{copied_range, laid_like};
+use crate::copied::{copied_insts, laid_like};
 use crate::error::RewriteError;
 use regalloc2_function::{Function, is_framed};
 use regalloc2_index::Block;
 use regalloc2_names::{PRegSet, VReg};
+use regalloc2_serialize::InstOpcode;
 use regalloc2_serialize::table_function::{BlockDraft, TableFunction, TableInst};
 use std::alloc::{AllocError, Allocator};
 
@@ -104,8 +105,7 @@ fn jump_to<A: Allocator + Copy>(
     draft.insts.push(TableInst {
         operands: Vec::new(alloc),
         clobbers: none,
-        is_branch: true,
-        is_ret: false,
+        op: InstOpcode::Branch,
     })?;
     draft.succs.push(to)?;
     draft.arguments.push(arguments)?;
@@ -197,7 +197,7 @@ fn split_block<F: Function, A: Allocator + Copy>(
     let (succs, arguments) = split_edges(alloc, f, none, block, entries, jumps)?;
     Ok(BlockDraft {
         params: f.block_params(block).to_vec(alloc)?,
-        insts: copied_range(alloc, f, f.block_insns(block))?,
+        insts: copied_insts(alloc, f, block)?,
         succs,
         arguments,
     })

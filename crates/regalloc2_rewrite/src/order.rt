@@ -8,10 +8,11 @@ ghost use Rattle.regalloc2_serialize.specs.TableFunction.Table.{function_of_tabl
 ghost use Rattle.regalloc2_serialize.specs.TableFunction.Draft.{draft_of};
 ghost use Rattle.regalloc2_rewrite.specs.Renumbered.{ListsEachOnce, IsRenumbered, IsUnnumbered, IsUnrenumbered, new_number, renamed};
 
-use crate::copied::{copied_arguments, copied_range, laid_like};
+use crate::copied::{copied_insts, laid_like};
 use crate::error::RewriteError;
 use regalloc2_function::{Function, is_framed};
 use regalloc2_index::Block;
+use regalloc2_serialize::from_function::copied_arguments;
 use regalloc2_serialize::table_function::{BlockDraft, TableFunction};
 use std::alloc::{AllocError, Allocator};
 
@@ -84,7 +85,7 @@ fn renamed_block<F: Function, A: Allocator + Copy>(
 {
     Ok(BlockDraft {
         params: f.block_params(block).to_vec(alloc)?,
-        insts: copied_range(alloc, f, f.block_insns(block))?,
+        insts: copied_insts(alloc, f, block)?,
         succs: renamed_succs(alloc, f.block_succs(block), numbers)?,
         arguments: copied_arguments(alloc, f, block)?,
     })

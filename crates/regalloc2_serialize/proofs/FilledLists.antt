@@ -1,8 +1,8 @@
 -- Lists that are filled by number.
-use Rattle.std.proofs.Common.{◌≡◌, ◌∙◌, ℕ, Bool, true, false, ◌+◌, ◌<◌, ◌≤◌, List, [], ◌∷◌, ◌++◌, length, map, get_or, sym, arith, refl}
+use Rattle.std.proofs.Common.{◌≡◌, ◌∙◌, ℕ, ◌+◌, ◌<◌, ◌≤◌, List, [], ◌∷◌, ◌++◌, length, map, get_or, sym, arith, refl}
 use Rattle.std.specs.List.{range_with_len}
-use Rattle.std.specs.Prelude.{◌&&◌, not, All}
-use Rattle.regalloc2_function.specs.FunctionValue.{FunctionValue, BlockValue, InstValue, no_block}
+use Rattle.std.specs.Prelude.{All}
+use Rattle.regalloc2_function.specs.FunctionValue.{FunctionValue, BlockValue, no_block}
 use Rattle.regalloc2_serialize.specs.CopyOfFunction.{shown_block, shown_inst, shown_function, HasNonemptyBlocks}
 use Rattle.regalloc2_serialize.proofs.Lists.{all-under}
 use Rattle.std.proofs.lemmas.List.{ext_get_or, get_or_default, get_or-map, length-map, map-append}
@@ -55,16 +55,6 @@ pub counted-shown : {X : Type 0} (f : FunctionValue) (view : X → BlockValue) (
 counted-shown f view xs same = all-under (λ b. length b.arguments ≡ length b.succs) view shown_block xs f.blocks same (λ k d less.
     let b : BlockValue = get_or f.blocks k d in
     length-map-range_with_len (λ i. get_or b.arguments i []) 0 (length b.succs))
-
-not-both : (branches returns : Bool) → (not returns && branches) ≡ true → returns ≡ false
-not-both branches true h = absurd cc
-not-both branches false h = refl
-
--- what is shown of an instruction isn't both a branch and a return
-pub kinds-shown : {X : Type 0} (f : FunctionValue) (view : X → InstValue) (xs : List X) → map view xs ≡ map shown_inst f.insts →
-    All (λ x. (view x).is_branch ≡ true → (view x).is_ret ≡ false) xs
-kinds-shown f view xs same = all-under (λ i. i.is_branch ≡ true → i.is_ret ≡ false) view shown_inst xs f.insts same (λ k d less.
-    not-both (get_or f.insts k d).is_branch (get_or f.insts k d).is_ret)
 
 -- one more number
 pub map-next : {X Y : Type 0} (view : X → Y) (f : ℕ → Y) (xs : List X) (k : ℕ) (x : X) → view x ≡ f k →

@@ -1,23 +1,19 @@
 -- What the lists of a sound stored function have for a block.
-use Rattle.std.proofs.Common.{◌≡◌, ◌∙◌, ℕ, ◌<◌, ◌≤◌, true, false, List, [], ◌∷◌, length, map, get_or, slice_index_or, ap, sym, subst, refl, arith}
+use Rattle.std.proofs.Common.{◌≡◌, ◌∙◌, ℕ, ◌<◌, ◌≤◌, List, [], length, map, get_or, slice_index_or, ap, sym, subst, refl, arith}
 use Rattle.std.specs.Prelude.{All}
 use Rattle.std.proofs.lemmas.List.{get_or-map, get_or_read, length-map}
 use Rattle.std.proofs.lemmas.List.FromFn.{get_or-range_with_len, length-range_with_len}
-use Rattle.std.proofs.lemmas.List.Elements.{All-cons, All-nil}
 use Rattle.std.proofs.lemmas.Simd.{map-map}
 use Rattle.regalloc2_names.specs.RegisterBits.{vreg_of_bits}
-use Rattle.std.specs.List.{AllZip, range_with_len}
+use Rattle.std.specs.List.{range_with_len}
 use Rattle.std.specs.Vec.{vec_len}
 use Rattle.std.specs.declared.vec.Vec.{Vec}
 use Rattle.regalloc2_index.specs.Range.{Span}
 use Rattle.regalloc2_serialize.specs.Validity.{HasAllOfEachBlock, IsSoundStored}
-use Rattle.regalloc2_function.specs.FunctionValue.{BlockValue, InstValue}
-use Rattle.regalloc2_serialize.specs.Decoded.{is_branch, is_ret, NamesInst, stored_block, stored_range}
+use Rattle.regalloc2_function.specs.FunctionValue.{BlockValue}
+use Rattle.regalloc2_serialize.specs.Decoded.{stored_block, stored_range}
 use Rattle.regalloc2_serialize.proofs.Lists.{all-under}
-use Rattle.regalloc2_serialize.specs.declared.data.InstOpcode.{InstOpcode}
-use Rattle.regalloc2_serialize.specs.declared.data.InstOpcode.TheVariants.{Op, Ret, Branch}
 use Rattle.regalloc2_serialize.specs.declared.data.StoredFunction.{StoredFunction}
-use Rattle.regalloc2_serialize.specs.declared.data.StoredInst.{StoredInst}
 
 -- a block has an item in each list by block
 pub record HasBlock {A : Type 0} (s : StoredFunction A) (b : ℕ) : Type 0 where
@@ -68,7 +64,8 @@ pub ends-within : {A X : Type 0} (s : StoredFunction A) (view : X → BlockValue
 ends-within s view xs sound same =
     by-number (λ b. b.range.end ≤ length s.insts.items) s view xs same (λ k less. (sound.within.ranges k (0, 0) less).1)
 
-long-item : {X Y : Type 0} (f : X → List Y) (xs : List X) (k : ℕ) → k < length xs → length (slice_index_or (map f xs) k []) ≡ get_or (map (λ x. length (f x)) xs) k 0
+long-item : {X Y : Type 0} (f : X → List Y) (xs : List X) (k : ℕ) → k < length xs →
+    length (slice_index_or (map f xs) k []) ≡ get_or (map (λ x. length (f x)) xs) k 0
 long-item f xs k less =
     sym (get_or-map length (map f xs) k [] 0 (rw length-map less)) ∙ ap (λ (l : List ℕ). get_or l k 0) (map-map length f xs)
 
@@ -84,21 +81,6 @@ counted s view xs sound same = by-number (λ b. length b.arguments ≡ length b.
         ∙ long-item (λ l. l.items) s.block_params_out.items k has.arguments
         ∙ ap (λ (l : List ℕ). get_or l k 0) sound.lengths.blocks.arguments
         ∙ sym (long-item (λ l. l.items) s.block_succs.items k has.succs)
-
--- an opcode is that of a branch, of a return or of neither
-one-kind : (op : InstOpcode) → is_branch op ≡ true → is_ret op ≡ false
-one-kind Op h = refl
-one-kind Ret h = absurd cc
-one-kind Branch h = refl
-
--- no instruction that stored numbers name is both a branch and a return
-pub kinds : {A : Type 0} (xs : List (StoredInst A)) (is : List InstValue) → AllZip (λ x i. NamesInst x i) xs is →
-    All (λ i. i.is_branch ≡ true → i.is_ret ≡ false) is
-kinds [] [] h = All-nil _
-kinds [] (i ∷ is) h = absurd h
-kinds (x ∷ xs) [] h = absurd h
-kinds (x ∷ xs) (i ∷ is) h = All-cons (λ i. i.is_branch ≡ true → i.is_ret ≡ false) i is
-    (λ branch. h.0.is_ret ∙ one-kind x.op (sym h.0.is_branch ∙ branch)) (kinds xs is h.1)
 
 -- an index of a list is one of the vector that keeps it
 pub in-vec : {X A : Type 0} (v : Vec X A) (i : ℕ) → i < length v.items → i < vec_len v

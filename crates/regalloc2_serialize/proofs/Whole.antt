@@ -15,10 +15,14 @@ branch-kept true false h = refl
 branch-kept false true h = refl
 branch-kept false false h = refl
 
+-- an instruction that isn't both a branch and a return is kept
+pub inst-kept : (i : InstValue) → (i.is_branch ≡ true → i.is_ret ≡ false) → shown_inst i ≡ i
+inst-kept i h = rw (branch-kept i.is_branch i.is_ret h) refl
+
 insts-kept : (is : List InstValue) → All (λ i. i.is_branch ≡ true → i.is_ret ≡ false) is → map shown_inst is ≡ is
 insts-kept [] h = refl
 insts-kept (i ∷ is) h =
-    let here : (not i.is_ret && i.is_branch) ≡ i.is_branch = branch-kept i.is_branch i.is_ret (All-head (λ i. i.is_branch ≡ true → i.is_ret ≡ false) i is h) in
+    let here : shown_inst i ≡ i = inst-kept i (All-head (λ i. i.is_branch ≡ true → i.is_ret ≡ false) i is h) in
     let rest : map shown_inst is ≡ is = insts-kept is (All-tail (λ i. i.is_branch ≡ true → i.is_ret ≡ false) i is h) in
     rw (here, rest) refl
 

@@ -1,5 +1,5 @@
 -- What stored functions and machines name.
-use Rattle.std.specs.Prelude.{ℕ, ◌≡◌, ◌↔◌, Bool, true, false, List, [], length, map, slice_index, slice_index_or, Contains}
+use Rattle.std.specs.Prelude.{ℕ, ◌≡◌, ◌↔◌, true, List, [], length, map, slice_index, slice_index_or, Contains}
 use Rattle.std.specs.Option.{option_map}
 use Rattle.std.specs.List.{AllZip}
 use Rattle.std.specs.List.{range_with_len}
@@ -11,21 +11,10 @@ use Rattle.regalloc2_names.specs.Packing.{operand_of_bits}
 use Rattle.regalloc2_names.specs.declared.sets.PRegSet.{PRegSet}
 use Rattle.regalloc2_function.specs.FunctionValue.{FunctionValue, BlockValue, InstValue, SlotSizes, Label}
 use Rattle.regalloc2_function.specs.Machine.{MachineValue}
-use Rattle.regalloc2_serialize.specs.declared.data.InstOpcode.{InstOpcode}
-use Rattle.regalloc2_serialize.specs.declared.data.InstOpcode.TheVariants.{Op, Ret, Branch}
+use Rattle.regalloc2_serialize.specs.Opcode.{is_branch, is_ret}
 use Rattle.regalloc2_serialize.specs.declared.data.StoredInst.{StoredInst}
 use Rattle.regalloc2_serialize.specs.declared.data.StoredMachine.{StoredMachine}
 use Rattle.regalloc2_serialize.specs.declared.data.StoredFunction.{StoredFunction}
-
-abbrev pub is_branch : InstOpcode → Bool
-is_branch Op = false
-is_branch Ret = false
-is_branch Branch = true
-
-abbrev pub is_ret : InstOpcode → Bool
-is_ret Op = false
-is_ret Ret = true
-is_ret Branch = false
 
 -- the members of a set are the registers with these indexes; a set has a word for each class
 pub record HasIndexes (indexes : List ℕ) (s : PRegSet) : Type 0 where

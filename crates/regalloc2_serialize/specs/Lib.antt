@@ -7,6 +7,7 @@ pub mod Decoded
 pub mod Flat
 pub mod FromJson
 pub mod JsonShape
+pub mod Opcode
 pub mod TableFunction
 pub mod Tables
 pub mod Validity

@@ -1,5 +1,8 @@
 //! Functions and machines with the numbers of their names.
 
+ghost use Rattle.std.specs.Prelude.{◌≡◌};
+ghost use Rattle.regalloc2_serialize.specs.Opcode.{is_branch, is_ret};
+
 use std::alloc::{Allocator, Global};
 
 /// A machine's registers as indexes. Lists by class hold integer, float and vector registers in this order.
@@ -26,6 +29,22 @@ pub enum InstOpcode {
     Ret,
     /// It goes on to a successor of its block.
     Branch,
+}
+
+impl InstOpcode {
+    /// Whether the instruction goes on to a successor of its block.
+    pub fn is_branch(self) -> bool
+        ensures { result ≡ is_branch self }
+    {
+        matches!(self, InstOpcode::Branch)
+    }
+
+    /// Whether the instruction returns.
+    pub fn is_ret(self) -> bool
+        ensures { result ≡ is_ret self }
+    {
+        matches!(self, InstOpcode::Ret)
+    }
 }
 
 /// An instruction with the numbers of its names.

@@ -11,7 +11,7 @@ ghost use Rattle.regalloc2_serialize.specs.Decoded.{HasIndexes, NamesInst, Names
 ghost use Rattle.regalloc2_serialize.specs.TableFunction.Table.{inst_of_table, block_of_table, sizes_of_table, function_of_table};
 ghost use Rattle.regalloc2_serialize.specs.Tables.{function_of_serializable};
 
-use super::data::{InstOpcode, StoredFunction, StoredInst, StoredMachine};
+use super::data::{StoredFunction, StoredInst, StoredMachine};
 use super::table_function::{SlotUnits, TableBlock, TableFunction, TableInst};
 use super::tables::SerializableFunction;
 use regalloc2_function::{MachineEnv, StoredFault};
@@ -135,8 +135,7 @@ fn inst_from<A: Allocator, B: Allocator>(
     Ok(TableInst {
         operands: operands_from(alloc, stored.operands.as_slice())?,
         clobbers: set_from(stored.clobbers.as_slice()),
-        is_branch: matches!(stored.op, InstOpcode::Branch),
-        is_ret: matches!(stored.op, InstOpcode::Ret),
+        op: stored.op,
     })
 }
 

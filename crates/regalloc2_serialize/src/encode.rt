@@ -1,18 +1,18 @@
 //! The numbers that name a function and a machine.
 
-ghost use Rattle.std.specs.Prelude.{◌≡◌, ◌↔◌, ℕ, true, false, All, IfOk, IfErr, IfSome, length, map};
+ghost use Rattle.std.specs.Prelude.{◌≡◌, ◌↔◌, ℕ, All, IfOk, IfErr, IfSome, length, map};
 ghost use Rattle.std.specs.List.{AllZip};
 ghost use Rattle.std.specs.Option.{option_map};
 ghost use Rattle.regalloc2_names.specs.Packing.{IsRegisterIndex, IsVRegBits, IsOperandBits, register_of_bits, vreg_of_bits, operand_of_bits};
 ghost use Rattle.regalloc2_function.specs.FunctionValue.{FunctionValue, IsSlotSize, label_of};
 ghost use Rattle.regalloc2_function.specs.Machine.{MachineValue};
 ghost use Rattle.regalloc2_function.specs.Views.{machine_of};
-ghost use Rattle.regalloc2_serialize.specs.Decoded.{is_branch, is_ret, HasIndexes, NamesInst, NamesMachine, NamesFunction, stored_range, stored_label, stored_sizes};
+ghost use Rattle.regalloc2_serialize.specs.Decoded.{HasIndexes, NamesInst, NamesMachine, NamesFunction, stored_range, stored_label, stored_sizes};
 ghost use Rattle.regalloc2_serialize.specs.TableFunction.Table.{inst_of_table, block_of_table, function_of_table};
 ghost use Rattle.regalloc2_serialize.specs.Tables.{function_of_serializable};
 ghost use Rattle.regalloc2_serialize.specs.Validity.{NamesOperands, NamesRegisters, HasThreeClasses, HasLengths, NamesAll, KeepsLimits, NamesItsBlocks, IsSoundStored};
 
-use super::data::{InstOpcode, StoredFunction, StoredInst, StoredMachine};
+use super::data::{StoredFunction, StoredInst, StoredMachine};
 use super::table_function::{TableBlock, TableFunction, TableInst};
 use super::tables::SerializableFunction;
 use regalloc2_function::MachineEnv;
@@ -196,32 +196,16 @@ fn numbers_of_machine<A: Allocator, B: Allocator + Copy>(
     })
 }
 
-/// What an instruction that isn't both a branch and a return does to the control flow.
-fn opcode_of(branches: bool, returns: bool) -> InstOpcode
-    requires { branches ≡ true → returns ≡ false }
-    ensures branch { branches ≡ is_branch result }
-    ensures ret { returns ≡ is_ret result }
-{
-    if branches {
-        InstOpcode::Branch
-    } else if returns {
-        InstOpcode::Ret
-    } else {
-        InstOpcode::Op
-    }
-}
-
 /// The numbers of an instruction.
 fn numbers_of_inst<A: Allocator, B: Allocator + Copy>(
     alloc: B,
     inst: &TableInst<A>,
 ) -> Result<StoredInst<B>, AllocError>
-    requires { inst.now.is_branch ≡ true → inst.now.is_ret ≡ false }
     ensures inst { IfOk result (λ numbers. NamesInst numbers (inst_of_table inst.now)) }
     ensures names { IfOk result (λ numbers. NamesOperands numbers) }
 {
     Ok(StoredInst {
-        op: opcode_of(inst.is_branch, inst.is_ret),
+        op: inst.op,
         operands: words_of_operands(alloc, inst.operands.as_slice())?,
         clobbers: indexes_of(alloc, inst.clobbers)?,
     })
@@ -232,7 +216,6 @@ fn numbers_of_insts<A: Allocator, B: Allocator + Copy>(
     alloc: B,
     insts: &[TableInst<A>],
 ) -> Result<Vec<StoredInst<B>, B>, AllocError>
-    requires { All (λ i. i.is_branch ≡ true → i.is_ret ≡ false) insts.now }
     ensures insts { IfOk result (λ numbers. AllZip (λ x i. NamesInst x i) numbers.items (map inst_of_table insts.now)) }
     ensures names { IfOk result (λ numbers. All (λ x. NamesOperands x) numbers.items) }
 {

@@ -1,13 +1,15 @@
-//! A function that is to be stored, from any other.
+//! Copies the parts of a function, or all of it to be stored.
 
-ghost use Rattle.std.specs.Prelude.{◌≡◌, ℕ, ◌+◌, ◌<◌, ◌≤◌, ◌^◌, IsTrue, All, IfOk, IfErr, length, map};
+ghost use Rattle.std.specs.Prelude.{◌≡◌, ◌&&◌, not, ℕ, ◌+◌, ◌<◌, ◌≤◌, ◌^◌, IsTrue, All, IfOk, IfErr, length, map};
 ghost use Rattle.std.specs.Int.{is_power_of_two};
 ghost use Rattle.regalloc2_function.specs.FunctionValue.{block_at, inst_at, slot_size};
 ghost use Rattle.regalloc2_function.specs.Views.{machine_of};
 ghost use Rattle.regalloc2_serialize.specs.CopyOfFunction.{shown_block, shown_inst, shown_function, HasNonemptyBlocks, IsKeptWhole};
+ghost use Rattle.regalloc2_serialize.specs.Opcode.{is_branch, is_ret};
 ghost use Rattle.regalloc2_serialize.specs.TableFunction.Table.{inst_of_table, block_of_table};
 ghost use Rattle.regalloc2_serialize.specs.Tables.{function_of_serializable};
 
+use super::data::InstOpcode;
 use super::table_function::{SlotUnits, TableBlock, TableFunction, TableInst};
 use super::tables::SerializableFunction;
 use regalloc2_function::{Function, MachineEnv};
@@ -15,8 +17,8 @@ use regalloc2_index::{Block, Inst};
 use regalloc2_names::{RegAllocError, RegClass, VReg};
 use std::alloc::{AllocError, Allocator};
 
-/// The arguments that a block passes to each of its successors.
-fn copied_arguments<F: Function, A: Allocator + Copy>(
+/// Returns the arguments that a block passes to each of its successors.
+pub fn copied_arguments<F: Function, A: Allocator + Copy>(
     alloc: A,
     f: &F,
     block: Block,
@@ -69,8 +71,22 @@ fn copied_blocks<F: Function, A: Allocator + Copy>(
     Ok(tables)
 }
 
-/// An instruction.
-fn copied_inst<F: Function, A: Allocator + Copy>(
+/// What an instruction does to the control flow. A branch that returns counts as a return.
+fn opcode_of(branches: bool, returns: bool) -> InstOpcode
+    ensures branch { is_branch result ≡ (not returns && branches) }
+    ensures ret { is_ret result ≡ returns }
+{
+    if returns {
+        InstOpcode::Ret
+    } else if branches {
+        InstOpcode::Branch
+    } else {
+        InstOpcode::Op
+    }
+}
+
+/// Returns a copy of an instruction. One that is both a branch and a return becomes a return.
+pub fn copied_inst<F: Function, A: Allocator + Copy>(
     alloc: A,
     f: &F,
     inst: Inst,
@@ -78,12 +94,10 @@ fn copied_inst<F: Function, A: Allocator + Copy>(
     requires { inst < length (F.function f.now).insts }
     ensures { IfOk result (λ table. inst_of_table table ≡ shown_inst (inst_at (F.function f.now) inst)) }
 {
-    let is_ret = f.is_ret(inst);
     Ok(TableInst {
         operands: f.inst_operands(inst).to_vec(alloc)?,
         clobbers: f.inst_clobbers(inst),
-        is_branch: !is_ret && f.is_branch(inst),
-        is_ret,
+        op: opcode_of(f.is_branch(inst), f.is_ret(inst)),
     })
 }
 
@@ -102,8 +116,8 @@ fn copied_insts<F: Function, A: Allocator + Copy>(
     Ok(tables)
 }
 
-/// The size of a slot for a class.
-fn copied_units<F: Function>(f: &F, class: RegClass) -> SlotUnits
+/// Returns the size of a slot for a class.
+pub fn copied_units<F: Function>(f: &F, class: RegClass) -> SlotUnits
     ensures { result.units ≡ slot_size (F.function f.now).slot_sizes class }
 {
     SlotUnits {

@@ -6,7 +6,7 @@ mod data;
 mod decode;
 mod encode;
 pub mod flat;
-mod from_function;
+pub mod from_function;
 mod from_json;
 mod json_outputs;
 pub mod table_function;

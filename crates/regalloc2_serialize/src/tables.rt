@@ -1,6 +1,6 @@
 //! A function with the machine that it is for, as they are stored.
 
-ghost use Rattle.std.specs.Prelude.{◌≡◌, ◌≤◌, ◌<◌, ◌^◌, ◌-◌, true, false, All, length, vec_len};
+ghost use Rattle.std.specs.Prelude.{◌≡◌, ◌≤◌, ◌<◌, ◌^◌, ◌-◌, All, length, vec_len};
 
 use super::table_function::TableFunction;
 use regalloc2_function::{Function, MachineEnv};
@@ -18,7 +18,6 @@ pub struct SerializableFunction<A: Allocator = Global> {
     pub ghost rises: { All (λ b. b.range.first ≤ b.range.end) function.blocks.items },
     pub ghost ends_within: { All (λ b. b.range.end ≤ vec_len function.insts) function.blocks.items },
     pub ghost arguments_counted: { All (λ b. length b.arguments.items ≡ length b.succs.items) function.blocks.items },
-    pub ghost one_kind: { All (λ i. i.is_branch ≡ true → i.is_ret ≡ false) function.insts.items },
 }
 
 impl<A: Allocator> Function for SerializableFunction<A> {

@@ -8,6 +8,7 @@ use super::random::{FIRST_SLOT, Random, any_class, preg};
 use regalloc2::{
     Operand, OperandConstraint, OperandKind, OperandPos, PReg, PRegSet, RegClass, VReg,
 };
+use regalloc2_serialize::InstOpcode;
 use regalloc2_serialize::table_function::TableInst;
 use std::alloc::Global;
 
@@ -154,7 +155,7 @@ impl Draft {
     }
 
     /// The instruction, with clobbers that are free at the late position.
-    pub fn finish(mut self, random: &mut Random, is_branch: bool, is_ret: bool) -> TableInst {
+    pub fn finish(mut self, random: &mut Random, op: InstOpcode) -> TableInst {
         let mut clobbers = PRegSet::empty();
         for _ in 0..random.below(4) {
             let class = any_class(random);
@@ -167,8 +168,7 @@ impl Draft {
         TableInst {
             operands,
             clobbers,
-            is_branch,
-            is_ret,
+            op,
         }
     }
 }

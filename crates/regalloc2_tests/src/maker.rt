@@ -7,6 +7,7 @@ use super::graph::Graph;
 use super::instructions::Draft;
 use super::random::{CLASSES, Random, any_class, any_machine, preg};
 use regalloc2::{Block, MachineEnv, Operand, OperandKind, PRegSet, RegClass, VReg};
+use regalloc2_serialize::InstOpcode;
 use regalloc2_serialize::table_function::{SlotUnits, TableBuilder, TableFunction, TableInst};
 use std::alloc::Global;
 
@@ -101,9 +102,10 @@ impl Maker {
     }
 
     /// An instruction of fewer than so many operands, and those that fill it up. A branch has uses alone, and isn't filled up.
-    fn inst(&mut self, below: usize, is_branch: bool, is_ret: bool) -> Option<TableInst>
+    fn inst(&mut self, below: usize, op: InstOpcode) -> Option<TableInst>
         requires { 0 < below }
     {
+        let is_branch = op.is_branch();
         let defined = self.known.len();
         let mut draft = Draft::new(self.alloc, self.usable, self.most);
         for _ in 0..self.random.below(below) {
@@ -122,7 +124,7 @@ impl Maker {
         if self.is_filled && !is_branch {
             self.fill_up(&mut draft, defined)?;
         }
-        Some(draft.finish(&mut self.random, is_branch, is_ret))
+        Some(draft.finish(&mut self.random, op))
     }
 
     /// Adds an instruction that defines the first vreg of each class.
@@ -184,9 +186,10 @@ impl Maker {
     /// The last instruction of a block: a return where no other block comes next, most often.
     fn ending(&mut self, graph: &Graph, number: usize) -> Option<TableInst> {
         if graph.nodes.get(number)?.succs.is_empty() && !self.random.once_in(20) {
-            self.inst(5, false, true)
+            self.inst(5, InstOpcode::Ret)
         } else {
-            self.inst(if graph.may_use(number)? { 3 } else { 1 }, true, false)
+            let below = if graph.may_use(number)? { 3 } else { 1 };
+            self.inst(below, InstOpcode::Branch)
         }
     }
 
@@ -194,7 +197,7 @@ impl Maker {
     fn fill(&mut self, graph: &mut Graph, f: &mut TableBuilder, number: usize) -> Option<()> {
         let block = Block::new(number % 100);
         for _ in 0..self.random.below(6) {
-            f.inst(block, self.inst(7, false, false)?).ok()?;
+            f.inst(block, self.inst(7, InstOpcode::Op)?).ok()?;
         }
         f.inst(block, self.ending(graph, number)?).ok()?;
         graph.nodes.get_mut(number)?.known = self.known.to_vec(self.alloc).ok()?;

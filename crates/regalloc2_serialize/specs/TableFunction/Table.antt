@@ -1,13 +1,14 @@
 -- The function that a table holds.
 use Rattle.std.specs.Prelude.{map}
 use Rattle.regalloc2_function.specs.FunctionValue.{FunctionValue, BlockValue, InstValue, SlotSizes, label_of}
+use Rattle.regalloc2_serialize.specs.Opcode.{is_branch, is_ret}
 use Rattle.regalloc2_serialize.specs.declared.table_function.table.TableBlock.{TableBlock}
 use Rattle.regalloc2_serialize.specs.declared.table_function.table.TableInst.{TableInst}
 use Rattle.regalloc2_serialize.specs.declared.table_function.table.SlotUnits.{SlotUnits}
 use Rattle.regalloc2_serialize.specs.declared.table_function.table.TableFunction.{TableFunction}
 
 abbrev pub inst_of_table : {A : Type 0} → TableInst A → InstValue
-inst_of_table i = record { operands = i.operands.items; clobbers = i.clobbers; is_branch = i.is_branch; is_ret = i.is_ret }
+inst_of_table i = record { operands = i.operands.items; clobbers = i.clobbers; is_branch = is_branch i.op; is_ret = is_ret i.op }
 
 abbrev pub block_of_table : {A : Type 0} → TableBlock A → BlockValue
 block_of_table b = record {

@@ -1,11 +1,12 @@
 //! Small functions by hand.
 
-ghost use Rattle.std.specs.Prelude.{◌≡◌, ◌<◌, ◌≤◌, ◌^◌, ◌-◌, ◌++◌, ◌∷◌, [], false, true, IfOk, IsTrue, map, vec_len};
+ghost use Rattle.std.specs.Prelude.{◌≡◌, ◌<◌, ◌≤◌, ◌^◌, ◌-◌, ◌++◌, ◌∷◌, [], false, IfOk, IsTrue, map, vec_len};
 ghost use Rattle.std.specs.Int.{is_power_of_two};
 ghost use Rattle.regalloc2_names.specs.Register.{Register};
 ghost use Rattle.regalloc2_names.specs.RegisterSet.{has_register};
 ghost use Rattle.regalloc2_serialize.specs.TableFunction.Table.{function_of_table, inst_of_table, block_of_table, sizes_of_table};
 
+use super::super::data::InstOpcode;
 use super::table::{SlotUnits, TableBlock, TableFunction, TableInst};
 use regalloc2_index::{Block, Inst, InstRange};
 use regalloc2_names::{Operand, PRegSet, VReg};
@@ -15,19 +16,16 @@ use std::alloc::{AllocError, Allocator};
 fn inst<A: Allocator + Copy>(
     alloc: A,
     operands: &[Operand],
-    is_branch: bool,
-    is_ret: bool,
+    op: InstOpcode,
 ) -> Result<TableInst<A>, AllocError>
     ensures operands { IfOk result (λ i. i.operands.items ≡ operands.now) }
     ensures clobbers { IfOk result (λ i. (r : Register) → has_register i.clobbers r ≡ false) }
-    ensures is_branch { IfOk result (λ i. i.is_branch ≡ is_branch) }
-    ensures is_ret { IfOk result (λ i. i.is_ret ≡ is_ret) }
+    ensures op { IfOk result (λ i. i.op ≡ op) }
 {
     Ok(TableInst {
         operands: operands.to_vec(alloc)?,
         clobbers: PRegSet::empty(),
-        is_branch,
-        is_ret,
+        op,
     })
 }
 
@@ -35,10 +33,9 @@ fn inst<A: Allocator + Copy>(
 pub fn op<A: Allocator + Copy>(alloc: A, operands: &[Operand]) -> Result<TableInst<A>, AllocError>
     ensures operands { IfOk result (λ i. i.operands.items ≡ operands.now) }
     ensures clobbers { IfOk result (λ i. (r : Register) → has_register i.clobbers r ≡ false) }
-    ensures is_branch { IfOk result (λ i. i.is_branch ≡ false) }
-    ensures is_ret { IfOk result (λ i. i.is_ret ≡ false) }
+    ensures op { IfOk result (λ i. i.op ≡ InstOpcode.Op) }
 {
-    inst(alloc, operands, false, false)
+    inst(alloc, operands, InstOpcode::Op)
 }
 
 /// An instruction that goes on to a successor of its block, with these operands.
@@ -48,20 +45,18 @@ pub fn branch<A: Allocator + Copy>(
 ) -> Result<TableInst<A>, AllocError>
     ensures operands { IfOk result (λ i. i.operands.items ≡ operands.now) }
     ensures clobbers { IfOk result (λ i. (r : Register) → has_register i.clobbers r ≡ false) }
-    ensures is_branch { IfOk result (λ i. i.is_branch ≡ true) }
-    ensures is_ret { IfOk result (λ i. i.is_ret ≡ false) }
+    ensures op { IfOk result (λ i. i.op ≡ InstOpcode.Branch) }
 {
-    inst(alloc, operands, true, false)
+    inst(alloc, operands, InstOpcode::Branch)
 }
 
 /// A return with these operands.
 pub fn ret<A: Allocator + Copy>(alloc: A, operands: &[Operand]) -> Result<TableInst<A>, AllocError>
     ensures operands { IfOk result (λ i. i.operands.items ≡ operands.now) }
     ensures clobbers { IfOk result (λ i. (r : Register) → has_register i.clobbers r ≡ false) }
-    ensures is_branch { IfOk result (λ i. i.is_branch ≡ false) }
-    ensures is_ret { IfOk result (λ i. i.is_ret ≡ true) }
+    ensures op { IfOk result (λ i. i.op ≡ InstOpcode.Ret) }
 {
-    inst(alloc, operands, false, true)
+    inst(alloc, operands, InstOpcode::Ret)
 }
 
 impl<A: Allocator + Copy> TableBlock<A> {

@@ -3,6 +3,7 @@
 ghost use Rattle.std.specs.Prelude.{◌≡◌, ◌<◌, ◌≤◌, ◌^◌, ◌-◌, IsTrue, All, vec_len};
 ghost use Rattle.std.specs.Int.{is_power_of_two};
 
+use super::super::data::InstOpcode;
 use regalloc2_function::Function;
 use regalloc2_index::{Block, Inst, InstRange};
 use regalloc2_names::{Operand, PRegSet, RegClass, VReg};
@@ -15,10 +16,8 @@ pub struct TableInst<A: Allocator = Global> {
     pub operands: Vec<Operand, A>,
     /// The registers that it overwrites besides.
     pub clobbers: PRegSet,
-    /// Whether it goes on to a successor of its block.
-    pub is_branch: bool,
-    /// Whether it returns.
-    pub is_ret: bool,
+    /// What it does to the control flow.
+    pub op: InstOpcode,
 }
 
 /// A block.
@@ -114,11 +113,11 @@ impl<A: Allocator> Function for TableFunction<A> {
     }
 
     fn is_ret(&self, inst: Inst) -> bool {
-        self.insts[inst.index()].is_ret
+        self.insts[inst.index()].op.is_ret()
     }
 
     fn is_branch(&self, inst: Inst) -> bool {
-        self.insts[inst.index()].is_branch
+        self.insts[inst.index()].op.is_branch()
     }
 
     fn branch_blockparams(&self, block: Block, _inst: Inst, succ_idx: usize) -> &[VReg] {

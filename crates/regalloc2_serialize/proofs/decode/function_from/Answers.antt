@@ -1,4 +1,4 @@
-use Rattle.std.proofs.Common.{refl, arith, ap, sym, subst, true, false, length, get_or, map, ◌≡◌, ◌<◌, ◌∙◌}
+use Rattle.std.proofs.Common.{refl, arith, ap, sym, subst, length, get_or, map, ◌≡◌, ◌<◌, ◌∙◌}
 use Rattle.std.specs.List.{AllZip}
 use Rattle.std.specs.Prelude.{All}
 use Rattle.std.proofs.lemmas.Result.{IfOk-from_err}
@@ -8,8 +8,8 @@ use Rattle.regalloc2_serialize.specs.Validity.{NamesOperands}
 use Rattle.regalloc2_serialize.specs.Decoded.{NamesInst, stored_label, stored_sizes}
 use Rattle.regalloc2_serialize.specs.TableFunction.Table.{inst_of_table, block_of_table}
 use Rattle.std.proofs.lemmas.List.{length-map}
-use Rattle.regalloc2_serialize.proofs.Given.{counted, ends-within, kinds, rises}
-use Rattle.regalloc2_serialize.proofs.Lists.{all-from-map, all-under}
+use Rattle.regalloc2_serialize.proofs.Given.{counted, ends-within, rises}
+use Rattle.regalloc2_serialize.proofs.Lists.{all-under}
 use Rattle.regalloc2_serialize.proofs.decode.function_from.Goals as goal
 
 pub machine_from-requires : goal.machine_from-requires
@@ -62,7 +62,6 @@ pub invariant_of-result : goal.invariant_of-result
 invariant_of-result g c =
     let s = c.args.stored.now in
     let bs = c.in_ok-blocks.blocks.items in
-    let is = c.in_ok-insts.insts.items in
     record {
       rises = rises s block_of_table bs c.requires c.in_ok-blocks.ensures.blocks;
       ends_within = λ k d less. omega (
@@ -74,8 +73,6 @@ invariant_of-result g c =
       );
       arguments_counted = λ k d less. sym (length-map (get_or bs k d).arguments.items (λ v. v.items))
           ∙ counted s block_of_table bs c.requires c.in_ok-blocks.ensures.blocks k d less;
-      one_kind = all-from-map (λ i. i.is_branch ≡ true → i.is_ret ≡ false) inst_of_table is
-          (kinds c.as_slice.result.now (map inst_of_table is) c.in_ok-insts.ensures.insts);
     }
 
 pub returns-clause-function : goal.returns-clause-function

@@ -1,4 +1,4 @@
-use Rattle.std.proofs.Common.{rules, ◌≡◌, ◌∷◌, [], ◌++◌, ◌+◌, true, false, sym, subst, take, map}
+use Rattle.std.proofs.Common.{rules, ◌≡◌, ◌∷◌, [], ◌++◌, ◌+◌, true, sym, subst, take, map}
 use Rattle.std.specs.List.{AllZip}
 use Rattle.std.specs.Prelude.{All}
 use Rattle.std.proofs.lemmas.List.Elements.{All-push}
@@ -7,10 +7,6 @@ use Rattle.regalloc2_serialize.specs.Validity.{NamesOperands}
 use Rattle.regalloc2_serialize.specs.TableFunction.Table.{inst_of_table}
 use Rattle.regalloc2_serialize.proofs.Lists.{zip-next-under}
 use Rattle.regalloc2_serialize.proofs.encode.numbers_of_insts.Goals as goal
-
-pub numbers_of_inst-requires : goal.numbers_of_inst-requires
-numbers_of_inst-requires g c =
-    subst (λ i. i.is_branch ≡ true → i.is_ret ≡ false) (sym c.inst-item.is) (c.requires c.loop-inst.inst-index c.inst-item.result c.loop-inst-test.true)
 
 pub loop-inst-preserved : goal.loop-inst-preserved
 loop-inst-preserved g c =

@@ -2,8 +2,8 @@ use Rattle.std.proofs.Common.{rules, arith, ◌≡◌, ◌∙◌, ◌<◌, get_o
 use Rattle.std.specs.Prelude.{All}
 use Rattle.std.proofs.lemmas.List.{length-map, map-id}
 use Rattle.regalloc2_function.specs.FunctionValue.{FunctionValue, IsLimited, label_of}
-use Rattle.regalloc2_serialize.specs.TableFunction.Table.{block_of_table, inst_of_table}
-use Rattle.regalloc2_serialize.proofs.FilledLists.{same-function, counted-shown, ends-shown, kinds-shown, rises-shown}
+use Rattle.regalloc2_serialize.specs.TableFunction.Table.{block_of_table}
+use Rattle.regalloc2_serialize.proofs.FilledLists.{same-function, counted-shown, ends-shown, rises-shown}
 use Rattle.regalloc2_serialize.proofs.Lists.{all-under}
 use Rattle.regalloc2_serialize.proofs.Whole.{kept-whole}
 use Rattle.regalloc2_serialize.proofs.tables.SerializableFunction.new.Goals as goal
@@ -35,7 +35,6 @@ invariant_of-result g c =
       );
       arguments_counted = λ k d less. sym (length-map (get_or bs k d).arguments.items (λ v. v.items))
           ∙ counted-shown f block_of_table bs c.in_ok-blocks.ensures.blocks k d less;
-      one_kind = kinds-shown f inst_of_table c.in_ok-insts.insts.items c.in_ok-insts.ensures.insts;
     }
 
 pub returns-clause-function : goal.returns-clause-function
