@@ -12,5 +12,6 @@ pub mod UsesNoted
 pub mod UsesInSSA
 pub mod FirstAndLastPoints
 pub mod LiveRangeTable
+pub mod Named
 pub mod KeptLabels
 pub mod Labelled

@@ -15,8 +15,9 @@ mod slots;
 mod walk;
 mod wanted;
 
-pub use labels::kept_labels;
+pub use labels::{kept_labels, kept_labels_by};
 pub use walk::live_ranges;
+pub use wanted::{is_wanted, marked_labels};
 
 /// An operand of the function: its instruction, and its index among the operands of that.
 #[derive(Clone, Copy, Debug, PartialEq, Eq)]

@@ -5,3 +5,4 @@ pub mod Promise
 pub mod ErrorReason
 pub mod DebugLocations
 pub mod Lending
+pub mod Survey

@@ -11,10 +11,14 @@ ghost use Rattle.regalloc2_fastalloc_state.specs.Validate.Constraints.{BranchDef
 ghost use Rattle.regalloc2_fastalloc_state.specs.OutOfResources.{Lacks};
 ghost use Rattle.regalloc2_fastalloc.specs.Promise.{IsAllocation};
 ghost use Rattle.regalloc2_fastalloc.specs.ErrorReason.{SomeDoesNotFit, units_at_most};
+ghost use Rattle.regalloc2_fastalloc.specs.Survey.{IsSurvey};
+ghost use Rattle.regalloc2_analysis.specs.LiveRanges.LiveRanges.{AreLabelsMarked, IsWanted};
+ghost use Rattle.regalloc2_analysis.specs.LiveRanges.WalkInvariant.{AreNamers};
 ghost use Rattle.regalloc2_fastalloc_state.specs.Validate.NoLimits.{AreTaken};
 ghost use Rattle.regalloc2_fastalloc_proofs.specs.BlockSteps.{offset_of};
 
-use super::{allocs, debug};
+use super::debug;
+use super::survey::Survey;
 use regalloc2_fastalloc_walk::state::State;
 use regalloc2_function::{Edit, Function, MachineEnv, Output, reads_the_same_numbers};
 use regalloc2_names::{Allocation, ProgPoint, RegAllocError};
@@ -38,6 +42,8 @@ fn fill_places<A: Allocator + Copy, F: Function, B: Allocator>(
     env: &MachineEnv<B>,
     offsets: &[u32],
     allocs: &mut [Allocation],
+    wanted: &[bool],
+    named: &[u32],
 ) -> Result<Rest<A>, RegAllocError>
     requires machine { MachineFits (F.function f.now) (machine_of env.now) }
     requires taken { AreTaken (F.function f.now) }
@@ -47,6 +53,8 @@ fn fill_places<A: Allocator + Copy, F: Function, B: Allocator>(
     requires offsets { (i : ℕ) → i < length (F.function f.now).insts → slice_index offsets.now i ≡ offset_of (F.function f.now) i }
     requires allocs_long { length allocs.old ≡ operand_count (F.function f.now) }
     requires no_places { (k : ℕ) → slice_index_or allocs.old k NoPlace ≡ NoPlace }
+    requires marked { AreLabelsMarked (F.function f.now) wanted.now }
+    requires listed { AreNamers (F.function f.now) (IsWanted wanted.now) named.now (length named.now) (length (F.function f.now).insts) }
     ensures allocation { IfOk result (λ rest. IsAllocation (F.function f.now) (machine_of env.now)
         (record {
           num_spillslots = rest.num_spillslots;
@@ -63,7 +71,7 @@ fn fill_places<A: Allocator + Copy, F: Function, B: Allocator>(
     // what only the walk needs is freed first: locating labels takes tables by vreg, too
     drop(state.places);
     drop(state.registers);
-    let debug_locations = debug::locations(alloc, f, &state.slots, offsets, allocs)?;
+    let debug_locations = debug::locations(alloc, f, &state.slots, offsets, allocs, wanted, named)?;
     let num_spillslots = state.slots.num_units();
     // and so are the slots, since a move that is listed takes more than one that is kept
     drop(state.slots);
@@ -77,24 +85,31 @@ fn fill_places<A: Allocator + Copy, F: Function, B: Allocator>(
     })
 }
 
-/// Allocates registers to the operands of a well-formed function, of every kind but `Limit`: so many in all.
+/// Allocates registers to the operands of a well-formed function, of every kind but `Limit`, after
+/// the pass over them.
 pub fn allocate<A: Allocator + Copy, F: Function, B: Allocator>(
     alloc: A,
     f: &F,
     env: &MachineEnv<B>,
-    total: u32,
+    found: Survey<A>,
 ) -> Result<Output<A>, RegAllocError>
     requires machine { MachineFits (F.function f.now) (machine_of env.now) }
     requires taken { AreTaken (F.function f.now) }
     requires branches { (i : ℕ) → i < length (F.function f.now).insts → BranchDefinesInPlace (inst_at (F.function f.now) i) }
     requires well_formed { IsWellFormed (machine_of env.now) (F.function f.now) }
-    requires total { total ≡ operand_count (F.function f.now) }
+    requires found { IsSurvey (F.function f.now) found.offsets.items found.total found.passes found.wanted.items found.named.items }
     ensures allocation { IfOk result (λ out. IsAllocation (F.function f.now) (machine_of env.now) (output_of out)) }
     ensures err { IfErr result (Lacks (SomeDoesNotFit (F.function f.now) (machine_of env.now)) (2 ^ 24 < units_at_most (F.function f.now))) }
 {
-    let offsets = allocs::offsets(alloc, f)?;
+    let Survey {
+        offsets,
+        total,
+        passes: _,
+        wanted,
+        named,
+    } = found;
     let mut allocs = vec![in alloc; Allocation::none(); total as usize]?;
-    let rest = fill_places(alloc, f, env, &offsets, &mut allocs)?;
+    let rest = fill_places(alloc, f, env, &offsets, &mut allocs, &wanted, &named)?;
     Ok(Output {
         num_spillslots: rest.num_spillslots,
         edits: rest.edits,

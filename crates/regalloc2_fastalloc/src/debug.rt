@@ -3,11 +3,12 @@
 ghost use Rattle.std.specs.Prelude.{◌≡◌, ◌<◌, ℕ, All, IfErr, IfOk, length, map, slice_index};
 ghost use Rattle.regalloc2_function.specs.FunctionValue.{inst_at, operand_count};
 ghost use Rattle.regalloc2_function.specs.Stored.{location_of};
-ghost use Rattle.regalloc2_analysis.specs.LiveRanges.LiveRanges.{IsSSA};
+ghost use Rattle.regalloc2_analysis.specs.LiveRanges.LiveRanges.{AreLabelsMarked, IsSSA, IsWanted};
+ghost use Rattle.regalloc2_analysis.specs.LiveRanges.WalkInvariant.{AreNamers};
 ghost use Rattle.regalloc2_fastalloc_proofs.specs.BlockSteps.{DefinesBelow, offset_of};
 ghost use Rattle.regalloc2_fastalloc.specs.DebugLocations.{AreLocated, HasPlace, location_shown, place_shown};
 
-use regalloc2_analysis::live_ranges::{KeptLabel, LiveRange, kept_labels};
+use regalloc2_analysis::live_ranges::{KeptLabel, LiveRange, kept_labels_by};
 use regalloc2_fastalloc_state::spillslots::SpillSlots;
 use regalloc2_function::Function;
 use regalloc2_names::{Allocation, ProgPoint, RegAllocError};
@@ -72,16 +73,20 @@ pub fn locations<A: Allocator + Copy, F: Function, B: Allocator>(
     slots: &SpillSlots<B>,
     offsets: &[u32],
     allocs: &[Allocation],
+    wanted: &[bool],
+    named: &[u32],
 ) -> Result<Vec<(u32, ProgPoint, ProgPoint, Allocation), A>, RegAllocError>
     requires ssa { IsSSA (F.function f.now) }
     requires room { DefinesBelow (F.function f.now) (length slots.now.vreg_spillslots) }
     requires offsets_long { length offsets.now ≡ length (F.function f.now).insts }
     requires offsets { (i : ℕ) → i < length (F.function f.now).insts → slice_index offsets.now i ≡ offset_of (F.function f.now) i }
     requires allocs_long { length allocs.now ≡ operand_count (F.function f.now) }
+    requires marked { AreLabelsMarked (F.function f.now) wanted.now }
+    requires listed { AreNamers (F.function f.now) (IsWanted wanted.now) named.now (length named.now) (length (F.function f.now).insts) }
     ensures ok { IfOk result (λ ds. AreLocated (F.function f.now) slots.now offsets.now allocs.now (map location_of ds.items)) }
     ensures err { IfErr result (λ e. e ≡ RegAllocError.Memory) }
 {
-    let kept = kept_labels(alloc, f)?;
+    let kept = kept_labels_by(alloc, f, wanted, named)?;
     let mut locations = locate(alloc, &kept, slots, offsets, allocs)?;
     locations.sort_by_key(|location| location.0)?;
     Ok(locations)

@@ -16,15 +16,14 @@ ghost use Rattle.regalloc2_fastalloc.specs.Promise.{IsAllocation};
 ghost use Rattle.regalloc2_fastalloc.specs.ErrorReason.{IsReason, PassesAllChecks};
 ghost use Rattle.regalloc2_fastalloc.specs.Lending.{LendsOutput};
 
-use regalloc2_fastalloc_state::validate::constraints::validate_operands;
 use regalloc2_fastalloc_state::validate::validate_function;
-use regalloc2_function::{Function, MachineEnv, Output, count_operands};
+use regalloc2_function::{Function, MachineEnv, Output};
 use regalloc2_names::RegAllocError;
 use std::alloc::{Allocator, Global};
 
 mod allocate;
-mod allocs;
 mod debug;
+mod survey;
 
 /// An algorithm of register allocation. Upstream has a second one, `Ion`, which is left out.
 #[derive(Clone, Copy, Debug, Default, PartialEq, Eq)]
@@ -131,7 +130,7 @@ impl<A: Allocator + Copy> Ctx<A> {
 ///   passes 2^24, which is twice the size of the greatest slot, for each vreg and six times for
 ///   each block. Slots take no more units than that, and at most 2^24.
 ///
-/// `Memory` is returned if memory runs out, never from the first test, which allocates nothing.
+/// `Memory` is returned if memory runs out.
 ///
 /// The contract doesn't guarantee `TooManyLiveRegs` wherever an instruction doesn't fit, nor that
 /// `Memory` is returned only if memory ran out; of `Memory` it says that the first test passes.
@@ -159,14 +158,12 @@ pub fn run<A: Allocator + Copy, F: Function, B: Allocator>(
     ensures refused { IfErr result (IsReason (F.function f.now) (machine_of env.now) options.now.validate_ssa) }
     ensures many_operands { (result ≡ Err RegAllocError.TooManyOperands) ↔ (2 ^ 32 ≤ operand_count (F.function f.now)) }
 {
-    let Some(total) = count_operands(f) else {
-        return Err(RegAllocError::TooManyOperands);
-    };
+    let found = survey::survey_operands(alloc, f)?;
     if options.validate_ssa {
         validate_function(alloc, f, env)?;
     }
-    validate_operands(f)?;
-    allocate::allocate(alloc, f, env, total)
+    survey::validate_unless_passed(f, found.passes)?;
+    allocate::allocate(alloc, f, env, found)
 }
 
 /// Allocates registers to a function, and puts the output into `ctx.output`.

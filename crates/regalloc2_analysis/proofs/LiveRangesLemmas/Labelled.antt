@@ -1,5 +1,5 @@
 -- The numbers that labels name, marked in a table.
-use Rattle.std.proofs.Common.{ℕ, zero, suc, ◌≡◌, ◌<◌, inl, inr, Bool, true, false, not, List, [], ◌∷◌, length, map, refl, sym, ap, ◌∙◌, subst, arith}
+use Rattle.std.proofs.Common.{ℕ, zero, suc, nat_eq, ◌≡◌, ◌<◌, inl, inr, Bool, true, false, not, List, [], ◌∷◌, length, map, refl, sym, ap, ◌∙◌, subst, arith}
 use Rattle.std.specs.Prelude.{Option, slice_index_or, ◌↔◌}
 use Rattle.std.specs.List.{Any}
 use Rattle.regalloc2_names.specs.Register.{VirtualRegister}
@@ -24,6 +24,11 @@ Given = VirtualRegister × ℕ × ℕ × ℕ
 as_many : (items : List Given) → length (map label_of items) ≡ length items
 as_many [] = refl
 as_many (x ∷ xs) = ap suc (as_many xs)
+
+-- a list that isn't empty has some labels
+pub some_given : (items : List Given) → nat_eq (length items) 0 ≡ false → 0 < length (map label_of items)
+some_given [] e = absurd (let x : true ≡ false = e in cc)
+some_given (x ∷ xs) e = omega arith
 
 mapped_at : (items : List Given) (j : ℕ) (l : Given) → j < length items → slice_index_or items j l ≡ l →
     slice_index_or (map label_of items) j (label_of l) ≡ label_of l

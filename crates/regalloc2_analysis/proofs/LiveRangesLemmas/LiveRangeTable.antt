@@ -20,13 +20,13 @@ use Rattle.regalloc2_shape.specs.TableLength.{HasRoom}
 use Rattle.regalloc2_analysis.specs.declared.live_ranges.LiveRange.{LiveRange}
 use Rattle.regalloc2_analysis.specs.declared.live_ranges.ends.RangeEnd.{RangeEnd}
 use Rattle.regalloc2_analysis.specs.LiveRanges.LiveRanges.{AreLiveRanges, IsDefiner, IsLiveRange, IsSSA, range_at}
-use Rattle.regalloc2_analysis.specs.LiveRanges.LastUses.{EndsFrom, EndsUse, NotesUses, UsesNumber, end_at, end_behind}
+use Rattle.regalloc2_analysis.specs.LiveRanges.LastUses.{EndsFrom, EndsUse, NotesPassed, NotesUses, UsesNumber, end_at, end_behind}
 use Rattle.regalloc2_analysis.specs.LiveRanges.LastUses.UsesNumber.{reads, passes}
 use Rattle.regalloc2_analysis.specs.LiveRanges.Slots.{spread}
 use Rattle.regalloc2_analysis.specs.LiveRanges.WalkInvariant.{AreEndsFrom, AreRight, AreRangesWalked, NamesNoAsked, Stay, begin_of}
 use Rattle.regalloc2_analysis.proofs.LiveRangesLemmas.ItemsPastEnd.{op_is}
 use Rattle.regalloc2_analysis.proofs.LiveRangesLemmas.Spread.{spread_length, spread_nothing}
-use Rattle.regalloc2_analysis.proofs.LiveRangesLemmas.UsesNoted.{ends_more, notes_nothing, passed_here}
+use Rattle.regalloc2_analysis.proofs.LiveRangesLemmas.UsesNoted.{ends_more, notes_nothing, passed_here, uses_passed}
 use Rattle.regalloc2_analysis.proofs.LiveRangesLemmas.UsesInSSA.{definer_small, defines_number, made_by_definition, made_by_parameter, parameter_small}
 use Rattle.regalloc2_analysis.proofs.LiveRangesLemmas.FirstAndLastPoints.{is_used, range_of_definition, range_of_parameter, used_ends}
 
@@ -204,6 +204,19 @@ pub noted_more : (f : FunctionValue) (Asked : ℕ → Type 0) (i : ℕ) (ends en
     length ends' ≡ length ends → ((n : ℕ) → n < length ends → Asked n → NotesUses f i n (end_at ends n) (end_at ends' n)) → AreEndsFrom f Asked i ends'
 noted_more f Asked i ends ends' h long uses n lt asked = let less : n < length ends = omega (arith, lt, long) in
     ends_more f i n (end_at ends n) (end_at ends' n) (h n less asked) (uses n less asked)
+
+-- the last instruction of a block, whose operands name nothing requested: only what it passes is noted
+pub walked_last : (f : FunctionValue) → BlocksFollow f → (Asked : ℕ → Type 0) (b c i : ℕ) (ends ends' : List (Option RangeEnd))
+    (ranges : List (Option LiveRange)) → b < length f.blocks → (block_at f b).range.first ≤ i → i < length f.insts → i + 1 ≡ (block_at f b).range.end →
+    NamesNoAsked f Asked i → length ends' ≡ length ends
+    → ((n : ℕ) → n < length ends → Asked n → NotesPassed f b i (length (block_at f b).succs) n (end_at ends n) (end_at ends' n)) →
+    AreRangesWalked f Asked (i + 1) c ends ranges → AreRangesWalked f Asked i c ends' ranges
+walked_last f follow Asked b c i ends ends' ranges lt from within end none long passed w =
+    walked_inst f Asked i c ends ends' ranges ranges w long refl
+    (noted_more f Asked i ends ends' w.noted long (λ n less asked. uses_passed f follow b i n
+    (record { block = lt; from = from; upto = omega (arith, end); inst = within }) (end_at ends n) (end_at ends' n) end
+    (λ at k r. none k r.within (subst Asked (sym r.number) asked)) (passed n less asked)))
+    w.right (λ n some. some) (λ v asked d. absurd (undefined_here f Asked i v none asked d))
 
 -- one block's beginning more
 pub walked_block : (f : FunctionValue) (Asked : ℕ → Type 0) (i b : ℕ) (ends : List (Option RangeEnd)) (ranges ranges' : List (Option LiveRange)) →

@@ -207,6 +207,18 @@ module _ (f : FunctionValue) (follow : BlocksFollow f) (b i n : ℕ) (stands : S
       (notes_nothing (PassesNumber f n i) (λ e. PassesNumber f n i × (e ≡ end_of_argument i)) new
       (λ s. never (passed_here f follow b i n stands.block stands.from stands.upto s).0))
 
+  -- at a block's last instruction, if no operand reads the number
+  pub uses_passed : (old new : Option RangeEnd) → i + 1 ≡ (block_at f b).range.end →
+      ((at : OperandPos) (k : ℕ) → ReadsNumber (inst_at f i).operands n at k → ⊥) → NotesPassed f b i (length (block_at f b).succs) n old new →
+      NotesUses f i n old new
+  uses_passed old new end unread p = uses_last old old old new end (unnoted Late) (unnoted Early) p
+    where
+      unnoted : (at : OperandPos) → NotesReads at i (inst_at f i).operands (length (inst_at f i).operands) n old old
+      unnoted at =
+          notes_nothing ((k : ℕ) × (k < length (inst_at f i).operands) × ReadsNumber (inst_at f i).operands n at k)
+          (λ e. (k : ℕ) × (k < length (inst_at f i).operands) × ReadsFirst (inst_at f i).operands n at k × (e ≡ end_of_reader at i k)) old
+          (λ s. unread at s.0 s.2)
+
 from_or_here : (i j : ℕ) → i ≤ j → (i ≡ j) ⊎ (i + 1 ≤ j)
 from_or_here i j le = grind arith
 

@@ -1,6 +1,6 @@
 -- The live ranges of vregs as a debugger can be shown them, and the labels that are kept.
 -- The points are those of regalloc2_function/specs/DebugPoints.antt; here is which operand's place shows the value.
-use Rattle.std.specs.Prelude.{ℕ, ◌≡◌, ◌<◌, List, [], ◌∷◌, length, slice_index_or, Bool, true, false, Option, None, Some}
+use Rattle.std.specs.Prelude.{ℕ, ◌≡◌, ◌<◌, ◌↔◌, List, [], ◌∷◌, length, slice_index_or, Bool, true, false, Option, None, Some}
 use Rattle.std.specs.List.{Any}
 use Rattle.regalloc2_names.specs.declared.OperandPos.{OperandPos}
 use Rattle.regalloc2_names.specs.declared.OperandPos.TheVariants.{Early, Late}
@@ -68,6 +68,11 @@ IsWanted wanted n = slice_index_or wanted n false ≡ true
 -- a label names a vreg of the number
 abbrev pub IsLabelled : FunctionValue → ℕ → Type 0
 IsLabelled f n = Any (λ l. l.vreg.number ≡ n) f.labels
+
+-- the labelled numbers are marked in a table, which has room for all that the function defines if there are labels
+pub record AreLabelsMarked (f : FunctionValue) (wanted : List Bool) : Type 0 where
+  pub room : 0 < length f.labels → HasRoom f (length wanted)
+  pub marks : (n : ℕ) → n < length wanted → IsWanted wanted n ↔ IsLabelled f n
 
 -- A table by number of the live ranges of all requested numbers: it has room for all that the function defines, each entry is that of a vreg of the number, and
 -- each vreg of a requested number with a first and a last point has its entry.

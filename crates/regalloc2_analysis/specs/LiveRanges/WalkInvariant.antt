@@ -1,5 +1,5 @@
 -- What holds of both tables while the walk goes backward.
-use Rattle.std.specs.Prelude.{ℕ, ◌≡◌, ◌≢◌, ◌<◌, ◌≤◌, List, length, Contains, Option, None, Some, nat_eq, if◌then◌else◌}
+use Rattle.std.specs.Prelude.{ℕ, ◌≡◌, ◌≢◌, ◌<◌, ◌≤◌, ◌⊎◌, List, length, slice_index_or, Contains, Option, None, Some, nat_eq, if◌then◌else◌}
 use Rattle.regalloc2_names.specs.Register.{VirtualRegister}
 use Rattle.regalloc2_function.specs.FunctionValue.{FunctionValue, block_at, inst_at}
 use Rattle.regalloc2_function.specs.DebugPoints.{DefinesAt, UsesAt}
@@ -35,6 +35,14 @@ pub record AreRangesWalked (f : FunctionValue) (Asked : ℕ → Type 0) (i b : �
 -- no operand of an instruction names a requested number
 abbrev pub NamesNoAsked : FunctionValue → (ℕ → Type 0) → ℕ → Type 0
 NamesNoAsked f Asked i = (k : ℕ) → k < length (inst_at f i).operands → Asked (op_at (inst_at f i).operands k).vreg.number → ⊥
+
+-- of the instructions below one, those that name a requested number are the first so many of a list, in order
+pub record AreNamers (f : FunctionValue) (Asked : ℕ → Type 0) (named : List ℕ) (many i : ℕ) : Type 0 where
+  pub within : many ≤ length named
+  pub rising : (j k : ℕ) → j < k → k < many → slice_index_or named j 0 < slice_index_or named k 0
+  pub below : (j : ℕ) → j < many → slice_index_or named j 0 < i
+  pub names : (j : ℕ) → j < many → NamesNoAsked f Asked (slice_index_or named j 0) → ⊥
+  pub all : (k : ℕ) → k < i → NamesNoAsked f Asked k ⊎ ((j : ℕ) × (j < many) × (slice_index_or named j 0 ≡ k))
 
 -- where a block begins, and past the last block where the instructions end
 abbrev pub begin_of : FunctionValue → ℕ → ℕ

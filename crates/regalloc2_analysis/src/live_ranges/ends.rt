@@ -80,8 +80,8 @@ fn note_arguments(ends: &mut [Option<RangeEnd>], slots: &[u32], arguments: &[VRe
     }
 }
 
-// Notes the arguments that a block's last instruction passes.
-fn note_passed<F: Function>(
+/// Notes the arguments that a block's last instruction passes, where no later use is noted.
+pub fn note_passed<F: Function>(
     ends: &mut [Option<RangeEnd>],
     slots: &[u32],
     f: &F,

@@ -1,14 +1,15 @@
 //! The labels that lie within the live ranges of their vregs.
 
-ghost use Rattle.std.specs.Prelude.{◌≡◌, ℕ, [], IfErr, IfOk, IsOk, MatchOption};
+ghost use Rattle.std.specs.Prelude.{◌≡◌, ℕ, [], length, IfErr, IfOk, IsOk, MatchOption};
 ghost use Rattle.regalloc2_function.specs.FunctionValue.{label_of};
 ghost use Rattle.regalloc2_function.specs.DebugPoints.{IsKept};
-ghost use Rattle.regalloc2_analysis.specs.LiveRanges.LiveRanges.{AreKeptLabels, AreLiveRanges, IsKeptRange, IsLabelled, IsSSA};
+ghost use Rattle.regalloc2_analysis.specs.LiveRanges.LiveRanges.{AreKeptLabels, AreLabelsMarked, AreLiveRanges, IsKeptRange, IsLabelled, IsSSA, IsWanted};
 ghost use Rattle.regalloc2_analysis.specs.LiveRanges.Slots.{spread};
+ghost use Rattle.regalloc2_analysis.specs.LiveRanges.WalkInvariant.{AreNamers};
 
 use super::slots::entry;
 use super::walk::few_ranges;
-use super::wanted::labelled;
+use super::wanted::{marked_labels, naming};
 use super::{KeptLabel, LiveRange};
 use regalloc2_function::Function;
 use regalloc2_index::Inst;
@@ -62,6 +63,33 @@ fn keep_labels<A: Allocator + Copy, F: Function>(
     Ok(kept)
 }
 
+/// Returns what [`kept_labels`] returns, from a table of the labelled vregs and a list of the
+/// instructions whose operands name some, in order.
+///
+/// For callers that pass over all operands anyway. `wanted` is that of [`marked_labels`]. Only the
+/// listed instructions and the last one of each block are read.
+///
+/// [`marked_labels`]: super::marked_labels
+pub fn kept_labels_by<A: Allocator + Copy, F: Function>(
+    alloc: A,
+    f: &F,
+    wanted: &[bool],
+    named: &[u32],
+) -> Result<Vec<KeptLabel, A>, RegAllocError>
+    requires ssa { IsSSA (F.function f.now) }
+    requires marked { AreLabelsMarked (F.function f.now) wanted.now }
+    requires named { AreNamers (F.function f.now) (IsWanted wanted.now) named.now (length named.now) (length (F.function f.now).insts) }
+    ensures ok { IfOk result (λ ks. AreKeptLabels (F.function f.now) (F.function f.now).labels ks.items) }
+    ensures none { (F.function f.now).labels ≡ [] → IsOk result }
+    ensures err { IfErr result (λ e. e ≡ RegAllocError.Memory) }
+{
+    if f.debug_value_labels().is_empty() {
+        return Ok(Vec::new(alloc));
+    }
+    let few = few_ranges(alloc, f, wanted, named)?;
+    keep_labels(alloc, f, few.slots.as_slice(), few.entries.as_slice())
+}
+
 /// The debug labels of a function that are kept, as listed, each with the live range of its vreg.
 ///
 /// A label is kept where its vreg has a first and a last point, and the label starts at or after
@@ -85,7 +113,7 @@ pub fn kept_labels<A: Allocator + Copy, F: Function>(
     if f.debug_value_labels().is_empty() {
         return Ok(Vec::new(alloc));
     }
-    let wanted = labelled(alloc, f)?;
-    let few = few_ranges(alloc, f, wanted.as_slice())?;
-    keep_labels(alloc, f, few.slots.as_slice(), few.entries.as_slice())
+    let wanted = marked_labels(alloc, f)?;
+    let named = naming(alloc, f, wanted.as_slice())?;
+    kept_labels_by(alloc, f, wanted.as_slice(), named.as_slice())
 }

@@ -1,17 +1,17 @@
 //! The walk over all blocks and instructions, from the last to the first.
 
-ghost use Rattle.std.specs.Prelude.{◌≡◌, ◌+◌, ◌<◌, ◌≤◌, length, replicate, IfErr, IfOk, None};
+ghost use Rattle.std.specs.Prelude.{◌≡◌, ◌+◌, ◌-◌, ◌<◌, ◌≤◌, ◌↔◌, length, replicate, slice_index_or, IfErr, IfOk, IsTrue, None};
 ghost use Rattle.regalloc2_function.specs.FunctionValue.{block_at};
 ghost use Rattle.regalloc2_shape.specs.TableLength.{HasRoom};
 ghost use Rattle.regalloc2_analysis.specs.LiveRanges.LiveRanges.{AreLiveRanges, IsSSA, IsWanted};
 ghost use Rattle.regalloc2_analysis.specs.LiveRanges.Slots.{AreSlots, spread};
-ghost use Rattle.regalloc2_analysis.specs.LiveRanges.WalkInvariant.{AreRangesWalked};
+ghost use Rattle.regalloc2_analysis.specs.LiveRanges.WalkInvariant.{AreNamers, AreRangesWalked};
 
 use super::LiveRange;
-use super::ends::{RangeEnd, note_uses};
+use super::ends::{RangeEnd, note_passed, note_uses};
 use super::ranges::{begin_at_defs, begin_at_params};
 use super::slots::{entry, slots_of};
-use super::wanted::is_passed_over;
+use super::wanted::naming;
 use regalloc2_function::Function;
 use regalloc2_index::{Block, Inst};
 use regalloc2_names::RegAllocError;
@@ -26,36 +26,113 @@ pub struct FewRanges<A: Allocator> {
     pub entries: Vec<Option<LiveRange>, A>,
 }
 
-// Walks the instructions of a block, but for those that it passes over.
-fn walk_insts<F: Function>(
+// Whether an instruction is the last of so many that are listed.
+fn is_next(named: &[u32], many: usize, inst: Inst) -> bool
+    requires { many ≤ length named.now }
+    ensures { IsTrue result ↔ ((0 < many) × (slice_index_or named.now (many - 1) 0 ≡ inst)) }
+{
+    many > 0 && named[many - 1] as usize == inst.index()
+}
+
+// Whether the last of so many listed instructions is another or comes after it.
+fn is_left(named: &[u32], many: usize, inst: Inst) -> bool
+    requires { many ≤ length named.now }
+    ensures { IsTrue result ↔ ((0 < many) × (inst ≤ slice_index_or named.now (many - 1) 0)) }
+{
+    many > 0 && named[many - 1] as usize >= inst.index()
+}
+
+// Walks an instruction of a block: what it uses, then what it defines.
+fn walk_inst<F: Function>(
     ends: &mut [Option<RangeEnd>],
     ranges: &mut [Option<LiveRange>],
     slots: &[u32],
     f: &F,
     wanted: &[bool],
     block: Block,
+    inst: Inst,
 )
+    requires ssa { IsSSA (F.function f.now) }
+    requires block { block < length (F.function f.now).blocks }
+    requires first { (block_at (F.function f.now) block).range.first ≤ inst }
+    requires end { inst < (block_at (F.function f.now) block).range.end }
+    requires ends_slots { AreSlots wanted.now slots.now (length ends.old) }
+    requires ranges_slots { AreSlots wanted.now slots.now (length ranges.old) }
+    requires walked { AreRangesWalked (F.function f.now) (IsWanted wanted.now) (inst + 1) (block + 1)
+        (spread slots.now ends.old) (spread slots.now ranges.old) }
+    ensures { AreRangesWalked (F.function f.now) (IsWanted wanted.now) inst (block + 1)
+        (spread slots.now ends.new) (spread slots.now ranges.new) }
+{
+    note_uses(ends, slots, f, block, inst);
+    begin_at_defs(ranges, ends, slots, f, wanted, inst);
+}
+
+// Walks the last instruction of a block, whose operands may name no requested vreg. Returns how many
+// instructions are left of those that name some.
+fn walk_last<F: Function>(
+    ends: &mut [Option<RangeEnd>],
+    ranges: &mut [Option<LiveRange>],
+    slots: &[u32],
+    f: &F,
+    wanted: &[bool],
+    named: &[u32],
+    many: usize,
+    block: Block,
+    last: Inst,
+) -> usize
+    requires ssa { IsSSA (F.function f.now) }
+    requires block { block < length (F.function f.now).blocks }
+    requires last { last + 1 ≡ (block_at (F.function f.now) block).range.end }
+    requires ends_slots { AreSlots wanted.now slots.now (length ends.old) }
+    requires ranges_slots { AreSlots wanted.now slots.now (length ranges.old) }
+    requires named { AreNamers (F.function f.now) (IsWanted wanted.now) named.now many (last + 1) }
+    requires walked { AreRangesWalked (F.function f.now) (IsWanted wanted.now) (last + 1) (block + 1)
+        (spread slots.now ends.old) (spread slots.now ranges.old) }
+    ensures named { AreNamers (F.function f.now) (IsWanted wanted.now) named.now result last }
+    ensures walked { AreRangesWalked (F.function f.now) (IsWanted wanted.now) last (block + 1)
+        (spread slots.now ends.new) (spread slots.now ranges.new) }
+{
+    if is_next(named, many, last) {
+        walk_inst(ends, ranges, slots, f, wanted, block, last);
+        return many - 1;
+    }
+    note_passed(ends, slots, f, block, last);
+    many
+}
+
+// Walks the instructions of a block that name a requested vreg, and the last one. Returns how many
+// are left of those that name some.
+fn walk_insts<F: Function>(
+    ends: &mut [Option<RangeEnd>],
+    ranges: &mut [Option<LiveRange>],
+    slots: &[u32],
+    f: &F,
+    wanted: &[bool],
+    named: &[u32],
+    many: usize,
+    block: Block,
+) -> usize
     requires ssa { IsSSA (F.function f.now) }
     requires block { block < length (F.function f.now).blocks }
     requires ends_slots { AreSlots wanted.now slots.now (length ends.old) }
     requires ranges_slots { AreSlots wanted.now slots.now (length ranges.old) }
+    requires named { AreNamers (F.function f.now) (IsWanted wanted.now) named.now many (block_at (F.function f.now) block).range.end }
     requires walked { AreRangesWalked (F.function f.now) (IsWanted wanted.now) (block_at (F.function f.now) block).range.end (block + 1)
         (spread slots.now ends.old) (spread slots.now ranges.old) }
-    ensures { AreRangesWalked (F.function f.now) (IsWanted wanted.now) (block_at (F.function f.now) block).range.first (block + 1)
+    ensures named { AreNamers (F.function f.now) (IsWanted wanted.now) named.now result (block_at (F.function f.now) block).range.first }
+    ensures walked { AreRangesWalked (F.function f.now) (IsWanted wanted.now) (block_at (F.function f.now) block).range.first (block + 1)
         (spread slots.now ends.new) (spread slots.now ranges.new) }
 {
     let range = f.block_insns(block);
-    let first = range.first().index();
-    let end = range.end();
-    let mut i = end.index();
-    while i > first {
-        i -= 1;
-        let inst = Inst::new(i);
-        if !is_passed_over(f, wanted, end, inst) {
-            note_uses(ends, slots, f, block, inst);
-            begin_at_defs(ranges, ends, slots, f, wanted, inst);
-        }
+    let first = range.first();
+    let last = Inst::new(range.end().index() - 1);
+    let mut left = walk_last(ends, ranges, slots, f, wanted, named, many, block, last);
+    while is_left(named, left, first) {
+        left -= 1;
+        let inst = Inst::new(named[left] as usize);
+        walk_inst(ends, ranges, slots, f, wanted, block, inst);
     }
+    left
 }
 
 // Walks all blocks: the instructions of each, then its parameters.
@@ -65,19 +142,22 @@ fn walk_blocks<F: Function>(
     slots: &[u32],
     f: &F,
     wanted: &[bool],
+    named: &[u32],
 )
     requires ssa { IsSSA (F.function f.now) }
     requires room { HasRoom (F.function f.now) (length slots.now) }
     requires slots { AreSlots wanted.now slots.now (length ends.old) }
+    requires named { AreNamers (F.function f.now) (IsWanted wanted.now) named.now (length named.now) (length (F.function f.now).insts) }
     requires no_ends { ends.old ≡ replicate (length ends.old) None }
     requires no_ranges { ranges.old ≡ replicate (length ends.old) None }
     ensures { AreLiveRanges (F.function f.now) (IsWanted wanted.now) (spread slots.now ranges.new) }
 {
     let mut b = f.num_blocks();
+    let mut many = named.len();
     while b > 0 {
         b -= 1;
         let block = Block::new(b);
-        walk_insts(ends, ranges, slots, f, wanted, block);
+        many = walk_insts(ends, ranges, slots, f, wanted, named, many, block);
         begin_at_params(ranges, ends, slots, f, wanted, block);
     }
 }
@@ -87,8 +167,10 @@ pub fn few_ranges<A: Allocator + Copy, F: Function>(
     alloc: A,
     f: &F,
     wanted: &[bool],
+    named: &[u32],
 ) -> Result<FewRanges<A>, AllocError>
-    requires { IsSSA (F.function f.now) }
+    requires ssa { IsSSA (F.function f.now) }
+    requires named { AreNamers (F.function f.now) (IsWanted wanted.now) named.now (length named.now) (length (F.function f.now).insts) }
     ensures ok { IfOk result (λ r. AreLiveRanges (F.function f.now) (IsWanted wanted.now) (spread r.slots.items r.entries.items)) }
     ensures few { IfOk result (λ r. length r.slots.items ≤ (F.function f.now).num_vregs) }
 {
@@ -103,6 +185,7 @@ pub fn few_ranges<A: Allocator + Copy, F: Function>(
         slots.as_slice(),
         f,
         wanted,
+        named,
     );
     Ok(FewRanges { slots, entries })
 }
@@ -140,6 +223,7 @@ pub fn live_ranges<A: Allocator + Copy, F: Function>(
     ensures few { IfOk result (λ t. length t.items ≤ (F.function f.now).num_vregs) }
     ensures err { IfErr result (λ e. e ≡ RegAllocError.Memory) }
 {
-    let few = few_ranges(alloc, f, wanted)?;
+    let named = naming(alloc, f, wanted)?;
+    let few = few_ranges(alloc, f, wanted, named.as_slice())?;
     Ok(spread_out(alloc, few.slots.as_slice(), few.entries.as_slice())?)
 }

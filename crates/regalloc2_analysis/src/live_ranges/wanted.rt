@@ -1,13 +1,13 @@
 //! The vregs whose live ranges are requested: those that labels name. Most functions label few, and
 //! the walk passes over instructions that name none of them.
 
-ghost use Rattle.std.specs.Prelude.{ℕ, ◌≡◌, ◌≢◌, ◌<◌, ◌+◌, ◌↔◌, false, length, slice_index_or, IsTrue, IfOk};
+ghost use Rattle.std.specs.Prelude.{ℕ, ◌≡◌, ◌<◌, ◌↔◌, false, length, slice_index_or, IsTrue, IfOk};
 ghost use Rattle.regalloc2_shape.specs.TableLength.{HasRoom};
 ghost use Rattle.regalloc2_shape.specs.MarkedNumbers.{Marks};
 ghost use Rattle.regalloc2_function.specs.FunctionValue.{op_at};
-ghost use Rattle.regalloc2_analysis.specs.LiveRanges.LiveRanges.{IsLabelled, IsWanted};
+ghost use Rattle.regalloc2_analysis.specs.LiveRanges.LiveRanges.{AreLabelsMarked, IsLabelled, IsWanted};
 ghost use Rattle.regalloc2_analysis.specs.LiveRanges.Marks.{NamedAmong};
-ghost use Rattle.regalloc2_analysis.specs.LiveRanges.WalkInvariant.{NamesNoAsked};
+ghost use Rattle.regalloc2_analysis.specs.LiveRanges.WalkInvariant.{AreNamers, NamesNoAsked};
 
 use regalloc2_function::Function;
 use regalloc2_index::Inst;
@@ -45,16 +45,30 @@ fn some_is_wanted(wanted: &[bool], operands: &[Operand]) -> bool
     false
 }
 
-/// Whether the walk has nothing to do at an instruction of a block that ends before `end`: no
-/// operand names a requested vreg, and it isn't the last one, which may pass some.
-pub fn is_passed_over<F: Function>(f: &F, wanted: &[bool], end: Inst, inst: Inst) -> bool
+/// Whether no operand of an instruction names a requested vreg.
+pub fn names_none<F: Function>(f: &F, wanted: &[bool], inst: Inst) -> bool
     requires { inst < length (F.function f.now).insts }
-    ensures { IsTrue result ↔ ((inst + 1 ≢ end) × NamesNoAsked (F.function f.now) (IsWanted wanted.now) inst) }
+    ensures { IsTrue result ↔ NamesNoAsked (F.function f.now) (IsWanted wanted.now) inst }
 {
-    if inst.next() == end {
-        return false;
-    }
     !some_is_wanted(wanted, f.inst_operands(inst))
+}
+
+/// The instructions that name a requested vreg, in order.
+pub fn naming<A: Allocator + Copy, F: Function>(
+    alloc: A,
+    f: &F,
+    wanted: &[bool],
+) -> Result<Vec<u32, A>, AllocError>
+    ensures { IfOk result (λ v. AreNamers (F.function f.now) (IsWanted wanted.now) v.items (length v.items) (length (F.function f.now).insts)) }
+{
+    let mut named = Vec::new(alloc);
+    for i in 0..f.num_insts() {
+        let inst = Inst::new(i);
+        if !names_none(f, wanted, inst) {
+            named.push(i as u32)?;
+        }
+    }
+    Ok(named)
 }
 
 // Marks a number.
@@ -85,12 +99,9 @@ fn no_marks<A: Allocator + Copy>(alloc: A, num: usize) -> Result<Vec<bool, A>, A
     Ok(wanted)
 }
 
-/// The vregs whose live ranges are requested, by number: those that labels name, as far as the
-/// function defines them.
-pub fn labelled<A: Allocator + Copy, F: Function>(
-    alloc: A,
-    f: &F,
-) -> Result<Vec<bool, A>, AllocError>
+// The vregs whose live ranges are requested, by number: those that labels name, as far as the
+// function defines them.
+fn labelled<A: Allocator + Copy, F: Function>(alloc: A, f: &F) -> Result<Vec<bool, A>, AllocError>
     ensures room { IfOk result (λ w. HasRoom (F.function f.now) (length w.items)) }
     ensures marks { IfOk result (λ w. (n : ℕ) → n < length w.items → IsWanted w.items n ↔ IsLabelled (F.function f.now) n) }
 {
@@ -98,4 +109,20 @@ pub fn labelled<A: Allocator + Copy, F: Function>(
     let mut wanted = no_marks(alloc, vregs)?;
     mark_labelled(wanted.as_mut_slice(), f.debug_value_labels());
     Ok(wanted)
+}
+
+/// Marks the vregs that labels name, by number, as far as the function defines them.
+///
+/// The table is as long as `table_length` returns, and empty if there are no labels: then nothing
+/// is allocated.
+pub fn marked_labels<A: Allocator + Copy, F: Function>(
+    alloc: A,
+    f: &F,
+) -> Result<Vec<bool, A>, AllocError>
+    ensures { IfOk result (λ w. AreLabelsMarked (F.function f.now) w.items) }
+{
+    if f.debug_value_labels().is_empty() {
+        return Ok(Vec::new(alloc));
+    }
+    labelled(alloc, f)
 }

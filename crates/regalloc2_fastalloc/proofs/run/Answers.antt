@@ -7,16 +7,32 @@ use Rattle.regalloc2_fastalloc_state.specs.OutOfResources.{Lacks}
 use Rattle.regalloc2_fastalloc.specs.Promise.{IsAllocation}
 use Rattle.regalloc2_fastalloc.specs.ErrorReason.{IsReason, HasFewOperands, PassesAllChecks, IsValidIfChecked, SomeDoesNotFit, units_at_most}
 use Rattle.regalloc2_fastalloc.proofs.ErrorsHaveReasons.{fault_is_reason, lack_is_a_reason, counted_alone}
+use Rattle.regalloc2_fastalloc.specs.Survey.{IsSurveyError}
+use Rattle.regalloc2_fastalloc.proofs.PassOverOperands.{survey_counted, survey_reason}
 use Rattle.regalloc2_fastalloc.proofs.run.Given.{Over}
 use Rattle.regalloc2_fastalloc.proofs.run.Goals as goal
 use Rattle.regalloc2_fastalloc.proofs.run.Goals.{then-options+in_ok-validate_function, else-options}
+
+pub returns-in_err-survey_operands-clause-refused : goal.returns-in_err-survey_operands-clause-refused
+returns-in_err-survey_operands-clause-refused g c =
+    let f : FunctionValue = g.F.Function.function c.args.f.now in
+    let env : MachineValue = machine_of c.args.env.now in
+    let asked : Bool = c.args.options.now.validate_ssa in
+    let p = err_from_is_err_and c.from_residual.result c.from_residual.ensures.1 in
+    rw p.1 (subst (IsReason f env asked) (sym p.2) (survey_reason f env asked c.in_err-survey_operands.ensures.err))
+
+pub returns-in_err-survey_operands-clause-many_operands : goal.returns-in_err-survey_operands-clause-many_operands
+returns-in_err-survey_operands-clause-many_operands g c =
+    let f : FunctionValue = g.F.Function.function c.args.f.now in
+    let p = err_from_is_err_and c.from_residual.result c.from_residual.ensures.1 in
+    survey_counted f c.from_residual.result p.0 p.1 (subst (IsSurveyError f) (sym p.2) c.in_err-survey_operands.ensures.err)
 
 pub returns-in_err-validate_function-clause-refused : goal.returns-in_err-validate_function-clause-refused
 returns-in_err-validate_function-clause-refused g c =
     let f : FunctionValue = g.F.Function.function c.args.f.now in
     let env : MachineValue = machine_of c.args.env.now in
     let asked : Bool = c.args.options.now.validate_ssa in
-    let few : HasFewOperands f = search rules in
+    let few : HasFewOperands f = c.in_ok-found.ensures.ok.few in
     let p = err_from_is_err_and c.from_residual.result c.from_residual.ensures.1 in
     rw p.1 (subst (IsReason f env asked) (sym p.2) (fault_is_reason f env asked few c.if-options.true c.in_err-validate_function.ensures.refused))
 
@@ -24,8 +40,17 @@ pub returns-in_err-validate_function-clause-many_operands : goal.returns-in_err-
 returns-in_err-validate_function-clause-many_operands g c =
     let f : FunctionValue = g.F.Function.function c.args.f.now in
     let env : MachineValue = machine_of c.args.env.now in
-    let few : HasFewOperands f = search rules in
+    let few : HasFewOperands f = c.in_ok-found.ensures.ok.few in
     counted_alone f env c.args.options.now.validate_ssa c.from_residual.result few (returns-in_err-validate_function-clause-refused g c)
+
+pub validate_unless_passed-requires : goal.validate_unless_passed-requires
+validate_unless_passed-requires g c =
+    let found = c.in_ok-found.ensures.ok in
+    record {
+      unlimited = λ t i lt. (found.all_pass.0 t i lt).0;
+      taken = found.taken;
+      branches = λ t i lt. (found.all_pass.0 t i lt).1;
+    }
 
 -- when the walk begins, all tests that were asked for have passed
 passed : (g : Over) (c : goal.After-allocate g)
@@ -39,10 +64,10 @@ passed g c =
       | else-options w ↦ λ on. c.requires.well_formed w.if-options.false
     ] in
     record {
-      first = search rules;
+      first = c.in_ok-found.ensures.ok.few;
       well_formed = owed;
-      unlimited = c.in_ok-validate_operands.ensures.unlimited;
-      branches = c.in_ok-validate_operands.ensures.branches;
+      unlimited = c.in_ok-validate_unless_passed.ensures.unlimited;
+      branches = c.in_ok-validate_unless_passed.ensures.branches;
     }
 
 pub returns-clause-passes_checks : goal.returns-clause-passes_checks

@@ -221,7 +221,7 @@ fn passes_clobber_test<F: Function>(f: &F, inst: Inst) -> bool
 }
 
 /// Whether an operand has no `Limit`.
-fn is_unlimited(operand: Operand) -> bool
+pub fn is_unlimited(operand: Operand) -> bool
     ensures unlimited { IsTrue result ↔ IsUnlimited operand }
     ensures of_class { IsConstraintOf operand.vreg.class operand.constraint }
 {
@@ -346,7 +346,7 @@ fn define_in_place(operands: &[Operand]) -> bool
 
 /// Whether an instruction is no branch, or defines only in registers that it names and in stack
 /// places.
-fn is_sound_branch<F: Function>(f: &F, inst: Inst) -> bool
+pub fn is_sound_branch<F: Function>(f: &F, inst: Inst) -> bool
     requires { inst < length (F.function f.now).insts }
     ensures { IsTrue result ↔ BranchDefinesInPlace (inst_at (F.function f.now) inst) }
 {

@@ -1,4 +1,4 @@
-use Rattle.std.proofs.Common.{ℕ, ◌≡◌, List, map, length, sym, ap, ◌∙◌, subst, slice_index, slice_index_or}
+use Rattle.std.proofs.Common.{ℕ, ◌≡◌, Bool, List, map, length, sym, ap, ◌∙◌, subst, slice_index, slice_index_or}
 use Rattle.std.specs.Prelude.{replicate}
 use Rattle.std.specs.Vec.{with_items}
 use Rattle.std.proofs.lemmas.List.{with_items_is}
@@ -8,6 +8,8 @@ use Rattle.regalloc2_function.specs.Machine.{MachineValue}
 use Rattle.regalloc2_function.specs.OutputValue.{DebugLocation, MoveValue, OutputValue}
 use Rattle.regalloc2_function.specs.Stored.{location_of}
 use Rattle.regalloc2_function.specs.Views.{edit_of, machine_of}
+use Rattle.regalloc2_analysis.specs.LiveRanges.LiveRanges.{AreLabelsMarked, IsWanted}
+use Rattle.regalloc2_analysis.specs.LiveRanges.WalkInvariant.{AreNamers}
 use Rattle.regalloc2_fastalloc.specs.Promise.{IsAllocation}
 use Rattle.regalloc2_semantics.proofs.Plain.{always}
 use Rattle.regalloc2_fastalloc.proofs.allocate.allocate.Goals as goal
@@ -20,12 +22,17 @@ fill_places-requires g c =
       taken = c.requires.taken;
       branches = c.requires.branches;
       well_formed = c.requires.well_formed;
-      offsets_long = ap length c.deref.ensures.value ∙ c.in_ok-offsets.ensures.long;
-      offsets = λ i lt. ap (λ xs. slice_index xs i) c.deref.ensures.value ∙ c.in_ok-offsets.ensures.each i lt;
-      allocs_long = c.deref_mut.ensures.len ∙ c.in_ok-allocs.ensures.len ∙ c.requires.total;
+      offsets_long = ap length c.deref.ensures.value ∙ c.requires.found.offsets_long;
+      offsets = λ i lt. ap (λ xs. slice_index xs i) c.deref.ensures.value ∙ c.requires.found.offsets_each i lt;
+      allocs_long = c.deref_mut.ensures.len ∙ c.in_ok-allocs.ensures.len ∙ c.requires.found.counted;
       no_places = λ k. ap (λ (xs : List Place). slice_index_or xs k NoPlace)
           (c.deref_mut.ensures.value ∙ c.in_ok-allocs.ensures.items_if_clones_equal (λ y h. h))
-          ∙ ap (λ (p : Place). slice_index_or (replicate c.args.total p) k NoPlace) c.none.ensures ∙ always c.args.total k NoPlace;
+          ∙ ap (λ (p : Place). slice_index_or (replicate c.args.found.total p) k NoPlace) c.none.ensures ∙ always c.args.found.total k NoPlace;
+      marked = subst (AreLabelsMarked f) (sym c.deref-2.ensures.value) c.requires.found.marked;
+      listed = subst (λ (ws : List Bool). AreNamers f (IsWanted ws) c.deref-3.result.now (length c.deref-3.result.now) (length f.insts))
+          (sym c.deref-2.ensures.value)
+          (subst (λ (ns : List ℕ). AreNamers f (IsWanted c.args.found.wanted.items) ns (length ns) (length f.insts)) (sym c.deref-3.ensures.value)
+          c.requires.found.listed);
     }
 
 -- the output with the places in their list
@@ -42,7 +49,7 @@ pub returns-clause-allocation : goal.returns-clause-allocation
 returns-clause-allocation g c =
     same_out (g.F.Function.function c.args.f.now) (machine_of c.args.env.now) c.in_ok-rest.rest.num_spillslots (map edit_of c.in_ok-rest.rest.edits.items)
     c.fill_places.new.allocs
-    (with_items c.in_ok-allocs.allocs c.fill_places.new.allocs).items c.deref.result.now c.in_ok-offsets.offsets.items
+    (with_items c.in_ok-allocs.allocs c.fill_places.new.allocs).items c.deref.result.now c.args.found.offsets.items
     (map location_of c.in_ok-rest.rest.debug_locations.items)
     (with_items_is c.in_ok-allocs.allocs c.fill_places.new.allocs (c.fill_places.auto.allocs ∙ c.deref_mut.ensures.len)) c.deref.ensures.value
     c.in_ok-rest.ensures.allocation

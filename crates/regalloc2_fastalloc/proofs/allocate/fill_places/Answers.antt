@@ -113,6 +113,8 @@ locations-requires g c =
       offsets_long = c.requires.offsets_long;
       offsets = λ i lt. c.requires.offsets i lt;
       allocs_long = c.alloc_blocks.auto.allocs ∙ c.requires.allocs_long;
+      marked = c.requires.marked;
+      listed = c.requires.listed;
     }
 
 -- the output as contracts see it

@@ -1,13 +1,7 @@
-use Rattle.std.proofs.Common.{ℕ, ◌≡◌, ◌<◌, Bool, List, length, ◌∙◌, [], sym, subst}
-use Rattle.std.specs.Prelude.{Option, ◌↔◌}
+use Rattle.std.proofs.Common.{◌≡◌, ◌∙◌, [], sym}
 use Rattle.regalloc2_function.specs.FunctionValue.{FunctionValue, label_of}
-use Rattle.regalloc2_shape.specs.TableLength.{HasRoom}
-use Rattle.regalloc2_analysis.specs.declared.live_ranges.LiveRange.{LiveRange}
-use Rattle.regalloc2_analysis.specs.LiveRanges.Slots.{spread}
-use Rattle.regalloc2_analysis.specs.LiveRanges.LiveRanges.{AreLiveRanges, IsLabelled, IsWanted}
 use Rattle.regalloc2_analysis.specs.LiveRanges.LiveRanges.AreKeptLabels.{none}
 use Rattle.regalloc2_analysis.proofs.LiveRangesLemmas.KeptLabels.{nothing_mapped}
-use Rattle.regalloc2_analysis.proofs.LiveRangesLemmas.Labelled.{ranges_of_labelled}
 use Rattle.regalloc2_analysis.proofs.live_ranges.labels.kept_labels.Goals as goal
 
 pub returns-then-is_empty-clause-ok : goal.returns-then-is_empty-clause-ok
@@ -16,16 +10,3 @@ returns-then-is_empty-clause-ok g c =
     let empty : f.labels ≡ [] = sym c.debug_value_labels.ensures ∙ nothing_mapped label_of c.debug_value_labels.result.now
     (sym c.is_empty.ensures ∙ c.if-is_empty.true) in
     rw (empty, c.new.ensures.items) none
-
--- of what labels name, all live ranges are there
-pub keep_labels-requires-clause-ranges : goal.keep_labels-requires-clause-ranges
-keep_labels-requires-clause-ranges g c =
-    let f : FunctionValue = g.F.Function.function c.args.f.now in
-    let slots : List ℕ = c.in_ok-few.few.slots.items in
-    let entries : List (Option LiveRange) = c.in_ok-few.few.entries.items in
-    subst (λ (ss : List ℕ). AreLiveRanges f (IsLabelled f) (spread ss c.as_slice-3.result.now)) (sym c.as_slice-2.ensures.value)
-    (subst (λ (t : List (Option LiveRange)). AreLiveRanges f (IsLabelled f) (spread slots t)) (sym c.as_slice-3.ensures.value)
-    (ranges_of_labelled f c.requires c.as_slice.result.now (spread slots entries)
-    (subst (λ (ws : List Bool). HasRoom f (length ws)) (sym c.as_slice.ensures.value) c.in_ok-wanted.ensures.room)
-    (subst (λ (ws : List Bool). (n : ℕ) → n < length ws → IsWanted ws n ↔ IsLabelled f n) (sym c.as_slice.ensures.value) c.in_ok-wanted.ensures.marks)
-    c.in_ok-few.ensures.ok))

@@ -1,0 +1,50 @@
+use Rattle.std.proofs.Common.{ℕ, ◌≡◌, ◌≢◌, ◌+◌, ◌-◌, ◌<◌, ◌≤◌, ◌∙◌, List, length, slice_index_or, sym, subst, refl, arith}
+use Rattle.regalloc2_index.proofs.Bools.{not_both}
+use Rattle.regalloc2_function.specs.FunctionValue.{FunctionValue, block_at}
+use Rattle.regalloc2_semantics.proofs.Order.{ends_within}
+use Rattle.regalloc2_shape.specs.TableLength.{HasRoom}
+use Rattle.regalloc2_analysis.specs.LiveRanges.LiveRanges.{IsWanted}
+use Rattle.regalloc2_analysis.specs.LiveRanges.Slots.{HasSlot, spread}
+use Rattle.regalloc2_analysis.specs.LiveRanges.WalkInvariant.{AreEndsFrom, AreNamers, NamesNoAsked}
+use Rattle.regalloc2_analysis.proofs.LiveRangesLemmas.LiveRangeTable.{noted_more, walked_inst, walked_last}
+use Rattle.regalloc2_analysis.proofs.LiveRangesLemmas.Named.{named_below, named_fewer, unnamed_above}
+use Rattle.regalloc2_analysis.proofs.LiveRangesLemmas.Spread.{spread_length}
+use Rattle.regalloc2_analysis.proofs.live_ranges.walk.walk_last.Goals as goal
+
+pub returns-then-is_next-clause-named : goal.returns-then-is_next-clause-named
+returns-then-is_next-clause-named g c =
+    let f : FunctionValue = g.F.Function.function c.args.f.now in
+    let W : ℕ → Type 0 = IsWanted c.args.wanted.now in
+    let is = c.is_next.ensures.0 c.if-is_next.true in
+    subst (λ (n : ℕ). AreNamers f W c.args.named.now (c.args.many - 1) n) is.1
+    (named_fewer f W c.args.named.now c.args.many (c.args.last + 1) is.0 c.requires.named)
+
+pub note_passed-requires-clause-small : goal.note_passed-requires-clause-small
+note_passed-requires-clause-small g c =
+    let within = ends_within (g.F.Function.function c.args.f.now) c.requires.ssa.follow c.args.block c.requires.block in
+    let limit = (g.met.F.Function.limited c.args.f.now).insts in
+    omega (arith, within, limit, c.requires.last)
+
+pub returns-clause-named : goal.returns-clause-named
+returns-clause-named g c =
+    let f : FunctionValue = g.F.Function.function c.args.f.now in
+    named_below f (IsWanted c.args.wanted.now) c.args.named.now c.args.many c.args.last
+    (λ some e. not_both c.is_next.result (c.is_next.ensures.1 (some, e)) c.if-is_next.false) c.requires.named
+
+pub returns-clause-walked : goal.returns-clause-walked
+returns-clause-walked g c =
+    let f : FunctionValue = g.F.Function.function c.args.f.now in
+    let slots : List ℕ = c.args.slots.now in
+    let W : ℕ → Type 0 = IsWanted c.args.wanted.now in
+    let within = ends_within f c.requires.ssa.follow c.args.block c.requires.block in
+    let some = (c.requires.ssa.follow c.args.block c.requires.block).0 in
+    let same : length (spread slots c.args.ends.now) ≡ length slots = spread_length slots c.args.ends.now in
+    let long : length (spread slots c.note_passed.new.ends) ≡ length (spread slots c.args.ends.now) =
+    spread_length slots c.note_passed.new.ends ∙ sym same in
+    let fewer : AreNamers f W c.args.named.now c.args.many c.args.last = named_below f W c.args.named.now c.args.many c.args.last
+    (λ some e. not_both c.is_next.result (c.is_next.ensures.1 (some, e)) c.if-is_next.false) c.requires.named in
+    let none : NamesNoAsked f W c.args.last = unnamed_above f W c.args.named.now c.args.many (c.args.last + 1) c.args.last c.requires.named (omega arith)
+    (λ some. fewer.below (c.args.many - 1) (omega (arith, some))) in
+    walked_last f c.requires.ssa.follow W c.args.block (c.args.block + 1) c.args.last (spread slots c.args.ends.now) (spread slots c.note_passed.new.ends)
+    (spread slots c.args.ranges.now) c.requires.block (omega (arith, some, c.requires.last)) (omega (arith, within, c.requires.last)) c.requires.last none long
+    (λ n lt asked. c.note_passed.ensures n (c.requires.ends_slots.theirs n (omega (arith, lt, same)) asked)) c.requires.walked
