@@ -14,10 +14,10 @@ pub loop-k-preserved : goal.loop-k-preserved
 loop-k-preserved c =
     let ops : List OperandValue = c.args.operands.now in
     let k : ℕ = c.loop-k.k in
-    let o : OperandValue = c.index-operands-operand.result in
+    let o : OperandValue = c.index-operands-k.result in
     let W : ℕ → Type 0 = IsWanted c.args.wanted.now in
-    let is : o ≡ op_at ops k = read_operand ops k o c.loop-k-test.true c.index-operands-operand.is in
-    let reg : c.vreg.result ≡ (op_at ops k).vreg = read_vreg ops k o c.vreg.result c.loop-k-test.true c.index-operands-operand.is c.vreg.ensures in
+    let is : o ≡ op_at ops k = read_operand ops k o c.loop-k-test.true c.index-operands-k.is in
+    let reg : c.vreg.result ≡ (op_at ops k).vreg = read_vreg ops k o c.vreg.result c.loop-k-test.true c.index-operands-k.is c.vreg.ensures in
     record {
       unlimited = all_more (λ n. IsUnlimited (op_at ops n)) k c.loop-k.passes c.is_unlimited.result c.both-passes.result c.both-passes.ensures
           (subst (λ (x : OperandValue). (c.is_unlimited.result ≡ true) ↔ IsUnlimited x) is c.is_unlimited.ensures.unlimited) c.loop-k.invariant.unlimited;
