@@ -1,10 +1,14 @@
 -- What the pass before the walk finds grows with each instruction.
-use Rattle.std.proofs.Common.{ℕ, ◌≡◌, ◌+◌, ◌<◌, ◌≤◌, ◌^◌, Bool, true, Err, sym, ◌∙◌, below_more, arith}
-use Rattle.std.specs.Prelude.{Result, ◌↔◌}
+use Rattle.std.proofs.Common.{ℕ, ◌≡◌, ◌+◌, ◌<◌, ◌≤◌, ◌^◌, Bool, true, List, [], ◌∷◌, ◌++◌, length, Err, refl, sym, ap, ◌∙◌, below_more, arith}
+use Rattle.std.proofs.lemmas.List.{get_or_append_left, take_all}
+use Rattle.std.proofs.lemmas.List.Sums.{sum_by_more}
+use Rattle.std.proofs.Math.Seq.{get_or-append_seam}
+use Rattle.std.specs.Prelude.{Result, ◌↔◌, slice_index, sum_by}
 use Rattle.regalloc2_names.specs.declared.RegAllocError.{RegAllocError}
 use Rattle.regalloc2_names.specs.declared.RegAllocError.TheVariants.{TooManyOperands, Memory}
-use Rattle.regalloc2_function.specs.FunctionValue.{FunctionValue, operand_count}
+use Rattle.regalloc2_function.specs.FunctionValue.{FunctionValue, InstValue, inst_at, no_inst, operand_count}
 use Rattle.regalloc2_function.specs.Machine.{MachineValue}
+use Rattle.regalloc2_fastalloc_proofs.specs.BlockSteps.{offset_of}
 use Rattle.regalloc2_fastalloc.specs.ErrorReason.{IsReason}
 use Rattle.regalloc2_fastalloc.specs.Survey.{IsSurveyError}
 use Rattle.regalloc2_fastalloc.specs.Survey.IsSurveyError.{out_of_memory, uncounted}
@@ -21,6 +25,23 @@ all_more P i was here now both one so_far = (
 pub taken_more : (P : ℕ → Type 0) (i : ℕ) (was here now : Bool) → (now ≡ true) ↔ ((was ≡ true) × (here ≡ true)) → (here ≡ true → P i) →
     (was ≡ true → (k : ℕ) → k < i → P k) → now ≡ true → (k : ℕ) → k < i + 1 → P k
 taken_more P i was here now both one so_far t = let b = both.0 t in below_more P i (so_far b.0) (one b.1)
+
+-- the places of one instruction more begin where those of the one before end
+pub offset_more : (f : FunctionValue) (i total n : ℕ) → i < length f.insts → total ≡ offset_of f i → n ≡ length (inst_at f i).operands →
+    total + n ≡ offset_of f (i + 1)
+offset_more f i total n lt so here =
+    let more = sum_by_more (λ (m : InstValue). length m.operands) f.insts i no_inst lt in omega (arith, more, so, here)
+
+-- all offsets so far, and one more
+pub offsets_more : (f : FunctionValue) (offsets : List ℕ) (i total : ℕ) → length offsets ≡ i → total ≡ offset_of f i →
+    ((k : ℕ) → k < i → slice_index offsets k ≡ offset_of f k) → (k : ℕ) → k < i + 1 → slice_index (offsets ++ total ∷ []) k ≡ offset_of f k
+offsets_more f offsets i total long so each = below_more (λ k. slice_index (offsets ++ total ∷ []) k ≡ offset_of f k) i
+    (λ k l. get_or_append_left offsets (total ∷ []) 0 k (omega (arith, l, long)) ∙ each k l)
+    (ap (λ (m : ℕ). slice_index (offsets ++ total ∷ []) m) (sym long) ∙ get_or-append_seam offsets total [] 0 ∙ so)
+
+-- past the last instruction all operands are counted
+pub offset_last : (f : FunctionValue) (i : ℕ) → i ≡ length f.insts → offset_of f i ≡ operand_count f
+offset_last f i end = ap (sum_by (λ (m : InstValue). length m.operands)) (take_all i f.insts (omega (arith, end)))
 
 -- why the pass fails is why `run` does
 pub survey_reason : (f : FunctionValue) (env : MachineValue) (asked : Bool) {e : RegAllocError} → IsSurveyError f e → IsReason f env asked e

@@ -1,19 +1,83 @@
-use Rattle.std.proofs.Common.{ℕ, ◌≡◌, ◌<◌, ◌∙◌, true, List, [], length, refl, sym, subst, arith, rules}
+use Rattle.std.proofs.Common.{ℕ, ◌≡◌, ◌<◌, ◌∙◌, Bool, true, List, [], ◌∷◌, length, refl, ap, subst, arith}
 use Rattle.std.specs.Prelude.{All, ◌↔◌}
-use Rattle.regalloc2_index.proofs.Bools.{not_both}
-use Rattle.regalloc2_function.specs.FunctionValue.{FunctionValue, inst_at}
+use Rattle.std.proofs.lemmas.List.{length-append}
+use Rattle.std.proofs.lemmas.Bool.{not-false}
+use Rattle.regalloc2_index.proofs.Bools.{not_with_itself}
+use Rattle.regalloc2_function.specs.FunctionValue.{FunctionValue, inst_at, operand_count}
 use Rattle.regalloc2_analysis.specs.LiveRanges.LiveRanges.{IsWanted}
-use Rattle.regalloc2_analysis.specs.LiveRanges.WalkInvariant.{NamesNoAsked}
+use Rattle.regalloc2_analysis.specs.LiveRanges.WalkInvariant.{AreNamers, NamesNoAsked}
 use Rattle.regalloc2_analysis.proofs.LiveRangesLemmas.Named.{named_more, named_none, named_same}
 use Rattle.regalloc2_fastalloc_state.specs.Validate.Constraints.{AreUnlimited, BranchDefinesInPlace}
 use Rattle.regalloc2_fastalloc_state.specs.Validate.NoLimits.{IsTakenOperand}
-use Rattle.regalloc2_fastalloc.proofs.PassOverOperands.{all_more, taken_more}
+use Rattle.regalloc2_fastalloc.proofs.PassOverOperands.{all_more, taken_more, offset_more, offsets_more, offset_last}
 use Rattle.regalloc2_fastalloc.proofs.survey.survey_once.Goals as goal
+use Rattle.regalloc2_fastalloc.proofs.survey.survey_once.Goals.{then-not-seen+in_ok-push-2, else-not-seen}
 
 pub loop-i-init : goal.loop-i-init
-loop-i-init g c = ?
+loop-i-init g c = record {
+  whole = c.num_insts-i-end.ensures.count;
+  long = ap length c.in_ok-offsets.ensures.items;
+  fits = omega arith;
+  so_far = refl;
+  each = λ k l. absurd (omega (arith, l));
+  all_pass = (λ t k l. absurd (omega (arith, l)), λ h. refl);
+  taken = λ t k l. absurd (omega (arith, l));
+  listed = rw c.new-named.ensures.items (named_none (g.F.Function.function c.args.f.now) (IsWanted c.in_ok-wanted.wanted.items) []);
+}
 
--- `all_more` and `taken_more` give all_pass and taken; `named_more` and `named_same` give listed, as in `naming` of regalloc2_analysis; the rest is as in
--- the pass that counts operands (`sum_by_more`)
 pub loop-i-preserved : goal.loop-i-preserved
-loop-i-preserved g c = ?
+loop-i-preserved g c =
+    let f : FunctionValue = g.F.Function.function c.args.f.now in
+    let i : ℕ = c.loop-i.i in
+    let W : ℕ → Type 0 = IsWanted c.in_ok-wanted.wanted.items in
+    let offsets : List ℕ = c.loop-i.offsets.items in
+    let passes : Bool = c.look_at-seen.result.passes in
+    let none : Bool = c.look_at-seen.result.names_none in
+    let at : c.new-inst.result ≡ i = c.new-inst.ensures in
+    let few : i < length f.insts = omega (arith, c.loop-i-test.true, c.loop-i.invariant.whole) in
+    let here : length c.inst_operands-operands.result.now ≡ length (inst_at f i).operands =
+    ap length (c.inst_operands-operands.ensures ∙ ap (λ (n : ℕ). (inst_at f n).operands) at) in
+    let names : (none ≡ true) ↔ NamesNoAsked f W i = subst (λ (n : ℕ). (none ≡ true) ↔ NamesNoAsked f W n) at
+    (subst (λ (ws : List Bool). (none ≡ true) ↔ NamesNoAsked f (IsWanted ws) c.new-inst.result) c.as_slice.ensures.value c.look_at-seen.ensures.names) in
+    record {
+      whole = c.loop-i.invariant.whole;
+      long = let e = ap length c.in_ok-push.ensures.items in let more = length-append offsets (c.loop-i.total ∷ []) in
+          omega (arith, e, more, c.loop-i.invariant.long);
+      fits = omega (arith, c.in-Some.ensures.0, c.in-Some.ensures.1);
+      so_far = c.in-Some.ensures.1 ∙ offset_more f i c.loop-i.total (length c.inst_operands-operands.result.now) few c.loop-i.invariant.so_far here;
+      each = rw c.in_ok-push.ensures.items
+          (offsets_more f offsets i c.loop-i.total c.loop-i.invariant.long c.loop-i.invariant.so_far c.loop-i.invariant.each);
+      all_pass = all_more (λ k. AreUnlimited (inst_at f k) × BranchDefinesInPlace (inst_at f k)) i c.loop-i.passes passes c.both-passes.result
+          c.both-passes.ensures
+          (subst (λ (n : ℕ). (passes ≡ true) ↔ (AreUnlimited (inst_at f n) × BranchDefinesInPlace (inst_at f n))) at c.look_at-seen.ensures.passes)
+          c.loop-i.invariant.all_pass;
+      taken = taken_more (λ k. All IsTakenOperand (inst_at f k).operands) i c.loop-i.passes passes c.both-passes.result c.both-passes.ensures
+          (λ t. subst (λ (n : ℕ). All IsTakenOperand (inst_at f n).operands) at (c.look_at-seen.ensures.taken t)) c.loop-i.invariant.taken;
+      listed = elim c.if-not-seen.branch [
+        | then-not-seen+in_ok-push-2 w ↦ rw (w.named-is, w.in_ok-push-2.ensures.items) (named_more f W c.loop-i.named.items i
+            (λ h. not_with_itself none w.if-not-seen.true (names.1 h)) c.loop-i.invariant.listed)
+        | else-not-seen w ↦ rw w.named-is (named_same f W c.loop-i.named.items i (names.0 (not-false none w.if-not-seen.false)) c.loop-i.invariant.listed)
+      ];
+    }
+
+pub returns : goal.returns
+returns g c =
+    let f : FunctionValue = g.F.Function.function c.args.f.now in
+    let W : ℕ → Type 0 = IsWanted c.in_ok-wanted.wanted.items in
+    let named : List ℕ = c.loop-i.named.items in
+    let end : c.loop-i.i ≡ length f.insts = omega (arith, c.loop-i.invariant.whole, c.loop-i-test.false, c.loop-i.auto.i-end) in
+    let counted : c.loop-i.total ≡ operand_count f = c.loop-i.invariant.so_far ∙ offset_last f c.loop-i.i end in
+    let fits = c.loop-i.invariant.fits in
+    record {
+      offsets_long = c.loop-i.invariant.long ∙ end;
+      offsets_each = λ k l. c.loop-i.invariant.each k (omega (arith, l, end));
+      counted = counted;
+      few = omega (arith, fits, counted);
+      all_pass = (
+        λ t k l. c.loop-i.invariant.all_pass.0 t k (omega (arith, l, end)),
+        λ h. c.loop-i.invariant.all_pass.1 (λ k l. h k (omega (arith, l, end))),
+      );
+      taken = λ t k l. c.loop-i.invariant.taken t k (omega (arith, l, end));
+      marked = c.in_ok-wanted.ensures;
+      listed = subst (AreNamers f W named (length named)) end c.loop-i.invariant.listed;
+    }

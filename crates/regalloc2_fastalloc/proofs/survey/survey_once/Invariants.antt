@@ -1,4 +1,4 @@
-use Rattle.std.proofs.Common.{ℕ, ◌≡◌, ◌<◌, true, length, slice_index}
+use Rattle.std.proofs.Common.{ℕ, ◌≡◌, ◌<◌, ◌^◌, true, length, slice_index}
 use Rattle.std.specs.Prelude.{All, ◌↔◌}
 use Rattle.regalloc2_function.specs.FunctionValue.{inst_at}
 use Rattle.regalloc2_analysis.specs.LiveRanges.LiveRanges.{IsWanted}
@@ -13,6 +13,7 @@ abbrev pub invariant-loop-i : goal.invariant-loop-i
 invariant-loop-i g l = record {
   whole : l.i-end ≡ length (g.F.Function.function l.f).insts;
   long : length l.offsets.items ≡ l.i;
+  fits : l.total < 2 ^ 32;
   so_far : l.total ≡ offset_of (g.F.Function.function l.f) l.i;
   each : (k : ℕ) → k < l.i → slice_index l.offsets.items k ≡ offset_of (g.F.Function.function l.f) k;
   all_pass : (l.passes ≡ true) ↔ ((k : ℕ) → k < l.i → AreUnlimited (inst_at (g.F.Function.function l.f) k)
