@@ -1,4 +1,4 @@
-use Rattle.std.proofs.Common.{ℕ, ◌≡◌, ◌<◌, true, List, subst}
+use Rattle.std.proofs.Common.{ℕ, ◌≡◌, true, List, subst}
 use Rattle.std.specs.Prelude.{◌↔◌}
 use Rattle.regalloc2_names.specs.Operand.{OperandValue}
 use Rattle.regalloc2_names.specs.Register.{VirtualRegister}
