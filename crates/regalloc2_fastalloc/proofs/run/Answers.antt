@@ -13,19 +13,19 @@ use Rattle.regalloc2_fastalloc.proofs.run.Given.{Over}
 use Rattle.regalloc2_fastalloc.proofs.run.Goals as goal
 use Rattle.regalloc2_fastalloc.proofs.run.Goals.{then-options+in_ok-validate_function, else-options}
 
-pub returns-in_err-survey_operands-clause-refused : goal.returns-in_err-survey_operands-clause-refused
-returns-in_err-survey_operands-clause-refused g c =
+pub returns-in_err-found-clause-refused : goal.returns-in_err-found-clause-refused
+returns-in_err-found-clause-refused g c =
     let f : FunctionValue = g.F.Function.function c.args.f.now in
     let env : MachineValue = machine_of c.args.env.now in
     let asked : Bool = c.args.options.now.validate_ssa in
     let p = err_from_is_err_and c.from_residual.result c.from_residual.ensures.1 in
-    rw p.1 (subst (IsReason f env asked) (sym p.2) (survey_reason f env asked c.in_err-survey_operands.ensures.err))
+    rw p.1 (subst (IsReason f env asked) (sym p.2) (survey_reason f env asked c.in_err-found.ensures.err))
 
-pub returns-in_err-survey_operands-clause-many_operands : goal.returns-in_err-survey_operands-clause-many_operands
-returns-in_err-survey_operands-clause-many_operands g c =
+pub returns-in_err-found-clause-many_operands : goal.returns-in_err-found-clause-many_operands
+returns-in_err-found-clause-many_operands g c =
     let f : FunctionValue = g.F.Function.function c.args.f.now in
     let p = err_from_is_err_and c.from_residual.result c.from_residual.ensures.1 in
-    survey_counted f c.from_residual.result p.0 p.1 (subst (IsSurveyError f) (sym p.2) c.in_err-survey_operands.ensures.err)
+    survey_counted f c.from_residual.result p.0 p.1 (subst (IsSurveyError f) (sym p.2) c.in_err-found.ensures.err)
 
 pub returns-in_err-validate_function-clause-refused : goal.returns-in_err-validate_function-clause-refused
 returns-in_err-validate_function-clause-refused g c =
@@ -33,7 +33,7 @@ returns-in_err-validate_function-clause-refused g c =
     let env : MachineValue = machine_of c.args.env.now in
     let asked : Bool = c.args.options.now.validate_ssa in
     let few : HasFewOperands f = c.in_ok-found.ensures.ok.few in
-    let p = err_from_is_err_and c.from_residual.result c.from_residual.ensures.1 in
+    let p = err_from_is_err_and c.from_residual-in_err-validate_function.result c.from_residual-in_err-validate_function.ensures.1 in
     rw p.1 (subst (IsReason f env asked) (sym p.2) (fault_is_reason f env asked few c.if-options.true c.in_err-validate_function.ensures.refused))
 
 pub returns-in_err-validate_function-clause-many_operands : goal.returns-in_err-validate_function-clause-many_operands
@@ -41,7 +41,7 @@ returns-in_err-validate_function-clause-many_operands g c =
     let f : FunctionValue = g.F.Function.function c.args.f.now in
     let env : MachineValue = machine_of c.args.env.now in
     let few : HasFewOperands f = c.in_ok-found.ensures.ok.few in
-    counted_alone f env c.args.options.now.validate_ssa c.from_residual.result few (returns-in_err-validate_function-clause-refused g c)
+    counted_alone f env c.args.options.now.validate_ssa c.from_residual-in_err-validate_function.result few (returns-in_err-validate_function-clause-refused g c)
 
 pub validate_unless_passed-requires : goal.validate_unless_passed-requires
 validate_unless_passed-requires g c =
