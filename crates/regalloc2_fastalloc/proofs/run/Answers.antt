@@ -1,4 +1,4 @@
-use Rattle.std.proofs.Common.{◌<◌, ◌^◌, Bool, sym, subst, rules}
+use Rattle.std.proofs.Common.{◌<◌, ◌^◌, Bool, sym, subst}
 use Rattle.std.proofs.lemmas.Result.{IfErr-weaker, IfOk-weaker, err_from_is_err_and}
 use Rattle.regalloc2_function.specs.FunctionValue.{FunctionValue}
 use Rattle.regalloc2_function.specs.Machine.{MachineValue}
@@ -41,7 +41,8 @@ returns-in_err-validate_function-clause-many_operands g c =
     let f : FunctionValue = g.F.Function.function c.args.f.now in
     let env : MachineValue = machine_of c.args.env.now in
     let few : HasFewOperands f = c.in_ok-found.ensures.ok.few in
-    counted_alone f env c.args.options.now.validate_ssa c.from_residual-in_err-validate_function.result few (returns-in_err-validate_function-clause-refused g c)
+    counted_alone f env c.args.options.now.validate_ssa c.from_residual-in_err-validate_function.result few
+    (returns-in_err-validate_function-clause-refused g c)
 
 pub validate_unless_passed-requires : goal.validate_unless_passed-requires
 validate_unless_passed-requires g c =
