@@ -25,6 +25,7 @@ pub mod Blocks
 pub mod NoErrorsIsFaithful
 pub mod OperandErrors
 pub mod Members
+pub mod NumberCells
 pub mod ErrorsOnPaths
 mod AddedSlots
 mod SweptSlots

@@ -26,7 +26,7 @@ fn list_place<A: Allocator>(bits: &mut NumberList<A>, place: Allocation) -> Resu
     if place.is_none() {
         return Ok(());
     }
-    bits.list(place.bits())?;
+    bits.list(place.bits() as usize, place.bits())?;
     Ok(())
 }
 
@@ -92,7 +92,7 @@ pub fn named_places<F: Function, A: Allocator + Copy, B: Allocator>(
     list_moves(&mut bits, &out.edits)?;
     list_places(&mut bits, &out.allocs)?;
     list_regs(&mut bits, all_clobbers(f))?;
-    Ok(Positions::of(bits.into_numbers()))
+    Ok(Positions::of(bits.into_numbers(alloc)?))
 }
 
 /// Lists a vreg.
@@ -100,7 +100,7 @@ fn list_vreg<A: Allocator>(bits: &mut NumberList<A>, vreg: VReg) -> Result<(), A
     ensures more { OnOk result (IsMore bits.old bits.new) }
     ensures listed { OnOk result (IsListedVReg bits.new vreg) }
 {
-    bits.list(vreg.bits() as u32)?;
+    bits.list(vreg.vreg(), vreg.bits() as u32)?;
     Ok(())
 }
 
@@ -212,5 +212,5 @@ pub fn named_vregs<F: Function, A: Allocator + Copy>(
     let mut bits = NumberList::new(alloc, expected)?;
     list_inst_vregs(&mut bits, f)?;
     list_all_blocks(&mut bits, f)?;
-    Ok(Positions::of(bits.into_numbers()))
+    Ok(Positions::of(bits.into_numbers(alloc)?))
 }
