@@ -26,6 +26,7 @@ pub mod NoErrorsIsFaithful
 pub mod OperandErrors
 pub mod Members
 pub mod NumberCells
+pub mod PlacesListed
 pub mod ErrorsOnPaths
 mod AddedSlots
 mod SweptSlots

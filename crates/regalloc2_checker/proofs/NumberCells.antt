@@ -108,9 +108,9 @@ cells-more cs k ns less e = ap (λ (l : List ℕ). l ++ option_to_list (get_or c
 pub cells-made : (t n : ℕ) (before cs : List (Option ℕ)) → before ≡ [] → cs ≡ take t before ++ replicate n None → flat_map option_to_list cs ≡ []
 cells-made t n before cs none e = ap (flat_map option_to_list) (e ∙ ap (λ (l : List (Option ℕ)). take t l ++ replicate n None) none
     ∙ ap (λ (l : List (Option ℕ)). l ++ replicate n None) (taken t)) ∙ alike (replicate n None)
-    (λ k less. get_or-replicate n k None None (omega (arith, less, length-replicate n (None {X = ℕ}))))
+    (λ k less. get_or-replicate n k None None (omega (arith, less, length-replicate {A = Option ℕ} n None)))
   where
-    taken : (m : ℕ) → take m ([] {A = Option ℕ}) ≡ []
+    taken : (m : ℕ) → take {A = Option ℕ} m [] ≡ []
     taken zero = refl
     taken (suc m) = refl
 

@@ -23,7 +23,7 @@ returns-then-first-number g c =
     let cell : ℕ = c.cell_of-cell.result in
     let inside : cell < length cells = omega (arith, c.cell_of-cell.ensures.inside, c.len.ensures, c.self.inside.cells.ok.0) in
     let some = sym (c.index.ensures ∙ get_or_default cells cell c.index.result.now None inside) ∙ c.in-Some.is
-        ∙ ap Some c.if-first-number.true in
+    ∙ ap Some c.if-first-number.true in
     listed-again c.args.self.now c.args.number (subst (λ (old : List ℕ). Contains old c.args.number) c.self.view_is
     (cell-listed cells cell c.args.number c.self.inside.others.items inside some))
 
