@@ -31,7 +31,7 @@ pub returns : goal.returns
 returns g c =
     let k = c.self.inside in
     let some = not-none _ c.if-is_empty.ensures in
-    c.has_bits.ensures
-    ∙ ap (λ (s : NumberSet). has_bits s c.args.bits)
+    ◌∙◌ {b = has_bits c.index.result.now c.args.bits} c.has_bits.ensures
+    (ap (λ (s : NumberSet). has_bits s c.args.bits)
     (sym (kept-many k.first k.second k.many.items c.args.self.now c.index.result.now c.self.view_is (omega (arith, some, k.many.ok.0))
-    c.index.ensures))
+    c.index.ensures)))
