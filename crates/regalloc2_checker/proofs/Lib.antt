@@ -25,6 +25,8 @@ pub mod Blocks
 pub mod NoErrorsIsFaithful
 pub mod OperandErrors
 pub mod Members
+pub mod NumberCells
+pub mod PlacesListed
 pub mod ErrorsOnPaths
 mod AddedSlots
 mod SweptSlots

@@ -7,7 +7,7 @@ use Rattle.std.specs.List.Sorted.{IsStrictlyIncreasing}
 use Rattle.std.proofs.lemmas.List.Elements.{Contains-append_left, Contains-append_right, Contains-append_cases, Contains-get_or}
 use Rattle.std.proofs.lemmas.List.Elements.{All-map, All-filter, All-take, All-drop, All-contains_itself, All-weaker}
 use Rattle.std.proofs.lemmas.Bool.{cases_lt, cases_Bool, or_right}
-use Rattle.std.proofs.lemmas.List.{get_or_default, take_more, take_all, map-append}
+use Rattle.std.proofs.lemmas.List.{get_or_default, take_more, take_all}
 use Rattle.std.proofs.lemmas.Grind.{flat_map-append}
 use Rattle.std.proofs.lemmas.List.Folds.{flat_map-map}
 use Rattle.regalloc2_names.specs.declared.sets.PRegSet.{PRegSet}
@@ -113,15 +113,8 @@ pub edits-all : (xs ys : List ℕ) (es : List (ℕ × Edit)) (k : ℕ) → lengt
     ArePlacesAdded xs ys (flat_map places_of_edit es)
 edits-all xs ys es k long a = subst (λ (qs : List (ℕ × Edit)). ArePlacesAdded xs ys (flat_map places_of_edit qs)) (take_all k es long) a
 
--- one register more of a walk over a set
-pub reg-more : (xs ys zs : List ℕ) (rs : List Register) (r : Register) → ArePlacesAdded xs ys (map InRegister rs) → ArePlacesAdded ys zs (InRegister r ∷ []) →
-    ArePlacesAdded xs zs (map InRegister (rs ++ (r ∷ [])))
-reg-more xs ys zs rs r a b =
-    subst (λ (qs : List Place). ArePlacesAdded xs zs qs) (sym (map-append InRegister rs (r ∷ []))) (added-then xs ys zs (map InRegister rs) (InRegister r ∷ [])
-    a b)
-
 -- what an item of a list is mapped to is in what the list is
-contains-flat : {X A : Type 0} (f : X → List A) (xs : List X) (x : X) (y : A) → Contains xs x → Contains (f x) y → Contains (flat_map f xs) y
+pub contains-flat : {X A : Type 0} (f : X → List A) (xs : List X) (x : X) (y : A) → Contains xs x → Contains (f x) y → Contains (flat_map f xs) y
 contains-flat f [] x y (k, less, at) h = absurd (omega arith)
 contains-flat f (z ∷ zs) x y (zero, less, at) h = Contains-append_left (f z) (flat_map f zs) y (subst (λ w. Contains (f w) y) (sym at) h)
 contains-flat f (z ∷ zs) x y (suc k, less, at) h =
@@ -131,7 +124,7 @@ later : {X : Type 0} (z x : X) (xs : List X) → Contains xs x → Contains (z �
 later z x xs (k, less, at) = (suc k, omega arith, at)
 
 -- and is there for no other reason
-from-flat : {X A : Type 0} (f : X → List A) (xs : List X) (y : A) → Contains (flat_map f xs) y → (x : X) × Contains xs x × Contains (f x) y
+pub from-flat : {X A : Type 0} (f : X → List A) (xs : List X) (y : A) → Contains (flat_map f xs) y → (x : X) × Contains xs x × Contains (f x) y
 from-flat f [] y (k, less, at) = absurd (omega arith)
 from-flat {X = X} f (x ∷ xs) y h = by_part (from-flat f xs y) (Contains-append_cases (f x) (flat_map f xs) y h)
   where
@@ -140,12 +133,12 @@ from-flat {X = X} f (x ∷ xs) y h = by_part (from-flat f xs y) (Contains-append
     by_part rest (inl g) = (x, (0, omega arith, refl), g)
     by_part rest (inr g) = let r = rest g in (r.0, later x r.0 xs r.1, r.2)
 
-contains-map : {X A : Type 0} (f : X → A) (xs : List X) (x : X) → Contains xs x → Contains (map f xs) (f x)
+pub contains-map : {X A : Type 0} (f : X → A) (xs : List X) (x : X) → Contains xs x → Contains (map f xs) (f x)
 contains-map f [] x (k, less, at) = absurd (omega arith)
 contains-map f (z ∷ zs) x (zero, less, at) = (0, omega arith, ap f at)
 contains-map f (z ∷ zs) x (suc k, less, at) = later (f z) (f x) (map f zs) (contains-map f zs x (k, omega arith, at))
 
-from-map : {X A : Type 0} (f : X → A) (xs : List X) (y : A) → Contains (map f xs) y → (x : X) × Contains xs x × (f x ≡ y)
+pub from-map : {X A : Type 0} (f : X → A) (xs : List X) (y : A) → Contains (map f xs) y → (x : X) × Contains xs x × (f x ≡ y)
 from-map f [] y (k, less, at) = absurd (omega arith)
 from-map f (x ∷ xs) y (zero, less, at) = (x, (0, omega arith, refl), at)
 from-map f (x ∷ xs) y (suc k, less, at) = let r = from-map f xs y (k, omega arith, at) in (r.0, later x r.0 xs r.1, r.2)

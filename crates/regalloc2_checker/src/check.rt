@@ -48,6 +48,7 @@ struct Placed<'a> {
 }
 
 /// The error of an operand that reads, if what its place holds is wrong.
+#[inline(always)]
 fn check_val<A: Allocator + Copy>(
     alloc: A,
     values: &PassingTables<A>,
@@ -81,6 +82,7 @@ fn check_val<A: Allocator + Copy>(
 }
 
 /// The error of the operand with an index, by what places hold.
+#[inline(always)]
 fn check_operand<A: Allocator + Copy>(
     alloc: A,
     values: &PassingTables<A>,
@@ -110,6 +112,7 @@ fn check_operand<A: Allocator + Copy>(
 }
 
 /// The first error among the operands of a position, by what places hold there.
+#[inline(always)]
 fn check_position<A: Allocator + Copy>(
     alloc: A,
     values: &PassingTables<A>,
@@ -134,6 +137,7 @@ fn check_position<A: Allocator + Copy>(
 }
 
 /// The error of a move: it goes from a stack place to another.
+#[inline(always)]
 fn move_fault<A: Allocator>(slots: PRegSet, edit: Edit) -> Option<CheckerError<A>>
     ensures { (env : MachineValue) → AreStackSlots env slots → MatchOption result (IsStackToStack env (move_of edit) → ⊥)
         (λ e. IsStackToStack env (move_of edit) × (e ≡ CheckerError.StackToStackMove (move_of edit).to (move_of edit).from)) }
@@ -149,6 +153,7 @@ fn move_fault<A: Allocator>(slots: PRegSet, edit: Edit) -> Option<CheckerError<A
 }
 
 /// Adds the errors of moves, as listed.
+#[inline(always)]
 fn check_moves<A: Allocator>(
     slots: PRegSet,
     moves: &[Edit],
@@ -167,6 +172,7 @@ fn check_moves<A: Allocator>(
 }
 
 /// Adds an error, if there is one.
+#[inline(always)]
 fn add<A: Allocator>(
     errors: &mut Vec<CheckerError<A>, A>,
     fault: Option<CheckerError<A>>,
@@ -181,6 +187,7 @@ fn add<A: Allocator>(
 
 /// Adds the errors of an instruction: those of the moves before it, then the first of its early operands, then the first
 /// of its late ones. Goes on past it.
+#[inline(always)]
 pub fn check_inst<F: Function, A: Allocator + Copy>(
     by: &Judging<'_, '_, F, A>,
     block: Block,

@@ -27,6 +27,7 @@ pub fn stack_slots<B: Allocator>(env: &MachineEnv<B>) -> PRegSet
 }
 
 /// Whether a place is on the stack.
+#[inline(always)]
 pub fn is_stack(slots: PRegSet, place: Allocation) -> bool
     ensures { (env : MachineValue) → AreStackSlots env slots → IsTrue result ↔ IsStackPlace env place }
 {
@@ -34,6 +35,7 @@ pub fn is_stack(slots: PRegSet, place: Allocation) -> bool
 }
 
 /// Whether a place is a register that isn't on the stack.
+#[inline(always)]
 fn is_plain_reg(slots: PRegSet, place: Allocation) -> bool
     ensures { (env : MachineValue) → AreStackSlots env slots → IsTrue result ↔ IsPlainRegister env place }
 {
@@ -111,6 +113,7 @@ fn check_limit<A: Allocator>(
 
 /// The error of an operand's constraint, if its place, which is there, doesn't meet it. The
 /// instruction has so many operands, and these are their places.
+#[inline(always)]
 pub fn check_constraint<A: Allocator>(
     slots: PRegSet,
     inst: Inst,

@@ -28,6 +28,7 @@ use regalloc2_names::PRegSet;
 use std::alloc::{AllocError, Allocator};
 
 /// Checks a block's instructions, from what holds at its beginning.
+#[inline(always)]
 fn check_block<F: Function, A: Allocator + Copy>(
     by: &Judging<'_, '_, F, A>,
     block: Block,

@@ -14,6 +14,7 @@ mod listing;
 mod names;
 mod number_list;
 mod order;
+mod place_list;
 mod queue;
 mod texts;
 mod transfer;

@@ -13,57 +13,37 @@ ghost use Rattle.regalloc2_checker.specs.NamedBits.{IsMore, ArePlacesAdded, plac
 ghost use Rattle.regalloc2_checker.specs.TableFacts.{IsListedVReg, AreNamedPlaces, AreNamedVRegs};
 
 use crate::number_list::NumberList;
+use crate::place_list::PlaceList;
 use regalloc2_checker_tables::Positions;
 use regalloc2_function::{Edit, Function, Output};
 use regalloc2_index::{Block, Inst};
 use regalloc2_names::{Allocation, Operand, PRegSet, ProgPoint, VReg};
 use std::alloc::{AllocError, Allocator};
 
-/// Lists a place, unless it is missing.
-fn list_place<A: Allocator>(bits: &mut NumberList<A>, place: Allocation) -> Result<(), AllocError>
-    ensures { OnOk result (ArePlacesAdded bits.old bits.new (place ∷ [])) }
-{
-    if place.is_none() {
-        return Ok(());
-    }
-    bits.list(place.bits())?;
-    Ok(())
-}
-
 /// Lists both places of each move.
 fn list_moves<A: Allocator>(
-    bits: &mut NumberList<A>,
+    bits: &mut PlaceList<A>,
     moves: &[(ProgPoint, Edit)],
 ) -> Result<(), AllocError>
     ensures { OnOk result (ArePlacesAdded bits.old bits.new (flat_map places_of_edit moves.now)) }
 {
     for k in 0..moves.len() {
         let (from, to) = moves[k].1.places();
-        list_place(bits, from)?;
-        list_place(bits, to)?;
+        bits.list(from)?;
+        bits.list(to)?;
     }
     Ok(())
 }
 
 /// Lists places.
 fn list_places<A: Allocator>(
-    bits: &mut NumberList<A>,
+    bits: &mut PlaceList<A>,
     places: &[Allocation],
 ) -> Result<(), AllocError>
     ensures { OnOk result (ArePlacesAdded bits.old bits.new places.now) }
 {
     for k in 0..places.len() {
-        list_place(bits, places[k])?;
-    }
-    Ok(())
-}
-
-/// Lists registers.
-fn list_regs<A: Allocator>(bits: &mut NumberList<A>, regs: PRegSet) -> Result<(), AllocError>
-    ensures { OnOk result (ArePlacesAdded bits.old bits.new (map InRegister (registers_of regs))) }
-{
-    for reg in regs {
-        list_place(bits, Allocation::reg(reg))?;
+        bits.list(places[k])?;
     }
     Ok(())
 }
@@ -88,11 +68,12 @@ pub fn named_places<F: Function, A: Allocator + Copy, B: Allocator>(
 ) -> Result<Positions<A>, AllocError>
     ensures { IfOk result (λ r. AreNamedPlaces (F.function f.now) (output_of out.now) r) }
 {
-    let mut bits = NumberList::new(alloc, out.edits.len().saturating_add(out.allocs.len()))?;
+    let named = out.edits.len().saturating_add(out.allocs.len());
+    let mut bits = PlaceList::new(alloc, out.num_spillslots.min(named))?;
     list_moves(&mut bits, &out.edits)?;
     list_places(&mut bits, &out.allocs)?;
-    list_regs(&mut bits, all_clobbers(f))?;
-    Ok(Positions::of(bits.into_numbers()))
+    bits.list_registers(all_clobbers(f));
+    Ok(Positions::of(bits.into_numbers(alloc)?))
 }
 
 /// Lists a vreg.
@@ -100,7 +81,7 @@ fn list_vreg<A: Allocator>(bits: &mut NumberList<A>, vreg: VReg) -> Result<(), A
     ensures more { OnOk result (IsMore bits.old bits.new) }
     ensures listed { OnOk result (IsListedVReg bits.new vreg) }
 {
-    bits.list(vreg.bits() as u32)?;
+    bits.list(vreg.vreg(), vreg.bits() as u32)?;
     Ok(())
 }
 
@@ -208,9 +189,9 @@ pub fn named_vregs<F: Function, A: Allocator + Copy>(
     ensures { IfOk result (λ r. AreNamedVRegs (F.function f.now) r) }
 {
     // Instructions may name few of a function's vregs.
-    let expected = f.num_vregs().min(f.num_insts().saturating_mul(4));
+    let expected = f.num_vregs().min(f.num_insts().saturating_mul(16));
     let mut bits = NumberList::new(alloc, expected)?;
     list_inst_vregs(&mut bits, f)?;
     list_all_blocks(&mut bits, f)?;
-    Ok(Positions::of(bits.into_numbers()))
+    Ok(Positions::of(bits.into_numbers(alloc)?))
 }

@@ -1,66 +1,84 @@
 //! A list of numbers that leaves out most of those that it has.
 
-ghost use Rattle.std.specs.Prelude.{◌≡◌, ◌↔◌, ◌⊎◌, ℕ, [], OnOk, IfOk, Contains};
+ghost use Rattle.std.specs.Prelude.{◌≡◌, ◌<◌, ◌%◌, ◌↔◌, ◌⊎◌, ℕ, [], OnOk, IfOk, Contains};
 
 use std::alloc::{AllocError, Allocator};
 use std::marker::Model;
 
-/// Numbers that were listed. One that is listed again is left out, unless another with its remainder came between.
+/// Numbers that were listed. One that is listed again is left out, unless another number has its cell.
 #[derive(Drop)]
 pub struct NumberList<A: Allocator> {
-    numbers: Vec<u32, A>,
-    /// Where the last number of each remainder is.
-    last: Vec<usize, A>,
+    /// The first number of each cell.
+    cells: Vec<Option<u32>, A>,
+    /// The numbers whose cells have another one.
+    others: Vec<u32, A>,
 }
 
 impl<A: Allocator> Model for NumberList<A> {
-    ghost use Rattle.std.specs.Prelude.{List, ℕ, ◌<◌, length};
+    ghost use Rattle.std.specs.Prelude.{List, ℕ, ◌<◌, ◌++◌, length};
+    ghost use Rattle.std.specs.List.{flat_map};
+    ghost use Rattle.std.specs.Option.{option_to_list};
 
     ghost Value = { List ℕ };
 
-    ghost view = { λ l. l.numbers.items };
+    ghost view = { λ l. flat_map option_to_list l.cells.items ++ l.others.items };
 
-    ghost invariant = { λ l. 0 < length l.last.items };
+    ghost invariant = { λ l. 0 < length l.cells.items };
 }
 
 impl<A: Allocator + Copy> NumberList<A> {
-    /// An empty list, for about so many different numbers.
-    pub fn new(alloc: A, expected: usize) -> Result<NumberList<A>, AllocError>
+    /// An empty list, with a cell for each of so many keys.
+    pub fn new(alloc: A, keys: usize) -> Result<NumberList<A>, AllocError>
         ensures { IfOk result (λ l. l ≡ []) }
     {
-        let mut last = Vec::new(alloc);
-        // Odd, so that numbers two or four apart take all remainders, and not every second or fourth alone.
-        last.resize(expected / 2 * 2 + 1, 0)?;
+        let mut cells = Vec::new(alloc);
+        // At least one, and odd: numbers that are two or four apart take all remainders.
+        cells.resize(keys / 2 * 2 + 1, None)?;
         Ok(NumberList {
-            // Most lists of a small function fit without growing.
-            numbers: Vec::with_capacity(alloc, expected.min(64))?,
-            last,
+            cells,
+            others: Vec::new(alloc),
         })
+    }
+
+    /// What was listed: the cells in their order, then the others.
+    pub fn into_numbers(self, alloc: A) -> Result<Vec<u32, A>, AllocError>
+        ensures { IfOk result (λ numbers. numbers.items ≡ self) }
+    {
+        let mut numbers = Vec::with_capacity(alloc, self.cells.len())?;
+        for k in 0..self.cells.len() {
+            if let Some(number) = self.cells[k] {
+                numbers.push(number)?;
+            }
+        }
+        numbers.extend_from_slice(&self.others)?;
+        Ok(numbers)
     }
 }
 
+/// The cell of a key among so many.
+fn cell_of(key: usize, count: usize) -> usize
+    requires { 0 < count }
+    ensures cell { result ≡ key % count }
+    ensures inside { result < count }
+{
+    // Few keys are past the count, and a division is slow.
+    if key < count { key } else { key % count }
+}
+
 impl<A: Allocator> NumberList<A> {
-    /// Lists a number, unless it was the last of its remainder.
-    pub fn list(&mut self, number: u32) -> Result<(), AllocError>
+    /// Lists a number, unless its cell has it. Its cell is the key's, or that of the key's remainder.
+    pub fn list(&mut self, key: usize, number: u32) -> Result<(), AllocError>
         ensures { OnOk result ((n : ℕ) → Contains self.new n ↔ (Contains self.old n ⊎ (n ≡ number))) }
     {
-        let remainder = number as usize % self.last.len();
-        let last = self.last[remainder];
-        if last < self.numbers.len() {
-            if self.numbers[last] == number {
-                return Ok(());
-            }
+        let cell = cell_of(key, self.cells.len());
+        let Some(first) = self.cells[cell] else {
+            self.cells[cell] = Some(number);
+            return Ok(());
+        };
+        if first == number {
+            return Ok(());
         }
-        let end = self.numbers.len();
-        self.numbers.push(number)?;
-        self.last[remainder] = end;
+        self.others.push(number)?;
         Ok(())
-    }
-
-    /// What was listed.
-    pub fn into_numbers(self) -> Vec<u32, A>
-        ensures { result.items ≡ self }
-    {
-        self.numbers
     }
 }

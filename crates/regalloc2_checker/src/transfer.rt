@@ -71,6 +71,7 @@ fn make_move<A: Allocator + Copy>(
 }
 
 /// Makes the moves, one by one.
+#[inline(always)]
 fn make_moves<A: Allocator + Copy>(
     values: &mut PassingTables<A>,
     moves: &[Edit],
@@ -119,6 +120,7 @@ fn clear_early_def<A: Allocator + Copy>(
 }
 
 /// Empties the places of an instruction's early definitions.
+#[inline(always)]
 fn clear_early_defs<A: Allocator + Copy>(
     values: &mut PassingTables<A>,
     places: &[Allocation],
@@ -177,6 +179,7 @@ fn write_def<A: Allocator + Copy>(
 }
 
 /// Writes an instruction's definitions, in operand order.
+#[inline(always)]
 fn write_defs<A: Allocator + Copy>(
     values: &mut PassingTables<A>,
     places: &[Allocation],
@@ -207,6 +210,7 @@ fn clear_clobbers<A: Allocator + Copy>(values: &mut PassingTables<A>, clobbers: 
 
 /// Goes on to where an instruction's early uses are read: the moves before it are made, and the places of its early
 /// definitions are emptied.
+#[inline(always)]
 pub fn go_to_early<A: Allocator + Copy>(
     values: &mut PassingTables<A>,
     moves: &[Edit],
@@ -225,6 +229,7 @@ pub fn go_to_early<A: Allocator + Copy>(
 }
 
 /// Goes on to where its late uses are read: the definitions are written, and the clobbered registers are emptied.
+#[inline(always)]
 pub fn go_to_late<A: Allocator + Copy>(
     values: &mut PassingTables<A>,
     places: &[Allocation],

@@ -20,6 +20,7 @@ fn bits_of(vreg: VReg) -> u32
 }
 
 /// Whether a place holds what a vreg has.
+#[inline(always)]
 pub fn holds<A: Allocator + Copy>(values: &PassingTables<A>, place: Allocation, vreg: VReg) -> bool
     ensures { result ≡ facts_now values.now place vreg }
 {
@@ -41,6 +42,7 @@ fn vreg_of(bits: u32) -> Option<VReg>
 }
 
 /// The vregs whose values a place holds, by rising bits.
+#[inline(never)]
 pub fn vregs_in<A: Allocator + Copy>(
     alloc: A,
     values: &PassingTables<A>,

@@ -22,7 +22,7 @@ unfolding word_of
 word-alone b k = omega arith
 
 -- it has that member
-has-alone : (b y : ℕ) → has_number (set_of_one b) y ≡ nat_eq y b
+pub has-alone : (b y : ℕ) → has_number (set_of_one b) y ≡ nat_eq y b
 unfolding has_number
 has-alone b y = ap (λ w. nat_eq (bit_at w (y % 64)) 1) (word-alone b (y / 64)) ∙ bit b y
   where

@@ -1,7 +1,7 @@
 -- Sets of one member, and the empty one.
 use Rattle.std.proofs.Common.{inl, inr, ℕ, ◌≡◌, ◌<◌, arith, Bool, true}
 use Rattle.std.proofs.Common.{false, cond, nat_eq, eq-eqb, List, [], refl, sym, ap, ◌∙◌}
-use Rattle.std.proofs.Common.{get_or, ◌-◌}
+use Rattle.std.proofs.Common.{get_or}
 use Rattle.std.specs.Prelude.{◌&&◌, if◌then◌else◌, Option, None, Some}
 use Rattle.std.specs.Bool.{OnTrue, OnFalse}
 use Rattle.std.proofs.lemmas.Bool.{cases_eq, eqb-true, ne_eqb}

@@ -1,6 +1,7 @@
 -- Sets of bits, by number. Bits are words of 32 bits.
-use Rattle.std.specs.Prelude.{ℕ, zero, suc, ◌/◌, ◌%◌, ◌^◌, ◌≡◌, ◌<◌, ◌≤◌, Bool, true, false, ◌&&◌, nat_eq, nat_lt, if◌then◌else◌}
+use Rattle.std.specs.Prelude.{ℕ, zero, suc, ◌/◌, ◌%◌, ◌^◌, ◌≡◌, ◌<◌, ◌≤◌, Bool, true, false, ◌&&◌, cond, nat_eq, nat_lt, if◌then◌else◌}
 use Rattle.std.specs.Prelude.{List, [], ◌∷◌, ◌++◌, length, get_or, Option, Some}
+use Rattle.std.specs.Int.Bits.{bit_or}
 use Rattle.regalloc2_shape.specs.Numbers.{NumberSet, has_number, times_listed}
 use Rattle.regalloc2_checker_tables.specs.declared.sets.Grown.{Grown}
 
@@ -25,6 +26,15 @@ pub record IsSetOf (sets : List NumberSet) (n : ℕ) (has : ℕ → Bool) : Type
 -- the set that has bits alone
 abbrev pub set_of_one : ℕ → NumberSet
 set_of_one b = (b / 64, 2 ^ (b % 64)) ∷ []
+
+-- the set that has two bits
+unfoldable pub set_of_two : ℕ → ℕ → NumberSet
+set_of_two a b = cond (nat_eq (a / 64) (b / 64)) ((a / 64, bit_or (2 ^ (a % 64)) (2 ^ (b % 64))) ∷ []) (set_of_one a ++ set_of_one b)
+
+-- a set that is kept: of two bits, or another
+unfoldable pub set_of_kept : ℕ → ℕ → List NumberSet → NumberSet
+set_of_kept a b [] = set_of_two a b
+set_of_kept a b (s ∷ rest) = s
 
 -- the sets that have bits alone, for so many first bits
 unfoldable pub sets_of_one : ℕ → List NumberSet

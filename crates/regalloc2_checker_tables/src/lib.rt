@@ -2,6 +2,7 @@
 #![tactic(auto)]
 
 mod entries;
+mod kept_set;
 mod passing;
 mod positions;
 mod sets;

@@ -1,10 +1,11 @@
 //! Sets of the bits of vregs, which are never changed once they are made.
 
-ghost use Rattle.std.specs.Prelude.{◌≡◌, ℕ, ◌<◌, ◌≤◌, ◌++◌, ◌∷◌, [], true, false, ◌&&◌, nat_eq, if◌then◌else◌, length, IfOk, OnErr};
+ghost use Rattle.std.specs.Prelude.{◌≡◌, ℕ, ◌<◌, ◌≤◌, ◌++◌, ◌∷◌, [], true, false, ◌&&◌, ◌||◌, nat_eq, if◌then◌else◌, length, IfOk, OnErr};
 ghost use Rattle.std.specs.Bool.{OnTrue, OnFalse};
 ghost use Rattle.regalloc2_shape.specs.Numbers.{has_number};
 ghost use Rattle.regalloc2_checker_tables.specs.EntrySets.{has_bits, is_member, AreMore, IsSetOf, ListsBits, IsLess};
 
+use crate::kept_set::Kept;
 use regalloc2_shape::indexset::IndexSet;
 use std::alloc::{AllocError, Allocator};
 use std::marker::Model;
@@ -16,10 +17,11 @@ const FIRST: u32 = 1 << 31;
 /// Sets of bits, by number. The first is the empty one.
 ///
 /// Most have one member alone, and are kept nowhere, since the number says the member. The set that was last made of
-/// another and one member more is noted, since many places may get that member one after another.
+/// another and one member more is noted, since many places may get that member one after another. A loop that passes its
+/// parameters on in another order makes many sets of two members, which `Kept` has as two numbers.
 #[derive(Drop)]
 pub struct Sets<A: Allocator> {
-    kept: Vec<IndexSet<A>, A>,
+    kept: Vec<Kept<A>, A>,
     grown: Option<Grown>,
     alloc: A,
 }
@@ -42,27 +44,6 @@ impl<A: Allocator> Model for Sets<A> {
     ghost view = { λ s. all_sets s.kept.items };
 
     ghost invariant = { λ s. IsGrown (all_sets s.kept.items) s.grown };
-}
-
-/// Whether bits are a member.
-fn has_bits<A: Allocator + Copy>(set: &IndexSet<A>, bits: u32) -> bool
-    ensures { result ≡ has_bits set.now bits }
-{
-    set.get(bits as usize)
-}
-
-/// The members of a set, in no guaranteed order.
-fn listed<A: Allocator + Copy>(alloc: A, set: &IndexSet<A>) -> Result<Vec<u32, A>, AllocError>
-    ensures { IfOk result (λ members. ListsBits (has_bits set.now) members.items) }
-{
-    let mut members = Vec::new(alloc);
-    for member in set.iter() {
-        let Ok(bits) = u32::try_from(member) else {
-            continue;
-        };
-        members.push(bits)?;
-    }
-    Ok(members)
 }
 
 /// A member of a set, if it has one.
@@ -121,7 +102,7 @@ impl<A: Allocator + Copy> Sets<A> {
     }
 
     /// A set that is kept.
-    fn kept(&self, set: u32) -> &IndexSet<A>
+    fn kept(&self, set: u32) -> &Kept<A>
         requires kept { 2147483648 ≤ set }
         requires set { set < length self.now }
         ensures { (y : ℕ) → has_bits result.now y ≡ is_member self.now set y }
@@ -136,7 +117,7 @@ impl<A: Allocator + Copy> Sets<A> {
     {
         let _ = &self.kept;
         if set >= FIRST {
-            return has_bits(self.kept(set), bits);
+            return self.kept(set).has(bits);
         }
         if set == 0 {
             return false;
@@ -151,7 +132,7 @@ impl<A: Allocator + Copy> Sets<A> {
     {
         let _ = &self.kept;
         if set >= FIRST {
-            return listed(self.alloc, self.kept(set));
+            return self.kept(set).members(self.alloc);
         }
         let mut members = Vec::new(self.alloc);
         if set == 0 {
@@ -161,9 +142,9 @@ impl<A: Allocator + Copy> Sets<A> {
         Ok(members)
     }
 
-    /// Adds a set, and returns its number.
+    /// Adds a set that is kept, and returns its number.
     #[inline(always)]
-    fn add(&mut self, set: IndexSet<A>) -> Result<u32, AllocError>
+    fn keep(&mut self, set: Kept<A>) -> Result<u32, AllocError>
         ensures more { AreMore self.old self.new }
         ensures found { IfOk result (λ n. IsSetOf self.new n (has_bits set)) }
     {
@@ -175,6 +156,24 @@ impl<A: Allocator + Copy> Sets<A> {
         }
         self.kept.push(set)?;
         Ok(FIRST + index)
+    }
+
+    /// Adds a set, and returns its number.
+    fn add(&mut self, set: IndexSet<A>) -> Result<u32, AllocError>
+        ensures more { AreMore self.old self.new }
+        ensures found { IfOk result (λ n. IsSetOf self.new n (has_bits set)) }
+    {
+        let kept = Kept::many(self.alloc, set)?;
+        self.keep(kept)
+    }
+
+    /// Adds a set of two members, and returns its number.
+    fn add_pair(&mut self, first: u32, second: u32) -> Result<u32, AllocError>
+        ensures more { AreMore self.old self.new }
+        ensures found { IfOk result (λ n. IsSetOf self.new n (λ y. nat_eq y first || nat_eq y second)) }
+    {
+        let kept = Kept::pair(self.alloc, first, second);
+        self.keep(kept)
     }
 
     /// Adds a set of one member, which no number below the others stands for.
@@ -222,11 +221,10 @@ impl<A: Allocator + Copy> Sets<A> {
         ensures { IfOk result (λ s. (y : ℕ) → has_bits s y ≡ is_member self.now set y) }
     {
         let _ = &self.kept;
-        let mut copy = IndexSet::new(self.alloc);
         if set >= FIRST {
-            copy.assign(self.kept(set))?;
-            return Ok(copy);
+            return self.kept(set).copied(self.alloc);
         }
+        let mut copy = IndexSet::new(self.alloc);
         if set == 0 {
             return Ok(copy);
         }
@@ -271,14 +269,27 @@ impl<A: Allocator + Copy> Sets<A> {
     }
 
     /// Adds a set of another and one member more.
+    fn added(&mut self, set: u32, bits: u32) -> Result<u32, AllocError>
+        requires { set < length self.old }
+        ensures more { AreMore self.old self.new }
+        ensures found { IfOk result (λ n. IsSetOf self.new n (λ y. if nat_eq y bits then true else is_member self.old set y)) }
+    {
+        let _ = &self.kept;
+        if let Some(only) = self.only(set) {
+            return self.add_pair(bits, only);
+        }
+        let more = self.changed(set, bits, true)?;
+        self.add(more)
+    }
+
+    /// Adds a set of another and one member more, and notes it.
     #[inline(never)]
     fn new_grown(&mut self, set: u32, bits: u32) -> Result<u32, AllocError>
         requires { set < length self.old }
         ensures more { AreMore self.old self.new }
         ensures found { IfOk result (λ n. IsSetOf self.new n (λ y. if nat_eq y bits then true else is_member self.old set y)) }
     {
-        let more = self.changed(set, bits, true)?;
-        let number = self.add(more)?;
+        let number = self.added(set, bits)?;
         self.keep_grown(set, bits, number);
         Ok(number)
     }
@@ -302,6 +313,35 @@ impl<A: Allocator + Copy> Sets<A> {
         self.new_grown(set, bits)
     }
 
+    /// The members of a set that is kept as two numbers.
+    fn two(&self, set: u32) -> Option<(u32, u32)>
+        requires { set < length self.now }
+        ensures { (p : ℕ × ℕ) → result ≡ Some p → (y : ℕ) → is_member self.now set y ≡ (nat_eq y p.0 || nat_eq y p.1) }
+    {
+        if set < FIRST {
+            return None;
+        }
+        self.kept(set).two()
+    }
+
+    /// The number of a set of two members without `bits`.
+    fn other_single(&mut self, first: u32, second: u32, bits: u32) -> Result<u32, AllocError>
+        ensures more { AreMore self.old self.new }
+        ensures found { IfOk result (λ n. IsSetOf self.new n (λ y. if nat_eq y bits then false else (nat_eq y first || nat_eq y second))) }
+    {
+        let _ = &self.kept;
+        if first != bits {
+            if second != bits {
+                return self.add_pair(first, second);
+            }
+            return self.single(first);
+        }
+        if second == bits {
+            return Ok(0);
+        }
+        self.single(second)
+    }
+
     /// The number of a set without one of its members.
     #[inline(never)]
     fn shrunk(&mut self, set: u32, bits: u32) -> Result<u32, AllocError>
@@ -309,6 +349,10 @@ impl<A: Allocator + Copy> Sets<A> {
         ensures more { AreMore self.old self.new }
         ensures found { IfOk result (λ n. IsSetOf self.new n (λ y. if nat_eq y bits then false else is_member self.old set y)) }
     {
+        let _ = &self.kept;
+        if let Some((first, second)) = self.two(set) {
+            return self.other_single(first, second, bits);
+        }
         let less = self.changed(set, bits, false)?;
         self.settle(less)
     }
@@ -330,7 +374,7 @@ impl<A: Allocator + Copy> Sets<A> {
     }
 
     /// The members that another set has too.
-    fn intersection(&self, set: &IndexSet<A>, other: u32) -> Result<IndexSet<A>, AllocError>
+    pub fn intersection(&self, set: &IndexSet<A>, other: u32) -> Result<IndexSet<A>, AllocError>
         requires { other < length self.now }
         ensures { IfOk result (λ both. (y : ℕ) → has_bits both y ≡ (has_bits set.now y && is_member self.now other y)) }
     {
@@ -345,6 +389,25 @@ impl<A: Allocator + Copy> Sets<A> {
             both.set(bits as usize, true)?;
         }
         Ok(both)
+    }
+
+    /// The number of the set of those of two bits that another set has.
+    fn both_of_two(&mut self, first: u32, second: u32, other: u32) -> Result<u32, AllocError>
+        requires { other < length self.old }
+        ensures more { AreMore self.old self.new }
+        ensures found { IfOk result (λ n. IsSetOf self.new n (λ y. (nat_eq y first || nat_eq y second) && is_member self.old other y)) }
+    {
+        let _ = &self.kept;
+        if self.has(other, first) {
+            if self.has(other, second) {
+                return self.add_pair(first, second);
+            }
+            return self.single(first);
+        }
+        if self.has(other, second) {
+            return self.single(second);
+        }
+        Ok(0)
     }
 
     /// The members of two sets, of which the first is kept.
@@ -363,12 +426,15 @@ impl<A: Allocator + Copy> Sets<A> {
             }
             return Ok(0);
         }
-        let both = self.intersection(self.kept(set), other)?;
+        if let Some((first, second)) = self.two(set) {
+            return self.both_of_two(first, second, other);
+        }
+        let both = self.kept(set).common(self, self.alloc, other)?;
         self.settle(both)
     }
 
     /// Whether another set has each member.
-    fn is_subset(&self, set: &IndexSet<A>, other: u32) -> bool
+    pub fn is_subset(&self, set: &IndexSet<A>, other: u32) -> bool
         requires { other < length self.now }
         ensures yes { OnTrue result ((y : ℕ) → has_bits set.now y ≡ true → is_member self.now other y ≡ true) }
         ensures no { OnFalse result (IsLess (has_bits set.now) (is_member self.now other)) }
@@ -393,7 +459,7 @@ impl<A: Allocator + Copy> Sets<A> {
     {
         let _ = &self.kept;
         if set >= FIRST {
-            return self.is_subset(self.kept(set), other);
+            return self.kept(set).is_within(self, other);
         }
         if set == 0 {
             return true;

@@ -12,10 +12,10 @@ loop-k-init g c = added-none c.args.bits.now
 pub loop-k-preserved : goal.loop-k-preserved
 loop-k-preserved g c =
     let old : List ℕ = c.loop-k.bits in
-    let mid : List ℕ = c.list_place.new.bits in
-    let new : List ℕ = c.list_place-in-loop-k.new.bits in
-    let from = subst (λ (p : Place). ArePlacesAdded old mid (p ∷ [])) c.places-from.ensures.from c.in_ok-list_place.ensures in
-    let to = subst (λ (p : Place). ArePlacesAdded mid new (p ∷ [])) c.places-from.ensures.to c.in_ok-list_place-2.ensures in
+    let mid : List ℕ = c.list.new.self in
+    let new : List ℕ = c.list-in-loop-k.new.self in
+    let from = subst (λ (p : Place). ArePlacesAdded old mid (p ∷ [])) c.places-from.ensures.from c.in_ok-list.ensures in
+    let to = subst (λ (p : Place). ArePlacesAdded mid new (p ∷ [])) c.places-from.ensures.to c.in_ok-list-2.ensures in
     edit-more c.args.bits.now old mid new c.args.moves.now c.loop-k.k c.index-moves-k.result (omega (arith, c.loop-k-test.true))
     c.index-moves-k.is c.loop-k.invariant
     (subst (λ (e : ℕ × Edit). ArePlacesAdded old mid ((move_of e.1).from ∷ [])) (sym c.index-moves-k.is) from)

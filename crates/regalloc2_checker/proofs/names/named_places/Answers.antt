@@ -13,7 +13,7 @@ pub returns : goal.returns
 returns g c =
     let f : FunctionValue = g.F.Function.function c.args.f.now in
     let none : List ℕ = c.in_ok-bits.bits in
-    let end : List ℕ = c.list_regs.new.bits in
+    let end : List ℕ = c.list_registers.new.self in
     let edits = c.args.out.now.edits.items in
     let places : List Place = c.args.out.now.allocs.items in
     let regs : List Place = map InRegister (registers_of c.all_clobbers.result) in
@@ -23,7 +23,7 @@ returns g c =
     rw (← c.deref-2.ensures.value) c.in_ok-list_places.ensures in
     let added : ArePlacesAdded none end (flat_map places_of_edit edits ++ (places ++ regs)) =
     added-then none c.list_moves.new.bits end (flat_map places_of_edit edits) (places ++ regs) moves
-    (added-then c.list_moves.new.bits c.list_places.new.bits end places regs operands c.in_ok-list_regs.ensures) in
+    (added-then c.list_moves.new.bits c.list_places.new.bits end places regs operands c.list_registers.ensures) in
     all-named f (output_of c.args.out.now) edits c.all_clobbers.result end c.of.result refl c.all_clobbers.ensures
     (subst (λ (l : List ℕ). ArePlacesAdded l end (flat_map places_of_edit edits ++ (places ++ regs))) c.in_ok-bits.ensures added)
-    (subst (λ (l : List ℕ). (n : ℕ) → Contains c.of.result n ↔ Contains l n) c.into_numbers.ensures c.of.ensures.members) c.of.ensures.rising
+    (subst (λ (l : List ℕ). (n : ℕ) → Contains c.of.result n ↔ Contains l n) c.in_ok-into_numbers.ensures c.of.ensures.members) c.of.ensures.rising

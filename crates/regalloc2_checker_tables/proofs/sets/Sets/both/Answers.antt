@@ -19,6 +19,13 @@ returns-in-Some-clause-found g c =
     empty-is c.args.self.now c.self.inside.kept.items _ c.self.view_is
     (both-apart (is_member c.args.self.now c.args.set) (is_member c.args.self.now c.args.other) c.in-Some.only is.members (sym c.if-has.ensures))
 
+pub returns-in-Some-two-clause-found : goal.returns-in-Some-two-clause-found
+returns-in-Some-two-clause-found g c =
+    let two = c.in-Some-two.ensures (c.in-Some-two.first, c.in-Some-two.second) refl in
+    ok-as _ _ c.both_of_two.result
+    (λ n h. set-is c.both_of_two.new.self n _ _ (λ y. ap (λ b. b && is_member c.args.self.now c.args.other y) (sym (two y))) h)
+    c.both_of_two.ensures.found
+
 pub returns-clause-found : goal.returns-clause-found
 returns-clause-found g c =
     ok-as _ _ c.settle.result

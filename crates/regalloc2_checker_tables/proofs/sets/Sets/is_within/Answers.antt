@@ -7,13 +7,13 @@ use Rattle.regalloc2_checker_tables.proofs.sets.Sets.is_within.Goals as goal
 
 pub returns-then-set-ge-FIRST-clause-yes : goal.returns-then-set-ge-FIRST-clause-yes
 returns-then-set-ge-FIRST-clause-yes g c =
-    within-as (has_bits c.kept.result.now) (is_member c.args.self.now c.args.set) (is_member c.args.self.now c.args.other) c.is_subset.result c.kept.ensures
-    c.is_subset.ensures.yes
+    within-as (has_bits c.kept.result.now) (is_member c.args.self.now c.args.set) (is_member c.args.self.now c.args.other) c.is_within.result c.kept.ensures
+    c.is_within.ensures.yes
 
 pub returns-then-set-ge-FIRST-clause-no : goal.returns-then-set-ge-FIRST-clause-no
 returns-then-set-ge-FIRST-clause-no g c =
-    less-as (has_bits c.kept.result.now) (is_member c.args.self.now c.args.set) (is_member c.args.self.now c.args.other) c.is_subset.result c.kept.ensures
-    c.is_subset.ensures.no
+    less-as (has_bits c.kept.result.now) (is_member c.args.self.now c.args.set) (is_member c.args.self.now c.args.other) c.is_within.result c.kept.ensures
+    c.is_within.ensures.no
 
 pub returns-then-set-eq0-clause-yes : goal.returns-then-set-eq0-clause-yes
 returns-then-set-eq0-clause-yes g c y h =

@@ -1,7 +1,7 @@
 use Rattle.std.proofs.Common.{ℕ, ◌≡◌, ◌++◌, nat_lt}
 use Rattle.std.specs.Prelude.{if◌then◌else◌}
 use Rattle.regalloc2_shape.specs.Numbers.{ListsMembers, times_listed}
-use Rattle.regalloc2_checker_tables.proofs.sets.listed.Given as goal
+use Rattle.regalloc2_checker_tables.proofs.kept_set.listed.Given as goal
 
 abbrev pub invariant-loop-member : goal.invariant-loop-member
 invariant-loop-member g l = record {

@@ -2,7 +2,7 @@ use Rattle.std.proofs.Common.{ℕ, List, [], ◌∷◌, ◌++◌, arith, ap, ◌
 use Rattle.regalloc2_shape.specs.Numbers.{times_listed}
 use Rattle.regalloc2_checker_tables.proofs.Bits.{listed-none, listed-more, listed-skip, listed-all}
 use Rattle.regalloc2_checker_tables.proofs.Walked.{walked-on}
-use Rattle.regalloc2_checker_tables.proofs.sets.listed.Goals as goal
+use Rattle.regalloc2_checker_tables.proofs.kept_set.listed.Goals as goal
 
 pub loop-member-init : goal.loop-member-init
 loop-member-init g c = record {
