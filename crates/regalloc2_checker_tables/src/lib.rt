@@ -2,6 +2,7 @@
 #![tactic(auto)]
 
 mod entries;
+mod homes;
 mod passing;
 mod positions;
 mod sets;
