@@ -4,14 +4,16 @@ use Rattle.std.proofs.Common.{nat_eq, nat_lt, eq-eqb, List, [], ◌∷◌, ◌++
 use Rattle.std.specs.Prelude.{◌&&◌, ◌||◌, if◌then◌else◌, slice_set}
 use Rattle.std.specs.List.Sorted.{IsStrictlyIncreasing}
 use Rattle.std.proofs.lemmas.List.{take_more}
-use Rattle.std.proofs.lemmas.Bool.{cases_eq, cases_lt, le-ltb, lt-ltb as below, ne_eqb}
+use Rattle.std.proofs.lemmas.Bool.{cases_eq, lt-ltb as below, ne_eqb}
 use Rattle.std.proofs.lemmas.List.{get_or-set_other, get_or-set_same, length-set}
-use Rattle.std.proofs.Math.Bool.{and-false, or-false as or-no, or-true}
+use Rattle.std.proofs.Math.Bool.{and-false, or-false as or-no}
 use Rattle.regalloc2_shape.specs.Numbers.{NumberSet, has_number, times_listed}
 use Rattle.regalloc2_checker_tables.specs.SavedNumbers.{NumberCopies}
 use Rattle.regalloc2_checker_tables.specs.EntrySets.{AreMore}
+use Rattle.regalloc2_checker_tables.specs.Homes.{HomePlaces, no_homes, has_few, has_home}
 use Rattle.regalloc2_checker_tables.specs.Holding.{IsHome, AreBelow, AreStill, AreMoreHomes, is_in}
 use Rattle.regalloc2_checker_tables.proofs.Bits.{other-times, same-times}
+use Rattle.regalloc2_checker_tables.proofs.HomeLaws.{home-is}
 use Rattle.regalloc2_checker_tables.proofs.Walked.{walked-more}
 use Rattle.regalloc2_checker_tables.proofs.Listed.{listed-once}
 
@@ -92,55 +94,117 @@ is_in-more (z ∷ xs) x i = ap (λ b. nat_eq z i || b) (is_in-more xs x i) ∙ a
     assoc true b c = refl
     assoc false b c = refl
 
--- one more holder
-pub holders-more : (holders done : List ℕ) (has : ℕ → Bool) (bound place : ℕ) → place < bound → has place ≡ true →
-    ((i : ℕ) → is_in holders i ≡ (nat_lt i bound && (nat_lt 0 (times_listed done i) && has i))) → (i : ℕ) →
-    is_in (holders ++ place ∷ []) i ≡ (nat_lt i bound && (nat_lt 0 (times_listed (done ++ place ∷ []) i) && has i))
-holders-more holders done has bound place small is h i = elim (cases_eq i place) [
+-- a place that passes a test is listed
+pub holder-is : (holders : List ℕ) (test : ℕ → Bool) (place : ℕ) → test place ≡ true → (i : ℕ) →
+    is_in (holders ++ place ∷ []) i ≡ (is_in holders i || (nat_eq i place && test i))
+holder-is holders test place is i = elim (cases_eq i place) [
+  | inl e ↦
+      is_in-more holders place i ∙ ap (λ b. is_in holders i || b) (eq-eqb place i (sym e))
+      ∙ sym (ap (λ b. is_in holders i || (b && test i)) (eq-eqb i place e) ∙ ap (λ b. is_in holders i || b) (ap test e ∙ is))
+  | inr n ↦
+      is_in-more holders place i ∙ ap (λ b. is_in holders i || b) (ne_eqb place i (λ q. n (sym q)))
+      ∙ sym (ap (λ b. is_in holders i || (b && test i)) (ne_eqb i place n))
+]
+
+-- and one that doesn't is not
+pub holder-not : (old test : ℕ → Bool) (place : ℕ) → test place ≡ false → (i : ℕ) → old i ≡ (old i || (nat_eq i place && test i))
+holder-not old test place not i = elim (cases_eq i place) [
+  | inl e ↦
+      sym (ap (λ b. old i || (nat_eq i place && b)) (ap test e ∙ not) ∙ ap (λ b. old i || b) (and-false (nat_eq i place)) ∙ or-no (old i))
+  | inr n ↦ sym (ap (λ b. old i || (b && test i)) (ne_eqb i place n) ∙ or-no (old i))
+]
+
+-- no place is walked yet
+pub holders-none : (old test : ℕ → Bool) (i : ℕ) → old i ≡ (old i || (nat_lt 0 (times_listed [] i) && test i))
+unfolding times_listed
+holders-none old test i = sym (or-no (old i))
+
+-- one place more is walked
+pub holders-more : (old mid new test : ℕ → Bool) (done : List ℕ) (place : ℕ) →
+    ((i : ℕ) → mid i ≡ (old i || (nat_lt 0 (times_listed done i) && test i))) → ((i : ℕ) → new i ≡ (mid i || (nat_eq i place && test i))) → (i : ℕ) →
+    new i ≡ (old i || (nat_lt 0 (times_listed (done ++ place ∷ []) i) && test i))
+holders-more old mid new test done place h g i = elim (cases_eq i place) [
   | inl e ↦
       let a : nat_lt 0 (times_listed (done ++ place ∷ []) i) ≡ true = below 0 _ (rw e (same-times done place)) in
-      let b : nat_lt i bound ≡ true = below i bound (omega arith) in
-      let c : has i ≡ true = ap has e ∙ is in
-      is_in-more holders place i ∙ ap (λ t. is_in holders i || t) (eq-eqb place i (sym e)) ∙ or-true (is_in holders i)
-      ∙ sym (ap (λ t. t && (nat_lt 0 (times_listed (done ++ place ∷ []) i) && has i)) b ∙ ap (λ t. t && has i) a ∙ c)
+      g i ∙ ap (λ b. mid i || (b && test i)) (eq-eqb i place e) ∙ ap (λ b. b || test i) (h i)
+      ∙ twice (old i) (nat_lt 0 (times_listed done i)) (test i) ∙ sym (ap (λ b. old i || (b && test i)) a)
   | inr n ↦
-      is_in-more holders place i ∙ ap (λ t. is_in holders i || t) (ne_eqb place i (λ q. n (sym q))) ∙ or-no (is_in holders i) ∙ h i
-      ∙ ap (λ k. nat_lt i bound && (nat_lt 0 k && has i)) (sym (other-times done place i n))
+      g i ∙ ap (λ b. mid i || (b && test i)) (ne_eqb i place n) ∙ or-no (mid i) ∙ h i
+      ∙ ap (λ k. old i || (nat_lt 0 k && test i)) (sym (other-times done place i n))
 ]
+  where
+    twice : (o t b : Bool) → (o || (t && b) || b) ≡ (o || (true && b))
+    twice true t b = refl
+    twice false true true = refl
+    twice false true false = refl
+    twice false false b = refl
 
--- or a place that is past the bound, or doesn't hold the vreg
-pub holders-skip : (holders done : List ℕ) (has : ℕ → Bool) (bound place : ℕ) → (place < bound → has place ≡ false) →
-    ((i : ℕ) → is_in holders i ≡ (nat_lt i bound && (nat_lt 0 (times_listed done i) && has i))) → (i : ℕ) →
-    is_in holders i ≡ (nat_lt i bound && (nat_lt 0 (times_listed (done ++ place ∷ []) i) && has i))
-holders-skip holders done has bound place not h i = elim (cases_eq i place) [
-  | inl e ↦ elim (cases_lt i bound) [
-    | inl l ↦
-        let f : has i ≡ false = ap has e ∙ not (omega arith) in
-        h i ∙ ap (λ t. nat_lt i bound && (nat_lt 0 (times_listed done i) && t)) f ∙ ap (λ t. nat_lt i bound && t) (and-false _)
-        ∙ sym (ap (λ t. nat_lt i bound && (nat_lt 0 (times_listed (done ++ place ∷ []) i) && t)) f ∙ ap (λ t. nat_lt i bound && t) (and-false _))
-    | inr g ↦
-        let f : nat_lt i bound ≡ false = le-ltb i bound g in
-        h i ∙ ap (λ t. t && (nat_lt 0 (times_listed done i) && has i)) f ∙ sym (ap (λ t. t && (nat_lt 0 (times_listed (done ++ place ∷ []) i) && has i)) f)
-  ]
-  | inr n ↦ h i ∙ ap (λ k. nat_lt i bound && (nat_lt 0 k && has i)) (sym (other-times done place i n))
-]
+-- each place of a home is one of the few, or of the set
+pub holders-all : (none few all : ℕ → Bool) (home : HomePlaces) (bound : ℕ) (has : ℕ → Bool) → ((i : ℕ) → none i ≡ false) →
+    ((i : ℕ) → few i ≡ (none i || (has_few home i && (nat_lt i bound && has i)))) →
+    ((i : ℕ) → all i ≡ (few i || (has_number home.others i && (nat_lt i bound && has i)))) → (i : ℕ) →
+    all i ≡ (nat_lt i bound && (has_home home i && has i))
+holders-all none few all home bound has e h g i =
+    g i ∙ ap (λ b. b || (has_number home.others i && (nat_lt i bound && has i)))
+    (h i ∙ ap (λ b. b || (has_few home i && (nat_lt i bound && has i))) (e i))
+    ∙ by (has_few home i) (has_number home.others i) (nat_lt i bound) (has i)
+    ∙ ap (λ b. nat_lt i bound && (b && has i)) (sym (home-is home i))
+  where
+    by : (f o l x : Bool) → (false || (f && (l && x)) || (o && (l && x))) ≡ (l && ((f || o) && x))
+    by true true true true = refl
+    by true true true false = refl
+    by true true false x = refl
+    by true false true true = refl
+    by true false true false = refl
+    by true false false x = refl
+    by false true true x = refl
+    by false true false x = refl
+    by false false true x = refl
+    by false false false x = refl
 
--- an empty list has the holders among no positions
-pub holders-none : (has : ℕ → Bool) (bound : ℕ) (holders : List ℕ) → holders ≡ [] → (i : ℕ) →
-    is_in holders i ≡ (nat_lt i bound && (nat_lt 0 (times_listed [] i) && has i))
-unfolding times_listed
-holders-none has bound holders e i = ap (λ (l : List ℕ). is_in l i) e ∙ sym (and-false (nat_lt i bound))
+-- so it is where there is no set
+pub holders-few : (none few : ℕ → Bool) (home : HomePlaces) (bound : ℕ) (has : ℕ → Bool) → ((i : ℕ) → none i ≡ false) →
+    ((i : ℕ) → has_number home.others i ≡ false) → ((i : ℕ) → few i ≡ (none i || (has_few home i && (nat_lt i bound && has i)))) → (i : ℕ) →
+    few i ≡ (nat_lt i bound && (has_home home i && has i))
+holders-few none few home bound has e lacks h =
+    holders-all none few few home bound has e h (λ i. sym (ap (λ b. few i || (b && (nat_lt i bound && has i))) (lacks i) ∙ or-no (few i)))
+
+-- dropped at the few places, and at those of the set
+pub dropped-all : (old mid new : ℕ → ℕ → Bool) (home : HomePlaces) (bits size : ℕ) →
+    ((i y : ℕ) → i < size → mid i y ≡ (if has_few home i && nat_eq y bits then false else old i y)) →
+    ((i y : ℕ) → i < size → new i y ≡ (if has_number home.others i && nat_eq y bits then false else mid i y)) → (i y : ℕ) → i < size →
+    new i y ≡ (if has_home home i && nat_eq y bits then false else old i y)
+dropped-all old mid new home bits size h g i y l =
+    g i y l ∙ ap (λ b. if has_number home.others i && nat_eq y bits then false else b) (h i y l)
+    ∙ by (has_few home i) (has_number home.others i) (nat_eq y bits) (old i y)
+    ∙ ap (λ b. if b && nat_eq y bits then false else old i y) (sym (home-is home i))
+  where
+    by : (f o e x : Bool) → (if o && e then false else (if f && e then false else x)) ≡ (if (f || o) && e then false else x)
+    by true true true x = refl
+    by true true false x = refl
+    by true false e x = refl
+    by false true true x = refl
+    by false true false x = refl
+    by false false e x = refl
+
+-- so it is where there is no set
+pub dropped-few : (old mid : ℕ → ℕ → Bool) (home : HomePlaces) (bits size : ℕ) → ((i : ℕ) → has_number home.others i ≡ false) →
+    ((i y : ℕ) → i < size → mid i y ≡ (if has_few home i && nat_eq y bits then false else old i y)) → (i y : ℕ) → i < size →
+    mid i y ≡ (if has_home home i && nat_eq y bits then false else old i y)
+dropped-few old mid home bits size lacks h =
+    dropped-all old mid mid home bits size h (λ i y l. sym (ap (λ b. if b && nat_eq y bits then false else mid i y) (lacks i)))
 
 -- homes (the places where a vreg may be): one vreg gets a place
-pub homes-more : (homes : List NumberSet) (j place : ℕ) (set : NumberSet) → j < length homes →
-    ((i : ℕ) → has_number set i ≡ cond (nat_eq i place) true (has_number (get_or homes j []) i)) → AreMoreHomes homes (slice_set homes j set)
-homes-more homes j place set less h = record {
-  long = length-set homes j set;
+pub homes-more : (homes : List HomePlaces) (j place : ℕ) (home : HomePlaces) → j < length homes →
+    ((i : ℕ) → has_home home i ≡ cond (nat_eq i place) true (has_home (get_or homes j no_homes) i)) → AreMoreHomes homes (slice_set homes j home)
+homes-more homes j place home less h = record {
+  long = length-set homes j home;
   kept = λ k i e. elim (cases_eq k j) [
     | inl q ↦
-        ap (λ n. has_number (get_or (slice_set homes j set) n []) i) q ∙ ap (λ (s : NumberSet). has_number s i) (get_or-set_same homes j set [] less) ∙ h i
-        ∙ ap (λ b. cond (nat_eq i place) true b) (ap (λ n. has_number (get_or homes n []) i) (sym q) ∙ e) ∙ always (nat_eq i place)
-    | inr n ↦ ap (λ (s : NumberSet). has_number s i) (get_or-set_other homes j k set [] n) ∙ e
+        ap (λ n. has_home (get_or (slice_set homes j home) n no_homes) i) q
+        ∙ ap (λ (h : HomePlaces). has_home h i) (get_or-set_same homes j home no_homes less) ∙ h i
+        ∙ ap (λ b. cond (nat_eq i place) true b) (ap (λ n. has_home (get_or homes n no_homes) i) (sym q) ∙ e) ∙ always (nat_eq i place)
+    | inr n ↦ ap (λ (h : HomePlaces). has_home h i) (get_or-set_other homes j k home no_homes n) ∙ e
   ];
 }
   where
@@ -149,35 +213,35 @@ homes-more homes j place set less h = record {
     always false = refl
 
 -- homes that stay are still there
-pub homes-same : (homes : List NumberSet) → AreMoreHomes homes homes
+pub homes-same : (homes : List HomePlaces) → AreMoreHomes homes homes
 homes-same homes = record { long = refl; kept = λ j i e. e }
 
 -- homes that stay over two steps stay over both
-pub homes-then : (a b c : List NumberSet) → AreMoreHomes a b → AreMoreHomes b c → AreMoreHomes a c
+pub homes-then : (a b c : List HomePlaces) → AreMoreHomes a b → AreMoreHomes b c → AreMoreHomes a c
 homes-then a b c h g = record { long = g.long ∙ h.long; kept = λ j i e. g.kept j i (h.kept j i e) }
 
 -- a place that is put into a vreg's homes is there
-pub noted-here : (homes : List NumberSet) (j place : ℕ) (set : NumberSet) → j < length homes →
-    ((i : ℕ) → has_number set i ≡ cond (nat_eq i place) true (has_number (get_or homes j []) i)) →
-    has_number (get_or (slice_set homes j set) j []) place ≡ true
-noted-here homes j place set less h =
-    ap (λ (s : NumberSet). has_number s place) (get_or-set_same homes j set [] less) ∙ h place
-    ∙ ap (λ b. cond b true (has_number (get_or homes j []) place)) (eq-eqb place place refl)
+pub noted-here : (homes : List HomePlaces) (j place : ℕ) (home : HomePlaces) → j < length homes →
+    ((i : ℕ) → has_home home i ≡ cond (nat_eq i place) true (has_home (get_or homes j no_homes) i)) →
+    has_home (get_or (slice_set homes j home) j no_homes) place ≡ true
+noted-here homes j place home less h =
+    ap (λ (h : HomePlaces). has_home h place) (get_or-set_same homes j home no_homes less) ∙ h place
+    ∙ ap (λ b. cond b true (has_home (get_or homes j no_homes) place)) (eq-eqb place place refl)
 
 -- with a place in a vreg's homes, it is one where the vreg may be
-pub home-at : (vregs : List ℕ) (homes : List NumberSet) (j place bits : ℕ) → IsStrictlyIncreasing vregs → j < length vregs → get_or vregs j 0 ≡ bits →
-    has_number (get_or homes j []) place ≡ true → IsHome vregs homes place bits
+pub home-at : (vregs : List ℕ) (homes : List HomePlaces) (j place bits : ℕ) → IsStrictlyIncreasing vregs → j < length vregs → get_or vregs j 0 ≡ bits →
+    has_home (get_or homes j no_homes) place ≡ true → IsHome vregs homes place bits
 home-at vregs homes j place bits rises less is here k lk e =
     let q : k ≡ j = listed-once vregs rises k j lk less (e ∙ sym is) in
-    ap (λ n. has_number (get_or homes n []) place) q ∙ here
+    ap (λ n. has_home (get_or homes n no_homes) place) q ∙ here
 
 -- a place where a vreg may be is one still as homes are added
-pub home-kept : (vregs : List ℕ) (old new : List NumberSet) (place bits : ℕ) → AreMoreHomes old new → IsHome vregs old place bits →
+pub home-kept : (vregs : List ℕ) (old new : List HomePlaces) (place bits : ℕ) → AreMoreHomes old new → IsHome vregs old place bits →
     IsHome vregs new place bits
 home-kept vregs old new place bits m h j less e = m.kept j place (h j less e)
 
 -- one member more is noted
-pub noted-more : (vregs : List ℕ) (old new : List NumberSet) (members : List ℕ) (k place x : ℕ) → k < length members → x ≡ get_or members k 0 →
+pub noted-more : (vregs : List ℕ) (old new : List HomePlaces) (members : List ℕ) (k place x : ℕ) → k < length members → x ≡ get_or members k 0 →
     AreMoreHomes old new → ((y : ℕ) → 0 < times_listed (take k members) y → IsHome vregs old place y) → IsHome vregs new place x → (y : ℕ) →
     0 < times_listed (take (k + 1) members) y → IsHome vregs new place y
 noted-more vregs old new members k place x less e m h here y l =

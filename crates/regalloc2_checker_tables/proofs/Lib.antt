@@ -1,6 +1,7 @@
 -- Each step changes what the current tables show as its contract says, and leaves the saved copies as they are.
 -- Read first: `TableLaws`, what a change of the parts does to what tables hold; then `Shown`, to what they show.
--- Depends on the specs. `Rows`, `Chunks` and `Meets` are saved copies; `Bits`, `Lone`, `TwoSets`, `AllSets`, `Walked` and `Listed` are sets.
+-- Depends on the specs. `Rows`, `Chunks` and `Meets` are saved copies; `Bits`, `Lone`, `TwoSets`, `AllSets`, `Walked` and `Listed` are sets; `HomeLaws` is
+-- homes.
 mod Shown
 mod Walked
 mod Bits
@@ -8,6 +9,7 @@ mod Rows
 mod Chunks
 mod Listed
 mod Holders
+mod HomeLaws
 mod TableLaws
 mod Meets
 mod Times

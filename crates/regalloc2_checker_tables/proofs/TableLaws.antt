@@ -6,15 +6,16 @@ use Rattle.std.specs.declared.alloc.AllocError.{AllocError}
 use Rattle.std.specs.List.Sorted.{IsStrictlyIncreasing}
 use Rattle.std.proofs.lemmas.Bool.{cases_eq, cases_lt, eqb-true, le-ltb, ne_eqb, or_left}
 use Rattle.std.proofs.lemmas.List.{get_or-set_other, get_or-set_same, length-set, take_more}
-use Rattle.regalloc2_shape.specs.Numbers.{NumberSet, has_number, times_listed}
+use Rattle.regalloc2_shape.specs.Numbers.{NumberSet, times_listed}
 use Rattle.regalloc2_checker_tables.specs.SavedNumbers.{NumberCopies, copy_count, saved_number, number_now}
 use Rattle.regalloc2_checker_tables.specs.EntrySets.{is_member, AreMore, IsSetOf, ListsBits}
+use Rattle.regalloc2_checker_tables.specs.Homes.{HomePlaces, no_homes, has_home}
 use Rattle.regalloc2_checker_tables.specs.Holding.{Holding, held, holds_now, holds_in, IsHome, AreEntries}
 use Rattle.regalloc2_checker_tables.specs.Holding.{IsSoundHolding, AreStill, AreMoreHomes, AreKeptTables, HoldsNow, is_in}
 use Rattle.regalloc2_checker_tables.proofs.Holders.{homes-same, home-kept, is_in-more}
 
 -- sets and homes (the places where a vreg may be) are added
-pub entries-more : (s t : List NumberSet) (v : List ℕ) (h g : List NumberSet) (n : ℕ) (f : ℕ → ℕ) → AreMore s t → AreMoreHomes h g → AreEntries s v h n f →
+pub entries-more : (s t : List NumberSet) (v : List ℕ) (h g : List HomePlaces) (n : ℕ) (f : ℕ → ℕ) → AreMore s t → AreMoreHomes h g → AreEntries s v h n f →
     AreEntries t v g n f
 entries-more s t v h g n f m k e =
     let longer = m.longer in
@@ -24,7 +25,7 @@ entries-more s t v h g n f m k e =
     }
 
 -- equal numbers
-pub entries-as : (s : List NumberSet) (v : List ℕ) (h : List NumberSet) (n : ℕ) (f g : ℕ → ℕ) → ((i : ℕ) → i < n → g i ≡ f i) → AreEntries s v h n f →
+pub entries-as : (s : List NumberSet) (v : List ℕ) (h : List HomePlaces) (n : ℕ) (f g : ℕ → ℕ) → ((i : ℕ) → i < n → g i ≡ f i) → AreEntries s v h n f →
     AreEntries s v h n g
 entries-as s v h n f g q e = record {
   below = λ i l. subst (λ (x : ℕ). x < length s) (sym (q i l)) (e.below i l);
@@ -32,7 +33,7 @@ entries-as s v h n f g q e = record {
 }
 
 -- one number is written
-pub entries-set : (s : List NumberSet) (v : List ℕ) (h : List NumberSet) (n : ℕ) (f g : ℕ → ℕ) (place set : ℕ) → set < length s →
+pub entries-set : (s : List NumberSet) (v : List ℕ) (h : List HomePlaces) (n : ℕ) (f g : ℕ → ℕ) (place set : ℕ) → set < length s →
     ((i : ℕ) → (i ≡ place → ⊥) → g i ≡ f i) → g place ≡ set → ((y : ℕ) → is_member s set y ≡ true → IsHome v h place y) → AreEntries s v h n f →
     AreEntries s v h n g
 entries-set s v h n f g place set small q here home e = record { below = low; homed = at }
@@ -56,7 +57,7 @@ pub record IsChanged (t u : Holding) (has : ℕ → ℕ → Bool) : Type 0 where
   pub now : HoldsNow u has
 
 -- sets and homes are added
-pub more-all : (t : Holding) (s h : List NumberSet) → IsSoundHolding t → AreMore t.sets s → AreMoreHomes t.homes h →
+pub more-all : (t : Holding) (s : List NumberSet) (h : List HomePlaces) → IsSoundHolding t → AreMore t.sets s → AreMoreHomes t.homes h →
     IsChanged t (record t { sets = s; homes = h }) (holds_now t)
 more-all t s h a m k =
     let long = a.long in
@@ -84,7 +85,7 @@ more-all t s h a m k =
     }
 
 -- a place gets a set
-put-one : (t : Holding) (h : List NumberSet) (place set : ℕ) → IsSoundHolding t → place < length t.places → set < length t.sets →
+put-one : (t : Holding) (h : List HomePlaces) (place set : ℕ) → IsSoundHolding t → place < length t.places → set < length t.sets →
     AreMoreHomes t.homes h → ((y : ℕ) → is_member t.sets set y ≡ true → IsHome t.vregs h place y) →
     IsChanged t (record t { entries = record t.entries { cells = slice_set t.entries.cells place set }; homes = h })
     (λ i y. if nat_eq i place then is_member t.sets set y else holds_now t i y)
@@ -122,7 +123,7 @@ put-one t h place set a less small k home =
     }
 
 -- a place that is given a set holds the set's members, and the others hold what they held
-pub put-all : (t : Holding) (h : List NumberSet) (place set : ℕ) (f : NumberCopies) → IsSoundHolding t → place < length t.places → set < length t.sets →
+pub put-all : (t : Holding) (h : List HomePlaces) (place set : ℕ) (f : NumberCopies) → IsSoundHolding t → place < length t.places → set < length t.sets →
     AreMoreHomes t.homes h → ((y : ℕ) → is_member t.sets set y ≡ true → IsHome t.vregs h place y) →
     f ≡ record t.entries { cells = slice_set t.entries.cells place set } →
     IsChanged t (record t { entries = f; homes = h }) (λ i y. if nat_eq i place then is_member t.sets set y else holds_now t i y)
@@ -186,11 +187,11 @@ drop-kept t s f a k =
 -- dropped where it may be is dropped everywhere
 pub drop-now : (t : Holding) (s : List NumberSet) (f : NumberCopies) (j : ℕ) → IsSoundHolding t → j < length t.vregs →
     ((i y : ℕ) → i < length t.entries.cells → held s f i y ≡
-    (if has_number (get_or t.homes j []) i && nat_eq y (get_or t.vregs j 0) then false else holds_now t i y)) →
+    (if has_home (get_or t.homes j no_homes) i && nat_eq y (get_or t.vregs j 0) then false else holds_now t i y)) →
     HoldsNow (record t { entries = f; sets = s }) (λ i y. if nat_eq y (get_or t.vregs j 0) then false else holds_now t i y)
 drop-now t s f j a less h i y l =
     let long = a.long in
-    h i y (omega arith) ∙ by (has_number (get_or t.homes j []) i) (nat_eq y (get_or t.vregs j 0)) (holds_now t i y)
+    h i y (omega arith) ∙ by (has_home (get_or t.homes j no_homes) i) (nat_eq y (get_or t.vregs j 0)) (holds_now t i y)
     (λ e is. a.now.homed i y (omega arith) is j less (sym (eqb-true y (get_or t.vregs j 0) e)))
   where
     by : (m b o : Bool) → (b ≡ true → o ≡ true → m ≡ true) → (if m && b then false else o) ≡ (if b then false else o)
@@ -212,6 +213,11 @@ less_either P Q R (Err e) f g h k = g k
 pub on_ok_as : {E : Type 0} (P Q : Type 0) (r : Result (Unit {0}) E) → (P → Q) → OnOk r P → OnOk r Q
 on_ok_as P Q (Ok x) f h = f h
 on_ok_as P Q (Err e) f h = tt
+
+-- and so does what follows from a fact of each error
+pub on_err_as : {E : Type 0} (P Q : Type 0) (r : Result (Unit {0}) E) → (P → Q) → OnErr r P → OnErr r Q
+on_err_as P Q (Ok x) f h = tt
+on_err_as P Q (Err e) f h = f h
 
 -- tables that are kept over two steps are kept over both
 pub kept_then : (a b c : Holding) → AreKeptTables a b → AreKeptTables b c → AreKeptTables a c
@@ -283,7 +289,7 @@ listed-times has ys zs e h y is =
     omega arith
 
 -- the members of a set that a place gets may be there
-pub put-home : (t : Holding) (h : List NumberSet) (place vreg set : ℕ) → IsSoundHolding t → place < length t.places → AreMoreHomes t.homes h →
+pub put-home : (t : Holding) (h : List HomePlaces) (place vreg set : ℕ) → IsSoundHolding t → place < length t.places → AreMoreHomes t.homes h →
     IsHome t.vregs h place (get_or t.vregs vreg 0) →
     ((y : ℕ) → is_member t.sets set y ≡ true → (nat_eq y (get_or t.vregs vreg 0) || holds_now t place y) ≡ true) → (y : ℕ) →
     is_member t.sets set y ≡ true → IsHome t.vregs h place y
@@ -296,14 +302,15 @@ put-home t h place vreg set a less m here members y is = elim (cases_eq y (get_o
 ]
 
 -- homes of which one is set to what it was stay
-pub homes-kept-at : (homes : List NumberSet) (j : ℕ) (set : NumberSet) → j < length homes → set ≡ get_or homes j [] → AreMoreHomes homes (slice_set homes j set)
-homes-kept-at homes j set less e = record {
-  long = length-set homes j set;
+pub homes-kept-at : (homes : List HomePlaces) (j : ℕ) (home : HomePlaces) → j < length homes →
+    ((i : ℕ) → has_home home i ≡ has_home (get_or homes j no_homes) i) → AreMoreHomes homes (slice_set homes j home)
+homes-kept-at homes j home less e = record {
+  long = length-set homes j home;
   kept = λ k i is. elim (cases_eq k j) [
     | inl q ↦
-        ap (λ n. has_number (get_or (slice_set homes j set) n []) i) q ∙ ap (λ (s : NumberSet). has_number s i) (get_or-set_same homes j set [] less)
-        ∙ ap (λ (s : NumberSet). has_number s i) e ∙ ap (λ n. has_number (get_or homes n []) i) (sym q) ∙ is
-    | inr n ↦ ap (λ (s : NumberSet). has_number s i) (get_or-set_other homes j k set [] n) ∙ is
+        ap (λ n. has_home (get_or (slice_set homes j home) n no_homes) i) q ∙ ap (λ (h : HomePlaces). has_home h i) (get_or-set_same homes j home no_homes less)
+        ∙ e i ∙ ap (λ n. has_home (get_or homes n no_homes) i) (sym q) ∙ is
+    | inr n ↦ ap (λ (h : HomePlaces). has_home h i) (get_or-set_other homes j k home no_homes n) ∙ is
   ];
 }
 
@@ -317,15 +324,16 @@ kept_same t = record { places = refl; vregs = refl; count = refl; tables = λ k 
 
 -- what holds it is at its homes
 pub holders-are : (t : Holding) (vreg : ℕ) (holders : List ℕ) → IsSoundHolding t → vreg < length t.vregs →
-    ((i : ℕ) → is_in holders i ≡ (nat_lt i (length t.places) && (has_number (get_or t.homes vreg []) i && holds_now t i (get_or t.vregs vreg 0)))) → (i : ℕ) →
+    ((i : ℕ) → is_in holders i ≡ (nat_lt i (length t.places)
+    && (has_home (get_or t.homes vreg no_homes) i && holds_now t i (get_or t.vregs vreg 0)))) → (i : ℕ) →
     is_in holders i ≡ (nat_lt i (length t.places) && holds_now t i (get_or t.vregs vreg 0))
 holders-are t vreg holders a less h i = elim (cases_lt i (length t.places)) [
   | inl l ↦
       let long = a.long in
-      h i ∙ ap (λ b. nat_lt i (length t.places) && b) (by (has_number (get_or t.homes vreg []) i) (holds_now t i (get_or t.vregs vreg 0))
+      h i ∙ ap (λ b. nat_lt i (length t.places) && b) (by (has_home (get_or t.homes vreg no_homes) i) (holds_now t i (get_or t.vregs vreg 0))
       (λ is. a.now.homed i (get_or t.vregs vreg 0) (omega arith) is vreg less refl))
   | inr g ↦
-      h i ∙ ap (λ b. b && (has_number (get_or t.homes vreg []) i && holds_now t i (get_or t.vregs vreg 0))) (le-ltb i (length t.places) g)
+      h i ∙ ap (λ b. b && (has_home (get_or t.homes vreg no_homes) i && holds_now t i (get_or t.vregs vreg 0))) (le-ltb i (length t.places) g)
       ∙ sym (ap (λ b. b && holds_now t i (get_or t.vregs vreg 0)) (le-ltb i (length t.places) g))
 ]
   where
@@ -496,7 +504,7 @@ meet-true t s f h k a st b others saved met n i y l =
     ]
 
 -- nothing is held yet
-pub new-all : (places vregs : List ℕ) (e : NumberCopies) (s h : List NumberSet) → IsStrictlyIncreasing places → IsStrictlyIncreasing vregs →
+pub new-all : (places vregs : List ℕ) (e : NumberCopies) (s : List NumberSet) (h : List HomePlaces) → IsStrictlyIncreasing places → IsStrictlyIncreasing vregs →
     length places < length e.cells → length places < 274877906944 → IsSetOf s 0 (λ y. false) → length h ≡ length vregs → ((i : ℕ) → number_now e i ≡ 0) →
     ((k i : ℕ) → saved_number e k i ≡ 0) → IsSoundHolding (record { places = places; vregs = vregs; entries = e; sets = s; homes = h })
 new-all places vregs e s h pr vr long few empty hl cells saved = record {

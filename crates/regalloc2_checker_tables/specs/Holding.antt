@@ -1,8 +1,9 @@
 -- Which vregs places hold, in tables by number and in the one that is worked on. Places are named by their positions.
-use Rattle.std.specs.Prelude.{ℕ, ◌≡◌, ◌<◌, ◌≤◌, ◌⊎◌, Bool, true, false, ◌&&◌, nat_eq, List, [], length, get_or}
+use Rattle.std.specs.Prelude.{ℕ, ◌≡◌, ◌<◌, ◌≤◌, ◌⊎◌, Bool, true, false, ◌&&◌, nat_eq, List, length, get_or}
 use Rattle.std.specs.List.{list_any}
 use Rattle.std.specs.List.Sorted.{IsStrictlyIncreasing}
-use Rattle.regalloc2_shape.specs.Numbers.{NumberSet, has_number}
+use Rattle.regalloc2_shape.specs.Numbers.{NumberSet}
+use Rattle.regalloc2_checker_tables.specs.Homes.{HomePlaces, no_homes, has_home}
 use Rattle.regalloc2_checker_tables.specs.SavedNumbers.{NumberCopies, copy_count, saved_number, number_now}
 use Rattle.regalloc2_checker_tables.specs.EntrySets.{is_member, AreMore, IsSetOf}
 
@@ -12,7 +13,7 @@ pub record Holding : Type 0 where
   pub vregs : List ℕ
   pub entries : NumberCopies
   pub sets : List NumberSet
-  pub homes : List NumberSet
+  pub homes : List HomePlaces
 
 -- how many tables there are
 abbrev pub count_of : Holding → ℕ
@@ -31,11 +32,11 @@ abbrev pub holds_in : Holding → ℕ → ℕ → ℕ → Bool
 holds_in t k i y = is_member t.sets (saved_number t.entries k i) y
 
 -- a place is one where the vreg with bits may be
-abbrev pub IsHome : List ℕ → List NumberSet → ℕ → ℕ → Type 0
-IsHome vregs homes i y = (j : ℕ) → j < length vregs → get_or vregs j 0 ≡ y → has_number (get_or homes j []) i ≡ true
+abbrev pub IsHome : List ℕ → List HomePlaces → ℕ → ℕ → Type 0
+IsHome vregs homes i y = (j : ℕ) → j < length vregs → get_or vregs j 0 ≡ y → has_home (get_or homes j no_homes) i ≡ true
 
 -- the numbers of an array are of sets, whose members may be there
-pub record AreEntries (sets : List NumberSet) (vregs : List ℕ) (homes : List NumberSet) (size : ℕ) (number : ℕ → ℕ) : Type 0 where
+pub record AreEntries (sets : List NumberSet) (vregs : List ℕ) (homes : List HomePlaces) (size : ℕ) (number : ℕ → ℕ) : Type 0 where
   pub below : (i : ℕ) → i < size → number i < length sets
   pub homed : (i y : ℕ) → i < size → is_member sets (number i) y ≡ true → IsHome vregs homes i y
 
@@ -63,9 +64,9 @@ pub record AreStill (s : List NumberSet) (e : NumberCopies) (t : List NumberSet)
   pub below : AreBelow t f
 
 -- homes are added
-pub record AreMoreHomes (old new : List NumberSet) : Type 0 where
+pub record AreMoreHomes (old new : List HomePlaces) : Type 0 where
   pub long : length new ≡ length old
-  pub kept : (j i : ℕ) → has_number (get_or old j []) i ≡ true → has_number (get_or new j []) i ≡ true
+  pub kept : (j i : ℕ) → has_home (get_or old j no_homes) i ≡ true → has_home (get_or new j no_homes) i ≡ true
 
 -- whether a number is in a list
 abbrev pub is_in : List ℕ → ℕ → Bool

@@ -4,5 +4,6 @@
 pub mod SavedCopies
 pub mod SavedNumbers
 pub mod EntrySets
+pub mod Homes
 pub mod Holding
 pub mod Showing

@@ -2,6 +2,7 @@
 use Rattle.std.specs.Prelude.{ℕ, ◌≡◌, ◌+◌, ◌<◌, Bool, ◌&&◌, nat_eq, nat_lt, if◌then◌else◌, List, length, get_or, Option, None, Some}
 use Rattle.regalloc2_shape.specs.Numbers.{NumberSet}
 use Rattle.regalloc2_checker_tables.specs.SavedNumbers.{NumberCopies}
+use Rattle.regalloc2_checker_tables.specs.Homes.{HomePlaces}
 use Rattle.regalloc2_checker_tables.specs.Holding.{Holding, count_of, holds_now, holds_in}
 use Rattle.regalloc2_checker_tables.specs.declared.passing.Passed.{Passed}
 
@@ -11,7 +12,7 @@ pub record Showing : Type 0 where
   pub vregs : List ℕ
   pub entries : NumberCopies
   pub sets : List NumberSet
-  pub homes : List NumberSet
+  pub homes : List HomePlaces
   pub passed : Option Passed
   pub saved : List (Option Passed)
 

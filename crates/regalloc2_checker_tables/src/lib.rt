@@ -2,6 +2,7 @@
 #![tactic(auto)]
 
 mod entries;
+mod homes;
 mod kept_set;
 mod passing;
 mod positions;

@@ -10,11 +10,13 @@ ghost use Rattle.regalloc2_names.specs.PlaceBits.{bits_of_place};
 ghost use Rattle.regalloc2_shape.specs.Numbers.{has_number, times_listed};
 ghost use Rattle.regalloc2_checker_tables.specs.SavedNumbers.{copy_count, number_now, saved_number};
 ghost use Rattle.regalloc2_checker_tables.specs.EntrySets.{is_member, IsSetOf, IsLess};
+ghost use Rattle.regalloc2_checker_tables.specs.Homes.{no_homes, has_few, has_home};
 ghost use Rattle.regalloc2_checker_tables.specs.Holding.{count_of, held, holds_now, holds_in, AreBelow, AreStill, AreMoreHomes};
 ghost use Rattle.regalloc2_checker_tables.specs.Holding.{is_in, AreKeptTables, HoldsNow, IsHome};
 ghost use Rattle.regalloc2_checker_tables.specs.Holding.{LosesSome, IsMetBetween};
 
 use crate::entries::Entries;
+use crate::homes::Home;
 use crate::positions::Positions;
 use crate::sets::Sets;
 use regalloc2_names::{Allocation, PReg};
@@ -32,7 +34,7 @@ pub struct Tables<A: Allocator> {
     vregs: Positions<A>,
     entries: Entries<A>,
     sets: Sets<A>,
-    homes: Vec<IndexSet<A>, A>,
+    homes: Vec<Home<A>, A>,
     hints: Hints<A>,
 }
 
@@ -120,21 +122,124 @@ fn drop_at<A: Allocator + Copy>(
     Ok(())
 }
 
-/// Takes a vreg out of the places where it may be.
-fn drop_everywhere<A: Allocator + Copy>(
+/// Takes a vreg out of the places of a home's mask and of its two numbers.
+fn drop_few<A: Allocator + Copy>(
     entries: &mut Entries<A>,
     sets: &mut Sets<A>,
-    homes: &IndexSet<A>,
+    home: &Home<A>,
     bits: u32,
 ) -> Result<(), AllocError>
     requires { AreBelow sets.old entries.old }
     ensures still { AreStill sets.old entries.old sets.new entries.new }
     ensures ok { OnOk result ((i y : ℕ) → i < length entries.old.cells → held sets.new entries.new i y
-        ≡ (if has_number homes.now i && nat_eq y bits then false else held sets.old entries.old i y)) }
+        ≡ (if has_few home.now i && nat_eq y bits then false else held sets.old entries.old i y)) }
     ensures err { OnErr result ((i y : ℕ) → i < length entries.old.cells → held sets.new entries.new i y ≡ true → held sets.old entries.old i y ≡ true) }
 {
-    for place in homes.iter() {
+    for place in home.few() {
         drop_at(entries, sets, place, bits)?;
+    }
+    Ok(())
+}
+
+/// Takes a vreg out of the places of a set.
+fn drop_members<A: Allocator + Copy>(
+    entries: &mut Entries<A>,
+    sets: &mut Sets<A>,
+    places: &IndexSet<A>,
+    bits: u32,
+) -> Result<(), AllocError>
+    requires { AreBelow sets.old entries.old }
+    ensures still { AreStill sets.old entries.old sets.new entries.new }
+    ensures ok { OnOk result ((i y : ℕ) → i < length entries.old.cells → held sets.new entries.new i y
+        ≡ (if has_number places.now i && nat_eq y bits then false else held sets.old entries.old i y)) }
+    ensures err { OnErr result ((i y : ℕ) → i < length entries.old.cells → held sets.new entries.new i y ≡ true → held sets.old entries.old i y ≡ true) }
+{
+    for place in places.iter() {
+        drop_at(entries, sets, place, bits)?;
+    }
+    Ok(())
+}
+
+/// Takes a vreg out of the places where it may be.
+fn drop_everywhere<A: Allocator + Copy>(
+    entries: &mut Entries<A>,
+    sets: &mut Sets<A>,
+    home: &Home<A>,
+    bits: u32,
+) -> Result<(), AllocError>
+    requires { AreBelow sets.old entries.old }
+    ensures still { AreStill sets.old entries.old sets.new entries.new }
+    ensures ok { OnOk result ((i y : ℕ) → i < length entries.old.cells → held sets.new entries.new i y
+        ≡ (if has_home home.now i && nat_eq y bits then false else held sets.old entries.old i y)) }
+    ensures err { OnErr result ((i y : ℕ) → i < length entries.old.cells → held sets.new entries.new i y ≡ true → held sets.old entries.old i y ≡ true) }
+{
+    drop_few(entries, sets, home, bits)?;
+    let Some(others) = home.others() else {
+        return Ok(());
+    };
+    drop_members(entries, sets, others, bits)
+}
+
+/// Lists a place, if it is below a bound and holds a vreg.
+fn list_holder<A: Allocator + Copy>(
+    holders: &mut Vec<usize, A>,
+    entries: &Entries<A>,
+    sets: &Sets<A>,
+    place: usize,
+    bits: u32,
+    bound: usize,
+) -> Result<(), AllocError>
+    requires below { AreBelow sets.now entries.now }
+    requires bound { bound ≤ length entries.now.cells }
+    ensures { OnOk result ((i : ℕ) → is_in holders.new.items i
+        ≡ (is_in holders.old.items i || (nat_eq i place && (nat_lt i bound && held sets.now entries.now i bits)))) }
+{
+    if place >= bound {
+        return Ok(());
+    }
+    if !sets.has(entries.get(place), bits) {
+        return Ok(());
+    }
+    holders.push(place)?;
+    Ok(())
+}
+
+/// Lists the places of a home's mask and of its two numbers that are below a bound and hold a vreg.
+fn list_few<A: Allocator + Copy>(
+    holders: &mut Vec<usize, A>,
+    entries: &Entries<A>,
+    sets: &Sets<A>,
+    home: &Home<A>,
+    bits: u32,
+    bound: usize,
+) -> Result<(), AllocError>
+    requires below { AreBelow sets.now entries.now }
+    requires bound { bound ≤ length entries.now.cells }
+    ensures { OnOk result ((i : ℕ) → is_in holders.new.items i
+        ≡ (is_in holders.old.items i || (has_few home.now i && (nat_lt i bound && held sets.now entries.now i bits)))) }
+{
+    for place in home.few() {
+        list_holder(holders, entries, sets, place, bits, bound)?;
+    }
+    Ok(())
+}
+
+/// Lists the places of a set that are below a bound and hold a vreg.
+fn list_members<A: Allocator + Copy>(
+    holders: &mut Vec<usize, A>,
+    entries: &Entries<A>,
+    sets: &Sets<A>,
+    places: &IndexSet<A>,
+    bits: u32,
+    bound: usize,
+) -> Result<(), AllocError>
+    requires below { AreBelow sets.now entries.now }
+    requires bound { bound ≤ length entries.now.cells }
+    ensures { OnOk result ((i : ℕ) → is_in holders.new.items i
+        ≡ (is_in holders.old.items i || (has_number places.now i && (nat_lt i bound && held sets.now entries.now i bits)))) }
+{
+    for place in places.iter() {
+        list_holder(holders, entries, sets, place, bits, bound)?;
     }
     Ok(())
 }
@@ -144,50 +249,43 @@ fn holders_among<A: Allocator + Copy>(
     alloc: A,
     entries: &Entries<A>,
     sets: &Sets<A>,
-    homes: &IndexSet<A>,
+    home: &Home<A>,
     bits: u32,
     bound: usize,
 ) -> Result<Vec<usize, A>, AllocError>
     requires below { AreBelow sets.now entries.now }
     requires bound { bound ≤ length entries.now.cells }
     ensures { IfOk result (λ holders. (i : ℕ) → is_in holders.items i
-        ≡ (nat_lt i bound && (has_number homes.now i && held sets.now entries.now i bits))) }
+        ≡ (nat_lt i bound && (has_home home.now i && held sets.now entries.now i bits))) }
 {
     let mut holders = Vec::new(alloc);
-    for place in homes.iter() {
-        if place >= bound {
-            continue;
-        }
-        if !sets.has(entries.get(place), bits) {
-            continue;
-        }
-        holders.push(place)?;
-    }
+    list_few(&mut holders, entries, sets, home, bits, bound)?;
+    let Some(others) = home.others() else {
+        return Ok(holders);
+    };
+    list_members(&mut holders, entries, sets, others, bits, bound)?;
     Ok(holders)
 }
 
 /// Notes that the vreg with a number may be at a place.
 fn note_at<A: Allocator + Copy>(
-    homes: &mut Vec<IndexSet<A>, A>,
+    homes: &mut Vec<Home<A>, A>,
     vreg: usize,
     place: usize,
 ) -> Result<(), AllocError>
     requires vreg { vreg < length homes.old.items }
     requires place { place < 2 ^ 38 }
     ensures more { AreMoreHomes homes.old.items homes.new.items }
-    ensures noted { OnOk result (has_number (get_or homes.new.items vreg []) place ≡ true) }
+    ensures noted { OnOk result (has_home (get_or homes.new.items vreg no_homes) place ≡ true) }
 {
-    if homes[vreg].get(place) {
-        return Ok(());
-    }
     let home = &mut homes[vreg];
-    home.set(place, true)
+    home.add(place)
 }
 
 /// Notes that a vreg may be at a place, if it is listed.
 fn note<A: Allocator + Copy>(
     vregs: &Positions<A>,
-    homes: &mut Vec<IndexSet<A>, A>,
+    homes: &mut Vec<Home<A>, A>,
     bits: u32,
     place: usize,
 ) -> Result<(), AllocError>
@@ -206,7 +304,7 @@ fn note<A: Allocator + Copy>(
 /// Notes that listed vregs may be at a place.
 fn note_all<A: Allocator + Copy>(
     vregs: &Positions<A>,
-    homes: &mut Vec<IndexSet<A>, A>,
+    homes: &mut Vec<Home<A>, A>,
     members: &[u32],
     place: usize,
 ) -> Result<(), AllocError>
@@ -226,7 +324,7 @@ fn note_all<A: Allocator + Copy>(
 fn note_set<A: Allocator + Copy>(
     vregs: &Positions<A>,
     sets: &Sets<A>,
-    homes: &mut Vec<IndexSet<A>, A>,
+    homes: &mut Vec<Home<A>, A>,
     set: u32,
     place: usize,
 ) -> Result<(), AllocError>
@@ -359,17 +457,14 @@ fn meet_entries<A: Allocator + Copy>(
     Ok(is_less)
 }
 
-/// So many empty sets.
-fn empty_homes<A: Allocator + Copy>(
-    alloc: A,
-    count: usize,
-) -> Result<Vec<IndexSet<A>, A>, AllocError>
+/// So many homes without places.
+fn empty_homes<A: Allocator + Copy>(alloc: A, count: usize) -> Result<Vec<Home<A>, A>, AllocError>
     ensures { IfOk result (λ homes. length homes.items ≡ count) }
 {
     let mut homes = Vec::with_capacity(alloc, count)?;
     for k in 0..count {
         let _number = k;
-        homes.push(IndexSet::new(alloc))?;
+        homes.push(Home::new(alloc))?;
     }
     Ok(homes)
 }

@@ -1,27 +1,22 @@
-use Rattle.std.proofs.Common.{ℕ, List, length, arith, ap, ◌∙◌}
-use Rattle.regalloc2_shape.specs.Numbers.{times_listed}
+use Rattle.std.proofs.Common.{false, nat_eq, length, arith, ap, ◌∙◌}
+use Rattle.std.specs.Prelude.{◌&&◌, if◌then◌else◌}
+use Rattle.regalloc2_shape.specs.Numbers.{NumberSet, has_number}
 use Rattle.regalloc2_checker_tables.specs.Holding.{held}
-use Rattle.regalloc2_checker_tables.proofs.Walked.{walked-on}
-use Rattle.regalloc2_checker_tables.proofs.Holders.{still-same, still-then, dropped-none, dropped-more}
+use Rattle.regalloc2_checker_tables.proofs.Holders.{dropped-all, dropped-few}
+use Rattle.regalloc2_checker_tables.proofs.TableLaws.{on_ok_as}
 use Rattle.regalloc2_checker_tables.proofs.tables.drop_everywhere.Goals as goal
 
-pub loop-place-init : goal.loop-place-init
-loop-place-init g c = record {
-  all = λ i. ap (λ (l : List ℕ). times_listed l i) c.into_iter-place-iterator.ensures.into_iter_gives ∙ c.iter-place-items.ensures i;
-  still = still-same c.args.sets.now c.args.entries.now c.requires;
-  dropped = λ i y l. dropped-none (held c.args.sets.now c.args.entries.now) c.args.bits i y;
-}
+pub returns-in_default-clause-ok : goal.returns-in_default-clause-ok
+returns-in_default-clause-ok g c =
+    dropped-few (held c.args.sets.now c.args.entries.now) (held c.drop_few.new.sets c.drop_few.new.entries) c.args.home.now c.args.bits
+    (length c.args.entries.now.cells) c.in_default.ensures.none c.in_ok-drop_few.ensures.ok
 
-pub loop-place-preserved : goal.loop-place-preserved
-loop-place-preserved g c =
-    let long = c.loop-place.invariant.still.long in
-    record {
-      all = walked-on c.args.homes.now c.loop-place.yielded c.loop-place.place-iterator c.next.new.self c.in-Some.place c.loop-place.invariant.all
-          c.in-Some.ensures.steps;
-      still = still-then c.args.sets.now c.loop-place.sets c.drop_at.new.sets c.args.entries.now c.loop-place.entries c.drop_at.new.entries
-          c.loop-place.invariant.still c.in_ok-drop_at.ensures.still;
-      dropped = dropped-more (held c.args.sets.now c.args.entries.now) (held c.loop-place.sets c.loop-place.entries)
-          (held c.drop_at.new.sets c.drop_at.new.entries)
-          c.loop-place.yielded c.in-Some.place c.args.bits (length c.args.entries.now.cells) c.loop-place.invariant.dropped
-          (λ i y l. c.in_ok-drop_at.ensures.ok i y (omega arith));
-    }
+pub returns-clause-ok : goal.returns-clause-ok
+returns-clause-ok g c =
+    let long = c.in_ok-drop_few.ensures.still.long in
+    on_ok_as _ _ c.drop_members.result
+    (λ ok. dropped-all (held c.args.sets.now c.args.entries.now) (held c.drop_few.new.sets c.drop_few.new.entries)
+    (held c.drop_members.new.sets c.drop_members.new.entries) c.args.home.now c.args.bits (length c.args.entries.now.cells) c.in_ok-drop_few.ensures.ok
+    (λ i y l. ok i y (omega arith)
+    ∙ ap (λ (s : NumberSet). if has_number s i && nat_eq y c.args.bits then false else held c.drop_few.new.sets c.drop_few.new.entries i y)
+    c.in-Some.ensures.some)) c.drop_members.ensures.ok

@@ -1,39 +1,20 @@
-use Rattle.std.proofs.Common.{ℕ, List, arith, ap, sym, ◌∙◌}
-use Rattle.regalloc2_shape.specs.Numbers.{times_listed}
-use Rattle.regalloc2_checker_tables.specs.EntrySets.{is_member}
+use Rattle.std.proofs.Common.{ℕ, List, nat_lt, ap, ◌∙◌}
+use Rattle.std.specs.Prelude.{◌&&◌, ◌||◌}
+use Rattle.regalloc2_shape.specs.Numbers.{NumberSet, has_number}
 use Rattle.regalloc2_checker_tables.specs.Holding.{held, is_in}
-use Rattle.regalloc2_checker_tables.proofs.Walked.{walked-on}
-use Rattle.regalloc2_checker_tables.proofs.Holders.{holders-none, holders-more}
-use Rattle.regalloc2_checker_tables.proofs.Holders.{holders-skip}
+use Rattle.regalloc2_checker_tables.proofs.Holders.{holders-all, holders-few}
 use Rattle.regalloc2_checker_tables.proofs.tables.holders_among.Goals as goal
 
-pub loop-place-init : goal.loop-place-init
-loop-place-init g c = record {
-  all = λ i. ap (λ (l : List ℕ). times_listed l i) c.into_iter-place-iterator.ensures.into_iter_gives ∙ c.iter-place-items.ensures i;
-  holders = holders-none (λ i. held c.args.sets.now c.args.entries.now i c.args.bits) c.args.bound c.new-holders.result.items c.new-holders.ensures.items;
-}
+pub returns-in_default : goal.returns-in_default
+returns-in_default g c =
+    holders-few (is_in c.new-holders.result.items) (is_in c.list_few.new.holders.items) c.args.home.now c.args.bound
+    (λ i. held c.args.sets.now c.args.entries.now i c.args.bits) (λ i. ap (λ (l : List ℕ). is_in l i) c.new-holders.ensures.items)
+    c.in_default.ensures.none c.in_ok-list_few.ensures
 
-pub loop-place-preserved-then-place-bound : goal.loop-place-preserved-then-place-bound
-loop-place-preserved-then-place-bound g c = record {
-  all = walked-on c.args.homes.now c.loop-place.yielded c.loop-place.place-iterator c.next.new.self c.in-Some.place c.loop-place.invariant.all
-      c.in-Some.ensures.steps;
-  holders = holders-skip c.loop-place.holders.items c.loop-place.yielded (λ i. held c.args.sets.now c.args.entries.now i c.args.bits) c.args.bound
-      c.in-Some.place (λ l. (let h = c.if-place-bound.true in absurd (omega arith))) c.loop-place.invariant.holders;
-}
-
-pub loop-place-preserved : goal.loop-place-preserved
-loop-place-preserved g c = record {
-  all = walked-on c.args.homes.now c.loop-place.yielded c.loop-place.place-iterator c.next.new.self c.in-Some.place c.loop-place.invariant.all
-      c.in-Some.ensures.steps;
-  holders = λ i. ap (λ (l : List ℕ). is_in l i) c.in_ok-push.ensures.items ∙ holders-more c.loop-place.holders.items c.loop-place.yielded
-      (λ i. held c.args.sets.now c.args.entries.now i c.args.bits) c.args.bound c.in-Some.place c.if-place-bound.false
-      (ap (λ n. is_member c.args.sets.now n c.args.bits) (sym c.get.ensures) ∙ sym c.if-not-has.ensures) c.loop-place.invariant.holders i;
-}
-
-pub loop-place-preserved-then-not-has : goal.loop-place-preserved-then-not-has
-loop-place-preserved-then-not-has g c = record {
-  all = walked-on c.args.homes.now c.loop-place.yielded c.loop-place.place-iterator c.next.new.self c.in-Some.place c.loop-place.invariant.all
-      c.in-Some.ensures.steps;
-  holders = holders-skip c.loop-place.holders.items c.loop-place.yielded (λ i. held c.args.sets.now c.args.entries.now i c.args.bits) c.args.bound
-      c.in-Some.place (λ l. ap (λ n. is_member c.args.sets.now n c.args.bits) (sym c.get.ensures) ∙ sym c.if-not-has.ensures) c.loop-place.invariant.holders;
-}
+pub returns : goal.returns
+returns g c =
+    holders-all (is_in c.new-holders.result.items) (is_in c.list_few.new.holders.items) (is_in c.list_members.new.holders.items) c.args.home.now c.args.bound
+    (λ i. held c.args.sets.now c.args.entries.now i c.args.bits) (λ i. ap (λ (l : List ℕ). is_in l i) c.new-holders.ensures.items) c.in_ok-list_few.ensures
+    (λ i. c.in_ok-list_members.ensures i
+    ∙ ap (λ (s : NumberSet). is_in c.list_few.new.holders.items i
+    || (has_number s i && (nat_lt i c.args.bound && held c.args.sets.now c.args.entries.now i c.args.bits))) c.in-Some.ensures.some)

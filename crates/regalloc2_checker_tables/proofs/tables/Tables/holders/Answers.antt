@@ -1,6 +1,6 @@
-use Rattle.std.proofs.Common.{◌<◌, [], length, get_or, arith, ap, sym, ◌∙◌, refl, subst, nat_lt}
+use Rattle.std.proofs.Common.{◌<◌, length, get_or, arith, ap, sym, ◌∙◌, refl, subst, nat_lt}
 use Rattle.std.specs.Prelude.{◌&&◌}
-use Rattle.regalloc2_shape.specs.Numbers.{NumberSet, has_number}
+use Rattle.regalloc2_checker_tables.specs.Homes.{HomePlaces, no_homes, has_home}
 use Rattle.regalloc2_checker_tables.specs.Holding.{Holding, held, holds_now}
 use Rattle.regalloc2_checker_tables.proofs.Bits.{read-is, ok-as}
 use Rattle.regalloc2_checker_tables.proofs.TableLaws.{holders-are}
@@ -20,12 +20,12 @@ returns g c =
     } in
     let lv : c.args.vreg < length c.self.inside.vregs = subst (λ (o : Holding). c.args.vreg < length o.vregs) (sym c.self.view_is) c.requires in
     let lh : c.args.vreg < length c.self.inside.homes.items = omega (arith, lv, c.self.invariant.homes_long) in
-    let had = read-is c.self.inside.homes.items c.self.inside.homes.items c.args.vreg c.index.result.now [] refl lh c.index.ensures in
+    let had = read-is c.self.inside.homes.items c.self.inside.homes.items c.args.vreg c.index.result.now no_homes refl lh c.index.ensures in
     ok-as _ _ c.holders_among.result
     (λ r h i. holders-are old c.args.vreg r.items c.self.invariant lv
-    (λ i. h i ∙ ap (λ (s : NumberSet). nat_lt i c.len.result && (has_number s i && held c.self.inside.sets c.self.inside.entries i c.number.result)) had
-    ∙ ap (λ k. nat_lt i c.len.result && (has_number (get_or c.self.inside.homes.items c.args.vreg []) i && held c.self.inside.sets c.self.inside.entries i
+    (λ i. h i ∙ ap (λ (h : HomePlaces). nat_lt i c.len.result && (has_home h i && held c.self.inside.sets c.self.inside.entries i c.number.result)) had
+    ∙ ap (λ k. nat_lt i c.len.result && (has_home (get_or c.self.inside.homes.items c.args.vreg no_homes) i && held c.self.inside.sets c.self.inside.entries i
     k)) c.number.ensures
-    ∙ ap (λ k. nat_lt i k && (has_number (get_or c.self.inside.homes.items c.args.vreg []) i && holds_now old i (get_or c.self.inside.vregs c.args.vreg 0)))
+    ∙ ap (λ k. nat_lt i k && (has_home (get_or c.self.inside.homes.items c.args.vreg no_homes) i && holds_now old i (get_or c.self.inside.vregs c.args.vreg 0)))
     c.len.ensures) i
     ∙ ap (λ (o : Holding). nat_lt i (length o.places) && holds_now o i (get_or o.vregs c.args.vreg 0)) c.self.view_is) c.holders_among.ensures

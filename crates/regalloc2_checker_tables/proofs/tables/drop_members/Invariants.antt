@@ -2,11 +2,11 @@ use Rattle.std.proofs.Common.{ℕ, ◌≡◌, ◌<◌, ◌++◌, false, nat_eq, 
 use Rattle.std.specs.Prelude.{◌&&◌, if◌then◌else◌}
 use Rattle.regalloc2_shape.specs.Numbers.{ListsMembers, times_listed}
 use Rattle.regalloc2_checker_tables.specs.Holding.{held, AreStill}
-use Rattle.regalloc2_checker_tables.proofs.tables.drop_everywhere.Given as goal
+use Rattle.regalloc2_checker_tables.proofs.tables.drop_members.Given as goal
 
 abbrev pub invariant-loop-place : goal.invariant-loop-place
 invariant-loop-place g l = record {
-  all : ListsMembers l.homes (l.yielded ++ l.place-iterator);
+  all : ListsMembers l.places (l.yielded ++ l.place-iterator);
   still : AreStill l.fn.sets l.fn.entries l.sets l.entries;
   dropped : (i y : ℕ) → i < length l.fn.entries.cells → held l.sets l.entries i y ≡
       (if nat_lt 0 (times_listed l.yielded i) && nat_eq y l.bits then false else held l.fn.sets l.fn.entries i y);
