@@ -49,6 +49,7 @@ fn vreg_position<A: Allocator + Copy>(values: &PassingTables<A>, vreg: VReg) -> 
 }
 
 /// Makes a move.
+#[inline(always)]
 fn make_move<A: Allocator + Copy>(
     values: &mut PassingTables<A>,
     from: Allocation,
@@ -89,6 +90,7 @@ fn make_moves<A: Allocator + Copy>(
 }
 
 /// Empties a place.
+#[inline(always)]
 fn clear_place<A: Allocator + Copy>(values: &mut PassingTables<A>, place: Allocation)
     requires { IsMissingUnlisted values.old.places }
     ensures kept { AreTablesKept values.old values.new }
@@ -159,6 +161,7 @@ fn write_one<A: Allocator + Copy>(
 }
 
 /// Writes what an operand defines, if it does.
+#[inline(always)]
 fn write_def<A: Allocator + Copy>(
     values: &mut PassingTables<A>,
     place: Allocation,

@@ -144,6 +144,7 @@ impl<A: Allocator + Copy> Home<A> {
     }
 
     /// Adds a place.
+    #[inline(always)]
     pub fn add(&mut self, place: usize) -> Result<(), AllocError>
         requires { place < 2 ^ 38 }
         ensures ok { OnOk result ((i : ℕ) → has_home self.new i ≡ cond (nat_eq i place) true (has_home self.old i)) }

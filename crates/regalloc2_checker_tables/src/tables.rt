@@ -123,6 +123,7 @@ fn drop_at<A: Allocator + Copy>(
 }
 
 /// Takes a vreg out of the places of a home's mask and of its two numbers.
+#[inline(always)]
 fn drop_few<A: Allocator + Copy>(
     entries: &mut Entries<A>,
     sets: &mut Sets<A>,
@@ -268,6 +269,7 @@ fn holders_among<A: Allocator + Copy>(
 }
 
 /// Notes that the vreg with a number may be at a place.
+#[inline(always)]
 fn note_at<A: Allocator + Copy>(
     homes: &mut Vec<Home<A>, A>,
     vreg: usize,
@@ -566,6 +568,7 @@ impl<A: Allocator + Copy> Tables<A> {
     }
 
     /// Takes a vreg out of every place.
+    #[inline(always)]
     pub fn forget(&mut self, vreg: usize) -> Result<(), AllocError>
         requires { vreg < length self.old.vregs }
         ensures kept { AreKeptTables self.old self.new }
@@ -576,6 +579,7 @@ impl<A: Allocator + Copy> Tables<A> {
     }
 
     /// Gives a place a set.
+    #[inline(always)]
     fn put(&mut self, place: usize, vreg: usize, set: u32) -> Result<(), AllocError>
         requires place { place < length self.old.places }
         requires vreg { vreg < length self.old.vregs }
