@@ -101,6 +101,7 @@ impl<A: Allocator + Copy> Hints<A> {
 }
 
 /// Takes a vreg out of one place.
+#[inline(always)]
 fn drop_at<A: Allocator + Copy>(
     entries: &mut Entries<A>,
     sets: &mut Sets<A>,
@@ -182,6 +183,7 @@ fn drop_everywhere<A: Allocator + Copy>(
 }
 
 /// Lists a place, if it is below a bound and holds a vreg.
+#[inline(always)]
 fn list_holder<A: Allocator + Copy>(
     holders: &mut Vec<usize, A>,
     entries: &Entries<A>,
