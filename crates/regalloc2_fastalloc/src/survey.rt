@@ -35,29 +35,6 @@ pub struct Survey<A: Allocator> {
     pub named: Vec<u32, A>,
 }
 
-/// What the pass finds at one instruction.
-#[derive(Clone, Copy)]
-struct Seen {
-    /// Whether the instruction passes the operand tests, or its operands have no `Limit`.
-    passes: bool,
-    /// Whether no operand names a labelled vreg.
-    names_none: bool,
-}
-
-/// Whether both are true. As a call, so that the loops that use it have one case.
-fn both(left: bool, right: bool) -> bool
-    ensures { IsTrue result ↔ (IsTrue left × IsTrue right) }
-{
-    left && right
-}
-
-/// Whether no label names a vreg.
-fn is_unnamed(wanted: &[bool], vreg: VReg) -> bool
-    ensures { IsTrue result ↔ (IsWanted wanted.now vreg.number → ⊥) }
-{
-    !is_wanted(wanted, vreg)
-}
-
 /// Adds an instruction's operands to a count, if they are fewer than 2^32 in all.
 fn add_operands(total: u32, operands: usize) -> Option<u32>
     ensures { SomeIff result (total + operands < 2 ^ 32) (total + operands) }
@@ -65,35 +42,43 @@ fn add_operands(total: u32, operands: usize) -> Option<u32>
     total.checked_add(u32::try_from(operands).ok()?)
 }
 
-/// Whether operands have no `Limit`, and whether they name no labelled vreg.
-fn look(operands: &[Operand], wanted: &[bool]) -> Seen
-    ensures unlimited { IsTrue result.passes ↔ ((k : ℕ) → k < length operands.now → IsUnlimited (op_at operands.now k)) }
-    ensures taken { IsTrue result.passes → (k : ℕ) → k < length operands.now → IsTakenOperand (op_at operands.now k) }
-    ensures names { IsTrue result.names_none ↔ ((k : ℕ) → k < length operands.now → IsWanted wanted.now (op_at operands.now k).vreg.number → ⊥) }
+/// Whether no operand has `Limit`.
+fn are_unlimited(operands: &[Operand]) -> bool
+    ensures unlimited { IsTrue result ↔ ((k : ℕ) → k < length operands.now → IsUnlimited (op_at operands.now k)) }
+    ensures taken { IsTrue result → (k : ℕ) → k < length operands.now → IsTakenOperand (op_at operands.now k) }
 {
-    let mut passes = true;
-    let mut names_none = true;
     for k in 0..operands.len() {
-        let operand = operands[k];
-        passes = both(passes, is_unlimited(operand));
-        names_none = both(names_none, is_unnamed(wanted, operand.vreg()));
+        if !is_unlimited(operands[k]) {
+            return false;
+        }
     }
-    Seen { passes, names_none }
+    true
 }
 
-/// Whether an instruction passes the operand tests, and whether it names no labelled vreg.
-fn look_at<F: Function>(f: &F, wanted: &[bool], inst: Inst, operands: &[Operand]) -> Seen
+/// Whether operands name no labelled vreg.
+fn name_none(operands: &[Operand], wanted: &[bool]) -> bool
+    ensures { IsTrue result ↔ ((k : ℕ) → k < length operands.now → IsWanted wanted.now (op_at operands.now k).vreg.number → ⊥) }
+{
+    // No label, no look at the operands.
+    if wanted.is_empty() {
+        return true;
+    }
+    for k in 0..operands.len() {
+        if is_wanted(wanted, operands[k].vreg()) {
+            return false;
+        }
+    }
+    true
+}
+
+/// Whether an instruction passes the operand tests.
+fn passes_tests<F: Function>(f: &F, inst: Inst, operands: &[Operand]) -> bool
     requires inst { inst < length (F.function f.now).insts }
     requires operands { operands.now ≡ (inst_at (F.function f.now) inst).operands }
-    ensures passes { IsTrue result.passes ↔ (AreUnlimited (inst_at (F.function f.now) inst) × BranchDefinesInPlace (inst_at (F.function f.now) inst)) }
-    ensures taken { IsTrue result.passes → All IsTakenOperand (inst_at (F.function f.now) inst).operands }
-    ensures names { IsTrue result.names_none ↔ NamesNoAsked (F.function f.now) (IsWanted wanted.now) inst }
+    ensures passes { IsTrue result ↔ (AreUnlimited (inst_at (F.function f.now) inst) × BranchDefinesInPlace (inst_at (F.function f.now) inst)) }
+    ensures taken { IsTrue result → All IsTakenOperand (inst_at (F.function f.now) inst).operands }
 {
-    let seen = look(operands, wanted);
-    Seen {
-        passes: both(seen.passes, is_sound_branch(f, inst)),
-        names_none: seen.names_none,
-    }
+    are_unlimited(operands) && is_sound_branch(f, inst)
 }
 
 /// The pass. It stops if memory runs out or there are 2^32 operands, and doesn't tell which.
@@ -111,14 +96,15 @@ fn survey_once<A: Allocator + Copy, F: Function>(
     for i in 0..f.num_insts() {
         let inst = Inst::new(i);
         let operands = f.inst_operands(inst);
-        let seen = look_at(f, wanted.as_slice(), inst, operands);
         offsets.push(total)?;
         let Some(next) = add_operands(total, operands.len()) else {
             return Err(RegAllocError::TooManyOperands);
         };
         total = next;
-        passes = both(passes, seen.passes);
-        if !seen.names_none {
+        if !passes_tests(f, inst, operands) {
+            passes = false;
+        }
+        if !name_none(operands, wanted.as_slice()) {
             named.push(i as u32)?;
         }
     }

@@ -1,17 +1,16 @@
-use Rattle.std.proofs.Common.{ℕ, ◌≡◌, ◌<◌, ◌∙◌, Bool, true, List, [], ◌∷◌, length, refl, ap, subst, arith}
+use Rattle.std.proofs.Common.{ℕ, ◌≡◌, ◌<◌, ◌∙◌, Bool, true, List, [], ◌∷◌, length, refl, sym, ap, subst, arith}
 use Rattle.std.specs.Prelude.{All, ◌↔◌}
 use Rattle.std.proofs.lemmas.List.{length-append}
-use Rattle.std.proofs.lemmas.Bool.{not-false}
-use Rattle.regalloc2_index.proofs.Bools.{not_with_itself}
-use Rattle.regalloc2_function.specs.FunctionValue.{FunctionValue, inst_at, operand_count}
+use Rattle.regalloc2_names.specs.Operand.{OperandValue}
+use Rattle.regalloc2_function.specs.FunctionValue.{FunctionValue, inst_at, op_at, operand_count}
 use Rattle.regalloc2_analysis.specs.LiveRanges.LiveRanges.{IsWanted}
 use Rattle.regalloc2_analysis.specs.LiveRanges.WalkInvariant.{AreNamers, NamesNoAsked}
 use Rattle.regalloc2_analysis.proofs.LiveRangesLemmas.Named.{named_more, named_none, named_same}
 use Rattle.regalloc2_fastalloc_state.specs.Validate.Constraints.{AreUnlimited, BranchDefinesInPlace}
 use Rattle.regalloc2_fastalloc_state.specs.Validate.NoLimits.{IsTakenOperand}
-use Rattle.regalloc2_fastalloc.proofs.PassOverOperands.{all_more, taken_more, offset_more, offsets_more, offset_last}
+use Rattle.regalloc2_fastalloc.proofs.PassOverOperands.{all_more, taken_more, cleared, uncleared, offset_more, offsets_more, offset_last}
 use Rattle.regalloc2_fastalloc.proofs.survey.survey_once.Goals as goal
-use Rattle.regalloc2_fastalloc.proofs.survey.survey_once.Goals.{then-not-seen+in_ok-push-2, else-not-seen}
+use Rattle.regalloc2_fastalloc.proofs.survey.survey_once.Goals.{then-not-passes_tests, else-not-passes_tests, then-not-name_none+in_ok-push-2, else-not-name_none}
 
 pub loop-i-init : goal.loop-i-init
 loop-i-init g c = record {
@@ -31,14 +30,21 @@ loop-i-preserved g c =
     let i : ℕ = c.loop-i.i in
     let W : ℕ → Type 0 = IsWanted c.in_ok-wanted.wanted.items in
     let offsets : List ℕ = c.loop-i.offsets.items in
-    let passes : Bool = c.look_at-seen.result.passes in
-    let none : Bool = c.look_at-seen.result.names_none in
+    let passes : Bool = c.passes_tests.result in
+    let none : Bool = c.name_none.result in
     let at : c.new-inst.result ≡ i = c.new-inst.ensures in
     let few : i < length f.insts = omega (arith, c.loop-i-test.true, c.loop-i.invariant.whole) in
     let here : length c.inst_operands-operands.result.now ≡ length (inst_at f i).operands =
     ap length (c.inst_operands-operands.ensures ∙ ap (λ (n : ℕ). (inst_at f n).operands) at) in
-    let names : (none ≡ true) ↔ NamesNoAsked f W i = subst (λ (n : ℕ). (none ≡ true) ↔ NamesNoAsked f W n) at
-    (subst (λ (ws : List Bool). (none ≡ true) ↔ NamesNoAsked f (IsWanted ws) c.new-inst.result) c.as_slice.ensures.value c.look_at-seen.ensures.names) in
+    let Unnamed : List OperandValue → List Bool → Type 0 = λ ops ws. (k : ℕ) → k < length ops → IsWanted ws (op_at ops k).vreg.number → ⊥ in
+    let operands : c.inst_operands-operands.result.now ≡ (inst_at f i).operands =
+    c.inst_operands-operands.ensures ∙ ap (λ (n : ℕ). (inst_at f n).operands) at in
+    let names : (none ≡ true) ↔ NamesNoAsked f W i = subst (λ (ops : List OperandValue). (none ≡ true) ↔ Unnamed ops c.in_ok-wanted.wanted.items) operands
+    (subst (λ (ws : List Bool). (none ≡ true) ↔ Unnamed c.inst_operands-operands.result.now ws) c.as_slice.ensures.value c.name_none.ensures) in
+    let both : (c.if-not-passes_tests.passes ≡ true) ↔ ((c.loop-i.passes ≡ true) × (passes ≡ true)) = elim c.if-not-passes_tests.branch [
+      | then-not-passes_tests w ↦ cleared c.loop-i.passes passes c.if-not-passes_tests.passes w.if-not-passes_tests.true w.passes-is
+      | else-not-passes_tests w ↦ uncleared c.loop-i.passes passes c.if-not-passes_tests.passes w.if-not-passes_tests.false w.passes-is
+    ] in
     record {
       whole = c.loop-i.invariant.whole;
       long = let e = ap length c.in_ok-push.ensures.items in let more = length-append offsets (c.loop-i.total ∷ []) in
@@ -47,16 +53,16 @@ loop-i-preserved g c =
       so_far = c.in-Some.ensures.1 ∙ offset_more f i c.loop-i.total (length c.inst_operands-operands.result.now) few c.loop-i.invariant.so_far here;
       each = rw c.in_ok-push.ensures.items
           (offsets_more f offsets i c.loop-i.total c.loop-i.invariant.long c.loop-i.invariant.so_far c.loop-i.invariant.each);
-      all_pass = all_more (λ k. AreUnlimited (inst_at f k) × BranchDefinesInPlace (inst_at f k)) i c.loop-i.passes passes c.both-passes.result
-          c.both-passes.ensures
-          (subst (λ (n : ℕ). (passes ≡ true) ↔ (AreUnlimited (inst_at f n) × BranchDefinesInPlace (inst_at f n))) at c.look_at-seen.ensures.passes)
+      all_pass = all_more (λ k. AreUnlimited (inst_at f k) × BranchDefinesInPlace (inst_at f k)) i c.loop-i.passes passes c.if-not-passes_tests.passes
+          both
+          (subst (λ (n : ℕ). (passes ≡ true) ↔ (AreUnlimited (inst_at f n) × BranchDefinesInPlace (inst_at f n))) at c.passes_tests.ensures.passes)
           c.loop-i.invariant.all_pass;
-      taken = taken_more (λ k. All IsTakenOperand (inst_at f k).operands) i c.loop-i.passes passes c.both-passes.result c.both-passes.ensures
-          (λ t. subst (λ (n : ℕ). All IsTakenOperand (inst_at f n).operands) at (c.look_at-seen.ensures.taken t)) c.loop-i.invariant.taken;
-      listed = elim c.if-not-seen.branch [
-        | then-not-seen+in_ok-push-2 w ↦ rw (w.named-is, w.in_ok-push-2.ensures.items) (named_more f W c.loop-i.named.items i
-            (λ h. not_with_itself none w.if-not-seen.true (names.1 h)) c.loop-i.invariant.listed)
-        | else-not-seen w ↦ rw w.named-is (named_same f W c.loop-i.named.items i (names.0 (not-false none w.if-not-seen.false)) c.loop-i.invariant.listed)
+      taken = taken_more (λ k. All IsTakenOperand (inst_at f k).operands) i c.loop-i.passes passes c.if-not-passes_tests.passes both
+          (λ t. subst (λ (n : ℕ). All IsTakenOperand (inst_at f n).operands) at (c.passes_tests.ensures.taken t)) c.loop-i.invariant.taken;
+      listed = elim c.if-not-name_none.branch [
+        | then-not-name_none+in_ok-push-2 w ↦ rw (w.named-is, w.in_ok-push-2.ensures.items) (named_more f W c.loop-i.named.items i
+            (λ h. let x = sym w.if-not-name_none.true ∙ names.1 h in absurd cc) c.loop-i.invariant.listed)
+        | else-not-name_none w ↦ rw w.named-is (named_same f W c.loop-i.named.items i (names.0 w.if-not-name_none.false) c.loop-i.invariant.listed)
       ];
     }
 
