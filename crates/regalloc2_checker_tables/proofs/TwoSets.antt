@@ -1,5 +1,5 @@
 -- Sets that are kept: of two members, or of any.
-use Rattle.std.proofs.Common.{inl, inr, ℕ, ◌≡◌, ◌<◌, arith, Bool, true, false, cond, nat_eq, eq-eqb, refl, sym, ap, ◌∙◌}
+use Rattle.std.proofs.Common.{inl, inr, subst, ℕ, ◌≡◌, ◌<◌, arith, Bool, true, false, cond, nat_eq, eq-eqb, refl, sym, ap, ◌∙◌}
 use Rattle.std.proofs.Common.{List, [], ◌∷◌, ◌++◌, bit_or}
 use Rattle.std.proofs.Common.{length, get_or, zero, suc}
 use Rattle.std.specs.Prelude.{◌/◌, ◌%◌, ◌^◌, ◌&&◌, ◌||◌, if◌then◌else◌, Option, Some}
@@ -252,3 +252,11 @@ meet-none other a b h k y = elim (cases_eq y a) [
     | inr m ↦ rw (ne_eqb y a n, ne_eqb y b m) refl
   ]
 ]
+
+-- what holds of two numbers holds of each member of a set of the two
+pub either_member : (P : ℕ → Type 0) (a b y : ℕ) → nat_eq y a || nat_eq y b ≡ true → P a → P b → P y
+either_member P a b y is here there = by_first (nat_eq y a) refl
+  where
+    by_first : (t : Bool) → nat_eq y a ≡ t → P y
+    by_first true e = subst P (sym (eqb-true y a e)) here
+    by_first false e = subst P (sym (eqb-true y b (ap (λ (t : Bool). t || nat_eq y b) (sym e) ∙ is))) there

@@ -314,7 +314,7 @@ impl<A: Allocator + Copy> Sets<A> {
     }
 
     /// The members of a set that is kept as two numbers.
-    fn two(&self, set: u32) -> Option<(u32, u32)>
+    pub fn two(&self, set: u32) -> Option<(u32, u32)>
         requires { set < length self.now }
         ensures { (p : ℕ × ℕ) → result ≡ Some p → (y : ℕ) → is_member self.now set y ≡ (nat_eq y p.0 || nat_eq y p.1) }
     {

@@ -306,6 +306,7 @@ fn note<A: Allocator + Copy>(
 }
 
 /// Notes that listed vregs may be at a place.
+#[inline(never)]
 fn note_all<A: Allocator + Copy>(
     vregs: &Positions<A>,
     homes: &mut Vec<Home<A>, A>,
@@ -322,6 +323,25 @@ fn note_all<A: Allocator + Copy>(
         note(vregs, homes, *bits, place)?;
     }
     Ok(())
+}
+
+/// Notes that two vregs may be at a place, if they are listed.
+#[inline(never)]
+fn note_two<A: Allocator + Copy>(
+    vregs: &Positions<A>,
+    homes: &mut Vec<Home<A>, A>,
+    pair: (u32, u32),
+    place: usize,
+) -> Result<(), AllocError>
+    requires rising { IsStrictlyIncreasing vregs.now }
+    requires homes { length homes.old.items ≡ length vregs.now }
+    requires place { place < 2 ^ 38 }
+    ensures more { AreMoreHomes homes.old.items homes.new.items }
+    ensures first { OnOk result (IsHome vregs.now homes.new.items place pair.0) }
+    ensures second { OnOk result (IsHome vregs.now homes.new.items place pair.1) }
+{
+    note(vregs, homes, pair.0, place)?;
+    note(vregs, homes, pair.1, place)
 }
 
 /// Notes that the listed vregs of a set may be at a place.
@@ -345,6 +365,9 @@ fn note_set<A: Allocator + Copy>(
     }
     if let Some(only) = sets.only(set) {
         return note(vregs, homes, only, place);
+    }
+    if let Some(pair) = sets.two(set) {
+        return note_two(vregs, homes, pair, place);
     }
     let members = sets.members(set)?;
     note_all(vregs, homes, &members, place)

@@ -4,7 +4,8 @@ use Rattle.regalloc2_index.proofs.Bools.{not_both}
 use Rattle.regalloc2_checker_tables.specs.EntrySets.{is_member}
 use Rattle.regalloc2_checker_tables.specs.Holding.{IsHome}
 use Rattle.regalloc2_checker_tables.proofs.Holders.{homes-same}
-use Rattle.regalloc2_checker_tables.proofs.TableLaws.{on_ok_as}
+use Rattle.regalloc2_checker_tables.proofs.TableLaws.{on_ok_as, on_ok_of_both}
+use Rattle.regalloc2_checker_tables.proofs.TwoSets.{either_member}
 use Rattle.regalloc2_checker_tables.proofs.TableLaws.{listed-times}
 use Rattle.regalloc2_checker_tables.proofs.tables.note_set.Goals as goal
 
@@ -30,3 +31,10 @@ returns-clause-noted g c =
     on_ok_as _ _ c.note_all.result
     (λ ok y is. ok y (listed-times (is_member c.args.sets.now c.args.set) c.in_ok-members.members.items c.deref.result.now
     c.deref.ensures.value c.in_ok-members.ensures y is)) c.note_all.ensures.noted
+
+pub returns-in-Some-two-clause-noted : goal.returns-in-Some-two-clause-noted
+returns-in-Some-two-clause-noted g c =
+    let members = c.in-Some-two.ensures c.in-Some-two.pair refl in
+    on_ok_of_both _ _ _ c.note_two.result
+    (λ first second y is. either_member (IsHome c.args.vregs.now c.note_two.new.homes.items c.args.place) c.in-Some-two.pair.0 c.in-Some-two.pair.1 y
+    (sym (members y) ∙ is) first second) c.note_two.ensures.first c.note_two.ensures.second
