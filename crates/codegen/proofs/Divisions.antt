@@ -24,10 +24,10 @@ use Rattle.codegen_machine.specs.Machine.{CodeValue, MachineState, divides, exec
 use Rattle.codegen.specs.Emitted.{register_of, source_of, extension_code, divide_code, operation_code, resolved}
 use Rattle.codegen.proofs.Premise.{IsGeneral, IsHere, IsPlaced, IsPlain}
 use Rattle.codegen.proofs.Choices.{Choice}
-use Rattle.codegen.proofs.Runs.{Comes, comes_by, comes_on, ends_then, traps_by}
+use Rattle.codegen.proofs.Runs.{Comes, comes_by, comes_on, ends_by, ends_then}
 use Rattle.codegen.proofs.Stands.{StandAt}
 use Rattle.codegen.proofs.Places.{Agree, register_place, int_place, wrote, writes, agree_register, reads_source}
-use Rattle.codegen.proofs.Steps.{leaves_of, traps_of, other_part, reads_at, writes_at, Done, plain_done}
+use Rattle.codegen.proofs.Steps.{leaves_of, left_of, traps_of, other_part, reads_at, writes_at, Done, Leaves, plain_done}
 
 abbrev int_register : ℕ → Register
 int_register n = record { number = n; class = Int }
@@ -151,9 +151,9 @@ module _ (args : ℕ → ℕ) (starts : ℕ → ℕ) (code : CodeValue) (succs :
 
     -- it isn't stuck
     goes : (compared : Option (ℕ × ℕ)) → divides (ready compared) w signed (m q)
-        ≡ cond (division_traps w signed (s.registers 0) (m q)) Trapped (Running (parted (ready compared) w signed (m q)))
+        ≡ cond (division_traps w signed (s.registers 0) (m q)) (Trapped s.memory) (Running (parted (ready compared) w signed (m q)))
     goes compared =
-        ap (λ (b : Bool). cond b (cond (division_traps w signed (s.registers 0) (m q)) Trapped (Running (parted (ready compared) w signed (m q)))) Stuck)
+        ap (λ (b : Bool). cond b (cond (division_traps w signed (s.registers 0) (m q)) (Trapped s.memory) (Running (parted (ready compared) w signed (m q)))) Stuck)
         (eq-eqb above above refl)
 
     by_dividend : division_traps w signed (s.registers 0) (m q) ≡ division_traps w signed (m (register_place 0)) (m q)
@@ -187,7 +187,7 @@ module _ (args : ℕ → ℕ) (starts : ℕ → ℕ) (code : CodeValue) (succs :
         let u : MachineState = ready r.compared in
         let v : MachineState = parted u w signed (m q) in
         let acts : executed args code.slots (Some (Divide w signed (source_of q))) u ≡ Running v =
-        outcome r.compared ∙ goes r.compared ∙ ap (λ (b : Bool). cond b Trapped (Running v)) (by_dividend ∙ calm) in
+        outcome r.compared ∙ goes r.compared ∙ ap (λ (b : Bool). cond b (Trapped s.memory) (Running v)) (by_dividend ∙ calm) in
         record {
           to = v;
           comes = comes_on code args 1 1 1 s u v (omega arith) r.comes (comes_by code args (Divide w signed (source_of q)) u v h.1.0 acts);
@@ -195,16 +195,18 @@ module _ (args : ℕ → ℕ) (starts : ℕ → ℕ) (code : CodeValue) (succs :
               (place_set m (register_place (part_register part)) (divided_at w part signed n (m q))))) (a.in_registers 0)
               (both_agree part (λ x. divided_at w x signed (s.registers 0) (m q)) m set above s.registers s.frame has a);
           stands = h.1.1;
+          same = refl;
         }
 
-    divide_traps : division_traps w signed (m (register_place 0)) (m q) ≡ true → (j : ℕ) × (machine_run code args j s ≡ Trapped)
+    divide_traps : division_traps w signed (m (register_place 0)) (m q) ≡ true →
+        (j : ℕ) × (machine_run code args j s ≡ Trapped s.memory)
     divide_traps traps =
         let r : IsReady = is_ready signed refl in
         let u : MachineState = ready r.compared in
         let v : MachineState = parted u w signed (m q) in
-        let acts : executed args code.slots (Some (Divide w signed (source_of q))) u ≡ Trapped =
-        outcome r.compared ∙ goes r.compared ∙ ap (λ (b : Bool). cond b Trapped (Running v)) (by_dividend ∙ traps) in
-        ends_then code args 1 1 s u Trapped r.comes (traps_by code args (Divide w signed (source_of q)) u h.1.0 acts)
+        let acts : executed args code.slots (Some (Divide w signed (source_of q))) u ≡ Trapped s.memory =
+        outcome r.compared ∙ goes r.compared ∙ ap (λ (b : Bool). cond b (Trapped s.memory) (Running v)) (by_dividend ∙ traps) in
+        ends_then code args 1 1 s u (Trapped s.memory) r.comes (ends_by code args (Divide w signed (source_of q)) u (Trapped s.memory) tt h.1.0 acts)
 
   -- the divisor of an operation, if it is a division, keeps its number
   abbrev pub IsKept : Operation → PRegSet → List Place → (Place → ℕ) → Type 0
@@ -221,9 +223,10 @@ module _ (args : ℕ → ℕ) (starts : ℕ → ℕ) (code : CodeValue) (succs :
 
   -- an operation that continues at the next line
   pub plain_leaves : (next : ℕ) (o : Operation) (set : PRegSet) (s : MachineState) (ps : List Place) (m : Place → ℕ) → IsPlain o → IsPlaced code.slots o ps →
-      ((r : Register) → has_register set r ≡ is_lost_in o r) → IsKept o set ps m → traps_of o (reads_at o ps m) ≡ false →
+      ((r : Register) → has_register set r ≡ is_lost_in o r) → IsKept o set ps m → traps_of s.memory o (reads_at o ps m) ≡ false →
       Agree s.registers s.frame m → StandAt starts code.instructions s.pc (operation_code o ps succs next ++ rest) →
-      Done args starts code succs rest s (numbers_clobbered set (leaves_of o (reads_at o ps m)) (writes_at args o ps m))
+      Leaves args starts code succs rest s (left_of s.memory o (reads_at o ps m))
+      (numbers_clobbered set (leaves_of o (reads_at o ps m)) (writes_at args s.memory o ps m))
   unfolding written_to
   plain_leaves next (Dividing w part signed to left right) set s ps m plain placed has kept calm a h =
       let first : place_at ps 0 ≡ register_place (part_register part) = place_is (place_at ps 0) (part_register part) placed.0.0 placed.0.1 in
@@ -238,19 +241,20 @@ module _ (args : ℕ → ℕ) (starts : ℕ → ℕ) (code : CodeValue) (succs :
       (place_set m p (divided_at w part signed (m (register_place 0)) (m (place_at ps 2)))))) (sym first)
       (divide_done w part signed m set (place_at ps 2) s has (subst (λ (p : Place). Keeps set m p (place_at ps 2)) first kept) placed.2 a h)) calm
   plain_leaves next o set s ps m plain placed has kept calm a h =
-      let d : Done args starts code succs rest s (writes_at args o ps m) = plain_done args starts code succs rest next o s ps m plain placed a h in
+      let d : Done args starts code succs rest s (writes_at args s.memory o ps m) = plain_done args starts code succs rest next o s ps m plain placed a h in
       record {
         to = d.to;
         comes = d.comes;
-        agree = unclobbered set (leaves_of o (reads_at o ps m)) (writes_at args o ps m) d.to.registers d.to.frame has d.agree;
+        agree = unclobbered set (leaves_of o (reads_at o ps m)) (writes_at args s.memory o ps m) d.to.registers d.to.frame has d.agree;
         stands = d.stands;
+        same = d.same;
       }
 
   -- and one that traps
   pub plain_traps : (next : ℕ) (o : Operation) (set : PRegSet) (s : MachineState) (ps : List Place) (m : Place → ℕ) → IsPlain o → IsPlaced code.slots o ps →
-      ((r : Register) → has_register set r ≡ is_lost_in o r) → IsKept o set ps m → traps_of o (reads_at o ps m) ≡ true →
+      ((r : Register) → has_register set r ≡ is_lost_in o r) → IsKept o set ps m → traps_of s.memory o (reads_at o ps m) ≡ true →
       Agree s.registers s.frame m → StandAt starts code.instructions s.pc (operation_code o ps succs next ++ rest) →
-      (j : ℕ) × (machine_run code args j s ≡ Trapped)
+      (j : ℕ) × (machine_run code args j s ≡ Trapped s.memory)
   plain_traps next (Dividing w part signed to left right) set s ps m plain placed has kept traps a h =
       let first : place_at ps 0 ≡ register_place (part_register part) = place_is (place_at ps 0) (part_register part) placed.0.0 placed.0.1 in
       let second : place_at ps 1 ≡ register_place 0 = place_is (place_at ps 1) 0 placed.1.0 placed.1.1 in

@@ -51,17 +51,17 @@ abbrev pub count_read : Count → ℕ → ℕ
 count_read (CountIn v) n = n
 count_read (CountOf n) m = n
 
--- the number that an operation writes, from those that it reads
-abbrev pub value_of : (ℕ → ℕ) → Operation → List ℕ → ℕ
-value_of args (TakeArgument to k) xs = args k
-value_of args (TakeConstant to n) xs = n
-value_of args (Copy to from) xs = slice_index xs 0
-value_of args (Computation w o to left right) xs = computed_at w o (slice_index xs 0) (right_read right (slice_index xs 1))
-value_of args (Shifting w o to left count) xs = shifted_at w o (slice_index xs 0) (count_read count (slice_index xs 1))
-value_of args (Dividing w part signed to left right) xs = divided_at w part signed (slice_index xs 0) (slice_index xs 1)
-value_of args (Comparison w c to left right) xs = truth (condition_holds c (widened w (slice_index xs 0)) (widened w (right_read right (slice_index xs 1))))
-value_of args (Select to c one other) xs = cond (nat_eq (slice_index xs 2) 0) (slice_index xs 1) (slice_index xs 0)
-value_of args o xs = 0
+-- the number that an operation writes, from those that it reads, and from memory
+abbrev pub value_of : (ℕ → ℕ) → List ℕ → Operation → List ℕ → ℕ
+value_of args memory (TakeArgument to k) xs = args k
+value_of args memory (TakeConstant to n) xs = n
+value_of args memory (Copy to from) xs = slice_index xs 0
+value_of args memory (Computation w o to left right) xs = computed_at w o (slice_index xs 0) (right_read right (slice_index xs 1))
+value_of args memory (Shifting w o to left count) xs = shifted_at w o (slice_index xs 0) (count_read count (slice_index xs 1))
+value_of args memory (Dividing w part signed to left right) xs = divided_at w part signed (slice_index xs 0) (slice_index xs 1)
+value_of args memory (Comparison w c to left right) xs = truth (condition_holds c (widened w (slice_index xs 0)) (widened w (right_read right (slice_index xs 1))))
+value_of args memory (Select to c one other) xs = cond (nat_eq (slice_index xs 2) 0) (slice_index xs 1) (slice_index xs 0)
+value_of args memory o xs = 0
 
 -- the position of the successor that it follows
 abbrev pub way_of : Operation → List ℕ → Option ℕ
@@ -80,14 +80,18 @@ abbrev pub leaves_of : Operation → List ℕ → Place → ℕ
 leaves_of (Dividing w part signed to left right) xs p = divided_at w (other_part part) signed (slice_index xs 0) (slice_index xs 1)
 leaves_of o xs p = 0
 
+-- the memory that it leaves
+abbrev pub left_of : List ℕ → Operation → List ℕ → List ℕ
+left_of memory o xs = memory
+
 -- whether it traps
-abbrev pub traps_of : Operation → List ℕ → Bool
-traps_of (Dividing w part signed to left right) xs = division_traps w signed (slice_index xs 0) (slice_index xs 1)
-traps_of o xs = false
+abbrev pub traps_of : List ℕ → Operation → List ℕ → Bool
+traps_of memory (Dividing w part signed to left right) xs = division_traps w signed (slice_index xs 0) (slice_index xs 1)
+traps_of memory o xs = false
 
 -- the effect of an operation, by what it reads
-abbrev pub chosen : (ℕ → ℕ) → Operation → List ℕ → Choice
-chosen args o xs = record { writes = λ k. value_of args o xs; takes = way_of o xs; leaves = leaves_of o xs }
+abbrev pub chosen : (ℕ → ℕ) → List ℕ → Operation → List ℕ → Choice
+chosen args memory o xs = record { writes = λ k. value_of args memory o xs; takes = way_of o xs; leaves = leaves_of o xs }
 
 -- no definition is early, so none overwrites what the uses read
 pub undisturbed : (o : Operation) (noise : Place → ℕ) (ps : List Place) (numbers : Place → ℕ) → disturbed noise ps 0 (operands_of o) numbers ≡ numbers
@@ -114,8 +118,8 @@ abbrev pub reads_at : Operation → List Place → (Place → ℕ) → List ℕ
 reads_at o ps numbers = read_by is_reading (λ k u. numbers (place_at ps k)) 0 (operands_of o)
 
 -- what it writes to them
-abbrev pub writes_at : (ℕ → ℕ) → Operation → List Place → (Place → ℕ) → Place → ℕ
-writes_at args o ps numbers = written_to (λ k. value_of args o (reads_at o ps numbers)) ps 0 (operands_of o) numbers
+abbrev pub writes_at : (ℕ → ℕ) → List ℕ → Operation → List Place → (Place → ℕ) → Place → ℕ
+writes_at args memory o ps numbers = written_to (λ k. value_of args memory o (reads_at o ps numbers)) ps 0 (operands_of o) numbers
 
 -- an operation that continues at the next line and clobbers nothing
 abbrev pub IsSimple : Operation → Type 0
@@ -124,11 +128,11 @@ IsSimple o = IsPlain o
 
 -- the state after numbers have been compared
 abbrev pub compared_state : MachineState → ℕ → ℕ → MachineState
-compared_state s a b = record { pc = s.pc + 1; registers = s.registers; frame = s.frame; compared = Some (a, b) }
+compared_state s a b = record { pc = s.pc + 1; registers = s.registers; frame = s.frame; compared = Some (a, b); memory = s.memory }
 
 -- and after a jump
 abbrev pub jump_state : MachineState → ℕ → MachineState
-jump_state s target = record { pc = target; registers = s.registers; frame = s.frame; compared = s.compared }
+jump_state s target = record { pc = target; registers = s.registers; frame = s.frame; compared = s.compared; memory = s.memory }
 
 at_least : (a b : ℕ) → nat_le b a ≡ not (nat_lt a b)
 at_least a b = ⊎_elim (λ t. t.0 ∙ sym (ap not (le-ltb a b t.1))) (λ t. t.0 ∙ sym (ap not (lt-ltb a b t.1))) (leb_tells b a)
@@ -150,12 +154,17 @@ opposite_holds SignedGreater x y = at_least (signed_rank y) (signed_rank x)
 opposite_holds SignedGreaterOrEqual x y = above (signed_rank y) (signed_rank x)
 
 module _ (args : ℕ → ℕ) (starts : ℕ → ℕ) (code : CodeValue) (succs : List ℕ) (rest : List Instruction) where
-  -- the machine has executed an operation, up to the code after it
-  pub record Done (s : MachineState) (numbers : Place → ℕ) : Type 0 where
+  -- the machine has executed an operation, up to the code after it, and has left a memory
+  pub record Leaves (s : MachineState) (memory : List ℕ) (numbers : Place → ℕ) : Type 0 where
     pub to : MachineState
     pub comes : Comes code args 1 s to
     pub agree : Agree to.registers to.frame numbers
     pub stands : StandAt starts code.instructions to.pc rest
+    pub same : to.memory ≡ memory
+
+  -- or has left memory as it was
+  abbrev pub Done : MachineState → (Place → ℕ) → Type 0
+  Done s numbers = Leaves s s.memory numbers
 
   -- by one instruction that writes a register
   by_one : (i : Instruction) (s : MachineState) (compared : Option (ℕ × ℕ)) (numbers : Place → ℕ) (p : Place) (v : ℕ) → IsGeneral p →
@@ -167,6 +176,7 @@ module _ (args : ℕ → ℕ) (starts : ℕ → ℕ) (code : CodeValue) (succs :
     comes = comes_by code args (resolved starts i) s (wrote s (register_of p) v compared) h.0 e;
     agree = agree_register s.registers s.frame numbers a p r v;
     stands = h.1;
+    same = refl;
   }
 
   -- a second number read
@@ -223,12 +233,13 @@ module _ (args : ℕ → ℕ) (starts : ℕ → ℕ) (code : CodeValue) (succs :
       comes_by code args (Test (source_of q)) s (compared_state s (numbers q) 0) h (reads_source code.slots s numbers a q hq (λ x. compared_to s x 0))
 
   -- the steps after an instruction
-  done_later : (s t : MachineState) (numbers : Place → ℕ) → Comes code args 1 s t → Done t numbers → Done s numbers
-  done_later s t numbers c done = record {
+  done_later : (s t : MachineState) (memory : List ℕ) (numbers : Place → ℕ) → Comes code args 1 s t → Leaves t memory numbers → Leaves s memory numbers
+  done_later s t memory numbers c done = record {
     to = done.to;
     comes = comes_on code args 1 1 1 s t done.to (omega arith) c done.comes;
     agree = done.agree;
     stands = done.stands;
+    same = done.same;
   }
 
   compare_done : (w : Width) (c : Condition) (right : Right) (s : MachineState) (numbers : Place → ℕ) (ps : List Place) → IsGeneral (place_at ps 0) →
@@ -241,7 +252,7 @@ module _ (args : ℕ → ℕ) (starts : ℕ → ℕ) (code : CodeValue) (succs :
       let x : ℕ = widened w (numbers (place_at ps 1)) in
       let y : ℕ = widened w (right_read right (numbers (place_at ps 2))) in
       let t : MachineState = compared_state s x y in
-      done_later s t (place_set numbers (place_at ps 0) (truth (condition_holds c x y)))
+      done_later s t s.memory (place_set numbers (place_at ps 0) (truth (condition_holds c x y)))
       (compares w right s numbers (place_at ps 1) (place_at ps 2) hq hr a h.0)
       (by_one (Set (register_of (place_at ps 0)) c) t t.compared numbers (place_at ps 0) (truth (condition_holds c x y)) hp a
       (writes_place t (place_at ps 0) (truth (condition_holds c x y)) t.compared hp) h.1)
@@ -256,7 +267,7 @@ module _ (args : ℕ → ℕ) (starts : ℕ → ℕ) (code : CodeValue) (succs :
       let n : ℕ = numbers (place_at ps 2) in
       let t : MachineState = compared_state s c 0 in
       let v : ℕ = cond (nat_eq c 0) n (numbers (place_at ps 1)) in
-      done_later s t (place_set numbers p v) (tests s numbers (place_at ps 3) hc a h.0)
+      done_later s t s.memory (place_set numbers p v) (tests s numbers (place_at ps 3) hc a h.0)
       (by_one (MoveIf Equal (register_of p) (source_of (place_at ps 2))) t t.compared numbers p v hp a
       (reads_register t numbers a p hp (λ x. with_source code.slots t (source_of (place_at ps 2))
       (λ y. written t (register_of p) (cond (nat_eq c 0) y x) t.compared))
@@ -290,7 +301,7 @@ module _ (args : ℕ → ℕ) (starts : ℕ → ℕ) (code : CodeValue) (succs :
   -- an operation that continues at the next line and clobbers nothing
   pub plain_done : (next : ℕ) (o : Operation) (s : MachineState) (ps : List Place) (numbers : Place → ℕ) → IsSimple o → IsPlaced code.slots o ps →
       Agree s.registers s.frame numbers →
-      StandAt starts code.instructions s.pc (operation_code o ps succs next ++ rest) → Done s (writes_at args o ps numbers)
+      StandAt starts code.instructions s.pc (operation_code o ps succs next ++ rest) → Done s (writes_at args s.memory o ps numbers)
   unfolding written_to read_by
   plain_done next (TakeArgument to k) s ps numbers plain placed a h =
       by_one (Argument (register_of (place_at ps 0)) k) s s.compared numbers (place_at ps 0) (args k) placed a
@@ -321,10 +332,11 @@ module _ (args : ℕ → ℕ) (starts : ℕ → ℕ) (code : CodeValue) (succs :
     pub agree : Agree to.registers to.frame numbers
     pub at : to.pc ≡ starts (slice_index succs k)
     pub there : k < length succs
+    pub same : to.memory ≡ s.memory
 
   -- the steps after a block's last line: at the block that it jumps to, or the return of a number
   abbrev pub Left : MachineState → List ℕ → (Place → ℕ) → Option Way → Type 0
-  Left s read numbers None = (j : ℕ) × (machine_run code args j s ≡ Returned (slice_index read 0))
+  Left s read numbers None = (j : ℕ) × (machine_run code args j s ≡ Returned (slice_index read 0) s.memory)
   Left s read numbers (Some Onward) = ⊥
   Left s read numbers (Some (ToSuccessor k)) = Entered s k numbers
 
@@ -338,16 +350,18 @@ module _ (args : ℕ → ℕ) (starts : ℕ → ℕ) (code : CodeValue) (succs :
     agree = a;
     at = refl;
     there = lt;
+    same = refl;
   }
 
   -- after one more instruction
-  later : (s t : MachineState) (k : ℕ) (numbers : Place → ℕ) → Comes code args 1 s t → Entered t k numbers → Entered s k numbers
-  later s t k numbers c e = record {
+  later : (s t : MachineState) (k : ℕ) (numbers : Place → ℕ) → t.memory ≡ s.memory → Comes code args 1 s t → Entered t k numbers → Entered s k numbers
+  later s t k numbers still c e = record {
     to = e.to;
     comes = comes_on code args 1 1 1 s t e.to (omega arith) c e.comes;
     agree = e.agree;
     at = e.at;
     there = e.there;
+    same = e.same ∙ still;
   }
 
   over_edge : (s : MachineState) (read : List ℕ) (k : ℕ) (numbers : Place → ℕ) → Entered s k numbers → Left s read numbers (edge_to (length succs) (Some k))
@@ -364,7 +378,7 @@ module _ (args : ℕ → ℕ) (starts : ℕ → ℕ) (code : CodeValue) (succs :
       let u : MachineState = jump_state (compared_state s x y) (s.pc + 1 + 1) in
       let acts : executed args code.slots (Some (JumpIf c (starts (slice_index succs 0)))) (compared_state s x y) ≡ Running u =
       ap (λ (b : Bool). jumped (compared_state s x y) (cond b (starts (slice_index succs 0)) (s.pc + 1 + 1))) e in
-      later (compared_state s x y) u 1 numbers (comes_by code args (JumpIf c (starts (slice_index succs 0))) (compared_state s x y) u h.0 acts)
+      later (compared_state s x y) u 1 numbers refl (comes_by code args (JumpIf c (starts (slice_index succs 0))) (compared_state s x y) u h.0 acts)
       (enters (Jump (starts (slice_index succs 1))) u 1 numbers lt a h.1.0 refl)
 
   -- or last
@@ -375,7 +389,7 @@ module _ (args : ℕ → ℕ) (starts : ℕ → ℕ) (code : CodeValue) (succs :
       let u : MachineState = jump_state (compared_state s x y) (s.pc + 1 + 1) in
       let acts : executed args code.slots (Some (JumpIf (opposite c) (starts (slice_index succs 1)))) (compared_state s x y) ≡ Running u =
       ap (λ (b : Bool). jumped (compared_state s x y) (cond b (starts (slice_index succs 1)) (s.pc + 1 + 1))) (opposite_holds c x y ∙ ap not e) in
-      later (compared_state s x y) u 0 numbers (comes_by code args (JumpIf (opposite c) (starts (slice_index succs 1))) (compared_state s x y) u h.0 acts)
+      later (compared_state s x y) u 0 numbers refl (comes_by code args (JumpIf (opposite c) (starts (slice_index succs 1))) (compared_state s x y) u h.0 acts)
       (enters (Jump (starts (slice_index succs 0))) u 0 numbers (omega arith) a h.1.0 refl)
   inverted c s x y numbers lt a h false e =
       enters (JumpIf (opposite c) (starts (slice_index succs 1))) (compared_state s x y) 1 numbers lt a h.0
@@ -398,7 +412,7 @@ module _ (args : ℕ → ℕ) (starts : ℕ → ℕ) (code : CodeValue) (succs :
       Left s read numbers (edge_to (length succs) (Some (cond (condition_holds c x y) 0 1)))
   forks next c s x y read numbers lt a first h =
       over_edge s read (cond (condition_holds c x y) 0 1) numbers
-      (later s (compared_state s x y) (cond (condition_holds c x y) 0 1) numbers first (branches next c s x y numbers lt a h))
+      (later s (compared_state s x y) (cond (condition_holds c x y) 0 1) numbers refl first (branches next c s x y numbers lt a h))
 
   -- with the successors swapped
   turned : (b : Bool) → ◌≡◌ {A = ℕ} (cond (not b) 0 1) (cond b 1 0)
@@ -421,16 +435,16 @@ module _ (args : ℕ → ℕ) (starts : ℕ → ℕ) (code : CodeValue) (succs :
       forks next c s (widened w (numbers p)) (widened w (right_read right (numbers q))) read numbers lt a (compares w right s numbers p q hp hq a h.0) h.1
 
   returns : (s : MachineState) (p : Place) (numbers : Place → ℕ) → IsHere code.slots p → Agree s.registers s.frame numbers →
-      StandAt starts code.instructions s.pc (fetched 0 p ∷ Return ∷ rest) → (j : ℕ) × (machine_run code args j s ≡ Returned (numbers p))
+      StandAt starts code.instructions s.pc (fetched 0 p ∷ Return ∷ rest) → (j : ℕ) × (machine_run code args j s ≡ Returned (numbers p) s.memory)
   returns s p numbers hp a h =
       let t : MachineState = wrote s 0 (numbers p) s.compared in
       let first : Comes code args 1 s t = comes_by code args (resolved starts (fetched 0 p)) s t h.0 (fetches args code.slots starts s numbers 0 refl a p hp) in
-      ends_then code args 1 1 s t (Returned (numbers p)) first (ends_by code args Return t (numbers p) h.1.0 refl)
+      ends_then code args 1 1 s t (Returned (numbers p) s.memory) first (ends_by code args Return t (Returned (numbers p) s.memory) tt h.1.0 refl)
 
   -- a block's last line
   pub last_leaves : (next : ℕ) (o : Operation) (s : MachineState) (ps : List Place) (numbers : Place → ℕ) → IsEnd o (length succs) → IsPlaced code.slots o ps →
       Agree s.registers s.frame numbers → StandAt starts code.instructions s.pc (operation_code o ps succs next ++ rest) →
-      Left s (reads_at o ps numbers) (writes_at args o ps numbers) (edge_to (length succs) (way_of o (reads_at o ps numbers)))
+      Left s (reads_at o ps numbers) (writes_at args s.memory o ps numbers) (edge_to (length succs) (way_of o (reads_at o ps numbers)))
   unfolding written_to read_by
   last_leaves next GoTo s ps numbers ends placed a h =
       over_edge s [] 0 numbers (enters (Jump (starts (slice_index succs 0))) s 0 numbers ends a h.0 refl)

@@ -12,12 +12,13 @@ use Rattle.codegen_machine.specs.declared.Instruction.TheVariants.{Constant, Cle
 use Rattle.codegen_machine.specs.declared.Instruction.TheVariants.{Shift, ShiftBy, ExtendSign, Divide, Compare, Set, MoveIf, Test, Jump, JumpIf, Return}
 use Rattle.codegen_machine.specs.declared.Code.{Code}
 
--- the current instruction, the numbers in registers and slots, and the numbers last compared, unless an instruction has clobbered them
+-- the current instruction, the numbers in registers and slots, the numbers last compared, unless an instruction has clobbered them, and the bytes in memory
 pub record MachineState : Type 0 where
   pub pc : ℕ
   pub registers : ℕ → ℕ
   pub frame : ℕ → ℕ
   pub compared : Option (ℕ × ℕ)
+  pub memory : List ℕ
 
 -- the registers that hold numbers: all sixteen but those that address the frame and the arguments
 abbrev pub is_general : ℕ → Bool
@@ -42,14 +43,18 @@ with_compared (Some p) go = go p.0 p.1
 -- continues at the next instruction, with a register written, or a slot, or with numbers compared
 abbrev pub written : MachineState → ℕ → ℕ → Option (ℕ × ℕ) → RunOutcome MachineState
 written s r n compared =
-    if is_general r then Running (record { pc = s.pc + 1; registers = put s.registers r n; frame = s.frame; compared = compared }) else Stuck
+    if is_general r
+    then Running (record { pc = s.pc + 1; registers = put s.registers r n; frame = s.frame; compared = compared; memory = s.memory })
+    else Stuck
 
 abbrev pub frame_stored : ℕ → MachineState → ℕ → ℕ → RunOutcome MachineState
 frame_stored slots s k n =
-    if nat_lt k slots then Running (record { pc = s.pc + 1; registers = s.registers; frame = put s.frame k n; compared = s.compared }) else Stuck
+    if nat_lt k slots
+    then Running (record { pc = s.pc + 1; registers = s.registers; frame = put s.frame k n; compared = s.compared; memory = s.memory })
+    else Stuck
 
 abbrev pub compared_to : MachineState → ℕ → ℕ → RunOutcome MachineState
-compared_to s a b = Running (record { pc = s.pc + 1; registers = s.registers; frame = s.frame; compared = Some (a, b) })
+compared_to s a b = Running (record { pc = s.pc + 1; registers = s.registers; frame = s.frame; compared = Some (a, b); memory = s.memory })
 
 -- Both results of a division of the number in register 0, which register 2 extends. It traps as the processor does.
 abbrev pub parted : MachineState → Width → Bool → ℕ → MachineState
@@ -58,17 +63,18 @@ parted s w signed b = record {
   registers = put (put s.registers 0 (divided_at w Quotient signed (s.registers 0) b)) 2 (divided_at w Remainder signed (s.registers 0) b);
   frame = s.frame;
   compared = None;
+  memory = s.memory;
 }
 
 abbrev pub divides : MachineState → Width → Bool → ℕ → RunOutcome MachineState
 divides s w signed b =
     if nat_eq (s.registers 2) (extended w signed (s.registers 0))
-    then if division_traps w signed (s.registers 0) b then Trapped else Running (parted s w signed b)
+    then if division_traps w signed (s.registers 0) b then Trapped s.memory else Running (parted s w signed b)
     else Stuck
 
 -- a jump to an instruction
 abbrev pub jumped : MachineState → ℕ → RunOutcome MachineState
-jumped s target = Running (record { pc = target; registers = s.registers; frame = s.frame; compared = s.compared })
+jumped s target = Running (record { pc = target; registers = s.registers; frame = s.frame; compared = s.compared; memory = s.memory })
 
 -- the effect of an instruction; the arguments are given by their numbers, and the frame has that many slots
 abbrev pub executed : (ℕ → ℕ) → ℕ → Option Instruction → MachineState → RunOutcome MachineState
@@ -91,7 +97,7 @@ executed args slots (Some (MoveIf c to from)) s = with_compared s.compared (λ a
 executed args slots (Some (Test from)) s = with_source slots s from (λ n. compared_to s n 0)
 executed args slots (Some (Jump target)) s = jumped s target
 executed args slots (Some (JumpIf c target)) s = with_compared s.compared (λ a b. jumped s (if condition_holds c a b then target else s.pc + 1))
-executed args slots (Some Return) s = Returned (s.registers 0)
+executed args slots (Some Return) s = Returned (s.registers 0) s.memory
 
 -- the contents of code: its instructions, and the number of its frame's slots
 pub record CodeValue : Type 0 where

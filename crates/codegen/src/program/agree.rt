@@ -21,13 +21,14 @@ pub fn run_both(
     code: &Code,
     arguments: &[u64],
 ) -> Result<(Standing, Standing), AllocError> {
-    let source = run_procedure(alloc, procedure, arguments, STEPS)?;
+    let source = run_procedure(alloc, procedure, arguments, Vec::new(alloc), STEPS)?;
     let steps = if source == Standing::Running {
         STEPS
     } else {
         CODE_STEPS
     };
-    Ok((source, run_code(alloc, code, arguments, steps)?))
+    let target = run_code(alloc, code, arguments, Vec::new(alloc), steps)?;
+    Ok((source, target))
 }
 
 /// Returns whether the function generated from a seed and its code return the same number.

@@ -15,14 +15,15 @@ use Rattle.codegen_machine.specs.declared.ir.operation.Count.TheVariants.{VReg a
 use Rattle.codegen_machine.specs.declared.ir.operation.Right.{Right}
 use Rattle.codegen_machine.specs.declared.ir.operation.Right.TheVariants.{VReg, Number}
 
--- the current line of a run, and the numbers of the virtual registers
+-- the current line of a run, the numbers of the virtual registers, and the bytes in memory
 pub record ProcedureState : Type 0 where
   pub at : Location
   pub numbers : VirtualRegister → ℕ
+  pub memory : List ℕ
 
 -- continues at the block's next line, with a vreg written
 abbrev pub onward : ProcedureState → VirtualRegister → ℕ → RunOutcome ProcedureState
-onward s v n = Running (record { at = record { block = s.at.block; inst = s.at.inst + 1 }; numbers = number_set s.numbers v n })
+onward s v n = Running (record { at = record { block = s.at.block; inst = s.at.inst + 1 }; numbers = number_set s.numbers v n; memory = s.memory })
 
 -- continues at the first line of the successor at a position, with the arguments assigned to its parameters in parallel
 abbrev pub entered : FunctionValue → ProcedureState → ℕ → Option ℕ → RunOutcome ProcedureState
@@ -30,6 +31,7 @@ entered f s k None = Stuck
 entered f s k (Some b) = Running (record {
   at = first_of f b;
   numbers = passed_on (block_at f b).params (arguments_at f s.at.block k) s.numbers s.numbers;
+  memory = s.memory;
 })
 
 abbrev pub along : FunctionValue → ProcedureState → ℕ → RunOutcome ProcedureState
@@ -54,7 +56,7 @@ done f args (Some (Copy to from)) s = onward s to (s.numbers from)
 done f args (Some (Compute w o to left right)) s = onward s to (computed_at w o (s.numbers left) (right_number s.numbers right))
 done f args (Some (Shift w o to left count)) s = onward s to (shifted_at w o (s.numbers left) (count_number s.numbers count))
 done f args (Some (Divide w part signed to left right)) s =
-    if division_traps w signed (s.numbers left) (s.numbers right) then Trapped else onward s to (divided_at w part signed (s.numbers left) (s.numbers right))
+    if division_traps w signed (s.numbers left) (s.numbers right) then Trapped s.memory else onward s to (divided_at w part signed (s.numbers left) (s.numbers right))
 done f args (Some (Compare w c to left right)) s =
     onward s to (truth (condition_holds c (widened w (s.numbers left)) (widened w (right_number s.numbers right))))
 done f args (Some (Select to c one other)) s = onward s to (if nat_eq (s.numbers c) 0 then s.numbers other else s.numbers one)
@@ -62,7 +64,7 @@ done f args (Some Jump) s = along f s 0
 done f args (Some (BranchIf v)) s = along f s (if nat_eq (s.numbers v) 0 then 1 else 0)
 done f args (Some (BranchIfHolds w c left right)) s =
     along f s (if condition_holds c (widened w (s.numbers left)) (widened w (right_number s.numbers right)) then 0 else 1)
-done f args (Some (Return v)) s = Returned (s.numbers v)
+done f args (Some (Return v)) s = Returned (s.numbers v) s.memory
 
 -- one step: that of the current line
 abbrev pub procedure_step : FunctionValue → List Operation → (ℕ → ℕ) → ProcedureState → RunOutcome ProcedureState

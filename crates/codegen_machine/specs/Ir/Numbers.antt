@@ -1,5 +1,5 @@
 -- 64-bit integers: the results of operators, and the conditions.
-use Rattle.std.specs.Prelude.{ℕ, ◌+◌, ◌-◌, ◌*◌, ◌/◌, ◌%◌, ◌^◌, Bool, false, true, ◌&&◌, ◌||◌, not, nat_eq, nat_lt, nat_le, if◌then◌else◌, bit_and, bit_or, bit_xor}
+use Rattle.std.specs.Prelude.{ℕ, ◌+◌, ◌-◌, ◌*◌, ◌/◌, ◌%◌, ◌^◌, Bool, false, true, ◌&&◌, ◌||◌, not, nat_eq, nat_lt, nat_le, if◌then◌else◌, List, bit_and, bit_or, bit_xor}
 use Rattle.codegen_machine.specs.declared.ir.operation.Operator.{Operator}
 use Rattle.codegen_machine.specs.declared.ir.operation.Operator.TheVariants.{Add, Sub, Mul, And, Or, Xor}
 use Rattle.codegen_machine.specs.declared.ir.operation.ShiftOperator.{ShiftOperator}
@@ -110,16 +110,16 @@ truth b = if b then 1 else 0
 abbrev pub put : (ℕ → ℕ) → ℕ → ℕ → ℕ → ℕ
 put m k n q = if nat_eq k q then n else m q
 
--- the outcome of a run: it still runs, in some state; it has returned a number; it has trapped; or it is stuck
+-- the outcome of a run: it still runs, in some state; it has returned a number, and left a memory, byte by byte; it has trapped, and left one; or it is stuck
 pub data RunOutcome (S : Type 0) : Type 0 where
   Running : S → RunOutcome S
-  Returned : ℕ → RunOutcome S
-  Trapped : RunOutcome S
+  Returned : ℕ → List ℕ → RunOutcome S
+  Trapped : List ℕ → RunOutcome S
   Stuck : RunOutcome S
 
 -- continues if it still runs
 abbrev pub further : {S : Type 0} → RunOutcome S → (S → RunOutcome S) → RunOutcome S
 further (Running s) go = go s
-further (Returned n) go = Returned n
-further Trapped go = Trapped
+further (Returned n memory) go = Returned n memory
+further (Trapped memory) go = Trapped memory
 further Stuck go = Stuck

@@ -1,4 +1,4 @@
--- Runs whose numbers are 0 at the start, except for the given arguments.
+-- Runs whose numbers are 0 at the start, except for the given arguments and memory.
 use Rattle.std.specs.Prelude.{ℕ, List, codes, slice_index, None}
 use Rattle.std.specs.Fmt.{decimal}
 use Rattle.regalloc2_function.specs.Path.{first_of}
@@ -14,25 +14,25 @@ use Rattle.codegen_machine.specs.declared.run.standing.Standing.TheVariants.{Run
 abbrev pub arguments_of : List ℕ → ℕ → ℕ
 arguments_of arguments k = slice_index arguments k
 
-abbrev pub first_state : Procedure → ProcedureState
-first_state p = record { at = first_of (function_of_procedure p) 0; numbers = λ v. 0 }
+abbrev pub first_state : Procedure → List ℕ → ProcedureState
+first_state p memory = record { at = first_of (function_of_procedure p) 0; numbers = λ v. 0; memory = memory }
 
-abbrev pub first_machine : MachineState
-first_machine = record { pc = 0; registers = λ r. 0; frame = λ k. 0; compared = None }
+abbrev pub first_machine : List ℕ → MachineState
+first_machine memory = record { pc = 0; registers = λ r. 0; frame = λ k. 0; compared = None; memory = memory }
 
--- the outcome of a run, without its state
+-- the outcome of a run, without its state and memory
 abbrev pub standing_of : {S : Type 0} → RunOutcome S → Standing
 standing_of (runs s) = Running
-standing_of (returned n) = Returned n
-standing_of traps = Trapped
+standing_of (returned n memory) = Returned n
+standing_of (traps memory) = Trapped
 standing_of sticks = Stuck
 
--- the outcome with its state
-abbrev pub run_outcome : {S : Type 0} → Standing → S → RunOutcome S
-run_outcome Running s = runs s
-run_outcome (Returned n) s = returned n
-run_outcome Trapped s = traps
-run_outcome Stuck s = sticks
+-- the outcome with its state and memory
+abbrev pub run_outcome : {S : Type 0} → Standing → S → List ℕ → RunOutcome S
+run_outcome Running s memory = runs s
+run_outcome (Returned n) s memory = returned n memory
+run_outcome Trapped s memory = traps memory
+run_outcome Stuck s memory = sticks
 
 -- the outcome as the interpreters' type
 abbrev pub standing_text : Standing → List ℕ

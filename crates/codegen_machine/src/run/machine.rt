@@ -4,8 +4,8 @@ ghost use Rattle.std.specs.Prelude.{◌≡◌, ◌+◌, ◌<◌, ◌^◌, IfOk, 
 ghost use Rattle.codegen_machine.specs.Ir.Numbers.{computed_at, condition_holds, extended, shifted_at, truth, widened};
 ghost use Rattle.codegen_machine.specs.Machine.{code_of, compared_to, divides, executed, is_general, jumped, machine_run, machine_step};
 ghost use Rattle.codegen_machine.specs.Machine.{frame_stored, with_compared, with_register, with_source, written};
-ghost use Rattle.codegen_machine.specs.Run.Runs.{arguments_of, first_machine, standing_of, run_outcome};
-ghost use Rattle.codegen_machine.specs.Run.States.{machine_state, source_number, MakesOutcome};
+ghost use Rattle.codegen_machine.specs.Run.Runs.{arguments_of, first_machine, standing_of};
+ghost use Rattle.codegen_machine.specs.Run.States.{machine_outcome, machine_state, source_number, MakesOutcome};
 
 use super::numbers::{
     argument, compute_at, divided_at, does_hold, does_trap, extended, shift_at, widened,
@@ -15,14 +15,15 @@ use crate::ir::{Condition, DivisionPart, Operator, ShiftOperator, Width};
 use crate::{Code, Instruction, Source};
 use std::alloc::{AllocError, Global};
 
-/// The machine's state: the current instruction, the numbers in registers and slots, and the
-/// numbers last compared, unless an instruction has clobbered them.
+/// The machine's state: the current instruction, the numbers in registers and slots, the numbers
+/// last compared, unless an instruction has clobbered them, and memory.
 #[derive(Drop)]
 pub struct Machine {
     pc: usize,
     registers: [u64; 16],
     frame: Vec<u64>,
     compared: Option<(u64, u64)>,
+    memory: Vec<u8>,
 }
 
 /// Whether a register holds numbers.
@@ -315,7 +316,7 @@ impl Machine {
     /// Makes a step.
     fn step(&mut self, code: &Code, arguments: &[u64]) -> Standing
         requires { vec_len self.old.frame ≡ code.now.slots }
-        ensures step { machine_step (code_of code.now) (arguments_of arguments.now) (machine_state self.old) ≡ run_outcome result (machine_state self.new) }
+        ensures step { machine_step (code_of code.now) (arguments_of arguments.now) (machine_state self.old) ≡ machine_outcome result self.new }
         ensures frame { vec_len self.new.frame ≡ vec_len self.old.frame }
     {
         match code.instructions.get(self.pc) {
@@ -334,21 +335,23 @@ fn zeros(alloc: Global, count: usize) -> Result<Vec<u64>, AllocError>
     vec![in alloc; 0; count]
 }
 
-/// Returns the outcome of running the code for that many steps, with 0 in all registers and slots
-/// at the start. Arguments past the given ones are 0.
+/// Returns the outcome of running the code for that many steps, with the given memory, and 0 in all
+/// registers and slots at the start. Arguments past the given ones are 0.
 pub fn run_code(
     alloc: Global,
     code: &Code,
     arguments: &[u64],
+    memory: Vec<u8>,
     steps: u64,
 ) -> Result<Standing, AllocError>
-    ensures { IfOk result (λ r. r ≡ standing_of (machine_run (code_of code.now) (arguments_of arguments.now) steps first_machine)) }
+    ensures { IfOk result (λ r. r ≡ standing_of (machine_run (code_of code.now) (arguments_of arguments.now) steps (first_machine memory.items))) }
 {
     let mut machine = Machine {
         pc: 0,
         registers: [0; 16],
         frame: zeros(alloc, code.slots)?,
         compared: None,
+        memory,
     };
     for _step in 0..steps {
         let standing = machine.step(code, arguments);

@@ -8,8 +8,8 @@ ghost use Rattle.regalloc2_function.specs.SourceRun.{arguments_at};
 ghost use Rattle.codegen_machine.specs.Ir.Numbers.{condition_holds, divided_at, division_traps, widened, Trapped};
 ghost use Rattle.codegen_machine.specs.Ir.Meaning.{along, count_number, onward, right_number, procedure_run, procedure_step};
 ghost use Rattle.codegen_machine.specs.Ir.Seen.{function_of_procedure, operations};
-ghost use Rattle.codegen_machine.specs.Run.Runs.{arguments_of, first_state, standing_of, run_outcome};
-ghost use Rattle.codegen_machine.specs.Run.States.{numbers_by_vreg, state_of};
+ghost use Rattle.codegen_machine.specs.Run.Runs.{arguments_of, first_state, standing_of};
+ghost use Rattle.codegen_machine.specs.Run.States.{numbers_by_vreg, procedure_outcome, state_of};
 
 use super::numbers::{argument, compute_at, divided_at, does_hold, does_trap, shift_at, widened};
 use super::standing::Standing;
@@ -22,12 +22,13 @@ use std::hash::{BuildHasherDefault, FoldHasher};
 /// The numbers of the virtual registers written so far, by the vregs' encodings. The others are 0.
 type Numbers = HashMap<u32, u64, BuildHasherDefault<FoldHasher>>;
 
-/// The current line of a run, and the numbers of the vregs.
+/// The current line of a run, the numbers of the vregs, and memory.
 #[derive(Drop)]
 pub struct State {
     block: usize,
     inst: usize,
     numbers: Numbers,
+    memory: Vec<u8>,
 }
 
 /// The number of a vreg.
@@ -145,7 +146,7 @@ impl State {
     /// Continues at the block's next line, with a vreg written.
     fn write(&mut self, to: VReg, number: u64) -> Result<Standing, AllocError>
         requires room { self.old.inst + 1 < 2 ^ 64 }
-        ensures { IfOk result (λ r. onward (state_of self.old) to number ≡ run_outcome r (state_of self.new)) }
+        ensures { IfOk result (λ r. onward (state_of self.old) to number ≡ procedure_outcome r self.new) }
     {
         put(&mut self.numbers, to, number)?;
         self.inst += 1;
@@ -163,9 +164,9 @@ impl State {
         right: u64,
     ) -> Result<Standing, AllocError>
         requires room { self.old.inst + 1 < 2 ^ 64 }
-        ensures { IfOk result (λ r. (if division_traps width is_signed left right then Trapped
+        ensures { IfOk result (λ r. (if division_traps width is_signed left right then Trapped (state_of self.old).memory
             else onward (state_of self.old) to (divided_at width part is_signed left right))
-            ≡ run_outcome r (state_of self.new)) }
+            ≡ procedure_outcome r self.new) }
     {
         if does_trap(width, is_signed, left, right) {
             return Ok(Standing::Trapped);
@@ -180,7 +181,7 @@ impl State {
         procedure: &Procedure,
         position: usize,
     ) -> Result<Standing, AllocError>
-        ensures { IfOk result (λ r. along (function_of_procedure procedure.now) (state_of self.old) position ≡ run_outcome r (state_of self.new)) }
+        ensures { IfOk result (λ r. along (function_of_procedure procedure.now) (state_of self.old) position ≡ procedure_outcome r self.new) }
     {
         if self.block >= procedure.num_blocks() {
             return Ok(Standing::Stuck);
@@ -210,7 +211,7 @@ impl State {
         arguments: &[u64],
     ) -> Result<Standing, AllocError>
         ensures { IfOk result (λ r. procedure_step (function_of_procedure procedure.now) (operations procedure.now) (arguments_of arguments.now) (state_of self.old)
-            ≡ run_outcome r (state_of self.new)) }
+            ≡ procedure_outcome r self.new) }
     {
         let Some(line) = procedure.lines.get(self.inst) else {
             return Ok(Standing::Stuck);
@@ -292,21 +293,23 @@ impl State {
     }
 }
 
-/// Returns the outcome of running a function for that many steps, with 0 in all vregs at the
-/// start. Arguments past the given ones are 0.
+/// Returns the outcome of running a function for that many steps, with the given memory, and 0 in
+/// all vregs at the start. Arguments past the given ones are 0.
 pub fn run_procedure(
     alloc: Global,
     procedure: &Procedure,
     arguments: &[u64],
+    memory: Vec<u8>,
     steps: u64,
 ) -> Result<Standing, AllocError>
     ensures { IfOk result (λ r. r ≡ standing_of (procedure_run (function_of_procedure procedure.now) (operations procedure.now) (arguments_of arguments.now) steps
-        (first_state procedure.now))) }
+        (first_state procedure.now memory.items))) }
 {
     let mut state = State {
         block: 0,
         inst: first_line(procedure, 0),
         numbers: HashMap::new(alloc),
+        memory,
     };
     for _step in 0..steps {
         let standing = state.step(alloc, procedure, arguments)?;

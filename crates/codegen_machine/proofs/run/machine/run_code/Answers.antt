@@ -11,7 +11,7 @@ returns-in_default c =
     let code = code_of c.args.code.now in
     let args = arguments_of c.args.arguments.now in
     let left = c.args.steps - c.loop-step._step in
-    stopped c.step-standing.result (machine_state c.step-standing.new.self) (machine_run code args (left - 1)) c.in_default.not-Running
+    stopped c.step-standing.result (machine_state c.step-standing.new.self) (machine_state c.step-standing.new.self).memory (machine_run code args (left - 1)) c.in_default.not-Running
     ∙ sym (ap standing_of (c.loop-step.invariant.1 ∙ machine_more code args left c.step-standing.result (machine_state c.loop-step.machine)
     (machine_state c.step-standing.new.self) (omega (arith, c.loop-step-test.true)) c.step-standing.ensures.step))
 
@@ -26,7 +26,7 @@ loop-step-preserved c =
       c.loop-step.invariant.1
           ∙ machine_more code args left c.step-standing.result (machine_state c.loop-step.machine) new (omega (arith, c.loop-step-test.true))
           c.step-standing.ensures.step
-          ∙ ap (λ r. further (run_outcome r new) (machine_run code args (left - 1))) c.in-Running.is
+          ∙ ap (λ r. further (run_outcome r new new.memory) (machine_run code args (left - 1))) c.in-Running.is
           ∙ ap (λ n. machine_run code args n new) next,
     )
 

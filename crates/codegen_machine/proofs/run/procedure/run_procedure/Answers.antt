@@ -13,21 +13,25 @@ use Rattle.codegen_machine.proofs.run.procedure.run_procedure.Goals as goal
 pub loop-step-init : goal.loop-step-init
 loop-step-init c =
     let p = c.args.procedure.now in
-    let begun : ℕ → (VirtualRegister → ℕ) → RunOutcome ProcedureState = λ n m. Running (record { at = record { block = 0; inst = n }; numbers = m }) in
-    run_none (function_of_procedure p) (operations p) (arguments_of c.args.arguments.now) (first_state p)
+    let begun : ℕ → (VirtualRegister → ℕ) → RunOutcome ProcedureState = λ n m. Running (record {
+      at = record { block = 0; inst = n };
+      numbers = m;
+      memory = c.args.memory.items;
+    }) in
+    run_none (function_of_procedure p) (operations p) (arguments_of c.args.arguments.now) (first_state p c.args.memory.items)
     ∙ ap (λ n. begun n (λ v. 0)) (sym c.first_line.ensures)
     ∙ ap (begun c.first_line.result) (sym (none_kept c.new.result c.new.ensures.empty))
 
 pub returns-in_default : goal.returns-in_default
 returns-in_default c =
     let p = c.args.procedure.now in
-    run_ends (function_of_procedure p) (operations p) (arguments_of c.args.arguments.now) (first_state p) c.loop-step._step c.args.steps
+    run_ends (function_of_procedure p) (operations p) (arguments_of c.args.arguments.now) (first_state p c.args.memory.items) c.loop-step._step c.args.steps
     c.in_ok-standing.standing
     (state_of c.loop-step.state) (state_of c.step.new.self) c.loop-step-test.true c.loop-step.invariant c.in_ok-standing.ensures c.in_default.not-Running
 
 pub loop-step-preserved : goal.loop-step-preserved
 loop-step-preserved c =
     let p = c.args.procedure.now in
-    run_more (function_of_procedure p) (operations p) (arguments_of c.args.arguments.now) (first_state p) c.loop-step._step stand.Running
+    run_more (function_of_procedure p) (operations p) (arguments_of c.args.arguments.now) (first_state p c.args.memory.items) c.loop-step._step stand.Running
     (state_of c.loop-step.state) (state_of c.step.new.self) c.loop-step.invariant
-    (c.in_ok-standing.ensures ∙ ap (λ r. run_outcome r (state_of c.step.new.self)) c.in-Running.is)
+    (c.in_ok-standing.ensures ∙ ap (λ r. run_outcome r (state_of c.step.new.self) (state_of c.step.new.self).memory) c.in-Running.is)
