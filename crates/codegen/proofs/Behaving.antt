@@ -4,7 +4,7 @@ use Rattle.std.specs.Prelude.{None}
 use Rattle.regalloc2_function.specs.FunctionValue.{FunctionValue}
 use Rattle.codegen_machine.specs.Ir.Numbers.{RunOutcome, Running, Returned, Trapped, Stuck, further}
 use Rattle.codegen_machine.specs.Ir.Meaning.{ProcedureState, procedure_step, procedure_run}
-use Rattle.codegen_machine.specs.declared.ir.operation.Operation.{Operation}
+use Rattle.codegen_machine.specs.Ir.Seen.{Operations}
 use Rattle.codegen_machine.specs.declared.ir.procedure.Procedure.{Procedure}
 use Rattle.codegen_machine.specs.Machine.{CodeValue, MachineState, machine_run}
 use Rattle.codegen.specs.Behaves.{Beginning, procedure_after, BehavesAs}
@@ -18,7 +18,7 @@ Meets code args IsAt s n (Returned r left) = (j : ℕ) × (machine_run code args
 Meets code args IsAt s n (Trapped left) = (j : ℕ) × (machine_run code args j s ≡ Trapped left)
 Meets code args IsAt s n Stuck = ⊥
 
-module _ (f : FunctionValue) (ops : List Operation) (code : CodeValue) (args : ℕ → ℕ) (IsAt : ProcedureState → MachineState → Type 0)
+module _ (f : FunctionValue) (ops : Operations) (code : CodeValue) (args : ℕ → ℕ) (IsAt : ProcedureState → MachineState → Type 0)
     (follows : (q : ProcedureState) (t : MachineState) → IsAt q t → Meets code args IsAt t 1 (procedure_step f ops args q)) where
   -- a step after that many
   one_more : (n : ℕ) (s t : MachineState) → Comes code args n s t → (o : RunOutcome ProcedureState) → Meets code args IsAt t 1 o →
@@ -81,8 +81,9 @@ module _ (code : CodeValue) (args : ℕ → ℕ) (IsAt : ProcedureState → Mach
   never s m z h e = elim (over_then s m z h Stuck tt e) [ inl k ↦ cc k.3 | inr k ↦ cc k.2 ]
 
 -- The code of a procedure behaves as the procedure, if each step preserves a relation of the initial states.
-pub behaves_by : (p : Procedure) (code : CodeValue) (IsAt : Beginning → ProcedureState → MachineState → Type 0) →
-    ((b : Beginning) (n : ℕ) → Meets code b.args (IsAt b) (record { pc = 0; registers = b.registers; frame = b.frame; compared = None; memory = b.memory }) n
+pub behaves_by : (p : Procedure) (code : CodeValue) (IsAt : Beginning p.memory_size → ProcedureState → MachineState → Type 0) →
+    ((b : Beginning p.memory_size) (n : ℕ) → Meets code b.args (IsAt b)
+    (record { pc = 0; registers = b.registers; frame = b.frame; compared = None; memory = b.memory }) n
     (procedure_after p b n)) → BehavesAs p code
 behaves_by p code IsAt known = record {
   returns = λ b n r left e. subst (λ (z : RunOutcome ProcedureState). Meets code b.args (IsAt b) (begun b) n z) e (known b n);
@@ -98,5 +99,5 @@ behaves_by p code IsAt known = record {
   source_never_stuck = λ b n e. subst (λ (z : RunOutcome ProcedureState). Meets code b.args (IsAt b) (begun b) n z) e (known b n);
 }
   where
-    begun : Beginning → MachineState
+    begun : Beginning p.memory_size → MachineState
     begun b = record { pc = 0; registers = b.registers; frame = b.frame; compared = None; memory = b.memory }

@@ -10,7 +10,7 @@ use Rattle.regalloc2_function.specs.OutputValue.{OutputValue, MoveValue}
 use Rattle.regalloc2_function.specs.Listing.{Listed, ListedMove}
 use Rattle.regalloc2_semantics.specs.Values.Interpreters.{place_set, numbers_moved}
 use Rattle.codegen_machine.specs.Ir.Numbers.{RunOutcome, Running, Stuck, put}
-use Rattle.codegen_machine.specs.declared.ir.operation.Operation.{Operation}
+use Rattle.codegen_machine.specs.Ir.Seen.{Operations}
 use Rattle.codegen_machine.specs.declared.Instruction.{Instruction}
 use Rattle.codegen_machine.specs.Machine.{CodeValue, MachineState, is_general, with_register, with_slot, with_source, written, frame_stored, executed}
 use Rattle.codegen.specs.Emitted.{register_of, source_of, fetched, move_code, resolved, items_code}
@@ -132,7 +132,7 @@ module _ (args : ℕ → ℕ) (slots : ℕ) (starts : ℕ → ℕ) where
     same = refl;
   }
 
-module _ (operations : List Operation) (out : OutputValue) (succs : List ℕ) (next : ℕ) (args : ℕ → ℕ) (starts : ℕ → ℕ) (code : CodeValue) where
+module _ (operations : Operations) (out : OutputValue) (succs : List ℕ) (next : ℕ) (args : ℕ → ℕ) (starts : ℕ → ℕ) (code : CodeValue) where
   -- the machine has run the moves, up to the code after them
   pub record Moved (s : MachineState) (numbers : Place → ℕ) (rest : List Listed) : Type 0 where
     pub to : MachineState

@@ -10,12 +10,14 @@ use Rattle.regalloc2_function.specs.OutputValue.{OutputValue}
 use Rattle.regalloc2_function.specs.Path.{Way, Onward, ToSuccessor, next_of}
 use Rattle.regalloc2_semantics.specs.Values.Interpreters.{History, State, read_by, edge_to, way_on, numbers_defined, passed_over}
 use Rattle.codegen_machine.specs.Ir.Numbers.{RunOutcome, Running, Returned, Trapped, Stuck, shifted_at, divided_at, division_traps, condition_holds, widened}
+use Rattle.codegen_machine.specs.Ir.Numbers.{is_within, number_at, with_number}
 use Rattle.codegen_machine.specs.Ir.Operands.{divide_operands, operands_of}
-use Rattle.codegen_machine.specs.Ir.Meaning.{ProcedureState, onward, entered, along, done, procedure_step}
+use Rattle.codegen_machine.specs.Ir.Meaning.{ProcedureState, onward, stored, entered, along, done, procedure_step}
+use Rattle.codegen_machine.specs.Ir.Seen.{Operations}
 use Rattle.codegen_machine.specs.declared.ir.operation.Operation.{Operation}
 use Rattle.codegen_machine.specs.declared.ir.operation.Operation.TheVariants.{Argument as TakeArgument, Constant as TakeConstant, Copy, Compute as Computation}
 use Rattle.codegen_machine.specs.declared.ir.operation.Operation.TheVariants.{Shift as Shifting, Divide as Dividing, Compare as Comparison, Select, Jump as GoTo, BranchIf}
-use Rattle.codegen_machine.specs.declared.ir.operation.Operation.TheVariants.{BranchIfHolds}
+use Rattle.codegen_machine.specs.declared.ir.operation.Operation.TheVariants.{BranchIfHolds, Load as Loading, Store as Storing}
 use Rattle.codegen_machine.specs.declared.ir.operation.Operation.TheVariants.{Return as GiveBack}
 use Rattle.codegen_machine.specs.declared.ir.operation.DivisionPart.{DivisionPart}
 use Rattle.codegen_machine.specs.declared.ir.operation.Count.TheVariants.{VReg as CountIn, Number as CountOf}
@@ -24,7 +26,7 @@ use Rattle.codegen_machine.specs.Machine.{CodeValue}
 use Rattle.codegen.specs.Emitted.{operation_at}
 use Rattle.codegen.proofs.Premise.{IsPlain, IsEnd, IsEmitted}
 use Rattle.codegen.proofs.Choices.{source_reads, source_next}
-use Rattle.codegen.proofs.Steps.{value_of, left_of, way_of, traps_of, chosen}
+use Rattle.codegen.proofs.Steps.{value_of, left_of, way_of, traps_of, chosen, inside, outside}
 
 -- a state of the interpreter, with a memory, as one of the procedure
 abbrev pub seen : List ℕ → State VirtualRegister → ProcedureState
@@ -97,16 +99,29 @@ module _ (f : FunctionValue) (args : ℕ → ℕ) (memory : List ℕ) where
   plain_goes (Comparison w o to left (VReg v)) c plain calm = refl
   plain_goes (Comparison w o to left (Given n)) c plain calm = refl
   plain_goes (Select to test one other) c plain calm = refl
+  plain_goes (Loading bytes to address) c plain calm =
+      ap (λ (b : Bool). cond b (onward (seen memory c) to (number_at bytes memory (c.numbers address))) (Trapped memory))
+      (inside (is_within memory bytes (c.numbers address)) calm)
+  plain_goes (Storing bytes address value) c plain calm =
+      ap (λ (b : Bool). cond b (stored (seen memory c) (with_number bytes memory (c.numbers address) (c.numbers value))) (Trapped memory))
+      (inside (is_within memory bytes (c.numbers address)) calm)
   plain_goes o c plain calm = absurd plain
 
   -- and one that traps
   plain_traps : (o : Operation) (c : State VirtualRegister) → IsPlain o → traps_of memory o (reads_of (operands_of o) c.numbers) ≡ true →
       done f args (Some o) (seen memory c) ≡ Trapped memory
+  unfolding read_by
   plain_traps (Dividing w part signed to left right) c plain traps =
       let o : Operation = Dividing w part signed to left right in
       subst (λ (xs : List ℕ). division_traps w signed (slice_index xs 0) (slice_index xs 1) ≡ true → done f args (Some o) (seen memory c) ≡ Trapped memory)
       (sym (divide_reads part to left right c.numbers plain.1))
       (λ so. ap (λ (b : Bool). cond b (Trapped memory) (onward (seen memory c) to (divided_at w part signed (c.numbers left) (c.numbers right)))) so) traps
+  plain_traps (Loading bytes to address) c plain traps =
+      ap (λ (b : Bool). cond b (onward (seen memory c) to (number_at bytes memory (c.numbers address))) (Trapped memory))
+      (outside (is_within memory bytes (c.numbers address)) traps)
+  plain_traps (Storing bytes address value) c plain traps =
+      ap (λ (b : Bool). cond b (stored (seen memory c) (with_number bytes memory (c.numbers address) (c.numbers value))) (Trapped memory))
+      (outside (is_within memory bytes (c.numbers address)) traps)
   plain_traps o c plain traps = absurd cc
 
   -- an edge
@@ -168,7 +183,7 @@ module _ (f : FunctionValue) (args : ℕ → ℕ) (memory : List ℕ) where
       (sym (eq-eqb (c.at.inst + 1) (block_at f c.at.block).range.end e)) (last_goes o c end))
 
   -- a step of both, from a location of the function
-  pub steps_alike : (ops : List Operation) (out : OutputValue) (start : ℕ → ℕ) (code : CodeValue) → IsEmitted f ops out start code →
+  pub steps_alike : (ops : Operations) (out : OutputValue) (start : ℕ → ℕ) (code : CodeValue) → IsEmitted f ops out start code →
       (c : State VirtualRegister) (left : ℕ) →
       c.at.block < length f.blocks → (block_at f c.at.block).range.first ≤ c.at.inst → c.at.inst + suc left ≡ (block_at f c.at.block).range.end →
       traps_of memory (operation_at ops c.at.inst) (source_reads f out c) ≡ false →
@@ -177,7 +192,7 @@ module _ (f : FunctionValue) (args : ℕ → ℕ) (memory : List ℕ) where
   steps_alike ops out start code ok c left block begins ends calm =
       let lt : c.at.inst < length f.insts = omega (arith, ok.within c.at.block block) in
       let o : Operation = operation_at ops c.at.inst in
-      let here : slice_get ops c.at.inst ≡ Some o = slice_get-get_or ops c.at.inst GoTo (omega (arith, ok.counted)) in
+      let here : slice_get ops.items c.at.inst ≡ Some o = slice_get-get_or ops.items c.at.inst GoTo (omega (arith, ok.counted)) in
       subst (λ (x : Option Operation). AreAlike (operation_at ops c.at.inst) (source_reads f out c)
       (source_next f out (chosen args memory (operation_at ops c.at.inst) (source_reads f out c)) c)
       (done f args x (seen memory c))) (sym here)
@@ -196,17 +211,19 @@ module _ (f : FunctionValue) (args : ℕ → ℕ) (memory : List ℕ) where
 
   end_calm : (o : Operation) (count : ℕ) (xs : List ℕ) → IsEnd o count → traps_of memory o xs ≡ true → ⊥
   end_calm (Dividing w part signed to left right) count xs end traps = end
+  end_calm (Loading bytes to address) count xs end traps = end
+  end_calm (Storing bytes address value) count xs end traps = end
   end_calm o count xs end traps = cc
 
   -- a step of the procedure that traps
-  pub steps_trap : (ops : List Operation) (out : OutputValue) (start : ℕ → ℕ) (code : CodeValue) → IsEmitted f ops out start code →
+  pub steps_trap : (ops : Operations) (out : OutputValue) (start : ℕ → ℕ) (code : CodeValue) → IsEmitted f ops out start code →
       (c : State VirtualRegister) (left : ℕ) →
       c.at.block < length f.blocks → (block_at f c.at.block).range.first ≤ c.at.inst → c.at.inst + suc left ≡ (block_at f c.at.block).range.end →
       traps_of memory (operation_at ops c.at.inst) (source_reads f out c) ≡ true → procedure_step f ops args (seen memory c) ≡ Trapped memory
   steps_trap ops out start code ok c left block begins ends traps =
       let lt : c.at.inst < length f.insts = omega (arith, ok.within c.at.block block) in
       let o : Operation = operation_at ops c.at.inst in
-      let here : slice_get ops c.at.inst ≡ Some o = slice_get-get_or ops c.at.inst GoTo (omega (arith, ok.counted)) in
+      let here : slice_get ops.items c.at.inst ≡ Some o = slice_get-get_or ops.items c.at.inst GoTo (omega (arith, ok.counted)) in
       let is : traps_of memory o (reads_of (operands_of o) c.numbers) ≡ true =
       subst (λ (os : List OperandValue). traps_of memory o (reads_of os c.numbers) ≡ true) (ok.operands c.at.inst lt) traps in
       ap (λ (x : Option Operation). done f args x (seen memory c)) here ∙ pick left refl is

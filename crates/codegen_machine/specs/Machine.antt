@@ -1,15 +1,18 @@
 -- The machine's semantics: an interpreter that makes a step for each instruction. It is stuck if there is no instruction, no such register or slot, if a
--- condition is tested and no numbers have been compared since the flags were last clobbered, and if register 2 doesn't extend a division's dividend.
+-- condition is tested and no numbers have been compared since the flags were last clobbered, if register 2 doesn't extend a division's dividend, and if an
+-- access lies outside memory.
 use Rattle.std.specs.Prelude.{ℕ, zero, suc, ◌+◌, Bool, true, ◌&&◌, not, nat_eq, nat_lt, if◌then◌else◌, List, slice_get, Option, None, Some}
 use Rattle.codegen_machine.specs.Ir.Numbers.{RunOutcome, Running, Returned, Trapped, Stuck, further, computed_at, shifted_at, divided_at, division_traps}
-use Rattle.codegen_machine.specs.Ir.Numbers.{extended, widened, condition_holds, truth, put}
+use Rattle.codegen_machine.specs.Ir.Numbers.{extended, widened, condition_holds, truth, is_within, number_at, with_number, put}
+use Rattle.codegen_machine.specs.declared.ir.operation.Bytes.{Bytes}
 use Rattle.codegen_machine.specs.declared.ir.operation.Width.{Width}
 use Rattle.codegen_machine.specs.declared.ir.operation.DivisionPart.TheVariants.{Quotient, Remainder}
 use Rattle.codegen_machine.specs.declared.Source.{Source}
 use Rattle.codegen_machine.specs.declared.Source.TheVariants.{Register, Slot, Number}
 use Rattle.codegen_machine.specs.declared.Instruction.{Instruction}
 use Rattle.codegen_machine.specs.declared.Instruction.TheVariants.{Constant, Clear, Argument, Move, Load, Store, Compute}
-use Rattle.codegen_machine.specs.declared.Instruction.TheVariants.{Shift, ShiftBy, ExtendSign, Divide, Compare, Set, MoveIf, Test, Jump, JumpIf, Return}
+use Rattle.codegen_machine.specs.declared.Instruction.TheVariants.{Shift, ShiftBy, ExtendSign, Divide, Compare, Set, MoveIf, Test}
+use Rattle.codegen_machine.specs.declared.Instruction.TheVariants.{Guard, Read, Write, Jump, JumpIf, Return}
 use Rattle.codegen_machine.specs.declared.Code.{Code}
 
 -- the current instruction, the numbers in registers and slots, the numbers last compared, unless an instruction has clobbered them, and the bytes in memory
@@ -20,9 +23,9 @@ pub record MachineState : Type 0 where
   pub compared : Option (ℕ × ℕ)
   pub memory : List ℕ
 
--- the registers that hold numbers: all sixteen but those that address the frame and the arguments
+-- the registers that hold numbers: all sixteen but those that address the frame, the arguments and memory
 abbrev pub is_general : ℕ → Bool
-is_general r = nat_lt r 16 && not (nat_eq r 4) && not (nat_eq r 7)
+is_general r = nat_lt r 15 && not (nat_eq r 4) && not (nat_eq r 7)
 
 -- continues with the number in a register, in a slot of a frame with that many slots, or of any source; or with the numbers last compared
 abbrev pub with_register : MachineState → ℕ → (ℕ → RunOutcome MachineState) → RunOutcome MachineState
@@ -72,6 +75,27 @@ divides s w signed b =
     then if division_traps w signed (s.registers 0) b then Trapped s.memory else Running (parted s w signed b)
     else Stuck
 
+-- traps unless an address is below a limit
+abbrev pub guarded : MachineState → ℕ → ℕ → RunOutcome MachineState
+guarded s a limit =
+    if nat_lt a limit
+    then Running (record { pc = s.pc + 1; registers = s.registers; frame = s.frame; compared = None; memory = s.memory })
+    else Trapped s.memory
+
+-- a number read from memory into a register, and one written to memory
+abbrev pub memory_read : MachineState → Bytes → ℕ → ℕ → RunOutcome MachineState
+memory_read s bytes to a = if is_within s.memory bytes a then written s to (number_at bytes s.memory a) s.compared else Stuck
+
+abbrev pub memory_written : MachineState → Bytes → ℕ → ℕ → RunOutcome MachineState
+memory_written s bytes a n =
+    if is_within s.memory bytes a then Running (record {
+      pc = s.pc + 1;
+      registers = s.registers;
+      frame = s.frame;
+      compared = s.compared;
+      memory = with_number bytes s.memory a n;
+    }) else Stuck
+
 -- a jump to an instruction
 abbrev pub jumped : MachineState → ℕ → RunOutcome MachineState
 jumped s target = Running (record { pc = target; registers = s.registers; frame = s.frame; compared = s.compared; memory = s.memory })
@@ -95,6 +119,9 @@ executed args slots (Some (Set to c)) s = with_compared s.compared (λ a b. writ
 executed args slots (Some (MoveIf c to from)) s = with_compared s.compared (λ a b. with_register s to (λ x. with_source slots s from
     (λ y. written s to (if condition_holds c a b then y else x) s.compared)))
 executed args slots (Some (Test from)) s = with_source slots s from (λ n. compared_to s n 0)
+executed args slots (Some (Guard address limit)) s = with_register s address (λ a. guarded s a limit)
+executed args slots (Some (Read bytes to address)) s = with_register s address (λ a. memory_read s bytes to a)
+executed args slots (Some (Write bytes address from)) s = with_register s address (λ a. with_register s from (λ n. memory_written s bytes a n))
 executed args slots (Some (Jump target)) s = jumped s target
 executed args slots (Some (JumpIf c target)) s = with_compared s.compared (λ a b. jumped s (if condition_holds c a b then target else s.pc + 1))
 executed args slots (Some Return) s = Returned (s.registers 0) s.memory

@@ -1,6 +1,6 @@
-use Rattle.std.proofs.Common.{ℕ, sym, ap, ◌∙◌}
+use Rattle.std.proofs.Common.{ℕ, ◌≡◌, refl, sym, ap, ◌∙◌, arith}
 use Rattle.regalloc2_names.specs.Register.{VirtualRegister}
-use Rattle.codegen_machine.specs.Ir.Meaning.{ProcedureState}
+use Rattle.codegen_machine.specs.Ir.Meaning.{ProcedureState, procedure_run}
 use Rattle.codegen_machine.specs.Ir.Numbers.{RunOutcome, Running}
 use Rattle.codegen_machine.specs.Ir.Seen.{function_of_procedure, operations}
 use Rattle.codegen_machine.specs.Run.Runs.{arguments_of, first_state, run_outcome}
@@ -25,9 +25,13 @@ loop-step-init c =
 pub returns-in_default : goal.returns-in_default
 returns-in_default c =
     let p = c.args.procedure.now in
-    run_ends (function_of_procedure p) (operations p) (arguments_of c.args.arguments.now) (first_state p c.args.memory.items) c.loop-step._step c.args.steps
-    c.in_ok-standing.standing
-    (state_of c.loop-step.state) (state_of c.step.new.self) c.loop-step-test.true c.loop-step.invariant c.in_ok-standing.ensures c.in_default.not-Running
+    let new = state_of c.step.new.self in (
+      new,
+      refl,
+      run_ends (function_of_procedure p) (operations p) (arguments_of c.args.arguments.now) (first_state p c.args.memory.items) c.loop-step._step c.args.steps
+          c.in_ok-standing.standing (state_of c.loop-step.state) new c.loop-step-test.true c.loop-step.invariant c.in_ok-standing.ensures
+          c.in_default.not-Running,
+    )
 
 pub loop-step-preserved : goal.loop-step-preserved
 loop-step-preserved c =
@@ -35,3 +39,13 @@ loop-step-preserved c =
     run_more (function_of_procedure p) (operations p) (arguments_of c.args.arguments.now) (first_state p c.args.memory.items) c.loop-step._step stand.Running
     (state_of c.loop-step.state) (state_of c.step.new.self) c.loop-step.invariant
     (c.in_ok-standing.ensures ∙ ap (λ r. run_outcome r (state_of c.step.new.self) (state_of c.step.new.self).memory) c.in-Running.is)
+
+pub returns : goal.returns
+returns c =
+    let p = c.args.procedure.now in
+    let all : c.args.steps ≡ c.loop-step._step = omega (arith, c.loop-step-test.false) in (
+      state_of c.loop-step.state,
+      refl,
+      ap (λ n. procedure_run (function_of_procedure p) (operations p) (arguments_of c.args.arguments.now) n (first_state p c.args.memory.items)) all
+          ∙ c.loop-step.invariant,
+    )
