@@ -1,5 +1,5 @@
 -- A division: its two instructions do to the machine what it does to places, and the divisor stays in its current location.
-use Rattle.std.proofs.Common.{ℕ, ◌≡◌, ◌+◌, Bool, true, false, cond, not, List, [], ◌∷◌, ◌++◌, Option, Some, None, refl, sym, ap, ◌∙◌, subst}
+use Rattle.std.proofs.Common.{ℕ, ◌≡◌, Bool, true, false, cond, not, List, [], ◌∷◌, ◌++◌, length, Option, Some, None, refl, sym, ap, ◌∙◌, subst}
 use Rattle.std.proofs.Common.{arith, nat_eq, eqb-true, eq-eqb}
 use Rattle.std.specs.Prelude.{◌&&◌, slice_index}
 use Rattle.regalloc2_names.specs.declared.RegClass.TheVariants.{Int}
@@ -11,23 +11,23 @@ use Rattle.regalloc2_names.specs.Same.{is_register-true}
 use Rattle.regalloc2_names.specs.Place.{Place, NoPlace, InRegister, InSlot}
 use Rattle.regalloc2_function.specs.OutputValue.{place_at}
 use Rattle.regalloc2_semantics.specs.Values.Interpreters.{read_by, is_late_use, place_set, written_to, numbers_clobbered}
-use Rattle.codegen_machine.specs.Ir.Numbers.{Running, Trapped, Stuck, divided_at, division_traps, extended, put}
+use Rattle.codegen_machine.specs.Ir.Numbers.{Running, Trapped, Stuck, divided_at, division_traps, extended, is_within, put}
 use Rattle.codegen_machine.specs.Ir.Operands.{is_lost_in, operands_of, other_register, part_register}
 use Rattle.codegen_machine.specs.declared.ir.operation.Width.{Width}
 use Rattle.codegen_machine.specs.declared.ir.operation.DivisionPart.{DivisionPart}
 use Rattle.codegen_machine.specs.declared.ir.operation.DivisionPart.TheVariants.{Quotient, Remainder}
 use Rattle.codegen_machine.specs.declared.ir.operation.Operation.{Operation}
-use Rattle.codegen_machine.specs.declared.ir.operation.Operation.TheVariants.{Divide as Dividing}
+use Rattle.codegen_machine.specs.declared.ir.operation.Operation.TheVariants.{Divide as Dividing, Load as Loading, Store as Storing}
 use Rattle.codegen_machine.specs.declared.Instruction.{Instruction}
 use Rattle.codegen_machine.specs.declared.Instruction.TheVariants.{Clear, ExtendSign, Divide}
 use Rattle.codegen_machine.specs.Machine.{CodeValue, MachineState, divides, executed, machine_run, parted}
 use Rattle.codegen.specs.Emitted.{register_of, source_of, extension_code, divide_code, operation_code, resolved}
 use Rattle.codegen.proofs.Premise.{IsGeneral, IsHere, IsPlaced, IsPlain}
 use Rattle.codegen.proofs.Choices.{Choice}
-use Rattle.codegen.proofs.Runs.{Comes, comes_by, comes_on, ends_then, traps_by}
+use Rattle.codegen.proofs.Runs.{Comes, comes_by, comes_on, ends_by, ends_then}
 use Rattle.codegen.proofs.Stands.{StandAt}
 use Rattle.codegen.proofs.Places.{Agree, register_place, int_place, wrote, writes, agree_register, reads_source}
-use Rattle.codegen.proofs.Steps.{leaves_of, traps_of, other_part, reads_at, writes_at, Done, plain_done}
+use Rattle.codegen.proofs.Steps.{leaves_of, left_of, traps_of, other_part, reads_at, writes_at, Done, Leaves, outside, guard_traps, plain_done}
 
 abbrev int_register : ℕ → Register
 int_register n = record { number = n; class = Int }
@@ -151,9 +151,10 @@ module _ (args : ℕ → ℕ) (starts : ℕ → ℕ) (code : CodeValue) (succs :
 
     -- it isn't stuck
     goes : (compared : Option (ℕ × ℕ)) → divides (ready compared) w signed (m q)
-        ≡ cond (division_traps w signed (s.registers 0) (m q)) Trapped (Running (parted (ready compared) w signed (m q)))
+        ≡ cond (division_traps w signed (s.registers 0) (m q)) (Trapped s.memory) (Running (parted (ready compared) w signed (m q)))
     goes compared =
-        ap (λ (b : Bool). cond b (cond (division_traps w signed (s.registers 0) (m q)) Trapped (Running (parted (ready compared) w signed (m q)))) Stuck)
+        ap (λ (b : Bool). cond b (cond (division_traps w signed (s.registers 0) (m q)) (Trapped s.memory)
+        (Running (parted (ready compared) w signed (m q)))) Stuck)
         (eq-eqb above above refl)
 
     by_dividend : division_traps w signed (s.registers 0) (m q) ≡ division_traps w signed (m (register_place 0)) (m q)
@@ -187,7 +188,7 @@ module _ (args : ℕ → ℕ) (starts : ℕ → ℕ) (code : CodeValue) (succs :
         let u : MachineState = ready r.compared in
         let v : MachineState = parted u w signed (m q) in
         let acts : executed args code.slots (Some (Divide w signed (source_of q))) u ≡ Running v =
-        outcome r.compared ∙ goes r.compared ∙ ap (λ (b : Bool). cond b Trapped (Running v)) (by_dividend ∙ calm) in
+        outcome r.compared ∙ goes r.compared ∙ ap (λ (b : Bool). cond b (Trapped s.memory) (Running v)) (by_dividend ∙ calm) in
         record {
           to = v;
           comes = comes_on code args 1 1 1 s u v (omega arith) r.comes (comes_by code args (Divide w signed (source_of q)) u v h.1.0 acts);
@@ -195,16 +196,18 @@ module _ (args : ℕ → ℕ) (starts : ℕ → ℕ) (code : CodeValue) (succs :
               (place_set m (register_place (part_register part)) (divided_at w part signed n (m q))))) (a.in_registers 0)
               (both_agree part (λ x. divided_at w x signed (s.registers 0) (m q)) m set above s.registers s.frame has a);
           stands = h.1.1;
+          same = refl;
         }
 
-    divide_traps : division_traps w signed (m (register_place 0)) (m q) ≡ true → (j : ℕ) × (machine_run code args j s ≡ Trapped)
+    divide_traps : division_traps w signed (m (register_place 0)) (m q) ≡ true →
+        (j : ℕ) × (machine_run code args j s ≡ Trapped s.memory)
     divide_traps traps =
         let r : IsReady = is_ready signed refl in
         let u : MachineState = ready r.compared in
         let v : MachineState = parted u w signed (m q) in
-        let acts : executed args code.slots (Some (Divide w signed (source_of q))) u ≡ Trapped =
-        outcome r.compared ∙ goes r.compared ∙ ap (λ (b : Bool). cond b Trapped (Running v)) (by_dividend ∙ traps) in
-        ends_then code args 1 1 s u Trapped r.comes (traps_by code args (Divide w signed (source_of q)) u h.1.0 acts)
+        let acts : executed args code.slots (Some (Divide w signed (source_of q))) u ≡ Trapped s.memory =
+        outcome r.compared ∙ goes r.compared ∙ ap (λ (b : Bool). cond b (Trapped s.memory) (Running v)) (by_dividend ∙ traps) in
+        ends_then code args 1 1 s u (Trapped s.memory) r.comes (ends_by code args (Divide w signed (source_of q)) u (Trapped s.memory) tt h.1.0 acts)
 
   -- the divisor of an operation, if it is a division, keeps its number
   abbrev pub IsKept : Operation → PRegSet → List Place → (Place → ℕ) → Type 0
@@ -220,12 +223,15 @@ module _ (args : ℕ → ℕ) (starts : ℕ → ℕ) (code : CodeValue) (succs :
       ap (λ (b : Bool). cond (not b) (m (place_at ps 1) ∷ m (place_at ps 2) ∷ []) (m (place_at ps 2) ∷ [])) read
 
   -- an operation that continues at the next line
-  pub plain_leaves : (next : ℕ) (o : Operation) (set : PRegSet) (s : MachineState) (ps : List Place) (m : Place → ℕ) → IsPlain o → IsPlaced code.slots o ps →
-      ((r : Register) → has_register set r ≡ is_lost_in o r) → IsKept o set ps m → traps_of o (reads_at o ps m) ≡ false →
-      Agree s.registers s.frame m → StandAt starts code.instructions s.pc (operation_code o ps succs next ++ rest) →
-      Done args starts code succs rest s (numbers_clobbered set (leaves_of o (reads_at o ps m)) (writes_at args o ps m))
+  pub plain_leaves : (size next : ℕ) (o : Operation) (set : PRegSet) (s : MachineState) (ps : List Place) (m : Place → ℕ) → IsPlain o →
+      IsPlaced code.slots o ps →
+      ((r : Register) → has_register set r ≡ is_lost_in o r) → IsKept o set ps m → length s.memory ≡ size →
+      traps_of s.memory o (reads_at o ps m) ≡ false →
+      Agree s.registers s.frame m → StandAt starts code.instructions s.pc (operation_code size o ps succs next ++ rest) →
+      Leaves args starts code succs rest s (left_of s.memory o (reads_at o ps m))
+      (numbers_clobbered set (leaves_of o (reads_at o ps m)) (writes_at args s.memory o ps m))
   unfolding written_to
-  plain_leaves next (Dividing w part signed to left right) set s ps m plain placed has kept calm a h =
+  plain_leaves size next (Dividing w part signed to left right) set s ps m plain placed has kept sized calm a h =
       let first : place_at ps 0 ≡ register_place (part_register part) = place_is (place_at ps 0) (part_register part) placed.0.0 placed.0.1 in
       let second : place_at ps 1 ≡ register_place 0 = place_is (place_at ps 1) 0 placed.1.0 placed.1.1 in
       let read : reads_at (Dividing w part signed to left right) ps m ≡ m (register_place 0) ∷ m (place_at ps 2) ∷ [] =
@@ -237,28 +243,37 @@ module _ (args : ℕ → ℕ) (starts : ℕ → ℕ) (code : CodeValue) (succs :
       (numbers_clobbered set (λ n. divided_at w (other_part part) signed (m (register_place 0)) (m (place_at ps 2)))
       (place_set m p (divided_at w part signed (m (register_place 0)) (m (place_at ps 2)))))) (sym first)
       (divide_done w part signed m set (place_at ps 2) s has (subst (λ (p : Place). Keeps set m p (place_at ps 2)) first kept) placed.2 a h)) calm
-  plain_leaves next o set s ps m plain placed has kept calm a h =
-      let d : Done args starts code succs rest s (writes_at args o ps m) = plain_done args starts code succs rest next o s ps m plain placed a h in
+  plain_leaves size next o set s ps m plain placed has kept sized calm a h =
+      let d : Leaves args starts code succs rest s (left_of s.memory o (reads_at o ps m)) (writes_at args s.memory o ps m) =
+      plain_done args starts code succs rest size next o s ps m plain placed sized calm a h in
       record {
         to = d.to;
         comes = d.comes;
-        agree = unclobbered set (leaves_of o (reads_at o ps m)) (writes_at args o ps m) d.to.registers d.to.frame has d.agree;
+        agree = unclobbered set (leaves_of o (reads_at o ps m)) (writes_at args s.memory o ps m) d.to.registers d.to.frame has d.agree;
         stands = d.stands;
+        same = d.same;
       }
 
   -- and one that traps
-  pub plain_traps : (next : ℕ) (o : Operation) (set : PRegSet) (s : MachineState) (ps : List Place) (m : Place → ℕ) → IsPlain o → IsPlaced code.slots o ps →
-      ((r : Register) → has_register set r ≡ is_lost_in o r) → IsKept o set ps m → traps_of o (reads_at o ps m) ≡ true →
-      Agree s.registers s.frame m → StandAt starts code.instructions s.pc (operation_code o ps succs next ++ rest) →
-      (j : ℕ) × (machine_run code args j s ≡ Trapped)
-  plain_traps next (Dividing w part signed to left right) set s ps m plain placed has kept traps a h =
+  pub plain_traps : (size next : ℕ) (o : Operation) (set : PRegSet) (s : MachineState) (ps : List Place) (m : Place → ℕ) → IsPlain o →
+      IsPlaced code.slots o ps →
+      ((r : Register) → has_register set r ≡ is_lost_in o r) → IsKept o set ps m → length s.memory ≡ size →
+      traps_of s.memory o (reads_at o ps m) ≡ true →
+      Agree s.registers s.frame m → StandAt starts code.instructions s.pc (operation_code size o ps succs next ++ rest) →
+      (j : ℕ) × (machine_run code args j s ≡ Trapped s.memory)
+  unfolding read_by
+  plain_traps size next (Dividing w part signed to left right) set s ps m plain placed has kept sized traps a h =
       let first : place_at ps 0 ≡ register_place (part_register part) = place_is (place_at ps 0) (part_register part) placed.0.0 placed.0.1 in
       let second : place_at ps 1 ≡ register_place 0 = place_is (place_at ps 1) 0 placed.1.0 placed.1.1 in
       let read : reads_at (Dividing w part signed to left right) ps m ≡ m (register_place 0) ∷ m (place_at ps 2) ∷ [] =
       reads w part signed to left right ps m plain.1 ∙ ap (λ (p : Place). m p ∷ m (place_at ps 2) ∷ []) second in
       divide_traps w part signed m set (place_at ps 2) s has (subst (λ (p : Place). Keeps set m p (place_at ps 2)) first kept) placed.2 a h
       (subst (λ (xs : List ℕ). division_traps w signed (slice_index xs 0) (slice_index xs 1) ≡ true) read traps)
-  plain_traps next o set s ps m plain placed has kept traps a h = absurd cc
+  plain_traps size next (Loading bytes to address) set s ps m plain placed has kept sized traps a h =
+      guard_traps args starts code succs rest size bytes s m (place_at ps 1) placed.1 sized a (outside (is_within s.memory bytes (m (place_at ps 1))) traps) h.0
+  plain_traps size next (Storing bytes address value) set s ps m plain placed has kept sized traps a h =
+      guard_traps args starts code succs rest size bytes s m (place_at ps 0) placed.0 sized a (outside (is_within s.memory bytes (m (place_at ps 0))) traps) h.0
+  plain_traps size next o set s ps m plain placed has kept sized traps a h = absurd cc
 
   -- the interpreters' late use guarantees that it is kept
   pub is_kept : (o : Operation) (set : PRegSet) (ps : List Place) (m : Place → ℕ) (v : VirtualRegister → ℕ) → IsPlain o →

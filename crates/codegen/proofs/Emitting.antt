@@ -6,7 +6,7 @@ use Rattle.std.proofs.lemmas.Grind.{common_steps}
 use Rattle.regalloc2_function.specs.FunctionValue.{FunctionValue}
 use Rattle.regalloc2_function.specs.OutputValue.{OutputValue}
 use Rattle.regalloc2_function.specs.Listing.{Listed, ListedInst, ListedMove, IsListedWithin}
-use Rattle.codegen_machine.specs.declared.ir.operation.Operation.{Operation}
+use Rattle.codegen_machine.specs.Ir.Seen.{Operations}
 use Rattle.codegen_machine.specs.declared.Instruction.{Instruction}
 use Rattle.codegen.specs.Emitted.{item_code, items_code, block_code, blocks_code, block_start}
 
@@ -25,7 +25,7 @@ next_within n x left rest h is =
     let all : All (IsListedWithin 0 n) (x ∷ rest) = subst (λ (xs : List Listed). All (IsListedWithin 0 n) xs) is h in
     (all 0 x (omega arith), λ k d less. all (suc k) d (omega arith))
 
-module _ (operations : List Operation) (out : OutputValue) where
+module _ (operations : Operations) (out : OutputValue) where
   -- one item of a listing is emitted, and the others are left
   pub one_item : (succs : List ℕ) (next : ℕ) (whole code more : List Instruction) (x : Listed) (left rest : List Listed) →
       code ++ items_code operations out succs next left ≡ whole → left ≡ x ∷ rest → more ≡ code ++ item_code operations out succs next x →

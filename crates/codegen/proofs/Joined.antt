@@ -10,8 +10,7 @@ use Rattle.regalloc2_semantics.specs.Values.Interpreters.{State}
 use Rattle.codegen_machine.specs.Ir.Numbers.{RunOutcome, Running, Returned, Trapped, Stuck}
 use Rattle.regalloc2_semantics.specs.Values.Alike.{RunAlike}
 use Rattle.codegen_machine.specs.Ir.Meaning.{ProcedureState, procedure_step}
-use Rattle.codegen_machine.specs.declared.ir.operation.Operation.{Operation}
-use Rattle.codegen_machine.specs.Ir.Seen.{function_of_procedure, operations}
+use Rattle.codegen_machine.specs.Ir.Seen.{Operations, function_of_procedure, operations}
 use Rattle.codegen_machine.specs.declared.ir.procedure.Procedure.{Procedure}
 use Rattle.codegen_machine.specs.Machine.{CodeValue, MachineState}
 use Rattle.codegen.specs.Emitted.{operation_at, blocks_code}
@@ -20,59 +19,84 @@ use Rattle.codegen.proofs.Premise.{IsEmitted}
 use Rattle.codegen.proofs.Choices.{Choice, leavings, source_reads, source_next, found_reads, place_next, ReadAlike, Together, StepsOn, AlikeByChoices}
 use Rattle.codegen.proofs.Chosen.{chosen_run_alike}
 use Rattle.codegen.proofs.Places.{Agree}
-use Rattle.codegen.proofs.Steps.{traps_of, chosen}
+use Rattle.codegen.proofs.Steps.{left_of, left_long, traps_of, chosen}
 use Rattle.codegen.proofs.Simulation.{At, Follows, at_start, step_follows, step_traps}
 use Rattle.codegen.proofs.Source.{seen, GoAlike, steps_alike, steps_trap}
 use Rattle.codegen.proofs.Behaving.{Meets, meets, behaves_by}
 
-module _ (f : FunctionValue) (ops : List Operation) (out : OutputValue) (start : ℕ → ℕ) (code : CodeValue) (args : ℕ → ℕ)
+module _ (f : FunctionValue) (ops : Operations) (out : OutputValue) (start : ℕ → ℕ) (code : CodeValue) (args : ℕ → ℕ)
     (virtual : VirtualRegister → ℕ) (places : Place → ℕ) where
-  -- a procedure's state and the machine's, related by states that the two interpreters reach together
+  -- a procedure's state and the machine's, related by states that the two interpreters reach together; both have the same memory
   pub record AreJoined (q : ProcedureState) (s : MachineState) : Type 0 where
     pub choices : List Choice
     pub c : State VirtualRegister
     pub d : State Place
     pub together : Together f out virtual places choices c d
-    pub is_seen : q ≡ seen c
+    pub is_seen : q ≡ seen s.memory c
+    pub sized : length s.memory ≡ ops.memory_size
     pub at : At f ops out start code d s
 
   -- a step of each
   joined : (x : Choice) (xs : List Choice) (stir : Place → ℕ) (c : State VirtualRegister) (d : State Place) (s : MachineState) →
+      length s.memory ≡ ops.memory_size →
       found_reads f out stir d ≡ source_reads f out c →
       (y : Option (State VirtualRegister)) (z : Option (State Place)) (o : RunOutcome ProcedureState) → StepsOn f out virtual places (x ∷ xs) y z →
-      GoAlike (source_reads f out c) y o → Follows f ops out start code args stir d s z → Meets code args AreJoined s 1 o
-  joined x xs stir c d s reads None None (Running q) a g l = absurd g
-  joined x xs stir c d s reads None None (Returned r) a g l =
-      (l.0, l.1 ∙ ap (λ (ns : List ℕ). Returned (slice_index ns 0)) reads ∙ ap (λ (k : ℕ). Returned k) (sym g))
-  joined x xs stir c d s reads None None Trapped a g l = absurd g
-  joined x xs stir c d s reads None None Stuck a g l = absurd g
-  joined x xs stir c d s reads None (Some e) o a g l = absurd a
-  joined x xs stir c d s reads (Some b) None o a g l = absurd a
-  joined x xs stir c d s reads (Some b) (Some e) (Running q) a g l =
-      (l.0, l.1, record { choices = x ∷ xs; c = b; d = e; together = a; is_seen = g; at = l.2 })
-  joined x xs stir c d s reads (Some b) (Some e) (Returned r) a g l = absurd g
-  joined x xs stir c d s reads (Some b) (Some e) Trapped a g l = absurd g
-  joined x xs stir c d s reads (Some b) (Some e) Stuck a g l = absurd g
+      GoAlike (source_reads f out c) (left_of s.memory (operation_at ops d.at.inst) (found_reads f out stir d)) y o →
+      Follows f ops out start code args s.memory stir d s z → Meets code args AreJoined s 1 o
+  joined x xs stir c d s sized reads None None (Running q) a g l = absurd g
+  joined x xs stir c d s sized reads None None (Returned r left) a g l = (
+    l.0,
+    l.1 ∙ ap (λ (ns : List ℕ). Returned (slice_index ns 0) (left_of s.memory (operation_at ops d.at.inst) (found_reads f out stir d))) reads
+        ∙ ap (λ (k : ℕ). Returned k (left_of s.memory (operation_at ops d.at.inst) (found_reads f out stir d))) (sym g.0)
+        ∙ ap (λ (m : List ℕ). Returned r m) (sym g.1),
+  )
+  joined x xs stir c d s sized reads None None (Trapped left) a g l = absurd g
+  joined x xs stir c d s sized reads None None Stuck a g l = absurd g
+  joined x xs stir c d s sized reads None (Some e) o a g l = absurd a
+  joined x xs stir c d s sized reads (Some b) None o a g l = absurd a
+  joined x xs stir c d s sized reads (Some b) (Some e) (Running q) a g l = (
+    l.0,
+    l.1,
+    record {
+      choices = x ∷ xs;
+      c = b;
+      d = e;
+      together = a;
+      is_seen = g ∙ ap (λ (m : List ℕ). seen m b) (sym l.3);
+      sized = ap (λ (m : List ℕ). length m) l.3 ∙ left_long s.memory (operation_at ops d.at.inst) (found_reads f out stir d) ∙ sized;
+      at = l.2;
+    },
+  )
+  joined x xs stir c d s sized reads (Some b) (Some e) (Returned r left) a g l = absurd g
+  joined x xs stir c d s sized reads (Some b) (Some e) (Trapped left) a g l = absurd g
+  joined x xs stir c d s sized reads (Some b) (Some e) Stuck a g l = absurd g
 
   module _ (ok : IsEmitted f ops out start code) (alike : AlikeByChoices f out virtual places) where
     goes : (xs : List Choice) (c : State VirtualRegister) (d : State Place) (s : MachineState) → Together f out virtual places xs c d →
-        At f ops out start code d s → Meets code args AreJoined s 1 (procedure_step f ops args (seen c))
-    goes xs c d s together at = pick (traps_of (operation_at ops c.at.inst) (source_reads f out c)) refl
+        At f ops out start code d s → length s.memory ≡ ops.memory_size → Meets code args AreJoined s 1 (procedure_step f ops args (seen s.memory c))
+    goes xs c d s together at sized = pick (traps_of s.memory (operation_at ops c.at.inst) (source_reads f out c)) refl
       where
         r : ReadAlike f out (leavings xs) c d
         r = alike.alike xs c d together
 
         x : Choice
-        x = chosen args (operation_at ops c.at.inst) (source_reads f out c)
+        x = chosen args s.memory (operation_at ops c.at.inst) (source_reads f out c)
 
-        same : chosen args (operation_at ops d.at.inst) (found_reads f out (leavings xs) d) ≡ x
-        same = ap (λ (ns : List ℕ). chosen args (operation_at ops d.at.inst) ns) r.reads
-            ∙ ap (λ (l : Location). chosen args (operation_at ops l.inst) (source_reads f out c)) r.at
+        same : chosen args s.memory (operation_at ops d.at.inst) (found_reads f out (leavings xs) d) ≡ x
+        same = ap (λ (ns : List ℕ). chosen args s.memory (operation_at ops d.at.inst) ns) r.reads
+            ∙ ap (λ (l : Location). chosen args s.memory (operation_at ops l.inst) (source_reads f out c)) r.at
+
+        -- both operations leave the same memory
+        left : left_of s.memory (operation_at ops d.at.inst) (found_reads f out (leavings xs) d)
+            ≡ left_of s.memory (operation_at ops c.at.inst) (source_reads f out c)
+        left = ap (λ (ns : List ℕ). left_of s.memory (operation_at ops d.at.inst) ns) r.reads
+            ∙ ap (λ (l : Location). left_of s.memory (operation_at ops l.inst) (source_reads f out c)) r.at
 
         -- both operations trap, or neither does
-        traps : traps_of (operation_at ops d.at.inst) (found_reads f out (leavings xs) d) ≡ traps_of (operation_at ops c.at.inst) (source_reads f out c)
-        traps = ap (λ (ns : List ℕ). traps_of (operation_at ops d.at.inst) ns) r.reads
-            ∙ ap (λ (l : Location). traps_of (operation_at ops l.inst) (source_reads f out c)) r.at
+        traps : traps_of s.memory (operation_at ops d.at.inst) (found_reads f out (leavings xs) d)
+            ≡ traps_of s.memory (operation_at ops c.at.inst) (source_reads f out c)
+        traps = ap (λ (ns : List ℕ). traps_of s.memory (operation_at ops d.at.inst) ns) r.reads
+            ∙ ap (λ (l : Location). traps_of s.memory (operation_at ops l.inst) (source_reads f out c)) r.at
 
         block : c.at.block < length f.blocks
         block = subst (λ (l : Location). l.block < length f.blocks) r.at at.block
@@ -83,27 +107,31 @@ module _ (f : FunctionValue) (ops : List Operation) (out : OutputValue) (start :
         ends : c.at.inst + suc at.left ≡ (block_at f c.at.block).range.end
         ends = subst (λ (l : Location). l.inst + suc at.left ≡ (block_at f l.block).range.end) r.at at.ends
 
-        pick : (b : Bool) → traps_of (operation_at ops c.at.inst) (source_reads f out c) ≡ b →
-            Meets code args AreJoined s 1 (procedure_step f ops args (seen c))
+        pick : (b : Bool) → traps_of s.memory (operation_at ops c.at.inst) (source_reads f out c) ≡ b →
+            Meets code args AreJoined s 1 (procedure_step f ops args (seen s.memory c))
         pick false e =
-            joined x xs (leavings xs) c d s r.reads (source_next f out x c) (place_next f out (leavings xs) x d) (procedure_step f ops args (seen c))
-            (alike.on xs c d together x) (steps_alike f args ops out start code ok c at.left block begins ends e)
-            (subst (λ (y : Choice). Follows f ops out start code args (leavings xs) d s (place_next f out (leavings xs) y d)) same
-            (step_follows f ops out start code args (leavings xs) ok c d s at r (traps ∙ e)))
+            joined x xs (leavings xs) c d s sized r.reads (source_next f out x c) (place_next f out (leavings xs) x d)
+            (procedure_step f ops args (seen s.memory c)) (alike.on xs c d together x)
+            (subst (λ (m : List ℕ). GoAlike (source_reads f out c) m (source_next f out x c) (procedure_step f ops args (seen s.memory c))) (sym left)
+            (steps_alike f args s.memory ops out start code ok c at.left block begins ends e))
+            (subst (λ (y : Choice). Follows f ops out start code args s.memory (leavings xs) d s (place_next f out (leavings xs) y d)) same
+            (step_follows f ops out start code args s.memory (leavings xs) ok sized c d s at refl r (traps ∙ e)))
         pick true e =
-            subst (λ (o : RunOutcome ProcedureState). Meets code args AreJoined s 1 o) (sym (steps_trap f args ops out start code ok c at.left block begins ends e))
-            (step_traps f ops out start code args (leavings xs) ok c d s at r (traps ∙ e))
+            subst (λ (o : RunOutcome ProcedureState). Meets code args AreJoined s 1 o)
+            (sym (steps_trap f args s.memory ops out start code ok c at.left block begins ends e))
+            (step_traps f ops out start code args s.memory (leavings xs) ok sized c d s at refl r (traps ∙ e))
 
     -- what a step of the procedure implies for the machine
     pub step_meets : (q : ProcedureState) (s : MachineState) → AreJoined q s → Meets code args AreJoined s 1 (procedure_step f ops args q)
     step_meets q s j =
         subst (λ (p : ProcedureState). Meets code args AreJoined s 1 (procedure_step f ops args p)) (sym j.is_seen)
-        (goes j.choices j.c j.d s j.together j.at)
+        (goes j.choices j.c j.d s j.together j.at j.sized)
 
     -- both begin related
-    pub begin_joined : (s : MachineState) → Agree s.registers s.frame places → s.pc ≡ 0 → AreJoined (record { at = first_of f 0; numbers = virtual }) s
+    pub begin_joined : (s : MachineState) → Agree s.registers s.frame places → length s.memory ≡ ops.memory_size → s.pc ≡ 0 →
+        AreJoined (record { at = first_of f 0; numbers = virtual; memory = s.memory }) s
     unfolding blocks_code
-    begin_joined s agree at =
+    begin_joined s agree sized at =
         let e : f.entry ≡ 0 = ok.entry.0 in
         let here : s.pc ≡ start 0 = at ∙ sym (ok.starts 0 ok.entry.1) in
         let first : At f ops out start code (record { at = first_of f 0; history = []; numbers = places }) s =
@@ -113,12 +141,13 @@ module _ (f : FunctionValue) (ops : List Operation) (out : OutputValue) (start :
           c = record { at = first_of f f.entry; history = []; numbers = virtual };
           d = record { at = first_of f f.entry; history = []; numbers = places };
           together = alike.begin;
-          is_seen = ap (λ (b : ℕ). record { at = first_of f b; numbers = virtual }) (sym e);
+          sized = sized;
+          is_seen = ap (λ (b : ℕ). record { at = first_of f b; numbers = virtual; memory = s.memory }) (sym e);
           at = subst (λ (b : ℕ). At f ops out start code (record { at = first_of f b; history = []; numbers = places }) s) (sym e) first;
         }
 
 -- the initial numbers of places
-abbrev place_numbers : Beginning → Place → ℕ
+abbrev place_numbers : {size : ℕ} → Beginning size → Place → ℕ
 place_numbers b NoPlace = 0
 place_numbers b (InRegister r) = b.registers r.number
 place_numbers b (InSlot n) = b.frame n
@@ -128,18 +157,20 @@ pub behaves : (p : Procedure) (out : OutputValue) (start : ℕ → ℕ) (code : 
     RunAlike (function_of_procedure p) out → BehavesAs p code
 behaves p out start code ok alike = behaves_by p code Joined known
   where
-    Joined : Beginning → ProcedureState → MachineState → Type 0
+    Joined : Beginning p.memory_size → ProcedureState → MachineState → Type 0
     Joined b = AreJoined (function_of_procedure p) (operations p) out start code b.args b.numbers (place_numbers b)
 
-    by_choices : (b : Beginning) → AlikeByChoices (function_of_procedure p) out b.numbers (place_numbers b)
+    by_choices : (b : Beginning p.memory_size) → AlikeByChoices (function_of_procedure p) out b.numbers (place_numbers b)
     by_choices b = chosen_run_alike (function_of_procedure p) out alike b.numbers (place_numbers b)
 
-    known : (b : Beginning) (n : ℕ) → Meets code b.args (Joined b) (record { pc = 0; registers = b.registers; frame = b.frame; compared = None }) n
-        (procedure_after p b n)
+    begun : Beginning p.memory_size → MachineState
+    begun b = record { pc = 0; registers = b.registers; frame = b.frame; compared = None; memory = b.memory }
+
+    known : (b : Beginning p.memory_size) (n : ℕ) → Meets code b.args (Joined b) (begun b) n (procedure_after p b n)
     known b n =
         meets (function_of_procedure p) (operations p) code b.args (Joined b)
         (step_meets (function_of_procedure p) (operations p) out start code b.args b.numbers (place_numbers b) ok (by_choices b))
-        (record { at = first_of (function_of_procedure p) 0; numbers = b.numbers })
-        (record { pc = 0; registers = b.registers; frame = b.frame; compared = None })
+        (record { at = first_of (function_of_procedure p) 0; numbers = b.numbers; memory = b.memory })
+        (begun b)
         (begin_joined (function_of_procedure p) (operations p) out start code b.args b.numbers (place_numbers b) ok (by_choices b)
-        (record { pc = 0; registers = b.registers; frame = b.frame; compared = None }) (record { in_registers = λ k. refl; in_slots = λ k. refl }) refl) n
+        (begun b) (record { in_registers = λ k. refl; in_slots = λ k. refl }) b.sized refl) n

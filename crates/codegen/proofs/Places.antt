@@ -10,7 +10,7 @@ use Rattle.regalloc2_function.specs.OutputValue.{OutputValue, MoveValue}
 use Rattle.regalloc2_function.specs.Listing.{Listed, ListedMove}
 use Rattle.regalloc2_semantics.specs.Values.Interpreters.{place_set, numbers_moved}
 use Rattle.codegen_machine.specs.Ir.Numbers.{RunOutcome, Running, Stuck, put}
-use Rattle.codegen_machine.specs.declared.ir.operation.Operation.{Operation}
+use Rattle.codegen_machine.specs.Ir.Seen.{Operations}
 use Rattle.codegen_machine.specs.declared.Instruction.{Instruction}
 use Rattle.codegen_machine.specs.Machine.{CodeValue, MachineState, is_general, with_register, with_slot, with_source, written, frame_stored, executed}
 use Rattle.codegen.specs.Emitted.{register_of, source_of, fetched, move_code, resolved, items_code}
@@ -32,11 +32,11 @@ int_place r h = λ i. InRegister (record { number = r.number; class = sym h i })
 
 -- the next instruction, after a register is written
 abbrev pub wrote : MachineState → ℕ → ℕ → Option (ℕ × ℕ) → MachineState
-wrote s r n compared = record { pc = s.pc + 1; registers = put s.registers r n; frame = s.frame; compared = compared }
+wrote s r n compared = record { pc = s.pc + 1; registers = put s.registers r n; frame = s.frame; compared = compared; memory = s.memory }
 
 -- and after a slot is written
 abbrev pub kept : MachineState → ℕ → ℕ → MachineState
-kept s k n = record { pc = s.pc + 1; registers = s.registers; frame = put s.frame k n; compared = s.compared }
+kept s k n = record { pc = s.pc + 1; registers = s.registers; frame = put s.frame k n; compared = s.compared; memory = s.memory }
 
 -- a register read
 pub reads_register : (s : MachineState) (numbers : Place → ℕ) → Agree s.registers s.frame numbers → (p : Place) → IsGeneral p →
@@ -111,6 +111,7 @@ module _ (args : ℕ → ℕ) (slots : ℕ) (starts : ℕ → ℕ) where
     acts : executed args slots (Some i) s ≡ Running to
     next : to.pc ≡ s.pc + 1
     agree : Agree to.registers to.frame numbers
+    same : to.memory ≡ s.memory
 
   one_move : (s : MachineState) (numbers : Place → ℕ) (from to : Place) → Agree s.registers s.frame numbers → CanMove slots from to →
       Moves s (resolved starts (move_code from to)) (place_set numbers to (numbers from))
@@ -120,6 +121,7 @@ module _ (args : ℕ → ℕ) (slots : ℕ) (starts : ℕ → ℕ) where
     acts = fetches s numbers r.number h.0.1 a from h.1;
     next = refl;
     agree = agree_register s.registers s.frame numbers a (InRegister r) h.0 (numbers from);
+    same = refl;
   }
   one_move s numbers from (InSlot n) a h = record {
     to = kept s n (numbers from);
@@ -127,15 +129,17 @@ module _ (args : ℕ → ℕ) (slots : ℕ) (starts : ℕ → ℕ) where
         ∙ ap (λ (b : Bool). cond b (Running (kept s n (numbers from))) Stuck) (lt-ltb n slots h.0);
     next = refl;
     agree = agree_slot s.registers s.frame numbers a n (numbers from);
+    same = refl;
   }
 
-module _ (operations : List Operation) (out : OutputValue) (succs : List ℕ) (next : ℕ) (args : ℕ → ℕ) (starts : ℕ → ℕ) (code : CodeValue) where
+module _ (operations : Operations) (out : OutputValue) (succs : List ℕ) (next : ℕ) (args : ℕ → ℕ) (starts : ℕ → ℕ) (code : CodeValue) where
   -- the machine has run the moves, up to the code after them
   pub record Moved (s : MachineState) (numbers : Place → ℕ) (rest : List Listed) : Type 0 where
     pub to : MachineState
     pub comes : Comes code args 0 s to
     pub agree : Agree to.registers to.frame numbers
     pub stands : StandAt starts code.instructions to.pc (items_code operations out succs next rest)
+    pub same : to.memory ≡ s.memory
 
   -- moves run as the places' do
   pub moves_run : (ms : List MoveValue) (rest : List Listed) (s : MachineState) (numbers : Place → ℕ) →
@@ -143,7 +147,7 @@ module _ (operations : List Operation) (out : OutputValue) (succs : List ℕ) (n
       Agree s.registers s.frame numbers → StandAt starts code.instructions s.pc (items_code operations out succs next (map (λ m. ListedMove m) ms ++ rest)) →
       Moved s (numbers_moved ms numbers) rest
   unfolding numbers_moved items_code
-  moves_run [] rest s numbers can a h = record { to = s; comes = comes_here code args s; agree = a; stands = h }
+  moves_run [] rest s numbers can a h = record { to = s; comes = comes_here code args s; agree = a; stands = h; same = refl }
   moves_run (m ∷ ms) rest s numbers can a h =
       let one : Moves args code.slots starts s (resolved starts (move_code m.from m.to)) (place_set numbers m.to (numbers m.from)) =
       one_move args code.slots starts s numbers m.from m.to a can.0 in
@@ -152,4 +156,10 @@ module _ (operations : List Operation) (out : OutputValue) (succs : List ℕ) (n
       let all : Moved one.to (numbers_moved ms (place_set numbers m.to (numbers m.from))) rest =
       moves_run ms rest one.to (place_set numbers m.to (numbers m.from)) can.1 one.agree others in
       let first : Comes code args 1 s one.to = comes_by code args (resolved starts (move_code m.from m.to)) s one.to h.0 one.acts in
-      record { to = all.to; comes = comes_on code args 1 0 0 s one.to all.to (omega arith) first all.comes; agree = all.agree; stands = all.stands }
+      record {
+        to = all.to;
+        comes = comes_on code args 1 0 0 s one.to all.to (omega arith) first all.comes;
+        agree = all.agree;
+        stands = all.stands;
+        same = all.same ∙ one.same;
+      }

@@ -7,10 +7,11 @@ use Rattle.regalloc2_names.specs.Place.{Place, NoPlace, InRegister, InSlot}
 use Rattle.regalloc2_function.specs.FunctionValue.{FunctionValue, block_at, inst_at}
 use Rattle.regalloc2_function.specs.OutputValue.{OutputValue, allocs_of, place_at}
 use Rattle.codegen_machine.specs.Ir.Operands.{is_lost_in, operands_of, part_register}
+use Rattle.codegen_machine.specs.Ir.Seen.{Operations}
 use Rattle.codegen_machine.specs.declared.ir.operation.Operation.{Operation}
 use Rattle.codegen_machine.specs.declared.ir.operation.Operation.TheVariants.{Argument as TakeArgument, Constant as TakeConstant, Copy, Compute as Computation}
 use Rattle.codegen_machine.specs.declared.ir.operation.Operation.TheVariants.{Shift as Shifting, Divide as Dividing, Compare as Comparison, Select, Jump as GoTo, BranchIf}
-use Rattle.codegen_machine.specs.declared.ir.operation.Operation.TheVariants.{BranchIfHolds}
+use Rattle.codegen_machine.specs.declared.ir.operation.Operation.TheVariants.{BranchIfHolds, Load as Loading, Store as Storing}
 use Rattle.codegen_machine.specs.declared.ir.operation.Operation.TheVariants.{Return as GiveBack}
 use Rattle.codegen_machine.specs.declared.ir.operation.Count.{Count}
 use Rattle.codegen_machine.specs.declared.ir.operation.Count.TheVariants.{VReg as CountIn, Number as CountOf}
@@ -69,6 +70,8 @@ IsPlaced slots (Dividing w part signed to left right) ps = (IsGeneral (place_at 
 IsPlaced slots (Comparison w c to left right) ps = IsGeneral (place_at ps 0) × IsGeneral (place_at ps 1) × IsRightHere slots right (place_at ps 2)
 IsPlaced slots (Select to c one other) ps =
     IsGeneral (place_at ps 0) × (place_at ps 0 ≡ place_at ps 1) × IsHere slots (place_at ps 2) × IsHere slots (place_at ps 3)
+IsPlaced slots (Loading bytes to address) ps = IsGeneral (place_at ps 0) × IsGeneral (place_at ps 1)
+IsPlaced slots (Storing bytes address value) ps = IsGeneral (place_at ps 0) × IsGeneral (place_at ps 1)
 IsPlaced slots GoTo ps = Unit {0}
 IsPlaced slots (BranchIf v) ps = IsHere slots (place_at ps 0)
 IsPlaced slots (BranchIfHolds w c left right) ps = IsGeneral (place_at ps 0) × IsRightHere slots right (place_at ps 1)
@@ -93,11 +96,11 @@ IsEnd (GiveBack v) count = Unit {0}
 IsEnd o count = ⊥
 
 -- the assumptions on the source, its allocation and the code, whose jumps to a block are resolved to its first instruction
-pub record IsEmitted (f : FunctionValue) (operations : List Operation) (out : OutputValue) (start : ℕ → ℕ) (code : CodeValue) : Type 0 where
+pub record IsEmitted (f : FunctionValue) (operations : Operations) (out : OutputValue) (start : ℕ → ℕ) (code : CodeValue) : Type 0 where
   pub operands : (i : ℕ) → i < length f.insts → (inst_at f i).operands ≡ operands_of (operation_at operations i)
   pub clobbers : (i : ℕ) → i < length f.insts → (r : Register) →
       has_register (inst_at f i).clobbers r ≡ is_lost_in (operation_at operations i) r
-  pub counted : length f.insts ≡ length operations
+  pub counted : length f.insts ≡ length operations.items
   pub entry : (f.entry ≡ 0) × (0 < length f.blocks)
   pub filled : (b : ℕ) → b < length f.blocks → (block_at f b).range.first < (block_at f b).range.end
   pub within : (b : ℕ) → b < length f.blocks → (block_at f b).range.end ≤ length f.insts

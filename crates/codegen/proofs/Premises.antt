@@ -26,7 +26,7 @@ use Rattle.codegen_machine.specs.Ir.Seen.{function_of_procedure, inst_of_line, o
 use Rattle.codegen_machine.specs.declared.ir.operation.Operation.{Operation}
 use Rattle.codegen_machine.specs.declared.ir.operation.Operation.TheVariants.{Argument as TakeArgument, Constant as TakeConstant, Copy, Compute as Computation}
 use Rattle.codegen_machine.specs.declared.ir.operation.Operation.TheVariants.{Shift as Shifting, Divide as Dividing, Compare as Comparison, Select, Jump as GoTo, BranchIf}
-use Rattle.codegen_machine.specs.declared.ir.operation.Operation.TheVariants.{BranchIfHolds}
+use Rattle.codegen_machine.specs.declared.ir.operation.Operation.TheVariants.{BranchIfHolds, Load as Loading, Store as Storing}
 use Rattle.codegen_machine.specs.declared.ir.operation.Operation.TheVariants.{Return as GiveBack}
 use Rattle.codegen_machine.specs.declared.ir.operation.Count.{Count}
 use Rattle.codegen_machine.specs.declared.ir.operation.Count.TheVariants.{VReg as CountIn, Number as CountOf}
@@ -144,6 +144,16 @@ module _ (env : MachineValue) (out : OutputValue) (t : IsTarget env) where
         here other.class (place_at ps 2) (h.proper 2 d (omega arith) refl),
         here c.class (place_at ps 3) (h.proper 3 d (omega arith) refl),
       )
+  is_placed (Loading bytes to address) ps read h =
+      let d : OperandValue = def_in Reg to in (
+        general to.class (place_at ps 0) (h.proper 0 d (omega arith) refl) (h.meets 0 d (omega arith)),
+        general address.class (place_at ps 1) (h.proper 1 d (omega arith) refl) (h.meets 1 d (omega arith)),
+      )
+  is_placed (Storing bytes address value) ps read h =
+      let d : OperandValue = use_in Reg address in (
+        general address.class (place_at ps 0) (h.proper 0 d (omega arith) refl) (h.meets 0 d (omega arith)),
+        general value.class (place_at ps 1) (h.proper 1 d (omega arith) refl) (h.meets 1 d (omega arith)),
+      )
   is_placed GoTo ps read h = tt
   is_placed (BranchIf v) ps read h = let d : OperandValue = use_in Any v in here v.class (place_at ps 0) (h.proper 0 d (omega arith) refl)
   is_placed (BranchIfHolds w c left right) ps read h =
@@ -209,7 +219,7 @@ module _ (p : Procedure) (env : MachineValue) (out : OutputValue) (t : IsTarget 
   filled : (b : ℕ) → b < length f.blocks → (block_at f b).range.first < (block_at f b).range.end
   filled b less = (w.follow b less).0
 
-  counted : length f.insts ≡ length (operations p)
+  counted : length f.insts ≡ length (operations p).items
   counted = length-map p.lines.items inst_of_line ∙ sym (length-map p.lines.items (λ l. l.operation))
 
   placed : (i : ℕ) → i < length f.insts → IsPlaced out.num_spillslots (op i) (allocs_of out i)

@@ -11,6 +11,7 @@ use Rattle.codegen_machine.specs.Ir.Operands.{operands_of, is_lost_in, is_jump, 
 use Rattle.codegen_machine.specs.Ir.Successors.{wanted_by, operations_of, are_enough, has_successors, knows_registers}
 use Rattle.codegen_machine.specs.Ir.Seen.{function_of_procedure, inst_of_line, block_of_part, operations}
 use Rattle.codegen_machine.specs.declared.ir.operation.Operation.{Operation}
+use Rattle.codegen_machine.specs.declared.ir.operation.Operation.TheVariants.{Jump as GoTo}
 use Rattle.codegen_machine.specs.declared.ir.operation.Line.{Line}
 use Rattle.codegen_machine.specs.declared.ir.procedure.Part.{Part}
 use Rattle.codegen_machine.specs.declared.ir.procedure.Procedure.{Procedure}
@@ -23,13 +24,14 @@ pub record IsInstOf (i : InstValue) (o : Operation) : Type 0 where
   pub branches : i.is_branch ≡ is_jump o
   pub returns : i.is_ret ≡ is_return o
 
-each_inst : (lines : List Line) (i : ℕ) → i < length lines → IsInstOf (slice_index_or (map inst_of_line lines) i no_inst) (operation_at (operations_of lines) i)
+each_inst : (lines : List Line) (i : ℕ) → i < length lines → IsInstOf (slice_index_or (map inst_of_line lines) i no_inst)
+    (slice_index_or (operations_of lines) i GoTo)
 each_inst [] i less = absurd (omega arith)
 each_inst (l ∷ ls) zero less = record { operands = refl; clobbers = l.overwrites; branches = refl; returns = refl }
 each_inst (l ∷ ls) (suc i) less = each_inst ls i (omega arith)
 
 each_known : (n : ℕ) (lines : List Line) (i : ℕ) → list_all (knows_registers n) lines ≡ true → i < length lines →
-    list_all (λ o. nat_lt o.vreg.number n) (operands_of (operation_at (operations_of lines) i)) ≡ true
+    list_all (λ o. nat_lt o.vreg.number n) (operands_of (slice_index_or (operations_of lines) i GoTo)) ≡ true
 each_known n [] i h less = absurd (omega arith)
 each_known n (l ∷ ls) zero h less = (and_parts _ _ h).0
 each_known n (l ∷ ls) (suc i) h less = each_known n ls i (and_parts _ _ h).1 (omega arith)
@@ -41,7 +43,7 @@ each_block os [] b h less = absurd (omega arith)
 each_block os (p ∷ ps) zero h less = (and_parts _ _ h).0
 each_block os (p ∷ ps) (suc b) h less = each_block os ps b (and_parts _ _ h).1 (omega arith)
 
-enough : (os : List Operation) (i count : ℕ) → i < length os → are_enough count (slice_get os i) ≡ true → wanted_by (operation_at os i) ≤ count
+enough : (os : List Operation) (i count : ℕ) → i < length os → are_enough count (slice_get os i) ≡ true → wanted_by (slice_index_or os i GoTo) ≤ count
 enough [] i count less h = absurd (omega arith)
 enough (o ∷ os) zero count less h = leb-true _ _ h
 enough (o ∷ os) (suc i) count less h = enough os i count (omega arith) h
@@ -58,7 +60,7 @@ registers_known p i less = each_known p.num_vregs p.lines.items i p.known (rw le
 
 -- and its blocks have the successors that their last lines require
 pub blocks_have : (p : Procedure) (b : ℕ) → b < length (function_of_procedure p).blocks → (block_at (function_of_procedure p) b).range.end - 1 < length
-    (operations p) →
+    (operations p).items →
     wanted_by (operation_at (operations p) ((block_at (function_of_procedure p) b).range.end - 1)) ≤ length (block_at (function_of_procedure p) b).succs
 blocks_have p b less within =
-    enough (operations p) _ _ within (each_block (operations p) p.parts.items b p.successors (rw length-map at less))
+    enough (operations p).items _ _ within (each_block (operations p).items p.parts.items b p.successors (rw length-map at less))

@@ -9,16 +9,16 @@ use Rattle.codegen_machine.specs.Machine.{CodeValue, MachineState, executed, mac
 -- a run that is over
 abbrev pub IsOver : {S : Type 0} → RunOutcome S → Type 0
 IsOver (Running s) = ⊥
-IsOver (Returned n) = Unit {0}
-IsOver Trapped = Unit {0}
+IsOver (Returned n memory) = Unit {0}
+IsOver (Trapped memory) = Unit {0}
 IsOver Stuck = Unit {0}
 
 further_over : (x : RunOutcome MachineState) (f g : MachineState → RunOutcome MachineState) (o : RunOutcome MachineState) →
     ((t : MachineState) → f t ≡ o → g t ≡ o) →
     further x f ≡ o → further x g ≡ o
 further_over (Running t) f g o h e = h t e
-further_over (Returned n) f g o h e = e
-further_over Trapped f g o h e = e
+further_over (Returned n memory) f g o h e = e
+further_over (Trapped memory) f g o h e = e
 further_over Stuck f g o h e = e
 
 module _ (code : CodeValue) (args : ℕ → ℕ) where
@@ -80,15 +80,16 @@ module _ (code : CodeValue) (args : ℕ → ℕ) where
   ends_then n m s t o c e = let p : (j : ℕ) × (m + n ≤ j) × (machine_run code args j s ≡ machine_run code args m t) = c.by m in (p.0, p.2 ∙ e)
 
   -- the step that ends it
-  pub ends_by : (i : Instruction) (s : MachineState) (n : ℕ) → slice_get code.instructions s.pc ≡ Some i → executed args code.slots (Some i) s ≡ Returned n →
-      machine_run code args 1 s ≡ Returned n
+  pub ends_by : (i : Instruction) (s : MachineState) (o : RunOutcome MachineState) → IsOver o → slice_get code.instructions s.pc ≡ Some i →
+      executed args code.slots (Some i) s ≡ o → machine_run code args 1 s ≡ o
   unfolding machine_run
-  ends_by i s n h e = ap (λ (o : Option Instruction). further (executed args code.slots o s) (machine_run code args 0)) h
+  ends_by i s (Running t) over h e = absurd over
+  ends_by i s (Returned n memory) over h e =
+      ap (λ (o : Option Instruction). further (executed args code.slots o s) (machine_run code args 0)) h
       ∙ ap (λ (o : RunOutcome MachineState). further o (machine_run code args 0)) e
-
-  -- the step that traps
-  pub traps_by : (i : Instruction) (s : MachineState) → slice_get code.instructions s.pc ≡ Some i → executed args code.slots (Some i) s ≡ Trapped →
-      machine_run code args 1 s ≡ Trapped
-  unfolding machine_run
-  traps_by i s h e = ap (λ (o : Option Instruction). further (executed args code.slots o s) (machine_run code args 0)) h
+  ends_by i s (Trapped memory) over h e =
+      ap (λ (o : Option Instruction). further (executed args code.slots o s) (machine_run code args 0)) h
+      ∙ ap (λ (o : RunOutcome MachineState). further o (machine_run code args 0)) e
+  ends_by i s Stuck over h e =
+      ap (λ (o : Option Instruction). further (executed args code.slots o s) (machine_run code args 0)) h
       ∙ ap (λ (o : RunOutcome MachineState). further o (machine_run code args 0)) e

@@ -15,8 +15,9 @@ use Rattle.regalloc2_function.specs.AllocatedRun.{moves_at}
 use Rattle.regalloc2_semantics.specs.Values.Interpreters.{History, State, read_by, is_late_use, edge_to, numbers_moved, disturbed, written_to, numbers_clobbered}
 use Rattle.codegen_machine.specs.Ir.Numbers.{Returned, Trapped}
 use Rattle.codegen_machine.specs.Ir.Operands.{is_lost_in}
+use Rattle.codegen_machine.specs.Ir.Seen.{Operations}
 use Rattle.codegen_machine.specs.declared.ir.operation.Operation.{Operation}
-use Rattle.codegen_machine.specs.declared.ir.operation.Operation.TheVariants.{Divide as Dividing}
+use Rattle.codegen_machine.specs.declared.ir.operation.Operation.TheVariants.{Divide as Dividing, Load as Loading, Store as Storing}
 use Rattle.codegen_machine.specs.declared.Instruction.{Instruction}
 use Rattle.codegen_machine.specs.Machine.{CodeValue, MachineState, machine_run}
 use Rattle.codegen.specs.Emitted.{operation_at, operation_code, items_code, block_code, block_start}
@@ -25,7 +26,7 @@ use Rattle.codegen.proofs.Choices.{Choice, found_by, found_reads, place_after, p
 use Rattle.codegen.proofs.Runs.{Comes, comes_on, ends_then}
 use Rattle.codegen.proofs.Stands.{StandAt, block_stands}
 use Rattle.codegen.proofs.Places.{Agree, Moved, moves_run}
-use Rattle.codegen.proofs.Steps.{value_of, way_of, chosen, leaves_of, traps_of, undisturbed, reads_at, writes_at, Done, Left, last_leaves}
+use Rattle.codegen.proofs.Steps.{value_of, way_of, chosen, leaves_of, left_of, traps_of, undisturbed, reads_at, writes_at, Leaves, Left, last_leaves}
 use Rattle.codegen.proofs.Divisions.{unclobbered, IsKept, is_kept, plain_leaves, plain_traps}
 
 -- the moves before an instruction are among the edits
@@ -36,7 +37,7 @@ can_move_before slots first i es h =
     recursion_from_All (λ m. CanMove slots m.from m.to) (map (λ e. e.1) kept)
     (All-map (λ m. CanMove slots m.from m.to) (λ e. e.1) kept (All-filter (λ e. is_listed_at first i e.0) (λ e. CanMove slots e.1.from e.1.to) es h))
 
-module _ (f : FunctionValue) (ops : List Operation) (out : OutputValue) (start : ℕ → ℕ) (code : CodeValue) where
+module _ (f : FunctionValue) (ops : Operations) (out : OutputValue) (start : ℕ → ℕ) (code : CodeValue) where
   -- The machine is at a boundary of the interpreter: before the moves of its instruction, with its numbers.
   pub record At (d : State Place) (s : MachineState) : Type 0 where
     pub left : ℕ
@@ -73,11 +74,14 @@ module _ (f : FunctionValue) (ops : List Operation) (out : OutputValue) (start :
         agree = a;
       }
 
-module _ (f : FunctionValue) (ops : List Operation) (out : OutputValue) (start : ℕ → ℕ) (code : CodeValue) (args : ℕ → ℕ) (stir : Place → ℕ) where
-  -- the machine's steps from there while the interpreter makes a step
+module _ (f : FunctionValue) (ops : Operations) (out : OutputValue) (start : ℕ → ℕ) (code : CodeValue) (args : ℕ → ℕ) (memory : List ℕ) (stir : Place → ℕ) where
+  -- the machine's steps from there while the interpreter makes a step, if this is the machine's memory
   abbrev pub Follows : State Place → MachineState → Option (State Place) → Type 0
-  Follows d s None = (j : ℕ) × (machine_run code args j s ≡ Returned (slice_index (found_reads f out stir d) 0))
+  Follows d s None = (j : ℕ)
+      × (machine_run code args j s ≡ Returned (slice_index (found_reads f out stir d) 0)
+      (left_of memory (operation_at ops d.at.inst) (found_reads f out stir d)))
   Follows d s (Some e) = (t : MachineState) × Comes code args 1 s t × At f ops out start code e t
+      × (t.memory ≡ left_of memory (operation_at ops d.at.inst) (found_reads f out stir d))
 
   -- the operation, its places, and the numbers after the moves
   abbrev pub op_of : State Place → Operation
@@ -94,7 +98,7 @@ module _ (f : FunctionValue) (ops : List Operation) (out : OutputValue) (start :
 
   -- the choice for its step
   abbrev pub choice_of : State Place → Choice
-  choice_of d = chosen args (op_of d) (found_reads f out stir d)
+  choice_of d = chosen args memory (op_of d) (found_reads f out stir d)
 
   -- the code after the instruction, if that many others are left
   abbrev behind : State Place → ℕ → List Instruction
@@ -108,7 +112,7 @@ module _ (f : FunctionValue) (ops : List Operation) (out : OutputValue) (start :
     numbers = place_after f out stir (choice_of d) d;
   }
 
-  module _ (ok : IsEmitted f ops out start code) where
+  module _ (ok : IsEmitted f ops out start code) (sized : length memory ≡ ops.memory_size) where
     inside : (d : State Place) (s : MachineState) → At f ops out start code d s → d.at.inst < length f.insts
     inside d s at = omega (arith, ok.within d.at.block at.block, at.ends)
 
@@ -124,23 +128,23 @@ module _ (f : FunctionValue) (ops : List Operation) (out : OutputValue) (start :
         ∙ ap (λ (os : List OperandValue). read_by is_reading (λ k u. after_moves d (place_at (places_of d) k)) 0 os) (ok.operands d.at.inst lt)
 
     written : (d : State Place) → d.at.inst < length f.insts →
-        written_to (λ k. value_of args (op_of d) (found_reads f out stir d)) (places_of d) 0 (inst_at f d.at.inst).operands
-        (found_by f out stir d) ≡ writes_at args (op_of d) (places_of d) (after_moves d)
+        written_to (λ k. value_of args memory (op_of d) (found_reads f out stir d)) (places_of d) 0 (inst_at f d.at.inst).operands
+        (found_by f out stir d) ≡ writes_at args memory (op_of d) (places_of d) (after_moves d)
     written d lt =
-        ap (λ (xs : List ℕ). written_to (λ k. value_of args (op_of d) xs) (places_of d) 0 (inst_at f d.at.inst).operands
+        ap (λ (xs : List ℕ). written_to (λ k. value_of args memory (op_of d) xs) (places_of d) 0 (inst_at f d.at.inst).operands
         (found_by f out stir d)) (reads d lt)
-        ∙ ap (λ (m : Place → ℕ). written_to (λ k. value_of args (op_of d) (reads_at (op_of d) (places_of d) (after_moves d))) (places_of d) 0
+        ∙ ap (λ (m : Place → ℕ). written_to (λ k. value_of args memory (op_of d) (reads_at (op_of d) (places_of d) (after_moves d))) (places_of d) 0
         (inst_at f d.at.inst).operands m) (found d lt)
-        ∙ ap (λ (os : List OperandValue). written_to (λ k. value_of args (op_of d) (reads_at (op_of d) (places_of d) (after_moves d))) (places_of d) 0 os
+        ∙ ap (λ (os : List OperandValue). written_to (λ k. value_of args memory (op_of d) (reads_at (op_of d) (places_of d) (after_moves d))) (places_of d) 0 os
         (after_moves d)) (ok.operands d.at.inst lt)
 
     -- what the operation leaves in places
     left_in : (d : State Place) → d.at.inst < length f.insts →
         numbers_clobbered (inst_at f d.at.inst).clobbers (leaves_of (op_of d) (reads_at (op_of d) (places_of d) (after_moves d)))
-        (writes_at args (op_of d) (places_of d) (after_moves d)) ≡ place_after f out stir (choice_of d) d
+        (writes_at args memory (op_of d) (places_of d) (after_moves d)) ≡ place_after f out stir (choice_of d) d
     left_in d lt =
         ap (λ (xs : List ℕ). numbers_clobbered (inst_at f d.at.inst).clobbers (leaves_of (op_of d) xs)
-        (writes_at args (op_of d) (places_of d) (after_moves d))) (sym (reads d lt))
+        (writes_at args memory (op_of d) (places_of d) (after_moves d))) (sym (reads d lt))
         ∙ ap (λ (m : Place → ℕ). numbers_clobbered (inst_at f d.at.inst).clobbers (choice_of d).leaves m) (sym (written d lt))
 
     -- a block's last operation clobbers nothing
@@ -148,13 +152,18 @@ module _ (f : FunctionValue) (ops : List Operation) (out : OutputValue) (start :
     end_clobbers (Dividing w part signed to left right) count end r = absurd end
     end_clobbers o count end r = refl
 
+    -- and leaves memory as it is
+    end_leaves : (o : Operation) (count : ℕ) (xs : List ℕ) → IsEnd o count → left_of memory o xs ≡ memory
+    end_leaves (Storing bytes address value) count xs end = absurd end
+    end_leaves o count xs end = refl
+
     agree_written : (d : State Place) → d.at.inst < length f.insts → IsEnd (op_of d) (length (succs_of d)) → (registers frame : ℕ → ℕ) →
-        Agree registers frame (writes_at args (op_of d) (places_of d) (after_moves d)) →
+        Agree registers frame (writes_at args memory (op_of d) (places_of d) (after_moves d)) →
         Agree registers frame (place_after f out stir (choice_of d) d)
     agree_written d lt end registers frame a =
         subst (λ (m : Place → ℕ). Agree registers frame m) (left_in d lt)
         (unclobbered (inst_at f d.at.inst).clobbers (leaves_of (op_of d) (reads_at (op_of d) (places_of d) (after_moves d)))
-        (writes_at args (op_of d) (places_of d) (after_moves d)) registers frame
+        (writes_at args memory (op_of d) (places_of d) (after_moves d)) registers frame
         (λ r. ok.clobbers d.at.inst lt r ∙ end_clobbers (op_of d) (length (succs_of d)) end r) a)
 
     -- if both interpreters read alike, the divisor of a division is kept
@@ -182,29 +191,46 @@ module _ (f : FunctionValue) (ops : List Operation) (out : OutputValue) (start :
         (ListedInst d.at.inst ∷ listing_from out (block_at f d.at.block).range.first (d.at.inst + 1) at.left) s d.numbers
         (can_move_before code.slots (block_at f d.at.block).range.first d.at.inst out.edits ok.moves) at.agree at.stands
 
+    -- the memory after the moves
+    still : (d : State Place) (s : MachineState) (at : At f ops out start code d s) → s.memory ≡ memory → (through d s at).to.memory ≡ memory
+    still d s at same = (through d s at).same ∙ same
+
+    sized_there : (d : State Place) (s : MachineState) (at : At f ops out start code d s) → s.memory ≡ memory →
+        length (through d s at).to.memory ≡ ops.memory_size
+    sized_there d s at same = ap (λ (m : List ℕ). length m) (still d s at same) ∙ sized
+
     -- the code after the moves
     stands_there : (d : State Place) (s : MachineState) (at : At f ops out start code d s) (n : ℕ) → at.left ≡ n →
-        StandAt start code.instructions (through d s at).to.pc (operation_code (op_of d) (places_of d) (succs_of d) (d.at.block + 1) ++ behind d n)
+        StandAt start code.instructions (through d s at).to.pc
+        (operation_code ops.memory_size (op_of d) (places_of d) (succs_of d) (d.at.block + 1) ++ behind d n)
     unfolding items_code
     stands_there d s at n e =
         subst (λ (k : ℕ). StandAt start code.instructions (through d s at).to.pc
-        (operation_code (op_of d) (places_of d) (succs_of d) (d.at.block + 1) ++ behind d k))
+        (operation_code ops.memory_size (op_of d) (places_of d) (succs_of d) (d.at.block + 1) ++ behind d k))
         e (through d s at).stands
 
     -- an operation inside a block
-    plain_follows : (c : State VirtualRegister) (d : State Place) (s : MachineState) (at : At f ops out start code d s) → ReadAlike f out stir c d →
-        traps_of (op_of d) (found_reads f out stir d) ≡ false → (n : ℕ) → at.left ≡ suc n → Follows d s (place_next f out stir (choice_of d) d)
-    plain_follows c d s at r calm n e =
+    plain_follows : (c : State VirtualRegister) (d : State Place) (s : MachineState) (at : At f ops out start code d s) → s.memory ≡ memory →
+        ReadAlike f out stir c d → traps_of memory (op_of d) (found_reads f out stir d) ≡ false → (n : ℕ) → at.left ≡ suc n → Follows d s (place_next f out stir (choice_of d) d)
+    plain_follows c d s at same r calm n e =
         let lt : d.at.inst < length f.insts = inside d s at in
         let more : d.at.inst + 1 < (block_at f d.at.block).range.end = omega (arith, at.ends, e) in
         let plain : IsPlain (op_of d) = ok.plain d.at.block d.at.inst at.block at.begins more in
-        let done : Done args start code (succs_of d) (behind d (suc n)) (through d s at).to
+        let done : Leaves args start code (succs_of d) (behind d (suc n)) (through d s at).to
+        (left_of memory (op_of d) (reads_at (op_of d) (places_of d) (after_moves d)))
         (numbers_clobbered (inst_at f d.at.inst).clobbers (leaves_of (op_of d) (reads_at (op_of d) (places_of d) (after_moves d)))
-        (writes_at args (op_of d) (places_of d) (after_moves d))) =
-        plain_leaves args start code (succs_of d) (behind d (suc n)) (d.at.block + 1) (op_of d) (inst_at f d.at.inst).clobbers (through d s at).to
+        (writes_at args memory (op_of d) (places_of d) (after_moves d))) =
+        subst (λ (m : List ℕ). traps_of m (op_of d) (reads_at (op_of d) (places_of d) (after_moves d)) ≡ false →
+        Leaves args start code (succs_of d) (behind d (suc n)) (through d s at).to
+        (left_of m (op_of d) (reads_at (op_of d) (places_of d) (after_moves d)))
+        (numbers_clobbered (inst_at f d.at.inst).clobbers (leaves_of (op_of d) (reads_at (op_of d) (places_of d) (after_moves d)))
+        (writes_at args m (op_of d) (places_of d) (after_moves d)))) (still d s at same)
+        (λ so. plain_leaves args start code (succs_of d) (behind d (suc n)) ops.memory_size (d.at.block + 1) (op_of d)
+        (inst_at f d.at.inst).clobbers (through d s at).to
         (places_of d) (after_moves d)
-        plain (ok.placed d.at.inst lt) (ok.clobbers d.at.inst lt) (kept c d r lt plain)
-        (subst (λ (xs : List ℕ). traps_of (op_of d) xs ≡ false) (reads d lt) calm) (through d s at).agree (stands_there d s at (suc n) e) in
+        plain (ok.placed d.at.inst lt) (ok.clobbers d.at.inst lt) (kept c d r lt plain) (sized_there d s at same) so
+        (through d s at).agree (stands_there d s at (suc n) e))
+        (subst (λ (xs : List ℕ). traps_of memory (op_of d) xs ≡ false) (reads d lt) calm) in
         let comes : Comes code args 1 s done.to = comes_on code args 0 1 1 s (through d s at).to done.to (omega arith) (through d s at).comes done.comes in
         let next : At f ops out start code (state_on d Onward) done.to = record {
           left = n;
@@ -216,37 +242,46 @@ module _ (f : FunctionValue) (ops : List Operation) (out : OutputValue) (start :
         } in
         subst (λ (b : Bool). Follows d s (option_map (state_on d) (cond b (Some Onward) (cond (nat_eq (d.at.inst + 1) (block_at f d.at.block).range.end)
         (edge_to (length (succs_of d)) (way_of (op_of d) (found_reads f out stir d))) None))))
-        (sym (lt-ltb (d.at.inst + 1) (block_at f d.at.block).range.end more)) (done.to, comes, next)
+        (sym (lt-ltb (d.at.inst + 1) (block_at f d.at.block).range.end more))
+        (done.to, comes, next, done.same ∙ ap (λ (xs : List ℕ). left_of memory (op_of d) xs) (sym (reads d lt)))
 
     -- the steps after a block's last operation
-    left_follows : (d : State Place) (s t : MachineState) → At f ops out start code d s → IsEnd (op_of d) (length (succs_of d)) → Comes code args 0 s t → (w : Option Way) →
+    left_follows : (d : State Place) (s t : MachineState) → At f ops out start code d s → t.memory ≡ memory → IsEnd (op_of d) (length (succs_of d)) →
+        Comes code args 0 s t → (w : Option Way) →
         Left args start code (succs_of d) (behind d 0) t (found_reads f out stir d)
-        (writes_at args (op_of d) (places_of d) (after_moves d)) w → Follows d s (option_map (state_on d) w)
-    left_follows d s t at end comes None l =
-        ends_then code args 0 l.0 s t (Returned (slice_index (found_reads f out stir d) 0)) comes l.1
-    left_follows d s t at end comes (Some Onward) l = absurd l
-    left_follows d s t at end comes (Some (ToSuccessor k)) l = (
+        (writes_at args memory (op_of d) (places_of d) (after_moves d)) w → Follows d s (option_map (state_on d) w)
+    left_follows d s t at same end comes None l =
+        ends_then code args 0 l.0 s t (Returned (slice_index (found_reads f out stir d) 0) (left_of memory (op_of d) (found_reads f out stir d))) comes
+        (l.1 ∙ ap (λ (m : List ℕ). Returned (slice_index (found_reads f out stir d) 0) m)
+        (same ∙ sym (end_leaves (op_of d) (length (succs_of d)) (found_reads f out stir d) end)))
+    left_follows d s t at same end comes (Some Onward) l = absurd l
+    left_follows d s t at same end comes (Some (ToSuccessor k)) l = (
       l.to,
       comes_on code args 0 1 1 s t l.to (omega arith) comes l.comes,
       at_start f ops out start code ok (slice_index (succs_of d) k) (ok.succs d.at.block k at.block l.there) ((d.at.inst, found_reads f out stir d) ∷ d.history)
           (place_after f out stir (choice_of d) d) l.to l.at (agree_written d (inside d s at) end l.to.registers l.to.frame l.agree),
+      l.same ∙ same ∙ sym (end_leaves (op_of d) (length (succs_of d)) (found_reads f out stir d) end),
     )
 
-    last_follows : (d : State Place) (s : MachineState) (at : At f ops out start code d s) → at.left ≡ 0 → Follows d s (place_next f out stir (choice_of d) d)
-    last_follows d s at e =
+    last_follows : (d : State Place) (s : MachineState) (at : At f ops out start code d s) → s.memory ≡ memory → at.left ≡ 0 →
+        Follows d s (place_next f out stir (choice_of d) d)
+    last_follows d s at same e =
         let lt : d.at.inst < length f.insts = inside d s at in
         let last : d.at.inst + 1 ≡ (block_at f d.at.block).range.end = omega (arith, at.ends, e) in
         let l : Left args start code (succs_of d) (behind d 0) (through d s at).to (reads_at (op_of d) (places_of d) (after_moves d))
-        (writes_at args (op_of d) (places_of d) (after_moves d))
+        (writes_at args memory (op_of d) (places_of d) (after_moves d))
         (edge_to (length (succs_of d)) (way_of (op_of d) (reads_at (op_of d) (places_of d) (after_moves d)))) =
-        last_leaves args start code (succs_of d) (behind d 0) (d.at.block + 1) (op_of d) (through d s at).to (places_of d) (after_moves d)
-        (ok.ends d.at.block d.at.inst at.block at.begins last) (ok.placed d.at.inst lt) (through d s at).agree (stands_there d s at 0 e) in
+        subst (λ (m : List ℕ). Left args start code (succs_of d) (behind d 0) (through d s at).to (reads_at (op_of d) (places_of d) (after_moves d))
+        (writes_at args m (op_of d) (places_of d) (after_moves d))
+        (edge_to (length (succs_of d)) (way_of (op_of d) (reads_at (op_of d) (places_of d) (after_moves d))))) (still d s at same)
+        (last_leaves args start code (succs_of d) (behind d 0) ops.memory_size (d.at.block + 1) (op_of d) (through d s at).to (places_of d) (after_moves d)
+        (ok.ends d.at.block d.at.inst at.block at.begins last) (ok.placed d.at.inst lt) (through d s at).agree (stands_there d s at 0 e)) in
         let follows : Follows d s (option_map (state_on d)
         (edge_to (length (succs_of d)) (way_of (op_of d) (found_reads f out stir d)))) =
-        left_follows d s (through d s at).to at (ok.ends d.at.block d.at.inst at.block at.begins last) (through d s at).comes
+        left_follows d s (through d s at).to at (still d s at same) (ok.ends d.at.block d.at.inst at.block at.begins last) (through d s at).comes
         (edge_to (length (succs_of d)) (way_of (op_of d) (found_reads f out stir d)))
         (subst (λ (xs : List ℕ). Left args start code (succs_of d) (behind d 0) (through d s at).to xs
-        (writes_at args (op_of d) (places_of d) (after_moves d)) (edge_to (length (succs_of d)) (way_of (op_of d) xs))) (sym (reads d lt)) l) in
+        (writes_at args memory (op_of d) (places_of d) (after_moves d)) (edge_to (length (succs_of d)) (way_of (op_of d) xs))) (sym (reads d lt)) l) in
         subst (λ (b : Bool). Follows d s (option_map (state_on d) (cond b (Some Onward) (cond (nat_eq (d.at.inst + 1) (block_at f d.at.block).range.end)
         (edge_to (length (succs_of d)) (way_of (op_of d) (found_reads f out stir d))) None))))
         (sym (le-ltb (d.at.inst + 1) (block_at f d.at.block).range.end (omega arith)))
@@ -255,24 +290,26 @@ module _ (f : FunctionValue) (ops : List Operation) (out : OutputValue) (start :
         (sym (eq-eqb (d.at.inst + 1) (block_at f d.at.block).range.end last)) follows)
 
     -- a step of the interpreter is at least one step of the machine
-    pub step_follows : (c : State VirtualRegister) (d : State Place) (s : MachineState) → At f ops out start code d s → ReadAlike f out stir c d →
-        traps_of (op_of d) (found_reads f out stir d) ≡ false → Follows d s (place_next f out stir (choice_of d) d)
-    step_follows c d s at r calm = pick at.left refl
+    pub step_follows : (c : State VirtualRegister) (d : State Place) (s : MachineState) → At f ops out start code d s → s.memory ≡ memory →
+        ReadAlike f out stir c d → traps_of memory (op_of d) (found_reads f out stir d) ≡ false → Follows d s (place_next f out stir (choice_of d) d)
+    step_follows c d s at same r calm = pick at.left refl
       where
         pick : (n : ℕ) → at.left ≡ n → Follows d s (place_next f out stir (choice_of d) d)
-        pick zero e = last_follows d s at e
-        pick (suc n) e = plain_follows c d s at r calm n e
+        pick zero e = last_follows d s at same e
+        pick (suc n) e = plain_follows c d s at same r calm n e
 
-    end_calm : (o : Operation) (count : ℕ) (xs : List ℕ) → IsEnd o count → traps_of o xs ≡ true → ⊥
+    end_calm : (o : Operation) (count : ℕ) (xs : List ℕ) → IsEnd o count → traps_of memory o xs ≡ true → ⊥
     end_calm (Dividing w part signed to left right) count xs end traps = end
+    end_calm (Loading bytes to address) count xs end traps = end
+    end_calm (Storing bytes address value) count xs end traps = end
     end_calm o count xs end traps = cc
 
     -- and one that traps is a trap of the machine
-    pub step_traps : (c : State VirtualRegister) (d : State Place) (s : MachineState) → At f ops out start code d s → ReadAlike f out stir c d →
-        traps_of (op_of d) (found_reads f out stir d) ≡ true → (j : ℕ) × (machine_run code args j s ≡ Trapped)
-    step_traps c d s at r traps = pick at.left refl
+    pub step_traps : (c : State VirtualRegister) (d : State Place) (s : MachineState) → At f ops out start code d s → s.memory ≡ memory →
+        ReadAlike f out stir c d → traps_of memory (op_of d) (found_reads f out stir d) ≡ true → (j : ℕ) × (machine_run code args j s ≡ Trapped memory)
+    step_traps c d s at same r traps = pick at.left refl
       where
-        pick : (n : ℕ) → at.left ≡ n → (j : ℕ) × (machine_run code args j s ≡ Trapped)
+        pick : (n : ℕ) → at.left ≡ n → (j : ℕ) × (machine_run code args j s ≡ Trapped memory)
         pick zero e =
             let last : d.at.inst + 1 ≡ (block_at f d.at.block).range.end = omega (arith, at.ends, e) in
             absurd (end_calm (op_of d) (length (succs_of d)) (found_reads f out stir d) (ok.ends d.at.block d.at.inst at.block at.begins last) traps)
@@ -280,9 +317,13 @@ module _ (f : FunctionValue) (ops : List Operation) (out : OutputValue) (start :
             let lt : d.at.inst < length f.insts = inside d s at in
             let more : d.at.inst + 1 < (block_at f d.at.block).range.end = omega (arith, at.ends, e) in
             let plain : IsPlain (op_of d) = ok.plain d.at.block d.at.inst at.block at.begins more in
-            let t : (j : ℕ) × (machine_run code args j (through d s at).to ≡ Trapped) =
-            plain_traps args start code (succs_of d) (behind d (suc n)) (d.at.block + 1) (op_of d) (inst_at f d.at.inst).clobbers (through d s at).to
+            let t : (j : ℕ) × (machine_run code args j (through d s at).to ≡ Trapped memory) =
+            subst (λ (m : List ℕ). traps_of m (op_of d) (reads_at (op_of d) (places_of d) (after_moves d)) ≡ true →
+            (j : ℕ) × (machine_run code args j (through d s at).to ≡ Trapped m)) (still d s at same)
+            (λ so. plain_traps args start code (succs_of d) (behind d (suc n)) ops.memory_size (d.at.block + 1) (op_of d)
+            (inst_at f d.at.inst).clobbers (through d s at).to
             (places_of d) (after_moves d)
-            plain (ok.placed d.at.inst lt) (ok.clobbers d.at.inst lt) (kept c d r lt plain)
-            (subst (λ (xs : List ℕ). traps_of (op_of d) xs ≡ true) (reads d lt) traps) (through d s at).agree (stands_there d s at (suc n) e) in
-            ends_then code args 0 t.0 s (through d s at).to Trapped (through d s at).comes t.1
+            plain (ok.placed d.at.inst lt) (ok.clobbers d.at.inst lt) (kept c d r lt plain) (sized_there d s at same) so
+            (through d s at).agree (stands_there d s at (suc n) e))
+            (subst (λ (xs : List ℕ). traps_of memory (op_of d) xs ≡ true) (reads d lt) traps) in
+            ends_then code args 0 t.0 s (through d s at).to (Trapped memory) (through d s at).comes t.1

@@ -10,12 +10,14 @@ use Rattle.regalloc2_function.specs.OutputValue.{OutputValue}
 use Rattle.regalloc2_function.specs.Path.{Way, Onward, ToSuccessor, next_of}
 use Rattle.regalloc2_semantics.specs.Values.Interpreters.{History, State, read_by, edge_to, way_on, numbers_defined, passed_over}
 use Rattle.codegen_machine.specs.Ir.Numbers.{RunOutcome, Running, Returned, Trapped, Stuck, shifted_at, divided_at, division_traps, condition_holds, widened}
+use Rattle.codegen_machine.specs.Ir.Numbers.{is_within, number_at, with_number}
 use Rattle.codegen_machine.specs.Ir.Operands.{divide_operands, operands_of}
-use Rattle.codegen_machine.specs.Ir.Meaning.{ProcedureState, onward, entered, along, done, procedure_step}
+use Rattle.codegen_machine.specs.Ir.Meaning.{ProcedureState, onward, stored, entered, along, done, procedure_step}
+use Rattle.codegen_machine.specs.Ir.Seen.{Operations}
 use Rattle.codegen_machine.specs.declared.ir.operation.Operation.{Operation}
 use Rattle.codegen_machine.specs.declared.ir.operation.Operation.TheVariants.{Argument as TakeArgument, Constant as TakeConstant, Copy, Compute as Computation}
 use Rattle.codegen_machine.specs.declared.ir.operation.Operation.TheVariants.{Shift as Shifting, Divide as Dividing, Compare as Comparison, Select, Jump as GoTo, BranchIf}
-use Rattle.codegen_machine.specs.declared.ir.operation.Operation.TheVariants.{BranchIfHolds}
+use Rattle.codegen_machine.specs.declared.ir.operation.Operation.TheVariants.{BranchIfHolds, Load as Loading, Store as Storing}
 use Rattle.codegen_machine.specs.declared.ir.operation.Operation.TheVariants.{Return as GiveBack}
 use Rattle.codegen_machine.specs.declared.ir.operation.DivisionPart.{DivisionPart}
 use Rattle.codegen_machine.specs.declared.ir.operation.Count.TheVariants.{VReg as CountIn, Number as CountOf}
@@ -24,31 +26,35 @@ use Rattle.codegen_machine.specs.Machine.{CodeValue}
 use Rattle.codegen.specs.Emitted.{operation_at}
 use Rattle.codegen.proofs.Premise.{IsPlain, IsEnd, IsEmitted}
 use Rattle.codegen.proofs.Choices.{source_reads, source_next}
-use Rattle.codegen.proofs.Steps.{value_of, way_of, traps_of, chosen}
+use Rattle.codegen.proofs.Steps.{value_of, left_of, way_of, traps_of, chosen, inside, outside}
 
--- a state of the interpreter as one of the procedure
-abbrev pub seen : State VirtualRegister → ProcedureState
-seen c = record { at = c.at; numbers = c.numbers }
+-- a state of the interpreter, with a memory, as one of the procedure
+abbrev pub seen : List ℕ → State VirtualRegister → ProcedureState
+seen memory c = record { at = c.at; numbers = c.numbers; memory = memory }
 
--- both continue alike, or the interpreter ends and the procedure returns the number that was read
-abbrev pub GoAlike : List ℕ → Option (State VirtualRegister) → RunOutcome ProcedureState → Type 0
-GoAlike read None (Running q) = ⊥
-GoAlike read None (Returned r) = r ≡ slice_index read 0
-GoAlike read None Trapped = ⊥
-GoAlike read None Stuck = ⊥
-GoAlike read (Some c) (Running q) = q ≡ seen c
-GoAlike read (Some c) (Returned r) = ⊥
-GoAlike read (Some c) Trapped = ⊥
-GoAlike read (Some c) Stuck = ⊥
+-- both continue alike, with that memory, or the interpreter ends and the procedure returns the number that was read
+abbrev pub GoAlike : List ℕ → List ℕ → Option (State VirtualRegister) → RunOutcome ProcedureState → Type 0
+GoAlike read left None (Running q) = ⊥
+GoAlike read left None (Returned r memory) = (r ≡ slice_index read 0) × (memory ≡ left)
+GoAlike read left None (Trapped memory) = ⊥
+GoAlike read left None Stuck = ⊥
+GoAlike read left (Some c) (Running q) = q ≡ seen left c
+GoAlike read left (Some c) (Returned r memory) = ⊥
+GoAlike read left (Some c) (Trapped memory) = ⊥
+GoAlike read left (Some c) Stuck = ⊥
 
 -- what operands read of vregs, and what definitions write to them
 abbrev reads_of : List OperandValue → (VirtualRegister → ℕ) → List ℕ
 reads_of os numbers = read_by is_reading (λ k o. numbers o.vreg) 0 os
 
-module _ (f : FunctionValue) (args : ℕ → ℕ) where
+module _ (f : FunctionValue) (args : ℕ → ℕ) (memory : List ℕ) where
+  -- both continue alike, with the memory that an operation leaves
+  abbrev pub AreAlike : Operation → List ℕ → Option (State VirtualRegister) → RunOutcome ProcedureState → Type 0
+  AreAlike o read = GoAlike read (left_of memory o read)
+
   -- the numbers that an operation leaves
   abbrev left_by : Operation → List OperandValue → (VirtualRegister → ℕ) → VirtualRegister → ℕ
-  left_by o os numbers = numbers_defined (λ k. value_of args o (reads_of os numbers)) 0 os numbers
+  left_by o os numbers = numbers_defined (λ k. value_of args memory o (reads_of os numbers)) 0 os numbers
 
   -- the next state of the interpreter, by the edge or fall-through that it follows
   abbrev state_on : State VirtualRegister → Operation → List OperandValue → Way → State VirtualRegister
@@ -69,8 +75,8 @@ module _ (f : FunctionValue) (args : ℕ → ℕ) where
   divide_reads part to left right numbers read = ap (λ (b : Bool). cond (not b) (numbers left ∷ numbers right ∷ []) (numbers right ∷ [])) read
 
   -- an operation inside a block
-  plain_goes : (o : Operation) (c : State VirtualRegister) → IsPlain o → traps_of o (reads_of (operands_of o) c.numbers) ≡ false →
-      done f args (Some o) (seen c) ≡ Running (seen (state_on c o (operands_of o) Onward))
+  plain_goes : (o : Operation) (c : State VirtualRegister) → IsPlain o → traps_of memory o (reads_of (operands_of o) c.numbers) ≡ false →
+      done f args (Some o) (seen memory c) ≡ Running (seen (left_of memory o (reads_of (operands_of o) c.numbers)) (state_on c o (operands_of o) Onward))
   unfolding numbers_defined read_by passed_over
   plain_goes (TakeArgument to k) c plain calm = refl
   plain_goes (TakeConstant to n) c plain calm = refl
@@ -80,42 +86,55 @@ module _ (f : FunctionValue) (args : ℕ → ℕ) where
   plain_goes (Shifting w o to left (CountIn v)) c plain calm =
       let x : ℕ = c.numbers left in
       let n : ℕ = c.numbers v in
-      subst (λ (b : Bool). onward (seen c) to (shifted_at w o x n)
-      ≡ onward (seen c) to (shifted_at w o x (slice_index (x ∷ cond (not b) (n ∷ []) []) 1))) (sym plain)
+      subst (λ (b : Bool). onward (seen memory c) to (shifted_at w o x n)
+      ≡ onward (seen memory c) to (shifted_at w o x (slice_index (x ∷ cond (not b) (n ∷ []) []) 1))) (sym plain)
       refl
   plain_goes (Shifting w o to left (CountOf n)) c plain calm = refl
   plain_goes (Dividing w part signed to left right) c plain calm =
       let o : Operation = Dividing w part signed to left right in
       subst (λ (xs : List ℕ). division_traps w signed (slice_index xs 0) (slice_index xs 1) ≡ false →
-      done f args (Some o) (seen c) ≡ onward (seen c) to (divided_at w part signed (slice_index xs 0) (slice_index xs 1)))
+      done f args (Some o) (seen memory c) ≡ onward (seen memory c) to (divided_at w part signed (slice_index xs 0) (slice_index xs 1)))
       (sym (divide_reads part to left right c.numbers plain.1))
-      (λ so. ap (λ (b : Bool). cond b Trapped (onward (seen c) to (divided_at w part signed (c.numbers left) (c.numbers right)))) so) calm
+      (λ so. ap (λ (b : Bool). cond b (Trapped memory) (onward (seen memory c) to (divided_at w part signed (c.numbers left) (c.numbers right)))) so) calm
   plain_goes (Comparison w o to left (VReg v)) c plain calm = refl
   plain_goes (Comparison w o to left (Given n)) c plain calm = refl
   plain_goes (Select to test one other) c plain calm = refl
+  plain_goes (Loading bytes to address) c plain calm =
+      ap (λ (b : Bool). cond b (onward (seen memory c) to (number_at bytes memory (c.numbers address))) (Trapped memory))
+      (inside (is_within memory bytes (c.numbers address)) calm)
+  plain_goes (Storing bytes address value) c plain calm =
+      ap (λ (b : Bool). cond b (stored (seen memory c) (with_number bytes memory (c.numbers address) (c.numbers value))) (Trapped memory))
+      (inside (is_within memory bytes (c.numbers address)) calm)
   plain_goes o c plain calm = absurd plain
 
   -- and one that traps
-  plain_traps : (o : Operation) (c : State VirtualRegister) → IsPlain o → traps_of o (reads_of (operands_of o) c.numbers) ≡ true →
-      done f args (Some o) (seen c) ≡ Trapped
+  plain_traps : (o : Operation) (c : State VirtualRegister) → IsPlain o → traps_of memory o (reads_of (operands_of o) c.numbers) ≡ true →
+      done f args (Some o) (seen memory c) ≡ Trapped memory
+  unfolding read_by
   plain_traps (Dividing w part signed to left right) c plain traps =
       let o : Operation = Dividing w part signed to left right in
-      subst (λ (xs : List ℕ). division_traps w signed (slice_index xs 0) (slice_index xs 1) ≡ true → done f args (Some o) (seen c) ≡ Trapped)
+      subst (λ (xs : List ℕ). division_traps w signed (slice_index xs 0) (slice_index xs 1) ≡ true → done f args (Some o) (seen memory c) ≡ Trapped memory)
       (sym (divide_reads part to left right c.numbers plain.1))
-      (λ so. ap (λ (b : Bool). cond b Trapped (onward (seen c) to (divided_at w part signed (c.numbers left) (c.numbers right)))) so) traps
+      (λ so. ap (λ (b : Bool). cond b (Trapped memory) (onward (seen memory c) to (divided_at w part signed (c.numbers left) (c.numbers right)))) so) traps
+  plain_traps (Loading bytes to address) c plain traps =
+      ap (λ (b : Bool). cond b (onward (seen memory c) to (number_at bytes memory (c.numbers address))) (Trapped memory))
+      (outside (is_within memory bytes (c.numbers address)) traps)
+  plain_traps (Storing bytes address value) c plain traps =
+      ap (λ (b : Bool). cond b (stored (seen memory c) (with_number bytes memory (c.numbers address) (c.numbers value))) (Trapped memory))
+      (outside (is_within memory bytes (c.numbers address)) traps)
   plain_traps o c plain traps = absurd cc
 
   -- an edge
   edge_goes : (read : List ℕ) (c : State VirtualRegister) (h : History) (k : ℕ) → k < length (block_at f c.at.block).succs →
-      GoAlike read (option_map (λ w. record { at = next_of f c.at w; history = h; numbers = passed_over f c.at w c.numbers })
-      (edge_to (length (block_at f c.at.block).succs) (Some k))) (along f (seen c) k)
+      GoAlike read memory (option_map (λ w. record { at = next_of f c.at w; history = h; numbers = passed_over f c.at w c.numbers })
+      (edge_to (length (block_at f c.at.block).succs) (Some k))) (along f (seen memory c) k)
   unfolding passed_over
   edge_goes read c h k lt =
-      subst (λ (b : Bool). GoAlike read (option_map (λ w. record { at = next_of f c.at w; history = h; numbers = passed_over f c.at w c.numbers })
-      (cond b (Some (ToSuccessor k)) None)) (along f (seen c) k)) (sym (lt-ltb k (length (block_at f c.at.block).succs) lt))
-      (subst (λ (x : Option ℕ). GoAlike read
+      subst (λ (b : Bool). GoAlike read memory (option_map (λ w. record { at = next_of f c.at w; history = h; numbers = passed_over f c.at w c.numbers })
+      (cond b (Some (ToSuccessor k)) None)) (along f (seen memory c) k)) (sym (lt-ltb k (length (block_at f c.at.block).succs) lt))
+      (subst (λ (x : Option ℕ). GoAlike read memory
       (Some (record { at = next_of f c.at (ToSuccessor k); history = h; numbers = passed_over f c.at (ToSuccessor k) c.numbers }))
-      (entered f (seen c) k x)) (sym (slice_get-get_or (block_at f c.at.block).succs k 0 lt)) refl)
+      (entered f (seen memory c) k x)) (sym (slice_get-get_or (block_at f c.at.block).succs k 0 lt)) refl)
 
   which : (b : Bool) (k n count : ℕ) → k < count → n < count → cond b k n < count
   which true k n count lt also = lt
@@ -123,8 +142,8 @@ module _ (f : FunctionValue) (args : ℕ → ℕ) where
 
   -- a block's last operation
   last_goes : (o : Operation) (c : State VirtualRegister) → IsEnd o (length (block_at f c.at.block).succs) →
-      GoAlike (reads_of (operands_of o) c.numbers) (option_map (state_on c o (operands_of o))
-      (edge_to (length (block_at f c.at.block).succs) (way_of o (reads_of (operands_of o) c.numbers)))) (done f args (Some o) (seen c))
+      AreAlike o (reads_of (operands_of o) c.numbers) (option_map (state_on c o (operands_of o))
+      (edge_to (length (block_at f c.at.block).succs) (way_of o (reads_of (operands_of o) c.numbers)))) (done f args (Some o) (seen memory c))
   unfolding numbers_defined read_by
   last_goes GoTo c end = edge_goes [] c ((c.at.inst, []) ∷ c.history) 0 end
   last_goes (BranchIf v) c end =
@@ -137,49 +156,52 @@ module _ (f : FunctionValue) (args : ℕ → ℕ) where
   last_goes (BranchIfHolds w o left (Given n)) c end =
       edge_goes (c.numbers left ∷ []) c ((c.at.inst, c.numbers left ∷ []) ∷ c.history) (cond (condition_holds o (widened w (c.numbers left)) (widened w n)) 0 1)
       (which (condition_holds o (widened w (c.numbers left)) (widened w n)) 0 1 (length (block_at f c.at.block).succs) (omega arith) end)
-  last_goes (GiveBack v) c end = refl
+  last_goes (GiveBack v) c end = (refl, refl)
   last_goes o c end = absurd end
 
   -- each operation
-  goes_on : (o : Operation) (c : State VirtualRegister) → IsPlain o → traps_of o (reads_of (operands_of o) c.numbers) ≡ false →
+  goes_on : (o : Operation) (c : State VirtualRegister) → IsPlain o → traps_of memory o (reads_of (operands_of o) c.numbers) ≡ false →
       c.at.inst + 1 < (block_at f c.at.block).range.end →
-      GoAlike (reads_of (operands_of o) c.numbers) (step_by c o (operands_of o)) (done f args (Some o) (seen c))
+      AreAlike o (reads_of (operands_of o) c.numbers) (step_by c o (operands_of o)) (done f args (Some o) (seen memory c))
   goes_on o c plain calm lt =
-      subst (λ (b : Bool). GoAlike (reads_of (operands_of o) c.numbers) (option_map (state_on c o (operands_of o))
+      subst (λ (b : Bool). AreAlike o (reads_of (operands_of o) c.numbers) (option_map (state_on c o (operands_of o))
       (cond b (Some Onward) (cond (nat_eq (c.at.inst + 1) (block_at f c.at.block).range.end)
-      (edge_to (length (block_at f c.at.block).succs) (way_of o (reads_of (operands_of o) c.numbers))) None))) (done f args (Some o) (seen c)))
+      (edge_to (length (block_at f c.at.block).succs) (way_of o (reads_of (operands_of o) c.numbers))) None))) (done f args (Some o) (seen memory c)))
       (sym (lt-ltb (c.at.inst + 1) (block_at f c.at.block).range.end lt))
-      (subst (λ (x : RunOutcome ProcedureState). GoAlike (reads_of (operands_of o) c.numbers) (Some (state_on c o (operands_of o) Onward)) x)
+      (subst (λ (x : RunOutcome ProcedureState). AreAlike o (reads_of (operands_of o) c.numbers) (Some (state_on c o (operands_of o) Onward)) x)
       (sym (plain_goes o c plain calm)) refl)
 
   goes_off : (o : Operation) (c : State VirtualRegister) → IsEnd o (length (block_at f c.at.block).succs) → c.at.inst + 1 ≡ (block_at f c.at.block).range.end →
-      GoAlike (reads_of (operands_of o) c.numbers) (step_by c o (operands_of o)) (done f args (Some o) (seen c))
+      AreAlike o (reads_of (operands_of o) c.numbers) (step_by c o (operands_of o)) (done f args (Some o) (seen memory c))
   goes_off o c end e =
-      subst (λ (b : Bool). GoAlike (reads_of (operands_of o) c.numbers) (option_map (state_on c o (operands_of o))
+      subst (λ (b : Bool). AreAlike o (reads_of (operands_of o) c.numbers) (option_map (state_on c o (operands_of o))
       (cond b (Some Onward) (cond (nat_eq (c.at.inst + 1) (block_at f c.at.block).range.end)
-      (edge_to (length (block_at f c.at.block).succs) (way_of o (reads_of (operands_of o) c.numbers))) None))) (done f args (Some o) (seen c)))
+      (edge_to (length (block_at f c.at.block).succs) (way_of o (reads_of (operands_of o) c.numbers))) None))) (done f args (Some o) (seen memory c)))
       (sym (le-ltb (c.at.inst + 1) (block_at f c.at.block).range.end (omega arith)))
-      (subst (λ (b : Bool). GoAlike (reads_of (operands_of o) c.numbers) (option_map (state_on c o (operands_of o))
-      (cond b (edge_to (length (block_at f c.at.block).succs) (way_of o (reads_of (operands_of o) c.numbers))) None)) (done f args (Some o) (seen c)))
+      (subst (λ (b : Bool). AreAlike o (reads_of (operands_of o) c.numbers) (option_map (state_on c o (operands_of o))
+      (cond b (edge_to (length (block_at f c.at.block).succs) (way_of o (reads_of (operands_of o) c.numbers))) None)) (done f args (Some o) (seen memory c)))
       (sym (eq-eqb (c.at.inst + 1) (block_at f c.at.block).range.end e)) (last_goes o c end))
 
   -- a step of both, from a location of the function
-  pub steps_alike : (ops : List Operation) (out : OutputValue) (start : ℕ → ℕ) (code : CodeValue) → IsEmitted f ops out start code →
+  pub steps_alike : (ops : Operations) (out : OutputValue) (start : ℕ → ℕ) (code : CodeValue) → IsEmitted f ops out start code →
       (c : State VirtualRegister) (left : ℕ) →
       c.at.block < length f.blocks → (block_at f c.at.block).range.first ≤ c.at.inst → c.at.inst + suc left ≡ (block_at f c.at.block).range.end →
-      traps_of (operation_at ops c.at.inst) (source_reads f out c) ≡ false →
-      GoAlike (source_reads f out c) (source_next f out (chosen args (operation_at ops c.at.inst) (source_reads f out c)) c) (procedure_step f ops args (seen c))
+      traps_of memory (operation_at ops c.at.inst) (source_reads f out c) ≡ false →
+      AreAlike (operation_at ops c.at.inst) (source_reads f out c)
+      (source_next f out (chosen args memory (operation_at ops c.at.inst) (source_reads f out c)) c) (procedure_step f ops args (seen memory c))
   steps_alike ops out start code ok c left block begins ends calm =
       let lt : c.at.inst < length f.insts = omega (arith, ok.within c.at.block block) in
       let o : Operation = operation_at ops c.at.inst in
-      let here : slice_get ops c.at.inst ≡ Some o = slice_get-get_or ops c.at.inst GoTo (omega (arith, ok.counted)) in
-      subst (λ (x : Option Operation). GoAlike (source_reads f out c) (source_next f out (chosen args (operation_at ops c.at.inst) (source_reads f out c)) c)
-      (done f args x (seen c))) (sym here)
-      (subst (λ (os : List OperandValue). traps_of o (reads_of os c.numbers) ≡ false → GoAlike (reads_of os c.numbers) (step_by c o os)
-      (done f args (Some o) (seen c))) (sym (ok.operands c.at.inst lt)) (pick left refl) calm)
+      let here : slice_get ops.items c.at.inst ≡ Some o = slice_get-get_or ops.items c.at.inst GoTo (omega (arith, ok.counted)) in
+      subst (λ (x : Option Operation). AreAlike (operation_at ops c.at.inst) (source_reads f out c)
+      (source_next f out (chosen args memory (operation_at ops c.at.inst) (source_reads f out c)) c)
+      (done f args x (seen memory c))) (sym here)
+      (subst (λ (os : List OperandValue). traps_of memory o (reads_of os c.numbers) ≡ false → AreAlike o (reads_of os c.numbers) (step_by c o os)
+      (done f args (Some o) (seen memory c))) (sym (ok.operands c.at.inst lt)) (pick left refl) calm)
     where
-      pick : (n : ℕ) → left ≡ n → traps_of (operation_at ops c.at.inst) (reads_of (operands_of (operation_at ops c.at.inst)) c.numbers) ≡ false → GoAlike (reads_of (operands_of (operation_at ops c.at.inst)) c.numbers)
-          (step_by c (operation_at ops c.at.inst) (operands_of (operation_at ops c.at.inst))) (done f args (Some (operation_at ops c.at.inst)) (seen c))
+      pick : (n : ℕ) → left ≡ n → traps_of memory (operation_at ops c.at.inst) (reads_of (operands_of (operation_at ops c.at.inst)) c.numbers) ≡ false →
+          AreAlike (operation_at ops c.at.inst) (reads_of (operands_of (operation_at ops c.at.inst)) c.numbers)
+          (step_by c (operation_at ops c.at.inst) (operands_of (operation_at ops c.at.inst))) (done f args (Some (operation_at ops c.at.inst)) (seen memory c))
       pick zero e calm =
           let last : c.at.inst + 1 ≡ (block_at f c.at.block).range.end = omega arith in
           goes_off (operation_at ops c.at.inst) c (ok.ends c.at.block c.at.inst block begins last) last
@@ -187,25 +209,27 @@ module _ (f : FunctionValue) (args : ℕ → ℕ) where
           let more : c.at.inst + 1 < (block_at f c.at.block).range.end = omega arith in
           goes_on (operation_at ops c.at.inst) c (ok.plain c.at.block c.at.inst block begins more) calm more
 
-  end_calm : (o : Operation) (count : ℕ) (xs : List ℕ) → IsEnd o count → traps_of o xs ≡ true → ⊥
+  end_calm : (o : Operation) (count : ℕ) (xs : List ℕ) → IsEnd o count → traps_of memory o xs ≡ true → ⊥
   end_calm (Dividing w part signed to left right) count xs end traps = end
+  end_calm (Loading bytes to address) count xs end traps = end
+  end_calm (Storing bytes address value) count xs end traps = end
   end_calm o count xs end traps = cc
 
   -- a step of the procedure that traps
-  pub steps_trap : (ops : List Operation) (out : OutputValue) (start : ℕ → ℕ) (code : CodeValue) → IsEmitted f ops out start code →
+  pub steps_trap : (ops : Operations) (out : OutputValue) (start : ℕ → ℕ) (code : CodeValue) → IsEmitted f ops out start code →
       (c : State VirtualRegister) (left : ℕ) →
       c.at.block < length f.blocks → (block_at f c.at.block).range.first ≤ c.at.inst → c.at.inst + suc left ≡ (block_at f c.at.block).range.end →
-      traps_of (operation_at ops c.at.inst) (source_reads f out c) ≡ true → procedure_step f ops args (seen c) ≡ Trapped
+      traps_of memory (operation_at ops c.at.inst) (source_reads f out c) ≡ true → procedure_step f ops args (seen memory c) ≡ Trapped memory
   steps_trap ops out start code ok c left block begins ends traps =
       let lt : c.at.inst < length f.insts = omega (arith, ok.within c.at.block block) in
       let o : Operation = operation_at ops c.at.inst in
-      let here : slice_get ops c.at.inst ≡ Some o = slice_get-get_or ops c.at.inst GoTo (omega (arith, ok.counted)) in
-      let is : traps_of o (reads_of (operands_of o) c.numbers) ≡ true =
-      subst (λ (os : List OperandValue). traps_of o (reads_of os c.numbers) ≡ true) (ok.operands c.at.inst lt) traps in
-      ap (λ (x : Option Operation). done f args x (seen c)) here ∙ pick left refl is
+      let here : slice_get ops.items c.at.inst ≡ Some o = slice_get-get_or ops.items c.at.inst GoTo (omega (arith, ok.counted)) in
+      let is : traps_of memory o (reads_of (operands_of o) c.numbers) ≡ true =
+      subst (λ (os : List OperandValue). traps_of memory o (reads_of os c.numbers) ≡ true) (ok.operands c.at.inst lt) traps in
+      ap (λ (x : Option Operation). done f args x (seen memory c)) here ∙ pick left refl is
     where
-      pick : (n : ℕ) → left ≡ n → traps_of (operation_at ops c.at.inst) (reads_of (operands_of (operation_at ops c.at.inst)) c.numbers) ≡ true →
-          done f args (Some (operation_at ops c.at.inst)) (seen c) ≡ Trapped
+      pick : (n : ℕ) → left ≡ n → traps_of memory (operation_at ops c.at.inst) (reads_of (operands_of (operation_at ops c.at.inst)) c.numbers) ≡ true →
+          done f args (Some (operation_at ops c.at.inst)) (seen memory c) ≡ Trapped memory
       pick zero e is =
           let last : c.at.inst + 1 ≡ (block_at f c.at.block).range.end = omega arith in
           absurd (end_calm (operation_at ops c.at.inst) (length (block_at f c.at.block).succs)

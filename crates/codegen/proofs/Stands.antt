@@ -8,7 +8,7 @@ use Rattle.std.proofs.lemmas.Bool.{cases_lt}
 use Rattle.regalloc2_function.specs.FunctionValue.{FunctionValue}
 use Rattle.regalloc2_function.specs.OutputValue.{OutputValue}
 use Rattle.codegen_machine.specs.declared.Instruction.{Instruction}
-use Rattle.codegen_machine.specs.declared.ir.operation.Operation.{Operation}
+use Rattle.codegen_machine.specs.Ir.Seen.{Operations}
 use Rattle.codegen.specs.Emitted.{resolved, block_code, blocks_code, block_start}
 
 module _ (starts : ℕ → ℕ) (code : List Instruction) where
@@ -43,7 +43,7 @@ all_stand starts (i ∷ is) pre =
     let rest' = subst (λ l. StandAt starts l (length (pre ++ j ∷ [])) is) (append_assoc pre (j ∷ []) js) rest in
     (here, subst (λ m. StandAt starts (pre ++ j ∷ js) m is) n rest')
 
-module _ (f : FunctionValue) (operations : List Operation) (out : OutputValue) (starts : ℕ → ℕ) (code : List Instruction) where
+module _ (f : FunctionValue) (operations : Operations) (out : OutputValue) (starts : ℕ → ℕ) (code : List Instruction) where
   block_of : (n : ℕ) → StandAt starts code 0 (blocks_code operations out f n) → (b : ℕ) → b < n →
       StandAt starts code (block_start operations out f b) (block_code operations out f b)
   unfolding blocks_code

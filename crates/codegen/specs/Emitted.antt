@@ -1,6 +1,6 @@
 -- The emitted code: one to three instructions for each item of a block's listing, block after block. Jumps name blocks at first, and then the blocks' first
 -- instructions.
-use Rattle.std.specs.Prelude.{ℕ, zero, suc, ◌+◌, Bool, true, false, nat_lt, nat_eq, if◌then◌else◌}
+use Rattle.std.specs.Prelude.{ℕ, zero, suc, ◌+◌, ◌-◌, Bool, true, false, nat_lt, nat_eq, if◌then◌else◌}
 use Rattle.std.specs.Prelude.{List, [], ◌∷◌, ◌++◌, map, length, slice_index, slice_index_or}
 use Rattle.regalloc2_names.specs.Place.{Place, NoPlace, InRegister, InSlot}
 use Rattle.regalloc2_function.specs.FunctionValue.{FunctionValue, block_at}
@@ -9,8 +9,11 @@ use Rattle.regalloc2_function.specs.Listing.{Listed, ListedInst, ListedMove, blo
 use Rattle.codegen_machine.specs.declared.ir.operation.Operation.{Operation}
 use Rattle.codegen_machine.specs.declared.ir.operation.Operation.TheVariants.{Argument as TakeArgument, Constant as TakeConstant, Copy, Compute as Computation}
 use Rattle.codegen_machine.specs.declared.ir.operation.Operation.TheVariants.{Shift as Shifting, Divide as Dividing, Compare as Comparison, Select, Jump as GoTo, BranchIf}
-use Rattle.codegen_machine.specs.declared.ir.operation.Operation.TheVariants.{BranchIfHolds}
+use Rattle.codegen_machine.specs.declared.ir.operation.Operation.TheVariants.{BranchIfHolds, Load as Loading, Store as Storing}
 use Rattle.codegen_machine.specs.declared.ir.operation.Operation.TheVariants.{Return as GiveBack}
+use Rattle.codegen_machine.specs.Ir.Numbers.{count_of}
+use Rattle.codegen_machine.specs.Ir.Seen.{Operations}
+use Rattle.codegen_machine.specs.declared.ir.operation.Bytes.{Bytes}
 use Rattle.codegen_machine.specs.declared.ir.operation.Width.{Width}
 use Rattle.codegen_machine.specs.declared.ir.operation.ShiftOperator.{ShiftOperator}
 use Rattle.codegen_machine.specs.declared.ir.operation.Condition.{Condition}
@@ -25,7 +28,7 @@ use Rattle.codegen_machine.specs.declared.Source.TheVariants.{Register, Slot, Nu
 use Rattle.codegen_machine.specs.declared.Instruction.{Instruction}
 use Rattle.codegen_machine.specs.declared.Instruction.TheVariants.{Constant, Clear, Argument, Move, Load, Store, Compute}
 use Rattle.codegen_machine.specs.declared.Instruction.TheVariants.{Shift, ShiftBy, ExtendSign, Divide, Compare, Set, MoveIf, Test, Jump}
-use Rattle.codegen_machine.specs.declared.Instruction.TheVariants.{JumpIf, Return}
+use Rattle.codegen_machine.specs.declared.Instruction.TheVariants.{JumpIf, Return, Guard, Read, Write}
 use Rattle.codegen_machine.specs.Machine.{CodeValue}
 
 -- the register number used where no register can be named
@@ -116,24 +119,41 @@ compare_code w c right places =
 abbrev pub select_code : List Place → List Instruction
 select_code places = Test (source_of (place_at places 3)) ∷ MoveIf Equal (register_of (place_at places 0)) (source_of (place_at places 2)) ∷ []
 
+-- how many addresses an access has in a memory of that size
+abbrev pub address_count : ℕ → Bytes → ℕ
+address_count size bytes = size + 1 - count_of bytes
+
+-- Traps unless the address is one of them; then reads a number from memory, or writes one.
+abbrev pub load_code : ℕ → Bytes → List Place → List Instruction
+load_code size bytes places = Guard (register_of (place_at places 1)) (address_count size bytes)
+    ∷ Read bytes (register_of (place_at places 0)) (register_of (place_at places 1)) ∷ []
+
+abbrev pub store_code : ℕ → Bytes → List Place → List Instruction
+store_code size bytes places = Guard (register_of (place_at places 0)) (address_count size bytes)
+    ∷ Write bytes (register_of (place_at places 0)) (register_of (place_at places 1)) ∷ []
+
 -- the return of a place's number, in register 0
 abbrev pub return_code : Place → List Instruction
 return_code p = fetched 0 p ∷ Return ∷ []
 
--- the instructions of an operation, with its operands' places, in a block with these successors before a block with that number; jumps name blocks
-abbrev pub operation_code : Operation → List Place → List ℕ → ℕ → List Instruction
-operation_code (TakeArgument to k) places succs next = Argument (register_of (place_at places 0)) k ∷ []
-operation_code (TakeConstant to n) places succs next = constant_code (register_of (place_at places 0)) n ∷ []
-operation_code (Copy to from) places succs next = fetched (register_of (place_at places 0)) (place_at places 1) ∷ []
-operation_code (Computation w o to left right) places succs next = Compute w o (register_of (place_at places 0)) (right_source right (place_at places 2)) ∷ []
-operation_code (Shifting w o to left count) places succs next = shift_code w o count (register_of (place_at places 0)) ∷ []
-operation_code (Dividing w part signed to left right) places succs next = divide_code w signed (place_at places 2)
-operation_code (Comparison w c to left right) places succs next = compare_code w c right places
-operation_code (Select to c one other) places succs next = select_code places
-operation_code GoTo places succs next = Jump (slice_index succs 0) ∷ []
-operation_code (BranchIf v) places succs next = branch_if_code (place_at places 0) succs next
-operation_code (BranchIfHolds w c left right) places succs next = branch_if_holds_code w c right places succs next
-operation_code (GiveBack v) places succs next = return_code (place_at places 0)
+-- the instructions of an operation, with a memory of that size and its operands' places, in a block with these successors before a block with that number;
+-- jumps name blocks
+abbrev pub operation_code : ℕ → Operation → List Place → List ℕ → ℕ → List Instruction
+operation_code size (TakeArgument to k) places succs next = Argument (register_of (place_at places 0)) k ∷ []
+operation_code size (TakeConstant to n) places succs next = constant_code (register_of (place_at places 0)) n ∷ []
+operation_code size (Copy to from) places succs next = fetched (register_of (place_at places 0)) (place_at places 1) ∷ []
+operation_code size (Computation w o to left right) places succs next =
+    Compute w o (register_of (place_at places 0)) (right_source right (place_at places 2)) ∷ []
+operation_code size (Shifting w o to left count) places succs next = shift_code w o count (register_of (place_at places 0)) ∷ []
+operation_code size (Dividing w part signed to left right) places succs next = divide_code w signed (place_at places 2)
+operation_code size (Comparison w c to left right) places succs next = compare_code w c right places
+operation_code size (Select to c one other) places succs next = select_code places
+operation_code size (Loading bytes to address) places succs next = load_code size bytes places
+operation_code size (Storing bytes address value) places succs next = store_code size bytes places
+operation_code size GoTo places succs next = Jump (slice_index succs 0) ∷ []
+operation_code size (BranchIf v) places succs next = branch_if_code (place_at places 0) succs next
+operation_code size (BranchIfHolds w c left right) places succs next = branch_if_holds_code w c right places succs next
+operation_code size (GiveBack v) places succs next = return_code (place_at places 0)
 
 -- jumps resolved to the blocks' first instructions
 abbrev pub resolved : (ℕ → ℕ) → Instruction → Instruction
@@ -142,13 +162,13 @@ resolved start (JumpIf c b) = JumpIf c (start b)
 resolved start i = i
 
 -- the operation with that number; past the last one, a jump
-abbrev pub operation_at : List Operation → ℕ → Operation
-operation_at operations i = slice_index_or operations i GoTo
+abbrev pub operation_at : Operations → ℕ → Operation
+operation_at operations i = slice_index_or operations.items i GoTo
 
-module _ (operations : List Operation) (out : OutputValue) where
+module _ (operations : Operations) (out : OutputValue) where
   -- an item of the listing of a block with these successors, before a block with that number
   abbrev pub item_code : List ℕ → ℕ → Listed → List Instruction
-  item_code succs next (ListedInst i) = operation_code (operation_at operations i) (allocs_of out i) succs next
+  item_code succs next (ListedInst i) = operation_code operations.memory_size (operation_at operations i) (allocs_of out i) succs next
   item_code succs next (ListedMove m) = move_code m.from m.to ∷ []
 
   unfoldable pub items_code : List ℕ → ℕ → List Listed → List Instruction
@@ -172,7 +192,7 @@ module _ (operations : List Operation) (out : OutputValue) where
   block_label f b = if nat_lt b (length f.blocks) then block_start f b else 0
 
 -- the code of an allocated function: its blocks, with jumps resolved, and a frame of its slots
-abbrev pub emitted : List Operation → FunctionValue → OutputValue → CodeValue
+abbrev pub emitted : Operations → FunctionValue → OutputValue → CodeValue
 emitted operations f out = record {
   instructions = map (resolved (block_label operations out f)) (blocks_code operations out f (length f.blocks));
   slots = out.num_spillslots;

@@ -1,6 +1,6 @@
 //! From an allocated function to the machine's instructions.
 
-ghost use Rattle.std.specs.Prelude.{◌≡◌, ◌<◌, ◌+◌, [], ◌∷◌, ◌++◌, IfOk, OnOk, length, map, slice_index};
+ghost use Rattle.std.specs.Prelude.{◌≡◌, ◌<◌, ◌^◌, ◌+◌, [], ◌∷◌, ◌++◌, IfOk, OnOk, length, map, slice_index};
 ghost use Rattle.regalloc2_function.specs.FunctionValue.{block_at};
 ghost use Rattle.regalloc2_function.specs.Listing.{IsListedWithin};
 ghost use Rattle.regalloc2_function.specs.OutputValue.{IsInOrder, place_at};
@@ -10,9 +10,12 @@ ghost use Rattle.codegen_machine.specs.Ir.Seen.{function_of_procedure, operation
 ghost use Rattle.codegen_machine.specs.Machine.{code_of};
 ghost use Rattle.codegen.specs.Emitted.{register_of, source_of, right_source, fetched, move_code, constant_code, operation_code, opposite, item_code, resolved};
 ghost use Rattle.codegen.specs.Emitted.{branch_code, branch_if_code, branch_if_holds_code, compare_code, divide_code, extension_code, return_code, select_code, shift_code};
+ghost use Rattle.codegen.specs.Emitted.{address_count, load_code, store_code};
 ghost use Rattle.codegen.specs.Emitted.{block_code, emitted};
 
-use codegen_machine::ir::{Condition, Count, Operation, Procedure, Right, ShiftOperator, Width};
+use codegen_machine::ir::{
+    Bytes, Condition, Count, Operation, Procedure, Right, ShiftOperator, Width,
+};
 use codegen_machine::{Code, Instruction, NO_REGISTER, Source};
 use regalloc2::{Allocation, Block, Function, InstOrEdit, Output};
 use std::alloc::{AllocError, Global};
@@ -285,6 +288,59 @@ fn emit_branch_if_holds(
     emit_branch(code, condition, succs, next)
 }
 
+/// How many addresses an access has in a memory of `memory_size` bytes.
+fn address_count(memory_size: usize, bytes: Bytes) -> usize
+    requires { memory_size < 2 ^ 31 }
+    ensures { result ≡ address_count memory_size bytes }
+{
+    let count: usize = match bytes {
+        Bytes::One => 1,
+        Bytes::Two => 2,
+        Bytes::Four => 4,
+        Bytes::Eight => 8,
+    };
+    (memory_size + 1).saturating_sub(count)
+}
+
+/// A read of memory. It traps unless the address is one that the access has.
+fn emit_load(
+    code: &mut Vec<Instruction>,
+    memory_size: usize,
+    bytes: Bytes,
+    places: &[Allocation],
+) -> Result<(), AllocError>
+    requires { memory_size < 2 ^ 31 }
+    ensures { OnOk result (code.new.items ≡ code.old.items ++ load_code memory_size bytes places.now) }
+{
+    let (to, address) = (register(place(places, 0)), register(place(places, 1)));
+    let limit = address_count(memory_size, bytes);
+    put(code, Instruction::Guard { address, limit })?;
+    put(code, Instruction::Read { bytes, to, address })
+}
+
+/// A write to memory. It traps unless the address is one that the access has.
+fn emit_store(
+    code: &mut Vec<Instruction>,
+    memory_size: usize,
+    bytes: Bytes,
+    places: &[Allocation],
+) -> Result<(), AllocError>
+    requires { memory_size < 2 ^ 31 }
+    ensures { OnOk result (code.new.items ≡ code.old.items ++ store_code memory_size bytes places.now) }
+{
+    let (address, from) = (register(place(places, 0)), register(place(places, 1)));
+    let limit = address_count(memory_size, bytes);
+    put(code, Instruction::Guard { address, limit })?;
+    put(
+        code,
+        Instruction::Write {
+            bytes,
+            address,
+            from,
+        },
+    )
+}
+
 /// The return of a place's number, in register 0.
 fn emit_return(code: &mut Vec<Instruction>, place: Allocation) -> Result<(), AllocError>
     ensures { OnOk result (code.new.items ≡ code.old.items ++ return_code place) }
@@ -293,16 +349,18 @@ fn emit_return(code: &mut Vec<Instruction>, place: Allocation) -> Result<(), All
     put(code, Instruction::Return)
 }
 
-/// The instructions of an operation, with its operands' places, in a block before block `next`.
-/// Jumps name blocks.
+/// The instructions of an operation, with a memory of `memory_size` bytes and its operands' places,
+/// in a block before block `next`. Jumps name blocks.
 fn emit_operation(
     code: &mut Vec<Instruction>,
+    memory_size: usize,
     operation: Operation,
     places: &[Allocation],
     succs: &[Block],
     next: usize,
 ) -> Result<(), AllocError>
-    ensures { OnOk result (code.new.items ≡ code.old.items ++ operation_code operation places.now succs.now next) }
+    requires { memory_size < 2 ^ 31 }
+    ensures { OnOk result (code.new.items ≡ code.old.items ++ operation_code memory_size operation places.now succs.now next) }
 {
     let first = place(places, 0);
     let to = register(first);
@@ -345,6 +403,8 @@ fn emit_operation(
             ..
         } => emit_compare(code, width, condition, right, places),
         Operation::Select { .. } => emit_select(code, places),
+        Operation::Load { bytes, .. } => emit_load(code, memory_size, bytes, places),
+        Operation::Store { bytes, .. } => emit_store(code, memory_size, bytes, places),
         Operation::Jump => put(code, jump(succs, 0)),
         Operation::BranchIf { .. } => emit_branch_if(code, first, succs, next),
         Operation::BranchIfHolds {
@@ -376,6 +436,7 @@ fn emit_item(
             let operation = f.lines[inst.index()].operation;
             emit_operation(
                 code,
+                f.memory_size,
                 operation,
                 out.inst_allocs(*inst),
                 f.block_succs(block),

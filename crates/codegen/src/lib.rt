@@ -12,7 +12,9 @@
 //! the second number is read from a register, a slot or an immediate. A 32-bit form is emitted as
 //! the same instructions with another width. A division reads its dividend from register 0, extends
 //! it into register 2, and writes quotient and remainder to these two: one is the result, the
-//! other's register is clobbered, and the divisor is read late. The emitter writes one to three
+//! other's register is clobbered, and the divisor is read late. An access to memory is a guard, which
+//! compares the address with the number of addresses that the access has in a memory of the
+//! function's size, and traps, and then the access. The emitter writes one to three
 //! instructions for a line, and one for a move. Jumps name blocks at first; once all blocks are
 //! emitted, `resolve` replaces the blocks by the numbers of instructions.
 //!
@@ -22,10 +24,11 @@
 //! omits it.
 //!
 //! The machine (`codegen_machine`) is *stuck* where a processor would misbehave: at a slot outside
-//! the frame, at the registers of the stack pointer and of the arguments, at a jump out of the
-//! code, at a condition whose flags another instruction has clobbered, and at a division whose
-//! register 2 doesn't extend the dividend. "Never stuck" is therefore a guarantee of its own. A
-//! trap isn't stuck: function and code trap alike.
+//! the frame, at an access outside memory, at the registers of the stack pointer, of the arguments
+//! and of memory, at a jump out of the code, at a condition whose flags another instruction has
+//! clobbered, and at a division whose register 2 doesn't extend the dividend. "Never stuck" is
+//! therefore a guarantee of its own. A trap isn't stuck: function and code trap alike, and leave the
+//! same memory.
 //!
 //! # What of the allocator each part uses
 //!
@@ -53,7 +56,8 @@
 //! The interpreter over vregs makes the function's steps (`proofs/Source.antt`). The machine
 //! follows the interpreter over places: registers and slots hold the same numbers as the places,
 //! and the code of the rest of the block is at the machine's address (`proofs/Simulation.antt`).
-//! The lemma connects both.
+//! The lemma connects both. Memory is no place: function and machine have the same memory after
+//! each step (`proofs/Joined.antt`), so a load writes the same number on both sides.
 //!
 //! The numbers that a step writes and leaves are chosen when the step is made
 //! (`proofs/Choices.antt`, which follows from the lemma). A step may therefore trap, and facts

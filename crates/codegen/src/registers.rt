@@ -14,8 +14,8 @@ use std::alloc::Global;
 /// The caller-saved registers of the System V calling convention.
 const CALLER_SAVED: [usize; 8] = [0, 1, 2, 6, 8, 9, 10, 11];
 
-/// The callee-saved registers.
-const CALLEE_SAVED: [usize; 6] = [3, 5, 12, 13, 14, 15];
+/// The callee-saved registers, but the one that addresses memory.
+const CALLEE_SAVED: [usize; 5] = [3, 5, 12, 13, 14];
 
 /// The set of the integer registers with these numbers.
 fn registers(numbers: &[usize]) -> PRegSet

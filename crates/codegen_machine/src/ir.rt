@@ -9,6 +9,6 @@ mod operation;
 mod procedure;
 
 pub use operation::{
-    Condition, Count, DivisionPart, Line, Operation, Operator, Right, ShiftOperator, Width,
+    Bytes, Condition, Count, DivisionPart, Line, Operation, Operator, Right, ShiftOperator, Width,
 };
 pub use procedure::{Malformed, Part, Procedure};

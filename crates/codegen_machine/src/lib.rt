@@ -1,12 +1,12 @@
 //! A machine with sixteen registers and a frame of slots, and two-address instructions: the target
 //! of a code generator.
 //!
-//! Registers are numbered as in x86-64. Two of them hold no numbers: 4 (`rsp`) addresses the frame,
-//! and 7 (`rdi`) addresses the arguments. `specs/Machine.antt` defines each instruction, step by
-//! step.
+//! Registers are numbered as in x86-64. Three of them hold no numbers: 4 (`rsp`) addresses the
+//! frame, 7 (`rdi`) the arguments, and 15 (`r15`) memory. `specs/Machine.antt` defines each
+//! instruction, step by step.
 #![tactic(auto)]
 
-use crate::ir::{Condition, Operator, ShiftOperator, Width};
+use crate::ir::{Bytes, Condition, Operator, ShiftOperator, Width};
 
 pub mod ir;
 pub mod run;
@@ -148,6 +148,33 @@ pub enum Instruction {
     Test {
         /// The number.
         from: Source,
+    },
+    /// Traps unless the number in a register is below a limit; clobbers the flags.
+    Guard {
+        /// The register.
+        address: usize,
+        /// The limit.
+        limit: usize,
+    },
+    /// Reads a number from memory into a register. The machine is stuck if a byte of it lies outside
+    /// memory.
+    Read {
+        /// How many bytes it reads, the lowest first.
+        bytes: Bytes,
+        /// The register.
+        to: usize,
+        /// The register with the address of the first byte.
+        address: usize,
+    },
+    /// Writes the lower bytes of a register to memory. The machine is stuck if one of them lies
+    /// outside memory.
+    Write {
+        /// How many bytes it writes, the lowest first.
+        bytes: Bytes,
+        /// The register with the address of the first byte.
+        address: usize,
+        /// The register.
+        from: usize,
     },
     /// Jumps to an instruction.
     Jump {

@@ -2,10 +2,11 @@
 //! specs define them.
 
 mod machine;
+mod memory;
 mod numbers;
 mod procedure;
 mod standing;
 
 pub use machine::run_code;
 pub use procedure::run_procedure;
-pub use standing::Standing;
+pub use standing::{Run, Standing};

@@ -21,12 +21,15 @@
 //!
 //! ```ebnf
 //! text      = { line } ;
-//! line      = [ block | value | jump | branch | return ] ;
+//! line      = [ memory | block | value | store | jump | branch | return ] ;
+//! memory    = "memory" number ;                                   (* in bytes, to 2147483647 *)
 //! block     = BLOCK [ vregs ] ":" ;
 //! vregs     = "(" [ vreg { "," vreg } ] ")" ;
 //! vreg      = "v" NUMBER ;                                        (* one word; the number is to 1073741823 *)
 //! value     = vreg "=" ( "argument" number | "constant" number | "copy" vreg | ( operator | condition ) pair
-//!           | shift vreg "," ( vreg | number ) | division vreg "," vreg | "select" vreg "," vreg "," vreg ) ;
+//!           | shift vreg "," ( vreg | number ) | division vreg "," vreg | "select" vreg "," vreg "," vreg | load vreg ) ;
+//! store     = "store" [ "32" | "16" | "8" ] vreg "," vreg ;
+//! load      = "load" [ "32" | "16" | "8" ] ;
 //! pair      = vreg "," ( vreg | number ) ;                        (* the number is to 2147483647 *)
 //! operator  = ( "add" | "sub" | "mul" | "and" | "or" | "xor" ) [ "32" ] ;
 //! shift     = ( "shift_left" | "shift_right" | "signed_shift_right" ) [ "32" ] ;   (* a number after it is to 63, or to 31 *)
@@ -48,6 +51,12 @@
 //!
 //! An operation whose name ends with `32` reads the lower 32 bits of its numbers, counts shifts
 //! modulo 32, and writes a result below 2^32.
+//!
+//! `load` reads the eight bytes of memory from an address on, the lowest first; `store` writes the
+//! number that comes second to the address that comes first. `32`, `16` and `8` stand for four, two
+//! and one bytes: a load clears the other bits, and a store writes the lower ones. An access traps,
+//! and changes nothing, unless all its bytes lie in memory. Memory has the size that the text's
+//! first line gives, as in `memory 4096`, or else 0.
 //!
 //! Arguments are numbered from 0, below 2^28. A function has at most a million blocks, instructions and vregs, counted
 //! from v0; a larger function is an error at the end of the text. Blocks are numbered as they appear, the entry first.

@@ -28,8 +28,8 @@ fn show<W: Write>(alloc: Global, text: &[u8], to: &mut W) -> io::Result<()> {
     writeln!(to, "compile: status {status}, {written}, {told:?}")
 }
 
-/// Functions of two arguments, which are run.
-const RUNS: [(&str, u64, u64); 34] = [
+/// Functions of two arguments with a memory of 16 bytes, which are run.
+const RUNS: [(&str, u64, u64); 40] = [
     ("v2 = and v0, v1", 12, 10),
     ("v2 = or v0, 10", 12, 0),
     ("v2 = xor v0, v1", 12, 10),
@@ -64,7 +64,28 @@ const RUNS: [(&str, u64, u64); 34] = [
     ("v2 = div32 v0, v1", HIGH + 7, HIGH + 2),
     ("v2 = signed_rem32 v0, v1", HALF_LEAST + 1, 10),
     ("v2 = signed_div32 v0, v1", HALF_LEAST, MINUS_ONE),
+    ("v2 = load v0", 8, 0),
+    ("v2 = load v0", 9, 0),
+    ("v2 = load16 v0", 15, 0),
+    ("v2 = load8 v0", 15, 0),
+    ("v2 = load8 v0", 16, 0),
+    ("v2 = load v0", MINUS_ONE, 0),
 ];
+
+/// Functions that write to memory and return the number at address 2.
+const STORES: [(&str, u64, u64); 8] = [
+    ("store v0, v1", 2, MINUS_ONE - 1),
+    ("store8 v0, v1", 2, 0x1234),
+    ("store16 v0, v1", 3, 0x1_2345),
+    ("store32 v0, v1", 6, MINUS_ONE),
+    ("store v0, v1", 8, 1),
+    ("store v0, v1", 9, 1),
+    ("store16 v0, v1", 15, 1),
+    ("store8 v0, v1", MINUS_ONE, 1),
+];
+
+/// The lines that read the number at address 2.
+const READ_AT_TWO: &str = "  v3 = constant 2\n  v2 = load v3\n";
 
 /// -1 modulo 2^64.
 const MINUS_ONE: u64 = u64::MAX;
@@ -78,16 +99,17 @@ const HIGH: u64 = 1 << 32;
 /// -2^31 modulo 2^32.
 const HALF_LEAST: u64 = 1 << 31;
 
-/// Writes what a function returns that has this line, and what its code does.
+/// Writes what a function returns that has this line and then those lines, and what its code does.
 fn show_run<W: Write>(
     alloc: Global,
     (line, left, right): (&str, u64, u64),
+    rest: &str,
     to: &mut W,
 ) -> io::Result<()> {
     let mut text = String::new(alloc);
     let written = write!(
         text,
-        "block0:\n  v0 = argument 0\n  v1 = argument 1\n  {line}\n  return v2\n"
+        "memory 16\nblock0:\n  v0 = argument 0\n  v1 = argument 1\n  {line}\n{rest}  return v2\n"
     );
     if written.is_err() {
         return Ok(());
@@ -113,7 +135,10 @@ pub fn show_all<W: Write>(alloc: Global, to: &mut W) -> io::Result<()> {
         show(alloc, text, to)?;
     }
     for run in RUNS {
-        show_run(alloc, run, to)?;
+        show_run(alloc, run, "", to)?;
+    }
+    for run in STORES {
+        show_run(alloc, run, READ_AT_TWO, to)?;
     }
     Ok(())
 }

@@ -2,7 +2,7 @@
 
 ghost use Rattle.std.specs.Prelude.{◌≤◌, IfOk};
 
-use super::agree::run_both;
+use super::agree::{agree, run_both};
 use super::random::random_program;
 use super::task::{Action, Task};
 use crate::{CompileError, compile};
@@ -96,8 +96,9 @@ fn act<O: Write, E: Write>(
         }
         Action::Run(arguments) => {
             let (source, target) = run_both(alloc, procedure, &code, arguments)?;
-            writeln!(out, "the function: {source}\nits code: {target}")?;
-            Ok(if source == target { 0 } else { REFUSED })
+            let (first, second) = (source.standing, target.standing);
+            writeln!(out, "the function: {first}\nits code: {second}")?;
+            Ok(if agree(&source, &target) { 0 } else { REFUSED })
         }
     }
 }

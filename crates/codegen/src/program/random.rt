@@ -33,6 +33,15 @@ const SHIFTS: [&str; 3] = ["shift_left", "shift_right", "signed_shift_right"];
 /// The divisions.
 const DIVISIONS: [&str; 4] = ["div", "rem", "signed_div", "signed_rem"];
 
+/// The ends of the names of accesses to memory.
+const ACCESSES: [&str; 4] = ["", "32", "16", "8"];
+
+/// The greatest address of an access. All lower ones are used too, so it has zeros in no bit.
+const LAST_ADDRESS: u32 = 63;
+
+/// The size of memory. The greatest access at the greatest address ends there.
+const MEMORY: u32 = LAST_ADDRESS + 8;
+
 /// The position of the first condition among the operations.
 const CONDITIONS: usize = 8;
 
@@ -124,11 +133,44 @@ impl Draft {
         Ok(())
     }
 
+    /// Writes an address from the lower bits of a number, and returns it.
+    fn write_address(&mut self) -> Result<u32, AllocError> {
+        let (from, address) = (self.pick(), self.new_vreg());
+        writeln!(self.text, "  v{address} = and v{from}, {LAST_ADDRESS}")?;
+        Ok(address)
+    }
+
+    /// The end of the name of an access to memory.
+    fn access(&mut self) -> &'static str {
+        let at = self.random.below(ACCESSES.len());
+        ACCESSES.get(at).copied().unwrap_or("")
+    }
+
+    /// Writes a read of memory.
+    fn write_load(&mut self, to: u32) -> Result<(), AllocError> {
+        let (address, ending) = (self.write_address()?, self.access());
+        write!(self.text, "  v{to} = load{ending} v{address}")?;
+        Ok(())
+    }
+
+    /// Writes a write to memory.
+    fn write_store(&mut self) -> Result<(), AllocError> {
+        let (address, ending) = (self.write_address()?, self.access());
+        let value = self.pick();
+        writeln!(self.text, "  store{ending} v{address}, v{value}")?;
+        Ok(())
+    }
+
     /// Writes an operation.
     fn write_operation(&mut self) -> Result<(), AllocError> {
+        if self.random.once_in(8) {
+            self.write_store()?;
+        }
         let to = self.new_vreg();
         if self.random.once_in(8) {
             self.write_division(to)?;
+        } else if self.random.once_in(8) {
+            self.write_load(to)?;
         } else {
             self.write_plain(to)?;
         }
@@ -137,7 +179,7 @@ impl Draft {
         Ok(())
     }
 
-    /// Writes an operation that isn't a division.
+    /// Writes an operation that neither divides nor reads memory.
     fn write_plain(&mut self, to: u32) -> Result<(), AllocError> {
         write!(self.text, "  v{to} = ")?;
         let at = self.random.below(24);
@@ -263,12 +305,12 @@ impl Draft {
     }
 }
 
-/// Returns the text of a randomly generated function of three arguments, the same for the same
-/// seed. The function terminates for all arguments.
+/// Returns the text of a randomly generated function of three arguments with memory, the same for
+/// the same seed. The function terminates for all arguments.
 pub fn random_program(alloc: Global, seed: u64) -> Result<String, AllocError> {
     let mut draft = Draft {
         random: Random::new(seed),
-        text: String::from_str(alloc, "block0:\n")?,
+        text: format!(in alloc; "memory {MEMORY}\nblock0:\n")?,
         known: Vec::new(alloc),
         num_vregs: 0,
         num_blocks: 1,

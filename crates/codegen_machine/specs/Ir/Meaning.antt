@@ -5,24 +5,30 @@ use Rattle.regalloc2_function.specs.FunctionValue.{FunctionValue, block_at}
 use Rattle.regalloc2_function.specs.Path.{Location, first_of}
 use Rattle.regalloc2_function.specs.SourceRun.{arguments_at}
 use Rattle.regalloc2_semantics.specs.Values.Interpreters.{number_set, passed_on}
+use Rattle.codegen_machine.specs.Ir.Seen.{Operations}
 use Rattle.codegen_machine.specs.Ir.Numbers.{RunOutcome, Running, Returned, Trapped, Stuck, further, computed_at, shifted_at, divided_at, division_traps}
-use Rattle.codegen_machine.specs.Ir.Numbers.{condition_holds, widened, truth}
+use Rattle.codegen_machine.specs.Ir.Numbers.{condition_holds, widened, truth, is_within, number_at, with_number}
 use Rattle.codegen_machine.specs.declared.ir.operation.Operation.{Operation}
 use Rattle.codegen_machine.specs.declared.ir.operation.Operation.TheVariants.{Argument, Constant, Copy, Compute, Shift, Divide, Compare, Select, Jump, BranchIf, BranchIfHolds}
-use Rattle.codegen_machine.specs.declared.ir.operation.Operation.TheVariants.{Return}
+use Rattle.codegen_machine.specs.declared.ir.operation.Operation.TheVariants.{Load, Store, Return}
 use Rattle.codegen_machine.specs.declared.ir.operation.Count.{Count}
 use Rattle.codegen_machine.specs.declared.ir.operation.Count.TheVariants.{VReg as CountIn, Number as CountOf}
 use Rattle.codegen_machine.specs.declared.ir.operation.Right.{Right}
 use Rattle.codegen_machine.specs.declared.ir.operation.Right.TheVariants.{VReg, Number}
 
--- the current line of a run, and the numbers of the virtual registers
+-- the current line of a run, the numbers of the virtual registers, and the bytes in memory
 pub record ProcedureState : Type 0 where
   pub at : Location
   pub numbers : VirtualRegister → ℕ
+  pub memory : List ℕ
 
 -- continues at the block's next line, with a vreg written
 abbrev pub onward : ProcedureState → VirtualRegister → ℕ → RunOutcome ProcedureState
-onward s v n = Running (record { at = record { block = s.at.block; inst = s.at.inst + 1 }; numbers = number_set s.numbers v n })
+onward s v n = Running (record { at = record { block = s.at.block; inst = s.at.inst + 1 }; numbers = number_set s.numbers v n; memory = s.memory })
+
+-- the same, with memory written
+abbrev pub stored : ProcedureState → List ℕ → RunOutcome ProcedureState
+stored s memory = Running (record { at = record { block = s.at.block; inst = s.at.inst + 1 }; numbers = s.numbers; memory = memory })
 
 -- continues at the first line of the successor at a position, with the arguments assigned to its parameters in parallel
 abbrev pub entered : FunctionValue → ProcedureState → ℕ → Option ℕ → RunOutcome ProcedureState
@@ -30,6 +36,7 @@ entered f s k None = Stuck
 entered f s k (Some b) = Running (record {
   at = first_of f b;
   numbers = passed_on (block_at f b).params (arguments_at f s.at.block k) s.numbers s.numbers;
+  memory = s.memory;
 })
 
 abbrev pub along : FunctionValue → ProcedureState → ℕ → RunOutcome ProcedureState
@@ -54,21 +61,26 @@ done f args (Some (Copy to from)) s = onward s to (s.numbers from)
 done f args (Some (Compute w o to left right)) s = onward s to (computed_at w o (s.numbers left) (right_number s.numbers right))
 done f args (Some (Shift w o to left count)) s = onward s to (shifted_at w o (s.numbers left) (count_number s.numbers count))
 done f args (Some (Divide w part signed to left right)) s =
-    if division_traps w signed (s.numbers left) (s.numbers right) then Trapped else onward s to (divided_at w part signed (s.numbers left) (s.numbers right))
+    if division_traps w signed (s.numbers left) (s.numbers right) then Trapped s.memory
+    else onward s to (divided_at w part signed (s.numbers left) (s.numbers right))
 done f args (Some (Compare w c to left right)) s =
     onward s to (truth (condition_holds c (widened w (s.numbers left)) (widened w (right_number s.numbers right))))
 done f args (Some (Select to c one other)) s = onward s to (if nat_eq (s.numbers c) 0 then s.numbers other else s.numbers one)
+done f args (Some (Load bytes to address)) s =
+    if is_within s.memory bytes (s.numbers address) then onward s to (number_at bytes s.memory (s.numbers address)) else Trapped s.memory
+done f args (Some (Store bytes address value)) s =
+    if is_within s.memory bytes (s.numbers address) then stored s (with_number bytes s.memory (s.numbers address) (s.numbers value)) else Trapped s.memory
 done f args (Some Jump) s = along f s 0
 done f args (Some (BranchIf v)) s = along f s (if nat_eq (s.numbers v) 0 then 1 else 0)
 done f args (Some (BranchIfHolds w c left right)) s =
     along f s (if condition_holds c (widened w (s.numbers left)) (widened w (right_number s.numbers right)) then 0 else 1)
-done f args (Some (Return v)) s = Returned (s.numbers v)
+done f args (Some (Return v)) s = Returned (s.numbers v) s.memory
 
 -- one step: that of the current line
-abbrev pub procedure_step : FunctionValue → List Operation → (ℕ → ℕ) → ProcedureState → RunOutcome ProcedureState
-procedure_step f operations args s = done f args (slice_get operations s.at.inst) s
+abbrev pub procedure_step : FunctionValue → Operations → (ℕ → ℕ) → ProcedureState → RunOutcome ProcedureState
+procedure_step f operations args s = done f args (slice_get operations.items s.at.inst) s
 
 -- that many steps
-unfoldable pub procedure_run : FunctionValue → List Operation → (ℕ → ℕ) → ℕ → ProcedureState → RunOutcome ProcedureState
+unfoldable pub procedure_run : FunctionValue → Operations → (ℕ → ℕ) → ℕ → ProcedureState → RunOutcome ProcedureState
 procedure_run f operations args zero s = Running s
 procedure_run f operations args (suc n) s = further (procedure_run f operations args n s) (procedure_step f operations args)

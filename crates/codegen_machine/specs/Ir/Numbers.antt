@@ -1,11 +1,14 @@
 -- 64-bit integers: the results of operators, and the conditions.
 use Rattle.std.specs.Prelude.{ℕ, ◌+◌, ◌-◌, ◌*◌, ◌/◌, ◌%◌, ◌^◌, Bool, false, true, ◌&&◌, ◌||◌, not, nat_eq, nat_lt, nat_le, if◌then◌else◌, bit_and, bit_or, bit_xor}
+use Rattle.std.specs.Prelude.{List, length, slice_index, set}
 use Rattle.codegen_machine.specs.declared.ir.operation.Operator.{Operator}
 use Rattle.codegen_machine.specs.declared.ir.operation.Operator.TheVariants.{Add, Sub, Mul, And, Or, Xor}
 use Rattle.codegen_machine.specs.declared.ir.operation.ShiftOperator.{ShiftOperator}
 use Rattle.codegen_machine.specs.declared.ir.operation.ShiftOperator.TheVariants.{Left, Right, SignedRight}
 use Rattle.codegen_machine.specs.declared.ir.operation.Width.{Width}
 use Rattle.codegen_machine.specs.declared.ir.operation.Width.TheVariants.{Full, Half}
+use Rattle.codegen_machine.specs.declared.ir.operation.Bytes.{Bytes}
+use Rattle.codegen_machine.specs.declared.ir.operation.Bytes.TheVariants.{One, Two, Four, Eight}
 use Rattle.codegen_machine.specs.declared.ir.operation.DivisionPart.{DivisionPart}
 use Rattle.codegen_machine.specs.declared.ir.operation.DivisionPart.TheVariants.{Quotient, Remainder}
 use Rattle.codegen_machine.specs.declared.ir.operation.Condition.{Condition}
@@ -106,20 +109,59 @@ condition_holds SignedGreaterOrEqual a b = nat_le (signed_rank b) (signed_rank a
 abbrev pub truth : Bool → ℕ
 truth b = if b then 1 else 0
 
+-- how many bytes an access reads or writes; and whether they all lie in a memory, from an address on
+abbrev pub count_of : Bytes → ℕ
+count_of One = 1
+count_of Two = 2
+count_of Four = 4
+count_of Eight = 8
+
+abbrev pub is_within : List ℕ → Bytes → ℕ → Bool
+is_within memory bytes a = nat_le (a + count_of bytes) (length memory)
+
+-- the number in one byte of a memory, in two, four or eight, the lowest first
+abbrev pub pair_at : List ℕ → ℕ → ℕ
+pair_at memory a = slice_index memory a + 2 ^ 8 * slice_index memory (a + 1)
+
+abbrev pub four_at : List ℕ → ℕ → ℕ
+four_at memory a = pair_at memory a + 2 ^ 16 * pair_at memory (a + 2)
+
+abbrev pub number_at : Bytes → List ℕ → ℕ → ℕ
+number_at One memory a = slice_index memory a
+number_at Two memory a = pair_at memory a
+number_at Four memory a = four_at memory a
+number_at Eight memory a = four_at memory a + 2 ^ 32 * four_at memory (a + 4)
+
+-- a memory with the lower bytes of a number at an address: with one, two, four or eight, the lowest first
+abbrev pub with_byte : List ℕ → ℕ → ℕ → List ℕ
+with_byte memory a n = set memory a (n % 2 ^ 8)
+
+abbrev pub with_pair : List ℕ → ℕ → ℕ → List ℕ
+with_pair memory a n = with_byte (with_byte memory a n) (a + 1) (n / 2 ^ 8)
+
+abbrev pub with_four : List ℕ → ℕ → ℕ → List ℕ
+with_four memory a n = with_pair (with_pair memory a n) (a + 2) (n / 2 ^ 16)
+
+abbrev pub with_number : Bytes → List ℕ → ℕ → ℕ → List ℕ
+with_number One memory a n = with_byte memory a n
+with_number Two memory a n = with_pair memory a n
+with_number Four memory a n = with_four memory a n
+with_number Eight memory a n = with_four (with_four memory a n) (a + 4) (n / 2 ^ 32)
+
 -- a table of numbers with one entry changed
 abbrev pub put : (ℕ → ℕ) → ℕ → ℕ → ℕ → ℕ
 put m k n q = if nat_eq k q then n else m q
 
--- the outcome of a run: it still runs, in some state; it has returned a number; it has trapped; or it is stuck
+-- the outcome of a run: it still runs, in some state; it has returned a number, and left a memory, byte by byte; it has trapped, and left one; or it is stuck
 pub data RunOutcome (S : Type 0) : Type 0 where
   Running : S → RunOutcome S
-  Returned : ℕ → RunOutcome S
-  Trapped : RunOutcome S
+  Returned : ℕ → List ℕ → RunOutcome S
+  Trapped : List ℕ → RunOutcome S
   Stuck : RunOutcome S
 
 -- continues if it still runs
 abbrev pub further : {S : Type 0} → RunOutcome S → (S → RunOutcome S) → RunOutcome S
 further (Running s) go = go s
-further (Returned n) go = Returned n
-further Trapped go = Trapped
+further (Returned n memory) go = Returned n memory
+further (Trapped memory) go = Trapped memory
 further Stuck go = Stuck

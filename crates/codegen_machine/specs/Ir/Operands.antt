@@ -9,7 +9,7 @@ use Rattle.regalloc2_names.specs.declared.OperandKind.TheVariants.{Def, Use}
 use Rattle.regalloc2_names.specs.declared.OperandPos.TheVariants.{Early, Late}
 use Rattle.codegen_machine.specs.declared.ir.operation.Operation.{Operation}
 use Rattle.codegen_machine.specs.declared.ir.operation.Operation.TheVariants.{Argument, Constant, Copy, Compute, Shift, Divide, Compare, Select, Jump, BranchIf, BranchIfHolds}
-use Rattle.codegen_machine.specs.declared.ir.operation.Operation.TheVariants.{Return}
+use Rattle.codegen_machine.specs.declared.ir.operation.Operation.TheVariants.{Load, Store, Return}
 use Rattle.codegen_machine.specs.declared.ir.operation.DivisionPart.{DivisionPart}
 use Rattle.codegen_machine.specs.declared.ir.operation.DivisionPart.TheVariants.{Quotient, Remainder}
 use Rattle.codegen_machine.specs.declared.ir.operation.Count.{Count}
@@ -58,6 +58,8 @@ operands_of (Shift w o to left count) = def_in (Reuse 1) to ∷ use_in Reg left 
 operands_of (Divide w part signed to left right) = divide_operands part to left right
 operands_of (Compare w c to left right) = def_in Reg to ∷ use_in Reg left ∷ right_in right
 operands_of (Select to c one other) = def_in (Reuse 1) to ∷ use_in Reg one ∷ use_in Any other ∷ use_in Any c ∷ []
+operands_of (Load bytes to address) = def_in Reg to ∷ use_in Reg address ∷ []
+operands_of (Store bytes address value) = use_in Reg address ∷ use_in Reg value ∷ []
 operands_of Jump = []
 operands_of (BranchIf v) = use_in Any v ∷ []
 operands_of (BranchIfHolds w c left right) = use_in Reg left ∷ right_in right

@@ -1,5 +1,5 @@
 -- The allocator's view of a procedure: its function.
-use Rattle.std.specs.Prelude.{false, map, [], List}
+use Rattle.std.specs.Prelude.{ℕ, false, map, [], List}
 use Rattle.std.proofs.Common.{arith}
 use Rattle.std.proofs.lemmas.List.{length-map}
 use Rattle.std.proofs.lemmas.List.Elements.{All-nil}
@@ -41,9 +41,13 @@ function_of_procedure p = record {
   allows_multiple_defs = false;
 }
 
--- its operations, by number
-abbrev pub operations : Procedure → List Operation
-operations p = operations_of p.lines.items
+-- the operations of a procedure, by number, and the size of its memory
+pub record Operations : Type 0 where
+  pub items : List Operation
+  pub memory_size : ℕ
+
+abbrev pub operations : Procedure → Operations
+operations p = record { items = operations_of p.lines.items; memory_size = p.memory_size }
 
 -- it is within the limits of each function
 pub limited_procedure : (p : Procedure) → IsLimited (function_of_procedure p)

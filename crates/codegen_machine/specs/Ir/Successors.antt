@@ -10,7 +10,7 @@ use Rattle.codegen_machine.specs.Ir.Operands.{operands_of}
 use Rattle.codegen_machine.specs.declared.ir.operation.Line.{Line}
 use Rattle.codegen_machine.specs.declared.ir.procedure.Part.{Part}
 use Rattle.codegen_machine.specs.declared.ir.procedure.Malformed.{Malformed}
-use Rattle.codegen_machine.specs.declared.ir.procedure.Malformed.TheVariants.{TooLarge, MissingSuccessor, UnknownRegister, LargeNumber}
+use Rattle.codegen_machine.specs.declared.ir.procedure.Malformed.TheVariants.{TooLarge, MissingSuccessor, UnknownRegister, LargeNumber, LargeMemory}
 
 -- the number of successors that an operation requires
 abbrev pub wanted_by : Operation → ℕ
@@ -49,9 +49,10 @@ has_small_number l = right_is_small l.operation
     right_is_small (BranchIfHolds w c left right) = is_small right
     right_is_small o = true
 
--- why blocks and lines are rejected
+-- why blocks and lines are rejected; a size of memory is rejected later
 abbrev pub IsMalformed : List Part → List Line → ℕ → Malformed → Type 0
 IsMalformed parts lines vregs TooLarge = (1000000 < length parts) ⊎ (1000000 < length lines) ⊎ (1000000 < vregs)
 IsMalformed parts lines vregs MissingSuccessor = list_all (has_successors (operations_of lines)) parts ≡ false
 IsMalformed parts lines vregs UnknownRegister = list_all (knows_registers vregs) lines ≡ false
 IsMalformed parts lines vregs LargeNumber = list_all has_small_number lines ≡ false
+IsMalformed parts lines vregs LargeMemory = ⊥

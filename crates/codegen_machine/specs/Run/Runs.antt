@@ -1,5 +1,5 @@
--- Runs whose numbers are 0 at the start, except for the given arguments.
-use Rattle.std.specs.Prelude.{ℕ, List, codes, slice_index, None}
+-- Runs whose numbers are 0 at the start, except for the given arguments and memory.
+use Rattle.std.specs.Prelude.{ℕ, ◌≡◌, List, codes, slice_index, None}
 use Rattle.std.specs.Fmt.{decimal}
 use Rattle.regalloc2_function.specs.Path.{first_of}
 use Rattle.codegen_machine.specs.Ir.Numbers.{RunOutcome, Running as runs, Returned as returned, Trapped as traps, Stuck as sticks}
@@ -7,6 +7,7 @@ use Rattle.codegen_machine.specs.Ir.Meaning.{ProcedureState}
 use Rattle.codegen_machine.specs.Ir.Seen.{function_of_procedure}
 use Rattle.codegen_machine.specs.declared.ir.procedure.Procedure.{Procedure}
 use Rattle.codegen_machine.specs.Machine.{MachineState}
+use Rattle.codegen_machine.specs.declared.run.standing.Run.{Run}
 use Rattle.codegen_machine.specs.declared.run.standing.Standing.{Standing}
 use Rattle.codegen_machine.specs.declared.run.standing.Standing.TheVariants.{Running, Returned, Trapped, Stuck}
 
@@ -14,25 +15,25 @@ use Rattle.codegen_machine.specs.declared.run.standing.Standing.TheVariants.{Run
 abbrev pub arguments_of : List ℕ → ℕ → ℕ
 arguments_of arguments k = slice_index arguments k
 
-abbrev pub first_state : Procedure → ProcedureState
-first_state p = record { at = first_of (function_of_procedure p) 0; numbers = λ v. 0 }
+abbrev pub first_state : Procedure → List ℕ → ProcedureState
+first_state p memory = record { at = first_of (function_of_procedure p) 0; numbers = λ v. 0; memory = memory }
 
-abbrev pub first_machine : MachineState
-first_machine = record { pc = 0; registers = λ r. 0; frame = λ k. 0; compared = None }
+abbrev pub first_machine : List ℕ → MachineState
+first_machine memory = record { pc = 0; registers = λ r. 0; frame = λ k. 0; compared = None; memory = memory }
 
--- the outcome of a run, without its state
-abbrev pub standing_of : {S : Type 0} → RunOutcome S → Standing
-standing_of (runs s) = Running
-standing_of (returned n) = Returned n
-standing_of traps = Trapped
-standing_of sticks = Stuck
+-- the outcome with its state and memory
+abbrev pub run_outcome : {S : Type 0} → Standing → S → List ℕ → RunOutcome S
+run_outcome Running s memory = runs s
+run_outcome (Returned n) s memory = returned n memory
+run_outcome Trapped s memory = traps memory
+run_outcome Stuck s memory = sticks
 
--- the outcome with its state
-abbrev pub run_outcome : {S : Type 0} → Standing → S → RunOutcome S
-run_outcome Running s = runs s
-run_outcome (Returned n) s = returned n
-run_outcome Trapped s = traps
-run_outcome Stuck s = sticks
+-- the run of an interpreter that has that outcome and leaves that memory; if it is stuck, its memory is unknown
+abbrev pub IsMachineRun : RunOutcome MachineState → Run → Type 0
+IsMachineRun outcome r = (s : MachineState) × (s.memory ≡ r.memory.items) × (outcome ≡ run_outcome r.standing s r.memory.items)
+
+abbrev pub IsProcedureRun : RunOutcome ProcedureState → Run → Type 0
+IsProcedureRun outcome r = (s : ProcedureState) × (s.memory ≡ r.memory.items) × (outcome ≡ run_outcome r.standing s r.memory.items)
 
 -- the outcome as the interpreters' type
 abbrev pub standing_text : Standing → List ℕ

@@ -5,6 +5,8 @@ use Rattle.codegen_machine.specs.declared.ir.operation.Operator.{Operator}
 use Rattle.codegen_machine.specs.declared.ir.operation.Operator.TheVariants.{Add, Sub, Mul, And, Or, Xor}
 use Rattle.codegen_machine.specs.declared.ir.operation.ShiftOperator.{ShiftOperator}
 use Rattle.codegen_machine.specs.declared.ir.operation.ShiftOperator.TheVariants.{Left, Right, SignedRight}
+use Rattle.codegen_machine.specs.declared.ir.operation.Bytes.{Bytes}
+use Rattle.codegen_machine.specs.declared.ir.operation.Bytes.TheVariants.{One, Two, Four, Eight}
 use Rattle.codegen_machine.specs.declared.ir.operation.Width.{Width}
 use Rattle.codegen_machine.specs.declared.ir.operation.Width.TheVariants.{Full, Half}
 use Rattle.codegen_machine.specs.declared.ir.operation.Condition.{Condition}
@@ -30,6 +32,14 @@ byte_names = codes "%al" ∷ codes "%cl" ∷ codes "%dl" ∷ codes "%bl" ∷ cod
 abbrev pub half_names : List (List ℕ)
 half_names = codes "%eax" ∷ codes "%ecx" ∷ codes "%edx" ∷ codes "%ebx" ∷ codes "%esp" ∷ codes "%ebp" ∷ codes "%esi" ∷ codes "%edi"
     ∷ codes "%r8d" ∷ codes "%r9d" ∷ codes "%r10d" ∷ codes "%r11d" ∷ codes "%r12d" ∷ codes "%r13d" ∷ codes "%r14d" ∷ codes "%r15d" ∷ []
+
+-- the names of their lower 16 bits
+abbrev pub word_names : List (List ℕ)
+word_names = codes "%ax" ∷ codes "%cx" ∷ codes "%dx" ∷ codes "%bx" ∷ codes "%sp" ∷ codes "%bp" ∷ codes "%si" ∷ codes "%di"
+    ∷ codes "%r8w" ∷ codes "%r9w" ∷ codes "%r10w" ∷ codes "%r11w" ∷ codes "%r12w" ∷ codes "%r13w" ∷ codes "%r14w" ∷ codes "%r15w" ∷ []
+
+abbrev pub word_name : ℕ → List ℕ
+word_name r = slice_index_or word_names r (codes "%none")
 
 abbrev pub half_name : ℕ → List ℕ
 half_name r = slice_index_or half_names r (codes "%none")
@@ -78,7 +88,31 @@ condition_letters SignedLessOrEqual = codes "le"
 condition_letters SignedGreater = codes "g"
 condition_letters SignedGreaterOrEqual = codes "ge"
 
--- an operand in memory: eight bytes, addressed by a register
+-- a comparison of an address with a limit, and a jump to the instruction that traps
+abbrev pub guard_text : ℕ → ℕ → List ℕ
+guard_text a limit = codes "cmpq $" ++ decimal limit ++ codes ", " ++ register_name a ++ codes "; jae .Ltrap"
+
+-- a read of memory clears the upper bits of the register: the instruction, and the register's name
+abbrev pub read_text : Bytes → ℕ → List ℕ
+read_text One a = codes "movzbl (%r15," ++ register_name a ++ codes "), "
+read_text Two a = codes "movzwl (%r15," ++ register_name a ++ codes "), "
+read_text Four a = codes "movl (%r15," ++ register_name a ++ codes "), "
+read_text Eight a = codes "movq (%r15," ++ register_name a ++ codes "), "
+
+abbrev pub read_name : Bytes → ℕ → List ℕ
+read_name One r = half_name r
+read_name Two r = half_name r
+read_name Four r = half_name r
+read_name Eight r = register_name r
+
+-- a write: the instruction with the register's lower bytes
+abbrev pub write_text : Bytes → ℕ → List ℕ
+write_text One r = codes "movb " ++ byte_name r
+write_text Two r = codes "movw " ++ word_name r
+write_text Four r = codes "movl " ++ half_name r
+write_text Eight r = codes "movq " ++ register_name r
+
+-- an operand in the frame: eight bytes, addressed by a register
 abbrev pub frame_slot_text : ℕ → List ℕ
 frame_slot_text k = codes "8*" ++ decimal k ++ codes "(%rsp)"
 
@@ -106,6 +140,9 @@ instruction_text (variant.Set to c) = codes "set" ++ condition_letters c ++ code
     ++ register_name to
 instruction_text (variant.MoveIf c to from) = codes "cmov" ++ condition_letters c ++ codes "q " ++ source_text Full from ++ codes ", " ++ register_name to
 instruction_text (variant.Test from) = codes "cmpq $0, " ++ source_text Full from
+instruction_text (variant.Guard a limit) = guard_text a limit
+instruction_text (variant.Read bytes to a) = read_text bytes a ++ read_name bytes to
+instruction_text (variant.Write bytes a from) = write_text bytes from ++ codes ", (%r15," ++ register_name a ++ codes ")"
 instruction_text (variant.Jump target) = codes "jmp .L" ++ decimal target
 instruction_text (variant.JumpIf c target) = codes "j" ++ condition_letters c ++ codes " .L" ++ decimal target
 instruction_text variant.Return = codes "jmp .Lreturn"
@@ -129,14 +166,16 @@ unfoldable pub lines_text : ℕ → ℕ → List Instruction → List ℕ
 lines_text count k [] = []
 lines_text count k (i ∷ rest) = line_text count k i ++ lines_text count (k + 1) rest
 
--- the start of a function: it pushes the registers that it must preserve for its caller
+-- the start of a function: it pushes the registers that it must preserve for its caller, and keeps the memory's address
 unfoldable pub entry_text : List ℕ
 entry_text = codes "  .globl compiled\ncompiled:\n"
     ++ codes "  pushq %rbx\n  pushq %rbp\n  pushq %r12\n  pushq %r13\n  pushq %r14\n  pushq %r15\n"
+    ++ codes "  movq %rsi, %r15\n"
 
--- its end: it pops those registers
+-- its end: it pops those registers; and the instruction that traps
 unfoldable pub exit_text : List ℕ
 exit_text = codes "  popq %r15\n  popq %r14\n  popq %r13\n  popq %r12\n  popq %rbp\n  popq %rbx\n  ret\n"
+    ++ codes ".Ltrap:\n  ud2\n"
     ++ codes "  .section .note.GNU-stack,\"\",@progbits\n"
 
 -- code as a function: it allocates a frame for the slots, and frees it before it returns

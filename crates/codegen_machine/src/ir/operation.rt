@@ -58,6 +58,19 @@ pub enum Width {
     Half,
 }
 
+/// How many bytes of memory an operation reads or writes.
+#[derive(Clone, Copy, Debug, PartialEq, Eq)]
+pub enum Bytes {
+    /// One.
+    One,
+    /// Two.
+    Two,
+    /// Four.
+    Four,
+    /// Eight.
+    Eight,
+}
+
 /// The result of a division.
 #[derive(Clone, Copy, Debug, PartialEq, Eq)]
 pub enum DivisionPart {
@@ -201,6 +214,26 @@ pub enum Operation {
         yes: VReg,
         /// The result if it is 0.
         no: VReg,
+    },
+    /// Reads a number from memory; its upper bits are 0. It traps if a byte of it lies outside
+    /// memory.
+    Load {
+        /// How many bytes it reads, the lowest first.
+        bytes: Bytes,
+        /// The vreg it defines.
+        to: VReg,
+        /// The address of the first byte.
+        address: VReg,
+    },
+    /// Writes the lower bytes of a number to memory. It traps, and writes none, if one of them lies
+    /// outside memory.
+    Store {
+        /// How many bytes it writes, the lowest first.
+        bytes: Bytes,
+        /// The address of the first byte.
+        address: VReg,
+        /// The number.
+        value: VReg,
     },
     /// Jumps to the only successor of its block.
     Jump,
@@ -390,6 +423,12 @@ fn operands(alloc: Global, operation: &Operation) -> Result<Vec<Operand>, AllocE
             let to = Operand::reg_reuse_def(to, 1);
             let (no, condition) = (Operand::any_use(no), Operand::any_use(condition));
             [to, Operand::reg_use(yes), no, condition].to_vec(alloc)
+        }
+        Operation::Load { to, address, .. } => {
+            [Operand::reg_def(to), Operand::reg_use(address)].to_vec(alloc)
+        }
+        Operation::Store { address, value, .. } => {
+            [Operand::reg_use(address), Operand::reg_use(value)].to_vec(alloc)
         }
         Operation::Jump => Ok(Vec::new(alloc)),
         Operation::BranchIfHolds { left, right, .. } => {

@@ -1,6 +1,6 @@
 //! Functions: blocks of lines.
 
-ghost use Rattle.std.specs.Prelude.{◌≡◌, ◌⊎◌, ◌<◌, ◌^◌, ◌-◌, IfOk, IfErr, IsTrue, All, map, vec_len};
+ghost use Rattle.std.specs.Prelude.{◌≡◌, ◌⊎◌, ◌<◌, ◌≤◌, ◌^◌, ◌-◌, IfOk, IfErr, IsTrue, All, map, vec_len};
 ghost use Rattle.std.specs.List.{list_all};
 ghost use Rattle.codegen_machine.specs.Ir.Successors.{has_small_number, has_successors, knows_registers, operations_of, wanted_by, IsMalformed};
 
@@ -33,9 +33,12 @@ pub struct Procedure {
     pub lines: Vec<Line>,
     /// A bound above the number of each virtual register.
     pub num_vregs: usize,
+    /// The size of the memory that it uses, in bytes.
+    pub memory_size: usize,
     pub ghost few_parts: { vec_len parts < 2 ^ 32 - 1 },
     pub ghost few_lines: { vec_len lines < 2 ^ 30 },
     pub ghost few_vregs: { num_vregs < 2 ^ 30 },
+    pub ghost small_memory: { memory_size < 2 ^ 31 },
     pub ghost known: { IsTrue (list_all (knows_registers num_vregs) lines.items) },
     pub ghost small: { IsTrue (list_all has_small_number lines.items) },
     pub ghost successors: { IsTrue (list_all (has_successors (operations_of lines.items)) parts.items) },
@@ -52,6 +55,8 @@ pub enum Malformed {
     UnknownRegister,
     /// A line has a constant of 2^31 or more as its second number.
     LargeNumber,
+    /// The memory has 2^31 bytes or more.
+    LargeMemory,
 }
 
 impl fmt::Display for Malformed {
@@ -66,6 +71,7 @@ impl fmt::Display for Malformed {
                 )
             }
             Malformed::LargeNumber => write!(f, "a line has a number of 2^31 or more"),
+            Malformed::LargeMemory => write!(f, "the memory has 2^31 bytes or more"),
         }
     }
 }
@@ -140,14 +146,14 @@ fn all_are_small(lines: &[Line]) -> bool
 }
 
 impl Procedure {
-    /// Returns the function of these blocks and lines.
+    /// Returns the function of these blocks and lines, without memory.
     ///
     /// # Errors
     ///
     /// The first that applies, in this order: `TooLarge`, `MissingSuccessor`, `UnknownRegister`,
     /// `LargeNumber`.
     pub fn new(parts: Vec<Part>, lines: Vec<Line>, num_vregs: usize) -> Result<Procedure, Malformed>
-        ensures ok { IfOk result (λ p. (p.parts ≡ parts) × (p.lines ≡ lines) × (p.num_vregs ≡ num_vregs)) }
+        ensures ok { IfOk result (λ p. (p.parts ≡ parts) × (p.lines ≡ lines) × (p.num_vregs ≡ num_vregs) × (p.memory_size ≡ 0)) }
         ensures err { IfErr result (IsMalformed parts.items lines.items num_vregs) }
     {
         const MOST: usize = 1_000_000;
@@ -167,6 +173,33 @@ impl Procedure {
             parts,
             lines,
             num_vregs,
+            memory_size: 0,
+        })
+    }
+
+    /// Returns the function with a memory of that many bytes.
+    ///
+    /// # Errors
+    ///
+    /// `LargeMemory` from 2^31 on.
+    pub fn with_memory(self, memory_size: usize) -> Result<Procedure, Malformed>
+        ensures ok { IfOk result (λ p. (p.parts ≡ self.parts) × (p.lines ≡ self.lines) × (p.num_vregs ≡ self.num_vregs) × (p.memory_size ≡ memory_size)) }
+        ensures err { IfErr result (λ e. (e ≡ Malformed.LargeMemory) × (2 ^ 31 ≤ memory_size)) }
+    {
+        if memory_size >= 1 << 31 {
+            return Err(Malformed::LargeMemory);
+        }
+        let Procedure {
+            parts,
+            lines,
+            num_vregs,
+            memory_size: _,
+        } = self;
+        Ok(Procedure {
+            parts,
+            lines,
+            num_vregs,
+            memory_size,
         })
     }
 }

@@ -3,33 +3,35 @@
 ghost use Rattle.std.specs.Prelude.{◌≡◌, ◌+◌, ◌<◌, ◌^◌, IfOk, true, nat_lt, if◌then◌else◌, replicate, vec_len};
 ghost use Rattle.codegen_machine.specs.Ir.Numbers.{computed_at, condition_holds, extended, shifted_at, truth, widened};
 ghost use Rattle.codegen_machine.specs.Machine.{code_of, compared_to, divides, executed, is_general, jumped, machine_run, machine_step};
-ghost use Rattle.codegen_machine.specs.Machine.{frame_stored, with_compared, with_register, with_source, written};
-ghost use Rattle.codegen_machine.specs.Run.Runs.{arguments_of, first_machine, standing_of, run_outcome};
-ghost use Rattle.codegen_machine.specs.Run.States.{machine_state, source_number, MakesOutcome};
+ghost use Rattle.codegen_machine.specs.Machine.{frame_stored, guarded, memory_read, memory_written, with_compared, with_register, with_source, written};
+ghost use Rattle.codegen_machine.specs.Run.Runs.{arguments_of, first_machine, IsMachineRun};
+ghost use Rattle.codegen_machine.specs.Run.States.{machine_outcome, machine_state, source_number, MakesOutcome};
 
+use super::memory::{is_within, number_at, put_number};
 use super::numbers::{
     argument, compute_at, divided_at, does_hold, does_trap, extended, shift_at, widened,
 };
-use super::standing::Standing;
-use crate::ir::{Condition, DivisionPart, Operator, ShiftOperator, Width};
+use super::standing::{Run, Standing};
+use crate::ir::{Bytes, Condition, DivisionPart, Operator, ShiftOperator, Width};
 use crate::{Code, Instruction, Source};
 use std::alloc::{AllocError, Global};
 
-/// The machine's state: the current instruction, the numbers in registers and slots, and the
-/// numbers last compared, unless an instruction has clobbered them.
+/// The machine's state: the current instruction, the numbers in registers and slots, the numbers
+/// last compared, unless an instruction has clobbered them, and memory.
 #[derive(Drop)]
 pub struct Machine {
     pc: usize,
     registers: [u64; 16],
     frame: Vec<u64>,
     compared: Option<(u64, u64)>,
+    memory: Vec<u8>,
 }
 
 /// Whether a register holds numbers.
 fn is_for_numbers(register: usize) -> bool
     ensures { result ≡ is_general register }
 {
-    register < 16 && register != 4 && register != 7
+    register < 15 && register != 4 && register != 7
 }
 
 impl Machine {
@@ -238,6 +240,52 @@ impl Machine {
         self.write(to, number, compared)
     }
 
+    /// Traps unless the number in a register is below a limit.
+    fn guard(&mut self, address: usize, limit: usize) -> Option<Standing>
+        requires room { self.old.pc + 1 < 2 ^ 64 }
+        ensures { let s = machine_state self.old in MakesOutcome (with_register s address (λ a. guarded s a limit)) self.old self.new result }
+    {
+        let address = self.register(address)?;
+        if address >= limit as u64 {
+            return Some(Standing::Trapped);
+        }
+        self.compared = None;
+        self.pc += 1;
+        Some(Standing::Running)
+    }
+
+    /// Reads a number from memory.
+    fn read(&mut self, bytes: Bytes, to: usize, address: usize) -> Option<Standing>
+        requires room { self.old.pc + 1 < 2 ^ 64 }
+        ensures { let s = machine_state self.old in MakesOutcome (with_register s address (λ a. memory_read s bytes to a)) self.old self.new result }
+    {
+        let address = self.register(address)?;
+        if !is_within(&self.memory, bytes, address) {
+            return None;
+        }
+        let (number, compared) = (
+            number_at(&self.memory, bytes, address as usize),
+            self.compared,
+        );
+        self.write(to, number, compared)
+    }
+
+    /// Writes a number to memory.
+    fn write_memory(&mut self, bytes: Bytes, address: usize, from: usize) -> Option<Standing>
+        requires room { self.old.pc + 1 < 2 ^ 64 }
+        ensures { let s = machine_state self.old in MakesOutcome (with_register s address (λ a. with_register s from
+            (λ n. memory_written s bytes a n))) self.old self.new result }
+    {
+        let address = self.register(address)?;
+        let number = self.register(from)?;
+        if !is_within(&self.memory, bytes, address) {
+            return None;
+        }
+        put_number(&mut self.memory, bytes, address as usize, number);
+        self.pc += 1;
+        Some(Standing::Running)
+    }
+
     /// Jumps if a condition holds.
     fn jump_if(&mut self, condition: Condition, target: usize) -> Option<Standing>
         requires room { self.old.pc + 1 < 2 ^ 64 }
@@ -303,6 +351,13 @@ impl Machine {
                 let number = self.source(from)?;
                 self.compare(number, 0)
             }
+            Instruction::Guard { address, limit } => self.guard(address, limit),
+            Instruction::Read { bytes, to, address } => self.read(bytes, to, address),
+            Instruction::Write {
+                bytes,
+                address,
+                from,
+            } => self.write_memory(bytes, address, from),
             Instruction::Jump { target } => {
                 self.pc = target;
                 Some(Standing::Running)
@@ -315,7 +370,7 @@ impl Machine {
     /// Makes a step.
     fn step(&mut self, code: &Code, arguments: &[u64]) -> Standing
         requires { vec_len self.old.frame ≡ code.now.slots }
-        ensures step { machine_step (code_of code.now) (arguments_of arguments.now) (machine_state self.old) ≡ run_outcome result (machine_state self.new) }
+        ensures step { machine_step (code_of code.now) (arguments_of arguments.now) (machine_state self.old) ≡ machine_outcome result self.new }
         ensures frame { vec_len self.new.frame ≡ vec_len self.old.frame }
     {
         match code.instructions.get(self.pc) {
@@ -334,28 +389,38 @@ fn zeros(alloc: Global, count: usize) -> Result<Vec<u64>, AllocError>
     vec![in alloc; 0; count]
 }
 
-/// Returns the outcome of running the code for that many steps, with 0 in all registers and slots
-/// at the start. Arguments past the given ones are 0.
+/// Returns the outcome of running the code for that many steps, and the memory that it leaves, with
+/// 0 in all registers and slots at the start. Arguments past the given ones are 0.
 pub fn run_code(
     alloc: Global,
     code: &Code,
     arguments: &[u64],
+    memory: Vec<u8>,
     steps: u64,
-) -> Result<Standing, AllocError>
-    ensures { IfOk result (λ r. r ≡ standing_of (machine_run (code_of code.now) (arguments_of arguments.now) steps first_machine)) }
+) -> Result<Run, AllocError>
+    ensures { IfOk result (IsMachineRun (machine_run (code_of code.now) (arguments_of arguments.now) steps (first_machine memory.items))) }
 {
     let mut machine = Machine {
         pc: 0,
         registers: [0; 16],
         frame: zeros(alloc, code.slots)?,
         compared: None,
+        memory,
     };
     for _step in 0..steps {
         let standing = machine.step(code, arguments);
         match standing {
             Standing::Running => {}
-            _ => return Ok(standing),
+            _ => {
+                return Ok(Run {
+                    standing,
+                    memory: machine.memory,
+                });
+            }
         }
     }
-    Ok(Standing::Running)
+    Ok(Run {
+        standing: Standing::Running,
+        memory: machine.memory,
+    })
 }

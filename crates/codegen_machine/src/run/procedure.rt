@@ -5,15 +5,16 @@ ghost use Rattle.regalloc2_semantics.specs.Values.Interpreters.{number_set, pass
 ghost use Rattle.regalloc2_function.specs.FunctionValue.{block_at};
 ghost use Rattle.regalloc2_function.specs.Path.{first_of};
 ghost use Rattle.regalloc2_function.specs.SourceRun.{arguments_at};
-ghost use Rattle.codegen_machine.specs.Ir.Numbers.{condition_holds, divided_at, division_traps, widened, Trapped};
-ghost use Rattle.codegen_machine.specs.Ir.Meaning.{along, count_number, onward, right_number, procedure_run, procedure_step};
+ghost use Rattle.codegen_machine.specs.Ir.Numbers.{condition_holds, divided_at, division_traps, is_within, number_at, widened, with_number, Trapped};
+ghost use Rattle.codegen_machine.specs.Ir.Meaning.{along, count_number, onward, right_number, stored, procedure_run, procedure_step};
 ghost use Rattle.codegen_machine.specs.Ir.Seen.{function_of_procedure, operations};
-ghost use Rattle.codegen_machine.specs.Run.Runs.{arguments_of, first_state, standing_of, run_outcome};
-ghost use Rattle.codegen_machine.specs.Run.States.{numbers_by_vreg, state_of};
+ghost use Rattle.codegen_machine.specs.Run.Runs.{arguments_of, first_state, IsProcedureRun};
+ghost use Rattle.codegen_machine.specs.Run.States.{numbers_by_vreg, procedure_outcome, state_of};
 
+use super::memory::{is_within, number_at, put_number};
 use super::numbers::{argument, compute_at, divided_at, does_hold, does_trap, shift_at, widened};
-use super::standing::Standing;
-use crate::ir::{Condition, Count, DivisionPart, Operation, Procedure, Right, Width};
+use super::standing::{Run, Standing};
+use crate::ir::{Bytes, Condition, Count, DivisionPart, Operation, Procedure, Right, Width};
 use regalloc2::{Block, Function, VReg};
 use std::alloc::{AllocError, Global};
 use std::collections::HashMap;
@@ -22,12 +23,13 @@ use std::hash::{BuildHasherDefault, FoldHasher};
 /// The numbers of the virtual registers written so far, by the vregs' encodings. The others are 0.
 type Numbers = HashMap<u32, u64, BuildHasherDefault<FoldHasher>>;
 
-/// The current line of a run, and the numbers of the vregs.
+/// The current line of a run, the numbers of the vregs, and memory.
 #[derive(Drop)]
 pub struct State {
     block: usize,
     inst: usize,
     numbers: Numbers,
+    memory: Vec<u8>,
 }
 
 /// The number of a vreg.
@@ -145,7 +147,7 @@ impl State {
     /// Continues at the block's next line, with a vreg written.
     fn write(&mut self, to: VReg, number: u64) -> Result<Standing, AllocError>
         requires room { self.old.inst + 1 < 2 ^ 64 }
-        ensures { IfOk result (λ r. onward (state_of self.old) to number ≡ run_outcome r (state_of self.new)) }
+        ensures { IfOk result (λ r. onward (state_of self.old) to number ≡ procedure_outcome r self.new) }
     {
         put(&mut self.numbers, to, number)?;
         self.inst += 1;
@@ -163,14 +165,43 @@ impl State {
         right: u64,
     ) -> Result<Standing, AllocError>
         requires room { self.old.inst + 1 < 2 ^ 64 }
-        ensures { IfOk result (λ r. (if division_traps width is_signed left right then Trapped
+        ensures { IfOk result (λ r. (if division_traps width is_signed left right then Trapped (state_of self.old).memory
             else onward (state_of self.old) to (divided_at width part is_signed left right))
-            ≡ run_outcome r (state_of self.new)) }
+            ≡ procedure_outcome r self.new) }
     {
         if does_trap(width, is_signed, left, right) {
             return Ok(Standing::Trapped);
         }
         self.write(to, divided_at(width, part, is_signed, left, right))
+    }
+
+    /// Continues at the next line with a number from memory in a vreg, or traps.
+    fn load(&mut self, bytes: Bytes, to: VReg, address: u64) -> Result<Standing, AllocError>
+        requires room { self.old.inst + 1 < 2 ^ 64 }
+        ensures { IfOk result (λ r. (if is_within (state_of self.old).memory bytes address
+            then onward (state_of self.old) to (number_at bytes (state_of self.old).memory address)
+            else Trapped (state_of self.old).memory) ≡ procedure_outcome r self.new) }
+    {
+        if !is_within(&self.memory, bytes, address) {
+            return Ok(Standing::Trapped);
+        }
+        let number = number_at(&self.memory, bytes, address as usize);
+        self.write(to, number)
+    }
+
+    /// Continues at the next line with a number in memory, or traps.
+    fn store(&mut self, bytes: Bytes, address: u64, number: u64) -> Standing
+        requires room { self.old.inst + 1 < 2 ^ 64 }
+        ensures { (if is_within (state_of self.old).memory bytes address
+            then stored (state_of self.old) (with_number bytes (state_of self.old).memory address number)
+            else Trapped (state_of self.old).memory) ≡ procedure_outcome result self.new }
+    {
+        if !is_within(&self.memory, bytes, address) {
+            return Standing::Trapped;
+        }
+        put_number(&mut self.memory, bytes, address as usize, number);
+        self.inst += 1;
+        Standing::Running
     }
 
     /// Continues at the successor at a position.
@@ -180,7 +211,7 @@ impl State {
         procedure: &Procedure,
         position: usize,
     ) -> Result<Standing, AllocError>
-        ensures { IfOk result (λ r. along (function_of_procedure procedure.now) (state_of self.old) position ≡ run_outcome r (state_of self.new)) }
+        ensures { IfOk result (λ r. along (function_of_procedure procedure.now) (state_of self.old) position ≡ procedure_outcome r self.new) }
     {
         if self.block >= procedure.num_blocks() {
             return Ok(Standing::Stuck);
@@ -210,7 +241,7 @@ impl State {
         arguments: &[u64],
     ) -> Result<Standing, AllocError>
         ensures { IfOk result (λ r. procedure_step (function_of_procedure procedure.now) (operations procedure.now) (arguments_of arguments.now) (state_of self.old)
-            ≡ run_outcome r (state_of self.new)) }
+            ≡ procedure_outcome r self.new) }
     {
         let Some(line) = procedure.lines.get(self.inst) else {
             return Ok(Standing::Stuck);
@@ -273,6 +304,18 @@ impl State {
                 let number = self.number(taken);
                 self.write(to, number)
             }
+            Operation::Load { bytes, to, address } => {
+                let address = self.number(address);
+                self.load(bytes, to, address)
+            }
+            Operation::Store {
+                bytes,
+                address,
+                value,
+            } => {
+                let (address, number) = (self.number(address), self.number(value));
+                Ok(self.store(bytes, address, number))
+            }
             Operation::Jump => self.enter(alloc, procedure, 0),
             Operation::BranchIf { value } => {
                 let position = usize::from(self.number(value) == 0);
@@ -292,28 +335,38 @@ impl State {
     }
 }
 
-/// Returns the outcome of running a function for that many steps, with 0 in all vregs at the
-/// start. Arguments past the given ones are 0.
+/// Returns the outcome of running a function for that many steps, and the memory that it leaves,
+/// with 0 in all vregs at the start. Arguments past the given ones are 0.
 pub fn run_procedure(
     alloc: Global,
     procedure: &Procedure,
     arguments: &[u64],
+    memory: Vec<u8>,
     steps: u64,
-) -> Result<Standing, AllocError>
-    ensures { IfOk result (λ r. r ≡ standing_of (procedure_run (function_of_procedure procedure.now) (operations procedure.now) (arguments_of arguments.now) steps
-        (first_state procedure.now))) }
+) -> Result<Run, AllocError>
+    ensures { IfOk result (IsProcedureRun (procedure_run (function_of_procedure procedure.now) (operations procedure.now)
+        (arguments_of arguments.now) steps (first_state procedure.now memory.items))) }
 {
     let mut state = State {
         block: 0,
         inst: first_line(procedure, 0),
         numbers: HashMap::new(alloc),
+        memory,
     };
     for _step in 0..steps {
         let standing = state.step(alloc, procedure, arguments)?;
         match standing {
             Standing::Running => {}
-            _ => return Ok(standing),
+            _ => {
+                return Ok(Run {
+                    standing,
+                    memory: state.memory,
+                });
+            }
         }
     }
-    Ok(Standing::Running)
+    Ok(Run {
+        standing: Standing::Running,
+        memory: state.memory,
+    })
 }

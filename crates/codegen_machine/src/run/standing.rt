@@ -18,6 +18,15 @@ pub enum Standing {
     Stuck,
 }
 
+/// A run after some number of steps.
+#[derive(Debug, Drop)]
+pub struct Run {
+    /// Its outcome.
+    pub standing: Standing,
+    /// The memory that it has left so far.
+    pub memory: Vec<u8>,
+}
+
 impl fmt::Display for Standing {
     ghost output = { λ s. Some (standing_text s) };
 

@@ -1,14 +1,16 @@
 //! Code as assembly for x86-64, in the syntax of AT&T.
 
-ghost use Rattle.std.specs.Prelude.{◌≡◌, ◌+◌, length, nat_eq, Some};
+ghost use Rattle.std.specs.Prelude.{◌≡◌, ◌+◌, ◌++◌, codes, length, nat_eq, Some};
 ghost use Rattle.codegen_machine.specs.Text.Assembly.{byte_name, condition_letters, division_name, half_name, letter, name_at, operator_name, register_name, shift_name};
+ghost use Rattle.codegen_machine.specs.Text.Assembly.{guard_text, read_name, read_text, word_name, write_text};
 ghost use Rattle.codegen_machine.specs.Text.Assembly.{assembly_text, entry_text, exit_text, instruction_text, is_next, line_text, lines_text, source_text};
 
-use crate::ir::{Condition, Operator, ShiftOperator, Width};
+use crate::ir::{Bytes, Condition, Operator, ShiftOperator, Width};
 use crate::{Code, Instruction, Source};
 use std::fmt;
 
-/// The start of the function: pushes the registers that it must preserve for its caller.
+/// The start of the function: pushes the registers that it must preserve for its caller, and keeps
+/// the memory's address.
 #[tactic(auto, unfolding(crate::specs::Text::Assembly::entry_text))]
 fn entry_text() -> &'static str
     ensures { result.now ≡ entry_text }
@@ -21,10 +23,11 @@ compiled:
   pushq %r13
   pushq %r14
   pushq %r15
+  movq %rsi, %r15
 "
 }
 
-/// The end of the function: pops those registers.
+/// The end of the function: pops those registers. The instruction that traps follows.
 #[tactic(auto, unfolding(crate::specs::Text::Assembly::exit_text))]
 fn exit_text() -> &'static str
     ensures { result.now ≡ exit_text }
@@ -36,6 +39,8 @@ fn exit_text() -> &'static str
   popq %rbp
   popq %rbx
   ret
+.Ltrap:
+  ud2
   .section .note.GNU-stack,\"\",@progbits
 "
 }
@@ -111,6 +116,31 @@ fn half_name(register: usize) -> &'static str
         13 => "%r13d",
         14 => "%r14d",
         15 => "%r15d",
+        _ => "%none",
+    }
+}
+
+/// The name of a register's lower 16 bits.
+fn word_name(register: usize) -> &'static str
+    ensures { result.now ≡ word_name register }
+{
+    match register {
+        0 => "%ax",
+        1 => "%cx",
+        2 => "%dx",
+        3 => "%bx",
+        4 => "%sp",
+        5 => "%bp",
+        6 => "%si",
+        7 => "%di",
+        8 => "%r8w",
+        9 => "%r9w",
+        10 => "%r10w",
+        11 => "%r11w",
+        12 => "%r12w",
+        13 => "%r13w",
+        14 => "%r14w",
+        15 => "%r15w",
         _ => "%none",
     }
 }
@@ -201,7 +231,58 @@ impl fmt::Display for SourceText {
     }
 }
 
-/// An instruction as assembly: one machine instruction, but two for `Set`.
+/// A guard of the address in a register, by a limit.
+#[derive(Clone, Copy)]
+struct GuardText(usize, usize);
+
+impl fmt::Display for GuardText {
+    ghost output = { λ t. Some (guard_text t.0 t.1) };
+
+    fn fmt<W: fmt::Write>(&self, f: &mut fmt::Formatter<W>) -> fmt::Result {
+        let (address, limit) = (register_name(self.0), self.1);
+        write!(f, "cmpq ${limit}, {address}; jae .Ltrap")
+    }
+}
+
+/// A read of memory into a register, at the address in another.
+#[derive(Clone, Copy)]
+struct ReadText(Bytes, usize, usize);
+
+impl fmt::Display for ReadText {
+    ghost output = { λ t. Some (read_text t.0 t.2 ++ read_name t.0 t.1) };
+
+    fn fmt<W: fmt::Write>(&self, f: &mut fmt::Formatter<W>) -> fmt::Result {
+        let (half, full) = (half_name(self.1), register_name(self.1));
+        let address = register_name(self.2);
+        match self.0 {
+            Bytes::One => write!(f, "movzbl (%r15,{address}), {half}"),
+            Bytes::Two => write!(f, "movzwl (%r15,{address}), {half}"),
+            Bytes::Four => write!(f, "movl (%r15,{address}), {half}"),
+            Bytes::Eight => write!(f, "movq (%r15,{address}), {full}"),
+        }
+    }
+}
+
+/// A write of a register to memory, at the address in another.
+#[derive(Clone, Copy)]
+struct WriteText(Bytes, usize, usize);
+
+impl fmt::Display for WriteText {
+    ghost output = { λ t. Some (write_text t.0 t.1 ++ codes ", (%r15," ++ register_name t.2 ++ codes ")") };
+
+    fn fmt<W: fmt::Write>(&self, f: &mut fmt::Formatter<W>) -> fmt::Result {
+        let address = register_name(self.2);
+        let (name, from) = match self.0 {
+            Bytes::One => ("movb", byte_name(self.1)),
+            Bytes::Two => ("movw", word_name(self.1)),
+            Bytes::Four => ("movl", half_name(self.1)),
+            Bytes::Eight => ("movq", register_name(self.1)),
+        };
+        write!(f, "{name} {from}, (%r15,{address})")
+    }
+}
+
+/// An instruction as assembly: one machine instruction, but two for `Set` and `Guard`.
 #[derive(Clone, Copy)]
 pub struct InstructionText(pub Instruction);
 
@@ -303,6 +384,22 @@ impl fmt::Display for InstructionText {
                 let from = SourceText(Width::Full, from);
                 write!(f, "cmpq $0, {from}")
             }
+            Instruction::Guard { address, limit } => {
+                let text = GuardText(address, limit);
+                write!(f, "{text}")
+            }
+            Instruction::Read { bytes, to, address } => {
+                let text = ReadText(bytes, to, address);
+                write!(f, "{text}")
+            }
+            Instruction::Write {
+                bytes,
+                address,
+                from,
+            } => {
+                let text = WriteText(bytes, from, address);
+                write!(f, "{text}")
+            }
             Instruction::Jump { target } => write!(f, "jmp .L{target}"),
             Instruction::JumpIf { condition, target } => {
                 let letters = condition_letters(condition);
@@ -377,7 +474,8 @@ impl fmt::Display for LinesText<'_> {
     }
 }
 
-/// Code as a function `compiled`, which C calls as `uint64_t compiled(const uint64_t *arguments)`.
+/// Code as a function `compiled`, which C calls as `uint64_t compiled(const uint64_t *arguments,
+/// uint8_t *memory)`. Without memory the second argument isn't used.
 ///
 /// It preserves its caller's registers. Its frame has to fit the stack, and the assembler accepts
 /// only argument numbers below 2^28.

@@ -1,10 +1,13 @@
 //! The lines of a text read so far, and the function they make.
 
-use super::operations::{read_branch, read_value, read_vreg};
+use super::operations::{read_branch, read_store, read_value, read_vreg};
 use crate::ir::{Line, Malformed, Operation, Part, Procedure};
 use regalloc2::{Block, Inst, InstRange, VReg};
 use regalloc2_text::cursor::{Cursor, Expected, Flaw, Found, Token};
 use std::alloc::Global;
+
+/// The greatest size of a memory: an instruction of x86-64 compares an address with it.
+const LAST_MEMORY: u64 = (1 << 31) - 1;
 
 /// The lines of a block read so far.
 #[derive(Drop)]
@@ -53,6 +56,9 @@ impl DraftBlock {
         if cursor.begins("v") {
             return read_value(cursor);
         }
+        if let Some(store) = read_store(cursor) {
+            return store;
+        }
         self.is_ended = true;
         if cursor.has("jump") {
             self.read_target(alloc, cursor);
@@ -66,7 +72,7 @@ impl DraftBlock {
             return branch;
         }
         if !cursor.has("return") {
-            cursor.misfit("a virtual register, `jump`, `branch_if`, `return` or a block");
+            cursor.misfit("a virtual register, `store`, `jump`, `branch_if`, `return` or a block");
         }
         let value = read_vreg(cursor);
         Operation::Return { value }
@@ -80,6 +86,8 @@ pub struct Draft {
     blocks: Vec<DraftBlock>,
     /// One more than the greatest number of a vreg in the lines.
     num_vregs: u64,
+    /// The size of memory, once its line is read.
+    memory_size: Option<u64>,
 }
 
 /// That many empty lists.
@@ -127,6 +135,7 @@ impl Draft {
             lines: Vec::new(alloc),
             blocks: Vec::new(alloc),
             num_vregs: 0,
+            memory_size: None,
         }
     }
 
@@ -134,6 +143,11 @@ impl Draft {
     /// function's size reports.
     fn next_line(&self) -> u32 {
         u32::try_from(self.lines.len()).unwrap_or(u32::MAX)
+    }
+
+    /// Whether the line of memory may come next: once, before the first block.
+    fn awaits_memory(&self) -> bool {
+        self.blocks.is_empty() && self.memory_size.is_none()
     }
 
     /// Reads a line from its tokens.
@@ -144,6 +158,8 @@ impl Draft {
         let mut cursor = Cursor::new(tokens, self.num_vregs);
         if cursor.begins("block") {
             self.read_block(alloc, &mut cursor);
+        } else if self.awaits_memory() && cursor.has("memory") {
+            self.memory_size = Some(cursor.number(LAST_MEMORY));
         } else {
             self.read_inst(alloc, &mut cursor);
         }
@@ -193,13 +209,18 @@ impl Draft {
             lines,
             blocks,
             num_vregs,
+            memory_size,
         } = self;
         let no_tokens: [Token<'t>; 0] = [];
         let mut cursor = Cursor::new(&no_tokens, 0);
         let preds = predecessors(alloc, &mut cursor, blocks.as_slice());
         let parts = parts(alloc, &mut cursor, blocks, preds);
         cursor.finish()?;
-        match Procedure::new(parts, lines, num_vregs as usize) {
+        let made = match Procedure::new(parts, lines, num_vregs as usize) {
+            Ok(procedure) => procedure.with_memory(memory_size.unwrap_or(0) as usize),
+            Err(malformed) => Err(malformed),
+        };
+        match made {
             Ok(procedure) => Ok(procedure),
             Err(malformed) => Err(flaw_of(malformed)),
         }
@@ -241,6 +262,7 @@ fn flaw_of<'t>(malformed: Malformed) -> Flaw<'t> {
         Malformed::MissingSuccessor => "two successors of a `branch_if`, and one of a `jump`",
         Malformed::UnknownRegister => "virtual registers of the function",
         Malformed::LargeNumber => "second numbers up to 2147483647",
+        Malformed::LargeMemory => "a memory of at most 2147483647 bytes",
     };
     Flaw::new(1, Expected::Words(expected), Found::TextEnd)
 }

@@ -3,7 +3,9 @@
 ghost use Rattle.std.specs.Prelude.{◌≤◌};
 ghost use Rattle.regalloc2_text.specs.Cursor.Cursor.{tokens_left};
 
-use crate::ir::{Condition, Count, DivisionPart, Operation, Operator, Right, ShiftOperator, Width};
+use crate::ir::{
+    Bytes, Condition, Count, DivisionPart, Operation, Operator, Right, ShiftOperator, Width,
+};
 use regalloc2::{RegClass, VReg};
 use regalloc2_text::cursor::Cursor;
 
@@ -61,6 +63,18 @@ fn division_named(name: &str) -> Option<(DivisionPart, bool)> {
         "rem" => Some((DivisionPart::Remainder, false)),
         "signed_div" => Some((DivisionPart::Quotient, true)),
         "signed_rem" => Some((DivisionPart::Remainder, true)),
+        _ => None,
+    }
+}
+
+/// The access to memory with that name, which starts with `kind`: how many bytes it reads or
+/// writes.
+fn access_named(name: &str, kind: &str) -> Option<Bytes> {
+    match name.strip_prefix(kind) {
+        Some("") => Some(Bytes::Eight),
+        Some("32") => Some(Bytes::Four),
+        Some("16") => Some(Bytes::Two),
+        Some("8") => Some(Bytes::One),
         _ => None,
     }
 }
@@ -169,6 +183,21 @@ fn read_select(cursor: &mut Cursor<'_, '_>, to: VReg) -> Operation {
     }
 }
 
+/// A write to memory, from its name on: the address and the number, with a comma between them;
+/// nothing if it has another name.
+pub fn read_store(cursor: &mut Cursor<'_, '_>) -> Option<Operation> {
+    let bytes = access_named(cursor.peek().unwrap_or(""), "store")?;
+    cursor.advance();
+    let address = read_vreg(cursor);
+    cursor.want(",");
+    let value = read_vreg(cursor);
+    Some(Operation::Store {
+        bytes,
+        address,
+        value,
+    })
+}
+
 /// A branch, after its name: the deciding number, or a condition and the two numbers it compares.
 pub fn read_branch(cursor: &mut Cursor<'_, '_>) -> Operation {
     let (name, width) = split_width(cursor.peek().unwrap_or(""));
@@ -238,9 +267,14 @@ pub fn read_value(cursor: &mut Cursor<'_, '_>) -> Operation {
     if cursor.has("select") {
         return read_select(cursor, to);
     }
+    if let Some(bytes) = access_named(cursor.peek().unwrap_or(""), "load") {
+        cursor.advance();
+        let address = read_vreg(cursor);
+        return Operation::Load { bytes, to, address };
+    }
     if !cursor.has("constant") {
         cursor.misfit(
-            "an operation: `argument`, `constant`, `copy`, `select`, an operator as `add`, or a condition as `less`",
+            "an operation: `argument`, `constant`, `copy`, `select`, `load`, an operator as `add`, or a condition as `less`",
         );
     }
     let value = cursor.number(u64::MAX);

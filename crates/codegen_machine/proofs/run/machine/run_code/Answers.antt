@@ -1,9 +1,9 @@
-use Rattle.std.proofs.Common.{◌≡◌, ◌+◌, ◌-◌, sym, ap, ◌∙◌, arith}
+use Rattle.std.proofs.Common.{◌≡◌, ◌+◌, ◌-◌, refl, ap, ◌∙◌, arith}
 use Rattle.codegen_machine.specs.Ir.Numbers.{further}
 use Rattle.codegen_machine.specs.Machine.{code_of, machine_run}
-use Rattle.codegen_machine.specs.Run.Runs.{arguments_of, standing_of, run_outcome}
+use Rattle.codegen_machine.specs.Run.Runs.{arguments_of, run_outcome}
 use Rattle.codegen_machine.specs.Run.States.{machine_state}
-use Rattle.codegen_machine.proofs.RunLemmas.Stands.{stopped, machine_more, machine_none}
+use Rattle.codegen_machine.proofs.RunLemmas.Stands.{over_stays, machine_more, machine_none}
 use Rattle.codegen_machine.proofs.run.machine.run_code.Goals as goal
 
 pub returns-in_default : goal.returns-in_default
@@ -11,9 +11,14 @@ returns-in_default c =
     let code = code_of c.args.code.now in
     let args = arguments_of c.args.arguments.now in
     let left = c.args.steps - c.loop-step._step in
-    stopped c.step-standing.result (machine_state c.step-standing.new.self) (machine_run code args (left - 1)) c.in_default.not-Running
-    ∙ sym (ap standing_of (c.loop-step.invariant.1 ∙ machine_more code args left c.step-standing.result (machine_state c.loop-step.machine)
-    (machine_state c.step-standing.new.self) (omega (arith, c.loop-step-test.true)) c.step-standing.ensures.step))
+    let new = machine_state c.step-standing.new.self in (
+      new,
+      refl,
+      c.loop-step.invariant.1
+          ∙ machine_more code args left c.step-standing.result (machine_state c.loop-step.machine) new (omega (arith, c.loop-step-test.true))
+          c.step-standing.ensures.step
+          ∙ over_stays c.step-standing.result new new.memory (machine_run code args (left - 1)) c.in_default.not-Running,
+    )
 
 pub loop-step-preserved : goal.loop-step-preserved
 loop-step-preserved c =
@@ -26,7 +31,7 @@ loop-step-preserved c =
       c.loop-step.invariant.1
           ∙ machine_more code args left c.step-standing.result (machine_state c.loop-step.machine) new (omega (arith, c.loop-step-test.true))
           c.step-standing.ensures.step
-          ∙ ap (λ r. further (run_outcome r new) (machine_run code args (left - 1))) c.in-Running.is
+          ∙ ap (λ r. further (run_outcome r new new.memory) (machine_run code args (left - 1))) c.in-Running.is
           ∙ ap (λ n. machine_run code args n new) next,
     )
 
@@ -35,5 +40,5 @@ returns c =
     let code = code_of c.args.code.now in
     let args = arguments_of c.args.arguments.now in
     let none : c.args.steps - c.loop-step._step ≡ 0 = omega (arith, c.loop-step-test.false) in
-    sym (ap standing_of (c.loop-step.invariant.1 ∙ ap (λ n. machine_run code args n (machine_state c.loop-step.machine)) none
-    ∙ machine_none code args (machine_state c.loop-step.machine)))
+    let last = machine_state c.loop-step.machine in
+    (last, refl, c.loop-step.invariant.1 ∙ ap (λ n. machine_run code args n last) none ∙ machine_none code args last)

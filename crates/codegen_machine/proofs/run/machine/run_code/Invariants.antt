@@ -7,5 +7,5 @@ use Rattle.codegen_machine.proofs.run.machine.run_code.Given as goal
 
 abbrev pub invariant-loop-step : goal.invariant-loop-step
 invariant-loop-step l = (vec_len l.machine.frame ≡ l.code.slots)
-    × (machine_run (code_of l.code) (arguments_of l.arguments) l.fn.steps first_machine
+    × (machine_run (code_of l.code) (arguments_of l.arguments) l.fn.steps (first_machine l.fn.memory.items)
     ≡ machine_run (code_of l.code) (arguments_of l.arguments) (l.fn.steps - l._step) (machine_state l.machine))

@@ -1,6 +1,6 @@
-use Rattle.std.proofs.Common.{ℕ, sym, ap, ◌∙◌}
+use Rattle.std.proofs.Common.{ℕ, ◌≡◌, refl, sym, ap, ◌∙◌, arith}
 use Rattle.regalloc2_names.specs.Register.{VirtualRegister}
-use Rattle.codegen_machine.specs.Ir.Meaning.{ProcedureState}
+use Rattle.codegen_machine.specs.Ir.Meaning.{ProcedureState, procedure_run}
 use Rattle.codegen_machine.specs.Ir.Numbers.{RunOutcome, Running}
 use Rattle.codegen_machine.specs.Ir.Seen.{function_of_procedure, operations}
 use Rattle.codegen_machine.specs.Run.Runs.{arguments_of, first_state, run_outcome}
@@ -13,21 +13,39 @@ use Rattle.codegen_machine.proofs.run.procedure.run_procedure.Goals as goal
 pub loop-step-init : goal.loop-step-init
 loop-step-init c =
     let p = c.args.procedure.now in
-    let begun : ℕ → (VirtualRegister → ℕ) → RunOutcome ProcedureState = λ n m. Running (record { at = record { block = 0; inst = n }; numbers = m }) in
-    run_none (function_of_procedure p) (operations p) (arguments_of c.args.arguments.now) (first_state p)
+    let begun : ℕ → (VirtualRegister → ℕ) → RunOutcome ProcedureState = λ n m. Running (record {
+      at = record { block = 0; inst = n };
+      numbers = m;
+      memory = c.args.memory.items;
+    }) in
+    run_none (function_of_procedure p) (operations p) (arguments_of c.args.arguments.now) (first_state p c.args.memory.items)
     ∙ ap (λ n. begun n (λ v. 0)) (sym c.first_line.ensures)
     ∙ ap (begun c.first_line.result) (sym (none_kept c.new.result c.new.ensures.empty))
 
 pub returns-in_default : goal.returns-in_default
 returns-in_default c =
     let p = c.args.procedure.now in
-    run_ends (function_of_procedure p) (operations p) (arguments_of c.args.arguments.now) (first_state p) c.loop-step._step c.args.steps
-    c.in_ok-standing.standing
-    (state_of c.loop-step.state) (state_of c.step.new.self) c.loop-step-test.true c.loop-step.invariant c.in_ok-standing.ensures c.in_default.not-Running
+    let new = state_of c.step.new.self in (
+      new,
+      refl,
+      run_ends (function_of_procedure p) (operations p) (arguments_of c.args.arguments.now) (first_state p c.args.memory.items) c.loop-step._step c.args.steps
+          c.in_ok-standing.standing (state_of c.loop-step.state) new c.loop-step-test.true c.loop-step.invariant c.in_ok-standing.ensures
+          c.in_default.not-Running,
+    )
 
 pub loop-step-preserved : goal.loop-step-preserved
 loop-step-preserved c =
     let p = c.args.procedure.now in
-    run_more (function_of_procedure p) (operations p) (arguments_of c.args.arguments.now) (first_state p) c.loop-step._step stand.Running
+    run_more (function_of_procedure p) (operations p) (arguments_of c.args.arguments.now) (first_state p c.args.memory.items) c.loop-step._step stand.Running
     (state_of c.loop-step.state) (state_of c.step.new.self) c.loop-step.invariant
-    (c.in_ok-standing.ensures ∙ ap (λ r. run_outcome r (state_of c.step.new.self)) c.in-Running.is)
+    (c.in_ok-standing.ensures ∙ ap (λ r. run_outcome r (state_of c.step.new.self) (state_of c.step.new.self).memory) c.in-Running.is)
+
+pub returns : goal.returns
+returns c =
+    let p = c.args.procedure.now in
+    let all : c.args.steps ≡ c.loop-step._step = omega (arith, c.loop-step-test.false) in (
+      state_of c.loop-step.state,
+      refl,
+      ap (λ n. procedure_run (function_of_procedure p) (operations p) (arguments_of c.args.arguments.now) n (first_state p c.args.memory.items)) all
+          ∙ c.loop-step.invariant,
+    )

@@ -7,5 +7,6 @@ use Rattle.codegen_machine.specs.Run.States.{state_of}
 use Rattle.codegen_machine.proofs.run.procedure.run_procedure.Given as goal
 
 abbrev pub invariant-loop-step : goal.invariant-loop-step
-invariant-loop-step l = procedure_run (function_of_procedure l.procedure) (operations l.procedure) (arguments_of l.arguments) l._step (first_state l.procedure)
+invariant-loop-step l = procedure_run (function_of_procedure l.procedure) (operations l.procedure) (arguments_of l.arguments) l._step
+    (first_state l.procedure l.fn.memory.items)
     ≡ Running (state_of l.state)
