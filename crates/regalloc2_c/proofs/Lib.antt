@@ -4,5 +4,6 @@
 pub mod Indexes
 pub mod Lines
 pub mod Outcomes
+pub mod Parts
 pub mod Triples
 pub mod Verdicts

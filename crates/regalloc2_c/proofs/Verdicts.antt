@@ -17,7 +17,7 @@ use Rattle.regalloc2_checker.specs.declared.errors.CheckerError.{CheckerError}
 use Rattle.regalloc2_checker.specs.declared.errors.CheckerError.TheVariants.{MalformedOutput, Memory as CheckerMemory}
 use Rattle.regalloc2_function.specs.declared.serialize.StoredOutput.{StoredOutput}
 use Rattle.regalloc2_c.specs.Faults.{IsFaultsTold, IsPrepareFailure, IsErrorsFailure, IsCellsTold, IsCheckerVerdict, IsVerdict, faults_words, malformed_words}
-use Rattle.regalloc2_c.specs.Outcome.{NumbersNameOutput, IsOutput, IsAcceptedOutput, IsCheckFailure, IsNoStoredOutput}
+use Rattle.regalloc2_c.specs.Outcome.{NumbersNameOutput, IsOutput, IsAcceptedOutput, IsCheckFailure, IsNoStoredOutput, NamesNoOutput}
 use Rattle.regalloc2_c.specs.declared.failure.Failure.{Failure}
 use Rattle.regalloc2_c.specs.declared.failure.Failure.TheVariants.{Unreadable, BadMachine, NoRoom, Faults, NoMemory, NotFramed, BadOutput}
 use Rattle.regalloc2_c.specs.declared.failure.Failure.TheVariants.{ReadBeforeWritten, BadText, BadFunction, Refused}
@@ -100,11 +100,22 @@ unnamed f env numbers e (inl lost) = subst (λ x. IsCheckFailure (λ o. o ≡ nu
 unnamed f env numbers e (inr t) = subst (λ x. IsCheckFailure (λ o. o ≡ numbers) f env x) (sym t.0) (numbers, refl, t.1)
 
 -- an output that isn't accepted
+pub rejected_of : (Outs : StoredOutput Global → Type 0) (f : FunctionValue) (env : MachineValue) (out : OutputValue) (e : Failure) →
+    IsOutput Outs out → IsVerdict f env out e → IsCheckFailure Outs f env e
+rejected_of Outs f env out e is (inl lost) = subst (λ x. IsCheckFailure Outs f env x) (sym lost) tt
+rejected_of Outs f env out e is (inr t) = subst (λ x. IsCheckFailure Outs f env x) (sym t.1) (out, is, t.2, t.3)
+
 pub rejected : (numbers : StoredOutput Global) (f : FunctionValue) (env : MachineValue) (out : OutputValue) (e : Failure) →
     NumbersNameOutput numbers out → IsVerdict f env out e → IsCheckFailure (λ o. o ≡ numbers) f env e
-rejected numbers f env out e names (inl lost) = subst (λ x. IsCheckFailure (λ o. o ≡ numbers) f env x) (sym lost) tt
-rejected numbers f env out e names (inr t) = subst (λ x. IsCheckFailure (λ o. o ≡ numbers) f env x) (sym t.1)
-    (out, (record { stored = numbers; laid_out = refl; names = names }), t.2, t.3)
+rejected numbers f env out e names verdict =
+    rejected_of (λ o. o ≡ numbers) f env out e (record { stored = numbers; laid_out = refl; names = names }) verdict
+
+-- an input that gives no output
+pub no_output : (Outs : StoredOutput Global → Type 0) (f : FunctionValue) (env : MachineValue) (e : Failure) → NamesNoOutput Outs e →
+    IsCheckFailure Outs f env e
+no_output Outs f env e (inl lost) = subst (λ x. IsCheckFailure Outs f env x) (sym lost) tt
+no_output Outs f env e (inr (inl t)) = subst (λ x. IsCheckFailure Outs f env x) (sym t.0) t.1
+no_output Outs f env e (inr (inr t)) = subst (λ x. IsCheckFailure Outs f env x) (sym t.0) (t.1, t.2, t.3)
 
 -- what is laid out is an output, if its numbers are
 output_for : (Outs : StoredOutput Global → Type 0) (numbers : StoredOutput Global) → Outs numbers → (out : OutputValue) → IsOutput (λ o. o ≡ numbers) out →
@@ -164,12 +175,10 @@ if_err f (Ok x) h = tt
 if_err f (Err e) h = f e h
 
 -- an output that is accepted
+pub accepted_of : (Outs : StoredOutput Global → Type 0) (f : FunctionValue) (env : MachineValue) (out : OutputValue) → IsOutput Outs out →
+    IsInOrder f out × IsFaithful f env out × AreCells f env out → IsAcceptedOutput Outs f env
+accepted_of Outs f env out is h = record { out = out; output = is; in_order = h.0; faithful = h.1; cells = h.2 }
+
 pub accepted : (numbers : StoredOutput Global) (f : FunctionValue) (env : MachineValue) (out : OutputValue) → NumbersNameOutput numbers out →
     IsInOrder f out × IsFaithful f env out × AreCells f env out → IsAcceptedOutput (λ o. o ≡ numbers) f env
-accepted numbers f env out names h = record {
-  out = out;
-  output = record { stored = numbers; laid_out = refl; names = names };
-  in_order = h.0;
-  faithful = h.1;
-  cells = h.2;
-}
+accepted numbers f env out names h = accepted_of (λ o. o ≡ numbers) f env out (record { stored = numbers; laid_out = refl; names = names }) h

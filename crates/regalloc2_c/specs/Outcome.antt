@@ -1,5 +1,5 @@
 -- What the statuses mean.
-use Rattle.std.specs.Prelude.{ℕ, ◌≡◌, ◌<◌, ◌≤◌, ◌⊎◌, true, List, [], length, take, Some, Result, Ok, Err}
+use Rattle.std.specs.Prelude.{ℕ, ◌≡◌, ◌<◌, ◌≤◌, ◌⊎◌, true, List, [], length, map, take, All, Some, Result, Ok, Err}
 use Rattle.std.specs.List.{flat_map}
 use Rattle.std.specs.Global.{Vec}
 use Rattle.std.specs.Str.{IsUtf8}
@@ -10,8 +10,8 @@ use Rattle.regalloc2.specs.FunctionValue.{FunctionValue}
 use Rattle.regalloc2.specs.Machine.{MachineValue}
 use Rattle.regalloc2.specs.Fitting.{MachineFits}
 use Rattle.regalloc2_function.specs.Misfit.{IsMisfit}
-use Rattle.regalloc2.specs.OutputValue.{OutputValue, IsInOrder}
-use Rattle.regalloc2.specs.Stored.{NamesValues, output_of_stored}
+use Rattle.regalloc2.specs.OutputValue.{OutputValue, MoveValue, IsInOrder}
+use Rattle.regalloc2.specs.Stored.{NamesMove, NamesValues, stored_move, output_of_stored}
 use Rattle.regalloc2.specs.Faithful.{IsFaithful}
 use Rattle.regalloc2_checker.specs.Cells.{AreCells}
 use Rattle.regalloc2.specs.WellFormed.{IsWellFormed, IsFramed}
@@ -106,6 +106,19 @@ pub record ArePartsOf (num_spillslots : ℕ) (moves places offsets : List ℕ) (
   pub places_of : places ≡ o.allocs.items
   pub offsets_of : offsets ≡ o.inst_alloc_offsets.items
   pub no_locations : o.debug_locations.items ≡ []
+
+-- words are those of moves, three words each
+pub record AreMovesOf (words : List ℕ) (edits : List (ℕ × MoveValue)) : Type 0 where
+  pub numbers : List (ℕ × ℕ × ℕ)
+  pub words_of : words ≡ flat_map words_of_triple numbers
+  pub names : All NamesMove numbers
+  pub moves : edits ≡ map stored_move numbers
+
+-- why they are those of none
+abbrev pub NamesNoMoves : List ℕ → Failure → Type 0
+NamesNoMoves words e = (e ≡ NoMemory)
+    ⊎ ((e ≡ Unreadable) × ((numbers : List (ℕ × ℕ × ℕ)) → words ≡ flat_map words_of_triple numbers → ⊥))
+    ⊎ ((e ≡ BadOutput) × (numbers : List (ℕ × ℕ × ℕ)) × (words ≡ flat_map words_of_triple numbers) × (All NamesMove numbers → ⊥))
 
 -- an output that is laid out
 pub record IsOutput (Lays : StoredOutput Global → Type 0) (out : OutputValue) : Type 0 where
@@ -219,6 +232,12 @@ IsNoStoredOutput Outs ReadBeforeWritten = ⊥
 IsNoStoredOutput Outs (BadText line column) = ⊥
 IsNoStoredOutput Outs (BadFunction fault) = ⊥
 IsNoStoredOutput Outs (Refused error) = ⊥
+
+-- why an input gives no output
+abbrev pub NamesNoOutput : (StoredOutput Global → Type 0) → Failure → Type 0
+NamesNoOutput Outs e = (e ≡ NoMemory)
+    ⊎ ((e ≡ Unreadable) × ((o : StoredOutput Global) → Outs o → ⊥))
+    ⊎ ((e ≡ BadOutput) × (o : StoredOutput Global) × Outs o × (NamesValues o → ⊥))
 
 -- why an output isn't accepted
 abbrev pub IsCheckFailure : (StoredOutput Global → Type 0) → FunctionValue → MachineValue → Failure → Type 0

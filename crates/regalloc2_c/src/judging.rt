@@ -1,16 +1,15 @@
 //! What the calls that check an output do.
 
-ghost use Rattle.std.specs.Prelude.{◌≡◌, ◌⊎◌, ℕ, List, [], ◌*◌, take, IfOk, IfErr, OnOk};
-ghost use Rattle.std.specs.List.{flat_map};
-ghost use Rattle.regalloc2.specs.Views.{machine_of, output_of};
+ghost use Rattle.std.specs.Prelude.{◌≡◌, ◌⊎◌, ◌↔◌, IsTrue, All, IfOk, IfErr, OnOk, map};
+ghost use Rattle.regalloc2.specs.PlaceBits.{IsPlaceBits, place_of_bits};
+ghost use Rattle.regalloc2.specs.Views.{machine_of, output_of, edit_of};
 ghost use Rattle.regalloc2.specs.OutputValue.{IsInOrder};
 ghost use Rattle.regalloc2.specs.Faithful.{IsFaithful};
-ghost use Rattle.regalloc2.specs.Stored.{NamesValues};
+ghost use Rattle.regalloc2.specs.Stored.{NamesMove, NamesValues};
 ghost use Rattle.regalloc2.specs.WellFormed.{IsFramed};
 ghost use Rattle.regalloc2_checker.specs.Cells.{AreCells};
-ghost use Rattle.regalloc2_serialize.specs.Flat.Flat.{words_of_triple};
 ghost use Rattle.regalloc2_c.specs.Faults.{IsCheckerVerdict, IsVerdict};
-ghost use Rattle.regalloc2_c.specs.Outcome.{AreOutputWords, ArePartsOf, NumbersNameOutput};
+ghost use Rattle.regalloc2_c.specs.Outcome.{AreOutputWords, AreMovesOf, ArePartsOf, IsOutput, NumbersNameOutput, NamesNoMoves, NamesNoOutput};
 ghost use Rattle.regalloc2_c.specs.Outcome.{IsNoStoredOutput, IsAcceptedOutput, IsCheckFailure, IsJudgeFound};
 
 use super::failure::{Failure, failure_to_read};
@@ -18,7 +17,7 @@ use super::faults::{Judged, failure_of_cells, failure_of_errors, failure_to_prep
 use super::reading::function_from_words;
 use regalloc2::checker::Checker;
 use regalloc2::serialize::{StoredFault, StoredOutput};
-use regalloc2::{Function, MachineEnv, Output, is_framed};
+use regalloc2::{Allocation, Edit, Function, MachineEnv, Output, ProgPoint, is_framed};
 use regalloc2_checker::test_cells;
 use regalloc2_serialize::flat::value_of;
 use std::alloc::Global;
@@ -95,11 +94,17 @@ fn stored_output(alloc: Global, words: &[u32]) -> Result<StoredOutput, Failure>
     }
 }
 
+/// Whether these words are those of a point and two places.
+fn is_move(point: u32, from: u32, to: u32) -> bool
+    ensures { IsTrue result ↔ NamesMove (point, from, to) }
+{
+    ProgPoint::is_index(point) && Allocation::is_bits(from) && Allocation::is_bits(to)
+}
+
 /// The moves of three words each.
-fn moves_from(alloc: Global, words: &[u32]) -> Result<Vec<(u32, u32, u32)>, Failure>
-    ensures ok { IfOk result (λ v. words.now ≡ flat_map words_of_triple v.items) }
-    ensures err { IfErr result (λ e. (e ≡ Failure.NoMemory)
-        ⊎ ((e ≡ Failure.Unreadable) × ((moves : List (ℕ × ℕ × ℕ)) → words.now ≡ flat_map words_of_triple moves → ⊥))) }
+fn moves_from(alloc: Global, words: &[u32]) -> Result<Vec<(ProgPoint, Edit)>, Failure>
+    ensures ok { IfOk result (λ v. AreMovesOf words.now (map edit_of v.items)) }
+    ensures err { IfErr result (NamesNoMoves words.now) }
 {
     if words.len() % 3 != 0 {
         return Err(Failure::Unreadable);
@@ -108,11 +113,36 @@ fn moves_from(alloc: Global, words: &[u32]) -> Result<Vec<(u32, u32, u32)>, Fail
         return Err(Failure::NoMemory);
     };
     for k in 0..words.len() / 3 {
-        let Ok(()) = moves.push((words[3 * k], words[3 * k + 1], words[3 * k + 2])) else {
+        let (point, from, to) = (words[3 * k], words[3 * k + 1], words[3 * k + 2]);
+        if !is_move(point, from, to) {
+            return Err(Failure::BadOutput);
+        }
+        let (from, to) = (Allocation::from_bits(from), Allocation::from_bits(to));
+        let Ok(()) = moves.push((ProgPoint::from_index(point), Edit::Move { from, to })) else {
             return Err(Failure::NoMemory);
         };
     }
     Ok(moves)
+}
+
+/// The places of these words.
+fn places_from(alloc: Global, words: &[u32]) -> Result<Vec<Allocation>, Failure>
+    ensures places { IfOk result (λ v. v.items ≡ map place_of_bits words.now) }
+    ensures names { IfOk result (λ v. All IsPlaceBits words.now) }
+    ensures err { IfErr result (λ e. (e ≡ Failure.NoMemory) ⊎ ((e ≡ Failure.BadOutput) × (All IsPlaceBits words.now → ⊥))) }
+{
+    let Ok(mut places) = Vec::with_capacity(alloc, words.len()) else {
+        return Err(Failure::NoMemory);
+    };
+    for bits in words {
+        if !Allocation::is_bits(*bits) {
+            return Err(Failure::BadOutput);
+        }
+        let Ok(()) = places.push(Allocation::from_bits(*bits)) else {
+            return Err(Failure::NoMemory);
+        };
+    }
+    Ok(places)
 }
 
 /// A copy of words.
@@ -129,24 +159,24 @@ fn copy_of(alloc: Global, words: &[u32]) -> Result<Vec<u32>, Failure>
     }
 }
 
-/// The numbers of the output that these are the parts of. It has no debug locations.
-fn stored_of_parts(alloc: Global, parts: Parts<'_>) -> Result<StoredOutput, Failure>
-    ensures ok { IfOk result (ArePartsOf parts.entry.num_spillslots parts.entry.moves.now parts.entry.places.now
-        parts.entry.offsets.now) }
-    ensures err { IfErr result (IsNoStoredOutput (ArePartsOf parts.entry.num_spillslots parts.entry.moves.now parts.entry.places.now
+/// The output that these are the parts of. It has no debug locations.
+fn output_from_parts(alloc: Global, parts: Parts<'_>) -> Result<Output, Failure>
+    ensures ok { IfOk result (λ o. IsOutput (ArePartsOf parts.entry.num_spillslots parts.entry.moves.now parts.entry.places.now
+        parts.entry.offsets.now) (output_of o)) }
+    ensures err { IfErr result (NamesNoOutput (ArePartsOf parts.entry.num_spillslots parts.entry.moves.now parts.entry.places.now
         parts.entry.offsets.now)) }
 {
     let edits = match moves_from(alloc, parts.moves) {
         Ok(edits) => edits,
         Err(failure) => return Err(failure),
     };
-    let allocs = match copy_of(alloc, parts.places) {
+    let allocs = match places_from(alloc, parts.places) {
         Ok(allocs) => allocs,
         Err(failure) => return Err(failure),
     };
     match copy_of(alloc, parts.offsets) {
-        Ok(inst_alloc_offsets) => Ok(StoredOutput {
-            num_spillslots: parts.num_spillslots,
+        Ok(inst_alloc_offsets) => Ok(Output {
+            num_spillslots: parts.num_spillslots as usize,
             edits,
             allocs,
             inst_alloc_offsets,
@@ -221,11 +251,11 @@ fn judged_parts<F: Function>(
     if !is_framed(f) {
         return Err(Failure::NotFramed);
     }
-    let numbers = match stored_of_parts(alloc, parts) {
-        Ok(numbers) => numbers,
+    let output = match output_from_parts(alloc, parts) {
+        Ok(output) => output,
         Err(failure) => return Err(failure),
     };
-    judge_numbers(alloc, f, env, &numbers)
+    judge(alloc, f, env, &output)
 }
 
 /// Checks an output, given in parts, of the function that words lay out. No words say that it is accepted.
