@@ -107,7 +107,7 @@ REFUSE=$made/refuse.so
 export REFUSE
 transcript >"$made/transcript"
 step "the programs print what test.txt says" diff "$here/test.txt" "$made/transcript"
-step "200 functions return what compile says of them" "$here/compare.sh" "$made/bin/compile" 200
+step "1,000 functions return what compile says of them" "$here/compare.sh" "$made/bin/compile" 1000
 if [ -n "${UPSTREAM:-}" ]; then
     step "the tests of the crates for cargo" env REGALLOC2_C="$top/crates/regalloc2_c/out" RA2="$made/bin/ra2" "$top/cargo/test.sh" "$UPSTREAM"
 else
