@@ -59,6 +59,19 @@ compiled_c() {
     step "$name.c compiles without a warning" "$cc" -std=c11 -Wall -Wextra -Werror -O2 -o "$made/bin/$name" "$@"
 }
 
+# Runs three programs that `compile` compiled beside the same in C.
+programs() {
+    for name in sieve hash sort; do
+        "$made/bin/compile" -o "$made/$name.s" "$here/programs/$name.txt" || return 1
+        sed "s/compiled/compiled_$name/" "$made/$name.s" >"$made/compiled_$name.s" || return 1
+    done
+    for level in O0 O1; do
+        "$cc" -std=c11 -Wall -Wextra -Werror "-$level" "-DLEVEL=$level" -c -o "$made/$level.o" "$here/programs/reference.c" || return 1
+    done
+    "$cc" -std=c11 -Wall -Wextra -Werror -O2 -D_POSIX_C_SOURCE=200809L -o "$made/bin/programs" "$here/programs/programs.c" \
+        "$made/O0.o" "$made/O1.o" -x assembler "$made/compiled_sieve.s" "$made/compiled_hash.s" "$made/compiled_sort.s" && "$made/bin/programs"
+}
+
 # Runs each line `$ COMMAND` of test.txt in a copy of the folder examples with two more texts, and writes that line, what
 # the command wrote, each line on standard error behind a `!`, and its status if that isn't 0.
 transcript() {
@@ -108,6 +121,7 @@ export REFUSE
 transcript >"$made/transcript"
 step "the programs print what test.txt says" diff "$here/test.txt" "$made/transcript"
 step "1,000 functions return what compile says of them" "$here/compare.sh" "$made/bin/compile" 1000
+step "sieve, hash and sort return what they return in C" programs && sed 's/^/        /' "$made/log"
 if [ -n "${UPSTREAM:-}" ]; then
     step "the tests of the crates for cargo" env REGALLOC2_C="$top/crates/regalloc2_c/out" RA2="$made/bin/ra2" "$top/cargo/test.sh" "$UPSTREAM"
 else
