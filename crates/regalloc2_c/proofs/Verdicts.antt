@@ -1,5 +1,5 @@
 -- Why an output isn't accepted, from what the checker and the test of cells find.
-use Rattle.std.proofs.Common.{ℕ, ◌≡◌, ◌⊎◌, inl, inr, List, [], ◌∷◌, Result, Ok, Err, refl, sym, subst}
+use Rattle.std.proofs.Common.{ℕ, suc, ◌≡◌, ◌⊎◌, inl, inr, List, [], ◌∷◌, length, Result, Ok, Err, refl, sym, subst, ap, arith, true, false, nat_eq, eqb-true}
 use Rattle.std.specs.Prelude.{OnOk, IfOk, IfErr}
 use Rattle.std.specs.Global.{Vec}
 use Rattle.std.specs.declared.alloc.Global.{Global}
@@ -21,6 +21,15 @@ use Rattle.regalloc2_c.specs.Outcome.{NumbersNameOutput, IsOutput, IsAcceptedOut
 use Rattle.regalloc2_c.specs.declared.failure.Failure.{Failure}
 use Rattle.regalloc2_c.specs.declared.failure.Failure.TheVariants.{Unreadable, BadMachine, NoRoom, Faults, NoMemory, NotFramed, BadOutput}
 use Rattle.regalloc2_c.specs.declared.failure.Failure.TheVariants.{ReadBeforeWritten, BadText, BadFunction, Refused}
+
+-- a list of errors is empty, or isn't, by a test of its length
+pub no_errors : {X : Type 0} (xs : List X) (n : ℕ) → length xs ≡ n → nat_eq n 0 ≡ true → xs ≡ []
+no_errors [] n l e = refl
+no_errors (x ∷ xs) n l e = absurd (let z : n ≡ 0 = eqb-true n 0 e in omega arith)
+
+pub some_errors : {X : Type 0} (xs : List X) (n : ℕ) → length xs ≡ n → nat_eq n 0 ≡ false → xs ≡ [] → ⊥
+some_errors [] n l e z = (let q : nat_eq 0 0 ≡ false = subst (λ (k : ℕ). nat_eq k 0 ≡ false) (sym l) e in absurd cc)
+some_errors (x ∷ xs) n l e z = (let q : suc (length xs) ≡ 0 = ap length z in omega arith)
 
 -- an output that isn't in order
 malformed : (f : FunctionValue) (env : MachineValue) (out : OutputValue) (failure : Failure) → (IsInOrder f out → ⊥) →
@@ -59,21 +68,6 @@ faulty f env out e v same (inr p) = inr (v, same, (λ h. p.1 h.1), inr (inl p))
 pub not_accepted : (f : FunctionValue) (env : MachineValue) (out : OutputValue) (e : Failure) → IsCheckerVerdict f env out e → IsVerdict f env out e
 not_accepted f env out e (inl lost) = inl lost
 not_accepted f env out e (inr t) = faulty f env out e t.0 t.1 t.2
-
--- the same of the function and the machine that a checker holds
-pub unprepared_for : {S : Type 0} (function : S → FunctionValue) (a b : S) → a ≡ b → (env : MachineValue) (out : OutputValue) (e : CheckerError Global)
-    (failure : Failure) → ((e ≡ MalformedOutput) × (IsInOrder (function a) out → ⊥)) ⊎ ((e ≡ CheckerMemory) × IsInOrder (function a) out) →
-    IsPrepareFailure e failure → IsCheckerVerdict (function b) env out failure
-unprepared_for function a b same env out e failure m q = unprepared (function b) env out e failure
-    (subst (λ x. ((e ≡ MalformedOutput) × (IsInOrder (function x) out → ⊥)) ⊎ ((e ≡ CheckerMemory) × IsInOrder (function x) out)) same m) q
-
-pub told_for : {S : Type 0} (function : S → FunctionValue) (a b : S) (m env : MachineValue) → a ≡ b → m ≡ env → (out : OutputValue)
-    (es : List (CheckerError Global)) (failure : Failure) → IsInOrder (function b) out →
-    (es ≡ CheckerMemory ∷ []) ⊎ ((IsFaithful (function a) m out → ⊥) × IsReport (function a) m out es) → IsErrorsFailure (function b) out es failure →
-    IsCheckerVerdict (function b) env out failure
-told_for function a b m env same machine out es failure order p q = told (function b) env out es failure order
-    (subst (λ x. (es ≡ CheckerMemory ∷ []) ⊎ ((IsFaithful (function b) x out → ⊥) × IsReport (function b) x out es)) machine
-    (subst (λ x. (es ≡ CheckerMemory ∷ []) ⊎ ((IsFaithful (function x) m out → ⊥) × IsReport (function x) m out es)) same p)) q
 
 -- a fault of places keeps them from being cells
 pub not_cells : (f : FunctionValue) (env : MachineValue) (out : OutputValue) (fault : CellFault) → IsCellFault f env out fault → (fault ≡ CellMemory → ⊥) →

@@ -15,10 +15,9 @@ ghost use Rattle.regalloc2_c.specs.Outcome.{IsNoStoredOutput, IsAcceptedOutput, 
 use super::failure::{Failure, failure_to_read};
 use super::faults::{Judged, failure_of_cells, failure_of_errors, failure_to_prepare};
 use super::reading::function_from_words;
-use regalloc2::checker::Checker;
 use regalloc2::serialize::{StoredFault, StoredOutput};
 use regalloc2::{Allocation, Edit, Function, MachineEnv, Output, ProgPoint, is_framed};
-use regalloc2_checker::test_cells;
+use regalloc2_checker::{check_output, test_cells};
 use regalloc2_serialize::flat::value_of;
 use std::alloc::Global;
 
@@ -47,16 +46,14 @@ pub fn checked<F: Function>(
         × IsFaithful (F.function f.now) (machine_of env.now) (output_of output.now)) }
     ensures err { IfErr result (IsCheckerVerdict (F.function f.now) (machine_of env.now) (output_of output.now)) }
 {
-    let Ok(mut checker) = Checker::new(alloc, f, env) else {
-        return Err(Failure::NoMemory);
-    };
-    match checker.prepare(output) {
-        Ok(()) => {}
-        Err(error) => return Err(failure_to_prepare(alloc, &error)),
-    }
-    match checker.run() {
-        Ok(()) => Ok(()),
-        Err(errors) => Err(failure_of_errors(alloc, &Judged { f, output }, errors.errors())),
+    match check_output(alloc, f, env, output) {
+        Ok(errors) => {
+            if errors.is_empty() {
+                return Ok(());
+            }
+            Err(failure_of_errors(alloc, &Judged { f, output }, &errors))
+        }
+        Err(error) => Err(failure_to_prepare(alloc, &error)),
     }
 }
 

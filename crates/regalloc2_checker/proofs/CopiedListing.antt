@@ -6,33 +6,17 @@ use Rattle.std.specs.List.{slice_range}
 use Rattle.std.specs.List.Sorted.{IsNonDecreasingBy}
 use Rattle.std.proofs.lemmas.Bool.{cases_lt}
 use Rattle.std.proofs.lemmas.Bool.Decides.{nat_tests}
-use Rattle.std.proofs.lemmas.List.{drop-map, take-map, take_more, take_all, map-append, length-map, length_push, get_or_push, get_or_append_left}
+use Rattle.std.proofs.lemmas.List.{length-map, length_push, get_or_push, get_or_append_left}
 use Rattle.regalloc2_names.specs.Point.{before}
 use Rattle.regalloc2_function.specs.FunctionValue.{FunctionValue, block_at}
 use Rattle.regalloc2_function.specs.OutputValue.{OutputValue, MoveValue, allocs_of, moves_before, is_listed_at}
 use Rattle.regalloc2_function.specs.AllocatedRun.{moves_at}
-use Rattle.regalloc2_function.specs.Views.{move_of, edit_of}
+use Rattle.regalloc2_function.specs.Views.{edit_of}
 use Rattle.regalloc2_function.specs.WellFormed.{IsFramed}
 use Rattle.regalloc2_function.specs.declared.listing.Edit.{Edit}
 use Rattle.regalloc2_checker.specs.declared.listing.Listed.{Listed}
 use Rattle.regalloc2_checker.specs.ListingCopied.{AreBeforePoint, IsSplit, IsAdded, IsListedBefore}
-use Rattle.regalloc2_checker.specs.Listing.{IsListing}
-
--- no moves are those of no edits
-pub no_moves : (es : List (ℕ × Edit)) (ms : List Edit) → ms ≡ [] → ms ≡ map (λ e. e.1) (take 0 es)
-no_moves es ms e = e
-
--- the moves of one edit more
-pub one_more : (es : List (ℕ × Edit)) (ms ns : List Edit) (k : ℕ) (e : ℕ × Edit) → k < length es → e ≡ get_or es k e → ms ≡ map (λ e. e.1) (take k es) →
-    ns ≡ ms ++ (e.1 ∷ []) → ns ≡ map (λ e. e.1) (take (k + 1) es)
-one_more es ms ns k e less is h n =
-    let t : take (k + 1) es ≡ take k es ++ (e ∷ []) = take_more es k e less ∙ ap (λ (q : ℕ × Edit). take k es ++ (q ∷ [])) (sym is) in
-    n ∙ ap (λ (l : List Edit). l ++ (e.1 ∷ [])) h ∙ sym (map-append (λ (x : ℕ × Edit). x.1) (take k es) (e ∷ []))
-    ∙ sym (ap (λ (l : List (ℕ × Edit)). map (λ x. x.1) l) t)
-
--- those of all edits
-pub all_moves : (es : List (ℕ × Edit)) (ms : List Edit) (k : ℕ) → length es ≤ k → ms ≡ map (λ e. e.1) (take k es) → ms ≡ map (λ e. e.1) es
-all_moves es ms k long h = h ∙ ap (λ (l : List (ℕ × Edit)). map (λ x. x.1) l) (take_all k es long)
+use Rattle.regalloc2_checker.specs.Listing.{IsListing, listed_move}
 
 -- edits whose points never fall are so as they are stored
 at_map : (es : List (ℕ × Edit)) (j : ℕ) (d : ℕ × Edit) → (get_or (map edit_of es) j (edit_of d)).0 ≡ (get_or es j d).0
@@ -171,25 +155,20 @@ part_listed es first i from end l m a b = elim (cases_lt first i) [
 ]
 
 stored_moves : (q : ℕ → Bool) (es : List (ℕ × Edit)) →
-    map (λ e. e.1) (filter (λ e. q e.0) (map edit_of es)) ≡ map move_of (map (λ e. e.1) (filter (λ e. q e.0) es))
+    map (λ e. e.1) (filter (λ e. q e.0) (map edit_of es)) ≡ map listed_move (filter (λ e. q e.0) es)
 stored_moves q [] = refl
 stored_moves q (e ∷ es) = elim (q e.0)
     as (λ t. map (λ x. x.1) (cond t (edit_of e ∷ filter (λ x. q x.0) (map edit_of es)) (filter (λ x. q x.0) (map edit_of es)))
-    ≡ map move_of (map (λ x. x.1) (cond t (e ∷ filter (λ x. q x.0) es) (filter (λ x. q x.0) es)))) [
-      | true ↦ ap (λ (ms : List MoveValue). move_of e.1 ∷ ms) (stored_moves q es)
+    ≡ map listed_move (cond t (e ∷ filter (λ x. q x.0) es) (filter (λ x. q x.0) es))) [
+      | true ↦ ap (λ (ms : List MoveValue). listed_move e ∷ ms) (stored_moves q es)
       | false ↦ stored_moves q es
     ]
 
 -- the moves of an instruction are a part of all
-pub part_is : (o : OutputValue) (es : List (ℕ × Edit)) (ms : List Edit) (first i from end : ℕ) → o.edits ≡ map edit_of es → ms ≡ map (λ e. e.1) es →
-    first ≤ i → from ≤ end → BeginsAt es first i from → IsSplit es end (before i + 1) → map move_of (slice_range ms from end) ≡ moves_before o first i
-part_is o es ms first i from end eo em l m a b =
-    let part : slice_range ms from end ≡ map (λ e. e.1) (filter (λ e. is_listed_at first i e.0) es) =
-    ap (λ (xs : List Edit). slice_range xs from end) em
-    ∙ ap (λ (xs : List Edit). take (end - from) xs) (drop-map (λ (e : ℕ × Edit). e.1) from es)
-    ∙ take-map (λ (e : ℕ × Edit). e.1) (end - from) (drop from es)
-    ∙ ap (λ (xs : List (ℕ × Edit)). map (λ e. e.1) xs) (sym (part_listed es first i from end l m a b)) in
-    ap (λ (xs : List Edit). map move_of xs) part
+pub part_is : (o : OutputValue) (es : List (ℕ × Edit)) (first i from end : ℕ) → o.edits ≡ map edit_of es →
+    first ≤ i → from ≤ end → BeginsAt es first i from → IsSplit es end (before i + 1) → map listed_move (slice_range es from end) ≡ moves_before o first i
+part_is o es first i from end eo l m a b =
+    ap (λ (xs : List (ℕ × Edit)). map listed_move xs) (sym (part_listed es first i from end l m a b))
     ∙ sym (stored_moves (λ (n : ℕ). is_listed_at first i n) es)
     ∙ ap (λ (xs : List (ℕ × MoveValue)). map (λ e. e.1) (filter (λ e. is_listed_at first i e.0) xs)) (sym eo)
 
@@ -197,9 +176,9 @@ part_is o es ms first i from end eo em l m a b =
 pub record IsCopying (f : FunctionValue) (o : OutputValue) (b : ℕ) (ls : List Listed) : Type 0 where
   pub within : (c : ℕ) → c < b → (block_at f c).range.end ≤ length ls
   pub moves : (c i : ℕ) (d : Listed) → c < b → (block_at f c).range.first ≤ i → i < (block_at f c).range.end →
-      map move_of (get_or ls i d).moves.now ≡ moves_at f o (record { block = c; inst = i })
+      map listed_move (get_or ls i d).moves.now ≡ moves_at f o (record { block = c; inst = i })
   pub here : (i : ℕ) (d : Listed) → (block_at f b).range.first ≤ i → i < length ls →
-      map move_of (get_or ls i d).moves.now ≡ moves_at f o (record { block = b; inst = i })
+      map listed_move (get_or ls i d).moves.now ≡ moves_at f o (record { block = b; inst = i })
   pub places : (i : ℕ) (d : Listed) → i < length ls → (get_or ls i d).places.now ≡ allocs_of o i
 
 -- where all earlier blocks are listed, a block's first instruction comes next
@@ -220,8 +199,8 @@ copying_starts f o h b less ls l =
     record { within = l.within; moves = l.moves; here = λ i d a z. absurd (omega arith); places = l.places }
 
 -- one instruction more is listed, with the places of its operands and the moves before it
-pub copying_inst : (f : FunctionValue) (o : OutputValue) (b j : ℕ) (es : List Edit) (ls to : List Listed) →
-    IsCopying f o b ls → j ≡ length ls → IsAdded ls to es (allocs_of o j) → map move_of es ≡ moves_before o (block_at f b).range.first j →
+pub copying_inst : (f : FunctionValue) (o : OutputValue) (b j : ℕ) (es : List (ℕ × Edit)) (ls to : List Listed) →
+    IsCopying f o b ls → j ≡ length ls → IsAdded ls to es (allocs_of o j) → map listed_move es ≡ moves_before o (block_at f b).range.first j →
     IsCopying f o b to
 copying_inst f o b j es ls to h e a m =
     let first : ℕ = (block_at f b).range.first in
@@ -232,11 +211,11 @@ copying_inst f o b j es ls to h e a m =
     ∙ get_or_push ls a.last d i (sym z) in
     record {
       within = λ c z. (let w = h.within c z in omega arith);
-      moves = λ c i d z low high. ap (λ (x : Listed). map move_of x.moves.now) (kept i d (let w = h.within c z in omega arith)) ∙ h.moves c i d z low high;
+      moves = λ c i d z low high. ap (λ (x : Listed). map listed_move x.moves.now) (kept i d (let w = h.within c z in omega arith)) ∙ h.moves c i d z low high;
       here = λ i d low high. elim (cases_lt i (length ls)) [
-        | inl l ↦ ap (λ (x : Listed). map move_of x.moves.now) (kept i d l) ∙ h.here i d low l
+        | inl l ↦ ap (λ (x : Listed). map listed_move x.moves.now) (kept i d l) ∙ h.here i d low l
         | inr l ↦ (let q : i ≡ length ls = omega arith in
-            ap (λ (x : Listed). map move_of x.moves.now) (newest i d q) ∙ ap (λ (xs : List Edit). map move_of xs) a.moves_are ∙ m
+            ap (λ (x : Listed). map listed_move x.moves.now) (newest i d q) ∙ ap (λ (xs : List (ℕ × Edit)). map listed_move xs) a.moves_are ∙ m
             ∙ ap (λ (k : ℕ). moves_before o first k) (e ∙ sym q))
       ];
       places = λ i d high. elim (cases_lt i (length ls)) [
@@ -262,7 +241,7 @@ copying_ends f o b ls h whole some =
         | inl l ↦ h.moves c i d l low up
         | inr l ↦ (let q : c ≡ b = omega arith in
             subst (λ (k : ℕ). (block_at f k).range.first ≤ i → i < (block_at f k).range.end →
-            map move_of (get_or ls i d).moves.now ≡ moves_at f o (record { block = k; inst = i })) (sym q)
+            map listed_move (get_or ls i d).moves.now ≡ moves_at f o (record { block = k; inst = i })) (sym q)
             (λ lo hi. h.here i d lo (omega arith)) low up)
       ];
       places = h.places;

@@ -1,13 +1,24 @@
 -- What the tests of machine and slots decide.
-use Rattle.std.proofs.Common.{ℕ, ◌≡◌, ◌≢◌, Bool, List, Result, Ok, Err, refl, sym, subst}
+use Rattle.std.proofs.Common.{ℕ, ◌≡◌, ◌≢◌, Bool, List, Result, Ok, Err, refl, sym, subst, inl}
 use Rattle.std.specs.Prelude.{◌↔◌, Contains, OnOk}
 use Rattle.regalloc2_function.specs.FunctionValue.{FunctionValue}
 use Rattle.regalloc2_function.specs.Machine.{MachineValue}
 use Rattle.regalloc2_function.specs.OutputValue.{OutputValue}
+use Rattle.regalloc2_function.specs.Fitting.{IsProperPlace}
+use Rattle.regalloc2_names.specs.declared.RegClass.{RegClass}
+use Rattle.regalloc2_names.specs.Place.{Place, NoPlace, InRegister, InSlot}
+use Rattle.regalloc2_checker.specs.CellRegisters.{IsAllocatablePlace}
 use Rattle.regalloc2_checker.specs.Cells.{AreCells, ArePlacesOfMachine, IsSlotTaken, IsInFrame, AreUnitsApart}
 use Rattle.regalloc2_checker.specs.CellFaults.{IsCellFault, IsSlotFault, AreAllApart}
 use Rattle.regalloc2_checker.specs.declared.cells.CellFault.{CellFault}
 use Rattle.regalloc2_checker.specs.declared.cells.CellFault.TheVariants.{Operand, MoveEnd, OtherClass, Location, Slot, Shared, Memory}
+
+-- a register that may be allocated to a class may hold a value of it
+pub allocatable_is_proper : (env : MachineValue) (out : OutputValue) (class : RegClass) (p : Place) → IsAllocatablePlace env class p →
+    IsProperPlace env out class p
+allocatable_is_proper env out class NoPlace h = h
+allocatable_is_proper env out class (InRegister r) h = inl h
+allocatable_is_proper env out class (InSlot n) h = absurd h
 
 pub both_ok : {T E P Q S : Type 0} (r : Result T E) → (P → Q → S) → OnOk r P → OnOk r Q → OnOk r S
 both_ok (Ok v) to p q = to p q

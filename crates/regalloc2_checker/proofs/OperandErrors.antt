@@ -11,7 +11,7 @@ use Rattle.regalloc2_names.specs.Register.{VirtualRegister}
 use Rattle.regalloc2_names.specs.Operand.{OperandValue, is_reading}
 use Rattle.regalloc2_names.specs.Place.{Place, NoPlace, InRegister, InSlot, is_no_place}
 use Rattle.regalloc2_function.specs.declared.listing.Edit.{Edit}
-use Rattle.regalloc2_function.specs.Views.{move_of}
+use Rattle.regalloc2_checker.specs.Listing.{listed_move}
 use Rattle.regalloc2_function.specs.Machine.{MachineValue}
 use Rattle.regalloc2_function.specs.OutputValue.{MoveValue, place_at}
 use Rattle.regalloc2_function.specs.Faithful.{Meets, IsStackToStack}
@@ -135,33 +135,33 @@ pub record AreAdded {A : Type 0} (env : MachineValue) (ms : List MoveValue) (old
 pub added_none : {A : Type 0} (env : MachineValue) (old : List (CheckerError A)) → AreAdded env [] old old
 added_none env old = record { added = []; all = sym (append-nil old); faults = none }
 
-moves_one : (es : List Edit) (k : ℕ) (e : Edit) → k < length es → e ≡ get_or es k e → map move_of (take (k + 1) es) ≡ map move_of (take k es)
-    ++ (move_of e ∷ [])
-moves_one es k e less is = ap (λ (xs : List Edit). map move_of xs) (take_one es k e less is) ∙ mapped (take k es)
+moves_one : (es : List (ℕ × Edit)) (k : ℕ) (e : ℕ × Edit) → k < length es → e ≡ get_or es k e → map listed_move (take (k + 1) es) ≡ map listed_move (take k es)
+    ++ (listed_move e ∷ [])
+moves_one es k e less is = ap (λ (xs : List (ℕ × Edit)). map listed_move xs) (take_one es k e less is) ∙ mapped (take k es)
   where
-    mapped : (xs : List Edit) → map move_of (xs ++ (e ∷ [])) ≡ map move_of xs ++ (move_of e ∷ [])
+    mapped : (xs : List (ℕ × Edit)) → map listed_move (xs ++ (e ∷ [])) ≡ map listed_move xs ++ (listed_move e ∷ [])
     mapped [] = refl
-    mapped (x ∷ xs) = ap (λ (ys : List MoveValue). move_of x ∷ ys) (mapped xs)
+    mapped (x ∷ xs) = ap (λ (ys : List MoveValue). listed_move x ∷ ys) (mapped xs)
 
 -- checking one move more that is not between two stack places adds no error
-pub added_fine : {A : Type 0} (env : MachineValue) (es : List Edit) (k : ℕ) (e : Edit) (old new : List (CheckerError A)) → k < length es → e ≡ get_or es k e →
-    (IsStackToStack env (move_of e) → ⊥) →
-    AreAdded env (map move_of (take k es)) old new → AreAdded env (map move_of (take (k + 1) es)) old new
+pub added_fine : {A : Type 0} (env : MachineValue) (es : List (ℕ × Edit)) (k : ℕ) (e : ℕ × Edit) (old new : List (CheckerError A)) → k < length es → e ≡ get_or es k e →
+    (IsStackToStack env (listed_move e) → ⊥) →
+    AreAdded env (map listed_move (take k es)) old new → AreAdded env (map listed_move (take (k + 1) es)) old new
 added_fine env es k e old new less is other h = rw (moves_one es k e less is)
-    (record { added = h.added; all = h.all; faults = fine_more_moves env (map move_of (take k es)) h.added (move_of e) other h.faults })
+    (record { added = h.added; all = h.all; faults = fine_more_moves env (map listed_move (take k es)) h.added (listed_move e) other h.faults })
 
 -- checking one move more that is between two stack places appends its error
-pub added_fault : {A : Type 0} (env : MachineValue) (es : List Edit) (k : ℕ) (e : Edit) (old new newer : List (CheckerError A)) → k < length es →
-    e ≡ get_or es k e → IsStackToStack env (move_of e) →
-    newer ≡ new ++ (StackToStackMove (move_of e).to (move_of e).from ∷ []) → AreAdded env (map move_of (take k es)) old new →
-    AreAdded env (map move_of (take (k + 1) es)) old newer
+pub added_fault : {A : Type 0} (env : MachineValue) (es : List (ℕ × Edit)) (k : ℕ) (e : ℕ × Edit) (old new newer : List (CheckerError A)) → k < length es →
+    e ≡ get_or es k e → IsStackToStack env (listed_move e) →
+    newer ≡ new ++ (StackToStackMove (listed_move e).to (listed_move e).from ∷ []) → AreAdded env (map listed_move (take k es)) old new →
+    AreAdded env (map listed_move (take (k + 1) es)) old newer
 added_fault env es k e old new newer less is so pushed h = rw (moves_one es k e less is) (record {
-  added = h.added ++ (StackToStackMove (move_of e).to (move_of e).from ∷ []);
-  all = pushed ∙ ap (λ (xs : List (CheckerError _)). xs ++ (StackToStackMove (move_of e).to (move_of e).from ∷ [])) h.all ∙ append_assoc old h.added _;
-  faults = faults_more env (map move_of (take k es)) h.added (move_of e) so h.faults;
+  added = h.added ++ (StackToStackMove (listed_move e).to (listed_move e).from ∷ []);
+  all = pushed ∙ ap (λ (xs : List (CheckerError _)). xs ++ (StackToStackMove (listed_move e).to (listed_move e).from ∷ [])) h.all ∙ append_assoc old h.added _;
+  faults = faults_more env (map listed_move (take k es)) h.added (listed_move e) so h.faults;
 })
 
 -- once as many moves are checked as there are, the errors added are those of all of them
-pub added_all : {A : Type 0} (env : MachineValue) (es : List Edit) (k : ℕ) (old new : List (CheckerError A)) → length es ≤ k →
-    AreAdded env (map move_of (take k es)) old new → AreAdded env (map move_of es) old new
-added_all env es k old new less h = subst (λ (xs : List Edit). AreAdded env (map move_of xs) old new) (take_all k es less) h
+pub added_all : {A : Type 0} (env : MachineValue) (es : List (ℕ × Edit)) (k : ℕ) (old new : List (CheckerError A)) → length es ≤ k →
+    AreAdded env (map listed_move (take k es)) old new → AreAdded env (map listed_move es) old new
+added_all env es k old new less h = subst (λ (xs : List (ℕ × Edit)). AreAdded env (map listed_move xs) old new) (take_all k es less) h

@@ -14,7 +14,7 @@ use Rattle.regalloc2_names.specs.declared.sets.PRegSet.{PRegSet}
 use Rattle.regalloc2_names.specs.Place.{Place, NoPlace, InRegister, InSlot, is_place}
 use Rattle.regalloc2_names.specs.Operand.{OperandValue, is_def, is_late}
 use Rattle.regalloc2_function.specs.declared.listing.Edit.{Edit}
-use Rattle.regalloc2_function.specs.Views.{move_of}
+use Rattle.regalloc2_checker.specs.Listing.{listed_move}
 use Rattle.regalloc2_function.specs.OutputValue.{MoveValue, place_at}
 use Rattle.regalloc2_checker.specs.Facts.{Facts, placed, defined, facts_after_moves, facts_after_early_defs, facts_after_defs, facts_after_clobbers, renaming}
 use Rattle.regalloc2_checker.specs.Renamed.{facts_renamed, HoldersAre, AreHoldersOf, TakesArgument, AreOthersKept, facts_forgotten, facts_without}
@@ -22,22 +22,22 @@ use Rattle.regalloc2_checker.specs.TableFacts.{IsListed, IsListedVReg}
 use Rattle.regalloc2_names.specs.Same.{is_register-true, is_register-same}
 use Rattle.regalloc2_checker.proofs.TableSteps.{one-facts}
 
-drop_at : (ms : List Edit) (k : ℕ) (e : Edit) → k < length ms → e ≡ get_or ms k e → drop k ms ≡ e ∷ drop (k + 1) ms
+drop_at : (ms : List (ℕ × Edit)) (k : ℕ) (e : ℕ × Edit) → k < length ms → e ≡ get_or ms k e → drop k ms ≡ e ∷ drop (k + 1) ms
 drop_at ms k e l is =
     let s : suc k ≡ k + 1 = omega arith in
-    rw (← s) (drop-cons ms k e l ∙ ap (λ (x : Edit). x ∷ drop (suc k) ms) (sym is))
+    rw (← s) (drop-cons ms k e l ∙ ap (λ (x : ℕ × Edit). x ∷ drop (suc k) ms) (sym is))
 
 -- the effect of the moves from the k-th on is that of the k-th, then of those after it
-pub moves_step : (ms : List Edit) (k : ℕ) (e : Edit) (F G : Facts) → k < length ms → e ≡ get_or ms k e →
-    G ≡ placed (move_of e).to (F (move_of e).from) F →
-    facts_after_moves (map move_of (drop k ms)) F ≡ facts_after_moves (map move_of (drop (k + 1) ms)) G
+pub moves_step : (ms : List (ℕ × Edit)) (k : ℕ) (e : ℕ × Edit) (F G : Facts) → k < length ms → e ≡ get_or ms k e →
+    G ≡ placed (listed_move e).to (F (listed_move e).from) F →
+    facts_after_moves (map listed_move (drop k ms)) F ≡ facts_after_moves (map listed_move (drop (k + 1) ms)) G
 unfolding facts_after_moves
 moves_step ms k e F G l is h =
-    ap (λ (xs : List Edit). facts_after_moves (map move_of xs) F) (drop_at ms k e l is)
-    ∙ ap (λ (x : Facts). facts_after_moves (map move_of (drop (k + 1) ms)) x) (sym h)
+    ap (λ (xs : List (ℕ × Edit)). facts_after_moves (map listed_move xs) F) (drop_at ms k e l is)
+    ∙ ap (λ (x : Facts). facts_after_moves (map listed_move (drop (k + 1) ms)) x) (sym h)
 
 -- past the last move the facts are what they are
-pub moves_done : (ms : List Edit) (k : ℕ) (F : Facts) → length ms ≤ k → facts_after_moves (map move_of (drop k ms)) F ≡ F
+pub moves_done : (ms : List (ℕ × Edit)) (k : ℕ) (F : Facts) → length ms ≤ k → facts_after_moves (map listed_move (drop k ms)) F ≡ F
 unfolding facts_after_moves
 moves_done ms k F l = let e : drop k ms ≡ [] = drop_all k ms l in rw e refl
 
@@ -285,20 +285,20 @@ pub walk_end : (s : PRegSet) (xs ys : List Register) → ys ≡ [] → IsWalkOf 
 walk_end s xs ys e w = subst (λ (zs : List Register). IsWalkOf s zs) (ap (λ (zs : List Register). xs ++ zs) e ∙ nothing_more xs) w
 
 -- what is listed of each item is listed of the one at an index
-mapped-at : (ms : List Edit) (k : ℕ) (e : Edit) (d : MoveValue) → k < length ms → e ≡ get_or ms k e → get_or (map move_of ms) k d ≡ move_of e
+mapped-at : (ms : List (ℕ × Edit)) (k : ℕ) (e : ℕ × Edit) (d : MoveValue) → k < length ms → e ≡ get_or ms k e → get_or (map listed_move ms) k d ≡ listed_move e
 mapped-at [] k e d less is = absurd (omega arith)
-mapped-at (m ∷ ms) zero e d less is = ap move_of (sym is)
+mapped-at (m ∷ ms) zero e d less is = ap listed_move (sym is)
 mapped-at (m ∷ ms) (suc k) e d less is = mapped-at ms k e d (omega arith) is
 
-mapped-long : (ms : List Edit) → length (map move_of ms) ≡ length ms
+mapped-long : (ms : List (ℕ × Edit)) → length (map listed_move ms) ≡ length ms
 mapped-long [] = refl
 mapped-long (m ∷ ms) = ap suc (mapped-long ms)
 
 -- the destination of a move of the list is listed, where all are
-pub listed-at : (places : List ℕ) (ms : List Edit) (k : ℕ) (e : Edit) → k < length ms → e ≡ get_or ms k e →
-    All (λ (m : MoveValue). IsListed places m.to) (map move_of ms) → IsListed places (move_of e).to
+pub listed-at : (places : List ℕ) (ms : List (ℕ × Edit)) (k : ℕ) (e : ℕ × Edit) → k < length ms → e ≡ get_or ms k e →
+    All (λ (m : MoveValue). IsListed places m.to) (map listed_move ms) → IsListed places (listed_move e).to
 listed-at places ms k e less is h =
-    subst (λ (m : MoveValue). IsListed places m.to) (mapped-at ms k e (move_of e) less is) (h k (move_of e) (omega (arith, mapped-long ms, less)))
+    subst (λ (m : MoveValue). IsListed places m.to) (mapped-at ms k e (listed_move e) less is) (h k (listed_move e) (omega (arith, mapped-long ms, less)))
 
 -- so is the vreg of an operand
 pub operand-listed : (vregs : List ℕ) (os : List OperandValue) (k : ℕ) (o : OperandValue) → k < length os → o ≡ get_or os k o →

@@ -12,7 +12,7 @@ use Rattle.regalloc2_function.specs.Path.{Location}
 use Rattle.regalloc2_function.specs.SourceRun.{arguments_at}
 use Rattle.regalloc2_function.specs.AllocatedRun.{moves_at}
 use Rattle.regalloc2_function.specs.declared.listing.Edit.{Edit}
-use Rattle.regalloc2_function.specs.Views.{move_of}
+use Rattle.regalloc2_checker.specs.Listing.{listed_move}
 use Rattle.regalloc2_checker_tables.specs.Showing.{Showing}
 use Rattle.regalloc2_checker.specs.declared.listing.Listed.{Listed}
 use Rattle.regalloc2_checker.specs.Facts.{Facts, facts_after, facts_after_moves}
@@ -38,12 +38,12 @@ unfolding facts_after
 after_run f o l F E L ms ps os clobbers r ec ee el = rw (el, ee, r.moves, r.places, r.operands, ec) refl
 
 -- what is listed at an instruction
-pub listed_moves : (f : FunctionValue) (o : OutputValue) (ls : List Listed) (b i n : ℕ) (x : Listed) (ms : List Edit) → IsListing f o ls →
+pub listed_moves : (f : FunctionValue) (o : OutputValue) (ls : List Listed) (b i n : ℕ) (x : Listed) (ms : List (ℕ × Edit)) → IsListing f o ls →
     ms ≡ x.moves.now → n ≡ i → x ≡ get_or ls n x →
-    b < length f.blocks → (block_at f b).range.first ≤ i → i < (block_at f b).range.end → map move_of ms ≡ moves_at f o (record { block = b; inst = i })
+    b < length f.blocks → (block_at f b).range.first ≤ i → i < (block_at f b).range.end → map listed_move ms ≡ moves_at f o (record { block = b; inst = i })
 listed_moves f o ls b i n x ms h e en is lb low high =
     let there : x ≡ get_or ls i x = rw en at is in
-    ap (λ (es : List Edit). map move_of es) e ∙ ap (λ (y : Listed). map move_of y.moves.now) there ∙ h.moves b i x lb low high
+    ap (λ (es : List (ℕ × Edit)). map listed_move es) e ∙ ap (λ (y : Listed). map listed_move y.moves.now) there ∙ h.moves b i x lb low high
 
 -- the places listed at an instruction are those that the output has for its operands
 pub listed_places : (f : FunctionValue) (o : OutputValue) (ls : List Listed) (i n : ℕ) (x : Listed) (ps : List Place) → IsListing f o ls →

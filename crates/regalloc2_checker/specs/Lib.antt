@@ -16,6 +16,7 @@ pub mod Prepared
 pub mod ErrorsFound
 pub mod Report
 pub mod CheckInputs
+pub mod CellRegisters
 pub mod Blocks
 pub mod Text
 pub mod Cells

@@ -13,18 +13,22 @@ ghost use Rattle.regalloc2_function.specs.Machine.{scratch_of, is_allocatable, I
 ghost use Rattle.regalloc2_function.specs.Fitting.{IsProperPlace, IsMoveEnd};
 ghost use Rattle.regalloc2_function.specs.OutputValue.{IsInOrder, place_at, allocs_of};
 ghost use Rattle.regalloc2_function.specs.Views.{machine_of, output_of};
+ghost use Rattle.regalloc2_checker.specs.CellRegisters.{AreCellRegisters};
 ghost use Rattle.regalloc2_checker.specs.CheckInputs.{AreStackSlots};
 ghost use Rattle.regalloc2_checker.specs.Cells.{AreCells, ArePlacesOfMachine, IsSlotTaken, IsOperandCell, IsWithinClass, IsTakenByInst, IsTakenByMove};
 ghost use Rattle.regalloc2_checker.specs.Cells.{IsTakenByLocation, IsInFrame, units_beside, operand_of, move_of_index, location_of_index};
 ghost use Rattle.regalloc2_checker.specs.CellFaults.{IsCellFault, AddsSlots, AreTurned, AreAllApart, IsShared, IsSlotFault, IsNextSlot, SlotReaches};
 
-use crate::constraints::stack_slots;
+use crate::cell_registers::{CellRegisters, allocatable};
 use crate::transfer::place_at;
 use regalloc2_function::{Edit, Function, MachineEnv, Output};
 use regalloc2_index::Inst;
 use regalloc2_names::{Allocation, Operand, PReg, PRegSet, RegClass};
 use std::alloc::{AllocError, Allocator};
 use std::fmt;
+
+/// There is room for so many named slots from the beginning.
+const ROOM: usize = 32;
 
 /// Why the places that an output names aren't cells.
 #[derive(Clone, Copy, Debug, PartialEq, Eq)]
@@ -99,14 +103,6 @@ fn is_class(a: RegClass, b: RegClass) -> bool
     a as usize == b as usize
 }
 
-/// The registers that may be allocated to vregs of a class.
-fn allocatable<B: Allocator>(env: &MachineEnv<B>, class: RegClass) -> PRegSet
-    ensures { (r : Register) → has_register result r ≡ is_allocatable (machine_of env.now) class r }
-{
-    let index = class.code();
-    env.preferred_regs_by_class[index] | env.non_preferred_regs_by_class[index]
-}
-
 /// Whether a value of a class may be in a register, which may stand for a fixed stack slot.
 fn may_be_in<B: Allocator>(env: &MachineEnv<B>, slots: PRegSet, class: RegClass, reg: PReg) -> bool
     requires { AreStackSlots (machine_of env.now) slots }
@@ -147,6 +143,41 @@ fn is_proper_of_any<B: Allocator, C: Allocator>(
         || is_proper(env, slots, output, RegClass::Vector, place)
 }
 
+/// Whether a value of a class may be in a place. Registers that may be allocated are tested first, since most places are.
+#[inline(always)]
+fn is_cell_of<B: Allocator, C: Allocator>(
+    env: &MachineEnv<B>,
+    regs: &CellRegisters,
+    output: &Output<C>,
+    class: RegClass,
+    place: Allocation,
+) -> bool
+    requires { AreCellRegisters (machine_of env.now) regs.now }
+    ensures { IsTrue result ↔ IsProperPlace (machine_of env.now) (output_of output.now) class place }
+{
+    if regs.may_hold(class, place) {
+        return true;
+    }
+    is_proper(env, regs.slots, output, class, place)
+}
+
+/// Whether a value of some class may be in a place.
+#[inline(always)]
+fn is_cell_of_any<B: Allocator, C: Allocator>(
+    env: &MachineEnv<B>,
+    regs: &CellRegisters,
+    output: &Output<C>,
+    place: Allocation,
+) -> bool
+    requires { AreCellRegisters (machine_of env.now) regs.now }
+    ensures { IsTrue result ↔ ((c : RegClass) × IsProperPlace (machine_of env.now) (output_of output.now) c place) }
+{
+    if regs.may_hold_any(place) {
+        return true;
+    }
+    is_proper_of_any(env, regs.slots, output, place)
+}
+
 /// Whether a place is the register of a class that is set aside for moves.
 fn is_scratch<B: Allocator>(env: &MachineEnv<B>, class: RegClass, place: Allocation) -> bool
     ensures { IsTrue result ↔ ((r : Register) × (scratch_of (machine_of env.now) class ≡ Some r) × (place ≡ InRegister r)) }
@@ -160,14 +191,14 @@ fn is_scratch<B: Allocator>(env: &MachineEnv<B>, class: RegClass, place: Allocat
 /// Whether a move may read or write a place.
 fn is_move_end<B: Allocator, C: Allocator>(
     env: &MachineEnv<B>,
-    slots: PRegSet,
+    regs: &CellRegisters,
     output: &Output<C>,
     place: Allocation,
 ) -> bool
-    requires { AreStackSlots (machine_of env.now) slots }
+    requires { AreCellRegisters (machine_of env.now) regs.now }
     ensures { IsTrue result ↔ IsMoveEnd (machine_of env.now) (output_of output.now) place }
 {
-    is_proper_of_any(env, slots, output, place)
+    is_cell_of_any(env, regs, output, place)
         || is_scratch(env, RegClass::Int, place)
         || is_scratch(env, RegClass::Float, place)
         || is_scratch(env, RegClass::Vector, place)
@@ -176,31 +207,31 @@ fn is_move_end<B: Allocator, C: Allocator>(
 /// Whether a move may go from a place to another one.
 fn are_move_ends<B: Allocator, C: Allocator>(
     env: &MachineEnv<B>,
-    slots: PRegSet,
+    regs: &CellRegisters,
     output: &Output<C>,
     from: Allocation,
     to: Allocation,
 ) -> bool
-    requires { AreStackSlots (machine_of env.now) slots }
+    requires { AreCellRegisters (machine_of env.now) regs.now }
     ensures { IsTrue result ↔ (IsMoveEnd (machine_of env.now) (output_of output.now) from × IsMoveEnd (machine_of env.now) (output_of output.now) to) }
 {
-    is_move_end(env, slots, output, from) && is_move_end(env, slots, output, to)
+    is_move_end(env, regs, output, from) && is_move_end(env, regs, output, to)
 }
 
 /// Whether an operand may be in a place.
 fn is_operand_cell<B: Allocator, C: Allocator>(
     env: &MachineEnv<B>,
-    slots: PRegSet,
+    regs: &CellRegisters,
     output: &Output<C>,
     op: Operand,
     place: Allocation,
 ) -> bool
-    requires { AreStackSlots (machine_of env.now) slots }
+    requires { AreCellRegisters (machine_of env.now) regs.now }
     ensures { IsTrue result ↔ IsOperandCell (machine_of env.now) (output_of output.now) op place }
 {
     match op.as_fixed_nonallocatable() {
         Some(reg) => place.is_same(Allocation::reg(reg)),
-        None => is_proper(env, slots, output, op.class(), place),
+        None => is_cell_of(env, regs, output, op.class(), place),
     }
 }
 
@@ -238,16 +269,32 @@ fn add_slot<A: Allocator>(
     Ok(())
 }
 
+/// Adds an end of a move to the slots that are named if it is one, with the units that it takes beside the other end.
+#[inline(always)]
+fn add_end<F: Function, A: Allocator>(
+    f: &F,
+    named: &mut Vec<(usize, usize), A>,
+    place: Allocation,
+    other: Allocation,
+) -> Result<(), AllocError>
+    ensures { OnOk result (AddsSlots (λ n u. (place ≡ InSlot n) × (u ≡ units_beside (F.function f.now) other)) named.old.items named.new.items) }
+{
+    if !place.is_stack() {
+        return Ok(());
+    }
+    add_slot(named, place, units_beside(f, other))
+}
+
 /// Tests the places of an instruction's operands, and adds the slots that they name.
 fn test_inst<F: Function, A: Allocator, B: Allocator, C: Allocator>(
     f: &F,
     env: &MachineEnv<B>,
-    slots: PRegSet,
+    regs: &CellRegisters,
     output: &Output<C>,
     inst: Inst,
     named: &mut Vec<(usize, usize), A>,
 ) -> Result<(), CellFault>
-    requires slots { AreStackSlots (machine_of env.now) slots }
+    requires regs { AreCellRegisters (machine_of env.now) regs.now }
     requires in_order { IsInOrder (F.function f.now) (output_of output.now) }
     requires inst { inst < length (F.function f.now).insts }
     ensures cells { OnOk result ((k : ℕ) → k < length (inst_at (F.function f.now) inst).operands → IsOperandCell (machine_of env.now) (output_of output.now)
@@ -260,7 +307,7 @@ fn test_inst<F: Function, A: Allocator, B: Allocator, C: Allocator>(
     for k in 0..operands.len() {
         let op = operands[k];
         let place = place_at(places, k);
-        if !is_operand_cell(env, slots, output, op, place) {
+        if !is_operand_cell(env, regs, output, op, place) {
             return Err(CellFault::Operand(inst, k));
         }
         add_slot(named, place, f.spillslot_size(op.class()))?;
@@ -272,11 +319,11 @@ fn test_inst<F: Function, A: Allocator, B: Allocator, C: Allocator>(
 fn test_insts<F: Function, A: Allocator, B: Allocator, C: Allocator>(
     f: &F,
     env: &MachineEnv<B>,
-    slots: PRegSet,
+    regs: &CellRegisters,
     output: &Output<C>,
     named: &mut Vec<(usize, usize), A>,
 ) -> Result<(), CellFault>
-    requires slots { AreStackSlots (machine_of env.now) slots }
+    requires regs { AreCellRegisters (machine_of env.now) regs.now }
     requires in_order { IsInOrder (F.function f.now) (output_of output.now) }
     ensures cells { OnOk result ((i : ℕ) → i < length (F.function f.now).insts → (k : ℕ) → k < length (inst_at (F.function f.now) i).operands →
         IsOperandCell (machine_of env.now) (output_of output.now) (operand_of (F.function f.now) i k) (place_at (allocs_of (output_of output.now) i) k)) }
@@ -285,7 +332,7 @@ fn test_insts<F: Function, A: Allocator, B: Allocator, C: Allocator>(
     ensures fault { IfErr result (IsCellFault (F.function f.now) (machine_of env.now) (output_of output.now)) }
 {
     for i in 0..f.num_insts() {
-        test_inst(f, env, slots, output, Inst::new(i), named)?;
+        test_inst(f, env, regs, output, Inst::new(i), named)?;
     }
     Ok(())
 }
@@ -294,11 +341,11 @@ fn test_insts<F: Function, A: Allocator, B: Allocator, C: Allocator>(
 fn test_moves<F: Function, A: Allocator, B: Allocator, C: Allocator>(
     f: &F,
     env: &MachineEnv<B>,
-    slots: PRegSet,
+    regs: &CellRegisters,
     output: &Output<C>,
     named: &mut Vec<(usize, usize), A>,
 ) -> Result<(), CellFault>
-    requires slots { AreStackSlots (machine_of env.now) slots }
+    requires regs { AreCellRegisters (machine_of env.now) regs.now }
     ensures ends { OnOk result ((k : ℕ) → k < length (output_of output.now).edits →
         IsMoveEnd (machine_of env.now) (output_of output.now) (move_of_index (output_of output.now) k).from
         × IsMoveEnd (machine_of env.now) (output_of output.now) (move_of_index (output_of output.now) k).to) }
@@ -310,14 +357,14 @@ fn test_moves<F: Function, A: Allocator, B: Allocator, C: Allocator>(
     for k in 0..output.edits.len() {
         let edit = output.edits[k];
         let (from, to) = edit.1.places();
-        if !are_move_ends(env, slots, output, from, to) {
+        if !are_move_ends(env, regs, output, from, to) {
             return Err(CellFault::MoveEnd(k));
         }
         if !is_within_class(from, to) {
             return Err(CellFault::OtherClass(k));
         }
-        add_slot(named, from, units_beside(f, to))?;
-        add_slot(named, to, units_beside(f, from))?;
+        add_end(f, named, from, to)?;
+        add_end(f, named, to, from)?;
     }
     Ok(())
 }
@@ -325,11 +372,11 @@ fn test_moves<F: Function, A: Allocator, B: Allocator, C: Allocator>(
 /// Tests the places of the debug locations, and adds the slots that they name.
 fn test_locations<A: Allocator, B: Allocator, C: Allocator>(
     env: &MachineEnv<B>,
-    slots: PRegSet,
+    regs: &CellRegisters,
     output: &Output<C>,
     named: &mut Vec<(usize, usize), A>,
 ) -> Result<(), CellFault>
-    requires slots { AreStackSlots (machine_of env.now) slots }
+    requires regs { AreCellRegisters (machine_of env.now) regs.now }
     ensures cells { OnOk result ((k : ℕ) → k < length (output_of output.now).debug_locations →
         (c : RegClass) × IsProperPlace (machine_of env.now) (output_of output.now) c (location_of_index (output_of output.now) k)) }
     ensures named { OnOk result (AddsSlots (λ n u. (k : ℕ) × (k < length (output_of output.now).debug_locations)
@@ -339,7 +386,7 @@ fn test_locations<A: Allocator, B: Allocator, C: Allocator>(
     for k in 0..output.debug_locations.len() {
         let location = output.debug_locations[k];
         let place = location.3;
-        if !is_proper_of_any(env, slots, output, place) {
+        if !is_proper_of_any(env, regs.slots, output, place) {
             return Err(CellFault::Location(k));
         }
         add_slot(named, place, 1)?;
@@ -458,11 +505,11 @@ fn named_slots<F: Function, A: Allocator, B: Allocator, C: Allocator>(
     ensures named { IfOk result (λ v. (n u : ℕ) → Contains v.items (n, u) ↔ IsSlotTaken (F.function f.now) (output_of output.now) n u) }
     ensures fault { IfErr result (IsCellFault (F.function f.now) (machine_of env.now) (output_of output.now)) }
 {
-    let slots = stack_slots(env);
-    let mut named = Vec::new(alloc);
-    test_insts(f, env, slots, output, &mut named)?;
-    test_moves(f, env, slots, output, &mut named)?;
-    test_locations(env, slots, output, &mut named)?;
+    let regs = CellRegisters::of(env);
+    let mut named = Vec::with_capacity(alloc, ROOM)?;
+    test_insts(f, env, &regs, output, &mut named)?;
+    test_moves(f, env, &regs, output, &mut named)?;
+    test_locations(env, &regs, output, &mut named)?;
     Ok(named)
 }
 

@@ -15,7 +15,7 @@ ghost use Rattle.regalloc2_checker.specs.CheckInputs.{AreStackSlots, AreFactsKno
 ghost use Rattle.regalloc2_checker_tables.specs.Showing.{AreTablesKept};
 ghost use Rattle.regalloc2_checker.specs.TableFacts.{facts_now, AreNamed};
 ghost use Rattle.regalloc2_checker.specs.Report.{IsValueFault, IsFineAt, IsFaultAt, AreOperandsJudged, AreMoveFaults, InstReport};
-ghost use Rattle.regalloc2_checker.specs.Listing.{IsListing};
+ghost use Rattle.regalloc2_checker.specs.Listing.{IsListing, listed_move};
 ghost use Rattle.regalloc2_checker.specs.declared.errors.CheckerError.{CheckerError};
 
 use crate::constraints::{check_constraint, is_stack};
@@ -26,7 +26,7 @@ use crate::vregs_in::{holds, vregs_in};
 use regalloc2_checker_tables::PassingTables;
 use regalloc2_function::{Edit, Function};
 use regalloc2_index::{Block, Inst};
-use regalloc2_names::{Allocation, Operand, OperandPos, PRegSet};
+use regalloc2_names::{Allocation, Operand, OperandPos, PRegSet, ProgPoint};
 use std::alloc::{AllocError, Allocator};
 
 /// What an output is checked against: a function, the fixed stack slots of its machine, and what
@@ -86,12 +86,12 @@ fn check_val<A: Allocator + Copy>(
 fn check_operand<A: Allocator + Copy>(
     alloc: A,
     values: &PassingTables<A>,
-    slots: PRegSet,
+    slots: &PRegSet,
     at: &Placed<'_>,
     k: usize,
 ) -> Result<Option<CheckerError<A>>, AllocError>
     requires { k < length at.now.operands.now }
-    ensures { IfOk result (λ r. (env : MachineValue) → AreStackSlots env slots → MatchOption r
+    ensures { IfOk result (λ r. (env : MachineValue) → AreStackSlots env slots.now → MatchOption r
         (IsFineAt env at.now.operands.now at.now.places.now (λ p v. facts_now values.now p v ≡ true) k)
         (λ e. IsFaultAt env at.now.inst at.now.operands.now at.now.places.now (λ p v. facts_now values.now p v ≡ true) k e)) }
 {
@@ -116,11 +116,11 @@ fn check_operand<A: Allocator + Copy>(
 fn check_position<A: Allocator + Copy>(
     alloc: A,
     values: &PassingTables<A>,
-    slots: PRegSet,
+    slots: &PRegSet,
     at: &Placed<'_>,
     position: OperandPos,
 ) -> Result<Option<CheckerError<A>>, AllocError>
-    ensures { IfOk result (λ r. (env : MachineValue) → AreStackSlots env slots →
+    ensures { IfOk result (λ r. (env : MachineValue) → AreStackSlots env slots.now →
         AreOperandsJudged env at.now.inst at.now.operands.now at.now.places.now position (λ p v. facts_now values.now p v ≡ true) r) }
 {
     let operands = at.operands;
@@ -138,8 +138,8 @@ fn check_position<A: Allocator + Copy>(
 
 /// The error of a move: it goes from a stack place to another.
 #[inline(always)]
-fn move_fault<A: Allocator>(slots: PRegSet, edit: Edit) -> Option<CheckerError<A>>
-    ensures { (env : MachineValue) → AreStackSlots env slots → MatchOption result (IsStackToStack env (move_of edit) → ⊥)
+fn move_fault<A: Allocator>(slots: &PRegSet, edit: Edit) -> Option<CheckerError<A>>
+    ensures { (env : MachineValue) → AreStackSlots env slots.now → MatchOption result (IsStackToStack env (move_of edit) → ⊥)
         (λ e. IsStackToStack env (move_of edit) × (e ≡ CheckerError.StackToStackMove (move_of edit).to (move_of edit).from)) }
 {
     let (from, into) = edit.places();
@@ -155,15 +155,16 @@ fn move_fault<A: Allocator>(slots: PRegSet, edit: Edit) -> Option<CheckerError<A
 /// Adds the errors of moves, as listed.
 #[inline(always)]
 fn check_moves<A: Allocator>(
-    slots: PRegSet,
-    moves: &[Edit],
+    slots: &PRegSet,
+    moves: &[(ProgPoint, Edit)],
     errors: &mut Vec<CheckerError<A>, A>,
 ) -> Result<(), AllocError>
-    ensures { OnOk result ((env : MachineValue) → AreStackSlots env slots →
-        (es : List (CheckerError A)) × (errors.new.items ≡ errors.old.items ++ es) × AreMoveFaults env (map move_of moves.now) es) }
+    ensures { OnOk result ((env : MachineValue) → AreStackSlots env slots.now →
+        (es : List (CheckerError A)) × (errors.new.items ≡ errors.old.items ++ es) × AreMoveFaults env (map listed_move moves.now) es) }
 {
     for k in 0..moves.len() {
-        let Some(fault) = move_fault(slots, moves[k]) else {
+        let edit = moves[k];
+        let Some(fault) = move_fault(slots, edit.1) else {
             continue;
         };
         errors.push(fault)?;
@@ -210,7 +211,7 @@ pub fn check_inst<F: Function, A: Allocator + Copy>(
         × InstReport (F.function by.now.f.now) env o (record { block = block; inst = inst }) es) }
 {
     let f = by.f;
-    let slots = by.slots;
+    let slots = &by.slots;
     let listing = by.listing;
     let listed = &listing[inst.index()];
     let moves = listed.moves;

@@ -1,11 +1,13 @@
 //! The checker as its callers see it.
 
-ghost use Rattle.std.specs.Prelude.{◌≡◌, ◌<◌, ◌⊎◌, ◌∷◌, [], None, Some, IfOk, IfErr, OnOk, IfSome};
+ghost use Rattle.std.specs.Prelude.{◌≡◌, ◌<◌, ◌⊎◌, ◌↔◌, ◌∷◌, [], None, Some, IfOk, IfErr, OnOk, IfSome};
 ghost use Rattle.std.specs.Vec.{vec_len, vec_capacity};
 ghost use Rattle.std.proofs.Props.{props};
 ghost use Rattle.regalloc2_function.specs.OutputValue.{OutputValue, IsInOrder};
 ghost use Rattle.regalloc2_function.specs.Views.{output_of, machine_of};
 ghost use Rattle.regalloc2_function.specs.WellFormed.{IsFramed};
+ghost use Rattle.regalloc2_function.specs.Faithful.{IsFaithful};
+ghost use Rattle.regalloc2_checker.specs.Report.{IsReport};
 ghost use Rattle.regalloc2_checker.specs.FramedIsProp.{framed-once};
 
 use crate::errors::{CheckerError, CheckerErrors};
@@ -13,6 +15,32 @@ use crate::find_errors::find_errors;
 use crate::handle::handle_output;
 use regalloc2_function::{Function, MachineEnv, Output};
 use std::alloc::{Allocator, Global};
+
+/// Checks an output as [`Checker`] does, where it lies. Answers the errors, of which there are none if it is accepted.
+///
+/// It fails with `MalformedOutput` exactly where the output isn't well-ordered, and with `Memory` where a memory allocation
+/// failed.
+pub fn check_output<F: Function, A: Allocator + Copy, B: Allocator, C: Allocator>(
+    alloc: A,
+    f: &F,
+    env: &MachineEnv<B>,
+    out: &Output<C>,
+) -> Result<Vec<CheckerError<A>, A>, CheckerError<A>>
+    requires { IsFramed (F.function f.now) }
+    ensures order { IfOk result (λ es. IsInOrder (F.function f.now) (output_of out.now)) }
+    ensures verdict { IfOk result (λ es. (es.items ≡ []) ↔ IsFaithful (F.function f.now) (machine_of env.now) (output_of out.now)) }
+    ensures report { IfOk result (λ es. IsReport (F.function f.now) (machine_of env.now) (output_of out.now) es.items) }
+    ensures err { IfErr result (λ e. ((e ≡ CheckerError.MalformedOutput) × (IsInOrder (F.function f.now) (output_of out.now) → ⊥))
+        ⊎ ((e ≡ CheckerError.Memory) × IsInOrder (F.function f.now) (output_of out.now))) }
+{
+    if !out.is_in_order(f) {
+        return Err(CheckerError::MalformedOutput);
+    }
+    match find_errors(alloc, f, env, out) {
+        Ok(errors) => Ok(errors),
+        Err(_) => Err(CheckerError::Memory),
+    }
+}
 
 /// Checks what an allocation gave for one function on one machine.
 ///
@@ -31,10 +59,8 @@ pub struct Checker<'a, F: Function, A: Allocator = Global, B: Allocator = Global
 }
 
 impl<'a, F: Function, A: Allocator + Copy, B: Allocator> Checker<'a, F, A, B> {
-    ghost use Rattle.regalloc2_function.specs.Faithful.{IsFaithful};
     ghost use Rattle.regalloc2_checker.specs.ErrorsFound.{errors_of};
     ghost use Rattle.regalloc2_checker.specs.Prepared.{subject_of, machine_in, output_in};
-    ghost use Rattle.regalloc2_checker.specs.Report.{IsReport};
 
     /// A checker that no output was given yet. It takes room for one error, and fails with `Memory`
     /// where there is none.

@@ -28,16 +28,19 @@ pub fn stack_slots<B: Allocator>(env: &MachineEnv<B>) -> PRegSet
 
 /// Whether a place is on the stack.
 #[inline(always)]
-pub fn is_stack(slots: PRegSet, place: Allocation) -> bool
-    ensures { (env : MachineValue) → AreStackSlots env slots → IsTrue result ↔ IsStackPlace env place }
+pub fn is_stack(slots: &PRegSet, place: Allocation) -> bool
+    ensures { (env : MachineValue) → AreStackSlots env slots.now → IsTrue result ↔ IsStackPlace env place }
 {
-    place.is_memory(slots)
+    match place.as_reg() {
+        Some(reg) => slots.contains(reg),
+        None => place.is_some(),
+    }
 }
 
 /// Whether a place is a register that isn't on the stack.
 #[inline(always)]
-fn is_plain_reg(slots: PRegSet, place: Allocation) -> bool
-    ensures { (env : MachineValue) → AreStackSlots env slots → IsTrue result ↔ IsPlainRegister env place }
+fn is_plain_reg(slots: &PRegSet, place: Allocation) -> bool
+    ensures { (env : MachineValue) → AreStackSlots env slots.now → IsTrue result ↔ IsPlainRegister env place }
 {
     match place.as_reg() {
         Some(reg) => !slots.contains(reg),
@@ -87,13 +90,13 @@ fn check_reuse<A: Allocator>(
 
 /// The error of a bound on the register's number, if the place doesn't meet it.
 fn check_limit<A: Allocator>(
-    slots: PRegSet,
+    slots: &PRegSet,
     inst: Inst,
     op: Operand,
     alloc: Allocation,
     max: usize,
 ) -> Option<CheckerError<A>>
-    ensures { (env : MachineValue) → AreStackSlots env slots → (count : ℕ) (places : List Place) →
+    ensures { (env : MachineValue) → AreStackSlots env slots.now → (count : ℕ) (places : List Place) →
         MatchOption result (Meets env count places (OperandConstraint.Limit max) alloc)
         (λ e. IsConstraintFault env inst op count places alloc (OperandConstraint.Limit max) e) }
 {
@@ -115,14 +118,14 @@ fn check_limit<A: Allocator>(
 /// instruction has so many operands, and these are their places.
 #[inline(always)]
 pub fn check_constraint<A: Allocator>(
-    slots: PRegSet,
+    slots: &PRegSet,
     inst: Inst,
     op: Operand,
     alloc: Allocation,
     count: usize,
     places: &[Allocation],
 ) -> Option<CheckerError<A>>
-    ensures { (env : MachineValue) → AreStackSlots env slots → alloc ≢ NoPlace → MatchOption result (Meets env count places.now op.constraint alloc)
+    ensures { (env : MachineValue) → AreStackSlots env slots.now → alloc ≢ NoPlace → MatchOption result (Meets env count places.now op.constraint alloc)
         (λ e. IsConstraintFault env inst op count places.now alloc op.constraint e) }
 {
     match op.constraint() {

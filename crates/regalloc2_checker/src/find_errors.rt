@@ -18,7 +18,7 @@ use crate::analyze::analyze;
 use crate::check::{Judging, check_inst};
 use crate::constraints::stack_slots;
 use crate::errors::CheckerError;
-use crate::handle::{handle_listing, handle_moves};
+use crate::handle::handle_listing;
 use crate::listing::Listed;
 use crate::names::{named_places, named_vregs};
 use regalloc2_checker_tables::PassingTables;
@@ -102,8 +102,7 @@ pub fn find_errors<F: Function, A: Allocator + Copy, B: Allocator, C: Allocator>
     requires in_order { IsInOrder (F.function f.now) (output_of out.now) }
     ensures { IfOk result (λ r. IsReport (F.function f.now) (machine_of env.now) o r.items) }
 {
-    let moves = handle_moves(alloc, out)?;
-    let listing = handle_listing(alloc, f, out, &moves)?;
+    let listing = handle_listing(alloc, f, out)?;
     let places = named_places(alloc, f, out)?;
     let vregs = named_vregs(alloc, f)?;
     let tables = PassingTables::new(alloc, f.num_blocks() + 1, places, vregs)?;

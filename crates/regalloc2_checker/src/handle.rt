@@ -1,6 +1,6 @@
 //! What an output lists, and a copy of an output.
 
-ghost use Rattle.std.specs.Prelude.{◌≡◌, ◌<◌, ◌≤◌, ◌+◌, OnOk, IfOk, length, map};
+ghost use Rattle.std.specs.Prelude.{◌≡◌, ◌<◌, ◌≤◌, ◌+◌, OnOk, IfOk, length};
 ghost use Rattle.std.specs.List.Sorted.{IsNonDecreasingBy};
 ghost use Rattle.regalloc2_names.specs.Point.{before};
 ghost use Rattle.regalloc2_function.specs.OutputValue.{OffsetsInOrder, IsInOrder, allocs_of};
@@ -14,21 +14,6 @@ use regalloc2_function::{Edit, Function, Output};
 use regalloc2_index::{Block, Inst};
 use regalloc2_names::ProgPoint;
 use std::alloc::{AllocError, Allocator};
-
-/// The moves of an output, without their points.
-pub fn handle_moves<A: Allocator, B: Allocator>(
-    alloc: A,
-    out: &Output<B>,
-) -> Result<Vec<Edit, A>, AllocError>
-    ensures { IfOk result (λ r. r.items ≡ map (λ e. e.1) out.now.edits.items) }
-{
-    let edits = out.edits.as_slice();
-    let mut moves = Vec::with_capacity(alloc, edits.len())?;
-    for k in 0..edits.len() {
-        moves.push(edits[k].1)?;
-    }
-    Ok(moves)
-}
 
 /// The first edit from a position on that isn't before a point.
 fn first_from(edits: &[(ProgPoint, Edit)], from: usize, point: u64) -> usize
@@ -50,7 +35,7 @@ fn first_from(edits: &[(ProgPoint, Edit)], from: usize, point: u64) -> usize
 fn handle_inst<'a, A: Allocator, B: Allocator>(
     out: &'a Output<B>,
     inst: Inst,
-    moves: &'a [Edit],
+    moves: &'a [(ProgPoint, Edit)],
     listing: &mut Vec<Listed<'a>, A>,
 ) -> Result<(), AllocError>
     requires in_order { OffsetsInOrder (output_of out.now) }
@@ -67,14 +52,12 @@ fn handle_inst<'a, A: Allocator, B: Allocator>(
 fn handle_block<'a, F: Function, A: Allocator, B: Allocator>(
     f: &F,
     out: &'a Output<B>,
-    moves: &'a [Edit],
     block: Block,
     passed: usize,
     listing: &mut Vec<Listed<'a>, A>,
 ) -> Result<usize, AllocError>
     requires framed { IsFramed (F.function f.now) }
     requires in_order { IsInOrder (F.function f.now) (output_of out.now) }
-    requires moves { moves.now ≡ map (λ e. e.1) out.now.edits.items }
     requires block { block < length (F.function f.now).blocks }
     requires within { passed ≤ length out.now.edits.items }
     requires passed { AreBeforePoint out.now.edits.items passed (before (length listing.old.items)) }
@@ -90,28 +73,26 @@ fn handle_block<'a, F: Function, A: Allocator, B: Allocator>(
     for i in first.index()..range.end().index() {
         let inst = Inst::new(i);
         let end = first_from(edits, from, 2 * u64::from(inst.0) + 1);
-        handle_inst(out, inst, &moves[from..end], listing)?;
+        handle_inst(out, inst, &edits[from..end], listing)?;
         from = end;
     }
     Ok(from)
 }
 
-/// Lists the instructions of each block. The moves are those of the output, without their points.
+/// Lists the instructions of each block.
 pub fn handle_listing<'a, F: Function, A: Allocator + Copy, B: Allocator>(
     alloc: A,
     f: &F,
     out: &'a Output<B>,
-    moves: &'a [Edit],
 ) -> Result<Vec<Listed<'a>, A>, AllocError>
     requires framed { IsFramed (F.function f.now) }
     requires in_order { IsInOrder (F.function f.now) (output_of out.now) }
-    requires moves { moves.now ≡ map (λ e. e.1) out.now.edits.items }
     ensures { IfOk result (λ r. IsListing (F.function f.now) (output_of out.now) r.items) }
 {
     let mut listing = Vec::with_capacity(alloc, f.num_insts())?;
     let mut passed = 0;
     for b in 0..f.num_blocks() {
-        passed = handle_block(f, out, moves, Block::new(b), passed, &mut listing)?;
+        passed = handle_block(f, out, Block::new(b), passed, &mut listing)?;
     }
     Ok(listing)
 }

@@ -2,6 +2,7 @@
 #![tactic(auto)]
 
 mod analyze;
+mod cell_registers;
 mod cells;
 mod check;
 mod checker;
@@ -22,7 +23,7 @@ mod transfer_block;
 mod vregs_in;
 
 pub use cells::{CellFault, places_are_cells, test_cells};
-pub use checker::Checker;
+pub use checker::{Checker, check_output};
 pub use errors::{CheckerError, CheckerErrors};
 pub use laws::{finds_no_error_where_faithful, stands_for_every_path};
 pub use texts::FaultLine;

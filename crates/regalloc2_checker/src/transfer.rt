@@ -6,16 +6,16 @@ ghost use Rattle.regalloc2_names.specs.Place.{Place};
 ghost use Rattle.regalloc2_names.specs.Register.{VirtualRegister, is_vreg};
 ghost use Rattle.regalloc2_names.specs.RegisterBits.{bits_of_vreg};
 ghost use Rattle.regalloc2_function.specs.OutputValue.{place_at};
-ghost use Rattle.regalloc2_function.specs.Views.{move_of};
 ghost use Rattle.regalloc2_checker_tables.specs.Holding.{is_in};
 ghost use Rattle.regalloc2_checker_tables.specs.Showing.{shows_now, AreTablesKept};
 ghost use Rattle.regalloc2_checker.specs.Facts.{placed, defined, facts_after_moves, facts_after_early_defs, facts_after_defs, facts_after_clobbers};
 ghost use Rattle.regalloc2_checker.specs.TableFacts.{is_packed, is_packed_vreg, place_in, vreg_in, facts_now, IsMissingUnlisted, IsListed, IsListedVReg};
+ghost use Rattle.regalloc2_checker.specs.Listing.{listed_move};
 ghost use Rattle.regalloc2_checker.specs.Renamed.{facts_renamed, HoldersAre, AreHoldersOf, AreOthersKept, given_to, facts_forgotten, facts_without};
 
 use regalloc2_checker_tables::PassingTables;
 use regalloc2_function::Edit;
-use regalloc2_names::{Allocation, Operand, PRegSet, VReg};
+use regalloc2_names::{Allocation, Operand, PRegSet, ProgPoint, VReg};
 use std::alloc::{AllocError, Allocator};
 
 /// So many parameters get their arguments' places one after another, without a step before.
@@ -75,15 +75,16 @@ fn make_move<A: Allocator + Copy>(
 #[inline(always)]
 fn make_moves<A: Allocator + Copy>(
     values: &mut PassingTables<A>,
-    moves: &[Edit],
+    moves: &[(ProgPoint, Edit)],
 ) -> Result<(), AllocError>
     requires missing { IsMissingUnlisted values.old.places }
-    requires listed { All (λ m. IsListed values.old.places m.to) (map move_of moves.now) }
+    requires listed { All (λ m. IsListed values.old.places m.to) (map listed_move moves.now) }
     ensures kept { OnOk result (AreTablesKept values.old values.new) }
-    ensures now { OnOk result (facts_now values.new ≡ facts_after_moves (map move_of moves.now) (facts_now values.old)) }
+    ensures now { OnOk result (facts_now values.new ≡ facts_after_moves (map listed_move moves.now) (facts_now values.old)) }
 {
     for k in 0..moves.len() {
-        let (from, to) = moves[k].places();
+        let edit = moves[k];
+        let (from, to) = edit.1.places();
         make_move(values, from, to)?;
     }
     Ok(())
@@ -101,16 +102,17 @@ fn clear_place<A: Allocator + Copy>(values: &mut PassingTables<A>, place: Alloca
     }
 }
 
-/// Empties an operand's place, if it is an early definition.
+/// Empties the place of the operand with an index, if it is an early definition.
 fn clear_early_def<A: Allocator + Copy>(
     values: &mut PassingTables<A>,
-    place: Allocation,
+    places: &[Allocation],
+    k: usize,
     operand: Operand,
 )
     requires { IsMissingUnlisted values.old.places }
     ensures kept { AreTablesKept values.old values.new }
-    ensures now { facts_now values.new ≡ (if is_def operand.kind && not (is_late operand.position) then placed place (λ v. false) (facts_now values.old)
-        else facts_now values.old) }
+    ensures now { facts_now values.new ≡ (if is_def operand.kind && not (is_late operand.position)
+        then placed (place_at places.now k) (λ v. false) (facts_now values.old) else facts_now values.old) }
 {
     if !operand.is_def() {
         return;
@@ -118,7 +120,7 @@ fn clear_early_def<A: Allocator + Copy>(
     if operand.is_late() {
         return;
     }
-    clear_place(values, place);
+    clear_place(values, place_at(places, k));
 }
 
 /// Empties the places of an instruction's early definitions.
@@ -133,11 +135,12 @@ fn clear_early_defs<A: Allocator + Copy>(
     ensures now { facts_now values.new ≡ facts_after_early_defs places.now 0 operands.now (facts_now values.old) }
 {
     for k in 0..operands.len() {
-        clear_early_def(values, place_at(places, k), operands[k]);
+        clear_early_def(values, places, k, operands[k]);
     }
 }
 
 /// Writes a vreg to a place.
+#[inline(always)]
 fn write_one<A: Allocator + Copy>(
     values: &mut PassingTables<A>,
     place: Allocation,
@@ -160,24 +163,25 @@ fn write_one<A: Allocator + Copy>(
     Ok(())
 }
 
-/// Writes what an operand defines, if it does.
+/// Writes what the operand with an index defines, if it does.
 #[inline(always)]
 fn write_def<A: Allocator + Copy>(
     values: &mut PassingTables<A>,
-    place: Allocation,
+    places: &[Allocation],
+    k: usize,
     operand: Operand,
 ) -> Result<(), AllocError>
     requires missing { IsMissingUnlisted values.old.places }
-    requires listed { IsListed values.old.places place }
+    requires listed { IsListed values.old.places (place_at places.now k) }
     requires vreg { IsListedVReg values.old.vregs operand.vreg }
     ensures kept { OnOk result (AreTablesKept values.old values.new) }
-    ensures now { OnOk result (facts_now values.new ≡ (if is_def operand.kind then defined place operand.vreg (facts_now values.old)
+    ensures now { OnOk result (facts_now values.new ≡ (if is_def operand.kind then defined (place_at places.now k) operand.vreg (facts_now values.old)
         else facts_now values.old)) }
 {
     if !operand.is_def() {
         return Ok(());
     }
-    write_one(values, place, operand.vreg())?;
+    write_one(values, place_at(places, k), operand.vreg())?;
     Ok(())
 }
 
@@ -195,7 +199,7 @@ fn write_defs<A: Allocator + Copy>(
     ensures now { OnOk result (facts_now values.new ≡ facts_after_defs places.now 0 operands.now (facts_now values.old)) }
 {
     for k in 0..operands.len() {
-        write_def(values, place_at(places, k), operands[k])?;
+        write_def(values, places, k, operands[k])?;
     }
     Ok(())
 }
@@ -216,15 +220,15 @@ fn clear_clobbers<A: Allocator + Copy>(values: &mut PassingTables<A>, clobbers: 
 #[inline(always)]
 pub fn go_to_early<A: Allocator + Copy>(
     values: &mut PassingTables<A>,
-    moves: &[Edit],
+    moves: &[(ProgPoint, Edit)],
     places: &[Allocation],
     operands: &[Operand],
 ) -> Result<(), AllocError>
     requires missing { IsMissingUnlisted values.old.places }
-    requires listed { All (λ m. IsListed values.old.places m.to) (map move_of moves.now) }
+    requires listed { All (λ m. IsListed values.old.places m.to) (map listed_move moves.now) }
     ensures kept { OnOk result (AreTablesKept values.old values.new) }
     ensures now { OnOk result (facts_now values.new
-        ≡ facts_after_early_defs places.now 0 operands.now (facts_after_moves (map move_of moves.now) (facts_now values.old))) }
+        ≡ facts_after_early_defs places.now 0 operands.now (facts_after_moves (map listed_move moves.now) (facts_now values.old))) }
 {
     make_moves(values, moves)?;
     clear_early_defs(values, places, operands);

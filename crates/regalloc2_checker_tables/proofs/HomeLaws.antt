@@ -61,6 +61,15 @@ home-none sets e i =
     ap (λ (l : List NumberSet). nat_eq (bit_at 0 i) 1 || (false || false) || has_number (get_or l 0 []) i) e
     ∙ ap (λ k. nat_eq k 1 || (false || false) || has_number [] i) (bit_at-zero i) ∙ empty-has i
 
+-- no place of an empty mask, nor of two numbers that are 0
+pub few-none : (h : HomePlaces) → h.low ≡ 0 → h.first ≡ 0 → h.second ≡ 0 → (i : ℕ) → has_few h i ≡ false
+unfolding has_few
+few-none h l f s i =
+    ap (λ n. nat_eq (bit_at n i) 1 || (stands_for h.first i || stands_for h.second i)) l
+    ∙ ap (λ n. nat_eq (bit_at 0 i) 1 || (stands_for n i || stands_for h.second i)) f
+    ∙ ap (λ n. nat_eq (bit_at 0 i) 1 || (false || stands_for n i)) s
+    ∙ ap (λ k. nat_eq k 1 || (false || false)) (bit_at-zero i)
+
 -- no items, by a test
 pub no-items : (n : ℕ) (b : Bool) → b ≡ (n == 0) → b ≡ true → n ≡ 0
 no-items n b e h = eqb-true n 0 (sym e ∙ h)

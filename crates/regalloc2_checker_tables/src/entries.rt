@@ -11,7 +11,7 @@ ghost use Rattle.regalloc2_checker_tables.specs.SavedCopies.{number_in_cell, sav
 ghost use Rattle.regalloc2_checker_tables.specs.SavedNumbers.{copy_count, saved_number, number_now, AreAlikeBetween, AreChunksKept, AreCopiesKept, AreLoaded};
 ghost use Rattle.regalloc2_checker_tables.specs.SavedNumbers.{AreSaved};
 
-use crate::versions::{Versions, copy_chunk, is_same_chunk};
+use crate::versions::{Versions, copy_chunk, is_same_chunk, make_room};
 use std::alloc::{AllocError, Allocator};
 use std::marker::Model;
 
@@ -85,6 +85,7 @@ fn save_chunk<A: Allocator + Copy>(
     if end >= UNSAVED as usize {
         return Err(AllocError);
     }
+    make_room(words)?;
     words.extend_from_slice(&cells[64 * chunk..64 * chunk + 64])?;
     bases.set(chunk, end as u32);
     Ok(())

@@ -1,7 +1,7 @@
 //! The places where a vreg may be.
 
 ghost use Rattle.std.specs.Prelude.{◌≡◌, ℕ, ◌+◌, ◌<◌, ◌^◌, true, false, cond, nat_eq, nat_lt, [], ◌∷◌, length, get_or};
-ghost use Rattle.std.specs.Prelude.{OnOk, OnErr, IfSome, IfNone};
+ghost use Rattle.std.specs.Prelude.{OnOk, OnErr, IfSome, IfNone, IsTrue, ◌↔◌};
 ghost use Rattle.std.specs.Iterator.{YieldsFirst, item_count};
 ghost use Rattle.regalloc2_shape.specs.Numbers.{has_number, times_listed};
 ghost use Rattle.regalloc2_checker_tables.specs.Homes.{place_list, has_few, has_home};
@@ -169,6 +169,14 @@ impl<A: Allocator + Copy> Home<A> {
             return Ok(());
         }
         add_other(self.alloc, &mut self.others, place)
+    }
+
+    /// Whether the mask is empty, and the two numbers stand for no place.
+    #[inline(always)]
+    pub fn has_no_few(&self) -> bool
+        ensures { IsTrue result ↔ ((self.now.low ≡ 0) × (self.now.first ≡ 0) × (self.now.second ≡ 0)) }
+    {
+        self.low == 0 && self.first == 0 && self.second == 0
     }
 
     /// The places of the mask and of the two numbers. Allocates nothing.

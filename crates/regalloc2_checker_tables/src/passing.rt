@@ -273,6 +273,7 @@ impl<A: Allocator + Copy> PassingTables<A> {
     }
 
     /// Gives a place one vreg alone, which no other place holds any more.
+    #[inline(always)]
     pub fn define(&mut self, place: usize, vreg: usize) -> Result<(), AllocError>
         requires place { place < length self.old.places }
         requires vreg { vreg < length self.old.vregs }

@@ -51,15 +51,35 @@ impl<A: Allocator> Model for Tables<A> {
 /// Where places may be listed: each register, and each slot.
 #[derive(Drop)]
 struct Hints<A: Allocator> {
-    registers: Vec<usize, A>,
-    slots: Vec<usize, A>,
+    registers: Vec<u32, A>,
+    slots: Vec<u32, A>,
 }
 
-/// Puts a number at an index, if the list is that long.
-fn put_at(numbers: &mut [usize], index: usize, number: usize) {
-    if index < numbers.len() {
-        numbers[index] = number;
+/// Puts a position at an index, if the list is that long.
+fn put_at(positions: &mut [u32], index: usize, position: usize) {
+    let Ok(position) = u32::try_from(position) else {
+        return;
+    };
+    if index < positions.len() {
+        positions[index] = position;
     }
+}
+
+/// How many slots get a hint: all up to the last one that is listed, but at most four for each place.
+fn hinted_slots<A: Allocator>(places: &Positions<A>) -> usize {
+    let Some(last) = places.len().checked_sub(1) else {
+        return 0;
+    };
+    let bits = places.number(last);
+    if !Allocation::is_bits(bits) {
+        return 0;
+    }
+    let place = Allocation::from_bits(bits);
+    if !place.is_stack() {
+        return 0;
+    }
+    let slots = place.index().saturating_add(1);
+    slots.min(places.len().saturating_mul(4))
 }
 
 impl<A: Allocator + Copy> Hints<A> {
@@ -68,7 +88,7 @@ impl<A: Allocator + Copy> Hints<A> {
         let mut registers = Vec::new(alloc);
         registers.resize(PReg::NUM_INDEX, 0)?;
         let mut slots = Vec::new(alloc);
-        slots.resize(places.len().saturating_mul(4), 0)?;
+        slots.resize(hinted_slots(places), 0)?;
         let mut hints = Hints { registers, slots };
         for position in 0..places.len() {
             hints.note(places.number(position), position);
@@ -96,7 +116,7 @@ impl<A: Allocator + Copy> Hints<A> {
         } else {
             &self.registers
         };
-        listed.get(place.index()).copied().unwrap_or(0)
+        listed.get(place.index()).copied().unwrap_or(0) as usize
     }
 }
 
@@ -124,8 +144,8 @@ fn drop_at<A: Allocator + Copy>(
 }
 
 /// Takes a vreg out of the places of a home's mask and of its two numbers.
-#[inline(always)]
-fn drop_few<A: Allocator + Copy>(
+#[inline(never)]
+fn drop_each<A: Allocator + Copy>(
     entries: &mut Entries<A>,
     sets: &mut Sets<A>,
     home: &Home<A>,
@@ -141,6 +161,27 @@ fn drop_few<A: Allocator + Copy>(
         drop_at(entries, sets, place, bits)?;
     }
     Ok(())
+}
+
+/// Takes a vreg out of the places of a home's mask and of its two numbers.
+#[inline(always)]
+fn drop_few<A: Allocator + Copy>(
+    entries: &mut Entries<A>,
+    sets: &mut Sets<A>,
+    home: &Home<A>,
+    bits: u32,
+) -> Result<(), AllocError>
+    requires { AreBelow sets.old entries.old }
+    ensures still { AreStill sets.old entries.old sets.new entries.new }
+    ensures ok { OnOk result ((i y : ℕ) → i < length entries.old.cells → held sets.new entries.new i y
+        ≡ (if has_few home.now i && nat_eq y bits then false else held sets.old entries.old i y)) }
+    ensures err { OnErr result ((i y : ℕ) → i < length entries.old.cells → held sets.new entries.new i y ≡ true → held sets.old entries.old i y ≡ true) }
+{
+    // A vreg that is written for the first time has none.
+    if home.has_no_few() {
+        return Ok(());
+    }
+    drop_each(entries, sets, home, bits)
 }
 
 /// Takes a vreg out of the places of a set.
@@ -163,6 +204,7 @@ fn drop_members<A: Allocator + Copy>(
 }
 
 /// Takes a vreg out of the places where it may be.
+#[inline(always)]
 fn drop_everywhere<A: Allocator + Copy>(
     entries: &mut Entries<A>,
     sets: &mut Sets<A>,
@@ -630,6 +672,7 @@ impl<A: Allocator + Copy> Tables<A> {
     }
 
     /// Gives a place one vreg alone, which no other place holds any more.
+    #[inline(always)]
     pub fn define(&mut self, place: usize, vreg: usize) -> Result<(), AllocError>
         requires place { place < length self.old.places }
         requires vreg { vreg < length self.old.vregs }

@@ -128,6 +128,17 @@ fn load_chunk(
     clean[chunk] = Some(base);
 }
 
+/// Makes room for a chunk of words. The room grows by an eighth, since doubling leaves much of it unused.
+pub fn make_room<A: Allocator>(words: &mut Vec<u32, A>) -> Result<(), AllocError>
+    ensures { words.new.items ≡ words.old.items }
+{
+    let len = words.len();
+    if words.capacity() - len >= 64 {
+        return Ok(());
+    }
+    words.reserve_exact(len / 8 + 256)
+}
+
 /// Where a chunk of the array is among the words: where it was when it was last loaded or saved, if
 /// it wasn't written since, or where a saved copy has an equal chunk, else at their end.
 fn save_chunk<A: Allocator>(
@@ -154,6 +165,7 @@ fn save_chunk<A: Allocator>(
         return Ok(base);
     }
     let end = words.len();
+    make_room(words)?;
     words.extend_from_slice(&cells[64 * chunk..64 * chunk + 64])?;
     clean[chunk] = Some(end);
     Ok(end)

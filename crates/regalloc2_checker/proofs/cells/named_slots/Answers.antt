@@ -18,8 +18,8 @@ returns-clause-named g c =
     let P : ℕ → ℕ → Type 0 = λ n u. (i : ℕ) × (i < length f.insts) × IsTakenByInst f out i n u in
     let Q : ℕ → ℕ → Type 0 = λ n u. (k : ℕ) × (k < length out.edits) × IsTakenByMove f (move_of_index out k) n u in
     let R : ℕ → ℕ → Type 0 = λ n u. (k : ℕ) × (k < length out.debug_locations) × IsTakenByLocation out k n u in
-    from_none (λ n u. P n u ⊎ (Q n u ⊎ R n u)) c.new-named.result.items c.test_locations.new.named.items c.new-named.ensures.items
-    (adds_both P (λ n u. Q n u ⊎ R n u) c.new-named.result.items c.test_insts.new.named.items c.test_locations.new.named.items
+    from_none (λ n u. P n u ⊎ (Q n u ⊎ R n u)) c.in_ok-named.named.items c.test_locations.new.named.items c.in_ok-named.ensures.items
+    (adds_both P (λ n u. Q n u ⊎ R n u) c.in_ok-named.named.items c.test_insts.new.named.items c.test_locations.new.named.items
     c.in_ok-test_insts.ensures.named
     (adds_both Q R c.test_insts.new.named.items c.test_moves.new.named.items c.test_locations.new.named.items c.in_ok-test_moves.ensures.named
     c.in_ok-test_locations.ensures.named))

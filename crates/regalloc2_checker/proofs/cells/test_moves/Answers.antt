@@ -50,11 +50,10 @@ loop-k-preserved g c =
     let to : c.places-from.result.1 ≡ m.to = c.places-from.ensures.to ∙ ap (λ (m : MoveValue). m.to) move in
     let ends = c.are_move_ends.ensures.0 c.if-not-are_move_ends.false in
     let class = c.is_within_class.ensures.0 c.if-not-is_within_class.false in
-    let first = adds_at c.places-from.result.0 m.from c.units_beside.result (units_beside f m.to) c.loop-k.named.items c.add_slot.new.named.items from
-    (c.units_beside.ensures ∙ ap (λ (p : Place). units_beside f p) to) c.in_ok-add_slot.ensures in
-    let second = adds_at c.places-from.result.1 m.to c.units_beside-in-loop-k.result (units_beside f m.from) c.add_slot.new.named.items
-    c.add_slot-in-loop-k.new.named.items to
-    (c.units_beside-in-loop-k.ensures ∙ ap (λ (p : Place). units_beside f p) from) c.in_ok-add_slot-2.ensures in
+    let first = adds_at c.places-from.result.0 m.from (units_beside f c.places-from.result.1) (units_beside f m.to) c.loop-k.named.items
+    c.add_end.new.named.items from (ap (λ (p : Place). units_beside f p) to) c.in_ok-add_end.ensures in
+    let second = adds_at c.places-from.result.1 m.to (units_beside f c.places-from.result.0) (units_beside f m.from) c.add_end.new.named.items
+    c.add_end-in-loop-k.new.named.items to (ap (λ (p : Place). units_beside f p) from) c.in_ok-add_end-2.ensures in
     record {
       whole = c.loop-k.invariant.whole;
       within = omega (arith, c.loop-k-test.true);
@@ -62,9 +61,9 @@ loop-k-preserved g c =
           (subst (λ (p : Place). IsMoveEnd env out p) from ends.0, subst (λ (p : Place). IsMoveEnd env out p) to ends.1);
       classes = below_more _ _ c.loop-k.invariant.classes (λ r s e d. class r s (from ∙ e) (to ∙ d));
       named = adds_more (λ j n u. IsTakenByMove f (move_of_index out j) n u) c.loop-k.k c.args.named.now.items c.loop-k.named.items
-          c.add_slot-in-loop-k.new.named.items c.loop-k.invariant.named
+          c.add_end-in-loop-k.new.named.items c.loop-k.invariant.named
           (adds_both (λ n u. (m.from ≡ InSlot n) × (u ≡ units_beside f m.to)) (λ n u. (m.to ≡ InSlot n) × (u ≡ units_beside f m.from)) c.loop-k.named.items
-          c.add_slot.new.named.items c.add_slot-in-loop-k.new.named.items first second);
+          c.add_end.new.named.items c.add_end-in-loop-k.new.named.items first second);
     }
 
 pub returns-clause-ends : goal.returns-clause-ends

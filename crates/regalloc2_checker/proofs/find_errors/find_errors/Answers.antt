@@ -16,7 +16,7 @@ analyze-requires g c κs within =
       (
         search rules,
         (
-          rw (c.deref-2.ensures.value, ← c.requires.1.1.1.1.0) listed,
+          rw (c.deref.ensures.value, ← c.requires.1.1.1.1.0) listed,
           (
             c.requires.1.1.1.1.1.0,
             (named, (t.count ∙ omega (arith, c.num_blocks.ensures.count), t.tables)),
@@ -37,14 +37,14 @@ check_all-requires g c κs within =
       (
         search rules,
         (
-          rw (c.deref-3.ensures.value, ← c.requires.1.1.1.1.0) listed,
+          rw (c.deref-2.ensures.value, ← c.requires.1.1.1.1.0) listed,
           (
             c.requires.1.1.1.1.1.0,
             (
               named_same f g.o c.in_ok-tables.tables c.in_ok-state.state.values s.alike.places s.alike.vregs named,
               (
-                rw c.deref-4.ensures.value s.long,
-                (s.alike.count ∙ t.count ∙ omega (arith, c.num_blocks.ensures.count), rw c.deref-4.ensures.value s.solved),
+                rw c.deref-3.ensures.value s.long,
+                (s.alike.count ∙ t.count ∙ omega (arith, c.num_blocks.ensures.count), rw c.deref-3.ensures.value s.solved),
               ),
             ),
           ),

@@ -63,7 +63,6 @@ loop-i-preserved g c =
     let o : OutputValue = output_of c.args.out.now in
     let es : List (ℕ × Edit) = c.as_slice-edits.result.now in
     let seen : o.edits ≡ map edit_of es = rw c.as_slice-edits.ensures.value refl in
-    let same : c.args.moves.now ≡ map (λ (e : ℕ × Edit). e.1) es = rw c.as_slice-edits.ensures.value c.requires.moves in
     let begins : BeginsAt es (block_at f c.args.block).range.first c.new-inst.result c.loop-i.from =
     subst (λ (n : ℕ). BeginsAt es (block_at f c.args.block).range.first n c.loop-i.from) (sym c.new-inst.ensures) c.loop-i.invariant.begins in
     let split : IsSplit es c.first_from-end.result (before c.new-inst.result + 1) =
@@ -83,8 +82,8 @@ loop-i-preserved g c =
           c.first_from-end.ensures.split;
       copying = copying_inst f o c.args.block c.new-inst.result _ c.loop-i.listing.items c.handle_inst.new.listing.items c.loop-i.invariant.copying
           (c.new-inst.ensures ∙ c.loop-i.invariant.long) c.in_ok-handle_inst.ensures
-          (part_is o es c.args.moves.now (block_at f c.args.block).range.first c.new-inst.result c.loop-i.from c.first_from-end.result
-          seen same (omega (arith, c.new-inst.ensures, c.loop-i.invariant.low)) c.first_from-end.ensures.from begins split);
+          (part_is o es (block_at f c.args.block).range.first c.new-inst.result c.loop-i.from c.first_from-end.result
+          seen (omega (arith, c.new-inst.ensures, c.loop-i.invariant.low)) c.first_from-end.ensures.from begins split);
     }
 
 pub returns : goal.returns

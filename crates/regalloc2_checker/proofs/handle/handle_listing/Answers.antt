@@ -27,7 +27,6 @@ pub handle_block-requires : goal.handle_block-requires
 handle_block-requires g c = record {
   framed = c.requires.framed;
   in_order = c.requires.in_order;
-  moves = c.requires.moves;
   block = omega (arith, c.new.ensures, c.loop-b-test.true, c.loop-b.invariant.within);
   within = c.loop-b.invariant.edits;
   passed = c.loop-b.invariant.passed;

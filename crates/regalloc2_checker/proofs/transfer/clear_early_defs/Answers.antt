@@ -15,7 +15,7 @@ loop-k-preserved g c = record {
   kept = kept-twice c.args.values.now c.loop-k.values c.clear_early_def.new.values c.loop-k.invariant.kept c.clear_early_def.ensures.kept;
   now = sym (early_step c.args.places.now c.args.operands.now c.loop-k.k c.index-operands-k.result (facts_now c.loop-k.values)
       (facts_now c.clear_early_def.new.values) (omega (arith, c.loop-k-test.true)) c.index-operands-k.is
-      (rw (← c.place_at.ensures) c.clear_early_def.ensures.now))
+      c.clear_early_def.ensures.now)
       ∙ c.loop-k.invariant.now;
 }
 

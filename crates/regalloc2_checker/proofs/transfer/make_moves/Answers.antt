@@ -1,6 +1,6 @@
 use Rattle.std.proofs.Common.{ℕ, List, sym, ◌∙◌, refl, subst, arith}
 use Rattle.regalloc2_names.specs.Place.{Place}
-use Rattle.regalloc2_function.specs.Views.{move_of}
+use Rattle.regalloc2_checker.specs.Listing.{listed_move}
 use Rattle.regalloc2_checker.specs.TableFacts.{facts_now, IsListed, IsMissingUnlisted}
 use Rattle.regalloc2_checker.proofs.RestOfList.{moves_step, moves_done, listed-at}
 use Rattle.regalloc2_checker.proofs.TableSteps.{kept-same, kept-twice}
@@ -24,7 +24,7 @@ make_move-requires-clause-missing g c = subst IsMissingUnlisted (sym c.loop-k.in
 pub make_move-requires-clause-listed : goal.make_move-requires-clause-listed
 make_move-requires-clause-listed g c =
     subst (λ (p : Place). IsListed c.loop-k.values.places p) (sym c.places-from.ensures.to)
-    (subst (λ (ps : List ℕ). IsListed ps (move_of c.index-moves-k.result).to) (sym c.loop-k.invariant.kept.places)
+    (subst (λ (ps : List ℕ). IsListed ps (listed_move c.index-moves-k.result).to) (sym c.loop-k.invariant.kept.places)
     (listed-at c.args.values.now.places c.args.moves.now c.loop-k.k c.index-moves-k.result (omega (arith, c.loop-k-test.true))
     c.index-moves-k.is c.requires.listed))
 

@@ -1,5 +1,5 @@
 use Rattle.std.proofs.Common.{◌≡◌, drop, map}
-use Rattle.regalloc2_function.specs.Views.{move_of}
+use Rattle.regalloc2_checker.specs.Listing.{listed_move}
 use Rattle.regalloc2_checker_tables.specs.Showing.{AreTablesKept}
 use Rattle.regalloc2_checker.specs.Facts.{facts_after_moves}
 use Rattle.regalloc2_checker.specs.TableFacts.{facts_now}
@@ -9,5 +9,5 @@ use Rattle.regalloc2_checker.proofs.transfer.make_moves.Given as goal
 abbrev pub invariant-loop-k : goal.invariant-loop-k
 invariant-loop-k g l = record {
   kept : AreTablesKept l.initial.values l.values;
-  now : facts_after_moves (map move_of (drop l.k l.moves)) (facts_now l.values) ≡ facts_after_moves (map move_of l.moves) (facts_now l.initial.values);
+  now : facts_after_moves (map listed_move (drop l.k l.moves)) (facts_now l.values) ≡ facts_after_moves (map listed_move l.moves) (facts_now l.initial.values);
 }

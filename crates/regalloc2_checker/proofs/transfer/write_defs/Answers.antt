@@ -1,4 +1,5 @@
 use Rattle.std.proofs.Common.{ℕ, List, sym, ◌∙◌, refl, arith, subst}
+use Rattle.regalloc2_function.specs.OutputValue.{place_at}
 use Rattle.regalloc2_checker.specs.TableFacts.{facts_now, IsMissingUnlisted, IsListed, IsListedVReg}
 use Rattle.regalloc2_checker.proofs.RestOfList.{defs_step, defs_done, place-listed, operand-listed}
 use Rattle.regalloc2_checker.proofs.TableSteps.{kept-same, kept-twice}
@@ -12,7 +13,7 @@ loop-k-preserved g c = record {
   kept = kept-twice c.args.values.now c.loop-k.values c.write_def.new.values c.loop-k.invariant.kept c.in_ok-write_def.ensures.kept;
   now = sym (defs_step c.args.places.now c.args.operands.now c.loop-k.k c.index-operands-k.result (facts_now c.loop-k.values)
       (facts_now c.write_def.new.values) (omega (arith, c.loop-k-test.true)) c.index-operands-k.is
-      (rw (← c.place_at.ensures) c.in_ok-write_def.ensures.now))
+      c.in_ok-write_def.ensures.now)
       ∙ c.loop-k.invariant.now;
 }
 
@@ -21,8 +22,8 @@ write_def-requires-clause-missing g c = subst IsMissingUnlisted (sym c.loop-k.in
 
 pub write_def-requires-clause-listed : goal.write_def-requires-clause-listed
 write_def-requires-clause-listed g c =
-    subst (λ (ps : List ℕ). IsListed ps c.place_at.result) (sym c.loop-k.invariant.kept.places)
-    (rw c.place_at.ensures (place-listed c.args.values.now.places c.args.places.now c.loop-k.k c.requires.listed))
+    subst (λ (ps : List ℕ). IsListed ps (place_at c.args.places.now c.loop-k.k)) (sym c.loop-k.invariant.kept.places)
+    (place-listed c.args.values.now.places c.args.places.now c.loop-k.k c.requires.listed)
 
 pub write_def-requires-clause-vreg : goal.write_def-requires-clause-vreg
 write_def-requires-clause-vreg g c =

@@ -5,7 +5,7 @@ use Rattle.regalloc2_names.specs.Place.{Place}
 use Rattle.regalloc2_function.specs.FunctionValue.{FunctionValue}
 use Rattle.regalloc2_function.specs.OutputValue.{MoveValue}
 use Rattle.regalloc2_function.specs.AllocatedRun.{moves_at}
-use Rattle.regalloc2_function.specs.Views.{move_of}
+use Rattle.regalloc2_checker.specs.Listing.{listed_move}
 use Rattle.regalloc2_checker.specs.TableFacts.{facts_now, IsListed, IsListedVReg, IsMissingUnlisted}
 use Rattle.regalloc2_checker.proofs.NamedPlaces.{no-missing, moves-listed, operands-listed}
 use Rattle.regalloc2_checker.proofs.TransferFollowsFacts.{IsReadAt, after_run, listed_moves, listed_places}
@@ -14,7 +14,7 @@ use Rattle.regalloc2_checker.proofs.transfer_block.transfer_inst.Goals as goal
 pub returns-clause-now : goal.returns-clause-now
 returns-clause-now g c =
     let f : FunctionValue = g.F.Function.function c.args.f.now in
-    let here : IsReadAt f g.o (record { block = c.args.block; inst = c.args.inst }) (map move_of c.index-listing-index.result.moves.now)
+    let here : IsReadAt f g.o (record { block = c.args.block; inst = c.args.inst }) (map listed_move c.index-listing-index.result.moves.now)
     c.index-listing-index.result.places.now c.inst_operands-operands.result.now = record {
       moves = listed_moves f g.o c.args.listing.now c.args.block c.args.inst c.index.result c.index-listing-index.result
           c.index-listing-index.result.moves.now c.requires.1.1.0 refl c.index.ensures c.index-listing-index.is c.requires.1.1.1.1.0
@@ -24,7 +24,7 @@ returns-clause-now g c =
       operands = c.inst_operands-operands.ensures;
     } in
     after_run f g.o (record { block = c.args.block; inst = c.args.inst }) (facts_now c.args.values.now) (facts_now c.go_to_early.new.values)
-    (facts_now c.go_to_late.new.values) (map move_of c.index-listing-index.result.moves.now) c.index-listing-index.result.places.now
+    (facts_now c.go_to_late.new.values) (map listed_move c.index-listing-index.result.moves.now) c.index-listing-index.result.places.now
     c.inst_operands-operands.result.now c.inst_clobbers.result here c.inst_clobbers.ensures c.in_ok-go_to_early.ensures.now
     c.in_ok-go_to_late.ensures.now
 
@@ -34,7 +34,7 @@ go_to_early-requires-clause-missing g c = no-missing (g.F.Function.function c.ar
 pub go_to_early-requires-clause-listed : goal.go_to_early-requires-clause-listed
 go_to_early-requires-clause-listed g c =
     let f : FunctionValue = g.F.Function.function c.args.f.now in
-    let moves : map move_of c.index-listing-index.result.moves.now ≡ moves_at f g.o (record { block = c.args.block; inst = c.args.inst }) =
+    let moves : map listed_move c.index-listing-index.result.moves.now ≡ moves_at f g.o (record { block = c.args.block; inst = c.args.inst }) =
     listed_moves f g.o c.args.listing.now c.args.block c.args.inst c.index.result c.index-listing-index.result
     c.index-listing-index.result.moves.now c.requires.1.1.0 refl c.index.ensures c.index-listing-index.is c.requires.1.1.1.1.0 c.requires.1.1.1.1.1.0
     c.requires.1.1.1.1.1.1.0 in

@@ -4,7 +4,7 @@ use Rattle.regalloc2_names.specs.declared.sets.PRegSet.{PRegSet}
 use Rattle.regalloc2_names.specs.RegisterSet.{has_register}
 use Rattle.regalloc2_function.specs.Machine.{empty_set}
 use Rattle.regalloc2_checker.proofs.OutputItems.{default_set}
-use Rattle.regalloc2_checker.proofs.cells.allocatable.Goals as goal
+use Rattle.regalloc2_checker.proofs.cell_registers.allocatable.Goals as goal
 
 pub returns : goal.returns
 returns g c =

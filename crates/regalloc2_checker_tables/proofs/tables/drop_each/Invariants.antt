@@ -3,7 +3,7 @@ use Rattle.std.specs.Prelude.{◌&&◌, if◌then◌else◌}
 use Rattle.regalloc2_shape.specs.Numbers.{times_listed}
 use Rattle.regalloc2_checker_tables.specs.Homes.{has_few}
 use Rattle.regalloc2_checker_tables.specs.Holding.{held, AreStill}
-use Rattle.regalloc2_checker_tables.proofs.tables.drop_few.Given as goal
+use Rattle.regalloc2_checker_tables.proofs.tables.drop_each.Given as goal
 
 abbrev pub invariant-loop-place : goal.invariant-loop-place
 invariant-loop-place g l = record {
