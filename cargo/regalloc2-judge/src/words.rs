@@ -74,11 +74,6 @@ fn set_words(set: PRegSet) -> Result<SetWords, Unwritten> {
     Ok(words)
 }
 
-fn sets_words(sets: [PRegSet; 3]) -> Result<[SetWords; 3], Unwritten> {
-    let [int, float, vector] = sets;
-    Ok([set_words(int)?, set_words(float)?, set_words(vector)?])
-}
-
 fn bits(vregs: &[VReg]) -> impl Iterator<Item = u32> {
     vregs.iter().map(|vreg| vreg.bits() as u32)
 }
@@ -108,14 +103,47 @@ fn kind(f: &impl Function, inst: Inst) -> InstKind {
     }
 }
 
-/// How many sets of clobbers are searched in turn, before a table is asked.
+/// How many sets are searched in turn, before a table is asked.
 const FEW_SETS: usize = 8;
+
+/// The words of sets, of which functions for one machine have few. They are kept from one function to the next.
+#[derive(Clone, Debug, Default)]
+struct KnownSets {
+    sets: Vec<(PRegSet, SetWords)>,
+}
+
+impl KnownSets {
+    fn words(&mut self, set: PRegSet) -> Result<SetWords, Unwritten> {
+        if set == PRegSet::empty() {
+            return Ok(SetWords::default());
+        }
+        match self.sets.iter().find(|(known, _)| *known == set) {
+            Some((_, words)) => Ok(*words),
+            None => self.add(set),
+        }
+    }
+
+    #[cold]
+    fn add(&mut self, set: PRegSet) -> Result<SetWords, Unwritten> {
+        let words = set_words(set)?;
+        if self.sets.len() < FEW_SETS {
+            self.sets.push((set, words));
+        }
+        Ok(words)
+    }
+
+    fn of_classes(&mut self, sets: [PRegSet; 3]) -> Result<[SetWords; 3], Unwritten> {
+        let [int, float, vector] = sets;
+        Ok([self.words(int)?, self.words(float)?, self.words(vector)?])
+    }
+}
 
 /// The sets of clobbers by their numbers, of which code has few: the first ones in a list, the others in a table.
 #[derive(Clone, Debug, Default)]
 struct Sets {
     few: Vec<PRegSet>,
     others: HashMap<PRegSet, u32>,
+    known: KnownSets,
 }
 
 impl Sets {
@@ -130,7 +158,7 @@ impl Sets {
         if set == PRegSet::empty() {
             return Ok(0);
         }
-        match self.few.iter().position(|known| *known == set) {
+        match self.few.iter().position(|few| *few == set) {
             Some(k) => Ok(k as u32 + 1),
             None => self.find(to, set),
         }
@@ -141,7 +169,7 @@ impl Sets {
         if let Some(number) = self.others.get(&set) {
             return Ok(*number);
         }
-        let number = to.set(set_words(set)?);
+        let number = to.set(self.known.words(set)?);
         if self.few.len() < FEW_SETS {
             self.few.push(set);
         } else {
@@ -166,8 +194,8 @@ impl FunctionWords {
 
     fn machine(&mut self, env: &MachineEnv) -> Result<(), Unwritten> {
         let registers = MachineWords {
-            preferred: sets_words(env.preferred_regs_by_class)?,
-            non_preferred: sets_words(env.non_preferred_regs_by_class)?,
+            preferred: self.sets.known.of_classes(env.preferred_regs_by_class)?,
+            non_preferred: self.sets.known.of_classes(env.non_preferred_regs_by_class)?,
             scratch: env.scratch_by_class.map(|reg| reg.map(|reg| reg.index() as u32)),
         };
         self.columns.machine(registers, indexes(&env.fixed_stack_slots));

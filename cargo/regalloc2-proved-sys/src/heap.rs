@@ -6,7 +6,7 @@
 
 use std::cell::Cell;
 use std::ffi::c_void;
-use std::ptr::{copy_nonoverlapping, null_mut};
+use std::ptr::{NonNull, copy_nonoverlapping, null_mut};
 
 unsafe extern "C" {
     fn malloc(size: usize) -> *mut c_void;
@@ -71,7 +71,7 @@ const fn class_of(size: usize) -> usize {
     2 * log + (n >> (log - 1) & 1)
 }
 
-/// The class by `(size - 1) / UNIT`, for the sizes of nearly all blocks.
+/// The classes by `(size - 1) / UNIT`, for the sizes of nearly all blocks.
 const SMALL: [u8; 64] = small();
 
 const fn small() -> [u8; 64] {
@@ -82,6 +82,12 @@ const fn small() -> [u8; 64] {
         n += 1;
     }
     classes
+}
+
+/// The class of a block of `size` bytes, if it is in [`SMALL`].
+#[inline]
+fn small_class(size: usize) -> Option<usize> {
+    SMALL.get(size.saturating_sub(1) / UNIT).map(|class| usize::from(*class))
 }
 
 struct Pool {
@@ -117,44 +123,38 @@ impl Pool {
         }
     }
 
-    /// Returns a block of a class, or null.
+    /// Returns a freed block of a class, or one from the current chunk, if it has room. Outside a call there is neither.
     #[inline]
-    fn take(&self, class: usize) -> *mut u8 {
+    fn take(&self, class: usize) -> Option<NonNull<u8>> {
         let first = self.freed[class].get();
         let head = if first.is_null() {
-            self.cut(UNIT + SIZES[class])
+            self.cut(class)?
         } else {
             // SAFETY: the head of a freed block is written, and nobody else uses it.
             self.freed[class].set(unsafe { (*first).next });
             first
         };
-        if head.is_null() {
-            return null_mut();
-        }
         self.out.set(self.out.get().wrapping_add(1));
         // SAFETY: a head and its block are within one chunk.
-        unsafe {
-            (*head).class = class;
-            head.add(1).cast()
-        }
+        NonNull::new(unsafe { head.add(1).cast() })
     }
 
-    /// Cuts `size` bytes from a chunk. Returns null if memory runs out.
+    /// Cuts a block of a class and its head from the current chunk, if it has room.
     #[inline]
-    fn cut(&self, size: usize) -> *mut Head {
-        if size > self.left.get() && !self.go_on() {
-            return null_mut();
+    fn cut(&self, class: usize) -> Option<*mut Head> {
+        let size = UNIT + SIZES[class];
+        let rest = self.left.get().checked_sub(size)?;
+        let head: *mut Head = self.at.get().cast();
+        self.left.set(rest);
+        // SAFETY: `left` bytes followed, of which these are the first.
+        unsafe {
+            self.at.set(head.byte_add(size).cast());
+            (*head).class = class;
         }
-        let head = self.at.get();
-        self.left.set(self.left.get() - size);
-        // SAFETY: `left` bytes follow, of which these are the first; a chunk has room for the largest block.
-        self.at.set(unsafe { head.add(size) });
-        head.cast()
+        Some(head)
     }
 
     /// Makes the next chunk the current one, after adding one if there is none. Returns `false` if memory runs out.
-    #[cold]
-    #[inline(never)]
     fn go_on(&self) -> bool {
         let current = self.current.get();
         // SAFETY: chunks that are in the list aren't freed.
@@ -195,12 +195,12 @@ impl Pool {
     /// Ends a call, which has freed all its blocks. If a block is left, all chunks stay.
     fn end(&self) {
         self.inside.set(false);
+        self.freed.iter().for_each(|list| list.set(null_mut()));
+        self.left.set(0);
         if self.out.get() != 0 {
             return;
         }
-        self.freed.iter().for_each(|list| list.set(null_mut()));
         self.current.set(null_mut());
-        self.left.set(0);
         let (mut bytes, mut chunk) = (0, self.first.get());
         while !chunk.is_null() {
             // SAFETY: no block of the chunks is in use, and freed chunks leave the list.
@@ -275,14 +275,18 @@ fn behind(head: *mut c_void) -> *mut u8 {
 }
 
 /// Returns a block of `size` bytes, or null. An empty block has an address of its own.
-#[inline]
 fn block(size: usize) -> *mut u8 {
-    let class = SMALL.get(size.saturating_sub(1) / UNIT).map_or_else(|| class_of(size), |class| usize::from(*class));
-    POOL.with(|pool| if class < CLASSES && pool.inside.get() { pool.take(class) } else { large(size) })
+    let class = class_of(size);
+    POOL.with(|pool| {
+        if class >= CLASSES || !pool.inside.get() {
+            return large(size);
+        }
+        // a chunk has room for the largest block
+        pool.take(class).or_else(|| if pool.go_on() { pool.take(class) } else { None }).map_or(null_mut(), NonNull::as_ptr)
+    })
 }
 
 /// Returns a block of `malloc`'s, or null.
-#[inline(never)]
 fn large(size: usize) -> *mut u8 {
     match size.checked_add(UNIT) {
         // SAFETY: `malloc` takes any size.
@@ -294,6 +298,16 @@ fn large(size: usize) -> *mut u8 {
 /// `align` is at most 16, the alignment of all blocks.
 #[unsafe(no_mangle)]
 extern "C" fn rattle_alloc(size: usize, _align: usize) -> Tried {
+    match small_class(size).and_then(|class| POOL.with(|pool| pool.take(class))) {
+        Some(p) => Tried { ok: true, p: p.as_ptr() },
+        None => slow_alloc(size),
+    }
+}
+
+/// Allocates what needs another chunk, is large, or is outside a call.
+#[cold]
+#[inline(never)]
+fn slow_alloc(size: usize) -> Tried {
     tried(block(size))
 }
 
@@ -335,14 +349,12 @@ unsafe extern "C" fn rattle_dealloc(p: *mut u8) {
     unsafe {
         let head = p.cast::<Head>().sub(1);
         let class = (*head).class;
-        if class == CLASSES {
-            free(head.cast());
-            return;
-        }
-        POOL.with(|pool| {
-            (*head).next = pool.freed[class].get();
-            pool.freed[class].set(head);
-            pool.out.set(pool.out.get().wrapping_sub(1));
+        POOL.with(|pool| match pool.freed.get(class) {
+            Some(list) => {
+                (*head).next = list.replace(head);
+                pool.out.set(pool.out.get().wrapping_sub(1));
+            }
+            None => free(head.cast()),
         });
     }
 }
