@@ -72,11 +72,11 @@ programs() {
         "$made/O0.o" "$made/O1.o" -x assembler "$made/compiled_sieve.s" "$made/compiled_hash.s" "$made/compiled_sort.s" && "$made/bin/programs"
 }
 
-# Runs each line `$ COMMAND` of test.txt in a copy of the folder examples with two more texts, and writes that line, what
+# Runs each line `$ COMMAND` of test.txt in a copy of the folder examples with three more texts, and writes that line, what
 # the command wrote, each line on standard error behind a `!`, and its status if that isn't 0.
 transcript() {
     cp -r "$top/examples" "$made/examples" && cd "$made/examples" || return 1
-    cp "$top/crates/ra2_text/data/wrong_way.txt" "$top/crates/compile/data/sum.txt" . || return 1
+    cp "$top/crates/ra2_text/data/wrong_way.txt" "$top"/crates/compile/data/*.txt . || return 1
     grep '^\$ ' "$here/test.txt" | while IFS= read -r line; do
         printf '%s\n' "$line"
         PATH="$made/bin:$PATH" sh -c "${line#??}" 2>"$made/err" </dev/null
@@ -120,7 +120,7 @@ REFUSE=$made/refuse.so
 export REFUSE
 transcript >"$made/transcript"
 step "the programs print what test.txt says" diff "$here/test.txt" "$made/transcript"
-step "1,000 functions return what compile says of them" "$here/compare.sh" "$made/bin/compile" 1000
+step "1,000 modules end as compile says of them" "$here/compare.sh" "$made/bin/compile" 1000
 step "sieve, hash and sort return what they return in C" programs && sed 's/^/        /' "$made/log"
 if [ -n "${UPSTREAM:-}" ]; then
     step "the tests of the crates for cargo" env REGALLOC2_C="$top/crates/regalloc2_c/out" RA2="$made/bin/ra2" "$top/cargo/test.sh" "$UPSTREAM"

@@ -5,7 +5,8 @@
 #define JOINED(name, level) name##_##level
 #define NAMED(name, level) JOINED(name, level)
 
-uint64_t NAMED(sieve, LEVEL)(const uint64_t *arguments, uint8_t *memory) {
+uint64_t NAMED(sieve, LEVEL)(const uint64_t *arguments, uint8_t *memory, uint64_t room) {
+    (void)room;
     uint64_t count = 0;
     for (uint64_t n = 2; n < arguments[0]; n++) {
         if (memory[n]) {
@@ -19,7 +20,8 @@ uint64_t NAMED(sieve, LEVEL)(const uint64_t *arguments, uint8_t *memory) {
     return count;
 }
 
-uint64_t NAMED(hash, LEVEL)(const uint64_t *arguments, uint8_t *memory) {
+uint64_t NAMED(hash, LEVEL)(const uint64_t *arguments, uint8_t *memory, uint64_t room) {
+    (void)room;
     uint64_t hash = 14695981039346656037u;
     for (uint64_t at = 0; at < arguments[0]; at++) {
         hash = (hash ^ memory[at]) * 1099511628211u;
@@ -27,7 +29,8 @@ uint64_t NAMED(hash, LEVEL)(const uint64_t *arguments, uint8_t *memory) {
     return hash;
 }
 
-uint64_t NAMED(sort, LEVEL)(const uint64_t *arguments, uint8_t *memory) {
+uint64_t NAMED(sort, LEVEL)(const uint64_t *arguments, uint8_t *memory, uint64_t room) {
+    (void)room;
     uint32_t *numbers = (uint32_t *)memory;
     for (uint64_t gap = arguments[0] / 2; gap > 0; gap /= 2) {
         for (uint64_t from = gap; from < arguments[0]; from++) {

@@ -17,23 +17,24 @@ use Rattle.codegen_machine.specs.declared.ir.operation.Width.{Width}
 use Rattle.codegen_machine.specs.declared.ir.operation.DivisionPart.{DivisionPart}
 use Rattle.codegen_machine.specs.declared.ir.operation.DivisionPart.TheVariants.{Quotient, Remainder}
 use Rattle.codegen_machine.specs.declared.ir.operation.Operation.{Operation}
-use Rattle.codegen_machine.specs.declared.ir.operation.Operation.TheVariants.{Divide as Dividing, Load as Loading, Store as Storing}
+use Rattle.codegen_machine.specs.declared.ir.operation.Operation.TheVariants.{Divide as Dividing, Load as Loading, Store as Storing, Call as Calling}
 use Rattle.codegen_machine.specs.declared.Instruction.{Instruction}
 use Rattle.codegen_machine.specs.declared.Instruction.TheVariants.{Clear, ExtendSign, Divide}
 use Rattle.codegen_machine.specs.Machine.{CodeValue, MachineState, divides, executed, machine_run, parted}
+use Rattle.codegen.specs.Pinned.{slot_place}
 use Rattle.codegen.specs.Emitted.{register_of, source_of, extension_code, divide_code, operation_code, resolved}
 use Rattle.codegen.proofs.Premise.{IsGeneral, IsHere, IsPlaced, IsPlain}
 use Rattle.codegen.proofs.Choices.{Choice}
 use Rattle.codegen.proofs.Runs.{Comes, comes_by, comes_on, ends_by, ends_then}
 use Rattle.codegen.proofs.Stands.{StandAt}
-use Rattle.codegen.proofs.Places.{Agree, register_place, int_place, wrote, writes, agree_register, reads_source}
+use Rattle.codegen.proofs.Places.{Agree, number_in, slot_stays, register_place, int_place, wrote, writes, agree_register, reads_source}
 use Rattle.codegen.proofs.Steps.{leaves_of, left_of, traps_of, other_part, reads_at, writes_at, Done, Leaves, outside, guard_traps, plain_done}
 
 abbrev int_register : ℕ → Register
 int_register n = record { number = n; class = Int }
 
 -- the place of a register that holds numbers
-place_is : (p : Place) (n : ℕ) → IsGeneral p → register_of p ≡ n → p ≡ register_place n
+pub place_is : (p : Place) (n : ℕ) → IsGeneral p → register_of p ≡ n → p ≡ register_place n
 place_is NoPlace n h e = absurd h
 place_is (InRegister r) n h e = sym (int_place r h.0) ∙ ap register_place e
 place_is (InSlot k) n h e = absurd h
@@ -43,8 +44,8 @@ pub unclobbered : (set : PRegSet) (noise numbers : Place → ℕ) (registers fra
     Agree registers frame numbers → Agree registers frame (numbers_clobbered set noise numbers)
 unfolding numbers_clobbered
 unclobbered set noise numbers registers frame none a = record {
-  in_registers = λ n.
-      a.in_registers n
+  in_registers = λ n allocated.
+      a.in_registers n allocated
       ∙ sym (ap (λ (b : Bool). cond b (noise (register_place n)) (numbers (register_place n))) (none (record { number = n; class = Int })));
   in_slots = a.in_slots;
 }
@@ -108,22 +109,28 @@ remainder_agrees false b w q r x y never e = ap (λ (n : ℕ). cond b q n) e
 not_both : (n : ℕ) → nat_eq 2 n ≡ true → nat_eq 0 n ≡ true → ⊥
 not_both n two none = let a : 2 ≡ n = eqb-true 2 n two in let b : 0 ≡ n = eqb-true 0 n none in omega (arith, a, b)
 
+-- and slots are as before
+slot_left : (registers frame : ℕ → ℕ) (w q r k : ℕ) →
+    number_in (put (put (put registers 2 w) 0 q) 2 r) frame (slot_place k) ≡ number_in registers frame (slot_place k)
+slot_left registers frame w q r k =
+    slot_stays (put (put registers 2 w) 0 q) frame 2 r k refl ∙ slot_stays (put registers 2 w) frame 0 q k refl ∙ slot_stays registers frame 2 w k refl
+
 both_agree : (part : DivisionPart) (numbers : DivisionPart → ℕ) (m : Place → ℕ) (set : PRegSet) (w : ℕ) (registers frame : ℕ → ℕ) →
     ((r : Register) → has_register set r ≡ is_register (int_register (other_register part)) r) → Agree registers frame m →
     Agree (put (put (put registers 2 w) 0 (numbers Quotient)) 2 (numbers Remainder)) frame
     (numbers_clobbered set (λ p. numbers (other_part part)) (place_set m (register_place (part_register part)) (numbers part)))
 unfolding place_set numbers_clobbered
 both_agree Quotient numbers m set w registers frame has a = record {
-  in_registers = λ n.
-      quotient_agrees (nat_eq 2 n) (nat_eq 0 n) w (numbers Quotient) (numbers Remainder) (registers n) (m (register_place n)) (a.in_registers n)
+  in_registers = λ n allocated.
+      quotient_agrees (nat_eq 2 n) (nat_eq 0 n) w (numbers Quotient) (numbers Remainder) (registers n) (m (register_place n)) (a.in_registers n allocated)
       ∙ sym (ap (λ (b : Bool). cond b (numbers Remainder) (cond (nat_eq 0 n) (numbers Quotient) (m (register_place n)))) (has (int_register n)));
-  in_slots = a.in_slots;
+  in_slots = λ k. slot_left registers frame w (numbers Quotient) (numbers Remainder) k ∙ a.in_slots k;
 }
 both_agree Remainder numbers m set w registers frame has a = record {
-  in_registers = λ n.
-      remainder_agrees (nat_eq 2 n) (nat_eq 0 n) w (numbers Quotient) (numbers Remainder) (registers n) (m (register_place n)) (not_both n) (a.in_registers n)
+  in_registers = λ n allocated.
+      remainder_agrees (nat_eq 2 n) (nat_eq 0 n) w (numbers Quotient) (numbers Remainder) (registers n) (m (register_place n)) (not_both n) (a.in_registers n allocated)
       ∙ sym (ap (λ (b : Bool). cond b (numbers Quotient) (cond (nat_eq 2 n) (numbers Remainder) (m (register_place n)))) (has (int_register n)));
-  in_slots = a.in_slots;
+  in_slots = λ k. slot_left registers frame w (numbers Quotient) (numbers Remainder) k ∙ a.in_slots k;
 }
 
 module _ (args : ℕ → ℕ) (starts : ℕ → ℕ) (code : CodeValue) (succs : List ℕ) (rest : List Instruction) where
@@ -158,7 +165,7 @@ module _ (args : ℕ → ℕ) (starts : ℕ → ℕ) (code : CodeValue) (succs :
         (eq-eqb above above refl)
 
     by_dividend : division_traps w signed (s.registers 0) (m q) ≡ division_traps w signed (m (register_place 0)) (m q)
-    by_dividend = ap (λ (n : ℕ). division_traps w signed n (m q)) (a.in_registers 0)
+    by_dividend = ap (λ (n : ℕ). division_traps w signed n (m q)) (a.in_registers 0 refl)
 
     -- the extension
     record IsReady : Type 0 where
@@ -193,7 +200,7 @@ module _ (args : ℕ → ℕ) (starts : ℕ → ℕ) (code : CodeValue) (succs :
           to = v;
           comes = comes_on code args 1 1 1 s u v (omega arith) r.comes (comes_by code args (Divide w signed (source_of q)) u v h.1.0 acts);
           agree = subst (λ (n : ℕ). Agree v.registers v.frame (numbers_clobbered set (λ p. divided_at w (other_part part) signed n (m q))
-              (place_set m (register_place (part_register part)) (divided_at w part signed n (m q))))) (a.in_registers 0)
+              (place_set m (register_place (part_register part)) (divided_at w part signed n (m q))))) (a.in_registers 0 refl)
               (both_agree part (λ x. divided_at w x signed (s.registers 0) (m q)) m set above s.registers s.frame has a);
           stands = h.1.1;
           same = refl;
@@ -243,6 +250,7 @@ module _ (args : ℕ → ℕ) (starts : ℕ → ℕ) (code : CodeValue) (succs :
       (numbers_clobbered set (λ n. divided_at w (other_part part) signed (m (register_place 0)) (m (place_at ps 2)))
       (place_set m p (divided_at w part signed (m (register_place 0)) (m (place_at ps 2)))))) (sym first)
       (divide_done w part signed m set (place_at ps 2) s has (subst (λ (p : Place). Keeps set m p (place_at ps 2)) first kept) placed.2 a h)) calm
+  plain_leaves size next (Calling g to arguments) set s ps m plain placed has kept sized calm a h = absurd plain
   plain_leaves size next o set s ps m plain placed has kept sized calm a h =
       let d : Leaves args starts code succs rest s (left_of s.memory o (reads_at o ps m)) (writes_at args s.memory o ps m) =
       plain_done args starts code succs rest size next o s ps m plain placed sized calm a h in

@@ -2,30 +2,34 @@
 use Rattle.std.proofs.Common.{ℕ, suc, ◌≡◌, ◌+◌, ◌<◌, ◌≤◌, Bool, true, false, List, [], ◌∷◌, length, Option, Some, None, refl, sym, ap, ◌∙◌, subst}
 use Rattle.std.specs.Prelude.{slice_index}
 use Rattle.regalloc2_names.specs.Register.{VirtualRegister}
-use Rattle.regalloc2_names.specs.Place.{Place, NoPlace, InRegister, InSlot}
+use Rattle.regalloc2_names.specs.Place.{Place}
 use Rattle.regalloc2_function.specs.FunctionValue.{FunctionValue, block_at}
 use Rattle.regalloc2_function.specs.OutputValue.{OutputValue}
 use Rattle.regalloc2_function.specs.Path.{Location, first_of}
 use Rattle.regalloc2_semantics.specs.Values.Interpreters.{State}
-use Rattle.codegen_machine.specs.Ir.Numbers.{RunOutcome, Running, Returned, Trapped, Stuck}
-use Rattle.regalloc2_semantics.specs.Values.Alike.{RunAlike}
+use Rattle.codegen_machine.specs.Ir.Numbers.{RunOutcome, Running, Returned, Trapped, Overflowed, Stuck}
 use Rattle.codegen_machine.specs.Ir.Meaning.{ProcedureState, procedure_step}
-use Rattle.codegen_machine.specs.Ir.Seen.{Operations, function_of_procedure, operations}
-use Rattle.codegen_machine.specs.declared.ir.procedure.Procedure.{Procedure}
-use Rattle.codegen_machine.specs.Machine.{CodeValue, MachineState}
+use Rattle.codegen_machine.specs.Ir.Seen.{Operations}
+use Rattle.codegen_machine.specs.Machine.{CodeValue, MachineState, machine_run}
 use Rattle.codegen.specs.Emitted.{operation_at, blocks_code}
-use Rattle.codegen.specs.Behaves.{Beginning, procedure_after, BehavesAs}
-use Rattle.codegen.proofs.Premise.{IsEmitted}
+use Rattle.codegen.proofs.Premise.{IsCall, IsEmitted}
 use Rattle.codegen.proofs.Choices.{Choice, leavings, source_reads, source_next, found_reads, place_next, ReadAlike, Together, StepsOn, AlikeByChoices}
-use Rattle.codegen.proofs.Chosen.{chosen_run_alike}
+use Rattle.codegen.proofs.Runs.{Comes}
 use Rattle.codegen.proofs.Places.{Agree}
 use Rattle.codegen.proofs.Steps.{left_of, left_long, traps_of, chosen}
 use Rattle.codegen.proofs.Simulation.{At, Follows, at_start, step_follows, step_traps}
 use Rattle.codegen.proofs.Source.{seen, GoAlike, steps_alike, steps_trap}
-use Rattle.codegen.proofs.Behaving.{Meets, meets, behaves_by}
 
-module _ (f : FunctionValue) (ops : Operations) (out : OutputValue) (start : ℕ → ℕ) (code : CodeValue) (args : ℕ → ℕ)
-    (virtual : VirtualRegister → ℕ) (places : Place → ℕ) where
+-- What the outcome of a step of a procedure implies for the machine's run: it runs for a step or more, or returns the same number or traps too, and leaves
+-- the same memory, of that size.
+abbrev pub Meets : CodeValue → (ℕ → ℕ) → ℕ → (ProcedureState → MachineState → Type 0) → MachineState → RunOutcome ProcedureState → Type 0
+Meets code args size IsAt s (Running q) = (t : MachineState) × Comes code args 1 s t × IsAt q t
+Meets code args size IsAt s (Returned r left) = (j : ℕ) × (machine_run code args j s ≡ Returned r left) × (length left ≡ size)
+Meets code args size IsAt s (Trapped left) = (j : ℕ) × (machine_run code args j s ≡ Trapped left)
+Meets code args size IsAt s Overflowed = ⊥
+Meets code args size IsAt s Stuck = ⊥
+
+module _ (f : FunctionValue) (ops : Operations) (out : OutputValue) (start : ℕ → ℕ) (code : CodeValue) (virtual : VirtualRegister → ℕ) (places : Place → ℕ) where
   -- a procedure's state and the machine's, related by states that the two interpreters reach together; both have the same memory
   pub record AreJoined (q : ProcedureState) (s : MachineState) : Type 0 where
     pub choices : List Choice
@@ -36,45 +40,53 @@ module _ (f : FunctionValue) (ops : Operations) (out : OutputValue) (start : ℕ
     pub sized : length s.memory ≡ ops.memory_size
     pub at : At f ops out start code d s
 
-  -- a step of each
-  joined : (x : Choice) (xs : List Choice) (stir : Place → ℕ) (c : State VirtualRegister) (d : State Place) (s : MachineState) →
-      length s.memory ≡ ops.memory_size →
-      found_reads f out stir d ≡ source_reads f out c →
-      (y : Option (State VirtualRegister)) (z : Option (State Place)) (o : RunOutcome ProcedureState) → StepsOn f out virtual places (x ∷ xs) y z →
-      GoAlike (source_reads f out c) (left_of s.memory (operation_at ops d.at.inst) (found_reads f out stir d)) y o →
-      Follows f ops out start code args s.memory stir d s z → Meets code args AreJoined s 1 o
-  joined x xs stir c d s sized reads None None (Running q) a g l = absurd g
-  joined x xs stir c d s sized reads None None (Returned r left) a g l = (
-    l.0,
-    l.1 ∙ ap (λ (ns : List ℕ). Returned (slice_index ns 0) (left_of s.memory (operation_at ops d.at.inst) (found_reads f out stir d))) reads
-        ∙ ap (λ (k : ℕ). Returned k (left_of s.memory (operation_at ops d.at.inst) (found_reads f out stir d))) (sym g.0)
-        ∙ ap (λ (m : List ℕ). Returned r m) (sym g.1),
-  )
-  joined x xs stir c d s sized reads None None (Trapped left) a g l = absurd g
-  joined x xs stir c d s sized reads None None Stuck a g l = absurd g
-  joined x xs stir c d s sized reads None (Some e) o a g l = absurd a
-  joined x xs stir c d s sized reads (Some b) None o a g l = absurd a
-  joined x xs stir c d s sized reads (Some b) (Some e) (Running q) a g l = (
-    l.0,
-    l.1,
-    record {
-      choices = x ∷ xs;
-      c = b;
-      d = e;
-      together = a;
-      is_seen = g ∙ ap (λ (m : List ℕ). seen m b) (sym l.3);
-      sized = ap (λ (m : List ℕ). length m) l.3 ∙ left_long s.memory (operation_at ops d.at.inst) (found_reads f out stir d) ∙ sized;
-      at = l.2;
-    },
-  )
-  joined x xs stir c d s sized reads (Some b) (Some e) (Returned r left) a g l = absurd g
-  joined x xs stir c d s sized reads (Some b) (Some e) (Trapped left) a g l = absurd g
-  joined x xs stir c d s sized reads (Some b) (Some e) Stuck a g l = absurd g
+  module _ (args : ℕ → ℕ) where
+    abbrev pub StepMeets : MachineState → RunOutcome ProcedureState → Type 0
+    StepMeets s o = Meets code args ops.memory_size AreJoined s o
+
+    -- a step of each
+    joined : (x : Choice) (xs : List Choice) (stir : Place → ℕ) (c : State VirtualRegister) (d : State Place) (s : MachineState) →
+        length s.memory ≡ ops.memory_size →
+        found_reads f out stir d ≡ source_reads f out c →
+        (y : Option (State VirtualRegister)) (z : Option (State Place)) (o : RunOutcome ProcedureState) → StepsOn f out virtual places (x ∷ xs) y z →
+        GoAlike (source_reads f out c) (left_of s.memory (operation_at ops d.at.inst) (found_reads f out stir d)) y o →
+        Follows f ops out start code args s.memory stir d s z → StepMeets s o
+    joined x xs stir c d s sized reads None None (Running q) a g l = absurd g
+    joined x xs stir c d s sized reads None None (Returned r left) a g l = (
+      l.0,
+      l.1 ∙ ap (λ (ns : List ℕ). Returned (slice_index ns 0) (left_of s.memory (operation_at ops d.at.inst) (found_reads f out stir d))) reads
+          ∙ ap (λ (k : ℕ). Returned k (left_of s.memory (operation_at ops d.at.inst) (found_reads f out stir d))) (sym g.0)
+          ∙ ap (λ (m : List ℕ). Returned r m) (sym g.1),
+      ap (λ (m : List ℕ). length m) g.1 ∙ left_long s.memory (operation_at ops d.at.inst) (found_reads f out stir d) ∙ sized,
+    )
+    joined x xs stir c d s sized reads None None (Trapped left) a g l = absurd g
+    joined x xs stir c d s sized reads None None Overflowed a g l = absurd g
+    joined x xs stir c d s sized reads None None Stuck a g l = absurd g
+    joined x xs stir c d s sized reads None (Some e) o a g l = absurd a
+    joined x xs stir c d s sized reads (Some b) None o a g l = absurd a
+    joined x xs stir c d s sized reads (Some b) (Some e) (Running q) a g l = (
+      l.0,
+      l.1,
+      record {
+        choices = x ∷ xs;
+        c = b;
+        d = e;
+        together = a;
+        is_seen = g ∙ ap (λ (m : List ℕ). seen m b) (sym l.3);
+        sized = ap (λ (m : List ℕ). length m) l.3 ∙ left_long s.memory (operation_at ops d.at.inst) (found_reads f out stir d) ∙ sized;
+        at = l.2;
+      },
+    )
+    joined x xs stir c d s sized reads (Some b) (Some e) (Returned r left) a g l = absurd g
+    joined x xs stir c d s sized reads (Some b) (Some e) (Trapped left) a g l = absurd g
+    joined x xs stir c d s sized reads (Some b) (Some e) Overflowed a g l = absurd g
+    joined x xs stir c d s sized reads (Some b) (Some e) Stuck a g l = absurd g
 
   module _ (ok : IsEmitted f ops out start code) (alike : AlikeByChoices f out virtual places) where
-    goes : (xs : List Choice) (c : State VirtualRegister) (d : State Place) (s : MachineState) → Together f out virtual places xs c d →
-        At f ops out start code d s → length s.memory ≡ ops.memory_size → Meets code args AreJoined s 1 (procedure_step f ops args (seen s.memory c))
-    goes xs c d s together at sized = pick (traps_of s.memory (operation_at ops c.at.inst) (source_reads f out c)) refl
+    goes : (args : ℕ → ℕ) (xs : List Choice) (c : State VirtualRegister) (d : State Place) (s : MachineState) → Together f out virtual places xs c d →
+        At f ops out start code d s → length s.memory ≡ ops.memory_size → (IsCall (operation_at ops d.at.inst) → ⊥) →
+        StepMeets args s (procedure_step f ops args (seen s.memory c))
+    goes args xs c d s together at sized inner = pick (traps_of s.memory (operation_at ops c.at.inst) (source_reads f out c)) refl
       where
         r : ReadAlike f out (leavings xs) c d
         r = alike.alike xs c d together
@@ -98,6 +110,10 @@ module _ (f : FunctionValue) (ops : Operations) (out : OutputValue) (start : ℕ
         traps = ap (λ (ns : List ℕ). traps_of s.memory (operation_at ops d.at.inst) ns) r.reads
             ∙ ap (λ (l : Location). traps_of s.memory (operation_at ops l.inst) (source_reads f out c)) r.at
 
+        -- and neither is a call
+        inner_also : IsCall (operation_at ops c.at.inst) → ⊥
+        inner_also = subst (λ (l : Location). IsCall (operation_at ops l.inst) → ⊥) r.at inner
+
         block : c.at.block < length f.blocks
         block = subst (λ (l : Location). l.block < length f.blocks) r.at at.block
 
@@ -108,24 +124,25 @@ module _ (f : FunctionValue) (ops : Operations) (out : OutputValue) (start : ℕ
         ends = subst (λ (l : Location). l.inst + suc at.left ≡ (block_at f l.block).range.end) r.at at.ends
 
         pick : (b : Bool) → traps_of s.memory (operation_at ops c.at.inst) (source_reads f out c) ≡ b →
-            Meets code args AreJoined s 1 (procedure_step f ops args (seen s.memory c))
+            StepMeets args s (procedure_step f ops args (seen s.memory c))
         pick false e =
-            joined x xs (leavings xs) c d s sized r.reads (source_next f out x c) (place_next f out (leavings xs) x d)
+            joined args x xs (leavings xs) c d s sized r.reads (source_next f out x c) (place_next f out (leavings xs) x d)
             (procedure_step f ops args (seen s.memory c)) (alike.on xs c d together x)
             (subst (λ (m : List ℕ). GoAlike (source_reads f out c) m (source_next f out x c) (procedure_step f ops args (seen s.memory c))) (sym left)
-            (steps_alike f args s.memory ops out start code ok c at.left block begins ends e))
+            (steps_alike f args s.memory ops out start code ok c at.left block begins ends inner_also e))
             (subst (λ (y : Choice). Follows f ops out start code args s.memory (leavings xs) d s (place_next f out (leavings xs) y d)) same
-            (step_follows f ops out start code args s.memory (leavings xs) ok sized c d s at refl r (traps ∙ e)))
+            (step_follows f ops out start code args s.memory (leavings xs) ok sized c d s at refl r inner (traps ∙ e)))
         pick true e =
-            subst (λ (o : RunOutcome ProcedureState). Meets code args AreJoined s 1 o)
-            (sym (steps_trap f args s.memory ops out start code ok c at.left block begins ends e))
-            (step_traps f ops out start code args s.memory (leavings xs) ok sized c d s at refl r (traps ∙ e))
+            subst (λ (o : RunOutcome ProcedureState). StepMeets args s o)
+            (sym (steps_trap f args s.memory ops out start code ok c at.left block begins ends inner_also e))
+            (step_traps f ops out start code args s.memory (leavings xs) ok sized c d s at refl r inner (traps ∙ e))
 
-    -- what a step of the procedure implies for the machine
-    pub step_meets : (q : ProcedureState) (s : MachineState) → AreJoined q s → Meets code args AreJoined s 1 (procedure_step f ops args q)
-    step_meets q s j =
-        subst (λ (p : ProcedureState). Meets code args AreJoined s 1 (procedure_step f ops args p)) (sym j.is_seen)
-        (goes j.choices j.c j.d s j.together j.at j.sized)
+    -- what a step of the procedure implies for the machine, unless it is a call
+    pub step_meets : (args : ℕ → ℕ) (q : ProcedureState) (s : MachineState) (j : AreJoined q s) → (IsCall (operation_at ops j.d.at.inst) → ⊥) →
+        StepMeets args s (procedure_step f ops args q)
+    step_meets args q s j inner =
+        subst (λ (p : ProcedureState). StepMeets args s (procedure_step f ops args p)) (sym j.is_seen)
+        (goes args j.choices j.c j.d s j.together j.at j.sized inner)
 
     -- both begin related
     pub begin_joined : (s : MachineState) → Agree s.registers s.frame places → length s.memory ≡ ops.memory_size → s.pc ≡ 0 →
@@ -145,32 +162,3 @@ module _ (f : FunctionValue) (ops : Operations) (out : OutputValue) (start : ℕ
           is_seen = ap (λ (b : ℕ). record { at = first_of f b; numbers = virtual; memory = s.memory }) (sym e);
           at = subst (λ (b : ℕ). At f ops out start code (record { at = first_of f b; history = []; numbers = places }) s) (sym e) first;
         }
-
--- the initial numbers of places
-abbrev place_numbers : {size : ℕ} → Beginning size → Place → ℕ
-place_numbers b NoPlace = 0
-place_numbers b (InRegister r) = b.registers r.number
-place_numbers b (InSlot n) = b.frame n
-
--- The code of an allocated procedure behaves as the procedure does.
-pub behaves : (p : Procedure) (out : OutputValue) (start : ℕ → ℕ) (code : CodeValue) → IsEmitted (function_of_procedure p) (operations p) out start code →
-    RunAlike (function_of_procedure p) out → BehavesAs p code
-behaves p out start code ok alike = behaves_by p code Joined known
-  where
-    Joined : Beginning p.memory_size → ProcedureState → MachineState → Type 0
-    Joined b = AreJoined (function_of_procedure p) (operations p) out start code b.args b.numbers (place_numbers b)
-
-    by_choices : (b : Beginning p.memory_size) → AlikeByChoices (function_of_procedure p) out b.numbers (place_numbers b)
-    by_choices b = chosen_run_alike (function_of_procedure p) out alike b.numbers (place_numbers b)
-
-    begun : Beginning p.memory_size → MachineState
-    begun b = record { pc = 0; registers = b.registers; frame = b.frame; compared = None; memory = b.memory }
-
-    known : (b : Beginning p.memory_size) (n : ℕ) → Meets code b.args (Joined b) (begun b) n (procedure_after p b n)
-    known b n =
-        meets (function_of_procedure p) (operations p) code b.args (Joined b)
-        (step_meets (function_of_procedure p) (operations p) out start code b.args b.numbers (place_numbers b) ok (by_choices b))
-        (record { at = first_of (function_of_procedure p) 0; numbers = b.numbers; memory = b.memory })
-        (begun b)
-        (begin_joined (function_of_procedure p) (operations p) out start code b.args b.numbers (place_numbers b) ok (by_choices b)
-        (begun b) (record { in_registers = λ k. refl; in_slots = λ k. refl }) b.sized refl) n

@@ -1,15 +1,19 @@
--- Emitted code behaves as its procedure: `behaves` in `Joined`.
+-- The code of a module behaves as the module: `module_behaves` in `Whole`.
 -- Read first: `Premise`, then `Choices`, steps of the two interpreters whose numbers are chosen when a step is made, and
--- `Simulation` and `Source`, in which machine and procedure follow the interpreters; `Behaving` is the theorem over steps.
+-- `Simulation` and `Source`, in which machine and procedure follow the interpreters, joined in `Joined`; then `Calling`, a call
+-- and a return, and `Frames`, which relates a module's frames with the machine's activations. `Behaving` is the theorem over steps.
 -- Depends on the two interpreters of a function, over vregs and over places, which run alike (`FaithfulRunAlike`): so they
 -- do by choices (`Chosen`).
--- `Premises` shows the assumptions for the code emitted for an allocated procedure; `Steps` is one operation, `Places` one
--- move. `Stands` and `Runs` are code at an address and runs of it, `Procedures` a procedure's function; `Emitting` is
--- the code that grows.
+-- `Premises` shows the assumptions for the code emitted for an allocated procedure, and `Compiling` for a module's; `Steps` is one
+-- operation, `Places` one move. `Stands` and `Runs` are code at an address and runs of it, `Activations` its runs on the stack,
+-- `Procedures` a procedure's function; `Emitting` is the code that grows.
 pub mod Emitting
 pub mod Procedures
 pub mod Premise
+pub mod Targets
 pub mod Premises
+pub mod Modules
+pub mod Compiling
 pub mod Choices
 pub mod Chosen
 pub mod Runs
@@ -19,5 +23,9 @@ pub mod Steps
 pub mod Divisions
 pub mod Simulation
 pub mod Source
-pub mod Behaving
 pub mod Joined
+pub mod Calling
+pub mod Activations
+pub mod Behaving
+pub mod Frames
+pub mod Whole

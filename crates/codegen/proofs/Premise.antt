@@ -1,42 +1,52 @@
 -- The proofs' assumptions on the source, its allocation and the emitted code.
-use Rattle.std.specs.Prelude.{ℕ, ◌≡◌, ◌+◌, ◌<◌, ◌≤◌, false, true, nat_eq, List, map, length, slice_index, All}
+use Rattle.std.specs.Prelude.{ℕ, ◌≡◌, ◌+◌, ◌<◌, ◌≤◌, ◌⊎◌, false, true, nat_eq, List, [], ◌∷◌, map, length, slice_index, All}
 use Rattle.regalloc2_names.specs.declared.RegClass.TheVariants.{Int}
-use Rattle.regalloc2_names.specs.Register.{Register}
+use Rattle.regalloc2_names.specs.Register.{Register, VirtualRegister}
 use Rattle.regalloc2_names.specs.RegisterSet.{has_register}
 use Rattle.regalloc2_names.specs.Place.{Place, NoPlace, InRegister, InSlot}
 use Rattle.regalloc2_function.specs.FunctionValue.{FunctionValue, block_at, inst_at}
 use Rattle.regalloc2_function.specs.OutputValue.{OutputValue, allocs_of, place_at}
 use Rattle.codegen_machine.specs.Ir.Operands.{is_lost_in, operands_of, part_register}
+use Rattle.codegen_machine.specs.Ir.Modules.{listed}
 use Rattle.codegen_machine.specs.Ir.Seen.{Operations}
 use Rattle.codegen_machine.specs.declared.ir.operation.Operation.{Operation}
 use Rattle.codegen_machine.specs.declared.ir.operation.Operation.TheVariants.{Argument as TakeArgument, Constant as TakeConstant, Copy, Compute as Computation}
 use Rattle.codegen_machine.specs.declared.ir.operation.Operation.TheVariants.{Shift as Shifting, Divide as Dividing, Compare as Comparison, Select, Jump as GoTo, BranchIf}
-use Rattle.codegen_machine.specs.declared.ir.operation.Operation.TheVariants.{BranchIfHolds, Load as Loading, Store as Storing}
+use Rattle.codegen_machine.specs.declared.ir.operation.Operation.TheVariants.{BranchIfHolds, Load as Loading, Store as Storing, Call as Calling}
 use Rattle.codegen_machine.specs.declared.ir.operation.Operation.TheVariants.{Return as GiveBack}
 use Rattle.codegen_machine.specs.declared.ir.operation.Count.{Count}
 use Rattle.codegen_machine.specs.declared.ir.operation.Count.TheVariants.{VReg as CountIn, Number as CountOf}
 use Rattle.codegen_machine.specs.declared.ir.operation.Right.{Right}
 use Rattle.codegen_machine.specs.declared.ir.operation.Right.TheVariants.{VReg, Number as Given}
+use Rattle.codegen_machine.specs.Calls.{argument_registers}
 use Rattle.codegen_machine.specs.Machine.{CodeValue, is_general}
+use Rattle.codegen.specs.declared.placement.MachinePlace.{MachinePlace}
+use Rattle.codegen.specs.declared.placement.MachinePlace.TheVariants.{Register as AtRegister, Slot as AtSlot}
+use Rattle.codegen.specs.Pinned.{is_allocated, slot_place}
 use Rattle.codegen.specs.Emitted.{register_of, operation_at, blocks_code, block_start, resolved}
 
--- a register that holds numbers
+-- a register that the allocator allocates
 abbrev pub IsGeneral : Place → Type 0
 IsGeneral NoPlace = ⊥
-IsGeneral (InRegister r) = (r.class ≡ Int) × (is_general r.number ≡ true)
+IsGeneral (InRegister r) = (r.class ≡ Int) × (is_allocated r.number ≡ true)
 IsGeneral (InSlot n) = ⊥
 
--- such a register, or a slot of the frame
+-- a place of a machine whose frame has that many slots
+abbrev pub IsWithin : ℕ → MachinePlace → Type 0
+IsWithin slots (AtRegister r) = is_general r ≡ true
+IsWithin slots (AtSlot k) = k < slots
+
+-- such a register, or a slot that the machine has a place for
 abbrev pub IsHere : ℕ → Place → Type 0
 IsHere slots NoPlace = ⊥
-IsHere slots (InRegister r) = (r.class ≡ Int) × (is_general r.number ≡ true)
-IsHere slots (InSlot n) = n < slots
+IsHere slots (InRegister r) = (r.class ≡ Int) × (is_allocated r.number ≡ true)
+IsHere slots (InSlot n) = IsWithin slots (slot_place n)
 
 -- a move that one instruction makes
 abbrev pub CanMove : ℕ → Place → Place → Type 0
 CanMove slots from NoPlace = ⊥
-CanMove slots from (InRegister r) = ((r.class ≡ Int) × (is_general r.number ≡ true)) × IsHere slots from
-CanMove slots from (InSlot n) = (n < slots) × IsGeneral from
+CanMove slots from (InRegister r) = ((r.class ≡ Int) × (is_allocated r.number ≡ true)) × IsHere slots from
+CanMove slots from (InSlot n) = IsWithin slots (slot_place n) × IsGeneral from
 
 -- the place of a second number; a constant has none
 abbrev pub IsRightHere : ℕ → Right → Place → Type 0
@@ -53,10 +63,21 @@ abbrev pub IsCountRead : Count → Type 0
 IsCountRead (CountIn v) = nat_eq v.number 1073741823 ≡ false
 IsCountRead (CountOf n) = Unit {0}
 
+abbrev pub AreRead : List VirtualRegister → Type 0
+AreRead [] = Unit {0}
+AreRead (v ∷ vs) = (nat_eq v.number 1073741823 ≡ false) × AreRead vs
+
 abbrev pub IsRead : Operation → Type 0
 IsRead (Shifting w o to left count) = IsCountRead count
 IsRead (Dividing w part signed to left right) = (nat_eq to.number 1073741823 ≡ false) × (nat_eq left.number 1073741823 ≡ false)
+IsRead (Calling g to arguments) = (nat_eq to.number 1073741823 ≡ false) × AreRead (listed arguments)
 IsRead o = Unit {0}
+
+-- the places of a call's arguments, from that operand on, are these registers
+abbrev pub ArePassed : List Place → ℕ → List ℕ → List VirtualRegister → Type 0
+ArePassed ps k rs [] = Unit {0}
+ArePassed ps k [] (v ∷ vs) = Unit {0}
+ArePassed ps k (r ∷ rs) (v ∷ vs) = (IsGeneral (place_at ps k) × (register_of (place_at ps k) ≡ r)) × ArePassed ps (k + 1) rs vs
 
 -- the places of an operation's operands are such that it can be emitted
 abbrev pub IsPlaced : ℕ → Operation → List Place → Type 0
@@ -72,20 +93,28 @@ IsPlaced slots (Select to c one other) ps =
     IsGeneral (place_at ps 0) × (place_at ps 0 ≡ place_at ps 1) × IsHere slots (place_at ps 2) × IsHere slots (place_at ps 3)
 IsPlaced slots (Loading bytes to address) ps = IsGeneral (place_at ps 0) × IsGeneral (place_at ps 1)
 IsPlaced slots (Storing bytes address value) ps = IsGeneral (place_at ps 0) × IsGeneral (place_at ps 1)
+IsPlaced slots (Calling g to arguments) ps =
+    (IsGeneral (place_at ps 0) × (register_of (place_at ps 0) ≡ 0)) × ArePassed ps 1 argument_registers (listed arguments)
 IsPlaced slots GoTo ps = Unit {0}
 IsPlaced slots (BranchIf v) ps = IsHere slots (place_at ps 0)
 IsPlaced slots (BranchIfHolds w c left right) ps = IsGeneral (place_at ps 0) × IsRightHere slots right (place_at ps 1)
 IsPlaced slots (GiveBack v) ps = IsHere slots (place_at ps 0)
 
--- an operation that continues at the next line, and reads all its uses
+-- an operation other than a call that continues at the next line, and reads all its uses
 abbrev pub IsPlain : Operation → Type 0
 IsPlain GoTo = ⊥
 IsPlain (BranchIf v) = ⊥
 IsPlain (BranchIfHolds w c left right) = ⊥
 IsPlain (GiveBack v) = ⊥
+IsPlain (Calling g to arguments) = ⊥
 IsPlain (Shifting w o to left count) = IsCountRead count
 IsPlain (Dividing w part signed to left right) = (nat_eq to.number 1073741823 ≡ false) × (nat_eq left.number 1073741823 ≡ false)
 IsPlain o = Unit {0}
+
+-- a call that reads all its arguments
+abbrev pub IsCall : Operation → Type 0
+IsCall (Calling g to arguments) = (nat_eq to.number 1073741823 ≡ false) × AreRead (listed arguments)
+IsCall o = ⊥
 
 -- one that ends a block with that many successors
 abbrev pub IsEnd : Operation → ℕ → Type 0
@@ -104,7 +133,8 @@ pub record IsEmitted (f : FunctionValue) (operations : Operations) (out : Output
   pub entry : (f.entry ≡ 0) × (0 < length f.blocks)
   pub filled : (b : ℕ) → b < length f.blocks → (block_at f b).range.first < (block_at f b).range.end
   pub within : (b : ℕ) → b < length f.blocks → (block_at f b).range.end ≤ length f.insts
-  pub plain : (b i : ℕ) → b < length f.blocks → (block_at f b).range.first ≤ i → i + 1 < (block_at f b).range.end → IsPlain (operation_at operations i)
+  pub plain : (b i : ℕ) → b < length f.blocks → (block_at f b).range.first ≤ i → i + 1 < (block_at f b).range.end →
+      IsPlain (operation_at operations i) ⊎ IsCall (operation_at operations i)
   pub ends : (b i : ℕ) → b < length f.blocks → (block_at f b).range.first ≤ i → i + 1 ≡ (block_at f b).range.end →
       IsEnd (operation_at operations i) (length (block_at f b).succs)
   pub succs : (b k : ℕ) → b < length f.blocks → k < length (block_at f b).succs → slice_index (block_at f b).succs k < length f.blocks

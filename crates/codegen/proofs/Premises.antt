@@ -1,5 +1,5 @@
 -- The proofs' assumptions hold of the code emitted for an allocated procedure.
-use Rattle.std.proofs.Common.{ℕ, ◌≡◌, ◌+◌, ◌-◌, ◌<◌, ◌≤◌, Bool, true, false, ◌&&◌, cond, List, [], ◌∷◌, length, Option, None, Some, refl, sym, ap, ◌∙◌, subst}
+use Rattle.std.proofs.Common.{ℕ, zero, suc, ◌≡◌, ◌+◌, ◌-◌, ◌<◌, ◌≤◌, Bool, true, false, ◌&&◌, cond, List, [], ◌∷◌, length, Option, None, Some, refl, sym, ap, ◌∙◌, subst}
 use Rattle.std.proofs.Common.{arith, lt-ltb, ltb-true, eqb-true, nat_eq, ◌^◌, ◌++◌, length-append}
 use Rattle.std.proofs.Math.Seq.{get_or-append_seam}
 use Rattle.std.proofs.Common.{◌⊎◌, inl, inr}
@@ -20,34 +20,54 @@ use Rattle.regalloc2_function.specs.Fitting.{IsProperPlace, IsMoveEnd}
 use Rattle.regalloc2_function.specs.Following.{end_within}
 use Rattle.regalloc2_function.specs.WellFormed.{IsWellFormed, EndsBlock}
 use Rattle.regalloc2.specs.Promise.{IsAllocation}
-use Rattle.codegen_machine.specs.Ir.Operands.{def_in, use_in, right_in, count_in, operands_of, part_register, is_jump, is_return}
+use Rattle.codegen_machine.specs.Ir.Operands.{arguments_in, call_operands, count_in, def_in, operands_of, part_register, passed_in, right_in, use_in}
+use Rattle.codegen_machine.specs.Ir.Operands.{is_jump, is_return}
+use Rattle.codegen_machine.specs.Ir.Modules.{listed}
+use Rattle.codegen_machine.specs.Calls.{argument_registers}
 use Rattle.codegen_machine.specs.Ir.Successors.{wanted_by}
 use Rattle.codegen_machine.specs.Ir.Seen.{function_of_procedure, inst_of_line, operations}
 use Rattle.codegen_machine.specs.declared.ir.operation.Operation.{Operation}
 use Rattle.codegen_machine.specs.declared.ir.operation.Operation.TheVariants.{Argument as TakeArgument, Constant as TakeConstant, Copy, Compute as Computation}
 use Rattle.codegen_machine.specs.declared.ir.operation.Operation.TheVariants.{Shift as Shifting, Divide as Dividing, Compare as Comparison, Select, Jump as GoTo, BranchIf}
-use Rattle.codegen_machine.specs.declared.ir.operation.Operation.TheVariants.{BranchIfHolds, Load as Loading, Store as Storing}
+use Rattle.codegen_machine.specs.declared.ir.operation.Operation.TheVariants.{BranchIfHolds, Load as Loading, Store as Storing, Call as Calling}
+use Rattle.codegen_machine.specs.declared.ir.operation.Arguments.{Arguments}
+use Rattle.codegen_machine.specs.declared.ir.operation.Arguments.TheVariants.{Zero, One, Two, Three, Four, Five, Six}
 use Rattle.codegen_machine.specs.declared.ir.operation.Operation.TheVariants.{Return as GiveBack}
 use Rattle.codegen_machine.specs.declared.ir.operation.Count.{Count}
 use Rattle.codegen_machine.specs.declared.ir.operation.Count.TheVariants.{VReg as CountIn, Number as CountOf}
 use Rattle.codegen_machine.specs.declared.ir.operation.Right.{Right}
 use Rattle.codegen_machine.specs.declared.ir.operation.Right.TheVariants.{VReg, Number as Given}
 use Rattle.codegen_machine.specs.declared.ir.procedure.Procedure.{Procedure}
+use Rattle.codegen.specs.Pinned.{slot_place, frame_slots}
 use Rattle.codegen.specs.Emitted.{register_of, operation_at, emitted, block_label, block_start}
 use Rattle.codegen.specs.Target.{IsTarget}
-use Rattle.codegen.proofs.Premise.{IsGeneral, IsHere, IsRightHere, IsCountHere, IsCountRead, IsRead, CanMove, IsPlaced, IsPlain, IsEnd, IsEmitted}
+use Rattle.codegen.proofs.Premise.{IsGeneral, IsWithin, IsHere, IsRightHere, IsCountHere, IsCountRead, AreRead, IsRead, ArePassed, CanMove, IsPlaced, IsPlain, IsCall}
+use Rattle.codegen.proofs.Premise.{IsEnd, IsEmitted}
 use Rattle.codegen.proofs.Procedures.{insts_are, registers_known, blocks_have}
 
 no_member : (rs : List Register) (r : Register) → rs ≡ [] → Contains rs r → ⊥
 no_member [] r e h = let less : h.0 < 0 = h.1 in omega arith
 no_member (q ∷ rs) r e h = absurd cc
 
+-- the machine has a place for each slot
+slot_within : (slots n : ℕ) → n < slots → IsWithin (frame_slots slots) (slot_place n)
+slot_within slots zero less = refl
+slot_within slots (suc zero) less = refl
+slot_within slots (suc (suc zero)) less = refl
+slot_within slots (suc (suc (suc zero))) less = refl
+slot_within slots (suc (suc (suc (suc zero)))) less = refl
+slot_within slots (suc (suc (suc (suc (suc n))))) less = omega arith
+
 module _ (env : MachineValue) (out : OutputValue) (t : IsTarget env) where
-  -- a place for a number of some class is a register that holds numbers, or a slot of the frame
-  here : (c : RegClass) (p : Place) → IsProperPlace env out c p → IsHere out.num_spillslots p
+  -- the number of slots in the frame
+  abbrev slots : ℕ
+  slots = frame_slots out.num_spillslots
+
+  -- a place for a number of some class is a register that the allocator allocates, or a slot
+  here : (c : RegClass) (p : Place) → IsProperPlace env out c p → IsHere slots p
   here c NoPlace h = absurd h
   here c (InRegister r) h = elim h [ inl own ↦ t.allocatable c r own | inr fixed ↦ absurd (no_member env.fixed_stack_slots r t.no_fixed_slots fixed.0) ]
-  here c (InSlot n) h = h
+  here c (InSlot n) h = slot_within out.num_spillslots n h
 
   -- and if it is no stack place, a register
   general : (c : RegClass) (p : Place) → IsProperPlace env out c p → IsPlainRegister env p → IsGeneral p
@@ -59,14 +79,14 @@ module _ (env : MachineValue) (out : OutputValue) (t : IsTarget env) where
   not_some None r e h = absurd cc
   not_some (Some q) r e h = absurd cc
 
-  end_here : (p : Place) → IsMoveEnd env out p → IsHere out.num_spillslots p
+  end_here : (p : Place) → IsMoveEnd env out p → IsHere slots p
   end_here p h = elim h.1 [
     | inl proper ↦ here h.0 p proper
     | inr scratch ↦ absurd (not_some (scratch_of env h.0) scratch.0 (t.no_scratch h.0) scratch.1)
   ]
 
-  can_move : (from to : Place) → IsHere out.num_spillslots from → IsHere out.num_spillslots to → (IsStackToStack env (record { from = from; to = to }) → ⊥) →
-      CanMove out.num_spillslots from to
+  can_move : (from to : Place) → IsHere slots from → IsHere slots to → (IsStackToStack env (record { from = from; to = to }) → ⊥) →
+      CanMove slots from to
   can_move from NoPlace h g never = absurd g
   can_move from (InRegister r) h g never = (g, h)
   can_move NoPlace (InSlot n) h g never = absurd h
@@ -82,7 +102,7 @@ module _ (env : MachineValue) (out : OutputValue) (t : IsTarget env) where
   -- the place of an operand in a fixed register
   fixed_here : (c : RegClass) (n : ℕ) (p : Place) → IsProperPlace env out c p → p ≡ InRegister (record { number = n; class = c }) →
       IsGeneral p × (register_of p ≡ n)
-  fixed_here c n p proper e = (subst IsGeneral (sym e) (subst (IsHere out.num_spillslots) e (here c p proper)), ap register_of e)
+  fixed_here c n p proper e = (subst IsGeneral (sym e) (subst (IsHere slots) e (here c p proper)), ap register_of e)
 
   count_here : (count : Count) (to left : VirtualRegister) (ps : List Place) → IsCountRead count →
       AreFor (def_in (Reuse 1) to ∷ use_in Reg left ∷ count_in count) ps → IsCountHere count (place_at ps 2)
@@ -91,9 +111,61 @@ module _ (env : MachineValue) (out : OutputValue) (t : IsTarget env) where
       let d : OperandValue = use_in Any v in
       fixed_here v.class 1 (place_at ps 2) (h.proper 2 d (omega arith) read) (h.meets 2 d (omega arith))
 
+  -- the place of an argument of a call
+  passed_here : (os : List OperandValue) (ps : List Place) → AreFor os ps → (k r : ℕ) (v : VirtualRegister) → k < length os →
+      slice_index_or os k (passed_in r v) ≡ passed_in r v →
+      nat_eq v.number 1073741823 ≡ false → IsGeneral (place_at ps k) × (register_of (place_at ps k) ≡ r)
+  passed_here os ps h k r v within is read =
+      let proper : IsProperPlace env out v.class (place_at ps k) = subst (λ (o : OperandValue). is_fixed_nonallocatable o ≡ false →
+      IsProperPlace env out o.vreg.class (place_at ps k)) is (h.proper k (passed_in r v) within) read in
+      let meets : place_at ps k ≡ InRegister (record { number = r; class = v.class }) = subst (λ (o : OperandValue). Meets env (length os) ps o.constraint
+      (place_at ps k)) is (h.meets k (passed_in r v) within) in
+      fixed_here v.class r (place_at ps k) proper meets
+
+  are_passed : (to : VirtualRegister) (arguments : Arguments) (ps : List Place) → AreRead (listed arguments) → AreFor (call_operands to arguments) ps →
+      ArePassed ps 1 argument_registers (listed arguments)
+  are_passed to Zero ps read h = tt
+  are_passed to (One a) ps read h = (passed_here _ ps h 1 7 a (omega arith) refl read.0, tt)
+  are_passed to (Two a b) ps read h =
+      (passed_here _ ps h 1 7 a (omega arith) refl read.0, (passed_here _ ps h 2 6 b (omega arith) refl read.1.0, tt))
+  are_passed to (Three a b c) ps read h = (
+    passed_here _ ps h 1 7 a (omega arith) refl read.0,
+    (passed_here _ ps h 2 6 b (omega arith) refl read.1.0, (passed_here _ ps h 3 2 c (omega arith) refl read.1.1.0, tt)),
+  )
+  are_passed to (Four a b c d) ps read h = (
+    passed_here _ ps h 1 7 a (omega arith) refl read.0,
+    (
+      passed_here _ ps h 2 6 b (omega arith) refl read.1.0,
+      (passed_here _ ps h 3 2 c (omega arith) refl read.1.1.0, (passed_here _ ps h 4 1 d (omega arith) refl read.1.1.1.0, tt)),
+    ),
+  )
+  are_passed to (Five a b c d e) ps read h = (
+    passed_here _ ps h 1 7 a (omega arith) refl read.0,
+    (
+      passed_here _ ps h 2 6 b (omega arith) refl read.1.0,
+      (
+        passed_here _ ps h 3 2 c (omega arith) refl read.1.1.0,
+        (passed_here _ ps h 4 1 d (omega arith) refl read.1.1.1.0, (passed_here _ ps h 5 8 e (omega arith) refl read.1.1.1.1.0, tt)),
+      ),
+    ),
+  )
+  are_passed to (Six a b c d e f) ps read h = (
+    passed_here _ ps h 1 7 a (omega arith) refl read.0,
+    (
+      passed_here _ ps h 2 6 b (omega arith) refl read.1.0,
+      (
+        passed_here _ ps h 3 2 c (omega arith) refl read.1.1.0,
+        (
+          passed_here _ ps h 4 1 d (omega arith) refl read.1.1.1.0,
+          (passed_here _ ps h 5 8 e (omega arith) refl read.1.1.1.1.0, (passed_here _ ps h 6 9 f (omega arith) refl read.1.1.1.1.1.0, tt)),
+        ),
+      ),
+    ),
+  )
+
   -- the last operand is that of a second number, unless it is a constant
   right_here : (right : Right) (os : List OperandValue) (ps : List Place) → AreFor (os ++ right_in right) ps →
-      IsRightHere out.num_spillslots right (place_at ps (length os))
+      IsRightHere slots right (place_at ps (length os))
   right_here (Given n) os ps h = tt
   right_here (VReg v) os ps h =
       let d : OperandValue = use_in Any v in
@@ -103,7 +175,7 @@ module _ (env : MachineValue) (out : OutputValue) (t : IsTarget env) where
       IsProperPlace env out o.vreg.class (place_at ps (length os))) last (h.proper (length os) d within) refl)
 
   -- places with which the operation can be emitted
-  is_placed : (o : Operation) (ps : List Place) → IsRead o → AreFor (operands_of o) ps → IsPlaced out.num_spillslots o ps
+  is_placed : (o : Operation) (ps : List Place) → IsRead o → AreFor (operands_of o) ps → IsPlaced slots o ps
   is_placed (TakeArgument to k) ps read h =
       let d : OperandValue = def_in Reg to in general to.class (place_at ps 0) (h.proper 0 d (omega arith) refl) (h.meets 0 d (omega arith))
   is_placed (TakeConstant to n) ps read h =
@@ -154,6 +226,11 @@ module _ (env : MachineValue) (out : OutputValue) (t : IsTarget env) where
         general address.class (place_at ps 0) (h.proper 0 d (omega arith) refl) (h.meets 0 d (omega arith)),
         general value.class (place_at ps 1) (h.proper 1 d (omega arith) refl) (h.meets 1 d (omega arith)),
       )
+  is_placed (Calling g to arguments) ps read h =
+      let d : OperandValue = def_in Reg to in (
+        fixed_here to.class 0 (place_at ps 0) (h.proper 0 d (omega arith) read.0) (h.meets 0 d (omega arith)),
+        are_passed to arguments ps read.1 h,
+      )
   is_placed GoTo ps read h = tt
   is_placed (BranchIf v) ps read h = let d : OperandValue = use_in Any v in here v.class (place_at ps 0) (h.proper 0 d (omega arith) refl)
   is_placed (BranchIfHolds w c left right) ps read h =
@@ -171,6 +248,22 @@ not_same m n less = pick (nat_eq m n) refl
     pick false e = refl
     pick true e = let same : m ≡ n = eqb-true m n e in absurd (omega (arith, same))
 
+all_read : (vregs : ℕ) (vs : List VirtualRegister) → vregs < 2 ^ 30 → list_all (λ v. nat_lt v.number vregs) vs ≡ true → AreRead vs
+all_read vregs [] few h = tt
+all_read vregs (v ∷ vs) few h =
+    let known : nat_lt v.number vregs ≡ true = (and_parts _ _ h).0 in
+    (not_same v.number 1073741823 (let less : v.number < vregs = ltb-true _ _ known in omega arith), all_read vregs vs few (and_parts _ _ h).1)
+
+arguments_read : (vregs : ℕ) (arguments : Arguments) → vregs < 2 ^ 30 → list_all (λ x. nat_lt x.vreg.number vregs) (arguments_in arguments) ≡ true →
+    AreRead (listed arguments)
+arguments_read vregs Zero few h = tt
+arguments_read vregs (One a) few h = all_read vregs (a ∷ []) few h
+arguments_read vregs (Two a b) few h = all_read vregs (a ∷ b ∷ []) few h
+arguments_read vregs (Three a b c) few h = all_read vregs (a ∷ b ∷ c ∷ []) few h
+arguments_read vregs (Four a b c d) few h = all_read vregs (a ∷ b ∷ c ∷ d ∷ []) few h
+arguments_read vregs (Five a b c d e) few h = all_read vregs (a ∷ b ∷ c ∷ d ∷ e ∷ []) few h
+arguments_read vregs (Six a b c d e f) few h = all_read vregs (a ∷ b ∷ c ∷ d ∷ e ∷ f ∷ []) few h
+
 is_read : (vregs : ℕ) (o : Operation) → vregs < 2 ^ 30 → list_all (λ x. nat_lt x.vreg.number vregs) (operands_of o) ≡ true → IsRead o
 is_read vregs (Shifting w o to left (CountIn v)) few h =
     let uses : (nat_lt left.number vregs && (nat_lt v.number vregs && true)) ≡ true = (and_parts _ _ h).1 in
@@ -185,17 +278,23 @@ is_read vregs (Dividing w part signed to left right) few h =
       not_same to.number 1073741823 (let less : to.number < vregs = ltb-true _ _ first in omega arith),
       not_same left.number 1073741823 (let less : left.number < vregs = ltb-true _ _ second in omega arith),
     )
+is_read vregs (Calling g to arguments) few h =
+    let first : nat_lt to.number vregs ≡ true = (and_parts _ _ h).0 in (
+      not_same to.number 1073741823 (let less : to.number < vregs = ltb-true _ _ first in omega arith),
+      arguments_read vregs arguments few (and_parts _ _ h).1,
+    )
 is_read vregs o few h = tt
 
--- an operation that neither branches nor returns continues at the next line
-is_plain : (o : Operation) → IsRead o → is_jump o ≡ false → is_return o ≡ false → IsPlain o
+-- an operation that neither branches nor returns continues at the next line, or is a call
+is_plain : (o : Operation) → IsRead o → is_jump o ≡ false → is_return o ≡ false → IsPlain o ⊎ IsCall o
 is_plain GoTo read j r = absurd cc
 is_plain (BranchIf v) read j r = absurd cc
 is_plain (BranchIfHolds w c left right) read j r = absurd cc
 is_plain (GiveBack v) read j r = absurd cc
-is_plain (Shifting w o to left count) read j r = read
-is_plain (Dividing w part signed to left right) read j r = read
-is_plain o read j r = tt
+is_plain (Shifting w o to left count) read j r = inl read
+is_plain (Dividing w part signed to left right) read j r = inl read
+is_plain (Calling g to arguments) read j r = inr read
+is_plain o read j r = inl tt
 
 -- and one that does ends its block
 is_end : (o : Operation) (count : ℕ) → (is_jump o ≡ true) ⊎ (is_return o ≡ true) → wanted_by o ≤ count → IsEnd o count
@@ -222,18 +321,19 @@ module _ (p : Procedure) (env : MachineValue) (out : OutputValue) (t : IsTarget 
   counted : length f.insts ≡ length (operations p).items
   counted = length-map p.lines.items inst_of_line ∙ sym (length-map p.lines.items (λ l. l.operation))
 
-  placed : (i : ℕ) → i < length f.insts → IsPlaced out.num_spillslots (op i) (allocs_of out i)
+  placed : (i : ℕ) → i < length f.insts → IsPlaced (frame_slots out.num_spillslots) (op i) (allocs_of out i)
   placed i less =
       let all : AreFor env out t (inst_at f i).operands (allocs_of out i) = record { proper = a.proper.operands i less; meets = a.constraints i less } in
       is_placed env out t (op i) (allocs_of out i) (is_read p.num_vregs (op i) p.few_vregs (registers_known p i less))
       (subst (λ (os : List OperandValue). AreFor env out t os (allocs_of out i)) (insts_are p i less).operands all)
 
-  moves : All (λ e. CanMove out.num_spillslots e.1.from e.1.to) out.edits
+  moves : All (λ e. CanMove (frame_slots out.num_spillslots) e.1.from e.1.to) out.edits
   moves k d less =
       let ends = a.proper.moves k d less in
       can_move env out t _ _ (end_here env out t _ ends.0) (end_here env out t _ ends.1) (a.no_stack_to_stack k d less)
 
-  plain : (b i : ℕ) → b < length f.blocks → (block_at f b).range.first ≤ i → i + 1 < (block_at f b).range.end → IsPlain (op i)
+  plain : (b i : ℕ) → b < length f.blocks → (block_at f b).range.first ≤ i → i + 1 < (block_at f b).range.end →
+      IsPlain (op i) ⊎ IsCall (op i)
   plain b i less from to =
       let in_all : i < length f.insts = (let long = within b less in omega arith) in
       let is = insts_are p i in_all in

@@ -1,25 +1,17 @@
--- Runs of the machine: concatenated segments, and a unique end.
-use Rattle.std.proofs.Common.{ℕ, zero, suc, ◌≡◌, ◌+◌, ◌≤◌, Option, Some, refl, sym, ap, ◌∙◌, subst, ⊎_elim, arith}
+-- Runs of the machine within a function: concatenated segments, and their ends.
+use Rattle.std.proofs.Common.{ℕ, suc, ◌≡◌, ◌+◌, ◌≤◌, Option, Some, refl, ap, ◌∙◌, arith}
 use Rattle.std.specs.Prelude.{slice_get}
-use Rattle.std.proofs.lemmas.Bool.{cases_lt}
-use Rattle.codegen_machine.specs.Ir.Numbers.{RunOutcome, Running, Returned, Trapped, Stuck, further}
+use Rattle.codegen_machine.specs.Ir.Numbers.{RunOutcome, Running, Returned, Trapped, Overflowed, Stuck, further}
 use Rattle.codegen_machine.specs.declared.Instruction.{Instruction}
-use Rattle.codegen_machine.specs.Machine.{CodeValue, MachineState, executed, machine_step, machine_run}
+use Rattle.codegen_machine.specs.Machine.{CodeValue, MachineState, executed, machine_run}
 
 -- a run that is over
 abbrev pub IsOver : {S : Type 0} → RunOutcome S → Type 0
 IsOver (Running s) = ⊥
 IsOver (Returned n memory) = Unit {0}
 IsOver (Trapped memory) = Unit {0}
+IsOver Overflowed = Unit {0}
 IsOver Stuck = Unit {0}
-
-further_over : (x : RunOutcome MachineState) (f g : MachineState → RunOutcome MachineState) (o : RunOutcome MachineState) →
-    ((t : MachineState) → f t ≡ o → g t ≡ o) →
-    further x f ≡ o → further x g ≡ o
-further_over (Running t) f g o h e = h t e
-further_over (Returned n memory) f g o h e = e
-further_over (Trapped memory) f g o h e = e
-further_over Stuck f g o h e = e
 
 module _ (code : CodeValue) (args : ℕ → ℕ) where
   -- The machine gets from the first state to the second in at least that many steps: the run from the second state is the rest of the run from the first.
@@ -52,23 +44,6 @@ module _ (code : CodeValue) (args : ℕ → ℕ) where
         (p.0, omega (arith, p.1, q.1), p.2 ∙ q.2);
   }
 
-  -- a run that is over stays over
-  pub longer : (m n : ℕ) (s : MachineState) (o : RunOutcome MachineState) → m ≤ n → IsOver o → machine_run code args m s ≡ o → machine_run code args n s ≡ o
-  unfolding machine_run
-  longer zero n s o le over e = absurd (subst (λ (x : RunOutcome MachineState). IsOver x) (sym e) over)
-  longer (suc m) zero s o le over e = absurd (omega arith)
-  longer (suc m) (suc n) s o le over e =
-      further_over (machine_step code args s) (machine_run code args m) (machine_run code args n) o (λ t h. longer m n t o (omega arith) over h) e
-
-  -- therefore the end of a run is unique
-  pub one_end : (m n : ℕ) (s : MachineState) (o p : RunOutcome MachineState) → IsOver o → IsOver p → machine_run code args m s ≡ o →
-      machine_run code args n s ≡ p → o ≡ p
-  one_end m n s o p over_o over_p e f =
-      ⊎_elim
-      (λ lt. sym (longer m n s o (omega arith) over_o e) ∙ f)
-      (λ le. sym e ∙ longer n m s p le over_p f)
-      (cases_lt m n)
-
   -- if it gets to a state, it still runs after that many steps
   pub runs_then : (n : ℕ) (s t : MachineState) → Comes n s t → (m : ℕ) × (n ≤ m) × (machine_run code args m s ≡ Running t)
   unfolding machine_run
@@ -88,6 +63,9 @@ module _ (code : CodeValue) (args : ℕ → ℕ) where
       ap (λ (o : Option Instruction). further (executed args code.slots o s) (machine_run code args 0)) h
       ∙ ap (λ (o : RunOutcome MachineState). further o (machine_run code args 0)) e
   ends_by i s (Trapped memory) over h e =
+      ap (λ (o : Option Instruction). further (executed args code.slots o s) (machine_run code args 0)) h
+      ∙ ap (λ (o : RunOutcome MachineState). further o (machine_run code args 0)) e
+  ends_by i s Overflowed over h e =
       ap (λ (o : Option Instruction). further (executed args code.slots o s) (machine_run code args 0)) h
       ∙ ap (λ (o : RunOutcome MachineState). further o (machine_run code args 0)) e
   ends_by i s Stuck over h e =

@@ -1,6 +1,6 @@
 -- The machine follows the interpreter over places, instruction by instruction.
 use Rattle.std.proofs.Common.{ℕ, zero, suc, ◌≡◌, ◌+◌, ◌-◌, ◌<◌, ◌≤◌, Bool, true, false, cond, List, ◌∷◌, ◌++◌, map, length, Option, Some, None, refl, sym, ap, ◌∙◌}
-use Rattle.std.proofs.Common.{subst, arith, nat_eq, lt-ltb, le-ltb, eq-eqb}
+use Rattle.std.proofs.Common.{subst, arith, nat_eq, lt-ltb, le-ltb, eq-eqb, ◌⊎◌, inl, inr}
 use Rattle.std.specs.Prelude.{slice_index, option_map, filter, All}
 use Rattle.std.specs.List.{AllByRecursion}
 use Rattle.std.proofs.lemmas.List.Elements.{All-map, All-filter, recursion_from_All}
@@ -17,11 +17,11 @@ use Rattle.codegen_machine.specs.Ir.Numbers.{Returned, Trapped}
 use Rattle.codegen_machine.specs.Ir.Operands.{is_lost_in}
 use Rattle.codegen_machine.specs.Ir.Seen.{Operations}
 use Rattle.codegen_machine.specs.declared.ir.operation.Operation.{Operation}
-use Rattle.codegen_machine.specs.declared.ir.operation.Operation.TheVariants.{Divide as Dividing, Load as Loading, Store as Storing}
+use Rattle.codegen_machine.specs.declared.ir.operation.Operation.TheVariants.{Divide as Dividing, Load as Loading, Store as Storing, Call as Calling}
 use Rattle.codegen_machine.specs.declared.Instruction.{Instruction}
 use Rattle.codegen_machine.specs.Machine.{CodeValue, MachineState, machine_run}
 use Rattle.codegen.specs.Emitted.{operation_at, operation_code, items_code, block_code, block_start}
-use Rattle.codegen.proofs.Premise.{CanMove, IsPlain, IsEnd, IsEmitted}
+use Rattle.codegen.proofs.Premise.{CanMove, IsPlain, IsCall, IsEnd, IsEmitted}
 use Rattle.codegen.proofs.Choices.{Choice, found_by, found_reads, place_after, place_next, ReadAlike}
 use Rattle.codegen.proofs.Runs.{Comes, comes_on, ends_then}
 use Rattle.codegen.proofs.Stands.{StandAt, block_stands}
@@ -36,6 +36,10 @@ can_move_before slots first i es h =
     let kept : List (ℕ × MoveValue) = filter (λ e. is_listed_at first i e.0) es in
     recursion_from_All (λ m. CanMove slots m.from m.to) (map (λ e. e.1) kept)
     (All-map (λ m. CanMove slots m.from m.to) (λ e. e.1) kept (All-filter (λ e. is_listed_at first i e.0) (λ e. CanMove slots e.1.from e.1.to) es h))
+
+-- an operation inside a block that is no call
+pub plain_unless : (o : Operation) → (IsCall o → ⊥) → IsPlain o ⊎ IsCall o → IsPlain o
+plain_unless o inner h = elim h [ inl plain ↦ plain | inr call ↦ absurd (inner call) ]
 
 module _ (f : FunctionValue) (ops : Operations) (out : OutputValue) (start : ℕ → ℕ) (code : CodeValue) where
   -- The machine is at a boundary of the interpreter: before the moves of its instruction, with its numbers.
@@ -87,13 +91,13 @@ module _ (f : FunctionValue) (ops : Operations) (out : OutputValue) (start : ℕ
   abbrev pub op_of : State Place → Operation
   op_of d = operation_at ops d.at.inst
 
-  abbrev places_of : State Place → List Place
+  abbrev pub places_of : State Place → List Place
   places_of d = allocs_of out d.at.inst
 
-  abbrev after_moves : State Place → Place → ℕ
+  abbrev pub after_moves : State Place → Place → ℕ
   after_moves d = numbers_moved (moves_at f out d.at) d.numbers
 
-  abbrev succs_of : State Place → List ℕ
+  abbrev pub succs_of : State Place → List ℕ
   succs_of d = (block_at f d.at.block).succs
 
   -- the choice for its step
@@ -101,7 +105,7 @@ module _ (f : FunctionValue) (ops : Operations) (out : OutputValue) (start : ℕ
   choice_of d = chosen args memory (op_of d) (found_reads f out stir d)
 
   -- the code after the instruction, if that many others are left
-  abbrev behind : State Place → ℕ → List Instruction
+  abbrev pub behind : State Place → ℕ → List Instruction
   behind d n = items_code ops out (succs_of d) (d.at.block + 1) (listing_from out (block_at f d.at.block).range.first (d.at.inst + 1) n)
 
   -- the state after a step, by the edge or fall-through that it follows
@@ -113,16 +117,16 @@ module _ (f : FunctionValue) (ops : Operations) (out : OutputValue) (start : ℕ
   }
 
   module _ (ok : IsEmitted f ops out start code) (sized : length memory ≡ ops.memory_size) where
-    inside : (d : State Place) (s : MachineState) → At f ops out start code d s → d.at.inst < length f.insts
+    pub inside : (d : State Place) (s : MachineState) → At f ops out start code d s → d.at.inst < length f.insts
     inside d s at = omega (arith, ok.within d.at.block at.block, at.ends)
 
     -- the interpreter finds what the moves left
-    found : (d : State Place) → d.at.inst < length f.insts → found_by f out stir d ≡ after_moves d
+    pub found : (d : State Place) → d.at.inst < length f.insts → found_by f out stir d ≡ after_moves d
     found d lt =
         ap (λ (os : List OperandValue). disturbed stir (places_of d) 0 os (after_moves d)) (ok.operands d.at.inst lt)
         ∙ undisturbed (op_of d) stir (places_of d) (after_moves d)
 
-    reads : (d : State Place) → d.at.inst < length f.insts → found_reads f out stir d ≡ reads_at (op_of d) (places_of d) (after_moves d)
+    pub reads : (d : State Place) → d.at.inst < length f.insts → found_reads f out stir d ≡ reads_at (op_of d) (places_of d) (after_moves d)
     reads d lt =
         ap (λ (m : Place → ℕ). read_by is_reading (λ k u. m (place_at (places_of d) k)) 0 (inst_at f d.at.inst).operands) (found d lt)
         ∙ ap (λ (os : List OperandValue). read_by is_reading (λ k u. after_moves d (place_at (places_of d) k)) 0 os) (ok.operands d.at.inst lt)
@@ -150,6 +154,7 @@ module _ (f : FunctionValue) (ops : Operations) (out : OutputValue) (start : ℕ
     -- a block's last operation clobbers nothing
     end_clobbers : (o : Operation) (count : ℕ) → IsEnd o count → (r : Register) → is_lost_in o r ≡ false
     end_clobbers (Dividing w part signed to left right) count end r = absurd end
+    end_clobbers (Calling g to arguments) count end r = absurd end
     end_clobbers o count end r = refl
 
     -- and leaves memory as it is
@@ -182,7 +187,7 @@ module _ (f : FunctionValue) (ops : Operations) (out : OutputValue) (start : ℕ
         (r.late x ∙ ap (λ (l : Location). read_by is_late_use (λ k u. c.numbers u.vreg) 0 (inst_at f l.inst).operands) (sym r.at))))
 
     -- the machine after the moves
-    through : (d : State Place) (s : MachineState) (at : At f ops out start code d s) →
+    pub through : (d : State Place) (s : MachineState) (at : At f ops out start code d s) →
         Moved ops out (succs_of d) (d.at.block + 1) args start code s (after_moves d)
         (ListedInst d.at.inst ∷ listing_from out (block_at f d.at.block).range.first (d.at.inst + 1) at.left)
     unfolding listing_from
@@ -200,7 +205,7 @@ module _ (f : FunctionValue) (ops : Operations) (out : OutputValue) (start : ℕ
     sized_there d s at same = ap (λ (m : List ℕ). length m) (still d s at same) ∙ sized
 
     -- the code after the moves
-    stands_there : (d : State Place) (s : MachineState) (at : At f ops out start code d s) (n : ℕ) → at.left ≡ n →
+    pub stands_there : (d : State Place) (s : MachineState) (at : At f ops out start code d s) (n : ℕ) → at.left ≡ n →
         StandAt start code.instructions (through d s at).to.pc
         (operation_code ops.memory_size (op_of d) (places_of d) (succs_of d) (d.at.block + 1) ++ behind d n)
     unfolding items_code
@@ -211,11 +216,12 @@ module _ (f : FunctionValue) (ops : Operations) (out : OutputValue) (start : ℕ
 
     -- an operation inside a block
     plain_follows : (c : State VirtualRegister) (d : State Place) (s : MachineState) (at : At f ops out start code d s) → s.memory ≡ memory →
-        ReadAlike f out stir c d → traps_of memory (op_of d) (found_reads f out stir d) ≡ false → (n : ℕ) → at.left ≡ suc n → Follows d s (place_next f out stir (choice_of d) d)
-    plain_follows c d s at same r calm n e =
+        ReadAlike f out stir c d → (IsCall (op_of d) → ⊥) → traps_of memory (op_of d) (found_reads f out stir d) ≡ false → (n : ℕ) → at.left ≡ suc n →
+        Follows d s (place_next f out stir (choice_of d) d)
+    plain_follows c d s at same r inner calm n e =
         let lt : d.at.inst < length f.insts = inside d s at in
         let more : d.at.inst + 1 < (block_at f d.at.block).range.end = omega (arith, at.ends, e) in
-        let plain : IsPlain (op_of d) = ok.plain d.at.block d.at.inst at.block at.begins more in
+        let plain : IsPlain (op_of d) = plain_unless (op_of d) inner (ok.plain d.at.block d.at.inst at.block at.begins more) in
         let done : Leaves args start code (succs_of d) (behind d (suc n)) (through d s at).to
         (left_of memory (op_of d) (reads_at (op_of d) (places_of d) (after_moves d)))
         (numbers_clobbered (inst_at f d.at.inst).clobbers (leaves_of (op_of d) (reads_at (op_of d) (places_of d) (after_moves d)))
@@ -291,12 +297,13 @@ module _ (f : FunctionValue) (ops : Operations) (out : OutputValue) (start : ℕ
 
     -- a step of the interpreter is at least one step of the machine
     pub step_follows : (c : State VirtualRegister) (d : State Place) (s : MachineState) → At f ops out start code d s → s.memory ≡ memory →
-        ReadAlike f out stir c d → traps_of memory (op_of d) (found_reads f out stir d) ≡ false → Follows d s (place_next f out stir (choice_of d) d)
-    step_follows c d s at same r calm = pick at.left refl
+        ReadAlike f out stir c d → (IsCall (op_of d) → ⊥) → traps_of memory (op_of d) (found_reads f out stir d) ≡ false →
+        Follows d s (place_next f out stir (choice_of d) d)
+    step_follows c d s at same r inner calm = pick at.left refl
       where
         pick : (n : ℕ) → at.left ≡ n → Follows d s (place_next f out stir (choice_of d) d)
         pick zero e = last_follows d s at same e
-        pick (suc n) e = plain_follows c d s at same r calm n e
+        pick (suc n) e = plain_follows c d s at same r inner calm n e
 
     end_calm : (o : Operation) (count : ℕ) (xs : List ℕ) → IsEnd o count → traps_of memory o xs ≡ true → ⊥
     end_calm (Dividing w part signed to left right) count xs end traps = end
@@ -306,8 +313,9 @@ module _ (f : FunctionValue) (ops : Operations) (out : OutputValue) (start : ℕ
 
     -- and one that traps is a trap of the machine
     pub step_traps : (c : State VirtualRegister) (d : State Place) (s : MachineState) → At f ops out start code d s → s.memory ≡ memory →
-        ReadAlike f out stir c d → traps_of memory (op_of d) (found_reads f out stir d) ≡ true → (j : ℕ) × (machine_run code args j s ≡ Trapped memory)
-    step_traps c d s at same r traps = pick at.left refl
+        ReadAlike f out stir c d → (IsCall (op_of d) → ⊥) → traps_of memory (op_of d) (found_reads f out stir d) ≡ true →
+        (j : ℕ) × (machine_run code args j s ≡ Trapped memory)
+    step_traps c d s at same r inner traps = pick at.left refl
       where
         pick : (n : ℕ) → at.left ≡ n → (j : ℕ) × (machine_run code args j s ≡ Trapped memory)
         pick zero e =
@@ -316,7 +324,7 @@ module _ (f : FunctionValue) (ops : Operations) (out : OutputValue) (start : ℕ
         pick (suc n) e =
             let lt : d.at.inst < length f.insts = inside d s at in
             let more : d.at.inst + 1 < (block_at f d.at.block).range.end = omega (arith, at.ends, e) in
-            let plain : IsPlain (op_of d) = ok.plain d.at.block d.at.inst at.block at.begins more in
+            let plain : IsPlain (op_of d) = plain_unless (op_of d) inner (ok.plain d.at.block d.at.inst at.block at.begins more) in
             let t : (j : ℕ) × (machine_run code args j (through d s at).to ≡ Trapped memory) =
             subst (λ (m : List ℕ). traps_of m (op_of d) (reads_at (op_of d) (places_of d) (after_moves d)) ≡ true →
             (j : ℕ) × (machine_run code args j (through d s at).to ≡ Trapped m)) (still d s at same)

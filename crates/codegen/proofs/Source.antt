@@ -9,7 +9,7 @@ use Rattle.regalloc2_function.specs.FunctionValue.{FunctionValue, block_at}
 use Rattle.regalloc2_function.specs.OutputValue.{OutputValue}
 use Rattle.regalloc2_function.specs.Path.{Way, Onward, ToSuccessor, next_of}
 use Rattle.regalloc2_semantics.specs.Values.Interpreters.{History, State, read_by, edge_to, way_on, numbers_defined, passed_over}
-use Rattle.codegen_machine.specs.Ir.Numbers.{RunOutcome, Running, Returned, Trapped, Stuck, shifted_at, divided_at, division_traps, condition_holds, widened}
+use Rattle.codegen_machine.specs.Ir.Numbers.{RunOutcome, Running, Returned, Trapped, Overflowed, Stuck, shifted_at, divided_at, division_traps, condition_holds, widened}
 use Rattle.codegen_machine.specs.Ir.Numbers.{is_within, number_at, with_number}
 use Rattle.codegen_machine.specs.Ir.Operands.{divide_operands, operands_of}
 use Rattle.codegen_machine.specs.Ir.Meaning.{ProcedureState, onward, stored, entered, along, done, procedure_step}
@@ -24,8 +24,9 @@ use Rattle.codegen_machine.specs.declared.ir.operation.Count.TheVariants.{VReg a
 use Rattle.codegen_machine.specs.declared.ir.operation.Right.TheVariants.{VReg, Number as Given}
 use Rattle.codegen_machine.specs.Machine.{CodeValue}
 use Rattle.codegen.specs.Emitted.{operation_at}
-use Rattle.codegen.proofs.Premise.{IsPlain, IsEnd, IsEmitted}
+use Rattle.codegen.proofs.Premise.{IsPlain, IsCall, IsEnd, IsEmitted}
 use Rattle.codegen.proofs.Choices.{source_reads, source_next}
+use Rattle.codegen.proofs.Simulation.{plain_unless}
 use Rattle.codegen.proofs.Steps.{value_of, left_of, way_of, traps_of, chosen, inside, outside}
 
 -- a state of the interpreter, with a memory, as one of the procedure
@@ -37,10 +38,12 @@ abbrev pub GoAlike : List ℕ → List ℕ → Option (State VirtualRegister) �
 GoAlike read left None (Running q) = ⊥
 GoAlike read left None (Returned r memory) = (r ≡ slice_index read 0) × (memory ≡ left)
 GoAlike read left None (Trapped memory) = ⊥
+GoAlike read left None Overflowed = ⊥
 GoAlike read left None Stuck = ⊥
 GoAlike read left (Some c) (Running q) = q ≡ seen left c
 GoAlike read left (Some c) (Returned r memory) = ⊥
 GoAlike read left (Some c) (Trapped memory) = ⊥
+GoAlike read left (Some c) Overflowed = ⊥
 GoAlike read left (Some c) Stuck = ⊥
 
 -- what operands read of vregs, and what definitions write to them
@@ -186,10 +189,10 @@ module _ (f : FunctionValue) (args : ℕ → ℕ) (memory : List ℕ) where
   pub steps_alike : (ops : Operations) (out : OutputValue) (start : ℕ → ℕ) (code : CodeValue) → IsEmitted f ops out start code →
       (c : State VirtualRegister) (left : ℕ) →
       c.at.block < length f.blocks → (block_at f c.at.block).range.first ≤ c.at.inst → c.at.inst + suc left ≡ (block_at f c.at.block).range.end →
-      traps_of memory (operation_at ops c.at.inst) (source_reads f out c) ≡ false →
+      (IsCall (operation_at ops c.at.inst) → ⊥) → traps_of memory (operation_at ops c.at.inst) (source_reads f out c) ≡ false →
       AreAlike (operation_at ops c.at.inst) (source_reads f out c)
       (source_next f out (chosen args memory (operation_at ops c.at.inst) (source_reads f out c)) c) (procedure_step f ops args (seen memory c))
-  steps_alike ops out start code ok c left block begins ends calm =
+  steps_alike ops out start code ok c left block begins ends inner calm =
       let lt : c.at.inst < length f.insts = omega (arith, ok.within c.at.block block) in
       let o : Operation = operation_at ops c.at.inst in
       let here : slice_get ops.items c.at.inst ≡ Some o = slice_get-get_or ops.items c.at.inst GoTo (omega (arith, ok.counted)) in
@@ -207,7 +210,7 @@ module _ (f : FunctionValue) (args : ℕ → ℕ) (memory : List ℕ) where
           goes_off (operation_at ops c.at.inst) c (ok.ends c.at.block c.at.inst block begins last) last
       pick (suc n) e calm =
           let more : c.at.inst + 1 < (block_at f c.at.block).range.end = omega arith in
-          goes_on (operation_at ops c.at.inst) c (ok.plain c.at.block c.at.inst block begins more) calm more
+          goes_on (operation_at ops c.at.inst) c (plain_unless (operation_at ops c.at.inst) inner (ok.plain c.at.block c.at.inst block begins more)) calm more
 
   end_calm : (o : Operation) (count : ℕ) (xs : List ℕ) → IsEnd o count → traps_of memory o xs ≡ true → ⊥
   end_calm (Dividing w part signed to left right) count xs end traps = end
@@ -219,8 +222,9 @@ module _ (f : FunctionValue) (args : ℕ → ℕ) (memory : List ℕ) where
   pub steps_trap : (ops : Operations) (out : OutputValue) (start : ℕ → ℕ) (code : CodeValue) → IsEmitted f ops out start code →
       (c : State VirtualRegister) (left : ℕ) →
       c.at.block < length f.blocks → (block_at f c.at.block).range.first ≤ c.at.inst → c.at.inst + suc left ≡ (block_at f c.at.block).range.end →
-      traps_of memory (operation_at ops c.at.inst) (source_reads f out c) ≡ true → procedure_step f ops args (seen memory c) ≡ Trapped memory
-  steps_trap ops out start code ok c left block begins ends traps =
+      (IsCall (operation_at ops c.at.inst) → ⊥) → traps_of memory (operation_at ops c.at.inst) (source_reads f out c) ≡ true →
+      procedure_step f ops args (seen memory c) ≡ Trapped memory
+  steps_trap ops out start code ok c left block begins ends inner traps =
       let lt : c.at.inst < length f.insts = omega (arith, ok.within c.at.block block) in
       let o : Operation = operation_at ops c.at.inst in
       let here : slice_get ops.items c.at.inst ≡ Some o = slice_get-get_or ops.items c.at.inst GoTo (omega (arith, ok.counted)) in
@@ -236,4 +240,4 @@ module _ (f : FunctionValue) (args : ℕ → ℕ) (memory : List ℕ) where
           (reads_of (operands_of (operation_at ops c.at.inst)) c.numbers) (ok.ends c.at.block c.at.inst block begins last) is)
       pick (suc n) e is =
           let more : c.at.inst + 1 < (block_at f c.at.block).range.end = omega arith in
-          plain_traps (operation_at ops c.at.inst) c (ok.plain c.at.block c.at.inst block begins more) is
+          plain_traps (operation_at ops c.at.inst) c (plain_unless (operation_at ops c.at.inst) inner (ok.plain c.at.block c.at.inst block begins more)) is

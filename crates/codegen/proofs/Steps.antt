@@ -13,7 +13,10 @@ use Rattle.codegen_machine.specs.Ir.Numbers.{RunOutcome, Running, Returned, Trap
 use Rattle.codegen_machine.specs.Ir.Numbers.{condition_holds, signed_rank, widened, truth, count_of, is_within, number_at, with_number}
 use Rattle.codegen_machine.specs.declared.ir.operation.Bytes.{Bytes}
 use Rattle.codegen_machine.specs.declared.ir.operation.Bytes.TheVariants.{One, Two, Four, Eight}
-use Rattle.codegen_machine.specs.Ir.Operands.{operands_of}
+use Rattle.codegen_machine.specs.Ir.Operands.{arguments_in, operands_of}
+use Rattle.codegen_machine.specs.declared.ir.operation.Arguments.{Arguments}
+use Rattle.codegen_machine.specs.declared.ir.operation.Arguments.TheVariants.{Zero as NoArgument, One as OneArgument, Two as TwoArguments, Three as ThreeArguments}
+use Rattle.codegen_machine.specs.declared.ir.operation.Arguments.TheVariants.{Four as FourArguments, Five as FiveArguments, Six as SixArguments}
 use Rattle.codegen_machine.specs.declared.ir.operation.Width.{Width}
 use Rattle.codegen_machine.specs.declared.ir.operation.Operator.{Operator}
 use Rattle.codegen_machine.specs.declared.ir.operation.ShiftOperator.{ShiftOperator}
@@ -23,7 +26,7 @@ use Rattle.codegen_machine.specs.declared.ir.operation.Condition.TheVariants.{Si
 use Rattle.codegen_machine.specs.declared.ir.operation.Operation.{Operation}
 use Rattle.codegen_machine.specs.declared.ir.operation.Operation.TheVariants.{Argument as TakeArgument, Constant as TakeConstant, Copy, Compute as Computation}
 use Rattle.codegen_machine.specs.declared.ir.operation.Operation.TheVariants.{Shift as Shifting, Divide as Dividing, Compare as Comparison, Select, Jump as GoTo, BranchIf}
-use Rattle.codegen_machine.specs.declared.ir.operation.Operation.TheVariants.{BranchIfHolds, Load as Loading, Store as Storing}
+use Rattle.codegen_machine.specs.declared.ir.operation.Operation.TheVariants.{BranchIfHolds, Load as Loading, Store as Storing, Call as Calling}
 use Rattle.codegen_machine.specs.declared.ir.operation.Operation.TheVariants.{Return as GiveBack}
 use Rattle.codegen_machine.specs.declared.ir.operation.DivisionPart.{DivisionPart}
 use Rattle.codegen_machine.specs.declared.ir.operation.DivisionPart.TheVariants.{Quotient, Remainder}
@@ -42,7 +45,7 @@ use Rattle.codegen.proofs.Premise.{IsGeneral, IsHere, IsRightHere, IsCountHere, 
 use Rattle.codegen.proofs.Choices.{Choice}
 use Rattle.codegen.proofs.Runs.{Comes, comes_by, comes_on, ends_by, ends_then}
 use Rattle.codegen.proofs.Stands.{StandAt}
-use Rattle.codegen.proofs.Places.{Agree, wrote, reads_register, reads_source, writes_place, agree_register, fetches}
+use Rattle.codegen.proofs.Places.{Agree, holds, wrote, reads_register, reads_source, writes_place, agree_register, fetches}
 
 -- a second number: the number that was read last, or a constant
 abbrev pub right_read : Right → ℕ → ℕ
@@ -140,6 +143,18 @@ guard_is : (memory : List ℕ) (size : ℕ) (bytes : Bytes) (a : ℕ) → length
 guard_is memory size bytes a sized =
     below_count size (count_of bytes) a (count_some bytes) ∙ ap (λ (n : ℕ). nat_le (a + count_of bytes) n) (sym sized)
 
+-- uses are no definitions
+uses_undisturbed : (arguments : Arguments) (noise : Place → ℕ) (ps : List Place) (k : ℕ) (numbers : Place → ℕ) →
+    disturbed noise ps k (arguments_in arguments) numbers ≡ numbers
+unfolding disturbed
+uses_undisturbed NoArgument noise ps k numbers = refl
+uses_undisturbed (OneArgument a) noise ps k numbers = refl
+uses_undisturbed (TwoArguments a b) noise ps k numbers = refl
+uses_undisturbed (ThreeArguments a b c) noise ps k numbers = refl
+uses_undisturbed (FourArguments a b c d) noise ps k numbers = refl
+uses_undisturbed (FiveArguments a b c d e) noise ps k numbers = refl
+uses_undisturbed (SixArguments a b c d e f) noise ps k numbers = refl
+
 -- no definition is early, so none overwrites what the uses read
 pub undisturbed : (o : Operation) (noise : Place → ℕ) (ps : List Place) (numbers : Place → ℕ) → disturbed noise ps 0 (operands_of o) numbers ≡ numbers
 unfolding disturbed
@@ -156,6 +171,7 @@ undisturbed (Comparison w c to left (Given n)) noise ps numbers = refl
 undisturbed (Select to c one other) noise ps numbers = refl
 undisturbed (Loading bytes to address) noise ps numbers = refl
 undisturbed (Storing bytes address value) noise ps numbers = refl
+undisturbed (Calling g to arguments) noise ps numbers = uses_undisturbed arguments noise ps 1 numbers
 undisturbed GoTo noise ps numbers = refl
 undisturbed (BranchIf v) noise ps numbers = refl
 undisturbed (BranchIfHolds w c left (VReg v)) noise ps numbers = refl
@@ -351,7 +367,7 @@ module _ (args : ℕ → ℕ) (starts : ℕ → ℕ) (code : CodeValue) (succs :
     where
       general : (p : Place) → IsGeneral p → is_general (register_of p) ≡ true
       general NoPlace h = absurd h
-      general (InRegister r) h = h.1
+      general (InRegister r) h = holds r.number h.1
       general (InSlot n) h = absurd h
 
   -- a guard lets an address pass, or traps

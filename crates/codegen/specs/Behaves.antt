@@ -1,43 +1,52 @@
--- The main theorem of the code generator: compiled code behaves as the function does.
-use Rattle.std.specs.Prelude.{ℕ, ◌≡◌, ◌≢◌, ◌≤◌, List, length, None}
+-- The main theorem of the code generator: compiled code behaves as the module does.
+use Rattle.std.specs.Prelude.{ℕ, ◌≡◌, ◌≢◌, ◌≤◌, ◌⊎◌, true, List, ◌∷◌, length, map}
 use Rattle.regalloc2_names.specs.Register.{VirtualRegister}
-use Rattle.regalloc2_function.specs.Path.{first_of}
-use Rattle.codegen_machine.specs.Ir.Numbers.{RunOutcome, Running, Returned, Trapped, Stuck}
-use Rattle.codegen_machine.specs.Ir.Meaning.{ProcedureState, procedure_run}
-use Rattle.codegen_machine.specs.Ir.Seen.{function_of_procedure, operations}
-use Rattle.codegen_machine.specs.declared.ir.procedure.Procedure.{Procedure}
-use Rattle.codegen_machine.specs.Machine.{CodeValue, MachineState, machine_run}
+use Rattle.codegen_machine.specs.Ir.Numbers.{RunOutcome, Running, Returned, Trapped, Overflowed, Stuck, further}
+use Rattle.codegen_machine.specs.Ir.Calls.{ModuleState, module_begun, module_run}
+use Rattle.codegen_machine.specs.Ir.Modules.{procedures_of}
+use Rattle.codegen_machine.specs.declared.ir.module.Module.{Module}
+use Rattle.codegen_machine.specs.Calls.{FunctionCode, Stack, StackState, exceeds, stack_begun, stack_run, words_taken}
 
--- the arguments, the initial memory, of a given size, and the initial numbers in virtual registers, registers and slots, which are arbitrary
+-- the arguments, the initial memory, of a given size, the numbers that vregs hold at the start of each frame, which are arbitrary, and the stack
 pub record Beginning (size : ℕ) : Type 0 where
   pub args : ℕ → ℕ
   pub memory : List ℕ
   pub sized : length memory ≡ size
   pub numbers : VirtualRegister → ℕ
-  pub registers : ℕ → ℕ
-  pub frame : ℕ → ℕ
+  pub stack : Stack
 
--- the function's outcome after that many steps from its entry, and the machine's after that many from the first instruction
-abbrev pub procedure_after : (p : Procedure) → Beginning p.memory_size → ℕ → RunOutcome ProcedureState
-procedure_after p b n = procedure_run (function_of_procedure p) (operations p) b.args n
-    (record { at = first_of (function_of_procedure p) 0; numbers = b.numbers; memory = b.memory })
+-- the module's outcome after that many steps from the start of function 0, and the code's
+abbrev pub module_after : (m : Module) → Beginning m.memory_size → ℕ → RunOutcome ModuleState
+module_after m b n = further (module_begun (procedures_of m.procedures.items) b.numbers b.args b.memory)
+    (module_run (procedures_of m.procedures.items) b.numbers n)
 
-abbrev pub machine_after : {size : ℕ} → CodeValue → Beginning size → ℕ → RunOutcome MachineState
-machine_after code b m = machine_run code b.args m
-    (record { pc = 0; registers = b.registers; frame = b.frame; compared = None; memory = b.memory })
+abbrev pub code_after : {size : ℕ} → List FunctionCode → Beginning size → ℕ → RunOutcome StackState
+code_after code b k = further (stack_begun code b.stack b.args b.memory) (stack_run code b.stack k)
 
--- The code behaves as the function: the code returns a number and leaves a memory exactly if the function does, the code traps exactly if the function does
--- and leaves the same memory, the machine runs for as long as the function does, and neither is ever stuck.
-pub record BehavesAs (p : Procedure) (code : CodeValue) : Type 0 where
-  pub returns : (b : Beginning p.memory_size) (n r : ℕ) (left : List ℕ) → procedure_after p b n ≡ Returned r left →
-      (m : ℕ) × (machine_after code b m ≡ Returned r left)
-  pub returns_only : (b : Beginning p.memory_size) (m r : ℕ) (left : List ℕ) → machine_after code b m ≡ Returned r left →
-      (n : ℕ) × (procedure_after p b n ≡ Returned r left)
-  pub traps : (b : Beginning p.memory_size) (n : ℕ) (left : List ℕ) → procedure_after p b n ≡ Trapped left →
-      (m : ℕ) × (machine_after code b m ≡ Trapped left)
-  pub traps_only : (b : Beginning p.memory_size) (m : ℕ) (left : List ℕ) → machine_after code b m ≡ Trapped left →
-      (n : ℕ) × (procedure_after p b n ≡ Trapped left)
-  pub goes_on : (b : Beginning p.memory_size) (n : ℕ) (s : ProcedureState) → procedure_after p b n ≡ Running s → (m : ℕ) × (t : MachineState) × (n ≤ m)
-      × (machine_after code b m ≡ Running t)
-  pub never_stuck : (b : Beginning p.memory_size) (m : ℕ) → machine_after code b m ≢ Stuck
-  pub source_never_stuck : (b : Beginning p.memory_size) (n : ℕ) → procedure_after p b n ≢ Stuck
+-- the stack overflows after some steps
+abbrev pub Overflows : {size : ℕ} → List FunctionCode → Beginning size → Type 0
+Overflows code b = (k : ℕ) × (code_after code b k ≡ Overflowed)
+
+-- the words that the frames of a state take on the stack
+abbrev pub words_needed : List FunctionCode → ModuleState → ℕ
+words_needed code s = words_taken code (s.procedure ∷ map (λ c. c.procedure) s.callers)
+
+-- The code behaves as the module: unless its stack overflows, the code returns a number and leaves a memory exactly if the module does, traps exactly if the
+-- module does and leaves the same memory, and runs for as long as the module does. Its stack overflows only where the module's frames take more words
+-- than it has room for. Neither is ever stuck.
+pub record BehavesAs (m : Module) (code : List FunctionCode) : Type 0 where
+  pub returns : (b : Beginning m.memory_size) (n r : ℕ) (left : List ℕ) → module_after m b n ≡ Returned r left →
+      ((k : ℕ) × (code_after code b k ≡ Returned r left)) ⊎ Overflows code b
+  pub returns_only : (b : Beginning m.memory_size) (k r : ℕ) (left : List ℕ) → code_after code b k ≡ Returned r left →
+      (n : ℕ) × (module_after m b n ≡ Returned r left)
+  pub traps : (b : Beginning m.memory_size) (n : ℕ) (left : List ℕ) → module_after m b n ≡ Trapped left →
+      ((k : ℕ) × (code_after code b k ≡ Trapped left)) ⊎ Overflows code b
+  pub traps_only : (b : Beginning m.memory_size) (k : ℕ) (left : List ℕ) → code_after code b k ≡ Trapped left →
+      (n : ℕ) × (module_after m b n ≡ Trapped left)
+  pub goes_on : (b : Beginning m.memory_size) (n : ℕ) (s : ModuleState) → module_after m b n ≡ Running s →
+      ((k : ℕ) × (t : StackState) × (n ≤ k) × (code_after code b k ≡ Running t)) ⊎ Overflows code b
+  pub overflows_only : (b : Beginning m.memory_size) (k : ℕ) → code_after code b k ≡ Overflowed →
+      (n : ℕ) × (s : ModuleState) × (module_after m b n ≡ Running s) × (exceeds b.stack.room (words_needed code s) ≡ true)
+  pub never_stuck : (b : Beginning m.memory_size) (k : ℕ) → code_after code b k ≢ Stuck
+  pub source_never_stuck : (b : Beginning m.memory_size) (n : ℕ) → module_after m b n ≢ Stuck
+  pub source_never_overflows : (b : Beginning m.memory_size) (n : ℕ) → module_after m b n ≢ Overflowed

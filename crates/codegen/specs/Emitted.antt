@@ -2,14 +2,14 @@
 -- instructions.
 use Rattle.std.specs.Prelude.{ℕ, zero, suc, ◌+◌, ◌-◌, Bool, true, false, nat_lt, nat_eq, if◌then◌else◌}
 use Rattle.std.specs.Prelude.{List, [], ◌∷◌, ◌++◌, map, length, slice_index, slice_index_or}
-use Rattle.regalloc2_names.specs.Place.{Place, NoPlace, InRegister, InSlot}
+use Rattle.regalloc2_names.specs.Place.{Place}
 use Rattle.regalloc2_function.specs.FunctionValue.{FunctionValue, block_at}
 use Rattle.regalloc2_function.specs.OutputValue.{OutputValue, allocs_of, place_at}
 use Rattle.regalloc2_function.specs.Listing.{Listed, ListedInst, ListedMove, block_listing}
 use Rattle.codegen_machine.specs.declared.ir.operation.Operation.{Operation}
 use Rattle.codegen_machine.specs.declared.ir.operation.Operation.TheVariants.{Argument as TakeArgument, Constant as TakeConstant, Copy, Compute as Computation}
 use Rattle.codegen_machine.specs.declared.ir.operation.Operation.TheVariants.{Shift as Shifting, Divide as Dividing, Compare as Comparison, Select, Jump as GoTo, BranchIf}
-use Rattle.codegen_machine.specs.declared.ir.operation.Operation.TheVariants.{BranchIfHolds, Load as Loading, Store as Storing}
+use Rattle.codegen_machine.specs.declared.ir.operation.Operation.TheVariants.{BranchIfHolds, Load as Loading, Store as Storing, Call as Calling}
 use Rattle.codegen_machine.specs.declared.ir.operation.Operation.TheVariants.{Return as GiveBack}
 use Rattle.codegen_machine.specs.Ir.Numbers.{count_of}
 use Rattle.codegen_machine.specs.Ir.Seen.{Operations}
@@ -24,28 +24,23 @@ use Rattle.codegen_machine.specs.declared.ir.operation.Count.TheVariants.{VReg a
 use Rattle.codegen_machine.specs.declared.ir.operation.Right.{Right}
 use Rattle.codegen_machine.specs.declared.ir.operation.Right.TheVariants.{VReg, Number as Given}
 use Rattle.codegen_machine.specs.declared.Source.{Source}
-use Rattle.codegen_machine.specs.declared.Source.TheVariants.{Register, Slot, Number}
+use Rattle.codegen_machine.specs.declared.Source.TheVariants.{Number}
 use Rattle.codegen_machine.specs.declared.Instruction.{Instruction}
 use Rattle.codegen_machine.specs.declared.Instruction.TheVariants.{Constant, Clear, Argument, Move, Load, Store, Compute}
 use Rattle.codegen_machine.specs.declared.Instruction.TheVariants.{Shift, ShiftBy, ExtendSign, Divide, Compare, Set, MoveIf, Test, Jump}
-use Rattle.codegen_machine.specs.declared.Instruction.TheVariants.{JumpIf, Return, Guard, Read, Write}
+use Rattle.codegen_machine.specs.declared.Instruction.TheVariants.{JumpIf, Call, Return, Guard, Read, Write}
 use Rattle.codegen_machine.specs.Machine.{CodeValue}
-
--- the register number used where no register can be named
-abbrev pub no_register : ℕ
-no_register = 16
+use Rattle.codegen.specs.declared.placement.MachinePlace.{MachinePlace}
+use Rattle.codegen.specs.declared.placement.MachinePlace.TheVariants.{Register as AtRegister, Slot as AtSlot}
+use Rattle.codegen.specs.Pinned.{machine_place, register_at, source_at, frame_slots}
 
 -- the register of a place
 abbrev pub register_of : Place → ℕ
-register_of NoPlace = no_register
-register_of (InRegister r) = r.number
-register_of (InSlot n) = no_register
+register_of p = register_at (machine_place p)
 
 -- a place to read from
 abbrev pub source_of : Place → Source
-source_of NoPlace = Register no_register
-source_of (InRegister r) = Register r.number
-source_of (InSlot n) = Slot n
+source_of p = source_at (machine_place p)
 
 -- a second number: its operand's place, unless it is a constant
 abbrev pub right_source : Right → Place → Source
@@ -53,16 +48,20 @@ right_source (VReg v) p = source_of p
 right_source (Given n) p = Number n
 
 -- copies the number in a place into a register
+abbrev pub fetched_from : ℕ → MachinePlace → Instruction
+fetched_from to (AtRegister r) = Move to r
+fetched_from to (AtSlot k) = Load to k
+
 abbrev pub fetched : ℕ → Place → Instruction
-fetched to NoPlace = Move to no_register
-fetched to (InRegister r) = Move to r.number
-fetched to (InSlot n) = Load to n
+fetched to p = fetched_from to (machine_place p)
 
 -- a move from a place to a place
+abbrev pub moved_to : MachinePlace → MachinePlace → Instruction
+moved_to from (AtRegister r) = fetched_from r from
+moved_to from (AtSlot k) = Store k (register_at from)
+
 abbrev pub move_code : Place → Place → Instruction
-move_code from NoPlace = Move no_register no_register
-move_code from (InRegister r) = fetched r.number from
-move_code from (InSlot n) = Store n (register_of from)
+move_code from to = moved_to (machine_place from) (machine_place to)
 
 -- loads a constant; 0 has a shorter instruction
 abbrev pub constant_code : ℕ → ℕ → Instruction
@@ -150,6 +149,7 @@ operation_code size (Comparison w c to left right) places succs next = compare_c
 operation_code size (Select to c one other) places succs next = select_code places
 operation_code size (Loading bytes to address) places succs next = load_code size bytes places
 operation_code size (Storing bytes address value) places succs next = store_code size bytes places
+operation_code size (Calling g to arguments) places succs next = Call g ∷ []
 operation_code size GoTo places succs next = Jump (slice_index succs 0) ∷ []
 operation_code size (BranchIf v) places succs next = branch_if_code (place_at places 0) succs next
 operation_code size (BranchIfHolds w c left right) places succs next = branch_if_holds_code w c right places succs next
@@ -191,9 +191,9 @@ module _ (operations : Operations) (out : OutputValue) where
   abbrev pub block_label : FunctionValue → ℕ → ℕ
   block_label f b = if nat_lt b (length f.blocks) then block_start f b else 0
 
--- the code of an allocated function: its blocks, with jumps resolved, and a frame of its slots
+-- the code of an allocated function: its blocks, with jumps resolved, and a frame of those of its slots that aren't registers
 abbrev pub emitted : Operations → FunctionValue → OutputValue → CodeValue
 emitted operations f out = record {
   instructions = map (resolved (block_label operations out f)) (blocks_code operations out f (length f.blocks));
-  slots = out.num_spillslots;
+  slots = frame_slots out.num_spillslots;
 }

@@ -1,15 +1,17 @@
-//! From a function to code.
+//! From a module to code.
 
-ghost use Rattle.std.specs.Prelude.{IfErr, IfOk};
+ghost use Rattle.std.specs.Prelude.{◌≡◌, ◌∷◌, ◌++◌, [], IfErr, IfOk, OnOk, map, string_bytes};
 ghost use Rattle.codegen_machine.specs.Ir.Seen.{function_of_procedure};
 ghost use Rattle.codegen_machine.specs.Machine.{code_of};
+ghost use Rattle.codegen_machine.specs.Calls.{functions_of};
 ghost use Rattle.codegen.specs.Behaves.{BehavesAs};
-ghost use Rattle.codegen.specs.Reasons.{IsCompileReason, compile_error_text};
+ghost use Rattle.codegen.specs.Compiled.{IsCodeOf, IsNamedCodeOf};
+ghost use Rattle.codegen.specs.Reasons.{IsCompileReason, IsModuleReason, compile_error_text};
 
 use super::emit::emit;
 use super::registers::target;
-use codegen_machine::Code;
-use codegen_machine::ir::Procedure;
+use codegen_machine::ir::{Module, NamedProcedure, Procedure};
+use codegen_machine::{Code, ModuleCode, NamedCode};
 use regalloc2::{TestedRunError, run_tested};
 use regalloc2_semantics::values::runs_alike;
 use std::alloc::Global;
@@ -38,13 +40,9 @@ impl fmt::Display for CompileError {
 
 impl Error for CompileError {}
 
-/// Compiles a function: tests it, allocates registers, and emits code that behaves as the function
-/// for all arguments.
-///
-/// An error is the allocator's, or `Memory`. Not guaranteed: that `Memory` is returned only after a
-/// failed allocation.
-pub fn compile(alloc: Global, f: &Procedure) -> Result<Code, CompileError>
-    ensures behaves { IfOk result (λ code. BehavesAs f.now (code_of code)) }
+/// Compiles a function: tests it, allocates registers, and emits its code.
+fn compile_one(alloc: Global, f: &Procedure) -> Result<Code, CompileError>
+    ensures code { IfOk result (λ code. IsCodeOf f.now (code_of code)) }
     ensures refused { IfErr result (IsCompileReason (function_of_procedure f.now)) }
 {
     let env = target(alloc);
@@ -57,4 +55,48 @@ pub fn compile(alloc: Global, f: &Procedure) -> Result<Code, CompileError>
         Ok(code) => Ok(code),
         Err(_) => Err(CompileError::Memory),
     }
+}
+
+/// Compiles a function of a module.
+fn compile_named(alloc: Global, f: &NamedProcedure) -> Result<NamedCode, CompileError>
+    ensures code { IfOk result (λ c. IsNamedCodeOf f.now c) }
+    ensures refused { IfErr result (IsCompileReason (function_of_procedure f.now.procedure)) }
+{
+    let code = compile_one(alloc, &f.procedure)?;
+    match f.name.clone() {
+        Ok(name) => Ok(NamedCode {
+            name,
+            arity: f.arity,
+            code,
+        }),
+        Err(_) => Err(CompileError::Memory),
+    }
+}
+
+/// Appends a function.
+fn add(functions: &mut Vec<NamedCode>, function: NamedCode) -> Result<(), CompileError>
+    ensures added { OnOk result (functions.new.items ≡ functions.old.items ++ function ∷ []) }
+    ensures memory { IfErr result (λ e. e ≡ CompileError.Memory) }
+{
+    match functions.push(function) {
+        Ok(()) => Ok(()),
+        Err(_) => Err(CompileError::Memory),
+    }
+}
+
+/// Compiles a module: its code behaves as the module for all arguments, initial memories and stacks.
+///
+/// An error is the allocator's, for one of the functions, or `Memory`. Not guaranteed: that `Memory`
+/// is returned only after a failed allocation.
+pub fn compile(alloc: Global, m: &Module) -> Result<ModuleCode, CompileError>
+    ensures behaves { IfOk result (λ c. BehavesAs m.now (functions_of c.functions.items)) }
+    ensures names { IfOk result (λ c. map (λ f. string_bytes f.name) c.functions.items ≡ map (λ p. string_bytes p.name) m.now.procedures.items) }
+    ensures refused { IfErr result (IsModuleReason m.now.procedures.items) }
+{
+    let mut functions = Vec::new(alloc);
+    for g in 0..m.procedures.len() {
+        let function = compile_named(alloc, &m.procedures[g])?;
+        add(&mut functions, function)?;
+    }
+    Ok(ModuleCode { functions })
 }

@@ -8,15 +8,16 @@ ghost use Rattle.regalloc2_function.specs.Views.{item_of, output_of};
 ghost use Rattle.regalloc2_function.specs.WellFormed.{BlocksFollow};
 ghost use Rattle.codegen_machine.specs.Ir.Seen.{function_of_procedure, operations};
 ghost use Rattle.codegen_machine.specs.Machine.{code_of};
-ghost use Rattle.codegen.specs.Emitted.{register_of, source_of, right_source, fetched, move_code, constant_code, operation_code, opposite, item_code, resolved};
+ghost use Rattle.codegen.specs.Emitted.{register_of, source_of, right_source, fetched_from, fetched, move_code, constant_code, operation_code, opposite, item_code, resolved};
 ghost use Rattle.codegen.specs.Emitted.{branch_code, branch_if_code, branch_if_holds_code, compare_code, divide_code, extension_code, return_code, select_code, shift_code};
 ghost use Rattle.codegen.specs.Emitted.{address_count, load_code, store_code};
 ghost use Rattle.codegen.specs.Emitted.{block_code, emitted};
 
+use super::placement::{MachinePlace, frame_slots, machine_place};
 use codegen_machine::ir::{
     Bytes, Condition, Count, Operation, Procedure, Right, ShiftOperator, Width,
 };
-use codegen_machine::{Code, Instruction, NO_REGISTER, Source};
+use codegen_machine::{Code, Instruction, Source};
 use regalloc2::{Allocation, Block, Function, InstOrEdit, Output};
 use std::alloc::{AllocError, Global};
 
@@ -24,21 +25,14 @@ use std::alloc::{AllocError, Global};
 fn register(place: Allocation) -> usize
     ensures { result ≡ register_of place }
 {
-    match place.as_reg() {
-        Some(reg) => reg.hw_enc(),
-        None => NO_REGISTER,
-    }
+    machine_place(place).register()
 }
 
 /// A place to read from.
 fn source(place: Allocation) -> Source
     ensures { result ≡ source_of place }
 {
-    if place.is_stack() {
-        Source::Slot(place.index())
-    } else {
-        Source::Register(register(place))
-    }
+    machine_place(place).source()
 }
 
 /// A second number: its operand's place, unless it is a constant.
@@ -51,34 +45,33 @@ fn right_source(right: Right, place: Allocation) -> Source
     }
 }
 
+/// Copies the number in a place of the machine into a register.
+fn fetch_from(to: usize, from: MachinePlace) -> Instruction
+    ensures { result ≡ fetched_from to from }
+{
+    match from {
+        MachinePlace::Register(from) => Instruction::Move { to, from },
+        MachinePlace::Slot(slot) => Instruction::Load { to, slot },
+    }
+}
+
 /// Copies the number in a place into a register.
 fn fetch(to: usize, from: Allocation) -> Instruction
     ensures { result ≡ fetched to from }
 {
-    if from.is_stack() {
-        let slot = from.index();
-        Instruction::Load { to, slot }
-    } else {
-        let from = register(from);
-        Instruction::Move { to, from }
-    }
+    fetch_from(to, machine_place(from))
 }
 
 /// A move. None goes from a slot to a slot, so it is one instruction.
 fn move_between(from: Allocation, to: Allocation) -> Instruction
     ensures { result ≡ move_code from to }
 {
-    if to.is_stack() {
-        return Instruction::Store {
-            slot: to.index(),
-            from: register(from),
-        };
-    }
-    match to.as_reg() {
-        Some(reg) => fetch(reg.hw_enc(), from),
-        None => Instruction::Move {
-            to: NO_REGISTER,
-            from: NO_REGISTER,
+    let from = machine_place(from);
+    match machine_place(to) {
+        MachinePlace::Register(to) => fetch_from(to, from),
+        MachinePlace::Slot(slot) => Instruction::Store {
+            slot,
+            from: from.register(),
         },
     }
 }
@@ -405,6 +398,7 @@ fn emit_operation(
         Operation::Select { .. } => emit_select(code, places),
         Operation::Load { bytes, .. } => emit_load(code, memory_size, bytes, places),
         Operation::Store { bytes, .. } => emit_store(code, memory_size, bytes, places),
+        Operation::Call { function, .. } => put(code, Instruction::Call { function }),
         Operation::Jump => put(code, jump(succs, 0)),
         Operation::BranchIf { .. } => emit_branch_if(code, first, succs, next),
         Operation::BranchIfHolds {
@@ -517,6 +511,6 @@ pub fn emit(alloc: Global, f: &Procedure, out: &Output) -> Result<Code, AllocErr
     let instructions = resolve_all(alloc, &code, &starts)?;
     Ok(Code {
         instructions,
-        slots: out.num_spillslots,
+        slots: frame_slots(out.num_spillslots),
     })
 }

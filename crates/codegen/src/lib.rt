@@ -24,11 +24,21 @@
 //! omits it.
 //!
 //! The machine (`codegen_machine`) is *stuck* where a processor would misbehave: at a slot outside
-//! the frame, at an access outside memory, at the registers of the stack pointer, of the arguments
-//! and of memory, at a jump out of the code, at a condition whose flags another instruction has
-//! clobbered, and at a division whose register 2 doesn't extend the dividend. "Never stuck" is
+//! the frame, at an access outside memory, at the registers of the stack pointer and of memory, at a
+//! jump out of the code, at a call of no function, at a condition whose flags another instruction
+//! has clobbered, and at a division whose register 2 doesn't extend the dividend. "Never stuck" is
 //! therefore a guarantee of its own. A trap isn't stuck: function and code trap alike, and leave the
 //! same memory.
+//!
+//! # Where numbers are kept
+//!
+//! The allocator passes block parameters in slots, so each iteration of a loop writes its variables
+//! to slots and reads them there. Slots are therefore registers as far as possible: the allocator
+//! allocates only the caller-saved registers, its first five slots are the callee-saved registers
+//! rbx, rbp, r12, r13 and r14, and the frame holds the others. `machine_place` maps each place of the
+//! allocator to its register or slot of the frame (`specs/Pinned.antt`), and each instruction that
+//! is emitted names the result. The map is injective, so a write to a place leaves the numbers of the
+//! others (`proofs/Places.antt`).
 //!
 //! # What of the allocator each part uses
 //!
@@ -36,12 +46,14 @@
 //! |---|---|---|
 //! | `emit_block`, which lists a block's items | `IsAllocation.in_order` | moves and places are well-ordered |
 //! | moves | `IsAllocation.no_stack_to_stack` | a move is one instruction |
-//! | operands, moves, the frame | `IsAllocation.proper` | a place is a register of the machine or a slot below the count, so no instruction names the stack pointer, and the frame is long enough |
+//! | operands, moves, the frame | `IsAllocation.proper` | a place is a register that `target` lists or a slot below the count, so no instruction names the stack pointer, no register that a slot is kept in is allocated, and the frame is long enough |
 //! | results that reuse a register; numbers required in a register | `IsAllocation.constraints` | the place meets the operand's constraint |
 //! | counts of shifts | `IsAllocation.constraints` and `proper` | the count is in register 1, where the processor reads it |
 //! | dividends and results of divisions | `IsAllocation.constraints` and `proper` | they are in registers 0 and 2, where the processor reads and writes them |
 //! | divisors | `runs`, and the lemma `runs_alike`: late uses | whatever the division writes and leaves, the divisor's place keeps its number until it is read |
 //! | the register of a division's other part | `runs`, and the lemma `runs_alike`: clobbers | any number may be left there, since none of the function's is expected there |
+//! | arguments and results of calls | `IsAllocation.constraints` and `proper` | an argument is in the register in which the callee reads it, and the result in register 0 |
+//! | numbers that are needed after a call | `runs`, and the lemma `runs_alike`: clobbers | whatever the callee leaves in caller-saved registers, none of the caller's numbers is expected there |
 //! | blocks and branches | `tested` | blocks are contiguous, each with its only branch or return last; successors exist; the entry is block 0 |
 //! | the theorem | `runs`, and the lemma `runs_alike` | whatever instructions compute, the interpreter over places reads the same numbers as the one over vregs |
 //! | `refused` of `compile` | `refused` | when each error is returned |
@@ -64,6 +76,17 @@
 //! about a late use hold for each choice: `proofs/Divisions.antt` derives from this that the
 //! divisor survives the extension of the dividend.
 //!
+//! Module and code run on stacks, of frames and of activations (`codegen_machine`'s `Ir/Calls.antt` and
+//! `Calls.antt`). Each frame has an activation of its own, with choices of its own
+//! (`proofs/Frames.antt`). At a call, the machine runs the call's moves, and suspends the activation
+//! with its registers and slots; at a return, the call's choice writes the result and leaves in
+//! caller-saved registers what the callee left there (`proofs/Calling.antt`). A callee that never
+//! returns therefore adds no choice to its caller's. A run within a function is a run of its activation
+//! (`proofs/Activations.antt`), so the proofs of the other operations know nothing of the stack. The
+//! stack overflows only where the activations, which are those of the module's frames, exceed its room;
+//! neither side depends on the other beyond that point. With an unlimited room nothing overflows, so
+//! the module is never stuck (`proofs/Behaving.antt`).
+//!
 //! Unused: that values are in their slots between blocks, that slots have owners, bounds on their
 //! number, debug locations, and when nothing is spilled. A code generator that keeps other data in
 //! the frame, or describes it to a debugger, needs those.
@@ -74,6 +97,7 @@
 
 mod compiler;
 mod emit;
+mod placement;
 pub mod program;
 mod registers;
 

@@ -5,22 +5,19 @@ ghost use Rattle.std.specs.List.{list_all};
 ghost use Rattle.regalloc2_names.specs.Register.{Register};
 ghost use Rattle.regalloc2_names.specs.RegisterSet.{has_register};
 ghost use Rattle.regalloc2_function.specs.Views.{machine_of};
-ghost use Rattle.codegen_machine.specs.Machine.{is_general};
+ghost use Rattle.codegen.specs.Pinned.{is_allocated};
 ghost use Rattle.codegen.specs.Target.{IsTarget};
 
 use regalloc2::{MachineEnv, PReg, PRegSet, RegClass};
 use std::alloc::Global;
 
 /// The caller-saved registers of the System V calling convention.
-const CALLER_SAVED: [usize; 8] = [0, 1, 2, 6, 8, 9, 10, 11];
-
-/// The callee-saved registers, but the one that addresses memory.
-const CALLEE_SAVED: [usize; 5] = [3, 5, 12, 13, 14];
+const CALLER_SAVED: [usize; 9] = [0, 1, 2, 6, 7, 8, 9, 10, 11];
 
 /// The set of the integer registers with these numbers.
 fn registers(numbers: &[usize]) -> PRegSet
-    requires { IsTrue (list_all is_general numbers.now) }
-    ensures general { (r : Register) → has_register result r ≡ true → (r.class ≡ RegClass.Int) × (is_general r.number ≡ true) }
+    requires { IsTrue (list_all is_allocated numbers.now) }
+    ensures general { (r : Register) → has_register result r ≡ true → (r.class ≡ RegClass.Int) × (is_allocated r.number ≡ true) }
     ensures all { All (λ n. has_register result (record { number = n; class = RegClass.Int }) ≡ true) numbers.now }
 {
     let mut set = PRegSet::empty();
@@ -30,14 +27,16 @@ fn registers(numbers: &[usize]) -> PRegSet
     set
 }
 
-/// The registers that hold numbers, caller-saved ones preferred. None is reserved as scratch.
+/// The caller-saved registers that hold numbers. None is reserved as scratch.
+///
+/// Callee-saved registers aren't allocated: the first slots are kept in them.
 pub fn target(alloc: Global) -> MachineEnv
     ensures { IsTarget (machine_of result) }
 {
     let none = PRegSet::empty();
     MachineEnv {
         preferred_regs_by_class: [registers(&CALLER_SAVED), none, none],
-        non_preferred_regs_by_class: [registers(&CALLEE_SAVED), none, none],
+        non_preferred_regs_by_class: [none; 3],
         scratch_by_class: [None; 3],
         fixed_stack_slots: Vec::new(alloc),
     }

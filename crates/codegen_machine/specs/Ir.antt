@@ -7,3 +7,5 @@ pub mod Once
 pub mod Successors
 pub mod Seen
 pub mod Meaning
+pub mod Modules
+pub mod Calls

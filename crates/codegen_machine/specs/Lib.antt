@@ -3,5 +3,6 @@
 -- Depends on `Ir/Numbers`, the arithmetic of 64-bit integers, and on regalloc2_function for a procedure's function.
 pub mod Ir
 pub mod Machine
+pub mod Calls
 pub mod Run
 pub mod Text

@@ -12,7 +12,7 @@ use Rattle.codegen_machine.specs.declared.Source.TheVariants.{Register, Slot, Nu
 use Rattle.codegen_machine.specs.declared.Instruction.{Instruction}
 use Rattle.codegen_machine.specs.declared.Instruction.TheVariants.{Constant, Clear, Argument, Move, Load, Store, Compute}
 use Rattle.codegen_machine.specs.declared.Instruction.TheVariants.{Shift, ShiftBy, ExtendSign, Divide, Compare, Set, MoveIf, Test}
-use Rattle.codegen_machine.specs.declared.Instruction.TheVariants.{Guard, Read, Write, Jump, JumpIf, Return}
+use Rattle.codegen_machine.specs.declared.Instruction.TheVariants.{Guard, Read, Write, Jump, JumpIf, Call, Return}
 use Rattle.codegen_machine.specs.declared.Code.{Code}
 
 -- the current instruction, the numbers in registers and slots, the numbers last compared, unless an instruction has clobbered them, and the bytes in memory
@@ -23,9 +23,9 @@ pub record MachineState : Type 0 where
   pub compared : Option (ℕ × ℕ)
   pub memory : List ℕ
 
--- the registers that hold numbers: all sixteen but those that address the frame, the arguments and memory
+-- the registers that hold numbers: all sixteen but those that address the frame and memory
 abbrev pub is_general : ℕ → Bool
-is_general r = nat_lt r 15 && not (nat_eq r 4) && not (nat_eq r 7)
+is_general r = nat_lt r 15 && not (nat_eq r 4)
 
 -- continues with the number in a register, in a slot of a frame with that many slots, or of any source; or with the numbers last compared
 abbrev pub with_register : MachineState → ℕ → (ℕ → RunOutcome MachineState) → RunOutcome MachineState
@@ -100,7 +100,7 @@ memory_written s bytes a n =
 abbrev pub jumped : MachineState → ℕ → RunOutcome MachineState
 jumped s target = Running (record { pc = target; registers = s.registers; frame = s.frame; compared = s.compared; memory = s.memory })
 
--- the effect of an instruction; the arguments are given by their numbers, and the frame has that many slots
+-- the effect of an instruction within its function, which a call leaves; the arguments are given by their numbers, and the frame has that many slots
 abbrev pub executed : (ℕ → ℕ) → ℕ → Option Instruction → MachineState → RunOutcome MachineState
 executed args slots None s = Stuck
 executed args slots (Some (Constant to n)) s = written s to n s.compared
@@ -124,6 +124,7 @@ executed args slots (Some (Read bytes to address)) s = with_register s address (
 executed args slots (Some (Write bytes address from)) s = with_register s address (λ a. with_register s from (λ n. memory_written s bytes a n))
 executed args slots (Some (Jump target)) s = jumped s target
 executed args slots (Some (JumpIf c target)) s = with_compared s.compared (λ a b. jumped s (if condition_holds c a b then target else s.pc + 1))
+executed args slots (Some (Call g)) s = Stuck
 executed args slots (Some Return) s = Returned (s.registers 0) s.memory
 
 -- the contents of code: its instructions, and the number of its frame's slots

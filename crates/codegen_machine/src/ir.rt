@@ -5,10 +5,13 @@
 //! `specs/Ir/Numbers.antt` defines them, `specs/Ir/Meaning.antt` interprets a function, step by
 //! step.
 
+mod module;
 mod operation;
 mod procedure;
 
+pub use module::{Module, NamedProcedure, Refusal};
 pub use operation::{
-    Bytes, Condition, Count, DivisionPart, Line, Operation, Operator, Right, ShiftOperator, Width,
+    Arguments, Bytes, Condition, Count, DivisionPart, Line, Operation, Operator, Right,
+    ShiftOperator, Width,
 };
 pub use procedure::{Malformed, Part, Procedure};

@@ -1,9 +1,9 @@
 //! A machine with sixteen registers and a frame of slots, and two-address instructions: the target
 //! of a code generator.
 //!
-//! Registers are numbered as in x86-64. Three of them hold no numbers: 4 (`rsp`) addresses the
-//! frame, 7 (`rdi`) the arguments, and 15 (`r15`) memory. `specs/Machine.antt` defines each
-//! instruction, step by step.
+//! Registers are numbered as in x86-64. Two of them hold no numbers: 4 (`rsp`) addresses the frame,
+//! and 15 (`r15`) memory. `specs/Machine.antt` defines each instruction, step by step, and
+//! `specs/Calls.antt` calls and returns.
 #![tactic(auto)]
 
 use crate::ir::{Bytes, Condition, Operator, ShiftOperator, Width};
@@ -188,8 +188,32 @@ pub enum Instruction {
         /// The instruction's number.
         target: usize,
     },
+    /// Calls a function of the module: it begins with a frame of its own, and the caller-saved
+    /// registers hold other numbers when it has returned. The stack may overflow.
+    Call {
+        /// The function's number.
+        function: usize,
+    },
     /// Returns the number in register 0.
     Return,
+}
+
+/// A function's code, its name, and the number of its arguments.
+#[derive(Debug, Drop)]
+pub struct NamedCode {
+    /// The name.
+    pub name: String,
+    /// How many arguments a call passes to it.
+    pub arity: usize,
+    /// The code.
+    pub code: Code,
+}
+
+/// The code of a module: its functions by number. A run starts at function 0.
+#[derive(Debug, Drop)]
+pub struct ModuleCode {
+    /// The functions.
+    pub functions: Vec<NamedCode>,
 }
 
 /// Code: its instructions by number. It starts at instruction 0.

@@ -1,4 +1,4 @@
-//! Functions over 64-bit integers from texts, and code as assembly for x86-64.
+//! Modules of functions over 64-bit integers from texts, and their code as assembly for x86-64.
 //!
 //! A line of a text has an operation. Letters, words, numbers, signs, comments and errors are those of `docs/TEXT.md`.
 //! For example:
@@ -19,15 +19,34 @@
 //!   return v3
 //! ```
 //!
+//! A text of several functions names them, with the number of their arguments; a run starts at the first:
+//!
+//! ```text
+//! function factorial(1):
+//! block0:
+//!   v0 = argument 0
+//!   branch_if v0 block1(), block2()
+//! block1:
+//!   v1 = sub v0, 1
+//!   v2 = call factorial(v1)
+//!   v3 = mul v0, v2
+//!   return v3
+//! block2:
+//!   v4 = constant 1
+//!   return v4
+//! ```
+//!
 //! ```ebnf
 //! text      = { line } ;
-//! line      = [ memory | block | value | store | jump | branch | return ] ;
+//! line      = [ memory | function | block | value | store | jump | branch | return ] ;
 //! memory    = "memory" number ;                                   (* in bytes, to 2147483647 *)
+//! function  = "function" NAME "(" number ")" ":" ;                (* letters, digits and _; the number is to 6 *)
 //! block     = BLOCK [ vregs ] ":" ;
 //! vregs     = "(" [ vreg { "," vreg } ] ")" ;
 //! vreg      = "v" NUMBER ;                                        (* one word; the number is to 1073741823 *)
 //! value     = vreg "=" ( "argument" number | "constant" number | "copy" vreg | ( operator | condition ) pair
-//!           | shift vreg "," ( vreg | number ) | division vreg "," vreg | "select" vreg "," vreg "," vreg | load vreg ) ;
+//!           | shift vreg "," ( vreg | number ) | division vreg "," vreg | "select" vreg "," vreg "," vreg | load vreg
+//!           | "call" NAME vregs ) ;
 //! store     = "store" [ "32" | "16" | "8" ] vreg "," vreg ;
 //! load      = "load" [ "32" | "16" | "8" ] ;
 //! pair      = vreg "," ( vreg | number ) ;                        (* the number is to 2147483647 *)
@@ -56,20 +75,31 @@
 //! number that comes second to the address that comes first. `32`, `16` and `8` stand for four, two
 //! and one bytes: a load clears the other bits, and a store writes the lower ones. An access traps,
 //! and changes nothing, unless all its bytes lie in memory. Memory has the size that the text's
-//! first line gives, as in `memory 4096`, or else 0.
+//! first line gives, as in `memory 4096`, or else 0. The functions share it.
 //!
-//! Arguments are numbered from 0, below 2^28. A function has at most a million blocks, instructions and vregs, counted
-//! from v0; a larger function is an error at the end of the text. Blocks are numbered as they appear, the entry first.
-//! A block's last instruction is its only `jump`, `branch_if` or `return`: after it, a line that begins no block is an
-//! error of the text, as is an instruction before the first block. The allocator tests everything else, such as a block
-//! without that end, a missing block, arguments that don't match the parameters, or a vreg that is read before it is
-//! written.
+//! `call` passes a function of the text, which may stand before or after it, as many numbers as it
+//! has arguments, and is the number that it returns. Functions call each other and themselves, until
+//! the stack overflows. No two functions have one name, and none is called `compiled`, as the
+//! assembly's entry is. A text without a line `function` has one function without a name. Each
+//! function counts its blocks, instructions and vregs anew.
+//!
+//! Arguments are numbered from 0. A function has at most six of them, one without a name as many as its lines read,
+//! and at most a million blocks, instructions and vregs, counted from v0; a larger function is an error at the end of
+//! the text. Blocks are numbered as they appear, the entry first. A block's last instruction is its only `jump`,
+//! `branch_if` or `return`: after it, a line that begins neither block nor function is an error of the text, as is an
+//! instruction before the first block. Errors in lines `function` come before others. The allocator tests everything
+//! else, such as a block without that end, a missing block, arguments that don't match the parameters, or a vreg that
+//! is read before it is written.
 
 mod assembly;
 mod draft;
+mod functions;
+mod header;
+mod module;
 mod operations;
 mod reading;
 
 pub use assembly::{AssemblyText, InstructionText};
-pub use reading::read_procedure;
+pub use header::HeaderText;
+pub use reading::read_module;
 pub use regalloc2_text::cursor::{Expected, Fault, Found, TextError};

@@ -2,7 +2,7 @@
 
 use clap::error::ErrorKind;
 use clap::{Arg, ArgAction, ArgMatches, Command, Error, value_parser};
-use codegen::program::{Action, Task};
+use codegen::program::{Action, ROOM, RunOptions, Task};
 use std::alloc::Global;
 
 /// The help's text about the exit status.
@@ -25,7 +25,7 @@ pub struct Request<'a> {
 fn file<'a>(alloc: Global) -> Arg<'a> {
     Arg::new(alloc, "FILE")
         .action(ArgAction::Set)
-        .help("A function, as a text; - is standard input")
+        .help("A function or several, as a text; - is standard input")
 }
 
 /// A command, with the options common to all.
@@ -51,10 +51,22 @@ fn run_command<'a>(alloc: Global) -> Result<Command<'a>, Error> {
         .num_args(0..)
         .value_parser(value_parser!(u64))
         .help("The arguments; those past them are 0");
+    let room = Arg::new(alloc, "room")
+        .long("room")
+        .value_name("WORDS")
+        .value_parser(value_parser!(u64))
+        .action(ArgAction::Set)
+        .help("How many words the code may take on the stack, 131072 unless given");
+    let memory = Arg::new(alloc, "memory")
+        .long("memory")
+        .action(ArgAction::SetTrue)
+        .help("Write the hash of the memory that the code leaves (FNV-1a, 64 bits)");
     let command = Command::new(alloc, "run")
         .about("Write what the function and its code return, by interpreters")
         .arg(file(alloc).required(true))?
-        .arg(numbers)?;
+        .arg(numbers)?
+        .arg(room)?
+        .arg(memory)?;
     with_options(alloc, command)
 }
 
@@ -64,21 +76,26 @@ fn random_command<'a>(alloc: Global) -> Result<Command<'a>, Error> {
         .required(true)
         .action(ArgAction::Set)
         .value_parser(value_parser!(u64))
-        .help("A number; the same one gives the same function");
+        .help("A number; the same one gives the same functions");
     let command = Command::new(alloc, "random")
-        .about("Write the text of a function of three arguments that looks random and ends")
+        .about("Write the text of up to four functions that look random and end")
         .arg(seed)?;
     with_options(alloc, command)
 }
 
 /// The whole command.
 fn command<'a>(alloc: Global) -> Result<Command<'a>, Error> {
+    let header = Arg::new(alloc, "header")
+        .long("header")
+        .action(ArgAction::SetTrue)
+        .help("Write a header for C in place of the assembly");
     let command = Command::new(alloc, "compile")
         .version("0.1.0")
         .about("Writes a function as assembly for x86-64")
         .arg_required_else_help(true)
         .args_conflicts_with_subcommands(true)
         .arg(file(alloc))?
+        .arg(header)?
         .subcommand(run_command(alloc)?)?
         .subcommand(random_command(alloc)?)?;
     with_options(alloc, command)
@@ -114,10 +131,19 @@ fn task_of<'a>(
         return Ok(None);
     };
     if name == "run" {
-        let numbers = numbers_of(alloc, given)?;
-        return Ok(Some(Task::Read(path, Action::Run(numbers))));
+        let options = RunOptions {
+            arguments: numbers_of(alloc, given)?,
+            room: given.get_one::<u64>("room").unwrap_or(ROOM),
+            shows_memory: given.get_flag("memory"),
+        };
+        return Ok(Some(Task::Read(path, Action::Run(options))));
     }
-    Ok(Some(Task::Read(path, Action::Write)))
+    let action = if given.get_flag("header") {
+        Action::Header
+    } else {
+        Action::Write
+    };
+    Ok(Some(Task::Read(path, action)))
 }
 
 impl<'a> Request<'a> {

@@ -1,8 +1,8 @@
-//! `compile`: writes a function, given as a text, as x86-64 assembly, or runs the function and its
-//! code.
+//! `compile`: writes a function or several, given as a text, as x86-64 assembly, or runs them and
+//! their code.
 //!
-//! The arguments are `FILE`, `run FILE NUMBER..` or `random SEED`, where FILE may be `-` for
-//! standard input; `--help` lists them too. The exit status is 0; or 1 if the function is rejected,
+//! The arguments are `FILE`, `--header FILE`, `run FILE NUMBER..` or `random SEED`, where FILE may
+//! be `-` for standard input; `--help` lists them too. The exit status is 0; or 1 if the function is rejected,
 //! or the outcomes of the function and of its code differ; or 2 if the arguments or the text are
 //! invalid, the file can't be read or the output can't be written.
 #![tactic(auto)]

@@ -1,6 +1,6 @@
 //! What `compile` returns for texts.
 
-use codegen::program::{Action, Task, answer};
+use codegen::program::{Action, ROOM, RunOptions, Task, answer};
 use std::alloc::Global;
 use std::io::{self, Write};
 use std::str;
@@ -118,7 +118,12 @@ fn show_run<W: Write>(
     if arguments.push(left).is_err() || arguments.push(right).is_err() {
         return Ok(());
     }
-    let task = Task::Read("text", Action::Run(arguments));
+    let options = RunOptions {
+        arguments,
+        room: ROOM,
+        shows_memory: false,
+    };
+    let task = Task::Read("text", Action::Run(options));
     let (mut out, mut err) = (Vec::new(alloc), Vec::new(alloc));
     let status = answer(alloc, &task, text.as_bytes(), &mut out, &mut err);
     let told = str::from_utf8(&out).unwrap_or("no text");

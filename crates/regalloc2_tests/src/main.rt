@@ -16,6 +16,7 @@ mod graph;
 mod instructions;
 mod large;
 mod maker;
+mod modules;
 mod program;
 mod random;
 mod refusing;
@@ -50,8 +51,7 @@ fn failures(alloc: Global, count: u64) -> usize {
     (0..count).filter(is_failed).count()
 }
 
-/// How many of so many randomly generated functions over whole numbers return what their codes
-/// return.
+/// How many of so many randomly generated modules over whole numbers end as their codes do.
 fn agreeing(alloc: Global, count: u64) -> usize {
     let does_agree = |seed: &u64| agrees_at_random(alloc, *seed) == Some(true);
     (0..count).filter(does_agree).count()
@@ -108,11 +108,9 @@ fn main(rt: HostRuntime) -> io::Result<()> {
     let (functions, texts) = lines.split_once("\n\n").unwrap_or((&lines, ""));
     refusing::show_all(alloc, functions, out)?;
     let count = agreeing(alloc, 200);
-    writeln!(
-        out,
-        "{count} of 200 functions and their codes return the same"
-    )?;
+    writeln!(out, "{count} of 200 modules and their codes end alike")?;
     compiled::show_all(alloc, out)?;
+    modules::show_all(alloc, out)?;
     fuzz::show_fuzz(alloc, texts, out)?;
     out.flush()
 }

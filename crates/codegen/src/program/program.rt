@@ -4,12 +4,13 @@ ghost use Rattle.std.specs.Prelude.{◌≤◌, IfOk};
 
 use super::agree::{agree, run_both};
 use super::random::random_program;
-use super::task::{Action, Task};
-use crate::{CompileError, compile};
-use codegen_machine::Code;
-use codegen_machine::ir::Procedure;
-use codegen_machine::text::{AssemblyText, TextError, read_procedure};
-use regalloc2::{RegAllocError, TestedRunError};
+use super::task::{Action, RunOptions, Task};
+use crate::{CompileError, compile, target};
+use codegen_machine::ModuleCode;
+use codegen_machine::ir::Module;
+use codegen_machine::run::Standing;
+use codegen_machine::text::{AssemblyText, HeaderText, TextError, read_module};
+use regalloc2::{RegAllocError, TestedRunError, run_tested};
 use regalloc2_tool::refusal::RefusalText;
 use std::alloc::{AllocError, Global};
 use std::error::Error;
@@ -54,38 +55,91 @@ impl From<io::Error> for TaskError {
     }
 }
 
-/// The code of a function; if the function is rejected, nothing, and a line on `err`.
-fn code_of<E: Write>(
+/// Writes the name of the function that the allocator rejects, and why.
+fn refuse<E: Write>(
     alloc: Global,
-    procedure: &Procedure,
+    module: &Module,
+    error: TestedRunError,
     err: &mut E,
-) -> Result<Option<Code>, TaskError> {
-    match compile(alloc, procedure) {
-        Ok(code) => return Ok(Some(code)),
-        Err(CompileError::Memory)
-        | Err(CompileError::Refused(TestedRunError::Refused(RegAllocError::Memory))) => {
-            return Err(TaskError::Memory);
-        }
-        Err(CompileError::Refused(TestedRunError::Refused(error))) => {
+) -> Result<(), TaskError> {
+    let (functions, env) = (module.procedures.as_slice(), target(alloc));
+    let rejected = functions
+        .iter()
+        .find(|f| run_tested(alloc, &f.procedure, &env).is_err());
+    if let Some(function) = rejected.filter(|f| !f.name.is_empty()) {
+        let name = &function.name;
+        write!(err, "{name}: ")?;
+    }
+    match error {
+        TestedRunError::Refused(error) => {
             let refusal = RefusalText(error);
             writeln!(err, "{refusal}")?;
         }
-        Err(error) => writeln!(err, "{error}")?,
+        error => writeln!(err, "{error}")?,
     }
-    Ok(None)
+    Ok(())
 }
 
-/// Applies an action to a function, and returns the exit status.
+/// The code of a module; if a function is rejected, nothing, and a line on `err`.
+fn code_of<E: Write>(
+    alloc: Global,
+    module: &Module,
+    err: &mut E,
+) -> Result<Option<ModuleCode>, TaskError> {
+    match compile(alloc, module) {
+        Ok(code) => Ok(Some(code)),
+        Err(CompileError::Memory)
+        | Err(CompileError::Refused(TestedRunError::Refused(RegAllocError::Memory))) => {
+            Err(TaskError::Memory)
+        }
+        Err(CompileError::Refused(error)) => {
+            refuse(alloc, module, error, err)?;
+            Ok(None)
+        }
+    }
+}
+
+/// The 64-bit FNV-1a hash of bytes.
+fn hash_of(bytes: &[u8]) -> u64 {
+    bytes
+        .iter()
+        .fold(14_695_981_039_346_656_037u64, |hash, byte| {
+            (hash ^ u64::from(*byte)).wrapping_mul(1_099_511_628_211)
+        })
+}
+
+/// Runs a module and its code, writes their outcomes, and returns the exit status.
+fn run<O: Write>(
+    alloc: Global,
+    options: &RunOptions,
+    module: &Module,
+    code: &ModuleCode,
+    out: &mut O,
+) -> Result<u8, TaskError>
+    ensures { IfOk result (λ status. status ≤ 2) }
+{
+    let (arguments, room) = (options.arguments.as_slice(), options.room);
+    let (source, target) = run_both(alloc, module, code, arguments, room)?;
+    let (first, second) = (source.standing, target.standing);
+    writeln!(out, "the function: {first}\nits code: {second}")?;
+    if options.shows_memory && second != Standing::Overflowed {
+        let hash = hash_of(target.memory.as_slice());
+        writeln!(out, "memory: {hash}")?;
+    }
+    Ok(if agree(&source, &target) { 0 } else { REFUSED })
+}
+
+/// Applies an action to a module, and returns the exit status.
 fn act<O: Write, E: Write>(
     alloc: Global,
     action: &Action,
-    procedure: &Procedure,
+    module: &Module,
     out: &mut O,
     err: &mut E,
 ) -> Result<u8, TaskError>
     ensures { IfOk result (λ status. status ≤ 2) }
 {
-    let Some(code) = code_of(alloc, procedure, err)? else {
+    let Some(code) = code_of(alloc, module, err)? else {
         return Ok(REFUSED);
     };
     match action {
@@ -94,16 +148,20 @@ fn act<O: Write, E: Write>(
             write!(out, "{assembly}")?;
             Ok(0)
         }
-        Action::Run(arguments) => {
-            let (source, target) = run_both(alloc, procedure, &code, arguments)?;
-            let (first, second) = (source.standing, target.standing);
-            writeln!(out, "the function: {first}\nits code: {second}")?;
-            Ok(if agree(&source, &target) { 0 } else { REFUSED })
+        Action::Header => {
+            let memory_size = module.memory_size;
+            let header = HeaderText {
+                code: &code,
+                memory_size,
+            };
+            write!(out, "{header}")?;
+            Ok(0)
         }
+        Action::Run(options) => run(alloc, options, module, &code, out),
     }
 }
 
-/// Applies an action to the function in a text, and returns the exit status.
+/// Applies an action to the module in a text, and returns the exit status.
 fn perform<O: Write, E: Write>(
     alloc: Global,
     path: &str,
@@ -114,8 +172,8 @@ fn perform<O: Write, E: Write>(
 ) -> Result<u8, TaskError>
     ensures { IfOk result (λ status. status ≤ 2) }
 {
-    match read_procedure(alloc, text, 1) {
-        Ok(procedure) => act(alloc, action, &procedure, out, err),
+    match read_module(alloc, text, 1) {
+        Ok(module) => act(alloc, action, &module, out, err),
         Err(TextError::Fault(fault)) => {
             writeln!(err, "{path}:{fault}")?;
             Ok(UNUSABLE)
@@ -156,7 +214,7 @@ fn fulfil<R: Read + Drop, O: Write, E: Write>(
 ///
 /// An error in the text, or the reason why the output is incomplete, is a line on `err`, and the
 /// status is 2. A rejected function is a line there too, and the status is 1; it is also 1 if the
-/// runs of a function and of its code have different outcomes. Otherwise the output is on `out`,
+/// runs of a module and of its code have different outcomes. Otherwise the output is on `out`,
 /// flushed, and the status is 0.
 pub fn answer<R: Read + Drop, O: Write, E: Write>(
     alloc: Global,

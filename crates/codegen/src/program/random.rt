@@ -1,4 +1,4 @@
-//! Randomly generated functions, as texts.
+//! Randomly generated modules, as texts.
 
 ghost use Rattle.std.specs.Prelude.{◌<◌};
 
@@ -36,22 +36,36 @@ const DIVISIONS: [&str; 4] = ["div", "rem", "signed_div", "signed_rem"];
 /// The ends of the names of accesses to memory.
 const ACCESSES: [&str; 4] = ["", "32", "16", "8"];
 
-/// The greatest address of an access. All lower ones are used too, so it has zeros in no bit.
+/// The greatest address of most accesses. All lower ones are used too, so it has zeros in no bit.
 const LAST_ADDRESS: u32 = 63;
 
 /// The size of memory. The greatest access at the greatest address ends there.
 const MEMORY: u32 = LAST_ADDRESS + 8;
 
+/// The greatest address of the accesses that may trap.
+const LAST_WIDE_ADDRESS: u32 = 127;
+
 /// The position of the first condition among the operations.
 const CONDITIONS: usize = 8;
 
-/// A function that is being written. It has three arguments.
+/// The number of arguments of the first function.
+const ARGUMENTS: usize = 3;
+
+/// The greatest depth of calls, which the lower bits of a function's first argument give: it is
+/// passed on less by one.
+const LAST_DEPTH: u32 = 3;
+
+/// A module that is being written, and its current function.
 #[derive(Drop)]
 struct Draft {
     random: Random,
     text: String,
+    /// How many arguments each function has.
+    arities: Vec<usize>,
     /// The virtual registers written on every path to the end of the text so far.
     known: Vec<u32>,
+    /// The vreg with the depth of calls, if the function makes calls.
+    depth: Option<u32>,
     /// The number of vregs.
     num_vregs: u32,
     /// The number of blocks.
@@ -133,10 +147,16 @@ impl Draft {
         Ok(())
     }
 
-    /// Writes an address from the lower bits of a number, and returns it.
+    /// Writes an address from the lower bits of a number, and returns it. It is seldom outside
+    /// memory.
     fn write_address(&mut self) -> Result<u32, AllocError> {
         let (from, address) = (self.pick(), self.new_vreg());
-        writeln!(self.text, "  v{address} = and v{from}, {LAST_ADDRESS}")?;
+        let last = if self.random.once_in(50) {
+            LAST_WIDE_ADDRESS
+        } else {
+            LAST_ADDRESS
+        };
+        writeln!(self.text, "  v{address} = and v{from}, {last}")?;
         Ok(address)
     }
 
@@ -269,14 +289,65 @@ impl Draft {
         Ok(params)
     }
 
+    /// The numbers of the blocks of a call, if the function makes calls.
+    fn new_call(&mut self) -> Option<(u32, [u32; 3])> {
+        let depth = self.depth?;
+        Some((
+            depth,
+            [self.new_block(), self.new_block(), self.new_block()],
+        ))
+    }
+
+    /// Writes a call of any function, unless calls are at their greatest depth, and the block where
+    /// both ways join.
+    fn write_call(&mut self, (depth, blocks): (u32, [u32; 3])) -> Result<(), AllocError> {
+        let ([taken, other, join], count) = (blocks, self.arities.len().max(1));
+        let callee = self.random.below(count);
+        writeln!(
+            self.text,
+            "  branch_if v{depth} block{taken}(), block{other}()\nblock{taken}():"
+        )?;
+        let (less, result, instead) = (self.new_vreg(), self.new_vreg(), self.pick());
+        writeln!(self.text, "  v{less} = sub v{depth}, 1")?;
+        write!(self.text, "  v{result} = call f{callee}(")?;
+        let arity = self.arities.get(callee).copied().unwrap_or(0);
+        if arity > 0 {
+            write!(self.text, "v{less}")?;
+        }
+        for _ in 1..arity {
+            let number = self.pick();
+            write!(self.text, ", v{number}")?;
+        }
+        writeln!(
+            self.text,
+            ")\n  jump block{join}(v{result})\nblock{other}():"
+        )?;
+        let param = self.new_vreg();
+        writeln!(
+            self.text,
+            "  jump block{join}(v{instead})\nblock{join}(v{param}):"
+        )?;
+        self.known.push(param)?;
+        Ok(())
+    }
+
     /// Writes a loop of a few iterations, whose body passes its second parameter on as the second
     /// last.
     fn write_loop(&mut self) -> Result<(), AllocError> {
-        let (head, body, end) = (self.new_block(), self.new_block(), self.new_block());
+        let (head, body) = (self.new_block(), self.new_block());
+        let call = if self.random.once_in(3) {
+            self.new_call()
+        } else {
+            None
+        };
+        let end = self.new_block();
         let [count, _, right] = self.write_head(head, body, end)?;
         let before = self.known.len();
         writeln!(self.text, "block{body}():")?;
         self.write_operations(8)?;
+        if let Some(call) = call {
+            self.write_call(call)?;
+        }
         let (one, next, last) = (self.new_vreg(), self.new_vreg(), self.pick());
         writeln!(self.text, "  v{one} = constant 1")?;
         writeln!(self.text, "  v{next} = sub v{count}, v{one}")?;
@@ -303,31 +374,84 @@ impl Draft {
         writeln!(self.text, "  return v{sum}")?;
         Ok(())
     }
+
+    /// Writes the first block's start: the arguments, and the depth of calls if the function has
+    /// one to give.
+    fn write_arguments(&mut self, arity: usize) -> Result<(), AllocError> {
+        writeln!(self.text, "block0:")?;
+        for index in 0..arity {
+            let to = self.new_vreg();
+            writeln!(self.text, "  v{to} = argument {index}")?;
+            self.known.push(to)?;
+        }
+        if arity == 0 {
+            let to = self.new_vreg();
+            writeln!(self.text, "  v{to} = constant 7")?;
+            self.known.push(to)?;
+        } else if self.arities.len() > 1 {
+            let depth = self.new_vreg();
+            writeln!(self.text, "  v{depth} = and v0, {LAST_DEPTH}")?;
+            self.depth = Some(depth);
+        }
+        Ok(())
+    }
+
+    /// Writes a section of a function: operations, and a fork, a loop or a call.
+    fn write_section(&mut self) -> Result<(), AllocError> {
+        self.write_operations(6)?;
+        let kinds = if self.depth.is_some() { 5 } else { 3 };
+        match self.random.below(kinds) {
+            0 => self.write_fork(),
+            1 => self.write_loop(),
+            2 => Ok(()),
+            _ => match self.new_call() {
+                Some(call) => self.write_call(call),
+                None => Ok(()),
+            },
+        }
+    }
+
+    /// Writes a function of that many arguments, and so many sections.
+    fn write_function(&mut self, arity: usize, sections: usize) -> Result<(), AllocError> {
+        self.known.clear();
+        self.depth = None;
+        self.num_vregs = 0;
+        self.num_blocks = 1;
+        self.write_arguments(arity)?;
+        for _ in 0..sections {
+            self.write_section()?;
+        }
+        self.write_return()
+    }
 }
 
-/// Returns the text of a randomly generated function of three arguments with memory, the same for
-/// the same seed. The function terminates for all arguments.
+/// Returns the text of a randomly generated module with memory, the same for the same seed: up to
+/// four functions, the first of three arguments. A single function has no name. Each terminates for
+/// all arguments, seldom by a trap.
 pub fn random_program(alloc: Global, seed: u64) -> Result<String, AllocError> {
     let mut draft = Draft {
         random: Random::new(seed),
-        text: format!(in alloc; "memory {MEMORY}\nblock0:\n")?,
+        text: format!(in alloc; "memory {MEMORY}\n")?,
+        arities: Vec::new(alloc),
         known: Vec::new(alloc),
+        depth: None,
         num_vregs: 0,
-        num_blocks: 1,
+        num_blocks: 0,
     };
-    for index in 0..3u32 {
-        let to = draft.new_vreg();
-        writeln!(draft.text, "  v{to} = argument {index}")?;
-        draft.known.push(to)?;
+    draft.arities.push(ARGUMENTS)?;
+    for _ in 0..draft.random.below(4) {
+        let arity = draft.random.below(7);
+        draft.arities.push(arity)?;
     }
-    for _ in 0..6 {
-        draft.write_operations(6)?;
-        match draft.random.below(3) {
-            0 => draft.write_fork()?,
-            1 => draft.write_loop()?,
-            _ => {}
-        }
+    let count = draft.arities.len();
+    if count == 1 {
+        draft.write_function(ARGUMENTS, 6)?;
+        return Ok(draft.text);
     }
-    draft.write_return()?;
+    for at in 0..count {
+        let arity = draft.arities.get(at).copied().unwrap_or(0);
+        writeln!(draft.text, "function f{at}({arity}):")?;
+        draft.write_function(arity, 3)?;
+    }
     Ok(draft.text)
 }

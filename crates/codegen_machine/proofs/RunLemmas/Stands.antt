@@ -8,7 +8,7 @@ use Rattle.codegen_machine.specs.Ir.Seen.{Operations}
 use Rattle.codegen_machine.specs.Machine.{CodeValue, MachineState, machine_run, machine_step}
 use Rattle.codegen_machine.specs.Run.Runs.{run_outcome}
 use Rattle.codegen_machine.specs.declared.run.standing.Standing.{Standing}
-use Rattle.codegen_machine.specs.declared.run.standing.Standing.TheVariants.{Running, Returned, Trapped, Stuck}
+use Rattle.codegen_machine.specs.declared.run.standing.Standing.TheVariants.{Running, Returned, Trapped, Overflowed, Stuck}
 
 -- a run that is over keeps its outcome, however many steps follow
 pub over_stays : {S : Type 0} (r : Standing) (s : S) (m : List ℕ) (go : S → RunOutcome S) → (r ≡ Running → ⊥) →
@@ -16,6 +16,7 @@ pub over_stays : {S : Type 0} (r : Standing) (s : S) (m : List ℕ) (go : S → 
 over_stays Running s m go over = absurd (over refl)
 over_stays (Returned n) s m go over = refl
 over_stays Trapped s m go over = refl
+over_stays Overflowed s m go over = refl
 over_stays Stuck s m go over = refl
 
 -- a function's run that is over after some steps is over after more

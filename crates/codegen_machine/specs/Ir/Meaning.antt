@@ -10,7 +10,7 @@ use Rattle.codegen_machine.specs.Ir.Numbers.{RunOutcome, Running, Returned, Trap
 use Rattle.codegen_machine.specs.Ir.Numbers.{condition_holds, widened, truth, is_within, number_at, with_number}
 use Rattle.codegen_machine.specs.declared.ir.operation.Operation.{Operation}
 use Rattle.codegen_machine.specs.declared.ir.operation.Operation.TheVariants.{Argument, Constant, Copy, Compute, Shift, Divide, Compare, Select, Jump, BranchIf, BranchIfHolds}
-use Rattle.codegen_machine.specs.declared.ir.operation.Operation.TheVariants.{Load, Store, Return}
+use Rattle.codegen_machine.specs.declared.ir.operation.Operation.TheVariants.{Load, Store, Call, Return}
 use Rattle.codegen_machine.specs.declared.ir.operation.Count.{Count}
 use Rattle.codegen_machine.specs.declared.ir.operation.Count.TheVariants.{VReg as CountIn, Number as CountOf}
 use Rattle.codegen_machine.specs.declared.ir.operation.Right.{Right}
@@ -52,7 +52,7 @@ abbrev pub count_number : (VirtualRegister → ℕ) → Count → ℕ
 count_number numbers (CountIn v) = numbers v
 count_number numbers (CountOf n) = n
 
--- the effect of a line; the arguments are given by their numbers
+-- the effect of a line within its procedure, which a call leaves; the arguments are given by their numbers
 abbrev pub done : FunctionValue → (ℕ → ℕ) → Option Operation → ProcedureState → RunOutcome ProcedureState
 done f args None s = Stuck
 done f args (Some (Argument to k)) s = onward s to (args k)
@@ -70,6 +70,7 @@ done f args (Some (Load bytes to address)) s =
     if is_within s.memory bytes (s.numbers address) then onward s to (number_at bytes s.memory (s.numbers address)) else Trapped s.memory
 done f args (Some (Store bytes address value)) s =
     if is_within s.memory bytes (s.numbers address) then stored s (with_number bytes s.memory (s.numbers address) (s.numbers value)) else Trapped s.memory
+done f args (Some (Call g to arguments)) s = Stuck
 done f args (Some Jump) s = along f s 0
 done f args (Some (BranchIf v)) s = along f s (if nat_eq (s.numbers v) 0 then 1 else 0)
 done f args (Some (BranchIfHolds w c left right)) s =

@@ -152,11 +152,13 @@ with_number Eight memory a n = with_four (with_four memory a n) (a + 4) (n / 2 ^
 abbrev pub put : (ℕ → ℕ) → ℕ → ℕ → ℕ → ℕ
 put m k n q = if nat_eq k q then n else m q
 
--- the outcome of a run: it still runs, in some state; it has returned a number, and left a memory, byte by byte; it has trapped, and left one; or it is stuck
+-- the outcome of a run: it still runs, in some state; it has returned a number, and left a memory, byte by byte; it has trapped, and left one;
+-- its stack has overflowed; or it is stuck
 pub data RunOutcome (S : Type 0) : Type 0 where
   Running : S → RunOutcome S
   Returned : ℕ → List ℕ → RunOutcome S
   Trapped : List ℕ → RunOutcome S
+  Overflowed : RunOutcome S
   Stuck : RunOutcome S
 
 -- continues if it still runs
@@ -164,4 +166,5 @@ abbrev pub further : {S : Type 0} → RunOutcome S → (S → RunOutcome S) → 
 further (Running s) go = go s
 further (Returned n memory) go = Returned n memory
 further (Trapped memory) go = Trapped memory
+further Overflowed go = Overflowed
 further Stuck go = Stuck

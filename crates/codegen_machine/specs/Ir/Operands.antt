@@ -1,5 +1,5 @@
 -- The operands and clobbers of an operation, as the allocator reads them.
-use Rattle.std.specs.Prelude.{ℕ, Bool, true, false, List, [], ◌∷◌}
+use Rattle.std.specs.Prelude.{ℕ, Bool, true, false, ◌||◌, List, [], ◌∷◌}
 use Rattle.regalloc2_names.specs.Register.{Register, VirtualRegister, is_register}
 use Rattle.regalloc2_names.specs.Operand.{OperandValue}
 use Rattle.regalloc2_names.specs.declared.OperandConstraint.{OperandConstraint}
@@ -9,7 +9,9 @@ use Rattle.regalloc2_names.specs.declared.OperandKind.TheVariants.{Def, Use}
 use Rattle.regalloc2_names.specs.declared.OperandPos.TheVariants.{Early, Late}
 use Rattle.codegen_machine.specs.declared.ir.operation.Operation.{Operation}
 use Rattle.codegen_machine.specs.declared.ir.operation.Operation.TheVariants.{Argument, Constant, Copy, Compute, Shift, Divide, Compare, Select, Jump, BranchIf, BranchIfHolds}
-use Rattle.codegen_machine.specs.declared.ir.operation.Operation.TheVariants.{Load, Store, Return}
+use Rattle.codegen_machine.specs.declared.ir.operation.Operation.TheVariants.{Load, Store, Call, Return}
+use Rattle.codegen_machine.specs.declared.ir.operation.Arguments.{Arguments}
+use Rattle.codegen_machine.specs.declared.ir.operation.Arguments.TheVariants.{Zero, One, Two, Three, Four, Five, Six}
 use Rattle.codegen_machine.specs.declared.ir.operation.DivisionPart.{DivisionPart}
 use Rattle.codegen_machine.specs.declared.ir.operation.DivisionPart.TheVariants.{Quotient, Remainder}
 use Rattle.codegen_machine.specs.declared.ir.operation.Count.{Count}
@@ -49,6 +51,23 @@ divide_operands part to left right = def_in (FixedReg (record { number = part_re
     ∷ use_in (FixedReg (record { number = 0; class = left.class })) left
     ∷ record { vreg = right; constraint = Any; kind = Use; position = Late } ∷ []
 
+-- an argument passed in a register; a call passes its arguments in six of them, in this order
+abbrev pub passed_in : ℕ → VirtualRegister → OperandValue
+passed_in r v = use_in (FixedReg (record { number = r; class = v.class })) v
+
+abbrev pub arguments_in : Arguments → List OperandValue
+arguments_in Zero = []
+arguments_in (One a) = passed_in 7 a ∷ []
+arguments_in (Two a b) = passed_in 7 a ∷ passed_in 6 b ∷ []
+arguments_in (Three a b c) = passed_in 7 a ∷ passed_in 6 b ∷ passed_in 2 c ∷ []
+arguments_in (Four a b c d) = passed_in 7 a ∷ passed_in 6 b ∷ passed_in 2 c ∷ passed_in 1 d ∷ []
+arguments_in (Five a b c d e) = passed_in 7 a ∷ passed_in 6 b ∷ passed_in 2 c ∷ passed_in 1 d ∷ passed_in 8 e ∷ []
+arguments_in (Six a b c d e f) = passed_in 7 a ∷ passed_in 6 b ∷ passed_in 2 c ∷ passed_in 1 d ∷ passed_in 8 e ∷ passed_in 9 f ∷ []
+
+-- and returns its number in register 0
+abbrev pub call_operands : VirtualRegister → Arguments → List OperandValue
+call_operands to arguments = def_in (FixedReg (record { number = 0; class = to.class })) to ∷ arguments_in arguments
+
 abbrev pub operands_of : Operation → List OperandValue
 operands_of (Argument to k) = def_in Reg to ∷ []
 operands_of (Constant to n) = def_in Reg to ∷ []
@@ -60,14 +79,23 @@ operands_of (Compare w c to left right) = def_in Reg to ∷ use_in Reg left ∷ 
 operands_of (Select to c one other) = def_in (Reuse 1) to ∷ use_in Reg one ∷ use_in Any other ∷ use_in Any c ∷ []
 operands_of (Load bytes to address) = def_in Reg to ∷ use_in Reg address ∷ []
 operands_of (Store bytes address value) = use_in Reg address ∷ use_in Reg value ∷ []
+operands_of (Call g to arguments) = call_operands to arguments
 operands_of Jump = []
 operands_of (BranchIf v) = use_in Any v ∷ []
 operands_of (BranchIfHolds w c left right) = use_in Reg left ∷ right_in right
 operands_of (Return v) = use_in Any v ∷ []
 
+-- the registers that a call clobbers, besides that of its result: the caller-saved ones
+abbrev pub is_lost_in_call : Register → Bool
+is_lost_in_call r = is_at 1 || (is_at 2 || (is_at 6 || (is_at 7 || (is_at 8 || (is_at 9 || (is_at 10 || is_at 11))))))
+  where
+    is_at : ℕ → Bool
+    is_at n = is_register (record { number = n; class = Int }) r
+
 -- the clobbers of an operation, besides its definitions: a division clobbers the register of its other result
 abbrev pub is_lost_in : Operation → Register → Bool
 is_lost_in (Divide w part signed to left right) r = is_register (record { number = other_register part; class = Int }) r
+is_lost_in (Call g to arguments) r = is_lost_in_call r
 is_lost_in o r = false
 
 -- the operations that jump to a successor

@@ -1,16 +1,25 @@
 -- The interpreters' states, as states of the specs.
-use Rattle.std.specs.Prelude.{ℕ, ◌≡◌, nat_eq, nat_lt, if◌then◌else◌, Option, None, Some, unwrap_or, slice_index, vec_len}
+use Rattle.std.specs.Prelude.{ℕ, ◌≡◌, ◌∷◌, nat_eq, nat_lt, if◌then◌else◌, List, map, reverse, All, Option, None, Some, unwrap_or, slice_get, slice_index, vec_len}
 use Rattle.std.specs.HashMap.{HashMap, get}
 use Rattle.regalloc2_names.specs.Register.{VirtualRegister}
 use Rattle.regalloc2_names.specs.RegisterBits.{bits_of_vreg}
+use Rattle.codegen_machine.specs.Calls.{FunctionCode, StackState, SuspendedActivation, activated, argument_register, calling, suspended_at, words_taken}
+use Rattle.codegen_machine.specs.Ir.Calls.{CallValue, ModuleState, SuspendedFrame}
 use Rattle.codegen_machine.specs.Ir.Meaning.{ProcedureState}
+use Rattle.codegen_machine.specs.Ir.Modules.{listed}
 use Rattle.codegen_machine.specs.Ir.Numbers.{RunOutcome}
-use Rattle.codegen_machine.specs.Machine.{MachineState, is_general}
+use Rattle.codegen_machine.specs.Machine.{MachineState, code_of, is_general}
 use Rattle.codegen_machine.specs.declared.Source.{Source}
 use Rattle.codegen_machine.specs.declared.Source.TheVariants.{Register, Slot, Number}
-use Rattle.codegen_machine.specs.Run.Runs.{run_outcome}
+use Rattle.codegen_machine.specs.Run.Runs.{arguments_of, empty_stack, run_outcome}
+use Rattle.codegen_machine.specs.declared.NamedCode.{NamedCode}
+use Rattle.codegen_machine.specs.declared.run.frame.Frame.{Frame}
 use Rattle.codegen_machine.specs.declared.run.machine.Machine.{Machine}
+use Rattle.codegen_machine.specs.declared.run.module.Calling.{Calling}
+use Rattle.codegen_machine.specs.declared.run.module.Frames.{Frames}
 use Rattle.codegen_machine.specs.declared.run.procedure.State.{State}
+use Rattle.codegen_machine.specs.declared.run.stack.Activation.{Activation}
+use Rattle.codegen_machine.specs.declared.run.stack.Stack.{Stack}
 use Rattle.codegen_machine.specs.declared.run.standing.Standing.{Standing}
 use Rattle.codegen_machine.specs.declared.run.standing.Standing.TheVariants.{Stuck}
 
@@ -47,3 +56,75 @@ state_of s = record { at = record { block = s.block; inst = s.inst }; numbers = 
 -- the outcome of a run of the interpreter
 abbrev pub procedure_outcome : Standing → State → RunOutcome ProcedureState
 procedure_outcome answer s = run_outcome answer (state_of s) s.memory.items
+
+-- a call, suspended frames, the newest last, and the frames of a module
+abbrev pub call_value : Calling → CallValue
+call_value c = record { function = c.function; to = c.to; arguments = listed c.arguments }
+
+abbrev pub frame_of : Frame → SuspendedFrame
+frame_of f = record {
+  procedure = f.procedure;
+  args = arguments_of f.arguments.items;
+  at = record { block = f.block; inst = f.inst };
+  numbers = numbers_by_vreg f.numbers;
+  to = f.to;
+}
+
+abbrev pub frames_of : List Frame → List SuspendedFrame
+frames_of fs = map frame_of (reverse fs)
+
+abbrev pub frames_state : Frames → ModuleState
+frames_state s = record {
+  procedure = s.procedure;
+  args = arguments_of s.arguments.items;
+  state = state_of s.state;
+  callers = frames_of s.callers.items;
+}
+
+-- the outcome of a run of the interpreter
+abbrev pub frames_outcome : Standing → Frames → RunOutcome ModuleState
+frames_outcome answer s = run_outcome answer (frames_state s) s.state.memory.items
+
+-- a function, suspended activations, the newest last, and a stack of activations, given how many there have been
+abbrev pub function_of : NamedCode → FunctionCode
+function_of f = record { code = code_of f.code; arity = f.arity }
+
+abbrev pub suspended_of : Activation → SuspendedActivation
+suspended_of a = record {
+  function = a.function;
+  args = arguments_of a.arguments.items;
+  pc = a.pc;
+  frame = λ k. slice_index a.frame.items k;
+  registers = λ r. slice_index a.registers r;
+}
+
+abbrev pub suspensions_of : List Activation → List SuspendedActivation
+suspensions_of xs = map suspended_of (reverse xs)
+
+abbrev pub stack_state : ℕ → Stack → StackState
+stack_state n s = record {
+  function = s.function;
+  args = arguments_of s.arguments.items;
+  state = machine_state s.machine;
+  callers = suspensions_of s.callers.items;
+  activations = n;
+}
+
+-- the outcome of a run of the interpreter
+abbrev pub stack_standing : ℕ → Standing → Stack → RunOutcome StackState
+stack_standing n answer s = run_outcome answer (stack_state n s) s.machine.memory.items
+
+-- the step of a call
+abbrev pub instruction_called : List FunctionCode → ℕ → StackState → ℕ → RunOutcome StackState
+instruction_called fs room s g = activated fs (empty_stack room) g (λ k. s.state.registers (argument_register k)) s.state.memory (suspended_at s ∷ s.callers)
+    s.activations (slice_get fs g)
+
+-- the frame of a function's activation has the function's slots
+abbrev pub HasSlots : List FunctionCode → ℕ → ℕ → Type 0
+HasSlots fs g slots = (f : FunctionCode) → slice_get fs g ≡ Some f → slots ≡ f.code.slots
+
+-- the words that the activations take are known, and frames have their functions' slots
+pub record IsSound (fs : List FunctionCode) (s : Stack) : Type 0 where
+  pub words : s.words ≡ words_taken fs (s.function ∷ calling (suspensions_of s.callers.items))
+  pub framed : HasSlots fs s.function (vec_len s.machine.frame)
+  pub callers_framed : All (λ a. HasSlots fs a.function (vec_len a.frame)) s.callers.items

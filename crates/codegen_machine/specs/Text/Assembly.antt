@@ -1,5 +1,5 @@
 -- Instructions as x86-64 assembly in AT&T syntax, in which the source precedes the destination.
-use Rattle.std.specs.Prelude.{ℕ, ◌+◌, Bool, false, nat_eq, if◌then◌else◌, codes, List, [], ◌∷◌, ◌++◌, length, slice_index_or}
+use Rattle.std.specs.Prelude.{ℕ, ◌+◌, ◌%◌, Bool, false, nat_eq, nat_lt, if◌then◌else◌, codes, List, [], ◌∷◌, ◌++◌, length, slice_index_or, string_bytes}
 use Rattle.std.specs.Fmt.{decimal}
 use Rattle.codegen_machine.specs.declared.ir.operation.Operator.{Operator}
 use Rattle.codegen_machine.specs.declared.ir.operation.Operator.TheVariants.{Add, Sub, Mul, And, Or, Xor}
@@ -16,7 +16,8 @@ use Rattle.codegen_machine.specs.declared.Source.{Source}
 use Rattle.codegen_machine.specs.declared.Source.TheVariants.{Register, Slot, Number}
 use Rattle.codegen_machine.specs.declared.Instruction.{Instruction}
 use Rattle.codegen_machine.specs.declared.Instruction.TheVariants as variant
-use Rattle.codegen_machine.specs.declared.Code.{Code}
+use Rattle.codegen_machine.specs.declared.ModuleCode.{ModuleCode}
+use Rattle.codegen_machine.specs.declared.NamedCode.{NamedCode}
 
 -- the registers by number
 abbrev pub register_names : List (List ℕ)
@@ -121,31 +122,36 @@ source_text w (Register r) = name_at w r
 source_text w (Slot k) = frame_slot_text k
 source_text w (Number n) = codes "$" ++ decimal n
 
--- an instruction, as addq %rcx, %rax
-abbrev pub instruction_text : Instruction → List ℕ
-instruction_text (variant.Constant to n) = codes "movabsq $" ++ decimal n ++ codes ", " ++ register_name to
-instruction_text (variant.Clear to) = codes "xorq " ++ register_name to ++ codes ", " ++ register_name to
-instruction_text (variant.Argument to k) = codes "movq 8*" ++ decimal k ++ codes "(%rdi), " ++ register_name to
-instruction_text (variant.Move to from) = codes "movq " ++ register_name from ++ codes ", " ++ register_name to
-instruction_text (variant.Load to k) = codes "movq " ++ frame_slot_text k ++ codes ", " ++ register_name to
-instruction_text (variant.Store k from) = codes "movq " ++ register_name from ++ codes ", " ++ frame_slot_text k
-instruction_text (variant.Compute w o to from) = operator_name o ++ letter w ++ codes " " ++ source_text w from ++ codes ", " ++ name_at w to
-instruction_text (variant.Shift w o to) = shift_name o ++ letter w ++ codes " %cl, " ++ name_at w to
-instruction_text (variant.ShiftBy w o to n) = shift_name o ++ letter w ++ codes " $" ++ decimal n ++ codes ", " ++ name_at w to
-instruction_text (variant.ExtendSign Full) = codes "cqto"
-instruction_text (variant.ExtendSign Half) = codes "cltd"
-instruction_text (variant.Divide w signed from) = division_name signed ++ letter w ++ codes " " ++ source_text w from
-instruction_text (variant.Compare w left right) = codes "cmp" ++ letter w ++ codes " " ++ source_text w right ++ codes ", " ++ name_at w left
-instruction_text (variant.Set to c) = codes "set" ++ condition_letters c ++ codes " " ++ byte_name to ++ codes "; movzbq " ++ byte_name to ++ codes ", "
+-- an operand in the frame behind that many slots
+abbrev pub behind_slots_text : ℕ → ℕ → List ℕ
+behind_slots_text slots k = codes "8*(" ++ decimal slots ++ codes "+" ++ decimal k ++ codes ")(%rsp)"
+
+-- an instruction of a function with that number and that many slots, as addq %rcx, %rax; its arguments are behind the slots
+abbrev pub instruction_text : ℕ → ℕ → Instruction → List ℕ
+instruction_text g slots (variant.Constant to n) = codes "movabsq $" ++ decimal n ++ codes ", " ++ register_name to
+instruction_text g slots (variant.Clear to) = codes "xorq " ++ register_name to ++ codes ", " ++ register_name to
+instruction_text g slots (variant.Argument to k) = codes "movq " ++ behind_slots_text slots k ++ codes ", " ++ register_name to
+instruction_text g slots (variant.Move to from) = codes "movq " ++ register_name from ++ codes ", " ++ register_name to
+instruction_text g slots (variant.Load to k) = codes "movq " ++ frame_slot_text k ++ codes ", " ++ register_name to
+instruction_text g slots (variant.Store k from) = codes "movq " ++ register_name from ++ codes ", " ++ frame_slot_text k
+instruction_text g slots (variant.Compute w o to from) = operator_name o ++ letter w ++ codes " " ++ source_text w from ++ codes ", " ++ name_at w to
+instruction_text g slots (variant.Shift w o to) = shift_name o ++ letter w ++ codes " %cl, " ++ name_at w to
+instruction_text g slots (variant.ShiftBy w o to n) = shift_name o ++ letter w ++ codes " $" ++ decimal n ++ codes ", " ++ name_at w to
+instruction_text g slots (variant.ExtendSign Full) = codes "cqto"
+instruction_text g slots (variant.ExtendSign Half) = codes "cltd"
+instruction_text g slots (variant.Divide w signed from) = division_name signed ++ letter w ++ codes " " ++ source_text w from
+instruction_text g slots (variant.Compare w left right) = codes "cmp" ++ letter w ++ codes " " ++ source_text w right ++ codes ", " ++ name_at w left
+instruction_text g slots (variant.Set to c) = codes "set" ++ condition_letters c ++ codes " " ++ byte_name to ++ codes "; movzbq " ++ byte_name to ++ codes ", "
     ++ register_name to
-instruction_text (variant.MoveIf c to from) = codes "cmov" ++ condition_letters c ++ codes "q " ++ source_text Full from ++ codes ", " ++ register_name to
-instruction_text (variant.Test from) = codes "cmpq $0, " ++ source_text Full from
-instruction_text (variant.Guard a limit) = guard_text a limit
-instruction_text (variant.Read bytes to a) = read_text bytes a ++ read_name bytes to
-instruction_text (variant.Write bytes a from) = write_text bytes from ++ codes ", (%r15," ++ register_name a ++ codes ")"
-instruction_text (variant.Jump target) = codes "jmp .L" ++ decimal target
-instruction_text (variant.JumpIf c target) = codes "j" ++ condition_letters c ++ codes " .L" ++ decimal target
-instruction_text variant.Return = codes "jmp .Lreturn"
+instruction_text g slots (variant.MoveIf c to from) = codes "cmov" ++ condition_letters c ++ codes "q " ++ source_text Full from ++ codes ", " ++ register_name to
+instruction_text g slots (variant.Test from) = codes "cmpq $0, " ++ source_text Full from
+instruction_text g slots (variant.Guard a limit) = guard_text a limit
+instruction_text g slots (variant.Read bytes to a) = read_text bytes a ++ read_name bytes to
+instruction_text g slots (variant.Write bytes a from) = write_text bytes from ++ codes ", (%r15," ++ register_name a ++ codes ")"
+instruction_text g slots (variant.Jump target) = codes "jmp .L" ++ decimal g ++ codes "_" ++ decimal target
+instruction_text g slots (variant.JumpIf c target) = codes "j" ++ condition_letters c ++ codes " .L" ++ decimal g ++ codes "_" ++ decimal target
+instruction_text g slots (variant.Call callee) = codes "call .Lf" ++ decimal callee
+instruction_text g slots variant.Return = codes "jmp .L" ++ decimal g ++ codes "_return"
 
 -- whether an instruction with that number, of that many, is only a jump to the next line
 abbrev pub is_next : ℕ → ℕ → Instruction → Bool
@@ -153,32 +159,107 @@ is_next count k (variant.Jump target) = nat_eq target (k + 1)
 is_next count k variant.Return = nat_eq (k + 1) count
 is_next count k i = false
 
--- the text after a line's label
-abbrev pub line_rest : ℕ → ℕ → Instruction → List ℕ
-line_rest count k i = if is_next count k i then [] else codes " " ++ instruction_text i
+module _ (g slots count : ℕ) where
+  -- the text after a line's label
+  abbrev pub line_rest : ℕ → Instruction → List ℕ
+  line_rest k i = if is_next count k i then [] else codes " " ++ instruction_text g slots i
 
--- a line, with its label; a jump to the next line leaves the rest empty
-abbrev pub line_text : ℕ → ℕ → Instruction → List ℕ
-line_text count k i = codes ".L" ++ (decimal k ++ (codes ":" ++ (line_rest count k i ++ 10 ∷ [])))
+  -- a line, with its label; a jump to the next line leaves the rest empty
+  abbrev pub line_text : ℕ → Instruction → List ℕ
+  line_text k i = codes ".L" ++ (decimal g ++ (codes "_" ++ (decimal k ++ (codes ":" ++ (line_rest k i ++ 10 ∷ [])))))
 
--- the instructions from number k on, of that many, one on each line, with labels by number
-unfoldable pub lines_text : ℕ → ℕ → List Instruction → List ℕ
-lines_text count k [] = []
-lines_text count k (i ∷ rest) = line_text count k i ++ lines_text count (k + 1) rest
+  -- the instructions from number k on, of that many, one on each line, with labels by number
+  unfoldable pub lines_text : ℕ → List Instruction → List ℕ
+  lines_text k [] = []
+  lines_text k (i ∷ rest) = line_text k i ++ lines_text (k + 1) rest
 
--- the start of a function: it pushes the registers that it must preserve for its caller, and keeps the memory's address
-unfoldable pub entry_text : List ℕ
-entry_text = codes "  .globl compiled\ncompiled:\n"
-    ++ codes "  pushq %rbx\n  pushq %rbp\n  pushq %r12\n  pushq %r13\n  pushq %r14\n  pushq %r15\n"
-    ++ codes "  movq %rsi, %r15\n"
+-- a function's name as a symbol; nothing if it is empty
+unfoldable pub symbol_text : List ℕ → List ℕ
+symbol_text [] = []
+symbol_text (c ∷ cs) = codes "  .globl " ++ (c ∷ cs) ++ codes "\n" ++ (c ∷ cs) ++ codes ":\n"
 
--- its end: it pops those registers; and the instruction that traps
-unfoldable pub exit_text : List ℕ
-exit_text = codes "  popq %r15\n  popq %r14\n  popq %r13\n  popq %r12\n  popq %rbp\n  popq %rbx\n  ret\n"
-    ++ codes ".Ltrap:\n  ud2\n"
-    ++ codes "  .section .note.GNU-stack,\"\",@progbits\n"
+-- the words of a function's arguments and slots, made even
+unfoldable pub frame_text : ℕ → ℕ → List ℕ
+frame_text arity slots = decimal arity ++ codes "+" ++ decimal slots ++ codes "+" ++ decimal ((arity % 2 + slots % 2) % 2)
 
--- code as a function: it allocates a frame for the slots, and frees it before it returns
-abbrev pub assembly_text : Code → List ℕ
-assembly_text c = entry_text ++ (codes "  subq $8*" ++ (decimal c.slots ++ (codes ", %rsp\n" ++ (lines_text (length c.instructions.items) 0 c.instructions.items
-    ++ (codes ".Lreturn:\n  addq $8*" ++ (decimal c.slots ++ (codes ", %rsp\n" ++ exit_text)))))))
+-- the registers that pass arguments
+abbrev pub argument_names : List (List ℕ)
+argument_names = codes "%rdi" ∷ codes "%rsi" ∷ codes "%rdx" ∷ codes "%rcx" ∷ codes "%r8" ∷ codes "%r9" ∷ []
+
+abbrev pub argument_name : ℕ → List ℕ
+argument_name k = slice_index_or argument_names k (codes "%none")
+
+-- a function stores its arguments behind its slots; the entry loads those of function 0
+unfoldable pub argument_store_text : ℕ → ℕ → ℕ → List ℕ
+argument_store_text arity slots k =
+    if nat_lt k arity then codes "  movq " ++ argument_name k ++ codes ", " ++ behind_slots_text slots k ++ codes "\n" else []
+
+abbrev pub argument_load_text : ℕ → ℕ → List ℕ
+argument_load_text arity k =
+    if nat_lt k arity then codes "  movq 8*" ++ decimal k ++ codes "(%rax), " ++ argument_name k ++ codes "\n" else []
+
+-- all of them, at most six
+unfoldable pub argument_stores_text : ℕ → ℕ → List ℕ
+argument_stores_text arity slots = store 0 ++ store 1 ++ store 2 ++ store 3 ++ store 4 ++ store 5
+  where
+    store : ℕ → List ℕ
+    store k = argument_store_text arity slots k
+
+abbrev pub argument_loads_text : ℕ → List ℕ
+argument_loads_text arity = load 0 ++ load 1 ++ load 2 ++ load 3 ++ load 4 ++ load 5
+  where
+    load : ℕ → List ℕ
+    load k = argument_load_text arity k
+
+-- the registers that a function must preserve for its caller
+unfoldable pub push_text : List ℕ
+push_text = codes "  pushq %rbx\n  pushq %rbp\n  pushq %r12\n  pushq %r13\n  pushq %r14\n"
+
+unfoldable pub pop_text : List ℕ
+pop_text = codes "  popq %r14\n  popq %r13\n  popq %r12\n  popq %rbp\n  popq %rbx\n  ret\n"
+
+-- The start of a function: it overflows the stack if its activation would exceed the limit, which is below the memory; it pushes registers, allocates its
+-- frame, and stores its arguments. Its end frees the frame.
+abbrev pub limit_text : ℕ → ℕ → ℕ → List ℕ
+limit_text g arity slots = codes ".Lf" ++ (decimal g ++ (codes ":\n  leaq -8*(" ++ (frame_text arity slots
+    ++ codes "+5)(%rsp), %rax\n  cmpq -8(%r15), %rax\n  jb .Loverflow\n")))
+
+abbrev pub entry_text : ℕ → ℕ → List ℕ
+entry_text arity slots =
+    push_text ++ (codes "  subq $8*(" ++ (frame_text arity slots ++ (codes "), %rsp\n" ++ argument_stores_text arity slots)))
+
+abbrev pub exit_text : ℕ → ℕ → ℕ → List ℕ
+exit_text g arity slots =
+    codes ".L" ++ (decimal g ++ (codes "_return:\n  addq $8*(" ++ (frame_text arity slots ++ (codes "), %rsp\n" ++ pop_text))))
+
+unfoldable pub function_text : ℕ → NamedCode → List ℕ
+function_text g c = symbol_text (string_bytes c.name) ++ (limit_text g c.arity c.code.slots ++ (entry_text c.arity c.code.slots
+    ++ (lines_text g c.code.slots (length c.code.instructions.items) 0 c.code.instructions.items ++ exit_text g c.arity c.code.slots)))
+
+-- functions from that number on
+unfoldable pub functions_text : ℕ → List NamedCode → List ℕ
+functions_text g [] = []
+functions_text g (c ∷ rest) = function_text g c ++ functions_text (g + 1) rest
+
+-- how many arguments function 0 has
+abbrev pub first_arity : List NamedCode → ℕ
+first_arity [] = 0
+first_arity (c ∷ rest) = c.arity
+
+-- the start of the entry, which keeps the memory's address, and the stack's limit below the memory: as many words below the stack pointer as the third argument
+unfoldable pub stub_text : List ℕ
+stub_text = codes "  .globl compiled\ncompiled:\n  pushq %r15\n  movq %rsi, %r15\n"
+    ++ codes "  movq %rsp, %rax\n  shrq $3, %rax\n  xorl %ecx, %ecx\n  subq %rdx, %rax\n  cmovbq %rcx, %rax\n  shlq $3, %rax\n"
+    ++ codes "  movq %rax, -8(%r15)\n  movq %rdi, %rax\n"
+
+-- its end, which calls function 0
+unfoldable pub call_text : List ℕ
+call_text = codes "  call .Lf0\n  popq %r15\n  ret\n"
+
+-- the instructions where the code traps and where the stack overflows
+unfoldable pub traps_text : List ℕ
+traps_text = codes ".Ltrap:\n  ud2\n.Loverflow:\n  int3\n  .section .note.GNU-stack,\"\",@progbits\n"
+
+-- a module: the entry, the functions, and the ends of those runs that don't return
+abbrev pub assembly_text : ModuleCode → List ℕ
+assembly_text c = stub_text ++ argument_loads_text (first_arity c.functions.items) ++ call_text ++ functions_text 0 c.functions.items ++ traps_text

@@ -4,7 +4,7 @@ ghost use Rattle.std.specs.Prelude.{◌≡◌, ◌≤◌, ◌∷◌, ◌++◌, I
 ghost use Rattle.std.proofs.Props.{props};
 ghost use Rattle.regalloc2_names.specs.Register.{Register};
 ghost use Rattle.regalloc2_names.specs.RegisterSet.{has_register};
-ghost use Rattle.codegen_machine.specs.Ir.Operands.{count_in, def_in, divide_operands, is_lost_in, operands_of, other_register, part_register, right_in, use_in};
+ghost use Rattle.codegen_machine.specs.Ir.Operands.{call_operands, count_in, def_in, divide_operands, is_lost_in, is_lost_in_call, passed_in, operands_of, other_register, part_register, right_in, use_in};
 ghost use Rattle.codegen_machine.specs.Ir.Once.{operands-once};
 
 use regalloc2::{
@@ -17,6 +17,9 @@ const COUNT_REGISTER: usize = 1;
 
 /// The register from which it reads dividends, and into which it writes quotients.
 const QUOTIENT_REGISTER: usize = 0;
+
+/// The register in which a call returns its number.
+const RESULT_REGISTER: usize = 0;
 
 /// The register into which it writes remainders.
 const REMAINDER_REGISTER: usize = 2;
@@ -123,6 +126,25 @@ pub enum Count {
     VReg(VReg),
     /// A constant.
     Number(u8),
+}
+
+/// The arguments of a call, at most six.
+#[derive(Clone, Copy)]
+pub enum Arguments {
+    /// None.
+    Zero,
+    /// One.
+    One(VReg),
+    /// Two.
+    Two(VReg, VReg),
+    /// Three.
+    Three(VReg, VReg, VReg),
+    /// Four.
+    Four(VReg, VReg, VReg, VReg),
+    /// Five.
+    Five(VReg, VReg, VReg, VReg, VReg),
+    /// Six.
+    Six(VReg, VReg, VReg, VReg, VReg, VReg),
 }
 
 /// The operation of a line.
@@ -234,6 +256,15 @@ pub enum Operation {
         address: VReg,
         /// The number.
         value: VReg,
+    },
+    /// Calls a function of the module, and waits for the number that it returns.
+    Call {
+        /// The function's number.
+        function: usize,
+        /// The vreg it defines.
+        to: VReg,
+        /// The arguments.
+        arguments: Arguments,
     },
     /// Jumps to the only successor of its block.
     Jump,
@@ -349,6 +380,65 @@ fn divide_operands(
     [to, left, right].to_vec(alloc)
 }
 
+/// The operand of an argument, passed in a register.
+fn passed(register: usize, vreg: VReg) -> Operand
+    requires { register ≤ 9 }
+    ensures { result ≡ passed_in register vreg }
+{
+    Operand::reg_fixed_use(vreg, PReg::new(register, vreg.class()))
+}
+
+/// The operands of a call: the result in register 0, the arguments in registers 7, 6, 2, 1, 8 and 9.
+fn call_operands(alloc: Global, to: VReg, arguments: Arguments) -> Result<Vec<Operand>, AllocError>
+    ensures { IfOk result (λ v. v.items ≡ call_operands to arguments) }
+{
+    let to = Operand::reg_fixed_def(to, PReg::new(RESULT_REGISTER, to.class()));
+    match arguments {
+        Arguments::Zero => [to].to_vec(alloc),
+        Arguments::One(a) => [to, passed(7, a)].to_vec(alloc),
+        Arguments::Two(a, b) => [to, passed(7, a), passed(6, b)].to_vec(alloc),
+        Arguments::Three(a, b, c) => {
+            [to, passed(7, a), passed(6, b), passed(2, c)].to_vec(alloc)
+        }
+        Arguments::Four(a, b, c, d) => {
+            let (a, b) = (passed(7, a), passed(6, b));
+            [to, a, b, passed(2, c), passed(1, d)].to_vec(alloc)
+        }
+        Arguments::Five(a, b, c, d, e) => {
+            let (a, b, c) = (passed(7, a), passed(6, b), passed(2, c));
+            [to, a, b, c, passed(1, d), passed(8, e)].to_vec(alloc)
+        }
+        Arguments::Six(a, b, c, d, e, f) => {
+            let (a, b, c) = (passed(7, a), passed(6, b), passed(2, c));
+            let (d, e, f) = (passed(1, d), passed(8, e), passed(9, f));
+            [to, a, b, c, d, e, f].to_vec(alloc)
+        }
+    }
+}
+
+/// The integer register of that number.
+fn one(number: usize) -> PReg
+    requires { number ≤ 15 }
+    ensures { result ≡ record { number = number; class = RegClass.Int } }
+{
+    PReg::new(number, RegClass::Int)
+}
+
+/// The clobbers of a call: the caller-saved registers but that of the result.
+fn call_clobbers() -> PRegSet
+    ensures { (r : Register) → has_register result r ≡ is_lost_in_call r }
+{
+    PRegSet::empty()
+        .with(one(11))
+        .with(one(10))
+        .with(one(9))
+        .with(one(8))
+        .with(one(7))
+        .with(one(6))
+        .with(one(2))
+        .with(one(1))
+}
+
 /// The clobbers of an operation: registers that it overwrites besides its definitions.
 fn clobbers(operation: Operation) -> PRegSet
     ensures { (r : Register) → has_register result r ≡ is_lost_in operation r }
@@ -358,6 +448,7 @@ fn clobbers(operation: Operation) -> PRegSet
             let register = PReg::new(other_register(part), RegClass::Int);
             PRegSet::empty().with(register)
         }
+        Operation::Call { .. } => call_clobbers(),
         _ => PRegSet::empty(),
     }
 }
@@ -430,6 +521,7 @@ fn operands(alloc: Global, operation: &Operation) -> Result<Vec<Operand>, AllocE
         Operation::Store { address, value, .. } => {
             [Operand::reg_use(address), Operand::reg_use(value)].to_vec(alloc)
         }
+        Operation::Call { to, arguments, .. } => call_operands(alloc, to, arguments),
         Operation::Jump => Ok(Vec::new(alloc)),
         Operation::BranchIfHolds { left, right, .. } => {
             and_right(alloc, &[Operand::reg_use(left)], right)

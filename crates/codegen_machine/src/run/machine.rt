@@ -20,21 +20,35 @@ use std::alloc::{AllocError, Global};
 /// last compared, unless an instruction has clobbered them, and memory.
 #[derive(Drop)]
 pub struct Machine {
-    pc: usize,
-    registers: [u64; 16],
-    frame: Vec<u64>,
-    compared: Option<(u64, u64)>,
-    memory: Vec<u8>,
+    pub pc: usize,
+    pub registers: [u64; 16],
+    pub frame: Vec<u64>,
+    pub compared: Option<(u64, u64)>,
+    pub memory: Vec<u8>,
 }
 
 /// Whether a register holds numbers.
 fn is_for_numbers(register: usize) -> bool
     ensures { result ≡ is_general register }
 {
-    register < 15 && register != 4 && register != 7
+    register < 15 && register != 4
 }
 
 impl Machine {
+    /// The state before the first step, with a frame of that many slots.
+    pub fn new(alloc: Global, slots: usize, memory: Vec<u8>) -> Result<Machine, AllocError>
+        ensures state { IfOk result (λ m. machine_state m ≡ first_machine memory.items) }
+        ensures frame { IfOk result (λ m. vec_len m.frame ≡ slots) }
+    {
+        Ok(Machine {
+            pc: 0,
+            registers: [0; 16],
+            frame: zeros(alloc, slots)?,
+            compared: None,
+            memory,
+        })
+    }
+
     /// The number in a register.
     fn register(&self, register: usize) -> Option<u64>
         ensures { result ≡ (if is_general register then Some ((machine_state self.now).registers register) else None) }
@@ -363,12 +377,13 @@ impl Machine {
                 Some(Standing::Running)
             }
             Instruction::JumpIf { condition, target } => self.jump_if(condition, target),
+            Instruction::Call { .. } => None,
             Instruction::Return => Some(Standing::Returned(self.registers[0])),
         }
     }
 
     /// Makes a step.
-    fn step(&mut self, code: &Code, arguments: &[u64]) -> Standing
+    pub fn step(&mut self, code: &Code, arguments: &[u64]) -> Standing
         requires { vec_len self.old.frame ≡ code.now.slots }
         ensures step { machine_step (code_of code.now) (arguments_of arguments.now) (machine_state self.old) ≡ machine_outcome result self.new }
         ensures frame { vec_len self.new.frame ≡ vec_len self.old.frame }
@@ -383,8 +398,9 @@ impl Machine {
 }
 
 /// That many zeros.
-fn zeros(alloc: Global, count: usize) -> Result<Vec<u64>, AllocError>
-    ensures { IfOk result (λ v. v.items ≡ replicate count 0) }
+pub fn zeros(alloc: Global, count: usize) -> Result<Vec<u64>, AllocError>
+    ensures items { IfOk result (λ v. v.items ≡ replicate count 0) }
+    ensures len { IfOk result (λ v. vec_len v ≡ count) }
 {
     vec![in alloc; 0; count]
 }
@@ -400,13 +416,7 @@ pub fn run_code(
 ) -> Result<Run, AllocError>
     ensures { IfOk result (IsMachineRun (machine_run (code_of code.now) (arguments_of arguments.now) steps (first_machine memory.items))) }
 {
-    let mut machine = Machine {
-        pc: 0,
-        registers: [0; 16],
-        frame: zeros(alloc, code.slots)?,
-        compared: None,
-        memory,
-    };
+    let mut machine = Machine::new(alloc, code.slots, memory)?;
     for _step in 0..steps {
         let standing = machine.step(code, arguments);
         match standing {

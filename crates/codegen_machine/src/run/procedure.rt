@@ -21,15 +21,15 @@ use std::collections::HashMap;
 use std::hash::{BuildHasherDefault, FoldHasher};
 
 /// The numbers of the virtual registers written so far, by the vregs' encodings. The others are 0.
-type Numbers = HashMap<u32, u64, BuildHasherDefault<FoldHasher>>;
+pub type Numbers = HashMap<u32, u64, BuildHasherDefault<FoldHasher>>;
 
 /// The current line of a run, the numbers of the vregs, and memory.
 #[derive(Drop)]
 pub struct State {
-    block: usize,
-    inst: usize,
-    numbers: Numbers,
-    memory: Vec<u8>,
+    pub block: usize,
+    pub inst: usize,
+    pub numbers: Numbers,
+    pub memory: Vec<u8>,
 }
 
 /// The number of a vreg.
@@ -39,8 +39,15 @@ fn number_of(numbers: &Numbers, vreg: VReg) -> u64
     numbers.get(&(vreg.bits() as u32)).copied().unwrap_or(0)
 }
 
+/// The numbers of vregs at the start of a frame: all are 0.
+pub fn no_numbers(alloc: Global) -> Numbers
+    ensures { numbers_by_vreg result ≡ (λ v. 0) }
+{
+    HashMap::new(alloc)
+}
+
 /// Puts a number into a vreg.
-fn put(numbers: &mut Numbers, vreg: VReg, number: u64) -> Result<(), AllocError>
+pub fn put(numbers: &mut Numbers, vreg: VReg, number: u64) -> Result<(), AllocError>
     ensures { OnOk result (numbers_by_vreg numbers.new ≡ number_set (numbers_by_vreg numbers.old) vreg number) }
 {
     numbers.insert(vreg.bits() as u32, number)?;
@@ -48,7 +55,7 @@ fn put(numbers: &mut Numbers, vreg: VReg, number: u64) -> Result<(), AllocError>
 }
 
 /// The numbers of vregs.
-fn numbers_at(alloc: Global, numbers: &Numbers, vregs: &[VReg]) -> Result<Vec<u64>, AllocError>
+pub fn numbers_at(alloc: Global, numbers: &Numbers, vregs: &[VReg]) -> Result<Vec<u64>, AllocError>
     ensures { IfOk result (λ ns. ns.items ≡ map (numbers_by_vreg numbers.now) vregs.now) }
 {
     vregs
@@ -97,7 +104,7 @@ fn params_of(procedure: &Procedure, block: usize) -> &[VReg]
 }
 
 /// The number of a block's first line.
-fn first_line(procedure: &Procedure, block: usize) -> usize
+pub fn first_line(procedure: &Procedure, block: usize) -> usize
     ensures { result ≡ (first_of (function_of_procedure procedure.now) block).inst }
 {
     if block >= procedure.num_blocks() {
@@ -108,6 +115,18 @@ fn first_line(procedure: &Procedure, block: usize) -> usize
 }
 
 impl State {
+    /// The state before the first step.
+    pub fn first(alloc: Global, procedure: &Procedure, memory: Vec<u8>) -> State
+        ensures { state_of result ≡ first_state procedure.now memory.items }
+    {
+        State {
+            block: 0,
+            inst: first_line(procedure, 0),
+            numbers: no_numbers(alloc),
+            memory,
+        }
+    }
+
     /// The number of a vreg.
     fn number(&self, vreg: VReg) -> u64
         ensures { result ≡ (state_of self.now).numbers vreg }
@@ -234,7 +253,7 @@ impl State {
     }
 
     /// Makes a step.
-    fn step(
+    pub fn step(
         &mut self,
         alloc: Global,
         procedure: &Procedure,
@@ -330,6 +349,7 @@ impl State {
                 let holds = self.holds(width, condition, left, right);
                 self.enter(alloc, procedure, usize::from(!holds))
             }
+            Operation::Call { .. } => Ok(Standing::Stuck),
             Operation::Return { value } => Ok(Standing::Returned(self.number(value))),
         }
     }
@@ -347,12 +367,7 @@ pub fn run_procedure(
     ensures { IfOk result (IsProcedureRun (procedure_run (function_of_procedure procedure.now) (operations procedure.now)
         (arguments_of arguments.now) steps (first_state procedure.now memory.items))) }
 {
-    let mut state = State {
-        block: 0,
-        inst: first_line(procedure, 0),
-        numbers: HashMap::new(alloc),
-        memory,
-    };
+    let mut state = State::first(alloc, procedure, memory);
     for _step in 0..steps {
         let standing = state.step(alloc, procedure, arguments)?;
         match standing {

@@ -14,6 +14,8 @@ pub enum Standing {
     Returned(u64),
     /// It has trapped.
     Trapped,
+    /// The stack has overflowed.
+    Overflowed,
     /// It is stuck.
     Stuck,
 }
@@ -35,6 +37,7 @@ impl fmt::Display for Standing {
             Standing::Running => f.write_str("still running"),
             Standing::Returned(number) => write!(f, "{number}"),
             Standing::Trapped => f.write_str("trapped"),
+            Standing::Overflowed => f.write_str("stack overflow"),
             Standing::Stuck => f.write_str("stuck"),
         }
     }

@@ -3,46 +3,98 @@
 ghost use Rattle.std.specs.Prelude.{◌≡◌, ◌+◌, ◌++◌, codes, length, nat_eq, Some};
 ghost use Rattle.codegen_machine.specs.Text.Assembly.{byte_name, condition_letters, division_name, half_name, letter, name_at, operator_name, register_name, shift_name};
 ghost use Rattle.codegen_machine.specs.Text.Assembly.{guard_text, read_name, read_text, word_name, write_text};
-ghost use Rattle.codegen_machine.specs.Text.Assembly.{assembly_text, entry_text, exit_text, instruction_text, is_next, line_text, lines_text, source_text};
+ghost use Rattle.codegen_machine.specs.Text.Assembly.{argument_name, argument_load_text, argument_loads_text, argument_store_text, argument_stores_text};
+ghost use Rattle.codegen_machine.specs.Text.Assembly.{assembly_text, call_text, entry_text, exit_text, first_arity, frame_text, function_text, functions_text, pop_text, push_text};
+ghost use Rattle.codegen_machine.specs.Text.Assembly.{instruction_text, is_next, limit_text, line_text, lines_text, source_text, stub_text, symbol_text, traps_text};
 
 use crate::ir::{Bytes, Condition, Operator, ShiftOperator, Width};
-use crate::{Code, Instruction, Source};
+use crate::{Instruction, ModuleCode, NamedCode, Source};
 use std::fmt;
 
-/// The start of the function: pushes the registers that it must preserve for its caller, and keeps
-/// the memory's address.
-#[tactic(auto, unfolding(crate::specs::Text::Assembly::entry_text))]
-fn entry_text() -> &'static str
-    ensures { result.now ≡ entry_text }
+/// The start of the entry: keeps the memory's address, and below it the stack's limit.
+#[tactic(auto, unfolding(crate::specs::Text::Assembly::stub_text))]
+fn stub_text() -> &'static str
+    ensures { result.now ≡ stub_text }
 {
     "  .globl compiled
 compiled:
-  pushq %rbx
+  pushq %r15
+  movq %rsi, %r15
+  movq %rsp, %rax
+  shrq $3, %rax
+  xorl %ecx, %ecx
+  subq %rdx, %rax
+  cmovbq %rcx, %rax
+  shlq $3, %rax
+  movq %rax, -8(%r15)
+  movq %rdi, %rax
+"
+}
+
+/// The end of the entry: calls function 0.
+#[tactic(auto, unfolding(crate::specs::Text::Assembly::call_text))]
+fn call_text() -> &'static str
+    ensures { result.now ≡ call_text }
+{
+    "  call .Lf0
+  popq %r15
+  ret
+"
+}
+
+/// The instructions where the code traps and where the stack overflows.
+#[tactic(auto, unfolding(crate::specs::Text::Assembly::traps_text))]
+fn traps_text() -> &'static str
+    ensures { result.now ≡ traps_text }
+{
+    ".Ltrap:
+  ud2
+.Loverflow:
+  int3
+  .section .note.GNU-stack,\"\",@progbits
+"
+}
+
+/// Pushes the registers that a function must preserve for its caller.
+#[tactic(auto, unfolding(crate::specs::Text::Assembly::push_text))]
+fn push_text() -> &'static str
+    ensures { result.now ≡ push_text }
+{
+    "  pushq %rbx
   pushq %rbp
   pushq %r12
   pushq %r13
   pushq %r14
-  pushq %r15
-  movq %rsi, %r15
 "
 }
 
-/// The end of the function: pops those registers. The instruction that traps follows.
-#[tactic(auto, unfolding(crate::specs::Text::Assembly::exit_text))]
-fn exit_text() -> &'static str
-    ensures { result.now ≡ exit_text }
+/// Pops those registers, and returns.
+#[tactic(auto, unfolding(crate::specs::Text::Assembly::pop_text))]
+fn pop_text() -> &'static str
+    ensures { result.now ≡ pop_text }
 {
-    "  popq %r15
-  popq %r14
+    "  popq %r14
   popq %r13
   popq %r12
   popq %rbp
   popq %rbx
   ret
-.Ltrap:
-  ud2
-  .section .note.GNU-stack,\"\",@progbits
 "
+}
+
+/// The name of the register that passes an argument.
+fn argument_name(index: usize) -> &'static str
+    ensures { result.now ≡ argument_name index }
+{
+    match index {
+        0 => "%rdi",
+        1 => "%rsi",
+        2 => "%rdx",
+        3 => "%rcx",
+        4 => "%r8",
+        5 => "%r9",
+        _ => "%none",
+    }
 }
 
 /// The name of a register.
@@ -282,15 +334,23 @@ impl fmt::Display for WriteText {
     }
 }
 
-/// An instruction as assembly: one machine instruction, but two for `Set` and `Guard`.
+/// An instruction of a function as assembly: one machine instruction, but two for `Set` and `Guard`.
 #[derive(Clone, Copy)]
-pub struct InstructionText(pub Instruction);
+pub struct InstructionText {
+    /// The function's number.
+    pub function: usize,
+    /// How many slots its frame has; its arguments are behind them.
+    pub slots: usize,
+    /// The instruction.
+    pub instruction: Instruction,
+}
 
 impl fmt::Display for InstructionText {
-    ghost output = { λ t. Some (instruction_text t.0) };
+    ghost output = { λ t. Some (instruction_text t.function t.slots t.instruction) };
 
     fn fmt<W: fmt::Write>(&self, f: &mut fmt::Formatter<W>) -> fmt::Result {
-        match self.0 {
+        let (function, slots) = (self.function, self.slots);
+        match self.instruction {
             Instruction::Constant { to, value } => {
                 let to = register_name(to);
                 write!(f, "movabsq ${value}, {to}")
@@ -301,7 +361,7 @@ impl fmt::Display for InstructionText {
             }
             Instruction::Argument { to, index } => {
                 let to = register_name(to);
-                write!(f, "movq 8*{index}(%rdi), {to}")
+                write!(f, "movq 8*({slots}+{index})(%rsp), {to}")
             }
             Instruction::Move { to, from } => {
                 let (to, from) = (register_name(to), register_name(from));
@@ -400,20 +460,23 @@ impl fmt::Display for InstructionText {
                 let text = WriteText(bytes, from, address);
                 write!(f, "{text}")
             }
-            Instruction::Jump { target } => write!(f, "jmp .L{target}"),
+            Instruction::Jump { target } => write!(f, "jmp .L{function}_{target}"),
             Instruction::JumpIf { condition, target } => {
                 let letters = condition_letters(condition);
-                write!(f, "j{letters} .L{target}")
+                write!(f, "j{letters} .L{function}_{target}")
             }
-            Instruction::Return => write!(f, "jmp .Lreturn"),
+            Instruction::Call { function: callee } => write!(f, "call .Lf{callee}"),
+            Instruction::Return => write!(f, "jmp .L{function}_return"),
         }
     }
 }
 
-/// The instruction with that number, of `count` instructions, as a line with its label. A jump to
-/// the next line is omitted.
+/// The instruction with that number, of a function's `count` instructions, as a line with its
+/// label. A jump to the next line is omitted.
 #[derive(Clone, Copy)]
 struct LineText {
+    function: usize,
+    slots: usize,
     count: usize,
     at: usize,
     instruction: Instruction,
@@ -440,30 +503,45 @@ impl LineText {
 }
 
 impl fmt::Display for LineText {
-    ghost output = { λ l. Some (line_text l.count l.at l.instruction) };
+    ghost output = { λ l. Some (line_text l.function l.slots l.count l.at l.instruction) };
 
     fn fmt<W: fmt::Write>(&self, f: &mut fmt::Formatter<W>) -> fmt::Result {
-        let (at, text) = (self.at, InstructionText(self.instruction));
+        let (function, at) = (self.function, self.at);
+        let text = InstructionText {
+            function,
+            slots: self.slots,
+            instruction: self.instruction,
+        };
         if self.is_next() {
-            writeln!(f, ".L{at}:")
+            writeln!(f, ".L{function}_{at}:")
         } else {
-            writeln!(f, ".L{at}: {text}")
+            writeln!(f, ".L{function}_{at}: {text}")
         }
     }
 }
 
-/// Instructions as assembly, one on each line, with labels by number.
+/// The instructions of a function as assembly, one on each line, with labels by number.
 #[derive(Clone, Copy)]
-struct LinesText<'a>(&'a [Instruction]);
+struct LinesText<'a> {
+    function: usize,
+    slots: usize,
+    instructions: &'a [Instruction],
+}
 
 impl fmt::Display for LinesText<'_> {
-    ghost output = { λ t. Some (lines_text (length t.0.now) 0 t.0.now) };
+    ghost output = { λ t. Some (lines_text t.function t.slots (length t.instructions.now) 0 t.instructions.now) };
 
     fn fmt<W: fmt::Write>(&self, f: &mut fmt::Formatter<W>) -> fmt::Result {
-        let LinesText(instructions) = *self;
+        let LinesText {
+            function,
+            slots,
+            instructions,
+        } = *self;
         let count = instructions.len();
         for at in 0..count {
             let line = LineText {
+                function,
+                slots,
                 count,
                 at,
                 instruction: instructions[at],
@@ -474,23 +552,292 @@ impl fmt::Display for LinesText<'_> {
     }
 }
 
-/// Code as a function `compiled`, which C calls as `uint64_t compiled(const uint64_t *arguments,
-/// uint8_t *memory)`. Without memory the second argument isn't used.
-///
-/// It preserves its caller's registers. Its frame has to fit the stack, and the assembler accepts
-/// only argument numbers below 2^28.
+/// The name of a function as a symbol of the assembly; nothing if it is empty.
 #[derive(Clone, Copy)]
-pub struct AssemblyText<'a>(pub &'a Code);
+struct SymbolText<'a>(&'a str);
+
+impl fmt::Display for SymbolText<'_> {
+    ghost output = { λ t. Some (symbol_text t.0.now) };
+
+    #[tactic(auto, unfolding(crate::specs::Text::Assembly::symbol_text))]
+    fn fmt<W: fmt::Write>(&self, f: &mut fmt::Formatter<W>) -> fmt::Result {
+        let name = self.0;
+        if name.is_empty() {
+            f.write_str("")
+        } else {
+            write!(f, "  .globl {name}\n{name}:\n")
+        }
+    }
+}
+
+/// The number of words of a function's arguments and slots, made even, as a sum.
+#[derive(Clone, Copy)]
+struct FrameText {
+    arity: usize,
+    slots: usize,
+}
+
+impl fmt::Display for FrameText {
+    ghost output = { λ t. Some (frame_text t.arity t.slots) };
+
+    #[tactic(auto, unfolding(crate::specs::Text::Assembly::frame_text))]
+    fn fmt<W: fmt::Write>(&self, f: &mut fmt::Formatter<W>) -> fmt::Result {
+        let FrameText { arity, slots } = *self;
+        let odd = (arity % 2 + slots % 2) % 2;
+        write!(f, "{arity}+{slots}+{odd}")
+    }
+}
+
+/// The line that stores an argument behind the slots of a function, if the function has it.
+#[derive(Clone, Copy)]
+struct ArgumentStoreText {
+    arity: usize,
+    slots: usize,
+    index: usize,
+}
+
+impl fmt::Display for ArgumentStoreText {
+    ghost output = { λ t. Some (argument_store_text t.arity t.slots t.index) };
+
+    #[tactic(auto, unfolding(crate::specs::Text::Assembly::argument_store_text))]
+    fn fmt<W: fmt::Write>(&self, f: &mut fmt::Formatter<W>) -> fmt::Result {
+        let (slots, index, from) = (self.slots, self.index, argument_name(self.index));
+        if index < self.arity {
+            write!(f, "  movq {from}, 8*({slots}+{index})(%rsp)\n")
+        } else {
+            f.write_str("")
+        }
+    }
+}
+
+/// The lines that store a function's arguments.
+#[derive(Clone, Copy)]
+struct ArgumentStoresText {
+    arity: usize,
+    slots: usize,
+}
+
+/// The line that stores an argument.
+fn store_of(arity: usize, slots: usize, index: usize) -> ArgumentStoreText
+    ensures arity { result.arity ≡ arity }
+    ensures slots { result.slots ≡ slots }
+    ensures index { result.index ≡ index }
+{
+    ArgumentStoreText {
+        arity,
+        slots,
+        index,
+    }
+}
+
+impl fmt::Display for ArgumentStoresText {
+    ghost output = { λ t. Some (argument_stores_text t.arity t.slots) };
+
+    #[tactic(auto, unfolding(crate::specs::Text::Assembly::argument_stores_text))]
+    fn fmt<W: fmt::Write>(&self, f: &mut fmt::Formatter<W>) -> fmt::Result {
+        let (n, s) = (self.arity, self.slots);
+        let (a, b, c) = (store_of(n, s, 0), store_of(n, s, 1), store_of(n, s, 2));
+        let (d, e, g) = (store_of(n, s, 3), store_of(n, s, 4), store_of(n, s, 5));
+        write!(f, "{a}{b}{c}{d}{e}{g}")
+    }
+}
+
+/// The line that loads an argument of function 0 from the array of arguments, if the function has
+/// it.
+#[derive(Clone, Copy)]
+struct ArgumentLoadText {
+    arity: usize,
+    index: usize,
+}
+
+impl fmt::Display for ArgumentLoadText {
+    ghost output = { λ t. Some (argument_load_text t.arity t.index) };
+
+    fn fmt<W: fmt::Write>(&self, f: &mut fmt::Formatter<W>) -> fmt::Result {
+        let (index, to) = (self.index, argument_name(self.index));
+        if index < self.arity {
+            write!(f, "  movq 8*{index}(%rax), {to}\n")
+        } else {
+            f.write_str("")
+        }
+    }
+}
+
+/// The lines that load the arguments of function 0.
+#[derive(Clone, Copy)]
+struct ArgumentLoadsText(usize);
+
+impl ArgumentLoadsText {
+    /// The line of an argument.
+    fn line(&self, index: usize) -> ArgumentLoadText
+        ensures { result ≡ record { arity = self.now.0; index = index } }
+    {
+        ArgumentLoadText {
+            arity: self.0,
+            index,
+        }
+    }
+}
+
+impl fmt::Display for ArgumentLoadsText {
+    ghost output = { λ t. Some (argument_loads_text t.0) };
+
+    fn fmt<W: fmt::Write>(&self, f: &mut fmt::Formatter<W>) -> fmt::Result {
+        let (a, b, c) = (self.line(0), self.line(1), self.line(2));
+        let (d, e, g) = (self.line(3), self.line(4), self.line(5));
+        write!(f, "{a}{b}{c}{d}{e}{g}")
+    }
+}
+
+/// The label of the function with that number, and the test that its activation doesn't exceed the
+/// stack's limit.
+#[derive(Clone, Copy)]
+struct LimitText {
+    function: usize,
+    arity: usize,
+    slots: usize,
+}
+
+impl fmt::Display for LimitText {
+    ghost output = { λ t. Some (limit_text t.function t.arity t.slots) };
+
+    fn fmt<W: fmt::Write>(&self, f: &mut fmt::Formatter<W>) -> fmt::Result {
+        let LimitText {
+            function,
+            arity,
+            slots,
+        } = *self;
+        let words = FrameText { arity, slots };
+        write!(
+            f,
+            ".Lf{function}:\n  leaq -8*({words}+5)(%rsp), %rax\n  cmpq -8(%r15), %rax\n  jb .Loverflow\n"
+        )
+    }
+}
+
+/// The start of a function: it pushes registers, allocates its frame, and stores its arguments.
+#[derive(Clone, Copy)]
+struct EntryText {
+    arity: usize,
+    slots: usize,
+}
+
+impl fmt::Display for EntryText {
+    ghost output = { λ t. Some (entry_text t.arity t.slots) };
+
+    fn fmt<W: fmt::Write>(&self, f: &mut fmt::Formatter<W>) -> fmt::Result {
+        let EntryText { arity, slots } = *self;
+        let (words, push) = (FrameText { arity, slots }, push_text());
+        let stores = ArgumentStoresText { arity, slots };
+        write!(f, "{push}  subq $8*({words}), %rsp\n{stores}")
+    }
+}
+
+/// The end of the function with that number, which frees its frame.
+#[derive(Clone, Copy)]
+struct ExitText {
+    function: usize,
+    arity: usize,
+    slots: usize,
+}
+
+impl fmt::Display for ExitText {
+    ghost output = { λ t. Some (exit_text t.function t.arity t.slots) };
+
+    fn fmt<W: fmt::Write>(&self, f: &mut fmt::Formatter<W>) -> fmt::Result {
+        let ExitText {
+            function,
+            arity,
+            slots,
+        } = *self;
+        let (words, pop) = (FrameText { arity, slots }, pop_text());
+        write!(f, ".L{function}_return:\n  addq $8*({words}), %rsp\n{pop}")
+    }
+}
+
+/// The function of a module with that number.
+#[derive(Clone, Copy)]
+struct FunctionText<'a>(usize, &'a NamedCode);
+
+impl fmt::Display for FunctionText<'_> {
+    ghost output = { λ t. Some (function_text t.0 t.1.now) };
+
+    #[tactic(auto, unfolding(crate::specs::Text::Assembly::function_text))]
+    fn fmt<W: fmt::Write>(&self, f: &mut fmt::Formatter<W>) -> fmt::Result {
+        let FunctionText(function, named) = *self;
+        let (symbol, arity) = (SymbolText(named.name.as_str()), named.arity);
+        let slots = named.code.slots;
+        let limit = LimitText {
+            function,
+            arity,
+            slots,
+        };
+        let entry = EntryText { arity, slots };
+        let lines = LinesText {
+            function,
+            slots,
+            instructions: named.code.instructions.as_slice(),
+        };
+        let exit = ExitText {
+            function,
+            arity,
+            slots,
+        };
+        write!(f, "{symbol}{limit}{entry}{lines}{exit}")
+    }
+}
+
+/// The functions of a module, one after another.
+#[derive(Clone, Copy)]
+struct FunctionsText<'a>(&'a [NamedCode]);
+
+impl fmt::Display for FunctionsText<'_> {
+    ghost output = { λ t. Some (functions_text 0 t.0.now) };
+
+    fn fmt<W: fmt::Write>(&self, f: &mut fmt::Formatter<W>) -> fmt::Result {
+        let FunctionsText(functions) = *self;
+        for at in 0..functions.len() {
+            let text = FunctionText(at, &functions[at]);
+            write!(f, "{text}")?;
+        }
+        Ok(())
+    }
+}
+
+/// How many arguments function 0 of a module has.
+fn first_arity(functions: &[NamedCode]) -> usize
+    ensures { result ≡ first_arity functions.now }
+{
+    match functions {
+        [first, ..] => first.arity,
+        [] => 0,
+    }
+}
+
+/// A module's code as assembly, with a symbol for each function that has a name and for the entry
+/// `compiled`, which calls function 0 as C's function
+///
+/// ```c
+/// uint64_t compiled(const uint64_t *arguments, uint8_t *memory, uint64_t room);
+/// ```
+///
+/// `arguments` are as many as function 0 has, `memory` as many bytes as the module's memory, behind
+/// eight bytes that the code overwrites, and `room` the words that its activations may take on the
+/// stack. A trap is an illegal instruction (`SIGILL`) or a bad division (`SIGFPE`), a stack overflow
+/// a breakpoint (`SIGTRAP`).
+///
+/// The entry preserves its caller's registers. The functions' own symbols are for debuggers and for
+/// code that keeps the memory's address in `r15` and the stack's limit below it.
+#[derive(Clone, Copy)]
+pub struct AssemblyText<'a>(pub &'a ModuleCode);
 
 impl fmt::Display for AssemblyText<'_> {
     ghost output = { λ t. Some (assembly_text t.0.now) };
 
     fn fmt<W: fmt::Write>(&self, f: &mut fmt::Formatter<W>) -> fmt::Result {
-        let (slots, lines) = (self.0.slots, LinesText(self.0.instructions.as_slice()));
-        let (entry, exit) = (entry_text(), exit_text());
-        write!(
-            f,
-            "{entry}  subq $8*{slots}, %rsp\n{lines}.Lreturn:\n  addq $8*{slots}, %rsp\n{exit}"
-        )
+        let all = self.0.functions.as_slice();
+        let (loads, functions) = (ArgumentLoadsText(first_arity(all)), FunctionsText(all));
+        let (stub, call, traps) = (stub_text(), call_text(), traps_text());
+        write!(f, "{stub}{loads}{call}{functions}{traps}")
     }
 }

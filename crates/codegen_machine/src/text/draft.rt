@@ -1,13 +1,11 @@
-//! The lines of a text read so far, and the function they make.
+//! The lines of a function read so far, and the function they make.
 
-use super::operations::{read_branch, read_store, read_value, read_vreg};
-use crate::ir::{Line, Malformed, Operation, Part, Procedure};
+use super::functions::Functions;
+use super::operations::{Scope, read_branch, read_store, read_value, read_vreg};
+use crate::ir::{Line, Malformed, NamedProcedure, Operation, Part, Procedure};
 use regalloc2::{Block, Inst, InstRange, VReg};
 use regalloc2_text::cursor::{Cursor, Expected, Flaw, Found, Token};
 use std::alloc::Global;
-
-/// The greatest size of a memory: an instruction of x86-64 compares an address with it.
-const LAST_MEMORY: u64 = (1 << 31) - 1;
 
 /// The lines of a block read so far.
 #[derive(Drop)]
@@ -49,12 +47,17 @@ impl DraftBlock {
     }
 
     /// Reads a line of the block.
-    fn read_operation(&mut self, alloc: Global, cursor: &mut Cursor<'_, '_>) -> Operation {
+    fn read_operation(
+        &mut self,
+        alloc: Global,
+        cursor: &mut Cursor<'_, '_>,
+        scope: Scope<'_, '_>,
+    ) -> Operation {
         if self.is_ended {
             cursor.misfit("a block, after the last instruction of one");
         }
         if cursor.begins("v") {
-            return read_value(cursor);
+            return read_value(cursor, scope);
         }
         if let Some(store) = read_store(cursor) {
             return store;
@@ -86,8 +89,10 @@ pub struct Draft {
     blocks: Vec<DraftBlock>,
     /// One more than the greatest number of a vreg in the lines.
     num_vregs: u64,
-    /// The size of memory, once its line is read.
-    memory_size: Option<u64>,
+    /// The function's name, unless it has none.
+    name: String,
+    /// How many arguments it has.
+    arity: usize,
 }
 
 /// That many empty lists.
@@ -128,14 +133,27 @@ fn add_pred(
     }
 }
 
+/// One more than the greatest number of an argument that lines read.
+fn arity_of(lines: &[Line]) -> usize {
+    let mut arity = 0;
+    for line in lines {
+        if let Operation::Argument { index, .. } = line.operation {
+            arity = arity.max(index as usize + 1);
+        }
+    }
+    arity
+}
+
 impl Draft {
-    /// A draft without lines.
-    pub fn new(alloc: Global) -> Self {
+    /// A draft without lines of a function with that name and that many arguments. One without a
+    /// name has as many as its lines read, and at most as many.
+    pub fn new(alloc: Global, name: String, arity: usize) -> Self {
         Draft {
             lines: Vec::new(alloc),
             blocks: Vec::new(alloc),
             num_vregs: 0,
-            memory_size: None,
+            name,
+            arity,
         }
     }
 
@@ -145,23 +163,23 @@ impl Draft {
         u32::try_from(self.lines.len()).unwrap_or(u32::MAX)
     }
 
-    /// Whether the line of memory may come next: once, before the first block.
-    fn awaits_memory(&self) -> bool {
-        self.blocks.is_empty() && self.memory_size.is_none()
+    /// Whether no line of a block has been read.
+    pub fn is_empty(&self) -> bool {
+        self.blocks.is_empty()
     }
 
     /// Reads a line from its tokens.
-    pub fn read_line<'t>(&mut self, alloc: Global, tokens: &[Token<'t>]) -> Result<(), Flaw<'t>> {
-        if tokens.is_empty() {
-            return Ok(());
-        }
+    pub fn read_line<'t>(
+        &mut self,
+        alloc: Global,
+        tokens: &[Token<'t>],
+        functions: &Functions<'t>,
+    ) -> Result<(), Flaw<'t>> {
         let mut cursor = Cursor::new(tokens, self.num_vregs);
         if cursor.begins("block") {
             self.read_block(alloc, &mut cursor);
-        } else if self.awaits_memory() && cursor.has("memory") {
-            self.memory_size = Some(cursor.number(LAST_MEMORY));
         } else {
-            self.read_inst(alloc, &mut cursor);
+            self.read_inst(alloc, &mut cursor, functions);
         }
         self.num_vregs = cursor.num_vregs();
         cursor.finish()
@@ -187,12 +205,16 @@ impl Draft {
     }
 
     /// Reads the line of an operation.
-    fn read_inst(&mut self, alloc: Global, cursor: &mut Cursor<'_, '_>) {
+    fn read_inst(&mut self, alloc: Global, cursor: &mut Cursor<'_, '_>, functions: &Functions<'_>) {
+        let scope = Scope {
+            functions,
+            arity: self.arity,
+        };
         let Some(block) = self.blocks.last_mut() else {
             cursor.fault(Expected::NextBlock(0));
             return;
         };
-        let operation = block.read_operation(alloc, cursor);
+        let operation = block.read_operation(alloc, cursor, scope);
         match Line::new(alloc, operation) {
             Ok(line) => cursor.push(&mut self.lines, line),
             Err(refused) => cursor.fail(refused.into()),
@@ -203,25 +225,35 @@ impl Draft {
         }
     }
 
-    /// The function of all lines.
-    pub fn finish<'t>(self, alloc: Global) -> Result<Procedure, Flaw<'t>> {
+    /// The function of all lines, with a memory of that many bytes.
+    pub fn finish<'t>(self, alloc: Global, memory_size: usize) -> Result<NamedProcedure, Flaw<'t>> {
         let Draft {
             lines,
             blocks,
             num_vregs,
-            memory_size,
+            name,
+            arity,
         } = self;
+        let arity = if name.is_empty() {
+            arity_of(&lines)
+        } else {
+            arity
+        };
         let no_tokens: [Token<'t>; 0] = [];
         let mut cursor = Cursor::new(&no_tokens, 0);
         let preds = predecessors(alloc, &mut cursor, blocks.as_slice());
         let parts = parts(alloc, &mut cursor, blocks, preds);
         cursor.finish()?;
         let made = match Procedure::new(parts, lines, num_vregs as usize) {
-            Ok(procedure) => procedure.with_memory(memory_size.unwrap_or(0) as usize),
+            Ok(procedure) => procedure.with_memory(memory_size),
             Err(malformed) => Err(malformed),
         };
         match made {
-            Ok(procedure) => Ok(procedure),
+            Ok(procedure) => Ok(NamedProcedure {
+                name,
+                arity,
+                procedure,
+            }),
             Err(malformed) => Err(flaw_of(malformed)),
         }
     }

@@ -3,14 +3,22 @@
 ghost use Rattle.std.specs.Prelude.{◌≤◌};
 ghost use Rattle.regalloc2_text.specs.Cursor.Cursor.{tokens_left};
 
+use super::functions::{Callee, Functions};
 use crate::ir::{
-    Bytes, Condition, Count, DivisionPart, Operation, Operator, Right, ShiftOperator, Width,
+    Arguments, Bytes, Condition, Count, DivisionPart, Operation, Operator, Right, ShiftOperator,
+    Width,
 };
 use regalloc2::{RegClass, VReg};
 use regalloc2_text::cursor::Cursor;
 
-/// The greatest number of an argument, whose address an instruction of x86-64 can still name.
-const LAST_ARGUMENT: u64 = (1 << 28) - 1;
+/// What a line of a function may name besides vregs and blocks.
+#[derive(Clone, Copy)]
+pub struct Scope<'a, 't> {
+    /// The functions of the text.
+    pub functions: &'a Functions<'t>,
+    /// How many arguments the function has.
+    pub arity: usize,
+}
 
 /// The greatest second number that an instruction of x86-64 holds as an unsigned immediate.
 const LAST_NUMBER: u64 = (1 << 31) - 1;
@@ -249,13 +257,89 @@ fn read_named(cursor: &mut Cursor<'_, '_>, to: VReg) -> Option<Operation> {
     Some(read_division(cursor, width, division, to))
 }
 
+/// The number of an argument, of at most six.
+fn read_index(cursor: &mut Cursor<'_, '_>, arity: usize) -> u32 {
+    match arity.min(6).checked_sub(1) {
+        Some(last) => cursor.number(last as u64) as u32,
+        None => {
+            cursor.misfit_before("an operation of a function without arguments");
+            0
+        }
+    }
+}
+
+/// What a call expects that doesn't pass so many arguments.
+fn arguments_wanted(arity: usize) -> &'static str {
+    match arity {
+        0 => "no arguments of this function",
+        1 => "1 argument of this function",
+        2 => "2 arguments of this function",
+        3 => "3 arguments of this function",
+        4 => "4 arguments of this function",
+        5 => "5 arguments of this function",
+        _ => "6 arguments of this function",
+    }
+}
+
+/// The arguments of a call, from the bracket on; the vregs past them are any.
+fn read_vregs(cursor: &mut Cursor<'_, '_>, arity: usize) -> [VReg; 6] {
+    let wanted = arguments_wanted(arity);
+    let mut vregs = [VReg::new(0, RegClass::Int); 6];
+    cursor.want("(");
+    for at in 0..arity.min(6) {
+        if at > 0 && !cursor.has(",") {
+            cursor.misfit(wanted);
+        }
+        if cursor.begins(")") {
+            cursor.misfit(wanted);
+        }
+        vregs[at] = read_vreg(cursor);
+    }
+    if !cursor.has(")") {
+        cursor.misfit(wanted);
+    }
+    vregs
+}
+
+/// The first `count` of six vregs as the arguments of a call; all of them from six on.
+fn arguments(count: usize, [a, b, c, d, e, f]: [VReg; 6]) -> Arguments {
+    match count {
+        0 => Arguments::Zero,
+        1 => Arguments::One(a),
+        2 => Arguments::Two(a, b),
+        3 => Arguments::Three(a, b, c),
+        4 => Arguments::Four(a, b, c, d),
+        5 => Arguments::Five(a, b, c, d, e),
+        _ => Arguments::Six(a, b, c, d, e, f),
+    }
+}
+
+/// A call, from the function's name on.
+fn read_call(cursor: &mut Cursor<'_, '_>, functions: &Functions<'_>, to: VReg) -> Operation {
+    let name = cursor.peek().unwrap_or("");
+    let Some(Callee { function, arity }) = functions.named(name) else {
+        cursor.misfit("a function of the text");
+        return Operation::Copy { to, from: to };
+    };
+    cursor.advance();
+    let arguments = arguments(arity, read_vregs(cursor, arity));
+    Operation::Call {
+        function,
+        to,
+        arguments,
+    }
+}
+
 /// The operation that writes a vreg, from the register on.
-pub fn read_value(cursor: &mut Cursor<'_, '_>) -> Operation {
+pub fn read_value(cursor: &mut Cursor<'_, '_>, scope: Scope<'_, '_>) -> Operation {
     let to = read_vreg(cursor);
     cursor.want("=");
     if cursor.has("argument") {
-        let index = cursor.number(LAST_ARGUMENT) as u32;
+        let index = read_index(cursor, scope.arity);
         return Operation::Argument { to, index };
+    }
+    if cursor.has("call") {
+        return read_call(cursor, scope.functions, to);
     }
     if cursor.has("copy") {
         let from = read_vreg(cursor);
@@ -274,7 +358,7 @@ pub fn read_value(cursor: &mut Cursor<'_, '_>) -> Operation {
     }
     if !cursor.has("constant") {
         cursor.misfit(
-            "an operation: `argument`, `constant`, `copy`, `select`, `load`, an operator as `add`, or a condition as `less`",
+            "an operation: `argument`, `constant`, `copy`, `select`, `load`, `call`, an operator as `add`, or a condition as `less`",
         );
     }
     let value = cursor.number(u64::MAX);

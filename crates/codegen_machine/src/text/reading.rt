@@ -1,10 +1,11 @@
-//! A function from a text.
+//! A module from a text.
 
 ghost use Rattle.std.specs.Prelude.{◌+◌, ◌≤◌, length, IfErr, IfOk};
 ghost use Rattle.regalloc2_text.specs.Cursor.Lines.{IsOnLineBetween};
 
-use super::draft::Draft;
-use crate::ir::Procedure;
+use super::functions::Functions;
+use super::module::ModuleDraft;
+use crate::ir::Module;
 use regalloc2_text::cursor::{TextError, Token, split_line, tokenize};
 use std::alloc::Global;
 
@@ -12,7 +13,7 @@ use std::alloc::Global;
 /// the number of the last.
 fn read_lines<'t>(
     alloc: Global,
-    draft: &mut Draft,
+    draft: &mut ModuleDraft<'t>,
     text: &'t str,
     first_line: usize,
 ) -> Result<usize, TextError<'t>>
@@ -38,26 +39,32 @@ fn read_lines<'t>(
     Ok(line)
 }
 
-/// Reads a function from a text whose first line has the number `first_line`.
+/// Reads a module from a text whose first line has the number `first_line`. A text that names no
+/// function is a module of one, whose name is empty.
 ///
-/// The error names the first line that can't be read, or is `Memory` if an allocation failed. An
-/// error names a line of the text and a column from 1 on; the contract bounds its line by the
-/// text's length in bytes. The function isn't checked to be well-formed. The contract doesn't
-/// specify the function that is read: tests check that.
-pub fn read_procedure<'t>(
+/// The error names the first line of a function that can't be read, or else the first line that
+/// can't be read, or is `Memory` if an allocation failed. An error names a line of the text and a
+/// column from 1 on; the contract bounds its line by the text's length in bytes. The functions
+/// aren't checked to be well-formed. The contract doesn't specify the module that is read: tests
+/// check that.
+pub fn read_module<'t>(
     alloc: Global,
     text: &'t str,
     first_line: usize,
-) -> Result<Procedure, TextError<'t>>
+) -> Result<Module, TextError<'t>>
     ensures { IfErr result (λ e. IsOnLineBetween first_line (first_line + length text.now) e) }
 {
-    let mut draft = Draft::new(alloc);
+    let functions = match Functions::of(alloc, text, first_line) {
+        Ok(functions) => functions,
+        Err(error) => return Err(error),
+    };
+    let mut draft = ModuleDraft::new(alloc, functions);
     let line = match read_lines(alloc, &mut draft, text, first_line) {
         Ok(line) => line,
         Err(error) => return Err(error),
     };
     match draft.finish(alloc) {
-        Ok(procedure) => Ok(procedure),
+        Ok(module) => Ok(module),
         Err(flaw) => Err(flaw.on_line(line)),
     }
 }

@@ -1,18 +1,49 @@
-use Rattle.std.proofs.Common.{sym, subst}
-use Rattle.regalloc2_function.specs.Views.{machine_of, output_of}
-use Rattle.codegen_machine.specs.Ir.Seen.{function_of_procedure}
-use Rattle.codegen_machine.specs.Machine.{CodeValue}
-use Rattle.codegen.specs.Behaves.{BehavesAs}
-use Rattle.codegen.proofs.Joined.{behaves}
-use Rattle.codegen.proofs.Premises.{emitted_is}
+use Rattle.std.proofs.Common.{ℕ, ◌≡◌, ◌<◌, length, sym, subst, refl, ◌∙◌, ap, arith, take}
+use Rattle.std.proofs.lemmas.Option.{slice_get_read}
+use Rattle.std.proofs.lemmas.Result.{err_from_is_err_and}
+use Rattle.std.proofs.lemmas.List.{length-map}
+use Rattle.std.specs.Prelude.{slice_get, Some, map, string_bytes}
+use Rattle.codegen_machine.specs.Calls.{functions_of}
+use Rattle.codegen.specs.Reasons.{IsModuleReason}
+use Rattle.codegen.proofs.Compiling.{none_compiled, one_compiled, one_name, one_rejected, all_names}
+use Rattle.codegen.proofs.Modules.{AreCompiled}
+use Rattle.codegen.proofs.Whole.{module_behaves}
 use Rattle.codegen.proofs.compiler.compile.Goals as goal
 
-pub returns-in-Ok-emit-clause-behaves : goal.returns-in-Ok-emit-clause-behaves
-returns-in-Ok-emit-clause-behaves c =
-    let p = c.args.f.now in
-    let env = machine_of c.target-env.result in
-    let out = output_of c.in-Ok.out in
-    let given = c.in-Ok.ensures in
-    let is = emitted_is p env out c.target-env.ensures given.tested given.allocation in
-    let alike = c.runs_alike.ensures.well_formed (function_of_procedure p) env out given.tested given.runs.faithful in
-    subst (λ (code : CodeValue). BehavesAs p code) (sym c.in-Ok-emit.ensures) (behaves p out _ _ is alike)
+pub loop-g-init : goal.loop-g-init
+loop-g-init c =
+    let ps = c.args.m.now.procedures.items in
+    (rw c.new-functions.ensures.items (none_compiled ps), rw c.new-functions.ensures.items refl)
+
+pub loop-g-preserved : goal.loop-g-preserved
+loop-g-preserved c =
+    let ps = c.args.m.now.procedures.items in
+    let p = c.index.result.now in
+    let less : c.loop-g.g < length ps = omega (arith, c.loop-g-test.true, c.len-g-end.ensures, c.args.m.now.procedures.ok.0) in
+    let at : slice_get ps c.loop-g.g ≡ Some p = slice_get_read ps (length ps) c.loop-g.g p refl less c.index.ensures in
+    let made = c.in_ok-function.ensures.code in (
+      one_compiled ps _ _ p c.in_ok-function.function c.loop-g.g c.loop-g.invariant.0 at c.in_ok-add.ensures.added made,
+      one_name ps _ _ p c.in_ok-function.function c.loop-g.g c.loop-g.invariant.1 at c.in_ok-add.ensures.added made.2,
+    )
+
+pub returns-clause-behaves : goal.returns-clause-behaves
+returns-clause-behaves c =
+    let m = c.args.m.now in
+    let all : c.loop-g.g ≡ length m.procedures.items = omega (arith, c.loop-g-test.false, c.len-g-end.ensures, m.procedures.ok.0) in
+    module_behaves m (functions_of c.loop-g.functions.items)
+    (subst (λ (n : ℕ). AreCompiled m.procedures.items (functions_of c.loop-g.functions.items) n) all c.loop-g.invariant.0)
+
+pub returns-clause-names : goal.returns-clause-names
+returns-clause-names c =
+    let ps = c.args.m.now.procedures.items in
+    let all : c.loop-g.g ≡ length ps = omega (arith, c.loop-g-test.false, c.len-g-end.ensures, c.args.m.now.procedures.ok.0) in
+    c.loop-g.invariant.1 ∙ all_names (map (λ p. string_bytes p.name) ps) c.loop-g.g (all ∙ sym (length-map ps (λ p. string_bytes p.name)))
+
+pub returns-in_err-function-clause-refused : goal.returns-in_err-function-clause-refused
+returns-in_err-function-clause-refused c =
+    let ps = c.args.m.now.procedures.items in
+    let p = c.index.result.now in
+    let less : c.loop-g.g < length ps = omega (arith, c.loop-g-test.true, c.len-g-end.ensures, c.args.m.now.procedures.ok.0) in
+    let at : slice_get ps c.loop-g.g ≡ Some p = slice_get_read ps (length ps) c.loop-g.g p refl less c.index.ensures in
+    let e = err_from_is_err_and c.from_residual.result c.from_residual.ensures.1 in
+    rw e.1 (subst (IsModuleReason ps) (sym e.2) (one_rejected ps c.loop-g.g p _ at c.in_err-function.ensures.refused))

@@ -2,9 +2,9 @@ use Rattle.std.specs.Prelude.{ℕ, ◌≡◌, ◌<◌, true, slice_index_or}
 use Rattle.regalloc2_names.specs.Register.{Register}
 use Rattle.regalloc2_names.specs.RegisterSet.{has_register}
 use Rattle.regalloc2_names.specs.declared.RegClass.TheVariants.{Int}
-use Rattle.codegen_machine.specs.Machine.{is_general}
+use Rattle.codegen.specs.Pinned.{is_allocated}
 use Rattle.codegen.proofs.registers.registers.Given as goal
 
 abbrev pub invariant-loop-number : goal.invariant-loop-number
-invariant-loop-number l = ((r : Register) → has_register l.set r ≡ true → (r.class ≡ Int) × (is_general r.number ≡ true))
+invariant-loop-number l = ((r : Register) → has_register l.set r ≡ true → (r.class ≡ Int) × (is_allocated r.number ≡ true))
     × ((k d : ℕ) → k < l.number-index → has_register l.set (record { number = slice_index_or l.numbers k d; class = Int }) ≡ true)

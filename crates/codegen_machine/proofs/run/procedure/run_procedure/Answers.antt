@@ -1,26 +1,18 @@
-use Rattle.std.proofs.Common.{ℕ, ◌≡◌, refl, sym, ap, ◌∙◌, arith}
-use Rattle.regalloc2_names.specs.Register.{VirtualRegister}
+use Rattle.std.proofs.Common.{◌≡◌, refl, sym, ap, ◌∙◌, arith}
 use Rattle.codegen_machine.specs.Ir.Meaning.{ProcedureState, procedure_run}
-use Rattle.codegen_machine.specs.Ir.Numbers.{RunOutcome, Running}
+use Rattle.codegen_machine.specs.Ir.Numbers.{Running}
 use Rattle.codegen_machine.specs.Ir.Seen.{function_of_procedure, operations}
 use Rattle.codegen_machine.specs.Run.Runs.{arguments_of, first_state, run_outcome}
 use Rattle.codegen_machine.specs.Run.States.{state_of}
 use Rattle.codegen_machine.specs.declared.run.standing.Standing.TheVariants as stand
 use Rattle.codegen_machine.proofs.RunLemmas.Stands.{run_none, run_more, run_ends}
-use Rattle.codegen_machine.proofs.RunLemmas.Written.{none_kept}
 use Rattle.codegen_machine.proofs.run.procedure.run_procedure.Goals as goal
 
 pub loop-step-init : goal.loop-step-init
 loop-step-init c =
     let p = c.args.procedure.now in
-    let begun : ℕ → (VirtualRegister → ℕ) → RunOutcome ProcedureState = λ n m. Running (record {
-      at = record { block = 0; inst = n };
-      numbers = m;
-      memory = c.args.memory.items;
-    }) in
     run_none (function_of_procedure p) (operations p) (arguments_of c.args.arguments.now) (first_state p c.args.memory.items)
-    ∙ ap (λ n. begun n (λ v. 0)) (sym c.first_line.ensures)
-    ∙ ap (begun c.first_line.result) (sym (none_kept c.new.result c.new.ensures.empty))
+    ∙ ap (λ (s : ProcedureState). Running s) (sym c.first-state.ensures)
 
 pub returns-in_default : goal.returns-in_default
 returns-in_default c =

@@ -11,11 +11,16 @@ loop-at-init g c = λ p. rw lines_none (search rules)
 
 pub loop-at-preserved : goal.loop-at-preserved
 loop-at-preserved g c = λ p.
-    let all = c.args.self.now.0.now in
+    let all = c.args.self.now.instructions.now in
+    let function = c.args.self.now.function in
+    let slots = c.args.self.now.slots in
     let k = c.loop-at.at in
-    let line : HasWritten g.W.Write.write_str_gives c.loop-at.f (line_text (length all) k (get_or all k (Constant 0 0))) c.write.new.self = search rules in
-    has_written_of_eq _ _ _ _ _ (lines_next (length all) all k (Constant 0 0) c.loop-at-test.true) (has_written_append _ _ _ _ _ _ (c.loop-at.invariant p) line)
+    let line : HasWritten g.W.Write.write_str_gives c.loop-at.f (line_text function slots (length all) k (get_or all k (Constant 0 0))) c.write.new.self = search rules in
+    has_written_of_eq _ _ _ _ _ (lines_next function slots (length all) all k (Constant 0 0) c.loop-at-test.true) (has_written_append _ _ _ _ _ _ (c.loop-at.invariant p) line)
 
 pub returns-clause-writes : goal.returns-clause-writes
 returns-clause-writes g c = λ p e.
-    has_written_of_eq _ _ _ _ _ (lines_all (length c.args.self.now.0.now) c.args.self.now.0.now c.loop-at.at c.loop-at-test.false) (c.loop-at.invariant p)
+    let all = c.args.self.now.instructions.now in
+    let function = c.args.self.now.function in
+    let slots = c.args.self.now.slots in
+    has_written_of_eq _ _ _ _ _ (lines_all function slots (length all) all c.loop-at.at c.loop-at-test.false) (c.loop-at.invariant p)

@@ -1,0 +1,440 @@
+-- A call within a procedure. Up to it, the machine runs the call's moves, and the arguments are in their registers. Once the callee has returned, the numbers of
+-- registers and slots are those of the caller's places again, by the choice that leaves what the callee left in caller-saved registers.
+use Rattle.std.proofs.Common.{ℕ, zero, suc, ◌≡◌, ◌+◌, ◌<◌, ◌≤◌, ◌⊎◌, inl, inr, Bool, true, false, cond, not, List, [], ◌∷◌, ◌++◌, map, length, Option, Some, None}
+use Rattle.std.proofs.Common.{refl, sym, ap, ◌∙◌, subst, arith, nat_eq, lt-ltb, ltb-true, eqb-true}
+use Rattle.std.proofs.lemmas.Bool.{and_parts}
+use Rattle.std.specs.Prelude.{◌&&◌, ◌||◌, nat_lt, slice_get, slice_index, slice_index_or, option_map}
+use Rattle.regalloc2_names.specs.declared.RegClass.TheVariants.{Int}
+use Rattle.regalloc2_names.specs.declared.sets.PRegSet.{PRegSet}
+use Rattle.regalloc2_names.specs.Register.{Register, VirtualRegister}
+use Rattle.regalloc2_names.specs.RegisterSet.{has_register}
+use Rattle.regalloc2_names.specs.Operand.{OperandValue, is_reading}
+use Rattle.regalloc2_names.specs.Place.{Place, NoPlace, InRegister, InSlot}
+use Rattle.regalloc2_function.specs.FunctionValue.{FunctionValue, block_at, inst_at}
+use Rattle.regalloc2_function.specs.OutputValue.{OutputValue, allocs_of, place_at}
+use Rattle.regalloc2_function.specs.Path.{Location, Way, Onward, next_of}
+use Rattle.regalloc2_function.specs.Listing.{ListedInst, listing_from}
+use Rattle.regalloc2_function.specs.AllocatedRun.{moves_at}
+use Rattle.regalloc2_semantics.specs.Values.Interpreters.{State, edge_to, read_by, number_set, numbers_defined, passed_over, way_on}
+use Rattle.regalloc2_semantics.specs.Values.Interpreters.{place_set, numbers_moved, written_to, numbers_clobbered}
+use Rattle.codegen_machine.specs.Ir.Numbers.{put}
+use Rattle.codegen_machine.specs.Ir.Operands.{arguments_in, call_operands, is_lost_in, is_lost_in_call, operands_of, passed_in}
+use Rattle.codegen_machine.specs.Ir.Modules.{listed}
+use Rattle.codegen_machine.specs.Ir.Meaning.{ProcedureState}
+use Rattle.codegen_machine.specs.Ir.Seen.{Operations}
+use Rattle.codegen_machine.specs.declared.ir.operation.Arguments.{Arguments}
+use Rattle.codegen_machine.specs.declared.ir.operation.Arguments.TheVariants.{Zero, One, Two, Three, Four, Five, Six}
+use Rattle.codegen_machine.specs.declared.ir.operation.Operation.{Operation}
+use Rattle.codegen_machine.specs.declared.ir.operation.Operation.TheVariants.{Call as Calling}
+use Rattle.codegen_machine.specs.declared.Instruction.TheVariants.{Call}
+use Rattle.codegen_machine.specs.Calls.{argument_register, argument_registers, is_caller_saved, registers_returned}
+use Rattle.codegen_machine.specs.Machine.{CodeValue, MachineState, is_general}
+use Rattle.codegen.specs.Pinned.{is_allocated, slot_place}
+use Rattle.codegen.specs.Emitted.{operation_at, operation_code, items_code}
+use Rattle.codegen.proofs.Premise.{AreRead, ArePassed, IsPlaced, IsPlain, IsCall, IsEnd, IsEmitted}
+use Rattle.codegen.proofs.Choices.{Choice, leavings, source_reads, source_after, found_reads, place_after, place_next, Together, StepsOn, AlikeByChoices}
+use Rattle.codegen.proofs.Runs.{Comes}
+use Rattle.codegen.proofs.Stands.{StandAt}
+use Rattle.codegen.proofs.Places.{Agree, Moved, holds_number, number_in, register_place}
+use Rattle.codegen.proofs.Divisions.{place_is}
+use Rattle.codegen.proofs.Simulation.{after_moves, behind, found, inside, places_of, reads, stands_there, succs_of, through}
+use Rattle.codegen.proofs.Source.{seen}
+use Rattle.codegen.proofs.Steps.{reads_at}
+use Rattle.codegen.proofs.Joined.{AreJoined}
+
+-- the numbers that a callee leaves in registers, as those of places
+abbrev left_in : (ℕ → ℕ) → Place → ℕ
+left_in registers NoPlace = 0
+left_in registers (InRegister r) = registers r.number
+left_in registers (InSlot k) = 0
+
+-- an allocated register has a small number
+one_holds : (a b c : Bool) → (a || (b && c)) ≡ true → (a ≡ true) ⊎ (c ≡ true)
+one_holds true b c e = inl refl
+one_holds false true true e = inr refl
+one_holds false true false e = absurd cc
+one_holds false false c e = absurd cc
+
+allocated_small : (n : ℕ) → is_allocated n ≡ true → n < 12
+allocated_small n e = elim (one_holds (nat_lt n 3) (nat_lt 5 n) (nat_lt n 12) (and_parts (is_general n) _ e).1) [
+  | inl first ↦ (let less : n < 3 = ltb-true n 3 first in omega arith)
+  | inr last ↦ ltb-true n 12 last
+]
+
+-- of the allocated registers, a call clobbers the caller-saved ones, besides that of its result
+lost_is : (n : ℕ) → n < 12 → is_lost_in_call (record { number = n; class = Int }) ≡ (is_caller_saved n && not (nat_eq 0 n))
+lost_is zero less = refl
+lost_is (suc zero) less = refl
+lost_is (suc (suc zero)) less = refl
+lost_is (suc (suc (suc zero))) less = refl
+lost_is (suc (suc (suc (suc zero)))) less = refl
+lost_is (suc (suc (suc (suc (suc zero))))) less = refl
+lost_is (suc (suc (suc (suc (suc (suc zero)))))) less = refl
+lost_is (suc (suc (suc (suc (suc (suc (suc zero))))))) less = refl
+lost_is (suc (suc (suc (suc (suc (suc (suc (suc zero)))))))) less = refl
+lost_is (suc (suc (suc (suc (suc (suc (suc (suc (suc zero))))))))) less = refl
+lost_is (suc (suc (suc (suc (suc (suc (suc (suc (suc (suc zero)))))))))) less = refl
+lost_is (suc (suc (suc (suc (suc (suc (suc (suc (suc (suc (suc zero))))))))))) less = refl
+lost_is (suc (suc (suc (suc (suc (suc (suc (suc (suc (suc (suc (suc n)))))))))))) less = absurd (omega arith)
+
+zero_saved : (n : ℕ) → nat_eq 0 n ≡ true → is_caller_saved n ≡ true
+zero_saved n e = let none : 0 ≡ n = eqb-true 0 n e in ap (λ (k : ℕ). is_caller_saved k) (sym none)
+
+-- slots aren't in caller-saved registers
+slots_saved : (saved last frame : ℕ → ℕ) (k : ℕ) → number_in (registers_returned saved last) frame (slot_place k) ≡ number_in saved frame (slot_place k)
+slots_saved saved last frame zero = refl
+slots_saved saved last frame (suc zero) = refl
+slots_saved saved last frame (suc (suc zero)) = refl
+slots_saved saved last frame (suc (suc (suc zero))) = refl
+slots_saved saved last frame (suc (suc (suc (suc zero)))) = refl
+slots_saved saved last frame (suc (suc (suc (suc (suc k))))) = refl
+
+given_back : (saved is_result lost : Bool) (v l s f : ℕ) → lost ≡ (saved && not is_result) → (is_result ≡ true → saved ≡ true) → s ≡ f →
+    cond saved (cond is_result v l) s ≡ cond lost (cond is_result v l) (cond is_result v f)
+given_back true true lost v l s f e h g = ap (λ (b : Bool). cond b v v) (sym e)
+given_back true false lost v l s f e h g = ap (λ (b : Bool). cond b l f) (sym e)
+given_back false true lost v l s f e h g = let both : false ≡ true = h refl in absurd cc
+given_back false false lost v l s f e h g = g ∙ ap (λ (b : Bool). cond b l f) (sym e)
+
+-- after a return, the numbers are those of the caller's places
+back_agrees : (set : PRegSet) → ((r : Register) → has_register set r ≡ is_lost_in_call r) → (saved left frame : ℕ → ℕ) (v : ℕ) (numbers : Place → ℕ) →
+    Agree saved frame numbers →
+    Agree (registers_returned saved (put left 0 v)) frame (numbers_clobbered set (left_in (put left 0 v)) (place_set numbers (register_place 0) v))
+unfolding numbers_clobbered place_set
+back_agrees set has saved left frame v numbers a = record {
+  in_registers = λ n allocated.
+      given_back (is_caller_saved n) (nat_eq 0 n) (has_register set (record { number = n; class = Int })) v (left n) (saved n) (numbers (register_place n))
+      (has (record { number = n; class = Int }) ∙ lost_is n (allocated_small n allocated)) (zero_saved n) (a.in_registers n allocated);
+  in_slots = λ k. slots_saved saved (put left 0 v) frame k ∙ a.in_slots k;
+}
+
+-- a call's uses, each in its register
+abbrev uses_in : List ℕ → List VirtualRegister → List OperandValue
+uses_in rs [] = []
+uses_in [] (v ∷ vs) = []
+uses_in (r ∷ rs) (v ∷ vs) = passed_in r v ∷ uses_in rs vs
+
+arguments_are : (a : Arguments) → arguments_in a ≡ uses_in argument_registers (listed a)
+arguments_are Zero = refl
+arguments_are (One a) = refl
+arguments_are (Two a b) = refl
+arguments_are (Three a b c) = refl
+arguments_are (Four a b c d) = refl
+arguments_are (Five a b c d e) = refl
+arguments_are (Six a b c d e f) = refl
+
+few_arguments : (a : Arguments) → length (listed a) ≤ 6
+few_arguments Zero = omega arith
+few_arguments (One a) = omega arith
+few_arguments (Two a b) = omega arith
+few_arguments (Three a b c) = omega arith
+few_arguments (Four a b c d) = omega arith
+few_arguments (Five a b c d e) = omega arith
+few_arguments (Six a b c d e f) = omega arith
+
+-- uses define nothing
+none_defined : (w : ℕ → ℕ) (k : ℕ) (rs : List ℕ) (vs : List VirtualRegister) (m : VirtualRegister → ℕ) → numbers_defined w k (uses_in rs vs) m ≡ m
+unfolding numbers_defined
+none_defined w k rs [] m = refl
+none_defined w k [] (v ∷ vs) m = refl
+none_defined w k (r ∷ rs) (v ∷ vs) m = none_defined w (k + 1) rs vs m
+
+none_written : (w : ℕ → ℕ) (ps : List Place) (k : ℕ) (rs : List ℕ) (vs : List VirtualRegister) (m : Place → ℕ) → written_to w ps k (uses_in rs vs) m ≡ m
+unfolding written_to
+none_written w ps k rs [] m = refl
+none_written w ps k [] (v ∷ vs) m = refl
+none_written w ps k (r ∷ rs) (v ∷ vs) m = none_written w ps (k + 1) rs vs m
+
+-- a call defines the vreg of its result, and writes register 0
+result_defined : (n : ℕ) (to : VirtualRegister) (a : Arguments) (m : VirtualRegister → ℕ) →
+    numbers_defined (λ k. n) 0 (call_operands to a) m ≡ number_set m to n
+unfolding numbers_defined
+result_defined n to a m =
+    ap (λ (os : List OperandValue). numbers_defined (λ k. n) 1 os (number_set m to n)) (arguments_are a)
+    ∙ none_defined (λ k. n) 1 argument_registers (listed a) (number_set m to n)
+
+result_written : (n : ℕ) (to : VirtualRegister) (a : Arguments) (ps : List Place) (m : Place → ℕ) →
+    written_to (λ k. n) ps 0 (call_operands to a) m ≡ place_set m (place_at ps 0) n
+unfolding written_to
+result_written n to a ps m =
+    ap (λ (os : List OperandValue). written_to (λ k. n) ps 1 os (place_set m (place_at ps 0) n)) (arguments_are a)
+    ∙ none_written (λ k. n) ps 1 argument_registers (listed a) (place_set m (place_at ps 0) n)
+
+-- what a call reads
+abbrev passed : (ℕ → OperandValue → ℕ) → ℕ → List ℕ → List VirtualRegister → List ℕ
+passed number k rs [] = []
+passed number k [] (v ∷ vs) = []
+passed number k (r ∷ rs) (v ∷ vs) = number k (passed_in r v) ∷ passed number (k + 1) rs vs
+
+reads_passed : (number : ℕ → OperandValue → ℕ) (k : ℕ) (rs : List ℕ) (vs : List VirtualRegister) → AreRead vs →
+    read_by is_reading number k (uses_in rs vs) ≡ passed number k rs vs
+unfolding read_by
+reads_passed number k rs [] h = refl
+reads_passed number k [] (v ∷ vs) h = refl
+reads_passed number k (r ∷ rs) (v ∷ vs) h =
+    ap (λ (b : Bool). cond (not b) (number k (passed_in r v) ∷ read_by is_reading number (k + 1) (uses_in rs vs))
+    (read_by is_reading number (k + 1) (uses_in rs vs))) h.0
+    ∙ ap (λ (ns : List ℕ). number k (passed_in r v) ∷ ns) (reads_passed number (k + 1) rs vs h.1)
+
+call_reads : (number : ℕ → OperandValue → ℕ) (to : VirtualRegister) (a : Arguments) → AreRead (listed a) →
+    read_by is_reading number 0 (call_operands to a) ≡ passed number 1 argument_registers (listed a)
+unfolding read_by
+call_reads number to a h =
+    ap (λ (os : List OperandValue). read_by is_reading number 1 os) (arguments_are a) ∙ reads_passed number 1 argument_registers (listed a) h
+
+abbrev tail : List ℕ → List ℕ
+tail [] = []
+tail (n ∷ ns) = ns
+
+-- the registers of arguments hold the arguments
+passes : (registers frame : ℕ → ℕ) (m : Place → ℕ) (numbers : VirtualRegister → ℕ) → Agree registers frame m → (ps : List Place) (k : ℕ) (rs : List ℕ)
+    (vs : List VirtualRegister) → ArePassed ps k rs vs → length vs ≤ length rs →
+    passed (λ k u. m (place_at ps k)) k rs vs ≡ passed (λ k u. numbers u.vreg) k rs vs → (i : ℕ) → i < length vs →
+    registers (slice_index_or rs i 16) ≡ slice_index (map (λ v. numbers v) vs) i
+passes registers frame m numbers a ps k rs [] placed few e i less = absurd (omega arith)
+passes registers frame m numbers a ps k [] (v ∷ vs) placed few e i less = absurd (omega arith)
+passes registers frame m numbers a ps k (r ∷ rs) (v ∷ vs) placed few e zero less =
+    ap registers (sym placed.0.1) ∙ holds_number registers frame m a (place_at ps k) placed.0.0 ∙ ap (λ (ns : List ℕ). slice_index ns 0) e
+passes registers frame m numbers a ps k (r ∷ rs) (v ∷ vs) placed few e (suc i) less =
+    passes registers frame m numbers a ps (k + 1) rs vs placed.1 (omega arith) (ap tail e) i (omega arith)
+
+module _ (f : FunctionValue) (ops : Operations) (out : OutputValue) (start : ℕ → ℕ) (code : CodeValue) (virtual : VirtualRegister → ℕ) (places : Place → ℕ) where
+  -- A procedure suspended at a call, and the machine before the instruction after it, related by states that the two interpreters reach together. Registers and
+  -- slots have the numbers of places after the call's moves.
+  pub record IsPaused (at : Location) (numbers : VirtualRegister → ℕ) (to : VirtualRegister) (pc : ℕ) (registers frame : ℕ → ℕ) : Type 0 where
+    pub choices : List Choice
+    pub c : State VirtualRegister
+    pub d : State Place
+    pub together : Together f out virtual places choices c d
+    pub is_at : at ≡ c.at
+    pub is_numbers : numbers ≡ c.numbers
+    pub callee : ℕ
+    pub arguments : Arguments
+    pub is_call : operation_at ops d.at.inst ≡ Calling callee to arguments
+    pub left : ℕ
+    pub block : d.at.block < length f.blocks
+    pub begins : (block_at f d.at.block).range.first ≤ d.at.inst
+    pub ends : d.at.inst + suc (suc left) ≡ (block_at f d.at.block).range.end
+    pub stands : StandAt start code.instructions pc
+        (items_code ops out (block_at f d.at.block).succs (d.at.block + 1) (listing_from out (block_at f d.at.block).range.first (d.at.inst + 1) (suc left)))
+    pub agree : Agree registers frame (numbers_moved (moves_at f out d.at) d.numbers)
+
+  -- inside a block, an interpreter goes on at the next instruction
+  goes_onward : (l : Location) → l.inst + 1 < (block_at f l.block).range.end → way_on f l None ≡ Some Onward
+  goes_onward l less =
+      ap (λ (b : Bool). cond b (Some Onward) (cond (nat_eq (l.inst + 1) (block_at f l.block).range.end)
+      (edge_to (length (block_at f l.block).succs) None) None)) (lt-ltb (l.inst + 1) (block_at f l.block).range.end less)
+
+  module _ (ok : IsEmitted f ops out start code) (alike : AlikeByChoices f out virtual places) where
+    module _ (at : Location) (numbers : VirtualRegister → ℕ) (to : VirtualRegister) (pc : ℕ) (registers frame : ℕ → ℕ)
+        (p : IsPaused at numbers to pc registers frame) (n : ℕ) (memory : List ℕ) (left : ℕ → ℕ) (sized : length memory ≡ ops.memory_size) where
+      abbrev c : State VirtualRegister
+      c = p.c
+
+      abbrev d : State Place
+      d = p.d
+
+      abbrev stir : Place → ℕ
+      stir = leavings p.choices
+
+      -- the call's choice: it writes the result, and leaves what the callee left
+      abbrev x : Choice
+      x = record { writes = λ k. n; takes = None; leaves = left_in (put left 0 n) }
+
+      abbrev source_on : State VirtualRegister
+      source_on = record {
+        at = next_of f c.at Onward;
+        history = (c.at.inst, source_reads f out c) ∷ c.history;
+        numbers = passed_over f c.at Onward (source_after f out x c);
+      }
+
+      abbrev place_on : State Place
+      place_on = record {
+        at = next_of f d.at Onward;
+        history = (d.at.inst, found_reads f out stir d) ∷ d.history;
+        numbers = place_after f out stir x d;
+      }
+
+      same_at : d.at ≡ c.at
+      same_at = (alike.alike p.choices c d p.together).at
+
+      more : d.at.inst + 1 < (block_at f d.at.block).range.end
+      more = omega (arith, p.ends)
+
+      within : d.at.inst < length f.insts
+      within = omega (arith, ok.within d.at.block p.block, p.ends)
+
+      operands : (inst_at f d.at.inst).operands ≡ call_operands to p.arguments
+      operands = ok.operands d.at.inst within ∙ ap operands_of p.is_call
+
+      together_on : Together f out virtual places (x ∷ p.choices) source_on place_on
+      together_on =
+          subst (λ (w : Option Way). StepsOn f out virtual places (x ∷ p.choices) (Some source_on) (option_map (λ w. record {
+            at = next_of f d.at w;
+            history = (d.at.inst, found_reads f out stir d) ∷ d.history;
+            numbers = place_after f out stir x d;
+          }) w)) (goes_onward d.at more)
+          (subst (λ (w : Option Way). StepsOn f out virtual places (x ∷ p.choices) (option_map (λ w. record {
+            at = next_of f c.at w;
+            history = (c.at.inst, source_reads f out c) ∷ c.history;
+            numbers = passed_over f c.at w (source_after f out x c);
+          }) w) (place_next f out stir x d))
+          (goes_onward c.at (subst (λ (l : Location). l.inst + 1 < (block_at f l.block).range.end) same_at more))
+          (alike.on p.choices c d p.together x))
+
+      -- the result is defined
+      numbers_on : source_on.numbers ≡ number_set numbers to n
+      unfolding passed_over
+      numbers_on =
+          ap (λ (l : Location). numbers_defined (λ k. n) 0 (inst_at f l.inst).operands c.numbers) (sym same_at)
+          ∙ ap (λ (os : List OperandValue). numbers_defined (λ k. n) 0 os c.numbers) operands
+          ∙ result_defined n to p.arguments c.numbers
+          ∙ ap (λ (m : VirtualRegister → ℕ). number_set m to n) (sym p.is_numbers)
+
+      -- and written
+      placed : IsPlaced code.slots (Calling p.callee to p.arguments) (allocs_of out d.at.inst)
+      placed = subst (λ (o : Operation). IsPlaced code.slots o (allocs_of out d.at.inst)) p.is_call (ok.placed d.at.inst within)
+
+      has : (r : Register) → has_register (inst_at f d.at.inst).clobbers r ≡ is_lost_in_call r
+      has r = ok.clobbers d.at.inst within r ∙ ap (λ (o : Operation). is_lost_in o r) p.is_call
+
+      abbrev moved : Place → ℕ
+      moved = numbers_moved (moves_at f out d.at) d.numbers
+
+      places_on : numbers_clobbered (inst_at f d.at.inst).clobbers (left_in (put left 0 n)) (place_set moved (register_place 0) n) ≡ place_on.numbers
+      places_on = sym (
+          ap (λ (m : Place → ℕ). numbers_clobbered (inst_at f d.at.inst).clobbers (left_in (put left 0 n))
+          (written_to (λ k. n) (allocs_of out d.at.inst) 0 (inst_at f d.at.inst).operands m))
+          (found f ops out start code (λ k. 0) memory stir ok sized d within)
+          ∙ ap (λ (os : List OperandValue). numbers_clobbered (inst_at f d.at.inst).clobbers (left_in (put left 0 n))
+          (written_to (λ k. n) (allocs_of out d.at.inst) 0 os moved)) operands
+          ∙ ap (λ (m : Place → ℕ). numbers_clobbered (inst_at f d.at.inst).clobbers (left_in (put left 0 n)) m)
+          (result_written n to p.arguments (allocs_of out d.at.inst) moved)
+          ∙ ap (λ (q : Place). numbers_clobbered (inst_at f d.at.inst).clobbers (left_in (put left 0 n)) (place_set moved q n))
+          (place_is (place_at (allocs_of out d.at.inst) 0) 0 placed.0.0 placed.0.1))
+
+      abbrev machine_on : MachineState
+      machine_on = record { pc = pc; registers = registers_returned registers (put left 0 n); frame = frame; compared = None; memory = memory }
+
+      -- after the return, procedure and machine are related
+      pub resumes : AreJoined f ops out start code virtual places
+          (record { at = record { block = at.block; inst = at.inst + 1 }; numbers = number_set numbers to n; memory = memory }) machine_on
+      resumes = record {
+        choices = x ∷ p.choices;
+        c = source_on;
+        d = place_on;
+        together = together_on;
+        is_seen =
+            ap (λ (l : Location). record { at = record { block = l.block; inst = l.inst + 1 }; numbers = number_set numbers to n; memory = memory }) p.is_at
+            ∙ ap (λ (m : VirtualRegister → ℕ). record { at = record { block = c.at.block; inst = c.at.inst + 1 }; numbers = m; memory = memory }) (sym numbers_on);
+        sized = sized;
+        at = record {
+          left = p.left;
+          block = p.block;
+          begins = omega (arith, p.begins);
+          ends = omega (arith, p.ends);
+          stands = p.stands;
+          agree = subst (λ (m : Place → ℕ). Agree machine_on.registers machine_on.frame m) places_on
+              (back_agrees (inst_at f d.at.inst).clobbers has registers left frame n moved p.agree);
+        };
+      }
+
+    -- at a call, the machine gets to the call instruction, with the arguments in their registers
+    pub record Pauses (args : ℕ → ℕ) (q : ProcedureState) (s : MachineState) (callee : ℕ) (to : VirtualRegister) (vs : List VirtualRegister) : Type 0 where
+      pub state : MachineState
+      pub comes : Comes code args 0 s state
+      pub instruction : slice_get code.instructions state.pc ≡ Some (Call callee)
+      pub same : state.memory ≡ q.memory
+      pub paused : IsPaused q.at q.numbers to (state.pc + 1) state.registers state.frame
+      pub passed_on : (k : ℕ) → k < length vs → state.registers (argument_register k) ≡ slice_index (map (λ v. q.numbers v) vs) k
+
+    module _ (args : ℕ → ℕ) (q : ProcedureState) (s : MachineState) (j : AreJoined f ops out start code virtual places q s) (callee : ℕ) (to : VirtualRegister)
+        (arguments : Arguments) (is_call : operation_at ops j.d.at.inst ≡ Calling callee to arguments) where
+      abbrev v : State VirtualRegister
+      v = j.c
+
+      abbrev e : State Place
+      e = j.d
+
+      abbrev noise : Place → ℕ
+      noise = leavings j.choices
+
+      inst_within : e.at.inst < length f.insts
+      inst_within = inside f ops out start code args s.memory noise ok j.sized e s j.at
+
+      abbrev go : Moved ops out (succs_of f ops out start code args s.memory noise e) (e.at.block + 1) args start code s
+          (after_moves f ops out start code args s.memory noise e)
+          (ListedInst e.at.inst ∷ listing_from out (block_at f e.at.block).range.first (e.at.inst + 1) j.at.left)
+      go = through f ops out start code args s.memory noise ok j.sized e s j.at
+
+      call_operands_are : (inst_at f e.at.inst).operands ≡ call_operands to arguments
+      call_operands_are = ok.operands e.at.inst inst_within ∙ ap operands_of is_call
+
+      call_placed : IsPlaced code.slots (Calling callee to arguments) (allocs_of out e.at.inst)
+      call_placed = subst (λ (o : Operation). IsPlaced code.slots o (allocs_of out e.at.inst)) is_call (ok.placed e.at.inst inst_within)
+
+      only_call : IsPlain (Calling callee to arguments) ⊎ IsCall (Calling callee to arguments) → AreRead (listed arguments)
+      only_call h = elim h [ inl plain ↦ absurd plain | inr call ↦ call.1 ]
+
+      -- what places hold is what virtual registers hold
+      are_read : AreRead (listed arguments) → passed (λ k u. after_moves f ops out start code args s.memory noise e (place_at (allocs_of out e.at.inst) k)) 1
+          argument_registers (listed arguments) ≡ passed (λ k u. v.numbers u.vreg) 1 argument_registers (listed arguments)
+      are_read read =
+          let m : Place → ℕ = after_moves f ops out start code args s.memory noise e in
+          let ps : List Place = allocs_of out e.at.inst in
+          sym (call_reads (λ k u. m (place_at ps k)) to arguments read)
+          ∙ ap (λ (o : Operation). reads_at o ps m) (sym is_call)
+          ∙ sym (reads f ops out start code args s.memory noise ok j.sized e inst_within)
+          ∙ (alike.alike j.choices v e j.together).reads
+          ∙ ap (λ (l : Location). read_by is_reading (λ k u. v.numbers u.vreg) 0 (inst_at f l.inst).operands) (sym (alike.alike j.choices v e j.together).at)
+          ∙ ap (λ (os : List OperandValue). read_by is_reading (λ k u. v.numbers u.vreg) 0 os) call_operands_are
+          ∙ call_reads (λ k u. v.numbers u.vreg) to arguments read
+
+      pauses_before : (n : ℕ) → j.at.left ≡ suc n → Pauses args q s callee to (listed arguments)
+      pauses_before n left_is =
+          let inner : e.at.inst + 1 < (block_at f e.at.block).range.end = omega (arith, j.at.ends, left_is) in
+          let read : AreRead (listed arguments) = only_call (subst (λ (o : Operation). IsPlain o ⊎ IsCall o) is_call
+          (ok.plain e.at.block e.at.inst j.at.block j.at.begins inner)) in
+          let here : StandAt start code.instructions go.to.pc (Call callee ∷ behind f ops out start code args s.memory noise e (suc n)) =
+          subst (λ (o : Operation). StandAt start code.instructions go.to.pc
+          (operation_code ops.memory_size o (places_of f ops out start code args s.memory noise e) (succs_of f ops out start code args s.memory noise e)
+          (e.at.block + 1) ++ behind f ops out start code args s.memory noise e (suc n))) is_call
+          (stands_there f ops out start code args s.memory noise ok j.sized e s j.at (suc n) left_is) in
+          let seen_is : q ≡ seen s.memory v = j.is_seen in
+          record {
+            state = go.to;
+            comes = go.comes;
+            instruction = here.0;
+            same = go.same ∙ sym (ap (λ (p : ProcedureState). p.memory) seen_is);
+            paused = record {
+              choices = j.choices;
+              c = v;
+              d = e;
+              together = j.together;
+              is_at = ap (λ (p : ProcedureState). p.at) seen_is;
+              is_numbers = ap (λ (p : ProcedureState). p.numbers) seen_is;
+              callee = callee;
+              arguments = arguments;
+              is_call = is_call;
+              left = n;
+              block = j.at.block;
+              begins = j.at.begins;
+              ends = omega (arith, j.at.ends, left_is);
+              stands = here.1;
+              agree = go.agree;
+            };
+            passed_on = λ k less.
+                passes go.to.registers go.to.frame (after_moves f ops out start code args s.memory noise e) v.numbers go.agree (allocs_of out e.at.inst) 1
+                argument_registers (listed arguments) call_placed.1 (few_arguments arguments) (are_read read) k less
+                ∙ ap (λ (m : VirtualRegister → ℕ). slice_index (map (λ u. m u) (listed arguments)) k) (sym (ap (λ (p : ProcedureState). p.numbers) seen_is));
+          }
+
+      pub pauses : Pauses args q s callee to (listed arguments)
+      pauses = pick j.at.left refl
+        where
+          pick : (n : ℕ) → j.at.left ≡ n → Pauses args q s callee to (listed arguments)
+          pick zero left_is =
+              let last : e.at.inst + 1 ≡ (block_at f e.at.block).range.end = omega (arith, j.at.ends, left_is) in
+              absurd (subst (λ (o : Operation). IsEnd o (length (block_at f e.at.block).succs)) is_call
+              (ok.ends e.at.block e.at.inst j.at.block j.at.begins last))
+          pick (suc n) left_is = pauses_before n left_is

@@ -1,0 +1,7 @@
+use Rattle.std.proofs.Common.{ap, ◌∙◌}
+use Rattle.codegen_machine.specs.Run.States.{frames_of}
+use Rattle.codegen_machine.proofs.RunLemmas.Modules.{frames_pushed}
+use Rattle.codegen_machine.proofs.run.module.push.Goals as goal
+
+pub returns : goal.returns
+returns c = ap frames_of c.in_ok-push.ensures.items ∙ frames_pushed c.args.frames.now.items c.args.frame

@@ -1,0 +1,41 @@
+use Rattle.std.proofs.Common.{ℕ, ◌≡◌, refl, ap, ◌∙◌, arith}
+use Rattle.codegen_machine.specs.Ir.Calls.{module_begun}
+use Rattle.codegen_machine.specs.Ir.Modules.{procedures_of}
+use Rattle.codegen_machine.specs.Run.Runs.{arguments_of, module_outcome, run_outcome}
+use Rattle.codegen_machine.specs.Run.States.{frames_state}
+use Rattle.codegen_machine.specs.declared.run.standing.Standing.TheVariants as stand
+use Rattle.codegen_machine.proofs.RunLemmas.Modules.{module_ends, module_more, module_none}
+use Rattle.codegen_machine.proofs.run.module.run_module.Goals as goal
+
+pub loop-step-init : goal.loop-step-init
+loop-step-init c =
+    let ps = procedures_of c.args.module.now.procedures.items in
+    module_none ps (λ v. 0) (module_begun ps (λ v. 0) (arguments_of c.args.arguments.now) c.args.memory.items) (frames_state c.in_ok-frames.frames)
+    c.in_ok-frames.ensures
+
+pub returns-in_default : goal.returns-in_default
+returns-in_default c =
+    let ps = procedures_of c.args.module.now.procedures.items in
+    let new = frames_state c.step.new.self in (
+      new,
+      refl,
+      module_ends ps (λ v. 0) (module_begun ps (λ v. 0) (arguments_of c.args.arguments.now) c.args.memory.items) c.loop-step._step c.args.steps
+          c.in_ok-standing.standing (frames_state c.loop-step.frames) new new.state.memory c.loop-step-test.true c.loop-step.invariant c.in_ok-standing.ensures
+          c.in_default.not-Running,
+    )
+
+pub loop-step-preserved : goal.loop-step-preserved
+loop-step-preserved c =
+    let ps = procedures_of c.args.module.now.procedures.items in
+    let new = frames_state c.step.new.self in
+    module_more ps (λ v. 0) (module_begun ps (λ v. 0) (arguments_of c.args.arguments.now) c.args.memory.items) c.loop-step._step stand.Running
+    (frames_state c.loop-step.frames) new new.state.memory c.loop-step.invariant
+    (c.in_ok-standing.ensures ∙ ap (λ r. run_outcome r new new.state.memory) c.in-Running.is)
+
+pub returns : goal.returns
+returns c =
+    let all : c.args.steps ≡ c.loop-step._step = omega (arith, c.loop-step-test.false) in (
+      frames_state c.loop-step.frames,
+      refl,
+      ap (λ n. module_outcome c.args.module.now c.args.arguments.now c.args.memory.items n) all ∙ c.loop-step.invariant,
+    )
