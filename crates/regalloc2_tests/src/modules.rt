@@ -132,19 +132,55 @@ block0:
   return v0
 ";
 
-/// Runs: a text, the room in words, and arguments.
-const RUNS: [(&str, &str, u64, [u64; 2]); 11] = [
-    ("factorial", FACTORIAL, 1000, [20, 0]),
-    ("factorial", FACTORIAL, 1000, [0, 0]),
-    ("factorial", FACTORIAL, 0, [0, 0]),
-    ("parity", PARITY, 1000, [7, 0]),
-    ("parity", PARITY, 1000, [8, 0]),
-    ("six", SIX, 1000, [1, 2]),
-    ("trap", TRAP, 1000, [7, 2]),
-    ("trap", TRAP, 1000, [7, 0]),
-    ("endless", ENDLESS, 1000, [0, 0]),
-    ("live", "", 1000, [3, 5]),
-    ("live", "", 1000, [0, 5]),
+/// A module that is run.
+#[derive(Clone, Copy)]
+enum Case {
+    Factorial,
+    Parity,
+    Six,
+    Trap,
+    Endless,
+    Live,
+}
+
+impl Case {
+    fn name(self) -> &'static str {
+        match self {
+            Case::Factorial => "factorial",
+            Case::Parity => "parity",
+            Case::Six => "six",
+            Case::Trap => "trap",
+            Case::Endless => "endless",
+            Case::Live => "live",
+        }
+    }
+
+    /// Its text; that of `Live` is made.
+    fn text(self, live: &str) -> &str {
+        match self {
+            Case::Factorial => FACTORIAL,
+            Case::Parity => PARITY,
+            Case::Six => SIX,
+            Case::Trap => TRAP,
+            Case::Endless => ENDLESS,
+            Case::Live => live,
+        }
+    }
+}
+
+/// Runs: a module, the room in words, and arguments.
+const RUNS: [(Case, u64, [u64; 2]); 11] = [
+    (Case::Factorial, 1000, [20, 0]),
+    (Case::Factorial, 1000, [0, 0]),
+    (Case::Factorial, 0, [0, 0]),
+    (Case::Parity, 1000, [7, 0]),
+    (Case::Parity, 1000, [8, 0]),
+    (Case::Six, 1000, [1, 2]),
+    (Case::Trap, 1000, [7, 2]),
+    (Case::Trap, 1000, [7, 0]),
+    (Case::Endless, 1000, [0, 0]),
+    (Case::Live, 1000, [3, 5]),
+    (Case::Live, 1000, [0, 5]),
 ];
 
 /// How many numbers are live around the call in the loop of `live`.
@@ -221,17 +257,29 @@ fn least_room(alloc: Global, text: &str, argument: u64, most: u64) -> Option<u64
     })
 }
 
+/// Writes how a module runs with two arguments.
+fn show_case<W: Write>(
+    alloc: Global,
+    name: &str,
+    text: &str,
+    room: u64,
+    arguments: [u64; 2],
+    to: &mut W,
+) -> io::Result<()> {
+    let [first, second] = arguments;
+    write!(to, "{name}, of {first} and {second}, with {room} words: ")?;
+    show_run(alloc, text, room, &[first, second], to)
+}
+
 /// Writes what is said of wrong modules, how modules run, and a header.
 pub fn show_all<W: Write>(alloc: Global, to: &mut W) -> io::Result<()> {
     for text in WRONG {
         show(alloc, text, Action::Write, to)?;
     }
     let live = live_text(alloc)?;
-    for (name, text, room, arguments) in RUNS {
-        let text = if text.is_empty() { live.as_str() } else { text };
-        let [first, second] = arguments;
-        write!(to, "{name}, of {first} and {second}, with {room} words: ")?;
-        show_run(alloc, text, room, &arguments, to)?;
+    for (case, room, arguments) in RUNS {
+        let text = case.text(live.as_str());
+        show_case(alloc, case.name(), text, room, arguments, to)?;
     }
     for depth in 0..3u64 {
         let room = least_room(alloc, FACTORIAL, depth, 200).unwrap_or(0);
