@@ -1,7 +1,7 @@
 -- Each step changes what the current tables show as its contract says, and leaves the saved copies as they are.
 -- Read first: `TableLaws`, what a change of the parts does to what tables hold; then `Shown`, to what they show.
 -- Depends on the specs. `Rows`, `Chunks` and `Meets` are saved copies; `Bits`, `Lone`, `TwoSets`, `AllSets`, `Walked` and `Listed` are sets; `HomeLaws` is
--- homes.
+-- homes; `PlaceLaws` is where places are listed.
 mod Shown
 mod Walked
 mod Bits
@@ -16,3 +16,4 @@ mod Times
 mod Lone
 mod AllSets
 mod TwoSets
+mod PlaceLaws

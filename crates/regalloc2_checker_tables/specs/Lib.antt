@@ -5,5 +5,6 @@ pub mod SavedCopies
 pub mod SavedNumbers
 pub mod EntrySets
 pub mod Homes
+pub mod PlaceEntries
 pub mod Holding
 pub mod Showing

@@ -5,6 +5,7 @@ mod entries;
 mod homes;
 mod kept_set;
 mod passing;
+mod place_positions;
 mod positions;
 mod sets;
 mod tables;

@@ -230,6 +230,7 @@ impl<A: Allocator + Copy> PassingTables<A> {
     }
 
     /// Notes the parameter that was passed, if one was, at the places of its argument.
+    #[inline(never)]
     fn settle(&mut self) -> Result<(), AllocError>
         ensures kept { AreTablesKept self.old self.new }
         ensures now { OnOk result (ShowsNow self.new (shows_now self.old)) }
@@ -241,6 +242,7 @@ impl<A: Allocator + Copy> PassingTables<A> {
     }
 
     /// Notes the parameter that was passed at the places of its argument, if one of the two is a vreg.
+    #[inline(always)]
     fn settle_for(&mut self, vreg: usize) -> Result<(), AllocError>
         requires { vreg < length self.old.vregs }
         ensures kept { AreTablesKept self.old self.new }

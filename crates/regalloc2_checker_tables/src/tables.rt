@@ -17,9 +17,10 @@ ghost use Rattle.regalloc2_checker_tables.specs.Holding.{LosesSome, IsMetBetween
 
 use crate::entries::Entries;
 use crate::homes::Home;
+use crate::place_positions::PlacePositions;
 use crate::positions::Positions;
 use crate::sets::Sets;
-use regalloc2_names::{Allocation, PReg};
+use regalloc2_names::Allocation;
 use regalloc2_shape::indexset::IndexSet;
 use std::alloc::{AllocError, Allocator};
 use std::marker::Model;
@@ -30,12 +31,11 @@ use std::marker::Model;
 /// vregs for each place. Tables share what they have in common.
 #[derive(Drop)]
 pub struct Tables<A: Allocator> {
-    places: Positions<A>,
+    places: PlacePositions<A>,
     vregs: Positions<A>,
     entries: Entries<A>,
     sets: Sets<A>,
     homes: Vec<Home<A>, A>,
-    hints: Hints<A>,
 }
 
 impl<A: Allocator> Model for Tables<A> {
@@ -46,78 +46,6 @@ impl<A: Allocator> Model for Tables<A> {
     ghost view = { λ t. record { places = t.places; vregs = t.vregs; entries = t.entries; sets = t.sets; homes = t.homes.items } };
 
     ghost invariant = { λ t. IsSoundHolding (record { places = t.places; vregs = t.vregs; entries = t.entries; sets = t.sets; homes = t.homes.items }) };
-}
-
-/// Where places may be listed: each register, and each slot.
-#[derive(Drop)]
-struct Hints<A: Allocator> {
-    registers: Vec<u32, A>,
-    slots: Vec<u32, A>,
-}
-
-/// Puts a position at an index, if the list is that long.
-fn put_at(positions: &mut [u32], index: usize, position: usize) {
-    let Ok(position) = u32::try_from(position) else {
-        return;
-    };
-    if index < positions.len() {
-        positions[index] = position;
-    }
-}
-
-/// How many slots get a hint: all up to the last one that is listed, but at most four for each place.
-fn hinted_slots<A: Allocator>(places: &Positions<A>) -> usize {
-    let Some(last) = places.len().checked_sub(1) else {
-        return 0;
-    };
-    let bits = places.number(last);
-    if !Allocation::is_bits(bits) {
-        return 0;
-    }
-    let place = Allocation::from_bits(bits);
-    if !place.is_stack() {
-        return 0;
-    }
-    let slots = place.index().saturating_add(1);
-    slots.min(places.len().saturating_mul(4))
-}
-
-impl<A: Allocator + Copy> Hints<A> {
-    /// Where places are listed, if they are registers, or slots whose indexes are below four times the number of places.
-    fn of(alloc: A, places: &Positions<A>) -> Result<Hints<A>, AllocError> {
-        let mut registers = Vec::new(alloc);
-        registers.resize(PReg::NUM_INDEX, 0)?;
-        let mut slots = Vec::new(alloc);
-        slots.resize(hinted_slots(places), 0)?;
-        let mut hints = Hints { registers, slots };
-        for position in 0..places.len() {
-            hints.note(places.number(position), position);
-        }
-        Ok(hints)
-    }
-
-    /// Notes where a place is listed, by its bits.
-    fn note(&mut self, bits: u32, position: usize) {
-        if !Allocation::is_bits(bits) {
-            return;
-        }
-        let place = Allocation::from_bits(bits);
-        if place.is_stack() {
-            put_at(&mut self.slots, place.index(), position);
-        } else {
-            put_at(&mut self.registers, place.index(), position);
-        }
-    }
-
-    /// Where a place may be listed.
-    fn position(&self, place: Allocation) -> usize {
-        let listed = if place.is_stack() {
-            &self.slots
-        } else {
-            &self.registers
-        };
-        listed.get(place.index()).copied().unwrap_or(0) as usize
-    }
 }
 
 /// Takes a vreg out of one place.
@@ -558,7 +486,7 @@ impl<A: Allocator + Copy> Tables<A> {
         if places.len() > 274877906943 {
             return Err(AllocError);
         }
-        let hints = Hints::of(alloc, &places)?;
+        let places = PlacePositions::of(alloc, places)?;
         let entries = Entries::new(alloc, count, places.len())?;
         let sets = Sets::new(alloc);
         let homes = empty_homes(alloc, vregs.len())?;
@@ -568,7 +496,6 @@ impl<A: Allocator + Copy> Tables<A> {
             entries,
             sets,
             homes,
-            hints,
         })
     }
 
@@ -576,7 +503,7 @@ impl<A: Allocator + Copy> Tables<A> {
     pub fn place(&self, place: Allocation) -> Option<usize>
         ensures { result ≡ position (λ n. n == bits_of_place place) self.now.places }
     {
-        self.places.find(place.bits(), self.hints.position(place))
+        self.places.find(place)
     }
 
     /// The position of a vreg, by its bits.

@@ -307,6 +307,10 @@ impl<A: Allocator + Copy> Versions<A> {
         requires { position < length self.old.cells }
         ensures { self.new ≡ record self.old { cells = slice_set self.old.cells position number } }
     {
+        // Many writes in a row write one number, which marks a chunk, so a comparison is less work.
+        if self.cells[position] == number {
+            return;
+        }
         self.cells[position] = number;
         self.clean[position / 64] = None;
     }

@@ -1,12 +1,16 @@
-use Rattle.std.proofs.Common.{arith, ap, ◌∙◌}
+use Rattle.std.proofs.Common.{ℕ, List, length, arith, ap, sym, ◌∙◌, subst}
+use Rattle.std.specs.List.Sorted.{IsStrictlyIncreasing}
 use Rattle.regalloc2_checker_tables.specs.EntrySets.{is_member}
 use Rattle.regalloc2_checker_tables.proofs.TableLaws.{new-all}
 use Rattle.regalloc2_checker_tables.proofs.tables.Tables.new.Goals as goal
 
 pub invariant_of-result : goal.invariant_of-result
 invariant_of-result g c =
-    new-all c.args.places c.args.vregs c.in_ok-entries.entries c.new-sets.result c.in_ok-homes.homes.items c.requires.places c.requires.vregs
-    (let h = c.in_ok-entries.ensures.long in omega arith) (omega arith) c.new-sets.ensures
+    let e = c.in_ok-places.ensures in
+    let long = ap (λ (l : List ℕ). length l) e in
+    new-all c.in_ok-places.places c.args.vregs c.in_ok-entries.entries c.new-sets.result c.in_ok-homes.homes.items
+    (subst IsStrictlyIncreasing (sym e) c.requires.places) c.requires.vregs
+    (omega (arith, c.in_ok-entries.ensures.long, c.len-2.ensures)) (omega (arith, long, c.len.ensures)) c.new-sets.ensures
     (let h = c.in_ok-homes.ensures in omega arith) c.in_ok-entries.ensures.cells c.in_ok-entries.ensures.saved
 
 pub returns-clause-now : goal.returns-clause-now
