@@ -91,11 +91,22 @@ fn stored_output(alloc: Global, words: &[u32]) -> Result<StoredOutput, Failure>
     }
 }
 
+/// Whether a word is that of a place. Most are registers' words.
+#[inline(always)]
+fn is_place(bits: u32) -> bool
+    ensures { IsTrue result ↔ IsPlaceBits bits }
+{
+    if bits >= 1 << 29 && bits < (1 << 29) + 192 {
+        return true;
+    }
+    Allocation::is_bits(bits)
+}
+
 /// Whether these words are those of a point and two places.
 fn is_move(point: u32, from: u32, to: u32) -> bool
     ensures { IsTrue result ↔ NamesMove (point, from, to) }
 {
-    ProgPoint::is_index(point) && Allocation::is_bits(from) && Allocation::is_bits(to)
+    ProgPoint::is_index(point) && is_place(from) && is_place(to)
 }
 
 /// The moves of three words each.
@@ -132,7 +143,7 @@ fn places_from(alloc: Global, words: &[u32]) -> Result<Vec<Allocation>, Failure>
         return Err(Failure::NoMemory);
     };
     for bits in words {
-        if !Allocation::is_bits(*bits) {
+        if !is_place(*bits) {
             return Err(Failure::BadOutput);
         }
         let Ok(()) = places.push(Allocation::from_bits(*bits)) else {

@@ -1,7 +1,8 @@
 -- Slots that are added to a list, in turn.
-use Rattle.std.proofs.Common.{ℕ, ◌≡◌, ◌+◌, ◌<◌, ◌≤◌, List, [], length, arith, ap, subst, inl, inr}
+use Rattle.std.proofs.Common.{ℕ, ◌≡◌, ◌+◌, ◌<◌, ◌≤◌, List, [], length, arith, true, sym, ap, ◌∙◌, subst, inl, inr}
 use Rattle.std.proofs.lemmas.Bool.{cases_lt}
-use Rattle.regalloc2_names.specs.Place.{Place, InSlot}
+use Rattle.regalloc2_names.specs.Place.{Place, NoPlace, InRegister, InSlot, is_in_slot}
+use Rattle.regalloc2_names.specs.PlaceBits.{index_of_place}
 use Rattle.std.specs.Prelude.{◌⊎◌, ◌↔◌, Contains}
 use Rattle.regalloc2_checker.specs.CellFaults.{AddsSlots}
 
@@ -75,3 +76,12 @@ from_none P xs zs none h n u = (λ c. there ((h n u).0 c), λ p. (h n u).1 (inr 
     there : Contains xs (n, u) ⊎ P n u → P n u
     there (inl c) = let empty : length xs ≡ 0 = ap (λ (l : List (ℕ × ℕ)). length l) none in absurd (omega (arith, empty, c.1))
     there (inr p) = p
+
+-- a place's own slot
+pub adds_own : (p : Place) (index units : ℕ) (xs ys : List (ℕ × ℕ)) → is_in_slot p ≡ true → index ≡ index_of_place p →
+    AddsSlots (λ n u. (n ≡ index) × (u ≡ units)) xs ys → AddsSlots (λ n u. (p ≡ InSlot n) × (u ≡ units)) xs ys
+adds_own NoPlace index units xs ys slot is h = absurd cc
+adds_own (InRegister r) index units xs ys slot is h = absurd cc
+adds_own (InSlot m) index units xs ys slot is h =
+    adds_same (λ n u. (n ≡ index) × (u ≡ units)) (λ n u. (InSlot m ≡ InSlot n) × (u ≡ units)) xs ys
+    (λ n u d. (ap (λ (k : ℕ). InSlot k) (sym (d.0 ∙ is)), d.1)) (λ n u d. let same : m ≡ n = cc in (sym same ∙ sym is, d.1)) h

@@ -20,15 +20,13 @@ ghost use Rattle.regalloc2_checker.specs.Cells.{IsTakenByLocation, IsInFrame, un
 ghost use Rattle.regalloc2_checker.specs.CellFaults.{IsCellFault, AddsSlots, AreTurned, AreAllApart, IsShared, IsSlotFault, IsNextSlot, SlotReaches};
 
 use crate::cell_registers::{CellRegisters, allocatable};
+use crate::named_slots::NamedSlots;
 use crate::transfer::place_at;
 use regalloc2_function::{Edit, Function, MachineEnv, Output};
 use regalloc2_index::Inst;
-use regalloc2_names::{Allocation, Operand, PReg, PRegSet, RegClass};
+use regalloc2_names::{Allocation, Operand, PReg, PRegSet, RegClass, VReg};
 use std::alloc::{AllocError, Allocator};
 use std::fmt;
-
-/// There is room for so many named slots from the beginning.
-const ROOM: usize = 32;
 
 /// Why the places that an output names aren't cells.
 #[derive(Clone, Copy, Debug, PartialEq, Eq)]
@@ -229,6 +227,10 @@ fn is_operand_cell<B: Allocator, C: Allocator>(
     requires { AreCellRegisters (machine_of env.now) regs.now }
     ensures { IsTrue result ↔ IsOperandCell (machine_of env.now) (output_of output.now) op place }
 {
+    // Most operands name a vreg.
+    if op.vreg().vreg() < VReg::MAX {
+        return is_cell_of(env, regs, output, op.class(), place);
+    }
     match op.as_fixed_nonallocatable() {
         Some(reg) => place.is_same(Allocation::reg(reg)),
         None => is_cell_of(env, regs, output, op.class(), place),
@@ -257,14 +259,14 @@ fn units_beside<F: Function>(f: &F, other: Allocation) -> usize
 
 /// Adds a place to the slots that are named if it is one, with its units.
 fn add_slot<A: Allocator>(
-    named: &mut Vec<(usize, usize), A>,
+    named: &mut NamedSlots<A>,
     place: Allocation,
     units: usize,
 ) -> Result<(), AllocError>
-    ensures { OnOk result (AddsSlots (λ n u. (place ≡ InSlot n) × (u ≡ units)) named.old.items named.new.items) }
+    ensures { OnOk result (AddsSlots (λ n u. (place ≡ InSlot n) × (u ≡ units)) named.old named.new) }
 {
     if place.is_stack() {
-        named.push((place.index(), units))?;
+        named.add(place.index(), units)?;
     }
     Ok(())
 }
@@ -273,11 +275,11 @@ fn add_slot<A: Allocator>(
 #[inline(always)]
 fn add_end<F: Function, A: Allocator>(
     f: &F,
-    named: &mut Vec<(usize, usize), A>,
+    named: &mut NamedSlots<A>,
     place: Allocation,
     other: Allocation,
 ) -> Result<(), AllocError>
-    ensures { OnOk result (AddsSlots (λ n u. (place ≡ InSlot n) × (u ≡ units_beside (F.function f.now) other)) named.old.items named.new.items) }
+    ensures { OnOk result (AddsSlots (λ n u. (place ≡ InSlot n) × (u ≡ units_beside (F.function f.now) other)) named.old named.new) }
 {
     if !place.is_stack() {
         return Ok(());
@@ -292,14 +294,14 @@ fn test_inst<F: Function, A: Allocator, B: Allocator, C: Allocator>(
     regs: &CellRegisters,
     output: &Output<C>,
     inst: Inst,
-    named: &mut Vec<(usize, usize), A>,
+    named: &mut NamedSlots<A>,
 ) -> Result<(), CellFault>
     requires regs { AreCellRegisters (machine_of env.now) regs.now }
     requires in_order { IsInOrder (F.function f.now) (output_of output.now) }
     requires inst { inst < length (F.function f.now).insts }
     ensures cells { OnOk result ((k : ℕ) → k < length (inst_at (F.function f.now) inst).operands → IsOperandCell (machine_of env.now) (output_of output.now)
         (operand_of (F.function f.now) inst k) (place_at (allocs_of (output_of output.now) inst) k)) }
-    ensures named { OnOk result (AddsSlots (IsTakenByInst (F.function f.now) (output_of output.now) inst) named.old.items named.new.items) }
+    ensures named { OnOk result (AddsSlots (IsTakenByInst (F.function f.now) (output_of output.now) inst) named.old named.new) }
     ensures fault { IfErr result (IsCellFault (F.function f.now) (machine_of env.now) (output_of output.now)) }
 {
     let operands = f.inst_operands(inst);
@@ -321,14 +323,14 @@ fn test_insts<F: Function, A: Allocator, B: Allocator, C: Allocator>(
     env: &MachineEnv<B>,
     regs: &CellRegisters,
     output: &Output<C>,
-    named: &mut Vec<(usize, usize), A>,
+    named: &mut NamedSlots<A>,
 ) -> Result<(), CellFault>
     requires regs { AreCellRegisters (machine_of env.now) regs.now }
     requires in_order { IsInOrder (F.function f.now) (output_of output.now) }
     ensures cells { OnOk result ((i : ℕ) → i < length (F.function f.now).insts → (k : ℕ) → k < length (inst_at (F.function f.now) i).operands →
         IsOperandCell (machine_of env.now) (output_of output.now) (operand_of (F.function f.now) i k) (place_at (allocs_of (output_of output.now) i) k)) }
     ensures named { OnOk result (AddsSlots (λ n u. (i : ℕ) × (i < length (F.function f.now).insts) ×
-        IsTakenByInst (F.function f.now) (output_of output.now) i n u) named.old.items named.new.items) }
+        IsTakenByInst (F.function f.now) (output_of output.now) i n u) named.old named.new) }
     ensures fault { IfErr result (IsCellFault (F.function f.now) (machine_of env.now) (output_of output.now)) }
 {
     for i in 0..f.num_insts() {
@@ -343,7 +345,7 @@ fn test_moves<F: Function, A: Allocator, B: Allocator, C: Allocator>(
     env: &MachineEnv<B>,
     regs: &CellRegisters,
     output: &Output<C>,
-    named: &mut Vec<(usize, usize), A>,
+    named: &mut NamedSlots<A>,
 ) -> Result<(), CellFault>
     requires regs { AreCellRegisters (machine_of env.now) regs.now }
     ensures ends { OnOk result ((k : ℕ) → k < length (output_of output.now).edits →
@@ -351,7 +353,7 @@ fn test_moves<F: Function, A: Allocator, B: Allocator, C: Allocator>(
         × IsMoveEnd (machine_of env.now) (output_of output.now) (move_of_index (output_of output.now) k).to) }
     ensures classes { OnOk result ((k : ℕ) → k < length (output_of output.now).edits → IsWithinClass (move_of_index (output_of output.now) k)) }
     ensures named { OnOk result (AddsSlots (λ n u. (k : ℕ) × (k < length (output_of output.now).edits)
-        × IsTakenByMove (F.function f.now) (move_of_index (output_of output.now) k) n u) named.old.items named.new.items) }
+        × IsTakenByMove (F.function f.now) (move_of_index (output_of output.now) k) n u) named.old named.new) }
     ensures fault { IfErr result (IsCellFault (F.function f.now) (machine_of env.now) (output_of output.now)) }
 {
     for k in 0..output.edits.len() {
@@ -374,13 +376,13 @@ fn test_locations<A: Allocator, B: Allocator, C: Allocator>(
     env: &MachineEnv<B>,
     regs: &CellRegisters,
     output: &Output<C>,
-    named: &mut Vec<(usize, usize), A>,
+    named: &mut NamedSlots<A>,
 ) -> Result<(), CellFault>
     requires regs { AreCellRegisters (machine_of env.now) regs.now }
     ensures cells { OnOk result ((k : ℕ) → k < length (output_of output.now).debug_locations →
         (c : RegClass) × IsProperPlace (machine_of env.now) (output_of output.now) c (location_of_index (output_of output.now) k)) }
     ensures named { OnOk result (AddsSlots (λ n u. (k : ℕ) × (k < length (output_of output.now).debug_locations)
-        × IsTakenByLocation (output_of output.now) k n u) named.old.items named.new.items) }
+        × IsTakenByLocation (output_of output.now) k n u) named.old named.new) }
     ensures fault { IfErr result (λ e. (f : FunctionValue) → IsCellFault f (machine_of env.now) (output_of output.now) e) }
 {
     for k in 0..output.debug_locations.len() {
@@ -494,7 +496,7 @@ fn test_slots(by_last: bool, count: usize, named: &mut [(usize, usize)]) -> Resu
 }
 
 /// The slots that an output names, with the units that they take, once the places of operands, moves and debug locations are tested.
-fn named_slots<F: Function, A: Allocator, B: Allocator, C: Allocator>(
+fn named_slots<F: Function, A: Allocator + Copy, B: Allocator, C: Allocator>(
     alloc: A,
     f: &F,
     env: &MachineEnv<B>,
@@ -506,11 +508,12 @@ fn named_slots<F: Function, A: Allocator, B: Allocator, C: Allocator>(
     ensures fault { IfErr result (IsCellFault (F.function f.now) (machine_of env.now) (output_of output.now)) }
 {
     let regs = CellRegisters::of(env);
-    let mut named = Vec::with_capacity(alloc, ROOM)?;
+    let most = output.edits.len().saturating_add(output.allocs.len());
+    let mut named = NamedSlots::new(alloc, output.num_spillslots.min(most))?;
     test_insts(f, env, &regs, output, &mut named)?;
     test_moves(f, env, &regs, output, &mut named)?;
     test_locations(env, &regs, output, &mut named)?;
-    Ok(named)
+    Ok(named.into_slots())
 }
 
 /// Tests that the places which an output names are cells of their own, and says where that fails.
@@ -524,8 +527,8 @@ fn named_slots<F: Function, A: Allocator, B: Allocator, C: Allocator>(
 ///
 /// Slots are compared by the greatest number of units that each takes anywhere. What an allocation
 /// guarantees of its own output is more: `PlacesAreProper` and `AreSlotsOwned`. `n log n` in the
-/// slots that are named; 16 bytes for each of them.
-pub fn test_cells<F: Function, A: Allocator, B: Allocator, C: Allocator>(
+/// slots that are named; at most 24 bytes for each of them.
+pub fn test_cells<F: Function, A: Allocator + Copy, B: Allocator, C: Allocator>(
     alloc: A,
     f: &F,
     env: &MachineEnv<B>,
@@ -548,7 +551,7 @@ fn is_memory(fault: CellFault) -> bool
 }
 
 /// Whether the places which an output names are cells of their own, as [`test_cells`] tests it.
-pub fn places_are_cells<F: Function, A: Allocator, B: Allocator, C: Allocator>(
+pub fn places_are_cells<F: Function, A: Allocator + Copy, B: Allocator, C: Allocator>(
     alloc: A,
     f: &F,
     env: &MachineEnv<B>,

@@ -59,10 +59,14 @@ fn check_val<A: Allocator + Copy>(
     ensures { IfOk result (λ r. MatchOption r (is_reading op ≡ true → facts_now values.now place op.vreg ≡ true)
         (λ e. (is_reading op ≡ true) × IsValueFault inst op place (λ v. facts_now values.now place v ≡ true) e)) }
 {
-    if !op.is_reading() {
+    if op.is_def() {
         return Ok(None);
     }
+    // Nearly all that is read is right, and then it needn't be asked whether the operand names a register.
     if holds(values, place, op.vreg()) {
+        return Ok(None);
+    }
+    if !op.is_reading() {
         return Ok(None);
     }
     let actual = vregs_in(alloc, values, place)?;

@@ -12,6 +12,7 @@ mod find_errors;
 mod handle;
 mod laws;
 mod listing;
+mod named_slots;
 mod names;
 mod number_list;
 mod order;

@@ -205,6 +205,7 @@ fn write_defs<A: Allocator + Copy>(
 }
 
 /// Empties the clobbered registers.
+#[inline(always)]
 fn clear_clobbers<A: Allocator + Copy>(values: &mut PassingTables<A>, clobbers: PRegSet)
     requires { IsMissingUnlisted values.old.places }
     ensures kept { AreTablesKept values.old values.new }

@@ -6,5 +6,5 @@ use Rattle.regalloc2_checker.proofs.cells.add_end.Goals as goal
 
 pub returns : goal.returns
 returns g c =
-    subst (λ (k : ℕ). OnOk c.add_slot.result (AddsSlots (λ n u. (c.args.place ≡ InSlot n) × (u ≡ k)) c.args.named.now.items c.add_slot.new.named.items))
+    subst (λ (k : ℕ). OnOk c.add_slot.result (AddsSlots (λ n u. (c.args.place ≡ InSlot n) × (u ≡ k)) c.args.named.now c.add_slot.new.named))
     c.units_beside.ensures c.add_slot.ensures

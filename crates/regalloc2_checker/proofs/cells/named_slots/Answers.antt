@@ -1,8 +1,8 @@
-use Rattle.std.proofs.Common.{ℕ, ◌<◌, length}
-use Rattle.std.specs.Prelude.{◌⊎◌}
+use Rattle.std.proofs.Common.{ℕ, ◌<◌, length, List, subst, sym}
+use Rattle.std.specs.Prelude.{◌⊎◌, ◌↔◌, Contains}
 use Rattle.std.proofs.lemmas.Result.{err_from_is_err_and}
 use Rattle.regalloc2_function.specs.Views.{output_of}
-use Rattle.regalloc2_checker.specs.Cells.{IsTakenByInst, IsTakenByMove, IsTakenByLocation, move_of_index}
+use Rattle.regalloc2_checker.specs.Cells.{IsSlotTaken, IsTakenByInst, IsTakenByMove, IsTakenByLocation, move_of_index}
 use Rattle.regalloc2_checker.proofs.AddedSlots.{adds_both, from_none}
 use Rattle.regalloc2_checker.proofs.cells.named_slots.Goals as goal
 
@@ -18,8 +18,8 @@ returns-clause-named g c =
     let P : ℕ → ℕ → Type 0 = λ n u. (i : ℕ) × (i < length f.insts) × IsTakenByInst f out i n u in
     let Q : ℕ → ℕ → Type 0 = λ n u. (k : ℕ) × (k < length out.edits) × IsTakenByMove f (move_of_index out k) n u in
     let R : ℕ → ℕ → Type 0 = λ n u. (k : ℕ) × (k < length out.debug_locations) × IsTakenByLocation out k n u in
-    from_none (λ n u. P n u ⊎ (Q n u ⊎ R n u)) c.in_ok-named.named.items c.test_locations.new.named.items c.in_ok-named.ensures.items
-    (adds_both P (λ n u. Q n u ⊎ R n u) c.in_ok-named.named.items c.test_insts.new.named.items c.test_locations.new.named.items
-    c.in_ok-test_insts.ensures.named
-    (adds_both Q R c.test_insts.new.named.items c.test_moves.new.named.items c.test_locations.new.named.items c.in_ok-test_moves.ensures.named
-    c.in_ok-test_locations.ensures.named))
+    subst (λ (slots : List (ℕ × ℕ)). (n u : ℕ) → Contains slots (n, u) ↔ IsSlotTaken f out n u) (sym c.into_slots.ensures)
+    (from_none (λ n u. P n u ⊎ (Q n u ⊎ R n u)) c.in_ok-named.named c.test_locations.new.named c.in_ok-named.ensures
+    (adds_both P (λ n u. Q n u ⊎ R n u) c.in_ok-named.named c.test_insts.new.named c.test_locations.new.named c.in_ok-test_insts.ensures.named
+    (adds_both Q R c.test_insts.new.named c.test_moves.new.named c.test_locations.new.named c.in_ok-test_moves.ensures.named
+    c.in_ok-test_locations.ensures.named)))

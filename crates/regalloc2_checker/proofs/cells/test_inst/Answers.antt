@@ -31,10 +31,10 @@ loop-k-preserved g c =
       cells = below_more _ _ c.loop-k.invariant.cells
           (subst (λ (o : OperandValue). IsOperandCell env out o (place_at (allocs_of out c.args.inst) c.loop-k.k)) op
           (subst (λ (p : Place). IsOperandCell env out c.index-operands-k.result p) place (c.is_operand_cell.ensures.0 c.if-not-is_operand_cell.false)));
-      named = adds_more (λ j n u. IsTakenByOperand f out c.args.inst j n u) c.loop-k.k c.args.named.now.items c.loop-k.named.items c.add_slot.new.named.items
+      named = adds_more (λ j n u. IsTakenByOperand f out c.args.inst j n u) c.loop-k.k c.args.named.now c.loop-k.named c.add_slot.new.named
           c.loop-k.invariant.named
-          (adds_at c.place_at-place.result (place_at (allocs_of out c.args.inst) c.loop-k.k) c.spillslot_size.result _ c.loop-k.named.items
-          c.add_slot.new.named.items place units c.in_ok-add_slot.ensures);
+          (adds_at c.place_at-place.result (place_at (allocs_of out c.args.inst) c.loop-k.k) c.spillslot_size.result _ c.loop-k.named
+          c.add_slot.new.named place units c.in_ok-add_slot.ensures);
     }
 
 pub returns-clause-named : goal.returns-clause-named
@@ -42,5 +42,5 @@ returns-clause-named g c =
     let f = g.F.Function.function c.args.f.now in
     let out = output_of c.args.output.now in
     let count = ap length c.loop-k.invariant.operands in
-    adds_all (λ j n u. IsTakenByOperand f out c.args.inst j n u) c.loop-k.k _ c.args.named.now.items c.loop-k.named.items
+    adds_all (λ j n u. IsTakenByOperand f out c.args.inst j n u) c.loop-k.k _ c.args.named.now c.loop-k.named
     (omega (arith, c.loop-k.invariant.within, count)) (omega (arith, c.loop-k-test.false, count)) c.loop-k.invariant.named

@@ -16,5 +16,5 @@ invariant-loop-k g l = record {
   cells : (j : ℕ) → j < l.k → IsOperandCell (machine_of l.env) (output_of l.output) (operand_of (g.F.Function.function l.f) l.inst j)
       (place_at (allocs_of (output_of l.output) l.inst) j);
   named : AddsSlots (λ n u. (j : ℕ) × (j < l.k) × IsTakenByOperand (g.F.Function.function l.f) (output_of l.output) l.inst j n u)
-      l.initial.named.items l.named.items;
+      l.initial.named l.named;
 }

@@ -18,9 +18,9 @@ loop-i-preserved g c =
       cells = below_more _ _ c.loop-i.invariant.cells
           (subst (λ (i : ℕ). (k : ℕ) → k < length (inst_at f i).operands → IsOperandCell env out (operand_of f i k) (place_at (allocs_of out i) k))
           c.new.ensures c.in_ok-test_inst.ensures.cells);
-      named = adds_more (λ i n u. IsTakenByInst f out i n u) c.loop-i.i c.args.named.now.items c.loop-i.named.items c.test_inst.new.named.items
+      named = adds_more (λ i n u. IsTakenByInst f out i n u) c.loop-i.i c.args.named.now c.loop-i.named c.test_inst.new.named
           c.loop-i.invariant.named
-          (subst (λ (i : ℕ). AddsSlots (λ n u. IsTakenByInst f out i n u) c.loop-i.named.items c.test_inst.new.named.items) c.new.ensures
+          (subst (λ (i : ℕ). AddsSlots (λ n u. IsTakenByInst f out i n u) c.loop-i.named c.test_inst.new.named) c.new.ensures
           c.in_ok-test_inst.ensures.named);
     }
 
@@ -28,6 +28,6 @@ pub returns-clause-named : goal.returns-clause-named
 returns-clause-named g c =
     let f = g.F.Function.function c.args.f.now in
     let out = output_of c.args.output.now in
-    adds_all (λ i n u. IsTakenByInst f out i n u) c.loop-i.i _ c.args.named.now.items c.loop-i.named.items
+    adds_all (λ i n u. IsTakenByInst f out i n u) c.loop-i.i _ c.args.named.now c.loop-i.named
     (omega (arith, c.loop-i.invariant.within, c.loop-i.invariant.whole)) (omega (arith, c.loop-i-test.false, c.loop-i.invariant.whole))
     c.loop-i.invariant.named

@@ -14,5 +14,5 @@ invariant-loop-i g l = record {
   cells : (i : ℕ) → i < l.i → (k : ℕ) → k < length (inst_at (g.F.Function.function l.f) i).operands →
       IsOperandCell (machine_of l.env) (output_of l.output) (operand_of (g.F.Function.function l.f) i k) (place_at (allocs_of (output_of l.output) i) k);
   named : AddsSlots (λ n u. (i : ℕ) × (i < l.i) × IsTakenByInst (g.F.Function.function l.f) (output_of l.output) i n u)
-      l.initial.named.items l.named.items;
+      l.initial.named l.named;
 }

@@ -35,14 +35,14 @@ loop-k-preserved g c =
       within = omega (arith, c.loop-k-test.true);
       cells = below_more _ _ c.loop-k.invariant.cells
           (subst (λ (p : Place). (class : RegClass) × IsProperPlace env out class p) place (c.is_proper_of_any.ensures.0 c.if-not-is_proper_of_any.false));
-      named = adds_more (λ j n u. IsTakenByLocation out j n u) c.loop-k.k c.args.named.now.items c.loop-k.named.items
-          c.add_slot.new.named.items c.loop-k.invariant.named
-          (adds_at _ (location_of_index out c.loop-k.k) 1 1 c.loop-k.named.items c.add_slot.new.named.items place refl c.in_ok-add_slot.ensures);
+      named = adds_more (λ j n u. IsTakenByLocation out j n u) c.loop-k.k c.args.named.now c.loop-k.named
+          c.add_slot.new.named c.loop-k.invariant.named
+          (adds_at _ (location_of_index out c.loop-k.k) 1 1 c.loop-k.named c.add_slot.new.named place refl c.in_ok-add_slot.ensures);
     }
 
 pub returns-clause-named : goal.returns-clause-named
 returns-clause-named g c =
     let out = output_of c.args.output.now in
-    adds_all (λ j n u. IsTakenByLocation out j n u) c.loop-k.k (length out.debug_locations) c.args.named.now.items c.loop-k.named.items
+    adds_all (λ j n u. IsTakenByLocation out j n u) c.loop-k.k (length out.debug_locations) c.args.named.now c.loop-k.named
     (omega (arith, c.loop-k.invariant.within, c.loop-k.invariant.whole)) (omega (arith, c.loop-k-test.false, c.loop-k.invariant.whole))
     c.loop-k.invariant.named

@@ -12,5 +12,5 @@ invariant-loop-k g l = record {
   whole : l.k-end ≡ length (output_of l.output).debug_locations;
   within : l.k ≤ l.k-end;
   cells : (j : ℕ) → j < l.k → (c : RegClass) × IsProperPlace (machine_of l.env) (output_of l.output) c (location_of_index (output_of l.output) j);
-  named : AddsSlots (λ n u. (j : ℕ) × (j < l.k) × IsTakenByLocation (output_of l.output) j n u) l.initial.named.items l.named.items;
+  named : AddsSlots (λ n u. (j : ℕ) × (j < l.k) × IsTakenByLocation (output_of l.output) j n u) l.initial.named l.named;
 }

@@ -50,20 +50,20 @@ loop-k-preserved g c =
     let to : c.places-from.result.1 ≡ m.to = c.places-from.ensures.to ∙ ap (λ (m : MoveValue). m.to) move in
     let ends = c.are_move_ends.ensures.0 c.if-not-are_move_ends.false in
     let class = c.is_within_class.ensures.0 c.if-not-is_within_class.false in
-    let first = adds_at c.places-from.result.0 m.from (units_beside f c.places-from.result.1) (units_beside f m.to) c.loop-k.named.items
-    c.add_end.new.named.items from (ap (λ (p : Place). units_beside f p) to) c.in_ok-add_end.ensures in
-    let second = adds_at c.places-from.result.1 m.to (units_beside f c.places-from.result.0) (units_beside f m.from) c.add_end.new.named.items
-    c.add_end-in-loop-k.new.named.items to (ap (λ (p : Place). units_beside f p) from) c.in_ok-add_end-2.ensures in
+    let first = adds_at c.places-from.result.0 m.from (units_beside f c.places-from.result.1) (units_beside f m.to) c.loop-k.named
+    c.add_end.new.named from (ap (λ (p : Place). units_beside f p) to) c.in_ok-add_end.ensures in
+    let second = adds_at c.places-from.result.1 m.to (units_beside f c.places-from.result.0) (units_beside f m.from) c.add_end.new.named
+    c.add_end-in-loop-k.new.named to (ap (λ (p : Place). units_beside f p) from) c.in_ok-add_end-2.ensures in
     record {
       whole = c.loop-k.invariant.whole;
       within = omega (arith, c.loop-k-test.true);
       ends = below_more _ _ c.loop-k.invariant.ends
           (subst (λ (p : Place). IsMoveEnd env out p) from ends.0, subst (λ (p : Place). IsMoveEnd env out p) to ends.1);
       classes = below_more _ _ c.loop-k.invariant.classes (λ r s e d. class r s (from ∙ e) (to ∙ d));
-      named = adds_more (λ j n u. IsTakenByMove f (move_of_index out j) n u) c.loop-k.k c.args.named.now.items c.loop-k.named.items
-          c.add_end-in-loop-k.new.named.items c.loop-k.invariant.named
-          (adds_both (λ n u. (m.from ≡ InSlot n) × (u ≡ units_beside f m.to)) (λ n u. (m.to ≡ InSlot n) × (u ≡ units_beside f m.from)) c.loop-k.named.items
-          c.add_end.new.named.items c.add_end-in-loop-k.new.named.items first second);
+      named = adds_more (λ j n u. IsTakenByMove f (move_of_index out j) n u) c.loop-k.k c.args.named.now c.loop-k.named
+          c.add_end-in-loop-k.new.named c.loop-k.invariant.named
+          (adds_both (λ n u. (m.from ≡ InSlot n) × (u ≡ units_beside f m.to)) (λ n u. (m.to ≡ InSlot n) × (u ≡ units_beside f m.from)) c.loop-k.named
+          c.add_end.new.named c.add_end-in-loop-k.new.named first second);
     }
 
 pub returns-clause-ends : goal.returns-clause-ends
@@ -75,6 +75,6 @@ returns-clause-classes g c = λ k less. c.loop-k.invariant.classes k (omega (ari
 pub returns-clause-named : goal.returns-clause-named
 returns-clause-named g c =
     let out = output_of c.args.output.now in
-    adds_all (λ j n u. IsTakenByMove (g.F.Function.function c.args.f.now) (move_of_index out j) n u) c.loop-k.k (length out.edits) c.args.named.now.items
-    c.loop-k.named.items (omega (arith, c.loop-k.invariant.within, c.loop-k.invariant.whole)) (omega (arith, c.loop-k-test.false, c.loop-k.invariant.whole))
+    adds_all (λ j n u. IsTakenByMove (g.F.Function.function c.args.f.now) (move_of_index out j) n u) c.loop-k.k (length out.edits) c.args.named.now
+    c.loop-k.named (omega (arith, c.loop-k.invariant.within, c.loop-k.invariant.whole)) (omega (arith, c.loop-k-test.false, c.loop-k.invariant.whole))
     c.loop-k.invariant.named

@@ -14,5 +14,5 @@ invariant-loop-k g l = record {
       × IsMoveEnd (machine_of l.env) (output_of l.output) (move_of_index (output_of l.output) j).to;
   classes : (j : ℕ) → j < l.k → IsWithinClass (move_of_index (output_of l.output) j);
   named : AddsSlots (λ n u. (j : ℕ) × (j < l.k) × IsTakenByMove (g.F.Function.function l.f) (move_of_index (output_of l.output) j) n u)
-      l.initial.named.items l.named.items;
+      l.initial.named l.named;
 }
