@@ -20,6 +20,7 @@ pub enum Labels {
     LeftOut,
 }
 
+const NONE: PRegSet = PRegSet::empty();
 const CLASSES: [RegClass; 3] = [RegClass::Int, RegClass::Float, RegClass::Vector];
 
 /// Returns `true` if upstream's encodings are those of the library, and the library has the expected version.
@@ -131,10 +132,46 @@ impl KnownSets {
         }
         Ok(words)
     }
+}
 
-    fn of_classes(&mut self, sets: [PRegSet; 3]) -> Result<[SetWords; 3], Unwritten> {
-        let [int, float, vector] = sets;
-        Ok([self.words(int)?, self.words(float)?, self.words(vector)?])
+/// Returns the words of the sets of the three classes.
+fn class_words(sets: [PRegSet; 3]) -> Result<[SetWords; 3], Unwritten> {
+    let [int, float, vector] = sets;
+    Ok([set_words(int)?, set_words(float)?, set_words(vector)?])
+}
+
+/// The sets of the machine that was written last, and their words. Most functions are for one machine.
+#[derive(Clone, Debug)]
+struct KnownMachine {
+    preferred: [PRegSet; 3],
+    non_preferred: [PRegSet; 3],
+    words: MachineWords,
+}
+
+impl Default for KnownMachine {
+    fn default() -> Self {
+        let none = [PRegSet::empty(); 3];
+        KnownMachine { preferred: none, non_preferred: none, words: MachineWords::default() }
+    }
+}
+
+impl KnownMachine {
+    /// Returns the words of a machine's registers.
+    fn words(&mut self, env: &MachineEnv) -> Result<&MachineWords, Unwritten> {
+        if self.preferred != env.preferred_regs_by_class || self.non_preferred != env.non_preferred_regs_by_class {
+            self.learn(env)?;
+        }
+        self.words.scratch = env.scratch_by_class.map(|reg| reg.map(|reg| reg.index() as u32));
+        Ok(&self.words)
+    }
+
+    #[cold]
+    fn learn(&mut self, env: &MachineEnv) -> Result<(), Unwritten> {
+        let preferred = class_words(env.preferred_regs_by_class)?;
+        let non_preferred = class_words(env.non_preferred_regs_by_class)?;
+        self.words = MachineWords { preferred, non_preferred, ..self.words };
+        (self.preferred, self.non_preferred) = (env.preferred_regs_by_class, env.non_preferred_regs_by_class);
+        Ok(())
     }
 }
 
@@ -153,9 +190,9 @@ impl Sets {
     }
 
     /// Returns the number of a set, which is added to the columns if it isn't there. The empty one has the number 0.
-    #[inline]
+    #[inline(never)]
     fn number(&mut self, to: &mut Columns, set: PRegSet) -> Result<u32, Unwritten> {
-        if set == PRegSet::empty() {
+        if set == NONE {
             return Ok(0);
         }
         match self.few.iter().position(|few| *few == set) {
@@ -184,6 +221,7 @@ impl Sets {
 pub struct FunctionWords {
     columns: Columns,
     sets: Sets,
+    machine: KnownMachine,
 }
 
 impl FunctionWords {
@@ -193,18 +231,14 @@ impl FunctionWords {
     }
 
     fn machine(&mut self, env: &MachineEnv) -> Result<(), Unwritten> {
-        let registers = MachineWords {
-            preferred: self.sets.known.of_classes(env.preferred_regs_by_class)?,
-            non_preferred: self.sets.known.of_classes(env.non_preferred_regs_by_class)?,
-            scratch: env.scratch_by_class.map(|reg| reg.map(|reg| reg.index() as u32)),
-        };
-        self.columns.machine(registers, indexes(&env.fixed_stack_slots));
+        self.columns.machine(*self.machine.words(env)?, indexes(&env.fixed_stack_slots));
         Ok(())
     }
 
     fn insts(&mut self, f: &impl Function) -> Result<(), Unwritten> {
         for inst in (0..f.num_insts()).map(Inst::new) {
-            let set = self.sets.number(&mut self.columns, f.inst_clobbers(inst))?;
+            let clobbers = f.inst_clobbers(inst);
+            let set = if clobbers == NONE { 0 } else { self.sets.number(&mut self.columns, clobbers)? };
             self.columns.inst(kind(f, inst), set, f.inst_operands(inst).iter().map(|op| op.bits()));
         }
         Ok(())

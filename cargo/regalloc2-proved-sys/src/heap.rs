@@ -71,23 +71,19 @@ const fn class_of(size: usize) -> usize {
     2 * log + (n >> (log - 1) & 1)
 }
 
-/// The classes by `(size - 1) / UNIT`, for the sizes of nearly all blocks.
-const SMALL: [u8; 64] = small();
+/// The most bytes of a block whose class is in [`SMALL`].
+const LARGEST_SMALL: usize = 1024;
+/// The classes by the number of units, for nearly all blocks.
+const SMALL: [u8; LARGEST_SMALL / UNIT + 1] = small();
 
-const fn small() -> [u8; 64] {
-    let mut classes = [0; 64];
+const fn small() -> [u8; LARGEST_SMALL / UNIT + 1] {
+    let mut classes = [0; LARGEST_SMALL / UNIT + 1];
     let mut n = 0;
-    while n < 64 {
-        classes[n] = class_of(UNIT * (n + 1)) as u8;
+    while n < classes.len() {
+        classes[n] = class_of(UNIT * n) as u8;
         n += 1;
     }
     classes
-}
-
-/// The class of a block of `size` bytes, if it is in [`SMALL`].
-#[inline]
-fn small_class(size: usize) -> Option<usize> {
-    SMALL.get(size.saturating_sub(1) / UNIT).map(|class| usize::from(*class))
 }
 
 struct Pool {
@@ -121,6 +117,15 @@ impl Pool {
             at: Cell::new(null_mut()),
             left: Cell::new(0),
         }
+    }
+
+    /// Returns what [`Pool::take`] returns for a block of `size` bytes, if they are few.
+    #[inline]
+    fn small(&self, size: usize) -> Option<NonNull<u8>> {
+        if size > LARGEST_SMALL {
+            return None;
+        }
+        self.take(usize::from(SMALL[size.div_ceil(UNIT)]))
     }
 
     /// Returns a freed block of a class, or one from the current chunk, if it has room. Outside a call there is neither.
@@ -298,10 +303,11 @@ fn large(size: usize) -> *mut u8 {
 /// `align` is at most 16, the alignment of all blocks.
 #[unsafe(no_mangle)]
 extern "C" fn rattle_alloc(size: usize, _align: usize) -> Tried {
-    match small_class(size).and_then(|class| POOL.with(|pool| pool.take(class))) {
+    // The pool comes first: to find it is a call for the compiler, over which little has to be kept.
+    POOL.with(|pool| match pool.small(size) {
         Some(p) => Tried { ok: true, p: p.as_ptr() },
         None => slow_alloc(size),
-    }
+    })
 }
 
 /// Allocates what needs another chunk, is large, or is outside a call.
@@ -345,18 +351,19 @@ unsafe extern "C" fn rattle_realloc(p: *mut u8, kept: usize, size: usize, _align
 /// `p` is a block from these functions, and not freed.
 #[unsafe(no_mangle)]
 unsafe extern "C" fn rattle_dealloc(p: *mut u8) {
-    // SAFETY: a head precedes each block.
-    unsafe {
-        let head = p.cast::<Head>().sub(1);
-        let class = (*head).class;
-        POOL.with(|pool| match pool.freed.get(class) {
-            Some(list) => {
-                (*head).next = list.replace(head);
-                pool.out.set(pool.out.get().wrapping_sub(1));
+    POOL.with(|pool| {
+        // SAFETY: a head precedes each block.
+        unsafe {
+            let head = p.cast::<Head>().sub(1);
+            match pool.freed.get((*head).class) {
+                Some(list) => {
+                    (*head).next = list.replace(head);
+                    pool.out.set(pool.out.get().wrapping_sub(1));
+                }
+                None => free(head.cast()),
             }
-            None => free(head.cast()),
-        });
-    }
+        }
+    });
 }
 
 #[cfg(test)]

@@ -131,7 +131,10 @@ impl Columns {
     #[inline]
     pub fn inst(&mut self, kind: InstKind, set: u32, operands: impl Iterator<Item = u64>) {
         self.kinds.push(set << 2 | kind as u32);
-        self.operands.extend(operands.map(|bits| [bits as u32, (bits >> 32) as u32]));
+        // instructions have few operands, for which `extend` does more than this loop
+        for bits in operands {
+            self.operands.push([bits as u32, (bits >> 32) as u32]);
+        }
         self.operand_ends.push(self.operands.len() as u32);
     }
 
@@ -187,12 +190,9 @@ impl Columns {
     /// Returns the words of what was added, or `None` if some count doesn't fit a word.
     pub fn words(&mut self, settings: Settings) -> Option<&[u32]> {
         let header = self.header(settings)?;
-        let scratch = self.machine.scratch.map(|register| register.map_or(0, |index| index.saturating_add(1)));
-        let columns: [&[u32]; 19] = [
-            &header,
-            self.machine.preferred.as_flattened(),
-            self.machine.non_preferred.as_flattened(),
-            &scratch,
+        let MachineWords { preferred, non_preferred, scratch } = &self.machine;
+        let scratch = scratch.map(|register| register.map_or(0, |index| index.saturating_add(1)));
+        let columns: [&[u32]; 15] = [
             &self.slots,
             self.sets.as_flattened(),
             &self.kinds,
@@ -209,9 +209,14 @@ impl Columns {
             &self.arguments,
             self.labels.as_flattened(),
         ];
+        let fixed = header.len() + preferred.as_flattened().len() + non_preferred.as_flattened().len() + scratch.len();
         self.words.clear();
-        self.words.reserve(columns.iter().map(|column| column.len()).sum());
-        columns.into_iter().for_each(|column| self.words.extend_from_slice(column));
+        self.words.reserve(fixed + columns.iter().map(|column| column.len()).sum::<usize>());
+        self.words.extend_from_slice(&header);
+        self.words.extend_from_slice(preferred.as_flattened());
+        self.words.extend_from_slice(non_preferred.as_flattened());
+        self.words.extend_from_slice(&scratch);
+        columns.into_iter().filter(|column| !column.is_empty()).for_each(|column| self.words.extend_from_slice(column));
         Some(&self.words)
     }
 }
