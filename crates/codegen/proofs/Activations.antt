@@ -1,17 +1,19 @@
 -- Runs of the machine on a stack. A run within a function is one of its activation, up to a call or a return.
-use Rattle.std.proofs.Common.{ℕ, zero, suc, ◌≡◌, ◌+◌, ◌≤◌, List, Option, None, Some, refl, sym, ap, ◌∙◌, subst, arith}
-use Rattle.std.specs.Prelude.{slice_get}
+use Rattle.std.proofs.Common.{ℕ, zero, suc, ◌≡◌, ◌+◌, ◌<◌, ◌≤◌, Bool, true, false, cond, List, Option, None, Some, refl, sym, ap, ◌∙◌, subst, arith, lt-ltb}
+use Rattle.std.specs.Prelude.{◌&&◌, slice_get}
 use Rattle.codegen_machine.specs.Ir.Numbers.{RunOutcome, Running, Returned, Trapped, Overflowed, Stuck, further}
 use Rattle.codegen_machine.specs.declared.Instruction.{Instruction}
-use Rattle.codegen_machine.specs.declared.Instruction.TheVariants.{Call}
-use Rattle.codegen_machine.specs.Calls.{FunctionCode, Stack, StackState, activation_stepped, callee_of, instruction_done, returned_into, stack_run, stack_step, stack_step_in}
-use Rattle.codegen_machine.specs.Machine.{MachineState, executed, machine_run, machine_step}
+use Rattle.codegen_machine.specs.declared.Instruction.TheVariants.{Call, Pass}
+use Rattle.codegen_machine.specs.Calls.{FunctionCode, Stack, StackAct, StackState, Calls, activation_stepped, act_on_stack, instruction_done, returned_into}
+use Rattle.codegen_machine.specs.Calls.{stack_run, stack_step, stack_step_in, word_passed}
+use Rattle.codegen_machine.specs.Machine.{MachineState, executed, is_general, machine_run, machine_step}
 use Rattle.codegen.proofs.Runs.{IsOver, Comes, runs_then}
 
--- only a call is stuck and has a callee
-no_callee : (args : ℕ → ℕ) (slots : ℕ) (i : Option Instruction) (s : MachineState) → (executed args slots i s ≡ Stuck → ⊥) → callee_of i ≡ None
-no_callee args slots (Some (Call g)) s goes = absurd (goes refl)
-no_callee args slots i s goes = refl
+-- an instruction that acts on the stack is stuck within its function
+no_act : (args : ℕ → ℕ) (slots : ℕ) (i : Option Instruction) (s : MachineState) → (executed args slots i s ≡ Stuck → ⊥) → act_on_stack i ≡ None
+no_act args slots (Some (Call g)) s goes = absurd (goes refl)
+no_act args slots (Some (Pass k from)) s goes = absurd (goes refl)
+no_act args slots i s goes = refl
 
 further_over : {S : Type 0} (x : RunOutcome S) (f g : S → RunOutcome S) (o : RunOutcome S) → ((t : S) → f t ≡ o → g t ≡ o) → further x f ≡ o → further x g ≡ o
 further_over (Running t) f g o h e = h t e
@@ -20,9 +22,18 @@ further_over (Trapped memory) f g o h e = e
 further_over Overflowed f g o h e = e
 further_over Stuck f g o h e = e
 
--- an activation in another state
+-- an activation in another state, and with other outgoing words
+abbrev pub activation_with : StackState → MachineState → (ℕ → ℕ) → StackState
+activation_with u s words =
+    record { function = u.function; args = u.args; state = s; outgoing = words; callers = u.callers; activations = u.activations }
+
 abbrev pub activation_in : StackState → MachineState → StackState
-activation_in u s = record { function = u.function; args = u.args; state = s; callers = u.callers; activations = u.activations }
+activation_in u s = activation_with u s u.outgoing
+
+both_true : (a b : Bool) → a ≡ true → b ≡ true → (a && b) ≡ true
+both_true true true e h = refl
+both_true true false e h = absurd cc
+both_true false b e h = absurd cc
 
 module _ (functions : List FunctionCode) (stack : Stack) where
   -- The stack gets from the first state to the second in at least that many steps: the run from the second state is the rest of the run from the first.
@@ -83,21 +94,30 @@ module _ (functions : List FunctionCode) (stack : Stack) where
     abbrev step_of : MachineState → RunOutcome MachineState
     step_of s = machine_step f.code u.args s
 
-    -- the step of an activation, unless it calls
+    -- the step of an activation, unless it acts on the stack
     lifted : (s : MachineState) (o : RunOutcome MachineState) → step_of s ≡ o → (o ≡ Stuck → ⊥) →
         stack_step functions stack (here s) ≡ activation_stepped (here s) o
     lifted s o e goes =
         ap (λ (x : Option FunctionCode). stack_step_in functions stack (here s) x) is
-        ∙ ap (λ (x : Option ℕ). instruction_done functions stack (here s) f x)
-        (no_callee u.args f.code.slots (slice_get f.code.instructions s.pc) s (λ stuck. goes (sym e ∙ stuck)))
+        ∙ ap (λ (x : Option StackAct). instruction_done functions stack (here s) f x)
+        (no_act u.args f.code.slots (slice_get f.code.instructions s.pc) s (λ stuck. goes (sym e ∙ stuck)))
         ∙ ap (λ (x : RunOutcome MachineState). activation_stepped (here s) x) e
 
     -- at a call, it is that of the callee's beginning
     pub steps_into : (s : MachineState) (g : ℕ) → slice_get f.code.instructions s.pc ≡ Some (Call g) →
-        stack_step functions stack (here s) ≡ instruction_done functions stack (here s) f (Some g)
+        stack_step functions stack (here s) ≡ instruction_done functions stack (here s) f (Some (Calls g))
     steps_into s g e =
         ap (λ (x : Option FunctionCode). stack_step_in functions stack (here s) x) is
-        ∙ ap (λ (i : Option Instruction). instruction_done functions stack (here s) f (callee_of i)) e
+        ∙ ap (λ (i : Option Instruction). instruction_done functions stack (here s) f (act_on_stack i)) e
+
+    -- where a register is passed, it writes the outgoing word
+    pub comes_passing : (s : MachineState) (k from : ℕ) → slice_get f.code.instructions s.pc ≡ Some (Pass k from) → k < f.code.outgoing →
+        is_general from ≡ true → StackComes 1 (here s) (word_passed (here s) k (s.registers from))
+    comes_passing s k from e within general = stack_by (here s) (word_passed (here s) k (s.registers from)) (
+        ap (λ (x : Option FunctionCode). stack_step_in functions stack (here s) x) is
+        ∙ ap (λ (i : Option Instruction). instruction_done functions stack (here s) f (act_on_stack i)) e
+        ∙ ap (λ (b : Bool). cond b (Running (word_passed (here s) k (s.registers from))) Stuck)
+        (both_true _ _ (lt-ltb k f.code.outgoing within) general))
 
     -- a run within the function
     one_lifted : (m : ℕ) (s t : MachineState) (o : RunOutcome MachineState) → step_of s ≡ o →

@@ -218,7 +218,7 @@ unlimited b = record {
   memory = b.memory;
   sized = b.sized;
   numbers = b.numbers;
-  stack = record { registers = b.stack.registers; frames = b.stack.frames; room = None };
+  stack = record { registers = b.stack.registers; frames = b.stack.frames; outgoing = b.stack.outgoing; room = None };
 }
 
 -- The code behaves as the module, if a relation holds at the beginning and each step preserves it.

@@ -1,9 +1,11 @@
--- A call within a procedure. Up to it, the machine runs the call's moves, and the arguments are in their registers. Once the callee has returned, the numbers of
--- registers and slots are those of the caller's places again, by the choice that leaves what the callee left in caller-saved registers.
+-- A call within a procedure. Up to it, the machine runs the call's moves: then the first arguments are in their registers, and the others in places that keep
+-- their numbers whatever the call writes to register 0. Once the callee has returned, the numbers of registers and slots are those of the caller's places again,
+-- by the choice that leaves what the callee left in caller-saved registers.
 use Rattle.std.proofs.Common.{ℕ, zero, suc, ◌≡◌, ◌+◌, ◌<◌, ◌≤◌, ◌⊎◌, inl, inr, Bool, true, false, cond, not, List, [], ◌∷◌, ◌++◌, map, length, Option, Some, None}
-use Rattle.std.proofs.Common.{refl, sym, ap, ◌∙◌, subst, arith, nat_eq, lt-ltb, ltb-true, eqb-true}
+use Rattle.std.proofs.Common.{refl, sym, ap, ◌∙◌, subst, arith, nat_eq, lt-ltb, ltb-true}
 use Rattle.std.proofs.lemmas.Bool.{and_parts}
-use Rattle.std.specs.Prelude.{◌&&◌, ◌||◌, nat_lt, slice_get, slice_index, slice_index_or, option_map}
+use Rattle.std.specs.Global.{Vec}
+use Rattle.std.specs.Prelude.{◌-◌, ◌&&◌, ◌||◌, nat_lt, slice_index, slice_index_or, option_map}
 use Rattle.regalloc2_names.specs.declared.RegClass.TheVariants.{Int}
 use Rattle.regalloc2_names.specs.declared.sets.PRegSet.{PRegSet}
 use Rattle.regalloc2_names.specs.Register.{Register, VirtualRegister}
@@ -15,24 +17,21 @@ use Rattle.regalloc2_function.specs.OutputValue.{OutputValue, allocs_of, place_a
 use Rattle.regalloc2_function.specs.Path.{Location, Way, Onward, next_of}
 use Rattle.regalloc2_function.specs.Listing.{ListedInst, listing_from}
 use Rattle.regalloc2_function.specs.AllocatedRun.{moves_at}
-use Rattle.regalloc2_semantics.specs.Values.Interpreters.{State, edge_to, read_by, number_set, numbers_defined, passed_over, way_on}
+use Rattle.regalloc2_semantics.specs.Values.Interpreters.{State, edge_to, read_by, is_late_use, number_set, numbers_defined, passed_over, way_on}
 use Rattle.regalloc2_semantics.specs.Values.Interpreters.{place_set, numbers_moved, written_to, numbers_clobbered}
 use Rattle.codegen_machine.specs.Ir.Numbers.{put}
-use Rattle.codegen_machine.specs.Ir.Operands.{arguments_in, call_operands, is_lost_in, is_lost_in_call, operands_of, passed_in}
-use Rattle.codegen_machine.specs.Ir.Modules.{listed}
+use Rattle.codegen_machine.specs.Ir.Operands.{argument_registers, arguments_in, call_operands, is_lost_in, is_lost_in_call, operands_of, passed_in, passed_on_stack}
 use Rattle.codegen_machine.specs.Ir.Meaning.{ProcedureState}
 use Rattle.codegen_machine.specs.Ir.Seen.{Operations}
-use Rattle.codegen_machine.specs.declared.ir.operation.Arguments.{Arguments}
-use Rattle.codegen_machine.specs.declared.ir.operation.Arguments.TheVariants.{Zero, One, Two, Three, Four, Five, Six}
 use Rattle.codegen_machine.specs.declared.ir.operation.Operation.{Operation}
 use Rattle.codegen_machine.specs.declared.ir.operation.Operation.TheVariants.{Call as Calling}
-use Rattle.codegen_machine.specs.declared.Instruction.TheVariants.{Call}
-use Rattle.codegen_machine.specs.Calls.{argument_register, argument_registers, is_caller_saved, registers_returned}
+use Rattle.codegen_machine.specs.declared.Instruction.{Instruction}
+use Rattle.codegen_machine.specs.Calls.{argument_register, is_caller_saved, registers_returned}
 use Rattle.codegen_machine.specs.Machine.{CodeValue, MachineState, is_general}
 use Rattle.codegen.specs.Pinned.{is_allocated, slot_place}
-use Rattle.codegen.specs.Emitted.{operation_at, operation_code, items_code}
-use Rattle.codegen.proofs.Premise.{AreRead, ArePassed, IsPlaced, IsPlain, IsCall, IsEnd, IsEmitted}
-use Rattle.codegen.proofs.Choices.{Choice, leavings, source_reads, source_after, found_reads, place_after, place_next, Together, StepsOn, AlikeByChoices}
+use Rattle.codegen.specs.Emitted.{call_code, items_code, operation_at, operation_code, stack_arguments}
+use Rattle.codegen.proofs.Premise.{AreRead, ArePassed, IsHere, IsPlaced, IsPlain, IsCall, IsEnd, IsEmitted}
+use Rattle.codegen.proofs.Choices.{Choice, leavings, source_reads, source_after, found_reads, place_after, place_next, ReadAlike, Together, StepsOn, AlikeByChoices}
 use Rattle.codegen.proofs.Runs.{Comes}
 use Rattle.codegen.proofs.Stands.{StandAt}
 use Rattle.codegen.proofs.Places.{Agree, Moved, holds_number, number_in, register_place}
@@ -77,9 +76,6 @@ lost_is (suc (suc (suc (suc (suc (suc (suc (suc (suc (suc zero)))))))))) less = 
 lost_is (suc (suc (suc (suc (suc (suc (suc (suc (suc (suc (suc zero))))))))))) less = refl
 lost_is (suc (suc (suc (suc (suc (suc (suc (suc (suc (suc (suc (suc n)))))))))))) less = absurd (omega arith)
 
-zero_saved : (n : ℕ) → nat_eq 0 n ≡ true → is_caller_saved n ≡ true
-zero_saved n e = let none : 0 ≡ n = eqb-true 0 n e in ap (λ (k : ℕ). is_caller_saved k) (sym none)
-
 -- slots aren't in caller-saved registers
 slots_saved : (saved last frame : ℕ → ℕ) (k : ℕ) → number_in (registers_returned saved last) frame (slot_place k) ≡ number_in saved frame (slot_place k)
 slots_saved saved last frame zero = refl
@@ -89,118 +85,146 @@ slots_saved saved last frame (suc (suc (suc zero))) = refl
 slots_saved saved last frame (suc (suc (suc (suc zero)))) = refl
 slots_saved saved last frame (suc (suc (suc (suc (suc k))))) = refl
 
-given_back : (saved is_result lost : Bool) (v l s f : ℕ) → lost ≡ (saved && not is_result) → (is_result ≡ true → saved ≡ true) → s ≡ f →
+given_back : (saved is_result lost : Bool) (v l s f : ℕ) → saved ≡ true → lost ≡ (saved && not is_result) →
     cond saved (cond is_result v l) s ≡ cond lost (cond is_result v l) (cond is_result v f)
-given_back true true lost v l s f e h g = ap (λ (b : Bool). cond b v v) (sym e)
-given_back true false lost v l s f e h g = ap (λ (b : Bool). cond b l f) (sym e)
-given_back false true lost v l s f e h g = let both : false ≡ true = h refl in absurd cc
-given_back false false lost v l s f e h g = g ∙ ap (λ (b : Bool). cond b l f) (sym e)
+given_back true true lost v l s f allocated e = ap (λ (b : Bool). cond b v v) (sym e)
+given_back true false lost v l s f allocated e = ap (λ (b : Bool). cond b l f) (sym e)
+given_back false is_result lost v l s f allocated e = absurd cc
 
--- after a return, the numbers are those of the caller's places
+-- after a return, the numbers are those of the caller's places, if slots kept theirs up to the call
 back_agrees : (set : PRegSet) → ((r : Register) → has_register set r ≡ is_lost_in_call r) → (saved left frame : ℕ → ℕ) (v : ℕ) (numbers : Place → ℕ) →
-    Agree saved frame numbers →
+    ((k : ℕ) → number_in saved frame (slot_place k) ≡ numbers (InSlot k)) →
     Agree (registers_returned saved (put left 0 v)) frame (numbers_clobbered set (left_in (put left 0 v)) (place_set numbers (register_place 0) v))
 unfolding numbers_clobbered place_set
-back_agrees set has saved left frame v numbers a = record {
+back_agrees set has saved left frame v numbers slots = record {
   in_registers = λ n allocated.
       given_back (is_caller_saved n) (nat_eq 0 n) (has_register set (record { number = n; class = Int })) v (left n) (saved n) (numbers (register_place n))
-      (has (record { number = n; class = Int }) ∙ lost_is n (allocated_small n allocated)) (zero_saved n) (a.in_registers n allocated);
-  in_slots = λ k. slots_saved saved (put left 0 v) frame k ∙ a.in_slots k;
+      (and_parts (is_general n) (is_caller_saved n) allocated).1 (has (record { number = n; class = Int }) ∙ lost_is n (allocated_small n allocated));
+  in_slots = λ k. slots_saved saved (put left 0 v) frame k ∙ slots k;
 }
 
--- a call's uses, each in its register
-abbrev uses_in : List ℕ → List VirtualRegister → List OperandValue
-uses_in rs [] = []
-uses_in [] (v ∷ vs) = []
-uses_in (r ∷ rs) (v ∷ vs) = passed_in r v ∷ uses_in rs vs
-
-arguments_are : (a : Arguments) → arguments_in a ≡ uses_in argument_registers (listed a)
-arguments_are Zero = refl
-arguments_are (One a) = refl
-arguments_are (Two a b) = refl
-arguments_are (Three a b c) = refl
-arguments_are (Four a b c d) = refl
-arguments_are (Five a b c d e) = refl
-arguments_are (Six a b c d e f) = refl
-
-few_arguments : (a : Arguments) → length (listed a) ≤ 6
-few_arguments Zero = omega arith
-few_arguments (One a) = omega arith
-few_arguments (Two a b) = omega arith
-few_arguments (Three a b c) = omega arith
-few_arguments (Four a b c d) = omega arith
-few_arguments (Five a b c d e) = omega arith
-few_arguments (Six a b c d e f) = omega arith
-
 -- uses define nothing
-none_defined : (w : ℕ → ℕ) (k : ℕ) (rs : List ℕ) (vs : List VirtualRegister) (m : VirtualRegister → ℕ) → numbers_defined w k (uses_in rs vs) m ≡ m
-unfolding numbers_defined
+none_defined : (w : ℕ → ℕ) (k : ℕ) (rs : List ℕ) (vs : List VirtualRegister) (m : VirtualRegister → ℕ) → numbers_defined w k (arguments_in rs vs) m ≡ m
+unfolding numbers_defined arguments_in
 none_defined w k rs [] m = refl
-none_defined w k [] (v ∷ vs) m = refl
+none_defined w k [] (v ∷ vs) m = none_defined w (k + 1) [] vs m
 none_defined w k (r ∷ rs) (v ∷ vs) m = none_defined w (k + 1) rs vs m
 
-none_written : (w : ℕ → ℕ) (ps : List Place) (k : ℕ) (rs : List ℕ) (vs : List VirtualRegister) (m : Place → ℕ) → written_to w ps k (uses_in rs vs) m ≡ m
-unfolding written_to
+none_written : (w : ℕ → ℕ) (ps : List Place) (k : ℕ) (rs : List ℕ) (vs : List VirtualRegister) (m : Place → ℕ) → written_to w ps k (arguments_in rs vs) m ≡ m
+unfolding written_to arguments_in
 none_written w ps k rs [] m = refl
-none_written w ps k [] (v ∷ vs) m = refl
+none_written w ps k [] (v ∷ vs) m = none_written w ps (k + 1) [] vs m
 none_written w ps k (r ∷ rs) (v ∷ vs) m = none_written w ps (k + 1) rs vs m
 
 -- a call defines the vreg of its result, and writes register 0
-result_defined : (n : ℕ) (to : VirtualRegister) (a : Arguments) (m : VirtualRegister → ℕ) →
-    numbers_defined (λ k. n) 0 (call_operands to a) m ≡ number_set m to n
+result_defined : (n : ℕ) (to : VirtualRegister) (vs : List VirtualRegister) (m : VirtualRegister → ℕ) →
+    numbers_defined (λ k. n) 0 (call_operands to vs) m ≡ number_set m to n
 unfolding numbers_defined
-result_defined n to a m =
-    ap (λ (os : List OperandValue). numbers_defined (λ k. n) 1 os (number_set m to n)) (arguments_are a)
-    ∙ none_defined (λ k. n) 1 argument_registers (listed a) (number_set m to n)
+result_defined n to vs m = none_defined (λ k. n) 1 argument_registers vs (number_set m to n)
 
-result_written : (n : ℕ) (to : VirtualRegister) (a : Arguments) (ps : List Place) (m : Place → ℕ) →
-    written_to (λ k. n) ps 0 (call_operands to a) m ≡ place_set m (place_at ps 0) n
+result_written : (w : ℕ → ℕ) (to : VirtualRegister) (vs : List VirtualRegister) (ps : List Place) (m : Place → ℕ) →
+    written_to w ps 0 (call_operands to vs) m ≡ place_set m (place_at ps 0) (w 0)
 unfolding written_to
-result_written n to a ps m =
-    ap (λ (os : List OperandValue). written_to (λ k. n) ps 1 os (place_set m (place_at ps 0) n)) (arguments_are a)
-    ∙ none_written (λ k. n) ps 1 argument_registers (listed a) (place_set m (place_at ps 0) n)
+result_written w to vs ps m = none_written w ps 1 argument_registers vs (place_set m (place_at ps 0) (w 0))
 
 -- what a call reads
 abbrev passed : (ℕ → OperandValue → ℕ) → ℕ → List ℕ → List VirtualRegister → List ℕ
 passed number k rs [] = []
-passed number k [] (v ∷ vs) = []
+passed number k [] (v ∷ vs) = number k (passed_on_stack v) ∷ passed number (k + 1) [] vs
 passed number k (r ∷ rs) (v ∷ vs) = number k (passed_in r v) ∷ passed number (k + 1) rs vs
 
 reads_passed : (number : ℕ → OperandValue → ℕ) (k : ℕ) (rs : List ℕ) (vs : List VirtualRegister) → AreRead vs →
-    read_by is_reading number k (uses_in rs vs) ≡ passed number k rs vs
-unfolding read_by
+    read_by is_reading number k (arguments_in rs vs) ≡ passed number k rs vs
+unfolding read_by arguments_in
 reads_passed number k rs [] h = refl
-reads_passed number k [] (v ∷ vs) h = refl
+reads_passed number k [] (v ∷ vs) h = ap (λ (ns : List ℕ). number k (passed_on_stack v) ∷ ns) (reads_passed number (k + 1) [] vs h.1)
 reads_passed number k (r ∷ rs) (v ∷ vs) h =
-    ap (λ (b : Bool). cond (not b) (number k (passed_in r v) ∷ read_by is_reading number (k + 1) (uses_in rs vs))
-    (read_by is_reading number (k + 1) (uses_in rs vs))) h.0
+    ap (λ (b : Bool). cond (not b) (number k (passed_in r v) ∷ read_by is_reading number (k + 1) (arguments_in rs vs))
+    (read_by is_reading number (k + 1) (arguments_in rs vs))) h.0
     ∙ ap (λ (ns : List ℕ). number k (passed_in r v) ∷ ns) (reads_passed number (k + 1) rs vs h.1)
 
-call_reads : (number : ℕ → OperandValue → ℕ) (to : VirtualRegister) (a : Arguments) → AreRead (listed a) →
-    read_by is_reading number 0 (call_operands to a) ≡ passed number 1 argument_registers (listed a)
+call_reads : (number : ℕ → OperandValue → ℕ) (to : VirtualRegister) (vs : List VirtualRegister) → AreRead vs →
+    read_by is_reading number 0 (call_operands to vs) ≡ passed number 1 argument_registers vs
 unfolding read_by
-call_reads number to a h =
-    ap (λ (os : List OperandValue). read_by is_reading number 1 os) (arguments_are a) ∙ reads_passed number 1 argument_registers (listed a) h
+call_reads number to vs h = reads_passed number 1 argument_registers vs h
 
 abbrev tail : List ℕ → List ℕ
 tail [] = []
 tail (n ∷ ns) = ns
 
--- the registers of arguments hold the arguments
-passes : (registers frame : ℕ → ℕ) (m : Place → ℕ) (numbers : VirtualRegister → ℕ) → Agree registers frame m → (ps : List Place) (k : ℕ) (rs : List ℕ)
-    (vs : List VirtualRegister) → ArePassed ps k rs vs → length vs ≤ length rs →
-    passed (λ k u. m (place_at ps k)) k rs vs ≡ passed (λ k u. numbers u.vreg) k rs vs → (i : ℕ) → i < length vs →
+-- the registers of the first arguments hold them
+passes : (registers frame : ℕ → ℕ) (m : Place → ℕ) (numbers : VirtualRegister → ℕ) → Agree registers frame m → (slots : ℕ) (ps : List Place) (k : ℕ)
+    (rs : List ℕ) (vs : List VirtualRegister) → ArePassed slots ps k rs vs →
+    passed (λ k u. m (place_at ps k)) k rs vs ≡ passed (λ k u. numbers u.vreg) k rs vs → (i : ℕ) → i < length vs → i < length rs →
     registers (slice_index_or rs i 16) ≡ slice_index (map (λ v. numbers v) vs) i
-passes registers frame m numbers a ps k rs [] placed few e i less = absurd (omega arith)
-passes registers frame m numbers a ps k [] (v ∷ vs) placed few e i less = absurd (omega arith)
-passes registers frame m numbers a ps k (r ∷ rs) (v ∷ vs) placed few e zero less =
+passes registers frame m numbers a slots ps k rs [] placed e i less few = absurd (omega arith)
+passes registers frame m numbers a slots ps k [] (v ∷ vs) placed e i less few = absurd (omega arith)
+passes registers frame m numbers a slots ps k (r ∷ rs) (v ∷ vs) placed e zero less few =
     ap registers (sym placed.0.1) ∙ holds_number registers frame m a (place_at ps k) placed.0.0 ∙ ap (λ (ns : List ℕ). slice_index ns 0) e
-passes registers frame m numbers a ps k (r ∷ rs) (v ∷ vs) placed few e (suc i) less =
-    passes registers frame m numbers a ps (k + 1) rs vs placed.1 (omega arith) (ap tail e) i (omega arith)
+passes registers frame m numbers a slots ps k (r ∷ rs) (v ∷ vs) placed e (suc i) less few =
+    passes registers frame m numbers a slots ps (k + 1) rs vs placed.1 (ap tail e) i (omega arith) (omega arith)
+
+-- the places of the others
+others_here : (slots : ℕ) (ps : List Place) (k : ℕ) (rs : List ℕ) (vs : List VirtualRegister) → ArePassed slots ps k rs vs →
+    (i : ℕ) → length rs ≤ i → i < length vs → IsHere slots (place_at ps (k + i))
+others_here slots ps k rs [] placed i large less = absurd (omega arith)
+others_here slots ps k [] (v ∷ vs) placed zero large less =
+    let e : k ≡ k + 0 = omega arith in subst (λ (j : ℕ). IsHere slots (place_at ps j)) e placed.0
+others_here slots ps k [] (v ∷ vs) placed (suc i) large less =
+    let e : k + 1 + i ≡ k + suc i = omega arith in
+    subst (λ (j : ℕ). IsHere slots (place_at ps j)) e (others_here slots ps (k + 1) [] vs placed.1 i (omega arith) (omega arith))
+others_here slots ps k (r ∷ rs) (v ∷ vs) placed zero large less = absurd (omega arith)
+others_here slots ps k (r ∷ rs) (v ∷ vs) placed (suc i) large less =
+    let e : k + 1 + i ≡ k + suc i = omega arith in
+    subst (λ (j : ℕ). IsHere slots (place_at ps j)) e (others_here slots ps (k + 1) rs vs placed.1 i (omega arith) (omega arith))
+
+-- they are late uses: if both interpreters read these alike, each place has its argument's number
+never_late : (b : Bool) → (b && false) ≡ false
+never_late true = refl
+never_late false = refl
+
+late_each : (m : Place → ℕ) (numbers : VirtualRegister → ℕ) (ps : List Place) (k : ℕ) (rs : List ℕ) (vs : List VirtualRegister) →
+    read_by is_late_use (λ k u. m (place_at ps k)) k (arguments_in rs vs) ≡ read_by is_late_use (λ k u. numbers u.vreg) k (arguments_in rs vs) →
+    (i : ℕ) → length rs ≤ i → i < length vs → m (place_at ps (k + i)) ≡ slice_index (map (λ v. numbers v) vs) i
+unfolding read_by arguments_in
+late_each m numbers ps k rs [] h i large less = absurd (omega arith)
+late_each m numbers ps k [] (v ∷ vs) h zero large less =
+    let e : k + 0 ≡ k = omega arith in ap (λ (j : ℕ). m (place_at ps j)) e ∙ ap (λ (ns : List ℕ). slice_index ns 0) h
+late_each m numbers ps k [] (v ∷ vs) h (suc i) large less =
+    let e : k + suc i ≡ k + 1 + i = omega arith in
+    ap (λ (j : ℕ). m (place_at ps j)) e ∙ late_each m numbers ps (k + 1) [] vs (ap tail h) i (omega arith) (omega arith)
+late_each m numbers ps k (r ∷ rs) (v ∷ vs) h zero large less = absurd (omega arith)
+late_each m numbers ps k (r ∷ rs) (v ∷ vs) h (suc i) large less =
+    let e : k + suc i ≡ k + 1 + i = omega arith in
+    let rest : read_by is_late_use (λ k u. m (place_at ps k)) (k + 1) (arguments_in rs vs)
+    ≡ read_by is_late_use (λ k u. numbers u.vreg) (k + 1) (arguments_in rs vs) =
+    subst (λ (b : Bool). cond b (m (place_at ps k) ∷ read_by is_late_use (λ k u. m (place_at ps k)) (k + 1) (arguments_in rs vs))
+    (read_by is_late_use (λ k u. m (place_at ps k)) (k + 1) (arguments_in rs vs))
+    ≡ cond b (numbers v ∷ read_by is_late_use (λ k u. numbers u.vreg) (k + 1) (arguments_in rs vs))
+    (read_by is_late_use (λ k u. numbers u.vreg) (k + 1) (arguments_in rs vs))) (never_late (is_reading (passed_in r v))) h in
+    ap (λ (j : ℕ). m (place_at ps j)) e ∙ late_each m numbers ps (k + 1) rs vs rest i (omega arith) (omega arith)
+
+call_late : (m : Place → ℕ) (numbers : VirtualRegister → ℕ) (ps : List Place) (to : VirtualRegister) (vs : List VirtualRegister) →
+    read_by is_late_use (λ k u. m (place_at ps k)) 0 (call_operands to vs) ≡ read_by is_late_use (λ k u. numbers u.vreg) 0 (call_operands to vs) →
+    read_by is_late_use (λ k u. m (place_at ps k)) 1 (arguments_in argument_registers vs)
+    ≡ read_by is_late_use (λ k u. numbers u.vreg) 1 (arguments_in argument_registers vs)
+unfolding read_by
+call_late m numbers ps to vs h = h
+
+-- clobbered registers may keep what they hold
+left_alone : (set : PRegSet) (m : Place → ℕ) (p : Place) → numbers_clobbered set m m p ≡ m p
+unfolding numbers_clobbered
+left_alone set m NoPlace = refl
+left_alone set m (InRegister r) = same (has_register set r)
+  where
+    same : (b : Bool) → cond b (m (InRegister r)) (m (InRegister r)) ≡ m (InRegister r)
+    same true = refl
+    same false = refl
+left_alone set m (InSlot n) = refl
 
 module _ (f : FunctionValue) (ops : Operations) (out : OutputValue) (start : ℕ → ℕ) (code : CodeValue) (virtual : VirtualRegister → ℕ) (places : Place → ℕ) where
-  -- A procedure suspended at a call, and the machine before the instruction after it, related by states that the two interpreters reach together. Registers and
-  -- slots have the numbers of places after the call's moves.
+  -- A procedure suspended at a call, and the machine before the instruction after it, related by states that the two interpreters reach together. Slots have
+  -- the numbers of places after the call's moves; no allocated register has to, since the callee may change them all.
   pub record IsPaused (at : Location) (numbers : VirtualRegister → ℕ) (to : VirtualRegister) (pc : ℕ) (registers frame : ℕ → ℕ) : Type 0 where
     pub choices : List Choice
     pub c : State VirtualRegister
@@ -209,7 +233,7 @@ module _ (f : FunctionValue) (ops : Operations) (out : OutputValue) (start : ℕ
     pub is_at : at ≡ c.at
     pub is_numbers : numbers ≡ c.numbers
     pub callee : ℕ
-    pub arguments : Arguments
+    pub arguments : Vec VirtualRegister
     pub is_call : operation_at ops d.at.inst ≡ Calling callee to arguments
     pub left : ℕ
     pub block : d.at.block < length f.blocks
@@ -217,7 +241,7 @@ module _ (f : FunctionValue) (ops : Operations) (out : OutputValue) (start : ℕ
     pub ends : d.at.inst + suc (suc left) ≡ (block_at f d.at.block).range.end
     pub stands : StandAt start code.instructions pc
         (items_code ops out (block_at f d.at.block).succs (d.at.block + 1) (listing_from out (block_at f d.at.block).range.first (d.at.inst + 1) (suc left)))
-    pub agree : Agree registers frame (numbers_moved (moves_at f out d.at) d.numbers)
+    pub slots : (k : ℕ) → number_in registers frame (slot_place k) ≡ numbers_moved (moves_at f out d.at) d.numbers (InSlot k)
 
   -- inside a block, an interpreter goes on at the next instruction
   goes_onward : (l : Location) → l.inst + 1 < (block_at f l.block).range.end → way_on f l None ≡ Some Onward
@@ -264,7 +288,7 @@ module _ (f : FunctionValue) (ops : Operations) (out : OutputValue) (start : ℕ
       within : d.at.inst < length f.insts
       within = omega (arith, ok.within d.at.block p.block, p.ends)
 
-      operands : (inst_at f d.at.inst).operands ≡ call_operands to p.arguments
+      operands : (inst_at f d.at.inst).operands ≡ call_operands to p.arguments.items
       operands = ok.operands d.at.inst within ∙ ap operands_of p.is_call
 
       together_on : Together f out virtual places (x ∷ p.choices) source_on place_on
@@ -288,7 +312,7 @@ module _ (f : FunctionValue) (ops : Operations) (out : OutputValue) (start : ℕ
       numbers_on =
           ap (λ (l : Location). numbers_defined (λ k. n) 0 (inst_at f l.inst).operands c.numbers) (sym same_at)
           ∙ ap (λ (os : List OperandValue). numbers_defined (λ k. n) 0 os c.numbers) operands
-          ∙ result_defined n to p.arguments c.numbers
+          ∙ result_defined n to p.arguments.items c.numbers
           ∙ ap (λ (m : VirtualRegister → ℕ). number_set m to n) (sym p.is_numbers)
 
       -- and written
@@ -309,7 +333,7 @@ module _ (f : FunctionValue) (ops : Operations) (out : OutputValue) (start : ℕ
           ∙ ap (λ (os : List OperandValue). numbers_clobbered (inst_at f d.at.inst).clobbers (left_in (put left 0 n))
           (written_to (λ k. n) (allocs_of out d.at.inst) 0 os moved)) operands
           ∙ ap (λ (m : Place → ℕ). numbers_clobbered (inst_at f d.at.inst).clobbers (left_in (put left 0 n)) m)
-          (result_written n to p.arguments (allocs_of out d.at.inst) moved)
+          (result_written (λ k. n) to p.arguments.items (allocs_of out d.at.inst) moved)
           ∙ ap (λ (q : Place). numbers_clobbered (inst_at f d.at.inst).clobbers (left_in (put left 0 n)) (place_set moved q n))
           (place_is (place_at (allocs_of out d.at.inst) 0) 0 placed.0.0 placed.0.1))
 
@@ -335,21 +359,31 @@ module _ (f : FunctionValue) (ops : Operations) (out : OutputValue) (start : ℕ
           ends = omega (arith, p.ends);
           stands = p.stands;
           agree = subst (λ (m : Place → ℕ). Agree machine_on.registers machine_on.frame m) places_on
-              (back_agrees (inst_at f d.at.inst).clobbers has registers left frame n moved p.agree);
+              (back_agrees (inst_at f d.at.inst).clobbers has registers left frame n moved p.slots);
         };
       }
 
-    -- at a call, the machine gets to the call instruction, with the arguments in their registers
+    -- Before a call, the machine gets to the code that passes arguments on the stack. Those that registers pass are in them, and the places of the others have
+    -- their numbers, whatever register 0 holds. Behind the call instruction, the procedure is suspended.
     pub record Pauses (args : ℕ → ℕ) (q : ProcedureState) (s : MachineState) (callee : ℕ) (to : VirtualRegister) (vs : List VirtualRegister) : Type 0 where
       pub state : MachineState
       pub comes : Comes code args 0 s state
-      pub instruction : slice_get code.instructions state.pc ≡ Some (Call callee)
       pub same : state.memory ≡ q.memory
-      pub paused : IsPaused q.at q.numbers to (state.pc + 1) state.registers state.frame
-      pub passed_on : (k : ℕ) → k < length vs → state.registers (argument_register k) ≡ slice_index (map (λ v. q.numbers v) vs) k
+      pub ps : List Place
+      pub found : Place → ℕ
+      pub rest : List Instruction
+      pub stands : StandAt start code.instructions state.pc (call_code callee (length vs) ps ++ rest)
+      pub agree : Agree state.registers state.frame found
+      pub fits : length vs - 6 ≤ code.outgoing
+      pub here : (i : ℕ) → i < length vs - 6 → IsHere code.slots (place_at ps (i + 7))
+      pub stays : (i first : ℕ) → i < length vs - 6 →
+          place_set found (register_place 0) first (place_at ps (i + 7)) ≡ slice_index (map (λ v. q.numbers v) vs) (i + 6)
+      pub given : (k : ℕ) → k < length vs → k < 6 → state.registers (argument_register k) ≡ slice_index (map (λ v. q.numbers v) vs) k
+      pub paused : (pc : ℕ) (registers frame : ℕ → ℕ) → StandAt start code.instructions pc rest →
+          ((k : ℕ) → number_in registers frame (slot_place k) ≡ found (InSlot k)) → IsPaused q.at q.numbers to pc registers frame
 
     module _ (args : ℕ → ℕ) (q : ProcedureState) (s : MachineState) (j : AreJoined f ops out start code virtual places q s) (callee : ℕ) (to : VirtualRegister)
-        (arguments : Arguments) (is_call : operation_at ops j.d.at.inst ≡ Calling callee to arguments) where
+        (arguments : Vec VirtualRegister) (is_call : operation_at ops j.d.at.inst ≡ Calling callee to arguments) where
       abbrev v : State VirtualRegister
       v = j.c
 
@@ -359,54 +393,115 @@ module _ (f : FunctionValue) (ops : Operations) (out : OutputValue) (start : ℕ
       abbrev noise : Place → ℕ
       noise = leavings j.choices
 
+      abbrev vs : List VirtualRegister
+      vs = arguments.items
+
+      abbrev ps : List Place
+      ps = allocs_of out e.at.inst
+
+      abbrev found_there : Place → ℕ
+      found_there = after_moves f ops out start code args s.memory noise e
+
+      read_alike : ReadAlike f out noise v e
+      read_alike = alike.alike j.choices v e j.together
+
       inst_within : e.at.inst < length f.insts
       inst_within = inside f ops out start code args s.memory noise ok j.sized e s j.at
 
-      abbrev go : Moved ops out (succs_of f ops out start code args s.memory noise e) (e.at.block + 1) args start code s
-          (after_moves f ops out start code args s.memory noise e)
+      abbrev go : Moved ops out (succs_of f ops out start code args s.memory noise e) (e.at.block + 1) args start code s found_there
           (ListedInst e.at.inst ∷ listing_from out (block_at f e.at.block).range.first (e.at.inst + 1) j.at.left)
       go = through f ops out start code args s.memory noise ok j.sized e s j.at
 
-      call_operands_are : (inst_at f e.at.inst).operands ≡ call_operands to arguments
+      call_operands_are : (inst_at f e.at.inst).operands ≡ call_operands to vs
       call_operands_are = ok.operands e.at.inst inst_within ∙ ap operands_of is_call
 
-      call_placed : IsPlaced code.slots (Calling callee to arguments) (allocs_of out e.at.inst)
-      call_placed = subst (λ (o : Operation). IsPlaced code.slots o (allocs_of out e.at.inst)) is_call (ok.placed e.at.inst inst_within)
+      call_placed : IsPlaced code.slots (Calling callee to arguments) ps
+      call_placed = subst (λ (o : Operation). IsPlaced code.slots o ps) is_call (ok.placed e.at.inst inst_within)
 
-      only_call : IsPlain (Calling callee to arguments) ⊎ IsCall (Calling callee to arguments) → AreRead (listed arguments)
+      call_fits : length vs - 6 ≤ code.outgoing
+      call_fits = subst (λ (o : Operation). stack_arguments o ≤ code.outgoing) is_call (ok.passes e.at.inst inst_within)
+
+      only_call : IsPlain (Calling callee to arguments) ⊎ IsCall (Calling callee to arguments) → AreRead vs
       only_call h = elim h [ inl plain ↦ absurd plain | inr call ↦ call.1 ]
 
       -- what places hold is what virtual registers hold
-      are_read : AreRead (listed arguments) → passed (λ k u. after_moves f ops out start code args s.memory noise e (place_at (allocs_of out e.at.inst) k)) 1
-          argument_registers (listed arguments) ≡ passed (λ k u. v.numbers u.vreg) 1 argument_registers (listed arguments)
+      are_read : AreRead vs → passed (λ k u. found_there (place_at ps k)) 1 argument_registers vs ≡ passed (λ k u. v.numbers u.vreg) 1 argument_registers vs
       are_read read =
-          let m : Place → ℕ = after_moves f ops out start code args s.memory noise e in
-          let ps : List Place = allocs_of out e.at.inst in
-          sym (call_reads (λ k u. m (place_at ps k)) to arguments read)
-          ∙ ap (λ (o : Operation). reads_at o ps m) (sym is_call)
+          sym (call_reads (λ k u. found_there (place_at ps k)) to vs read)
+          ∙ ap (λ (o : Operation). reads_at o ps found_there) (sym is_call)
           ∙ sym (reads f ops out start code args s.memory noise ok j.sized e inst_within)
-          ∙ (alike.alike j.choices v e j.together).reads
-          ∙ ap (λ (l : Location). read_by is_reading (λ k u. v.numbers u.vreg) 0 (inst_at f l.inst).operands) (sym (alike.alike j.choices v e j.together).at)
+          ∙ read_alike.reads
+          ∙ ap (λ (l : Location). read_by is_reading (λ k u. v.numbers u.vreg) 0 (inst_at f l.inst).operands) (sym read_alike.at)
           ∙ ap (λ (os : List OperandValue). read_by is_reading (λ k u. v.numbers u.vreg) 0 os) call_operands_are
-          ∙ call_reads (λ k u. v.numbers u.vreg) to arguments read
+          ∙ call_reads (λ k u. v.numbers u.vreg) to vs read
 
-      pauses_before : (n : ℕ) → j.at.left ≡ suc n → Pauses args q s callee to (listed arguments)
+      -- also once the call has written register 0, for its late uses
+      module _ (first : ℕ) where
+        abbrev with_first : Place → ℕ
+        with_first = place_set found_there (register_place 0) first
+
+        -- the choice that writes this number, and leaves clobbered registers as they are
+        abbrev writes_first : Choice
+        writes_first = record { writes = λ k. first; takes = None; leaves = with_first }
+
+        abbrev clobbered : (Place → ℕ) → Place → ℕ
+        clobbered m = numbers_clobbered (inst_at f e.at.inst).clobbers with_first m
+
+        after_is : place_after f out noise writes_first e ≡ clobbered with_first
+        after_is =
+            ap (λ (m : Place → ℕ). clobbered (written_to (λ k. first) ps 0 (inst_at f e.at.inst).operands m))
+            (found f ops out start code args s.memory noise ok j.sized e inst_within)
+            ∙ ap (λ (os : List OperandValue). clobbered (written_to (λ k. first) ps 0 os found_there)) call_operands_are
+            ∙ ap (λ (m : Place → ℕ). clobbered m) (result_written (λ k. first) to vs ps found_there)
+            ∙ ap (λ (p : Place). clobbered (place_set found_there p first)) (place_is (place_at ps 0) 0 call_placed.0.0 call_placed.0.1)
+
+        late_there : read_by is_late_use (λ k u. clobbered with_first (place_at ps k)) 0 (call_operands to vs)
+            ≡ read_by is_late_use (λ k u. v.numbers u.vreg) 0 (call_operands to vs)
+        late_there =
+            subst (λ (os : List OperandValue). read_by is_late_use (λ k u. clobbered with_first (place_at ps k)) 0 os
+            ≡ read_by is_late_use (λ k u. v.numbers u.vreg) 0 os) call_operands_are
+            (ap (λ (m : Place → ℕ). read_by is_late_use (λ k u. m (place_at ps k)) 0 (inst_at f e.at.inst).operands) (sym after_is)
+            ∙ read_alike.late writes_first
+            ∙ ap (λ (l : Location). read_by is_late_use (λ k u. v.numbers u.vreg) 0 (inst_at f l.inst).operands) (sym read_alike.at))
+
+        late_stays : (i : ℕ) → i < length vs - 6 → with_first (place_at ps (i + 7)) ≡ slice_index (map (λ u. v.numbers u) vs) (i + 6)
+        late_stays i less =
+            let n : i + 7 ≡ 1 + (i + 6) = omega arith in
+            ap (λ (k : ℕ). with_first (place_at ps k)) n
+            ∙ sym (left_alone (inst_at f e.at.inst).clobbers with_first (place_at ps (1 + (i + 6))))
+            ∙ late_each (clobbered with_first) v.numbers ps 1 argument_registers vs (call_late (clobbered with_first) v.numbers ps to vs late_there) (i + 6)
+            (omega arith) (omega arith)
+
+      pauses_before : (n : ℕ) → j.at.left ≡ suc n → Pauses args q s callee to vs
       pauses_before n left_is =
           let inner : e.at.inst + 1 < (block_at f e.at.block).range.end = omega (arith, j.at.ends, left_is) in
-          let read : AreRead (listed arguments) = only_call (subst (λ (o : Operation). IsPlain o ⊎ IsCall o) is_call
+          let read : AreRead vs = only_call (subst (λ (o : Operation). IsPlain o ⊎ IsCall o) is_call
           (ok.plain e.at.block e.at.inst j.at.block j.at.begins inner)) in
-          let here : StandAt start code.instructions go.to.pc (Call callee ∷ behind f ops out start code args s.memory noise e (suc n)) =
-          subst (λ (o : Operation). StandAt start code.instructions go.to.pc
-          (operation_code ops.memory_size o (places_of f ops out start code args s.memory noise e) (succs_of f ops out start code args s.memory noise e)
-          (e.at.block + 1) ++ behind f ops out start code args s.memory noise e (suc n))) is_call
-          (stands_there f ops out start code args s.memory noise ok j.sized e s j.at (suc n) left_is) in
           let seen_is : q ≡ seen s.memory v = j.is_seen in
+          let numbers_are : v.numbers ≡ q.numbers = sym (ap (λ (p : ProcedureState). p.numbers) seen_is) in
           record {
             state = go.to;
             comes = go.comes;
-            instruction = here.0;
             same = go.same ∙ sym (ap (λ (p : ProcedureState). p.memory) seen_is);
-            paused = record {
+            ps = ps;
+            found = found_there;
+            rest = behind f ops out start code args s.memory noise e (suc n);
+            stands = subst (λ (o : Operation). StandAt start code.instructions go.to.pc
+                (operation_code ops.memory_size o (places_of f ops out start code args s.memory noise e)
+                (succs_of f ops out start code args s.memory noise e) (e.at.block + 1) ++ behind f ops out start code args s.memory noise e (suc n))) is_call
+                (stands_there f ops out start code args s.memory noise ok j.sized e s j.at (suc n) left_is);
+            agree = go.agree;
+            fits = call_fits;
+            here = λ i less.
+                let n : 1 + (i + 6) ≡ i + 7 = omega arith in
+                subst (λ (k : ℕ). IsHere code.slots (place_at ps k)) n
+                (others_here code.slots ps 1 argument_registers vs call_placed.1 (i + 6) (omega arith) (omega arith));
+            stays = λ i first less.
+                late_stays first i less ∙ ap (λ (m : VirtualRegister → ℕ). slice_index (map (λ u. m u) vs) (i + 6)) numbers_are;
+            given = λ k less few.
+                passes go.to.registers go.to.frame found_there v.numbers go.agree code.slots ps 1 argument_registers vs call_placed.1 (are_read read) k less few
+                ∙ ap (λ (m : VirtualRegister → ℕ). slice_index (map (λ u. m u) vs) k) numbers_are;
+            paused = λ pc registers frame stands slots. record {
               choices = j.choices;
               c = v;
               d = e;
@@ -420,19 +515,15 @@ module _ (f : FunctionValue) (ops : Operations) (out : OutputValue) (start : ℕ
               block = j.at.block;
               begins = j.at.begins;
               ends = omega (arith, j.at.ends, left_is);
-              stands = here.1;
-              agree = go.agree;
+              stands = stands;
+              slots = slots;
             };
-            passed_on = λ k less.
-                passes go.to.registers go.to.frame (after_moves f ops out start code args s.memory noise e) v.numbers go.agree (allocs_of out e.at.inst) 1
-                argument_registers (listed arguments) call_placed.1 (few_arguments arguments) (are_read read) k less
-                ∙ ap (λ (m : VirtualRegister → ℕ). slice_index (map (λ u. m u) (listed arguments)) k) (sym (ap (λ (p : ProcedureState). p.numbers) seen_is));
           }
 
-      pub pauses : Pauses args q s callee to (listed arguments)
+      pub pauses : Pauses args q s callee to vs
       pauses = pick j.at.left refl
         where
-          pick : (n : ℕ) → j.at.left ≡ n → Pauses args q s callee to (listed arguments)
+          pick : (n : ℕ) → j.at.left ≡ n → Pauses args q s callee to vs
           pick zero left_is =
               let last : e.at.inst + 1 ≡ (block_at f e.at.block).range.end = omega (arith, j.at.ends, left_is) in
               absurd (subst (λ (o : Operation). IsEnd o (length (block_at f e.at.block).succs)) is_call

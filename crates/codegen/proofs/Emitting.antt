@@ -1,14 +1,21 @@
 -- Code that grows with each emitted item.
-use Rattle.std.proofs.Common.{ℕ, suc, ◌≡◌, ◌+◌, ◌<◌, ◌≤◌, List, [], ◌∷◌, ◌++◌, length, refl, sym, ap, subst, ◌∙◌, arith}
-use Rattle.std.proofs.Common.{append_assoc, append-nil, add-one, below_more}
+use Rattle.std.proofs.Common.{ℕ, suc, ◌≡◌, ◌+◌, ◌<◌, ◌≤◌, max, List, [], ◌∷◌, ◌++◌, length, refl, sym, ap, subst, ◌∙◌, arith}
+use Rattle.std.proofs.Common.{append_assoc, append-nil, add-one, below_more, get_or, take}
 use Rattle.std.specs.Prelude.{slice_index, All}
+use Rattle.std.proofs.Math.ListN.{get_or-map}
+use Rattle.std.proofs.lemmas.List.{length-map, take_more}
+use Rattle.std.proofs.lemmas.List.Recursion.{max_push}
 use Rattle.std.proofs.lemmas.Grind.{common_steps}
 use Rattle.regalloc2_function.specs.FunctionValue.{FunctionValue}
-use Rattle.regalloc2_function.specs.OutputValue.{OutputValue}
+use Rattle.regalloc2_names.specs.Place.{Place}
+use Rattle.regalloc2_function.specs.OutputValue.{OutputValue, place_at}
 use Rattle.regalloc2_function.specs.Listing.{Listed, ListedInst, ListedMove, IsListedWithin}
 use Rattle.codegen_machine.specs.Ir.Seen.{Operations}
+use Rattle.codegen_machine.specs.Ir.Successors.{operations_of}
+use Rattle.codegen_machine.specs.declared.ir.operation.Line.{Line}
+use Rattle.codegen_machine.specs.declared.ir.operation.Operation.{Operation}
 use Rattle.codegen_machine.specs.declared.Instruction.{Instruction}
-use Rattle.codegen.specs.Emitted.{item_code, items_code, block_code, blocks_code, block_start}
+use Rattle.codegen.specs.Emitted.{item_code, items_code, block_code, blocks_code, block_start, pass_code, passes_code, stack_arguments, outgoing_words}
 
 -- the numbers within a block are within the function
 wider : (first end n : ℕ) (x : Listed) → end ≤ n → IsListedWithin first end x → IsListedWithin 0 n x
@@ -24,6 +31,37 @@ pub next_within : (n : ℕ) (x : Listed) (left rest : List Listed) → All (IsLi
 next_within n x left rest h is =
     let all : All (IsListedWithin 0 n) (x ∷ rest) = subst (λ (xs : List Listed). All (IsListedWithin 0 n) xs) is h in
     (all 0 x (omega arith), λ k d less. all (suc k) d (omega arith))
+
+-- no argument is passed on the stack yet, and one more
+pub no_pass : (code : List Instruction) (ps : List Place) → code ≡ code ++ passes_code 0 ps
+unfolding passes_code
+no_pass code ps = sym (append-nil code)
+
+pub one_pass : (whole code more : List Instruction) (n : ℕ) (ps : List Place) → code ≡ whole ++ passes_code n ps →
+    more ≡ code ++ pass_code n (place_at ps (n + 7)) → more ≡ whole ++ passes_code (n + 1) ps
+unfolding passes_code
+one_pass whole code more n ps h grown =
+    rw add-one (grown ∙ ap (λ xs. xs ++ pass_code n (place_at ps (n + 7))) h ∙ append_assoc whole (passes_code n ps) (pass_code n (place_at ps (n + 7))))
+
+-- the most words that operations need, and those with one more
+pub no_words : 0 ≡ outgoing_words []
+unfolding outgoing_words
+no_words = refl
+
+words_more : (os : List Operation) (o : Operation) → outgoing_words (os ++ o ∷ []) ≡ max (outgoing_words os) (stack_arguments o)
+unfolding outgoing_words
+words_more os o = max_push outgoing_words stack_arguments refl (λ x xs. refl) os o
+
+pub one_word : (lines : List Line) (n most made result : ℕ) (l : Line) → n < length lines → l ≡ get_or lines n l → most ≡ outgoing_words
+    (take n (operations_of lines)) → made ≡ stack_arguments l.operation → result ≡ max made most → result ≡ outgoing_words (take (n + 1) (operations_of lines))
+one_word lines n most made result l less here h this is =
+    let os : List Operation = operations_of lines in
+    let within : n < length os = omega (arith, less, length-map lines (λ (x : Line). x.operation)) in
+    let same : get_or os n l.operation ≡ l.operation = get_or-map (λ (x : Line). x.operation) lines n l ∙ ap (λ (x : Line). x.operation) (sym here) in
+    let before : outgoing_words (take (n + 1) os) ≡ max (outgoing_words (take n os)) (stack_arguments (get_or os n l.operation)) =
+    ap outgoing_words (take_more os n l.operation within) ∙ words_more (take n os) (get_or os n l.operation) in
+    let now : stack_arguments (get_or os n l.operation) ≡ stack_arguments l.operation = ap stack_arguments same in
+    omega (arith, h, this, is, before, now)
 
 module _ (operations : Operations) (out : OutputValue) where
   -- one item of a listing is emitted, and the others are left

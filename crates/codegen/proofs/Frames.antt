@@ -1,6 +1,7 @@
 -- The frames of a module and the activations of its code, related one by one; and a step of each.
-use Rattle.std.proofs.Common.{ℕ, zero, suc, ◌≡◌, ◌<◌, ◌⊎◌, inl, inr, Bool, true, false, cond, List, [], ◌∷◌, map, length, Option, Some, None, refl, sym, ap, ◌∙◌}
+use Rattle.std.proofs.Common.{ℕ, zero, suc, ◌≡◌, ◌+◌, ◌<◌, ◌⊎◌, inl, inr, Bool, true, false, cond, List, [], ◌∷◌, map, length, Option, Some, None, refl, sym, ap, ◌∙◌}
 use Rattle.std.proofs.Common.{subst, arith, eqb-true, ltb-true}
+use Rattle.std.specs.Global.{Vec}
 use Rattle.std.specs.Prelude.{slice_get, slice_index, option_map}
 use Rattle.std.specs.List.{list_all}
 use Rattle.std.proofs.lemmas.Bool.{and_parts}
@@ -13,16 +14,15 @@ use Rattle.codegen_machine.specs.Ir.Numbers.{RunOutcome, Running, Returned, Trap
 use Rattle.codegen_machine.specs.Ir.Meaning.{ProcedureState, done, onward, procedure_step}
 use Rattle.codegen_machine.specs.Ir.Successors.{operations_of}
 use Rattle.codegen_machine.specs.Ir.Seen.{Operations, function_of_procedure, operations}
-use Rattle.codegen_machine.specs.Ir.Modules.{arities_of, calls_function, listed, procedures_of, reads_argument, takes}
+use Rattle.codegen_machine.specs.Ir.Modules.{arities_of, calls_function, procedures_of, reads_argument, takes}
 use Rattle.codegen_machine.specs.Ir.Calls.{CallValue, ModuleState, SuspendedFrame, call_on, frame_called, frame_entered, frame_stepped, line_done}
 use Rattle.codegen_machine.specs.Ir.Calls.{returned_to, step_in, suspended}
 use Rattle.codegen_machine.specs.declared.ir.module.Module.{Module}
 use Rattle.codegen_machine.specs.declared.ir.module.NamedProcedure.{NamedProcedure}
-use Rattle.codegen_machine.specs.declared.ir.operation.Arguments.{Arguments}
 use Rattle.codegen_machine.specs.declared.ir.operation.Operation.{Operation}
 use Rattle.codegen_machine.specs.declared.ir.operation.Operation.TheVariants.{Argument as TakeArgument, Jump as GoTo, Call as Calling}
 use Rattle.codegen_machine.specs.declared.ir.procedure.Procedure.{Procedure}
-use Rattle.codegen_machine.specs.Calls.{FunctionCode, Stack, StackState, SuspendedActivation, activated, activation_of, argument_register, calling, exceeds}
+use Rattle.codegen_machine.specs.Calls.{FunctionCode, Stack, StackState, SuspendedActivation, activated, activation_of, arguments_passed, calling, exceeds}
 use Rattle.codegen_machine.specs.Calls.{registers_returned, returned_into, stack_begun, stack_run, stack_step, suspended_at, words_taken}
 use Rattle.codegen_machine.specs.Machine.{MachineState}
 use Rattle.codegen.specs.Emitted.{operation_at}
@@ -34,7 +34,8 @@ use Rattle.codegen.proofs.Places.{agree_at_first, numbers_in}
 use Rattle.codegen.proofs.Simulation.{inside}
 use Rattle.codegen.proofs.Joined.{AreJoined, Meets, begin_joined, step_meets}
 use Rattle.codegen.proofs.Calling.{IsPaused, Pauses, pauses, resumes}
-use Rattle.codegen.proofs.Activations.{StackComes, Returns, activation_in, comes_lifted, ends_in_one, return_lifted, stack_by, stack_ends, stack_on, steps_into, trap_lifted}
+use Rattle.codegen.proofs.Passing.{IsCalling, calling as called_with}
+use Rattle.codegen.proofs.Activations.{StackComes, Returns, activation_in, activation_with, comes_lifted, ends_in_one, return_lifted, stack_by, stack_ends, stack_on, steps_into, trap_lifted}
 use Rattle.codegen.proofs.Modules.{IsCompiled}
 use Rattle.codegen.proofs.Behaving.{Begin, Follows, one_step}
 
@@ -68,13 +69,13 @@ module _ (f : FunctionValue) (ops : Operations) (arity : ℕ) (a b : ℕ → ℕ
 
 -- the call on a line
 record IsCallOf (o : Operation) (c : CallValue) : Type 0 where
-  arguments : Arguments
+  arguments : Vec VirtualRegister
   is : o ≡ Calling c.function c.to arguments
-  are : c.arguments ≡ listed arguments
+  are : c.arguments ≡ arguments.items
 
 call_of : (o : Operation) (c : CallValue) → call_on (Some o) ≡ Some c → IsCallOf o c
 call_of (Calling g to arguments) c e =
-    let same : ◌≡◌ {A = CallValue} (record { function = g; to = to; arguments = listed arguments }) c = cc in
+    let same : ◌≡◌ {A = CallValue} (record { function = g; to = to; arguments = arguments.items }) c = cc in
     record {
       arguments = arguments;
       is = ap (λ (x : CallValue). Calling x.function x.to arguments) same;
@@ -233,6 +234,7 @@ module _ (m : Module) (code : List FunctionCode) (b : Beginning m.memory_size) w
           compared = None;
           memory = left;
         };
+        outgoing = a.outgoing;
         callers = acts;
         activations = u.activations;
       }
@@ -293,25 +295,33 @@ module _ (m : Module) (code : List FunctionCode) (b : Beginning m.memory_size) w
         (alike_at ps code m.memory_size b.numbers r.known r.places) t.args s.state t.state r.joined not_call))
 
     -- a call of a function of the module
-    module _ (c : CallValue) (arguments : Arguments) (is : operation_at ops r.joined.d.at.inst ≡ Calling c.function c.to arguments)
-        (are : c.arguments ≡ listed arguments) (callee : IsKnown c.function) (arity : callee.named.arity ≡ length (listed arguments)) where
+    module _ (c : CallValue) (arguments : Vec VirtualRegister) (is : operation_at ops r.joined.d.at.inst ≡ Calling c.function c.to arguments)
+        (are : c.arguments ≡ arguments.items) (callee : IsKnown c.function) (arity : callee.named.arity ≡ length arguments.items) where
       call : Pauses f ops r.known.compiled.out r.known.compiled.start own.code b.numbers r.places r.known.compiled.emitted
-          (alike_at ps code m.memory_size b.numbers r.known r.places) t.args s.state t.state c.function c.to (listed arguments)
+          (alike_at ps code m.memory_size b.numbers r.known r.places) t.args s.state t.state c.function c.to arguments.items
       call = pauses f ops r.known.compiled.out r.known.compiled.start own.code b.numbers r.places r.known.compiled.emitted
           (alike_at ps code m.memory_size b.numbers r.known r.places) t.args s.state t.state r.joined c.function c.to arguments is
 
-      -- the stack before the call
-      abbrev before : StackState
-      before = activation_in t call.state
-
-      comes : StackComes code b.stack 0 t before
-      comes = comes_lifted code b.stack t own is_own 0 t.state call.state call.comes
-
-      abbrev passed : ℕ → ℕ
-      passed i = call.state.registers (argument_register i)
-
       abbrev numbers_passed : ℕ → ℕ
       numbers_passed i = slice_index (map (λ v. s.state.numbers v) c.arguments) i
+
+      -- the stack before the arguments are passed, and before the call
+      abbrev ready : StackState
+      ready = activation_in t call.state
+
+      passing : IsCalling code b.stack own r.known.compiled.start call.found ready c.function call.rest (length arguments.items)
+          (λ i. slice_index (map (λ v. s.state.numbers v) arguments.items) i)
+      passing = called_with code b.stack own r.known.compiled.start call.found ready is_own c.function (length arguments.items) call.ps call.rest
+          (λ i. slice_index (map (λ v. s.state.numbers v) arguments.items) i) call.agree call.stands call.fits call.here call.stays call.given
+
+      abbrev before : StackState
+      before = activation_with t passing.state passing.words
+
+      comes : StackComes code b.stack 0 t before
+      comes = stack_on code b.stack 0 0 0 t ready before (omega arith) (comes_lifted code b.stack t own is_own 0 t.state call.state call.comes) passing.comes
+
+      abbrev passed : ℕ → ℕ
+      passed i = arguments_passed before i
 
       abbrev waiting : List SuspendedActivation
       waiting = suspended_at before ∷ t.callers
@@ -320,15 +330,24 @@ module _ (m : Module) (code : List FunctionCode) (b : Beginning m.memory_size) w
       words = words_taken code (c.function ∷ calling waiting)
 
       abbrev after : StackState
-      after = activation_of code b.stack c.function passed call.state.memory waiting t.activations
+      after = activation_of code b.stack c.function passed passing.state.memory waiting t.activations
 
       calls : stack_step code b.stack before ≡ cond (exceeds b.stack.room words) Overflowed (Running after)
       calls =
-          steps_into code b.stack t own is_own call.state c.function call.instruction
-          ∙ ap (λ (x : Option FunctionCode). activated code b.stack c.function passed call.state.memory waiting t.activations x) callee.is_code
+          steps_into code b.stack before own is_own passing.state c.function passing.instruction
+          ∙ ap (λ (x : Option FunctionCode). activated code b.stack c.function passed passing.state.memory waiting t.activations x) callee.is_code
 
       also_waiting : Waiting (suspended s c.to ∷ s.callers) waiting
-      also_waiting = (record { known = r.known; same = r.same; args = r.args; places = r.places; paused = call.paused }, r.callers)
+      also_waiting = (
+        record {
+          known = r.known;
+          same = r.same;
+          args = r.args;
+          places = r.places;
+          paused = call.paused (passing.state.pc + 1) passing.state.registers passing.state.frame passing.stands passing.slots;
+        },
+        r.callers,
+      )
 
       abbrev state_after : ModuleState
       state_after = entered ps code m.memory_size b.numbers c.function callee.named.procedure numbers_passed s.state.memory (suspended s c.to ∷ s.callers)
@@ -349,10 +368,10 @@ module _ (m : Module) (code : List FunctionCode) (b : Beginning m.memory_size) w
         after,
         stack_on code b.stack 0 1 1 t before after (omega arith) comes
             (stack_by code b.stack before after (calls ∙ ap (λ (x : Bool). cond x Overflowed (Running after)) e)),
-        enters ps code m.memory_size b.numbers b.stack c.function callee numbers_passed passed s.state.memory call.state.memory
+        enters ps code m.memory_size b.numbers b.stack c.function callee numbers_passed passed s.state.memory passing.state.memory
             (suspended s c.to ∷ s.callers) waiting t.activations
-            (λ i less. call.passed_on i (omega (arith, less, arity)) ∙ ap (λ (vs : List VirtualRegister). slice_index (map (λ v. s.state.numbers v) vs) i) (sym are))
-            call.same size_is also_waiting,
+            (λ i less. passing.arguments i (omega (arith, less, arity)) ∙ ap (λ (vs : List VirtualRegister). slice_index (map (λ v. s.state.numbers v) vs) i) (sym are))
+            (passing.same ∙ call.same) size_is also_waiting,
       )
 
       pub call_follows : FollowsAt t (frame_called (procedures_of ps) b.numbers s c)
@@ -373,11 +392,11 @@ module _ (m : Module) (code : List FunctionCode) (b : Beginning m.memory_size) w
     calls_one c e =
         let o : Operation = operation_at ops r.joined.d.at.inst in
         let is : IsCallOf o c = call_of o c (ap (λ (x : Option Operation). call_on x) (sym here_is) ∙ e) in
-        let takes_all : takes (slice_get (arities_of ps) c.function) (length (listed is.arguments)) ≡ true =
+        let takes_all : takes (slice_get (arities_of ps) c.function) (length is.arguments.items) ≡ true =
         subst (λ (x : Operation). calls_function (arities_of ps) x ≡ true) is.is
         (each_of (calls_function (arities_of ps)) ops.items s.state.at.inst o r.known.calls here_is) in
-        let k : (k : IsKnown c.function) × (k.named.arity ≡ length (listed is.arguments)) =
-        callee_taken c.function (length (listed is.arguments)) takes_all in
+        let k : (k : IsKnown c.function) × (k.named.arity ≡ length is.arguments.items) =
+        callee_taken c.function (length is.arguments.items) takes_all in
         call_follows c is.arguments is.is is.are k.0 k.1
 
     -- each step

@@ -1,7 +1,8 @@
 -- The code of a module behaves as the module: `module_behaves` in `Whole`.
 -- Read first: `Premise`, then `Choices`, steps of the two interpreters whose numbers are chosen when a step is made, and
 -- `Simulation` and `Source`, in which machine and procedure follow the interpreters, joined in `Joined`; then `Calling`, a call
--- and a return, and `Frames`, which relates a module's frames with the machine's activations. `Behaving` is the theorem over steps.
+-- and a return, `Passing`, a call's arguments on the stack, and `Frames`, which relates a module's frames with the machine's
+-- activations. `Behaving` is the theorem over steps.
 -- Depends on the two interpreters of a function, over vregs and over places, which run alike (`FaithfulRunAlike`): so they
 -- do by choices (`Chosen`).
 -- `Premises` shows the assumptions for the code emitted for an allocated procedure, and `Compiling` for a module's; `Steps` is one
@@ -26,6 +27,7 @@ pub mod Source
 pub mod Joined
 pub mod Calling
 pub mod Activations
+pub mod Passing
 pub mod Behaving
 pub mod Frames
 pub mod Whole

@@ -18,7 +18,8 @@ use Rattle.codegen_machine.specs.declared.Instruction.{Instruction}
 use Rattle.codegen_machine.specs.Machine.{CodeValue, MachineState, is_general, with_register, with_source, written, frame_stored, executed}
 use Rattle.codegen.specs.declared.placement.MachinePlace.{MachinePlace}
 use Rattle.codegen.specs.declared.placement.MachinePlace.TheVariants.{Register as AtRegister, Slot as AtSlot}
-use Rattle.codegen.specs.Pinned.{is_caller_saved, is_allocated, slot_place, machine_place, source_at}
+use Rattle.codegen.specs.Pinned.{is_allocated, slot_place, machine_place, source_at}
+use Rattle.codegen_machine.specs.Calls.{is_caller_saved}
 use Rattle.codegen.specs.Emitted.{register_of, source_of, fetched_from, fetched, moved_to, move_code, resolved, items_code}
 use Rattle.codegen.proofs.Premise.{IsGeneral, IsWithin, IsHere, CanMove}
 use Rattle.codegen.proofs.Runs.{Comes, comes_here, comes_by, comes_on}
@@ -230,7 +231,7 @@ agree_slot registers frame numbers a n v = record {
 
 module _ (args : ℕ → ℕ) (slots : ℕ) (starts : ℕ → ℕ) where
   -- the number in a place of the machine is copied into a register
-  fetches_place : (s : MachineState) (to : ℕ) → is_general to ≡ true → (m : MachinePlace) → IsWithin slots m →
+  pub fetches_place : (s : MachineState) (to : ℕ) → is_general to ≡ true → (m : MachinePlace) → IsWithin slots m →
       executed args slots (Some (resolved starts (fetched_from to m))) s ≡ Running (wrote s to (number_in s.registers s.frame m) s.compared)
   fetches_place s to g (AtRegister r) h =
       reads_place slots s (AtRegister r) h (λ n. written s to n s.compared) ∙ writes s to (s.registers r) s.compared g

@@ -6,8 +6,7 @@ use Rattle.regalloc2_names.specs.RegisterSet.{has_register}
 use Rattle.regalloc2_names.specs.Place.{Place, NoPlace, InRegister, InSlot}
 use Rattle.regalloc2_function.specs.FunctionValue.{FunctionValue, block_at, inst_at}
 use Rattle.regalloc2_function.specs.OutputValue.{OutputValue, allocs_of, place_at}
-use Rattle.codegen_machine.specs.Ir.Operands.{is_lost_in, operands_of, part_register}
-use Rattle.codegen_machine.specs.Ir.Modules.{listed}
+use Rattle.codegen_machine.specs.Ir.Operands.{argument_registers, is_lost_in, operands_of, part_register}
 use Rattle.codegen_machine.specs.Ir.Seen.{Operations}
 use Rattle.codegen_machine.specs.declared.ir.operation.Operation.{Operation}
 use Rattle.codegen_machine.specs.declared.ir.operation.Operation.TheVariants.{Argument as TakeArgument, Constant as TakeConstant, Copy, Compute as Computation}
@@ -18,12 +17,11 @@ use Rattle.codegen_machine.specs.declared.ir.operation.Count.{Count}
 use Rattle.codegen_machine.specs.declared.ir.operation.Count.TheVariants.{VReg as CountIn, Number as CountOf}
 use Rattle.codegen_machine.specs.declared.ir.operation.Right.{Right}
 use Rattle.codegen_machine.specs.declared.ir.operation.Right.TheVariants.{VReg, Number as Given}
-use Rattle.codegen_machine.specs.Calls.{argument_registers}
 use Rattle.codegen_machine.specs.Machine.{CodeValue, is_general}
 use Rattle.codegen.specs.declared.placement.MachinePlace.{MachinePlace}
 use Rattle.codegen.specs.declared.placement.MachinePlace.TheVariants.{Register as AtRegister, Slot as AtSlot}
 use Rattle.codegen.specs.Pinned.{is_allocated, slot_place}
-use Rattle.codegen.specs.Emitted.{register_of, operation_at, blocks_code, block_start, resolved}
+use Rattle.codegen.specs.Emitted.{register_of, operation_at, stack_arguments, blocks_code, block_start, resolved}
 
 -- a register that the allocator allocates
 abbrev pub IsGeneral : Place → Type 0
@@ -70,14 +68,14 @@ AreRead (v ∷ vs) = (nat_eq v.number 1073741823 ≡ false) × AreRead vs
 abbrev pub IsRead : Operation → Type 0
 IsRead (Shifting w o to left count) = IsCountRead count
 IsRead (Dividing w part signed to left right) = (nat_eq to.number 1073741823 ≡ false) × (nat_eq left.number 1073741823 ≡ false)
-IsRead (Calling g to arguments) = (nat_eq to.number 1073741823 ≡ false) × AreRead (listed arguments)
+IsRead (Calling g to arguments) = (nat_eq to.number 1073741823 ≡ false) × AreRead arguments.items
 IsRead o = Unit {0}
 
--- the places of a call's arguments, from that operand on, are these registers
-abbrev pub ArePassed : List Place → ℕ → List ℕ → List VirtualRegister → Type 0
-ArePassed ps k rs [] = Unit {0}
-ArePassed ps k [] (v ∷ vs) = Unit {0}
-ArePassed ps k (r ∷ rs) (v ∷ vs) = (IsGeneral (place_at ps k) × (register_of (place_at ps k) ≡ r)) × ArePassed ps (k + 1) rs vs
+-- the places of a call's arguments, from that operand on, are these registers, and then any
+abbrev pub ArePassed : ℕ → List Place → ℕ → List ℕ → List VirtualRegister → Type 0
+ArePassed slots ps k rs [] = Unit {0}
+ArePassed slots ps k [] (v ∷ vs) = IsHere slots (place_at ps k) × ArePassed slots ps (k + 1) [] vs
+ArePassed slots ps k (r ∷ rs) (v ∷ vs) = (IsGeneral (place_at ps k) × (register_of (place_at ps k) ≡ r)) × ArePassed slots ps (k + 1) rs vs
 
 -- the places of an operation's operands are such that it can be emitted
 abbrev pub IsPlaced : ℕ → Operation → List Place → Type 0
@@ -94,7 +92,7 @@ IsPlaced slots (Select to c one other) ps =
 IsPlaced slots (Loading bytes to address) ps = IsGeneral (place_at ps 0) × IsGeneral (place_at ps 1)
 IsPlaced slots (Storing bytes address value) ps = IsGeneral (place_at ps 0) × IsGeneral (place_at ps 1)
 IsPlaced slots (Calling g to arguments) ps =
-    (IsGeneral (place_at ps 0) × (register_of (place_at ps 0) ≡ 0)) × ArePassed ps 1 argument_registers (listed arguments)
+    (IsGeneral (place_at ps 0) × (register_of (place_at ps 0) ≡ 0)) × ArePassed slots ps 1 argument_registers arguments.items
 IsPlaced slots GoTo ps = Unit {0}
 IsPlaced slots (BranchIf v) ps = IsHere slots (place_at ps 0)
 IsPlaced slots (BranchIfHolds w c left right) ps = IsGeneral (place_at ps 0) × IsRightHere slots right (place_at ps 1)
@@ -113,7 +111,7 @@ IsPlain o = Unit {0}
 
 -- a call that reads all its arguments
 abbrev pub IsCall : Operation → Type 0
-IsCall (Calling g to arguments) = (nat_eq to.number 1073741823 ≡ false) × AreRead (listed arguments)
+IsCall (Calling g to arguments) = (nat_eq to.number 1073741823 ≡ false) × AreRead arguments.items
 IsCall o = ⊥
 
 -- one that ends a block with that many successors
@@ -138,6 +136,7 @@ pub record IsEmitted (f : FunctionValue) (operations : Operations) (out : Output
   pub ends : (b i : ℕ) → b < length f.blocks → (block_at f b).range.first ≤ i → i + 1 ≡ (block_at f b).range.end →
       IsEnd (operation_at operations i) (length (block_at f b).succs)
   pub succs : (b k : ℕ) → b < length f.blocks → k < length (block_at f b).succs → slice_index (block_at f b).succs k < length f.blocks
+  pub passes : (i : ℕ) → i < length f.insts → stack_arguments (operation_at operations i) ≤ code.outgoing
   pub placed : (i : ℕ) → i < length f.insts → IsPlaced code.slots (operation_at operations i) (allocs_of out i)
   pub moves : All (λ e. CanMove code.slots e.1.from e.1.to) out.edits
   pub starts : (b : ℕ) → b < length f.blocks → start b ≡ block_start operations out f b

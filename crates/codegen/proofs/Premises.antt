@@ -6,6 +6,7 @@ use Rattle.std.proofs.Common.{◌⊎◌, inl, inr}
 use Rattle.std.specs.Prelude.{slice_index_or, nat_lt, Contains, All}
 use Rattle.std.specs.List.{list_all}
 use Rattle.std.proofs.lemmas.List.{length-map}
+use Rattle.std.proofs.lemmas.List.Recursion.{max_bounds}
 use Rattle.std.proofs.lemmas.Bool.{and_parts}
 use Rattle.regalloc2_names.specs.Register.{Register, VirtualRegister}
 use Rattle.regalloc2_names.specs.declared.RegClass.{RegClass}
@@ -20,18 +21,15 @@ use Rattle.regalloc2_function.specs.Fitting.{IsProperPlace, IsMoveEnd}
 use Rattle.regalloc2_function.specs.Following.{end_within}
 use Rattle.regalloc2_function.specs.WellFormed.{IsWellFormed, EndsBlock}
 use Rattle.regalloc2.specs.Promise.{IsAllocation}
-use Rattle.codegen_machine.specs.Ir.Operands.{arguments_in, call_operands, count_in, def_in, operands_of, part_register, passed_in, right_in, use_in}
+use Rattle.codegen_machine.specs.Ir.Operands.{argument_registers, arguments_in, call_operands, count_in, def_in, operands_of, part_register, passed_in, passed_on_stack}
+use Rattle.codegen_machine.specs.Ir.Operands.{right_in, use_in}
 use Rattle.codegen_machine.specs.Ir.Operands.{is_jump, is_return}
-use Rattle.codegen_machine.specs.Ir.Modules.{listed}
-use Rattle.codegen_machine.specs.Calls.{argument_registers}
 use Rattle.codegen_machine.specs.Ir.Successors.{wanted_by}
 use Rattle.codegen_machine.specs.Ir.Seen.{function_of_procedure, inst_of_line, operations}
 use Rattle.codegen_machine.specs.declared.ir.operation.Operation.{Operation}
 use Rattle.codegen_machine.specs.declared.ir.operation.Operation.TheVariants.{Argument as TakeArgument, Constant as TakeConstant, Copy, Compute as Computation}
 use Rattle.codegen_machine.specs.declared.ir.operation.Operation.TheVariants.{Shift as Shifting, Divide as Dividing, Compare as Comparison, Select, Jump as GoTo, BranchIf}
 use Rattle.codegen_machine.specs.declared.ir.operation.Operation.TheVariants.{BranchIfHolds, Load as Loading, Store as Storing, Call as Calling}
-use Rattle.codegen_machine.specs.declared.ir.operation.Arguments.{Arguments}
-use Rattle.codegen_machine.specs.declared.ir.operation.Arguments.TheVariants.{Zero, One, Two, Three, Four, Five, Six}
 use Rattle.codegen_machine.specs.declared.ir.operation.Operation.TheVariants.{Return as GiveBack}
 use Rattle.codegen_machine.specs.declared.ir.operation.Count.{Count}
 use Rattle.codegen_machine.specs.declared.ir.operation.Count.TheVariants.{VReg as CountIn, Number as CountOf}
@@ -39,7 +37,7 @@ use Rattle.codegen_machine.specs.declared.ir.operation.Right.{Right}
 use Rattle.codegen_machine.specs.declared.ir.operation.Right.TheVariants.{VReg, Number as Given}
 use Rattle.codegen_machine.specs.declared.ir.procedure.Procedure.{Procedure}
 use Rattle.codegen.specs.Pinned.{slot_place, frame_slots}
-use Rattle.codegen.specs.Emitted.{register_of, operation_at, emitted, block_label, block_start}
+use Rattle.codegen.specs.Emitted.{register_of, operation_at, stack_arguments, outgoing_words, emitted, block_label, block_start}
 use Rattle.codegen.specs.Target.{IsTarget}
 use Rattle.codegen.proofs.Premise.{IsGeneral, IsWithin, IsHere, IsRightHere, IsCountHere, IsCountRead, AreRead, IsRead, ArePassed, CanMove, IsPlaced, IsPlain, IsCall}
 use Rattle.codegen.proofs.Premise.{IsEnd, IsEmitted}
@@ -111,57 +109,56 @@ module _ (env : MachineValue) (out : OutputValue) (t : IsTarget env) where
       let d : OperandValue = use_in Any v in
       fixed_here v.class 1 (place_at ps 2) (h.proper 2 d (omega arith) read) (h.meets 2 d (omega arith))
 
-  -- the place of an argument of a call
-  passed_here : (os : List OperandValue) (ps : List Place) → AreFor os ps → (k r : ℕ) (v : VirtualRegister) → k < length os →
+  -- the place of an argument of a call, passed in a register or on the stack
+  in_register : (os : List OperandValue) (ps : List Place) → AreFor os ps → (k r : ℕ) (v : VirtualRegister) → k < length os →
       slice_index_or os k (passed_in r v) ≡ passed_in r v →
       nat_eq v.number 1073741823 ≡ false → IsGeneral (place_at ps k) × (register_of (place_at ps k) ≡ r)
-  passed_here os ps h k r v within is read =
+  in_register os ps h k r v within is read =
       let proper : IsProperPlace env out v.class (place_at ps k) = subst (λ (o : OperandValue). is_fixed_nonallocatable o ≡ false →
       IsProperPlace env out o.vreg.class (place_at ps k)) is (h.proper k (passed_in r v) within) read in
       let meets : place_at ps k ≡ InRegister (record { number = r; class = v.class }) = subst (λ (o : OperandValue). Meets env (length os) ps o.constraint
       (place_at ps k)) is (h.meets k (passed_in r v) within) in
       fixed_here v.class r (place_at ps k) proper meets
 
-  are_passed : (to : VirtualRegister) (arguments : Arguments) (ps : List Place) → AreRead (listed arguments) → AreFor (call_operands to arguments) ps →
-      ArePassed ps 1 argument_registers (listed arguments)
-  are_passed to Zero ps read h = tt
-  are_passed to (One a) ps read h = (passed_here _ ps h 1 7 a (omega arith) refl read.0, tt)
-  are_passed to (Two a b) ps read h =
-      (passed_here _ ps h 1 7 a (omega arith) refl read.0, (passed_here _ ps h 2 6 b (omega arith) refl read.1.0, tt))
-  are_passed to (Three a b c) ps read h = (
-    passed_here _ ps h 1 7 a (omega arith) refl read.0,
-    (passed_here _ ps h 2 6 b (omega arith) refl read.1.0, (passed_here _ ps h 3 2 c (omega arith) refl read.1.1.0, tt)),
-  )
-  are_passed to (Four a b c d) ps read h = (
-    passed_here _ ps h 1 7 a (omega arith) refl read.0,
-    (
-      passed_here _ ps h 2 6 b (omega arith) refl read.1.0,
-      (passed_here _ ps h 3 2 c (omega arith) refl read.1.1.0, (passed_here _ ps h 4 1 d (omega arith) refl read.1.1.1.0, tt)),
-    ),
-  )
-  are_passed to (Five a b c d e) ps read h = (
-    passed_here _ ps h 1 7 a (omega arith) refl read.0,
-    (
-      passed_here _ ps h 2 6 b (omega arith) refl read.1.0,
-      (
-        passed_here _ ps h 3 2 c (omega arith) refl read.1.1.0,
-        (passed_here _ ps h 4 1 d (omega arith) refl read.1.1.1.0, (passed_here _ ps h 5 8 e (omega arith) refl read.1.1.1.1.0, tt)),
-      ),
-    ),
-  )
-  are_passed to (Six a b c d e f) ps read h = (
-    passed_here _ ps h 1 7 a (omega arith) refl read.0,
-    (
-      passed_here _ ps h 2 6 b (omega arith) refl read.1.0,
-      (
-        passed_here _ ps h 3 2 c (omega arith) refl read.1.1.0,
-        (
-          passed_here _ ps h 4 1 d (omega arith) refl read.1.1.1.0,
-          (passed_here _ ps h 5 8 e (omega arith) refl read.1.1.1.1.0, (passed_here _ ps h 6 9 f (omega arith) refl read.1.1.1.1.1.0, tt)),
-        ),
-      ),
-    ),
-  )
+  on_stack : (os : List OperandValue) (ps : List Place) → AreFor os ps → (k : ℕ) (v : VirtualRegister) → k < length os →
+      slice_index_or os k (passed_on_stack v) ≡ passed_on_stack v → IsHere slots (place_at ps k)
+  on_stack os ps h k v within is =
+      here v.class (place_at ps k) (subst (λ (o : OperandValue). is_fixed_nonallocatable o ≡ false → IsProperPlace env out o.vreg.class (place_at ps k)) is
+      (h.proper k (passed_on_stack v) within) refl)
+
+  -- these are the operands from that index on
+  abbrev AreFrom : List OperandValue → ℕ → List OperandValue → Type 0
+  AreFrom os k us = (i : ℕ) (d : OperandValue) → i < length us → (k + i < length os) × (slice_index_or os (k + i) d ≡ slice_index_or us i d)
+
+  first_is : (os : List OperandValue) (k : ℕ) (u : OperandValue) (us : List OperandValue) → AreFrom os k (u ∷ us) →
+      (k < length os) × (slice_index_or os k u ≡ u)
+  first_is os k u us from =
+      let e : k + 0 ≡ k = omega arith in
+      let one : (k + 0 < length os) × (slice_index_or os (k + 0) u ≡ u) = from 0 u (omega arith) in
+      (omega (arith, one.0), subst (λ (n : ℕ). slice_index_or os n u ≡ u) e one.1)
+
+  others_are : (os : List OperandValue) (k : ℕ) (u : OperandValue) (us : List OperandValue) → AreFrom os k (u ∷ us) → AreFrom os (k + 1) us
+  others_are os k u us from = λ i d less.
+      let e : k + suc i ≡ k + 1 + i = omega arith in
+      subst (λ (n : ℕ). (n < length os) × (slice_index_or os n d ≡ slice_index_or us i d)) e (from (suc i) d (omega arith))
+
+  passed_from : (os : List OperandValue) (ps : List Place) → AreFor os ps → (k : ℕ) (rs : List ℕ) (vs : List VirtualRegister) → AreRead vs →
+      AreFrom os k (arguments_in rs vs) → ArePassed slots ps k rs vs
+  unfolding arguments_in
+  passed_from os ps h k rs [] read from = tt
+  passed_from os ps h k [] (v ∷ vs) read from =
+      let one : (k < length os) × (slice_index_or os k (passed_on_stack v) ≡ passed_on_stack v) =
+      first_is os k (passed_on_stack v) (arguments_in [] vs) from in
+      (on_stack os ps h k v one.0 one.1, passed_from os ps h (k + 1) [] vs read.1 (others_are os k (passed_on_stack v) (arguments_in [] vs) from))
+  passed_from os ps h k (r ∷ rs) (v ∷ vs) read from =
+      let one : (k < length os) × (slice_index_or os k (passed_in r v) ≡ passed_in r v) = first_is os k (passed_in r v) (arguments_in rs vs) from in
+      (in_register os ps h k r v one.0 one.1 read.0, passed_from os ps h (k + 1) rs vs read.1 (others_are os k (passed_in r v) (arguments_in rs vs) from))
+
+  are_passed : (to : VirtualRegister) (vs : List VirtualRegister) (ps : List Place) → AreRead vs → AreFor (call_operands to vs) ps →
+      ArePassed slots ps 1 argument_registers vs
+  are_passed to vs ps read h =
+      passed_from (call_operands to vs) ps h 1 argument_registers vs read
+      (λ i d less. let e : 1 + i ≡ suc i = omega arith in (omega arith, ap (λ (n : ℕ). slice_index_or (call_operands to vs) n d) e))
 
   -- the last operand is that of a second number, unless it is a constant
   right_here : (right : Right) (os : List OperandValue) (ps : List Place) → AreFor (os ++ right_in right) ps →
@@ -229,7 +226,7 @@ module _ (env : MachineValue) (out : OutputValue) (t : IsTarget env) where
   is_placed (Calling g to arguments) ps read h =
       let d : OperandValue = def_in Reg to in (
         fixed_here to.class 0 (place_at ps 0) (h.proper 0 d (omega arith) read.0) (h.meets 0 d (omega arith)),
-        are_passed to arguments ps read.1 h,
+        are_passed to arguments.items ps read.1 h,
       )
   is_placed GoTo ps read h = tt
   is_placed (BranchIf v) ps read h = let d : OperandValue = use_in Any v in here v.class (place_at ps 0) (h.proper 0 d (omega arith) refl)
@@ -248,21 +245,17 @@ not_same m n less = pick (nat_eq m n) refl
     pick false e = refl
     pick true e = let same : m ≡ n = eqb-true m n e in absurd (omega (arith, same))
 
-all_read : (vregs : ℕ) (vs : List VirtualRegister) → vregs < 2 ^ 30 → list_all (λ v. nat_lt v.number vregs) vs ≡ true → AreRead vs
-all_read vregs [] few h = tt
-all_read vregs (v ∷ vs) few h =
-    let known : nat_lt v.number vregs ≡ true = (and_parts _ _ h).0 in
-    (not_same v.number 1073741823 (let less : v.number < vregs = ltb-true _ _ known in omega arith), all_read vregs vs few (and_parts _ _ h).1)
+read_small : (vregs : ℕ) (v : VirtualRegister) → vregs < 2 ^ 30 → nat_lt v.number vregs ≡ true → nat_eq v.number 1073741823 ≡ false
+read_small vregs v few known = not_same v.number 1073741823 (let less : v.number < vregs = ltb-true _ _ known in omega arith)
 
-arguments_read : (vregs : ℕ) (arguments : Arguments) → vregs < 2 ^ 30 → list_all (λ x. nat_lt x.vreg.number vregs) (arguments_in arguments) ≡ true →
-    AreRead (listed arguments)
-arguments_read vregs Zero few h = tt
-arguments_read vregs (One a) few h = all_read vregs (a ∷ []) few h
-arguments_read vregs (Two a b) few h = all_read vregs (a ∷ b ∷ []) few h
-arguments_read vregs (Three a b c) few h = all_read vregs (a ∷ b ∷ c ∷ []) few h
-arguments_read vregs (Four a b c d) few h = all_read vregs (a ∷ b ∷ c ∷ d ∷ []) few h
-arguments_read vregs (Five a b c d e) few h = all_read vregs (a ∷ b ∷ c ∷ d ∷ e ∷ []) few h
-arguments_read vregs (Six a b c d e f) few h = all_read vregs (a ∷ b ∷ c ∷ d ∷ e ∷ f ∷ []) few h
+arguments_read : (vregs : ℕ) (rs : List ℕ) (vs : List VirtualRegister) → vregs < 2 ^ 30 →
+    list_all (λ x. nat_lt x.vreg.number vregs) (arguments_in rs vs) ≡ true → AreRead vs
+unfolding arguments_in
+arguments_read vregs rs [] few h = tt
+arguments_read vregs [] (v ∷ vs) few h =
+    (read_small vregs v few (and_parts _ _ h).0, arguments_read vregs [] vs few (and_parts _ _ h).1)
+arguments_read vregs (r ∷ rs) (v ∷ vs) few h =
+    (read_small vregs v few (and_parts _ _ h).0, arguments_read vregs rs vs few (and_parts _ _ h).1)
 
 is_read : (vregs : ℕ) (o : Operation) → vregs < 2 ^ 30 → list_all (λ x. nat_lt x.vreg.number vregs) (operands_of o) ≡ true → IsRead o
 is_read vregs (Shifting w o to left (CountIn v)) few h =
@@ -281,7 +274,7 @@ is_read vregs (Dividing w part signed to left right) few h =
 is_read vregs (Calling g to arguments) few h =
     let first : nat_lt to.number vregs ≡ true = (and_parts _ _ h).0 in (
       not_same to.number 1073741823 (let less : to.number < vregs = ltb-true _ _ first in omega arith),
-      arguments_read vregs arguments few (and_parts _ _ h).1,
+      arguments_read vregs argument_registers arguments.items few (and_parts _ _ h).1,
     )
 is_read vregs o few h = tt
 
@@ -303,6 +296,11 @@ is_end (BranchIf v) count e w = omega arith
 is_end (BranchIfHolds width c left right) count e w = omega arith
 is_end (GiveBack v) count e w = tt
 is_end o count e w = absurd (elim e [ inl j ↦ cc | inr r ↦ cc ])
+
+-- the frame has words for the arguments of each call
+words_bound : (os : List Operation) (i : ℕ) → i < length os → stack_arguments (slice_index_or os i GoTo) ≤ outgoing_words os
+unfolding outgoing_words
+words_bound os i less = max_bounds outgoing_words stack_arguments refl (λ x xs. refl) os i GoTo less
 
 module _ (p : Procedure) (env : MachineValue) (out : OutputValue) (t : IsTarget env) (w : IsWellFormed env (function_of_procedure p))
     (a : IsAllocation (function_of_procedure p) env out) where
@@ -365,6 +363,7 @@ module _ (p : Procedure) (env : MachineValue) (out : OutputValue) (t : IsTarget 
     plain = plain;
     ends = ends;
     succs = λ b k less at. w.successors.1 b less k 0 at;
+    passes = λ i less. words_bound (operations p).items i (let n = counted in omega arith);
     placed = placed;
     moves = moves;
     starts = starts;

@@ -5,6 +5,7 @@ use Rattle.std.specs.Prelude.{nat_lt, nat_le, slice_get, slice_index}
 use Rattle.std.proofs.Math.Bool.{not-not}
 use Rattle.std.proofs.lemmas.Bool.Decides.{leb_tells}
 use Rattle.regalloc2_names.specs.Operand.{is_reading}
+use Rattle.regalloc2_names.specs.Register.{VirtualRegister}
 use Rattle.regalloc2_names.specs.Place.{Place, NoPlace, InRegister, InSlot}
 use Rattle.regalloc2_function.specs.OutputValue.{place_at}
 use Rattle.regalloc2_function.specs.Path.{Way, Onward, ToSuccessor}
@@ -13,10 +14,7 @@ use Rattle.codegen_machine.specs.Ir.Numbers.{RunOutcome, Running, Returned, Trap
 use Rattle.codegen_machine.specs.Ir.Numbers.{condition_holds, signed_rank, widened, truth, count_of, is_within, number_at, with_number}
 use Rattle.codegen_machine.specs.declared.ir.operation.Bytes.{Bytes}
 use Rattle.codegen_machine.specs.declared.ir.operation.Bytes.TheVariants.{One, Two, Four, Eight}
-use Rattle.codegen_machine.specs.Ir.Operands.{arguments_in, operands_of}
-use Rattle.codegen_machine.specs.declared.ir.operation.Arguments.{Arguments}
-use Rattle.codegen_machine.specs.declared.ir.operation.Arguments.TheVariants.{Zero as NoArgument, One as OneArgument, Two as TwoArguments, Three as ThreeArguments}
-use Rattle.codegen_machine.specs.declared.ir.operation.Arguments.TheVariants.{Four as FourArguments, Five as FiveArguments, Six as SixArguments}
+use Rattle.codegen_machine.specs.Ir.Operands.{argument_registers, arguments_in, operands_of}
 use Rattle.codegen_machine.specs.declared.ir.operation.Width.{Width}
 use Rattle.codegen_machine.specs.declared.ir.operation.Operator.{Operator}
 use Rattle.codegen_machine.specs.declared.ir.operation.ShiftOperator.{ShiftOperator}
@@ -144,16 +142,12 @@ guard_is memory size bytes a sized =
     below_count size (count_of bytes) a (count_some bytes) ∙ ap (λ (n : ℕ). nat_le (a + count_of bytes) n) (sym sized)
 
 -- uses are no definitions
-uses_undisturbed : (arguments : Arguments) (noise : Place → ℕ) (ps : List Place) (k : ℕ) (numbers : Place → ℕ) →
-    disturbed noise ps k (arguments_in arguments) numbers ≡ numbers
-unfolding disturbed
-uses_undisturbed NoArgument noise ps k numbers = refl
-uses_undisturbed (OneArgument a) noise ps k numbers = refl
-uses_undisturbed (TwoArguments a b) noise ps k numbers = refl
-uses_undisturbed (ThreeArguments a b c) noise ps k numbers = refl
-uses_undisturbed (FourArguments a b c d) noise ps k numbers = refl
-uses_undisturbed (FiveArguments a b c d e) noise ps k numbers = refl
-uses_undisturbed (SixArguments a b c d e f) noise ps k numbers = refl
+uses_undisturbed : (rs : List ℕ) (vs : List VirtualRegister) (noise : Place → ℕ) (ps : List Place) (k : ℕ) (numbers : Place → ℕ) →
+    disturbed noise ps k (arguments_in rs vs) numbers ≡ numbers
+unfolding disturbed arguments_in
+uses_undisturbed rs [] noise ps k numbers = refl
+uses_undisturbed [] (v ∷ vs) noise ps k numbers = uses_undisturbed [] vs noise ps (k + 1) numbers
+uses_undisturbed (r ∷ rs) (v ∷ vs) noise ps k numbers = uses_undisturbed rs vs noise ps (k + 1) numbers
 
 -- no definition is early, so none overwrites what the uses read
 pub undisturbed : (o : Operation) (noise : Place → ℕ) (ps : List Place) (numbers : Place → ℕ) → disturbed noise ps 0 (operands_of o) numbers ≡ numbers
@@ -171,7 +165,7 @@ undisturbed (Comparison w c to left (Given n)) noise ps numbers = refl
 undisturbed (Select to c one other) noise ps numbers = refl
 undisturbed (Loading bytes to address) noise ps numbers = refl
 undisturbed (Storing bytes address value) noise ps numbers = refl
-undisturbed (Calling g to arguments) noise ps numbers = uses_undisturbed arguments noise ps 1 numbers
+undisturbed (Calling g to arguments) noise ps numbers = uses_undisturbed argument_registers arguments.items noise ps 1 numbers
 undisturbed GoTo noise ps numbers = refl
 undisturbed (BranchIf v) noise ps numbers = refl
 undisturbed (BranchIfHolds w c left (VReg v)) noise ps numbers = refl

@@ -13,7 +13,7 @@ use Rattle.codegen.proofs.Frames.{AreAt, IsKnown, begins_at, each_of, step_follo
 
 -- no code
 abbrev no_function : FunctionCode
-no_function = record { code = record { instructions = []; slots = 0 }; arity = 0 }
+no_function = record { code = record { instructions = []; slots = 0; outgoing = 0 }; arity = 0 }
 
 -- each function of a compiled module is known
 known : (m : Module) (code : List FunctionCode) → AreCompiled m.procedures.items code (length m.procedures.items) → (b : Beginning m.memory_size) →

@@ -1,6 +1,6 @@
--- The emitted code: one to three instructions for each item of a block's listing, block after block. Jumps name blocks at first, and then the blocks' first
--- instructions.
-use Rattle.std.specs.Prelude.{ℕ, zero, suc, ◌+◌, ◌-◌, Bool, true, false, nat_lt, nat_eq, if◌then◌else◌}
+-- The emitted code: one to three instructions for each item of a block's listing, and for a call one or two more for each argument past the sixth, block after
+-- block. Jumps name blocks at first, and then the blocks' first instructions.
+use Rattle.std.specs.Prelude.{ℕ, zero, suc, ◌+◌, ◌-◌, max, Bool, true, false, nat_lt, nat_eq, if◌then◌else◌}
 use Rattle.std.specs.Prelude.{List, [], ◌∷◌, ◌++◌, map, length, slice_index, slice_index_or}
 use Rattle.regalloc2_names.specs.Place.{Place}
 use Rattle.regalloc2_function.specs.FunctionValue.{FunctionValue, block_at}
@@ -28,7 +28,7 @@ use Rattle.codegen_machine.specs.declared.Source.TheVariants.{Number}
 use Rattle.codegen_machine.specs.declared.Instruction.{Instruction}
 use Rattle.codegen_machine.specs.declared.Instruction.TheVariants.{Constant, Clear, Argument, Move, Load, Store, Compute}
 use Rattle.codegen_machine.specs.declared.Instruction.TheVariants.{Shift, ShiftBy, ExtendSign, Divide, Compare, Set, MoveIf, Test, Jump}
-use Rattle.codegen_machine.specs.declared.Instruction.TheVariants.{JumpIf, Call, Return, Guard, Read, Write}
+use Rattle.codegen_machine.specs.declared.Instruction.TheVariants.{JumpIf, Call, Pass, Return, Guard, Read, Write}
 use Rattle.codegen_machine.specs.Machine.{CodeValue}
 use Rattle.codegen.specs.declared.placement.MachinePlace.{MachinePlace}
 use Rattle.codegen.specs.declared.placement.MachinePlace.TheVariants.{Register as AtRegister, Slot as AtSlot}
@@ -131,6 +131,24 @@ abbrev pub store_code : ℕ → Bytes → List Place → List Instruction
 store_code size bytes places = Guard (register_of (place_at places 0)) (address_count size bytes)
     ∷ Write bytes (register_of (place_at places 0)) (register_of (place_at places 1)) ∷ []
 
+-- Passes an argument on the stack: copies a place's number into an outgoing word. A number in a slot is copied by way of register 0, which holds none of the
+-- arguments that are still to be read: their uses are late, and the call's result is written to it.
+abbrev pub passed_from : ℕ → MachinePlace → List Instruction
+passed_from k (AtRegister r) = Pass k r ∷ []
+passed_from k (AtSlot j) = Load 0 j ∷ Pass k 0 ∷ []
+
+abbrev pub pass_code : ℕ → Place → List Instruction
+pass_code k p = passed_from k (machine_place p)
+
+-- that many of them; the first operands of a call are its result and six arguments in registers
+unfoldable pub passes_code : ℕ → List Place → List Instruction
+passes_code zero places = []
+passes_code (suc n) places = passes_code n places ++ pass_code n (place_at places (n + 7))
+
+-- a call with that many arguments
+abbrev pub call_code : ℕ → ℕ → List Place → List Instruction
+call_code g count places = passes_code (count - 6) places ++ Call g ∷ []
+
 -- the return of a place's number, in register 0
 abbrev pub return_code : Place → List Instruction
 return_code p = fetched 0 p ∷ Return ∷ []
@@ -149,7 +167,7 @@ operation_code size (Comparison w c to left right) places succs next = compare_c
 operation_code size (Select to c one other) places succs next = select_code places
 operation_code size (Loading bytes to address) places succs next = load_code size bytes places
 operation_code size (Storing bytes address value) places succs next = store_code size bytes places
-operation_code size (Calling g to arguments) places succs next = Call g ∷ []
+operation_code size (Calling g to arguments) places succs next = call_code g (length arguments.items) places
 operation_code size GoTo places succs next = Jump (slice_index succs 0) ∷ []
 operation_code size (BranchIf v) places succs next = branch_if_code (place_at places 0) succs next
 operation_code size (BranchIfHolds w c left right) places succs next = branch_if_holds_code w c right places succs next
@@ -191,9 +209,20 @@ module _ (operations : Operations) (out : OutputValue) where
   abbrev pub block_label : FunctionValue → ℕ → ℕ
   block_label f b = if nat_lt b (length f.blocks) then block_start f b else 0
 
--- the code of an allocated function: its blocks, with jumps resolved, and a frame of those of its slots that aren't registers
+-- the number of arguments that an operation passes on the stack, and the most of any operation
+abbrev pub stack_arguments : Operation → ℕ
+stack_arguments (Calling g to arguments) = length arguments.items - 6
+stack_arguments o = 0
+
+unfoldable pub outgoing_words : List Operation → ℕ
+outgoing_words [] = 0
+outgoing_words (o ∷ os) = max (stack_arguments o) (outgoing_words os)
+
+-- The code of an allocated function: its blocks, with jumps resolved, and a frame of those of its slots that aren't registers and of the words for the arguments
+-- of its calls.
 abbrev pub emitted : Operations → FunctionValue → OutputValue → CodeValue
 emitted operations f out = record {
   instructions = map (resolved (block_label operations out f)) (blocks_code operations out f (length f.blocks));
   slots = frame_slots out.num_spillslots;
+  outgoing = outgoing_words operations.items;
 }

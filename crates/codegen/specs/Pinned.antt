@@ -1,17 +1,15 @@
 -- Where the machine keeps the numbers of the allocator's places. Registers stay what they are; the first five slots are callee-saved registers, which the
 -- allocator doesn't allocate, and the others are the frame's slots.
-use Rattle.std.specs.Prelude.{ℕ, zero, suc, ◌-◌, List, [], ◌∷◌, Bool, ◌&&◌, ◌||◌, nat_lt}
+use Rattle.std.specs.Prelude.{ℕ, zero, suc, ◌-◌, List, [], ◌∷◌, Bool, ◌&&◌}
 use Rattle.regalloc2_names.specs.Place.{Place, NoPlace, InRegister, InSlot}
 use Rattle.codegen_machine.specs.declared.Source.{Source}
 use Rattle.codegen_machine.specs.declared.Source.TheVariants.{Register, Slot}
+use Rattle.codegen_machine.specs.Calls.{is_caller_saved}
 use Rattle.codegen_machine.specs.Machine.{is_general}
 use Rattle.codegen.specs.declared.placement.MachinePlace.{MachinePlace}
 use Rattle.codegen.specs.declared.placement.MachinePlace.TheVariants.{Register as AtRegister, Slot as AtSlot}
 
--- The registers that a call may change, by the System V calling convention: rax, rcx, rdx, and rsi to r11. The allocator allocates those that hold numbers.
-abbrev pub is_caller_saved : ℕ → Bool
-is_caller_saved r = nat_lt r 3 || (nat_lt 5 r && nat_lt r 12)
-
+-- The registers that the allocator allocates: those that hold numbers and that a call may change, rax, rcx, rdx, and rsi to r11.
 abbrev pub is_allocated : ℕ → Bool
 is_allocated r = is_general r && is_caller_saved r
 

@@ -7,15 +7,17 @@ ghost use Rattle.regalloc2_function.specs.OutputValue.{IsInOrder, place_at};
 ghost use Rattle.regalloc2_function.specs.Views.{item_of, output_of};
 ghost use Rattle.regalloc2_function.specs.WellFormed.{BlocksFollow};
 ghost use Rattle.codegen_machine.specs.Ir.Seen.{function_of_procedure, operations};
+ghost use Rattle.codegen_machine.specs.Ir.Successors.{operations_of};
 ghost use Rattle.codegen_machine.specs.Machine.{code_of};
 ghost use Rattle.codegen.specs.Emitted.{register_of, source_of, right_source, fetched_from, fetched, move_code, constant_code, operation_code, opposite, item_code, resolved};
 ghost use Rattle.codegen.specs.Emitted.{branch_code, branch_if_code, branch_if_holds_code, compare_code, divide_code, extension_code, return_code, select_code, shift_code};
 ghost use Rattle.codegen.specs.Emitted.{address_count, load_code, store_code};
+ghost use Rattle.codegen.specs.Emitted.{call_code, outgoing_words, pass_code, passed_from, passes_code, stack_arguments};
 ghost use Rattle.codegen.specs.Emitted.{block_code, emitted};
 
 use super::placement::{MachinePlace, frame_slots, machine_place};
 use codegen_machine::ir::{
-    Bytes, Condition, Count, Operation, Procedure, Right, ShiftOperator, Width,
+    Bytes, Condition, Count, Line, Operation, Procedure, Right, ShiftOperator, Width,
 };
 use codegen_machine::{Code, Instruction, Source};
 use regalloc2::{Allocation, Block, Function, InstOrEdit, Output};
@@ -334,6 +336,61 @@ fn emit_store(
     )
 }
 
+/// Passes an argument on the stack: copies the number in a place of the machine into an outgoing
+/// word. Register 0 is free for a number in a slot, because the arguments' uses are late, and the
+/// call's result is written to it.
+fn emit_pass_from(
+    code: &mut Vec<Instruction>,
+    index: usize,
+    from: MachinePlace,
+) -> Result<(), AllocError>
+    ensures { OnOk result (code.new.items ≡ code.old.items ++ passed_from index from) }
+{
+    match from {
+        MachinePlace::Register(from) => put(code, Instruction::Pass { index, from }),
+        MachinePlace::Slot(slot) => {
+            put(code, Instruction::Load { to: 0, slot })?;
+            put(code, Instruction::Pass { index, from: 0 })
+        }
+    }
+}
+
+/// Passes an argument on the stack.
+fn emit_pass(code: &mut Vec<Instruction>, index: usize, from: Allocation) -> Result<(), AllocError>
+    ensures { OnOk result (code.new.items ≡ code.old.items ++ pass_code index from) }
+{
+    emit_pass_from(code, index, machine_place(from))
+}
+
+/// Passes that many arguments on the stack: the operands after the result and those in registers.
+fn emit_passes(
+    code: &mut Vec<Instruction>,
+    count: usize,
+    places: &[Allocation],
+) -> Result<(), AllocError>
+    requires { count < 2 ^ 63 }
+    ensures { OnOk result (code.new.items ≡ code.old.items ++ passes_code count places.now) }
+{
+    for index in 0..count {
+        emit_pass(code, index, place(places, index + 7))?;
+    }
+    Ok(())
+}
+
+/// A call of a function with `count` arguments.
+fn emit_call(
+    code: &mut Vec<Instruction>,
+    function: usize,
+    count: usize,
+    places: &[Allocation],
+) -> Result<(), AllocError>
+    requires { count < 2 ^ 63 }
+    ensures { OnOk result (code.new.items ≡ code.old.items ++ call_code function count places.now) }
+{
+    emit_passes(code, count.saturating_sub(6), places)?;
+    put(code, Instruction::Call { function })
+}
+
 /// The return of a place's number, in register 0.
 fn emit_return(code: &mut Vec<Instruction>, place: Allocation) -> Result<(), AllocError>
     ensures { OnOk result (code.new.items ≡ code.old.items ++ return_code place) }
@@ -347,17 +404,17 @@ fn emit_return(code: &mut Vec<Instruction>, place: Allocation) -> Result<(), All
 fn emit_operation(
     code: &mut Vec<Instruction>,
     memory_size: usize,
-    operation: Operation,
+    operation: &Operation,
     places: &[Allocation],
     succs: &[Block],
     next: usize,
 ) -> Result<(), AllocError>
     requires { memory_size < 2 ^ 31 }
-    ensures { OnOk result (code.new.items ≡ code.old.items ++ operation_code memory_size operation places.now succs.now next) }
+    ensures { OnOk result (code.new.items ≡ code.old.items ++ operation_code memory_size operation.now places.now succs.now next) }
 {
     let first = place(places, 0);
     let to = register(first);
-    match operation {
+    match *operation {
         Operation::Argument { index, .. } => put(code, Instruction::Argument { to, index }),
         Operation::Constant { value, .. } => put(code, constant(to, value)),
         Operation::Copy { .. } => put(code, fetch(to, place(places, 1))),
@@ -398,7 +455,11 @@ fn emit_operation(
         Operation::Select { .. } => emit_select(code, places),
         Operation::Load { bytes, .. } => emit_load(code, memory_size, bytes, places),
         Operation::Store { bytes, .. } => emit_store(code, memory_size, bytes, places),
-        Operation::Call { function, .. } => put(code, Instruction::Call { function }),
+        Operation::Call {
+            function,
+            ref arguments,
+            ..
+        } => emit_call(code, function, arguments.len(), places),
         Operation::Jump => put(code, jump(succs, 0)),
         Operation::BranchIf { .. } => emit_branch_if(code, first, succs, next),
         Operation::BranchIfHolds {
@@ -427,7 +488,7 @@ fn emit_item(
 {
     match item {
         InstOrEdit::Inst(inst) => {
-            let operation = f.lines[inst.index()].operation;
+            let operation = &f.lines[inst.index()].operation;
             emit_operation(
                 code,
                 f.memory_size,
@@ -493,6 +554,27 @@ fn resolve_all(
         .collect(alloc)
 }
 
+/// How many arguments an operation passes on the stack.
+fn stack_arguments(operation: &Operation) -> usize
+    ensures { result ≡ stack_arguments operation.now }
+{
+    match operation {
+        Operation::Call { arguments, .. } => arguments.len().saturating_sub(6),
+        _ => 0,
+    }
+}
+
+/// The outgoing words of a function: the most arguments that a call passes on the stack.
+fn outgoing_words(lines: &[Line]) -> usize
+    ensures { result ≡ outgoing_words (operations_of lines.now) }
+{
+    let mut most = 0;
+    for line in lines {
+        most = stack_arguments(&line.operation).max(most);
+    }
+    most
+}
+
 /// The code of an allocated function.
 ///
 /// Blocks are emitted in order, with jumps that name blocks, and the first instruction of each is
@@ -512,5 +594,6 @@ pub fn emit(alloc: Global, f: &Procedure, out: &Output) -> Result<Code, AllocErr
     Ok(Code {
         instructions,
         slots: frame_slots(out.num_spillslots),
+        outgoing: outgoing_words(&f.lines),
     })
 }

@@ -14,21 +14,24 @@
 //! it into register 2, and writes quotient and remainder to these two: one is the result, the
 //! other's register is clobbered, and the divisor is read late. An access to memory is a guard, which
 //! compares the address with the number of addresses that the access has in a memory of the
-//! function's size, and traps, and then the access. The emitter writes one to three
-//! instructions for a line, and one for a move. Jumps name blocks at first; once all blocks are
-//! emitted, `resolve` replaces the blocks by the numbers of instructions.
+//! function's size, and traps, and then the access. A call passes its first six arguments in
+//! registers, and reads the others late, from any place: code before the call copies each of them to
+//! an outgoing word of the frame, a slot's number by way of register 0. The emitter writes one to
+//! three instructions for a line, one or two more for each argument past the sixth, and one for a
+//! move. Jumps name blocks at first; once all blocks are emitted, `resolve` replaces the blocks by
+//! the numbers of instructions.
 //!
 //! A branch is two jumps, the second unconditional. If its first successor is the next block, it
 //! jumps to the second successor under the opposite condition, and then to the next line. The code
 //! keeps a jump to the next line, so each step of the function is a step of the machine; the text
 //! omits it.
 //!
-//! The machine (`codegen_machine`) is *stuck* where a processor would misbehave: at a slot outside
-//! the frame, at an access outside memory, at the registers of the stack pointer and of memory, at a
-//! jump out of the code, at a call of no function, at a condition whose flags another instruction
-//! has clobbered, and at a division whose register 2 doesn't extend the dividend. "Never stuck" is
-//! therefore a guarantee of its own. A trap isn't stuck: function and code trap alike, and leave the
-//! same memory.
+//! The machine (`codegen_machine`) is *stuck* where a processor would misbehave: at a slot or an
+//! outgoing word outside the frame, at an access outside memory, at the registers of the stack
+//! pointer and of memory, at a jump out of the code, at a call of no function, at a condition whose
+//! flags another instruction has clobbered, and at a division whose register 2 doesn't extend the
+//! dividend. "Never stuck" is therefore a guarantee of its own. A trap isn't stuck: function and code
+//! trap alike, and leave the same memory.
 //!
 //! # Where numbers are kept
 //!
@@ -38,7 +41,8 @@
 //! rbx, rbp, r12, r13 and r14, and the frame holds the others. `machine_place` maps each place of the
 //! allocator to its register or slot of the frame (`specs/Pinned.antt`), and each instruction that
 //! is emitted names the result. The map is injective, so a write to a place leaves the numbers of the
-//! others (`proofs/Places.antt`).
+//! others (`proofs/Places.antt`). An outgoing word is no place of the allocator; the frame has as many
+//! as the function's calls need.
 //!
 //! # What of the allocator each part uses
 //!
@@ -52,7 +56,8 @@
 //! | dividends and results of divisions | `IsAllocation.constraints` and `proper` | they are in registers 0 and 2, where the processor reads and writes them |
 //! | divisors | `runs`, and the lemma `runs_alike`: late uses | whatever the division writes and leaves, the divisor's place keeps its number until it is read |
 //! | the register of a division's other part | `runs`, and the lemma `runs_alike`: clobbers | any number may be left there, since none of the function's is expected there |
-//! | arguments and results of calls | `IsAllocation.constraints` and `proper` | an argument is in the register in which the callee reads it, and the result in register 0 |
+//! | the first six arguments, and results of calls | `IsAllocation.constraints` and `proper` | an argument is in the register in which the callee reads it, and the result in register 0 |
+//! | arguments on the stack | `runs`, and the lemma `runs_alike`: late uses | whatever the call writes to register 0, an argument's place keeps its number, so register 0 is free while arguments are copied |
 //! | numbers that are needed after a call | `runs`, and the lemma `runs_alike`: clobbers | whatever the callee leaves in caller-saved registers, none of the caller's numbers is expected there |
 //! | blocks and branches | `tested` | blocks are contiguous, each with its only branch or return last; successors exist; the entry is block 0 |
 //! | the theorem | `runs`, and the lemma `runs_alike` | whatever instructions compute, the interpreter over places reads the same numbers as the one over vregs |
@@ -78,14 +83,15 @@
 //!
 //! Module and code run on stacks, of frames and of activations (`codegen_machine`'s `Ir/Calls.antt` and
 //! `Calls.antt`). Each frame has an activation of its own, with choices of its own
-//! (`proofs/Frames.antt`). At a call, the machine runs the call's moves, and suspends the activation
-//! with its registers and slots; at a return, the call's choice writes the result and leaves in
-//! caller-saved registers what the callee left there (`proofs/Calling.antt`). A callee that never
-//! returns therefore adds no choice to its caller's. A run within a function is a run of its activation
-//! (`proofs/Activations.antt`), so the proofs of the other operations know nothing of the stack. The
-//! stack overflows only where the activations, which are those of the module's frames, exceed its room;
-//! neither side depends on the other beyond that point. With an unlimited room nothing overflows, so
-//! the module is never stuck (`proofs/Behaving.antt`).
+//! (`proofs/Frames.antt`). At a call, the machine runs the call's moves, copies the arguments past the
+//! sixth to outgoing words, which changes register 0 alone (`proofs/Passing.antt`), and suspends the
+//! activation with its registers and slots; at a return, the call's choice writes the result and
+//! leaves in caller-saved registers what the callee left there (`proofs/Calling.antt`). A callee that
+//! never returns therefore adds no choice to its caller's. A run within a function is a run of its
+//! activation (`proofs/Activations.antt`), so the proofs of the other operations know nothing of the
+//! stack. The stack overflows only where the activations, which are those of the module's frames,
+//! exceed its room; neither side depends on the other beyond that point. With an unlimited room
+//! nothing overflows, so the module is never stuck (`proofs/Behaving.antt`).
 //!
 //! Unused: that values are in their slots between blocks, that slots have owners, bounds on their
 //! number, debug locations, and when nothing is spilled. A code generator that keeps other data in

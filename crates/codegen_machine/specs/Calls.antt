@@ -1,34 +1,38 @@
 -- The semantics of a module's code: activations of its functions, each with its own slots, on a stack with a limited room. A call suspends an activation;
 -- a return continues it with the callee-saved registers as they were, and with the callee's numbers in the caller-saved ones.
-use Rattle.std.specs.Prelude.{ℕ, zero, suc, ◌+◌, ◌%◌, Bool, true, false, ◌||◌, ◌&&◌, nat_eq, nat_lt, if◌then◌else◌, List, [], ◌∷◌, map, slice_get, slice_index_or}
+use Rattle.std.specs.Prelude.{ℕ, zero, suc, ◌+◌, ◌-◌, ◌%◌, Bool, false, ◌||◌, ◌&&◌, nat_lt, min, if◌then◌else◌, List, [], ◌∷◌, map, slice_get, slice_index_or}
 use Rattle.std.specs.Prelude.{Option, None, Some}
 use Rattle.codegen_machine.specs.Ir.Numbers.{RunOutcome, Running, Returned, Trapped, Overflowed, Stuck, further, put}
+use Rattle.codegen_machine.specs.Ir.Operands.{argument_registers}
 use Rattle.codegen_machine.specs.declared.Instruction.{Instruction}
-use Rattle.codegen_machine.specs.declared.Instruction.TheVariants.{Call}
+use Rattle.codegen_machine.specs.declared.Instruction.TheVariants.{Call, Pass}
 use Rattle.codegen_machine.specs.declared.NamedCode.{NamedCode}
-use Rattle.codegen_machine.specs.Machine.{CodeValue, MachineState, code_of, machine_step}
+use Rattle.codegen_machine.specs.Machine.{CodeValue, MachineState, code_of, is_general, machine_step}
 
--- a suspended activation: its function's number, its arguments, the instruction after its call, its slots, and the registers at the call
+-- a suspended activation: its function's number, its arguments, the instruction after its call, its slots, its outgoing words, and the registers at the call
 pub record SuspendedActivation : Type 0 where
   pub function : ℕ
   pub args : ℕ → ℕ
   pub pc : ℕ
   pub frame : ℕ → ℕ
+  pub outgoing : ℕ → ℕ
   pub registers : ℕ → ℕ
 
--- the running activation: its function's number, its arguments and its state, with all registers and the memory; the suspended activations, the newest
--- first; and the number of activations so far
+-- the running activation: its function's number, its arguments, its state, with all registers and the memory, and its outgoing words; the suspended
+-- activations, the newest first; and the number of activations so far
 pub record StackState : Type 0 where
   pub function : ℕ
   pub args : ℕ → ℕ
   pub state : MachineState
+  pub outgoing : ℕ → ℕ
   pub callers : List SuspendedActivation
   pub activations : ℕ
 
--- the numbers that registers and slots hold at the start of each activation, by number, and the stack's room in words, unless it is unlimited
+-- the numbers that registers, slots and outgoing words hold at the start of each activation, by number, and the stack's room in words, unless it is unlimited
 pub record Stack : Type 0 where
   pub registers : ℕ → ℕ → ℕ
   pub frames : ℕ → ℕ → ℕ
+  pub outgoing : ℕ → ℕ → ℕ
   pub room : Option ℕ
 
 -- the contents of a function: its code, and the number of its arguments
@@ -39,22 +43,19 @@ pub record FunctionCode : Type 0 where
 abbrev pub functions_of : List NamedCode → List FunctionCode
 functions_of fs = map (λ f. record { code = code_of f.code; arity = f.arity }) fs
 
--- the registers in which arguments are passed, in order
-abbrev pub argument_registers : List ℕ
-argument_registers = 7 ∷ 6 ∷ 2 ∷ 1 ∷ 8 ∷ 9 ∷ []
-
+-- the register that passes an argument, of the first six
 abbrev pub argument_register : ℕ → ℕ
 argument_register k = slice_index_or argument_registers k 16
 
 -- the registers that a callee may overwrite; it preserves all others
 abbrev pub is_caller_saved : ℕ → Bool
-is_caller_saved r = nat_eq r 0 || (nat_eq r 1 || (nat_eq r 2 || (nat_lt 5 r && nat_lt r 12)))
+is_caller_saved r = nat_lt r 3 || (nat_lt 5 r && nat_lt r 12)
 
--- The words of an activation: the return address, five saved registers, its arguments, its slots, and one more if their number is odd, so that the stack
--- pointer stays a multiple of 16.
+-- The words of an activation: the return address, five saved registers, the arguments that registers passed to it, its slots, its outgoing words, and one
+-- more if their number is odd, so that the stack pointer stays a multiple of 16.
 abbrev pub words_of : Option FunctionCode → ℕ
 words_of None = 0
-words_of (Some f) = let n = f.arity + f.code.slots in 6 + (n + n % 2)
+words_of (Some f) = let n = min f.arity 6 + f.code.slots + f.code.outgoing in 6 + (n + n % 2)
 
 -- those of all activations, given their functions' numbers; and whether they exceed the room
 unfoldable pub words_taken : List FunctionCode → List ℕ → ℕ
@@ -69,10 +70,15 @@ exceeds (Some room) n = nat_lt room n
 abbrev pub calling : List SuspendedActivation → List ℕ
 calling callers = map (λ c. c.function) callers
 
--- the function that an instruction calls
-abbrev pub callee_of : Option Instruction → Option ℕ
-callee_of (Some (Call g)) = Some g
-callee_of i = None
+-- what an instruction does to the stack: it calls a function, or writes an outgoing word from a register
+pub data StackAct : Type 0 where
+  Calls : ℕ → StackAct
+  Passes : ℕ → ℕ → StackAct
+
+abbrev pub act_on_stack : Option Instruction → Option StackAct
+act_on_stack (Some (Call g)) = Some (Calls g)
+act_on_stack (Some (Pass k from)) = Some (Passes k from)
+act_on_stack i = None
 
 -- the newest suspended activation continues, with the registers that the callee leaves, and the returned number and memory
 abbrev pub registers_returned : (ℕ → ℕ) → (ℕ → ℕ) → ℕ → ℕ
@@ -90,6 +96,7 @@ returned_into s (c ∷ callers) n memory = Running (record {
     compared = None;
     memory = memory;
   };
+  outgoing = c.outgoing;
   callers = callers;
   activations = s.activations;
 })
@@ -97,7 +104,7 @@ returned_into s (c ∷ callers) n memory = Running (record {
 -- what the step of the running activation is to the stack
 abbrev pub activation_stepped : StackState → RunOutcome MachineState → RunOutcome StackState
 activation_stepped s (Running t) =
-    Running (record { function = s.function; args = s.args; state = t; callers = s.callers; activations = s.activations })
+    Running (record { function = s.function; args = s.args; state = t; outgoing = s.outgoing; callers = s.callers; activations = s.activations })
 activation_stepped s (Returned n memory) = returned_into s s.callers n memory
 activation_stepped s (Trapped memory) = Trapped memory
 activation_stepped s Overflowed = Overflowed
@@ -105,7 +112,33 @@ activation_stepped s Stuck = Stuck
 
 -- the activation suspended at a call
 abbrev pub suspended_at : StackState → SuspendedActivation
-suspended_at s = record { function = s.function; args = s.args; pc = s.state.pc + 1; frame = s.state.frame; registers = s.state.registers }
+suspended_at s = record {
+  function = s.function;
+  args = s.args;
+  pc = s.state.pc + 1;
+  frame = s.state.frame;
+  outgoing = s.outgoing;
+  registers = s.state.registers;
+}
+
+-- the arguments of a call: six in registers, the others in the outgoing words
+abbrev pub arguments_passed : StackState → ℕ → ℕ
+arguments_passed s k = if nat_lt k 6 then s.state.registers (argument_register k) else s.outgoing (k - 6)
+
+-- an outgoing word is written
+abbrev pub word_passed : StackState → ℕ → ℕ → StackState
+word_passed s k n = record {
+  function = s.function;
+  args = s.args;
+  state = record { pc = s.state.pc + 1; registers = s.state.registers; frame = s.state.frame; compared = s.state.compared; memory = s.state.memory };
+  outgoing = put s.outgoing k n;
+  callers = s.callers;
+  activations = s.activations;
+}
+
+-- a register is put into an outgoing word, of that many
+abbrev pub passed : ℕ → StackState → ℕ → ℕ → RunOutcome StackState
+passed words s k from = if nat_lt k words && is_general from then Running (word_passed s k (s.state.registers from)) else Stuck
 
 -- one step: that of the current instruction of the running activation
 module _ (functions : List FunctionCode) (stack : Stack) where
@@ -115,6 +148,7 @@ module _ (functions : List FunctionCode) (stack : Stack) where
     function = g;
     args = args;
     state = record { pc = 0; registers = stack.registers activations; frame = stack.frames activations; compared = None; memory = memory };
+    outgoing = stack.outgoing activations;
     callers = callers;
     activations = activations + 1;
   }
@@ -125,14 +159,14 @@ module _ (functions : List FunctionCode) (stack : Stack) where
       if exceeds stack.room (words_taken functions (g ∷ calling callers)) then Overflowed
       else Running (activation_of g args memory callers activations)
 
-  abbrev pub instruction_done : StackState → FunctionCode → Option ℕ → RunOutcome StackState
+  abbrev pub instruction_done : StackState → FunctionCode → Option StackAct → RunOutcome StackState
   instruction_done s f None = activation_stepped s (machine_step f.code s.args s.state)
-  instruction_done s f (Some g) = activated g (λ k. s.state.registers (argument_register k)) s.state.memory (suspended_at s ∷ s.callers) s.activations
-      (slice_get functions g)
+  instruction_done s f (Some (Calls g)) = activated g (arguments_passed s) s.state.memory (suspended_at s ∷ s.callers) s.activations (slice_get functions g)
+  instruction_done s f (Some (Passes k from)) = passed f.code.outgoing s k from
 
   abbrev pub stack_step_in : StackState → Option FunctionCode → RunOutcome StackState
   stack_step_in s None = Stuck
-  stack_step_in s (Some f) = instruction_done s f (callee_of (slice_get f.code.instructions s.state.pc))
+  stack_step_in s (Some f) = instruction_done s f (act_on_stack (slice_get f.code.instructions s.state.pc))
 
   abbrev pub stack_step : StackState → RunOutcome StackState
   stack_step s = stack_step_in s (slice_get functions s.function)

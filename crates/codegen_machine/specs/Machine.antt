@@ -12,7 +12,7 @@ use Rattle.codegen_machine.specs.declared.Source.TheVariants.{Register, Slot, Nu
 use Rattle.codegen_machine.specs.declared.Instruction.{Instruction}
 use Rattle.codegen_machine.specs.declared.Instruction.TheVariants.{Constant, Clear, Argument, Move, Load, Store, Compute}
 use Rattle.codegen_machine.specs.declared.Instruction.TheVariants.{Shift, ShiftBy, ExtendSign, Divide, Compare, Set, MoveIf, Test}
-use Rattle.codegen_machine.specs.declared.Instruction.TheVariants.{Guard, Read, Write, Jump, JumpIf, Call, Return}
+use Rattle.codegen_machine.specs.declared.Instruction.TheVariants.{Guard, Read, Write, Jump, JumpIf, Call, Pass, Return}
 use Rattle.codegen_machine.specs.declared.Code.{Code}
 
 -- the current instruction, the numbers in registers and slots, the numbers last compared, unless an instruction has clobbered them, and the bytes in memory
@@ -100,7 +100,7 @@ memory_written s bytes a n =
 abbrev pub jumped : MachineState → ℕ → RunOutcome MachineState
 jumped s target = Running (record { pc = target; registers = s.registers; frame = s.frame; compared = s.compared; memory = s.memory })
 
--- the effect of an instruction within its function, which a call leaves; the arguments are given by their numbers, and the frame has that many slots
+-- the effect of an instruction within its function: a call leaves it, and so does an argument for one; the arguments are given by their numbers, and the frame has that many slots
 abbrev pub executed : (ℕ → ℕ) → ℕ → Option Instruction → MachineState → RunOutcome MachineState
 executed args slots None s = Stuck
 executed args slots (Some (Constant to n)) s = written s to n s.compared
@@ -125,15 +125,17 @@ executed args slots (Some (Write bytes address from)) s = with_register s addres
 executed args slots (Some (Jump target)) s = jumped s target
 executed args slots (Some (JumpIf c target)) s = with_compared s.compared (λ a b. jumped s (if condition_holds c a b then target else s.pc + 1))
 executed args slots (Some (Call g)) s = Stuck
+executed args slots (Some (Pass k from)) s = Stuck
 executed args slots (Some Return) s = Returned (s.registers 0) s.memory
 
--- the contents of code: its instructions, and the number of its frame's slots
+-- the contents of code: its instructions, the number of its frame's slots, and that of its outgoing words, the arguments that it passes on the stack
 pub record CodeValue : Type 0 where
   pub instructions : List Instruction
   pub slots : ℕ
+  pub outgoing : ℕ
 
 abbrev pub code_of : Code → CodeValue
-code_of c = record { instructions = c.instructions.items; slots = c.slots }
+code_of c = record { instructions = c.instructions.items; slots = c.slots; outgoing = c.outgoing }
 
 -- one step: that of the current instruction
 abbrev pub machine_step : CodeValue → (ℕ → ℕ) → MachineState → RunOutcome MachineState

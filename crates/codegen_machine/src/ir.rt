@@ -11,7 +11,6 @@ mod procedure;
 
 pub use module::{Module, NamedProcedure, Refusal};
 pub use operation::{
-    Arguments, Bytes, Condition, Count, DivisionPart, Line, Operation, Operator, Right,
-    ShiftOperator, Width,
+    Bytes, Condition, Count, DivisionPart, Line, Operation, Operator, Right, ShiftOperator, Width,
 };
 pub use procedure::{Malformed, Part, Procedure};

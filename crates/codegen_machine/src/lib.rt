@@ -189,10 +189,18 @@ pub enum Instruction {
         target: usize,
     },
     /// Calls a function of the module: it begins with a frame of its own, and the caller-saved
-    /// registers hold other numbers when it has returned. The stack may overflow.
+    /// registers hold other numbers when it has returned. Registers 7, 6, 2, 1, 8 and 9 pass its
+    /// first six arguments, and outgoing words the others. The stack may overflow.
     Call {
         /// The function's number.
         function: usize,
+    },
+    /// Puts a register into an outgoing word of the frame: an argument past the sixth, for a call.
+    Pass {
+        /// The outgoing word.
+        index: usize,
+        /// The register.
+        from: usize,
     },
     /// Returns the number in register 0.
     Return,
@@ -223,4 +231,7 @@ pub struct Code {
     pub instructions: Vec<Instruction>,
     /// The number of slots in the frame.
     pub slots: usize,
+    /// The number of the frame's outgoing words: the most arguments past the sixth that a call of
+    /// the function passes.
+    pub outgoing: usize,
 }

@@ -40,7 +40,7 @@
 //! text      = { line } ;
 //! line      = [ memory | function | block | value | store | jump | branch | return ] ;
 //! memory    = "memory" number ;                                   (* in bytes, to 2147483647 *)
-//! function  = "function" NAME "(" number ")" ":" ;                (* letters, digits and _; the number is to 6 *)
+//! function  = "function" NAME "(" number ")" ":" ;                (* letters, digits and _; the first function's number is to 6 *)
 //! block     = BLOCK [ vregs ] ":" ;
 //! vregs     = "(" [ vreg { "," vreg } ] ")" ;
 //! vreg      = "v" NUMBER ;                                        (* one word; the number is to 1073741823 *)
@@ -83,9 +83,9 @@
 //! assembly's entry is. A text without a line `function` has one function without a name. Each
 //! function counts its blocks, instructions and vregs anew.
 //!
-//! Arguments are numbered from 0. A function has at most six of them, one without a name as many as its lines read,
-//! and at most a million blocks, instructions and vregs, counted from v0; a larger function is an error at the end of
-//! the text. Blocks are numbered as they appear, the entry first. A block's last instruction is its only `jump`,
+//! Arguments are numbered from 0. The first function has at most six of them, one without a name as many as its lines
+//! read. A function has at most a million arguments, blocks, instructions and vregs, counted from v0; a larger one is
+//! an error at the end of the text. Blocks are numbered as they appear, the entry first. A block's last instruction is its only `jump`,
 //! `branch_if` or `return`: after it, a line that begins neither block nor function is an error of the text, as is an
 //! instruction before the first block. Errors in lines `function` come before others. The allocator tests everything
 //! else, such as a block without that end, a missing block, arguments that don't match the parameters, or a vreg that
@@ -93,6 +93,7 @@
 
 mod assembly;
 mod draft;
+mod frame;
 mod functions;
 mod header;
 mod module;
@@ -100,6 +101,7 @@ mod operations;
 mod reading;
 
 pub use assembly::{AssemblyText, InstructionText};
+pub use frame::FrameWords;
 pub use header::HeaderText;
 pub use reading::read_module;
 pub use regalloc2_text::cursor::{Expected, Fault, Found, TextError};

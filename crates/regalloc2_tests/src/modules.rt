@@ -6,13 +6,15 @@ use std::io::{self, Write};
 use std::str;
 
 /// Texts of modules that can't be read, or are read as no functions that the allocator accepts.
-const WRONG: [&str; 17] = [
+const WRONG: [&str; 19] = [
     "function f(1):\nblock0:\n  v0 = argument 0\n  v1 = call g(v0)\n  return v1\n",
     "function f(1):\nblock0:\n  v0 = argument 0\n  v1 = call f()\n  return v1\n",
     "function f(1):\nblock0:\n  v0 = argument 0\n  v1 = call f(v0, v0)\n  return v1\n",
     "function f(2):\nblock0:\n  v0 = argument 0\n  v1 = call f(v0 v0)\n  return v1\n",
     "function f(0):\nblock0:\n  v1 = call f\n  return v1\n",
     "function f(7):\nblock0:\n  v0 = argument 6\n  return v0\n",
+    "function f(0):\nblock0:\n  v0 = call g(v0, v0, v0, v0, v0, v0)\n  return v0\nfunction g(7):\n",
+    "function f(0):\nfunction g(1000001):\n",
     "function f(0):\nblock0:\n  v0 = argument 0\n  return v0\n",
     "function f(2):\nblock0:\n  v0 = argument 2\n  return v0\n",
     "block0:\n  v0 = argument 6\n  return v0\n",
@@ -106,6 +108,75 @@ block0:
   return v15
 ";
 
+/// Calls of nine and of seven arguments in a loop, some of them repeated: the callees weight each.
+const NINE: &str = "function main(2):
+block0:
+  v0 = argument 0
+  v1 = argument 1
+  v2 = constant 0
+  jump block1(v0, v2)
+block1(v3, v4):
+  branch_if v3 block2(), block3()
+block2:
+  v5 = add v3, v1
+  v6 = call nine(v3, v1, v4, v5, v3, v1, v4, v5, v3)
+  v7 = call seven(v6, v6, v1, v3, v4, v5, v6)
+  v8 = sub v3, 1
+  jump block1(v8, v7)
+block3:
+  return v4
+function nine(9):
+block0:
+  v0 = argument 0
+  v1 = argument 1
+  v2 = argument 2
+  v3 = argument 3
+  v4 = argument 4
+  v5 = argument 5
+  v6 = argument 6
+  v7 = argument 7
+  v8 = argument 8
+  v9 = mul v0, 31
+  v10 = add v9, v1
+  v11 = mul v10, 31
+  v12 = add v11, v2
+  v13 = mul v12, 31
+  v14 = add v13, v3
+  v15 = mul v14, 31
+  v16 = add v15, v4
+  v17 = mul v16, 31
+  v18 = add v17, v5
+  v19 = mul v18, 31
+  v20 = add v19, v6
+  v21 = mul v20, 31
+  v22 = add v21, v7
+  v23 = mul v22, 31
+  v24 = add v23, v8
+  return v24
+function seven(7):
+block0:
+  v0 = argument 0
+  v1 = argument 1
+  v2 = argument 2
+  v3 = argument 3
+  v4 = argument 4
+  v5 = argument 5
+  v6 = argument 6
+  v7 = mul v0, 31
+  v8 = add v7, v1
+  v9 = mul v8, 31
+  v10 = add v9, v2
+  v11 = mul v10, 31
+  v12 = add v11, v3
+  v13 = mul v12, 31
+  v14 = add v13, v4
+  v15 = mul v14, 31
+  v16 = add v15, v5
+  v17 = mul v16, 31
+  v18 = add v17, v6
+  return v18
+";
+
 /// A function that traps, called from one that writes to memory first.
 const TRAP: &str = "memory 8
 function main(2):
@@ -138,6 +209,7 @@ enum Case {
     Factorial,
     Parity,
     Six,
+    Nine,
     Trap,
     Endless,
     Live,
@@ -149,6 +221,7 @@ impl Case {
             Case::Factorial => "factorial",
             Case::Parity => "parity",
             Case::Six => "six",
+            Case::Nine => "nine",
             Case::Trap => "trap",
             Case::Endless => "endless",
             Case::Live => "live",
@@ -161,6 +234,7 @@ impl Case {
             Case::Factorial => FACTORIAL,
             Case::Parity => PARITY,
             Case::Six => SIX,
+            Case::Nine => NINE,
             Case::Trap => TRAP,
             Case::Endless => ENDLESS,
             Case::Live => live,
@@ -169,13 +243,16 @@ impl Case {
 }
 
 /// Runs: a module, the room in words, and arguments.
-const RUNS: [(Case, u64, [u64; 2]); 11] = [
+const RUNS: [(Case, u64, [u64; 2]); 14] = [
     (Case::Factorial, 1000, [20, 0]),
     (Case::Factorial, 1000, [0, 0]),
     (Case::Factorial, 0, [0, 0]),
     (Case::Parity, 1000, [7, 0]),
     (Case::Parity, 1000, [8, 0]),
     (Case::Six, 1000, [1, 2]),
+    (Case::Nine, 1000, [3, 5]),
+    (Case::Nine, 1000, [0, 5]),
+    (Case::Nine, 20, [3, 5]),
     (Case::Trap, 1000, [7, 2]),
     (Case::Trap, 1000, [7, 0]),
     (Case::Endless, 1000, [0, 0]),

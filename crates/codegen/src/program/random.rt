@@ -426,8 +426,8 @@ impl Draft {
 }
 
 /// Returns the text of a randomly generated module with memory, the same for the same seed: up to
-/// four functions, the first of three arguments. A single function has no name. Each terminates for
-/// all arguments, seldom by a trap.
+/// four functions, the first of three arguments, the others of up to nine. A single function has no
+/// name. Each terminates for all arguments, seldom by a trap.
 pub fn random_program(alloc: Global, seed: u64) -> Result<String, AllocError> {
     let mut draft = Draft {
         random: Random::new(seed),
@@ -440,7 +440,7 @@ pub fn random_program(alloc: Global, seed: u64) -> Result<String, AllocError> {
     };
     draft.arities.push(ARGUMENTS)?;
     for _ in 0..draft.random.below(4) {
-        let arity = draft.random.below(7);
+        let arity = draft.random.below(10);
         draft.arities.push(arity)?;
     }
     let count = draft.arities.len();

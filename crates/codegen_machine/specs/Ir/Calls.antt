@@ -4,9 +4,8 @@ use Rattle.regalloc2_names.specs.Register.{VirtualRegister}
 use Rattle.regalloc2_function.specs.Path.{Location, first_of}
 use Rattle.regalloc2_semantics.specs.Values.Interpreters.{number_set}
 use Rattle.codegen_machine.specs.Ir.Numbers.{RunOutcome, Running, Returned, Trapped, Overflowed, Stuck, further}
-use Rattle.codegen_machine.specs.Ir.Meaning.{ProcedureState, onward, procedure_step}
-use Rattle.codegen_machine.specs.Ir.Modules.{listed}
-use Rattle.codegen_machine.specs.Ir.Seen.{Operations, function_of_procedure, operations}
+use Rattle.codegen_machine.specs.Ir.Meaning.{ProcedureState, procedure_step}
+use Rattle.codegen_machine.specs.Ir.Seen.{function_of_procedure, operations}
 use Rattle.codegen_machine.specs.declared.ir.operation.Operation.{Operation}
 use Rattle.codegen_machine.specs.declared.ir.operation.Operation.TheVariants.{Call}
 use Rattle.codegen_machine.specs.declared.ir.procedure.Procedure.{Procedure}
@@ -34,7 +33,7 @@ pub record CallValue : Type 0 where
 
 -- the call on a line
 abbrev pub call_on : Option Operation → Option CallValue
-call_on (Some (Call g to arguments)) = Some (record { function = g; to = to; arguments = listed arguments })
+call_on (Some (Call g to arguments)) = Some (record { function = g; to = to; arguments = arguments.items })
 call_on o = None
 
 -- a new frame of a procedure: its vregs hold the given numbers; arguments past the given ones are 0

@@ -1,26 +1,13 @@
--- Whether functions are a module: they have one memory, at most six arguments, and calls pass each function as many arguments as it has.
-use Rattle.std.specs.Prelude.{ℕ, ◌≡◌, Bool, true, false, nat_eq, nat_lt, nat_le, List, [], ◌∷◌, map, length, slice_get, Option, None, Some}
+-- Whether functions are a module: they have one memory, the first has at most six arguments, and calls pass each function as many arguments as it has.
+use Rattle.std.specs.Prelude.{ℕ, ◌≡◌, ◌<◌, IsTrue, Bool, true, false, nat_eq, nat_lt, nat_le, List, [], ◌∷◌, map, length, slice_get, Option, None, Some}
 use Rattle.std.specs.List.{list_all}
-use Rattle.regalloc2_names.specs.Register.{VirtualRegister}
 use Rattle.codegen_machine.specs.Ir.Successors.{operations_of}
-use Rattle.codegen_machine.specs.declared.ir.operation.Arguments.{Arguments}
-use Rattle.codegen_machine.specs.declared.ir.operation.Arguments.TheVariants.{Zero, One, Two, Three, Four, Five, Six}
 use Rattle.codegen_machine.specs.declared.ir.operation.Operation.{Operation}
 use Rattle.codegen_machine.specs.declared.ir.operation.Operation.TheVariants.{Argument, Call}
 use Rattle.codegen_machine.specs.declared.ir.procedure.Procedure.{Procedure}
 use Rattle.codegen_machine.specs.declared.ir.module.NamedProcedure.{NamedProcedure}
 use Rattle.codegen_machine.specs.declared.ir.module.Refusal.{Refusal}
 use Rattle.codegen_machine.specs.declared.ir.module.Refusal.TheVariants.{NoFunction, MemorySize, ManyArguments, UnknownArgument, WrongCall}
-
--- the vregs that a call passes
-abbrev pub listed : Arguments → List VirtualRegister
-listed Zero = []
-listed (One a) = a ∷ []
-listed (Two a b) = a ∷ b ∷ []
-listed (Three a b c) = a ∷ b ∷ c ∷ []
-listed (Four a b c d) = a ∷ b ∷ c ∷ d ∷ []
-listed (Five a b c d e) = a ∷ b ∷ c ∷ d ∷ e ∷ []
-listed (Six a b c d e f) = a ∷ b ∷ c ∷ d ∷ e ∷ f ∷ []
 
 -- the procedures of a module, by number, and their arities
 abbrev pub procedures_of : List NamedProcedure → List Procedure
@@ -41,15 +28,12 @@ reads_argument arity o = true
 
 -- a call names a function, and passes as many arguments as that function has
 abbrev pub calls_function : List ℕ → Operation → Bool
-calls_function arities (Call g to arguments) = takes (slice_get arities g) (length (listed arguments))
+calls_function arities (Call g to arguments) = takes (slice_get arities g) (length arguments.items)
 calls_function arities o = true
 
 -- the conditions of a module, for one of its functions
 abbrev pub has_memory : ℕ → NamedProcedure → Bool
 has_memory size p = nat_eq p.procedure.memory_size size
-
-abbrev pub passes_registers : NamedProcedure → Bool
-passes_registers p = nat_le p.arity 6
 
 abbrev pub reads_arguments : NamedProcedure → Bool
 reads_arguments p = list_all (reads_argument p.arity) (operations_of p.procedure.lines.items)
@@ -57,10 +41,17 @@ reads_arguments p = list_all (reads_argument p.arity) (operations_of p.procedure
 abbrev pub calls_functions : List ℕ → NamedProcedure → Bool
 calls_functions arities p = list_all (calls_function arities) (operations_of p.procedure.lines.items)
 
--- why functions are rejected, for a memory of that size
+-- the first function's arguments are passed in registers
+abbrev pub passes_registers : List NamedProcedure → Bool
+passes_registers [] = true
+passes_registers (p ∷ ps) = nat_le p.arity 6
+
+-- the first condition that functions don't meet, for a memory of that size
 abbrev pub IsRefused : List NamedProcedure → ℕ → Refusal → Type 0
 IsRefused ps size NoFunction = length ps ≡ 0
-IsRefused ps size MemorySize = list_all (has_memory size) ps ≡ false
-IsRefused ps size ManyArguments = list_all passes_registers ps ≡ false
-IsRefused ps size UnknownArgument = list_all reads_arguments ps ≡ false
-IsRefused ps size WrongCall = list_all (calls_functions (arities_of ps)) ps ≡ false
+IsRefused ps size MemorySize = (0 < length ps) × (list_all (has_memory size) ps ≡ false)
+IsRefused ps size ManyArguments = (0 < length ps) × IsTrue (list_all (has_memory size) ps) × (passes_registers ps ≡ false)
+IsRefused ps size UnknownArgument =
+    (0 < length ps) × IsTrue (list_all (has_memory size) ps) × IsTrue (passes_registers ps) × (list_all reads_arguments ps ≡ false)
+IsRefused ps size WrongCall = (0 < length ps) × IsTrue (list_all (has_memory size) ps) × IsTrue (passes_registers ps) × IsTrue (list_all reads_arguments ps)
+    × (list_all (calls_functions (arities_of ps)) ps ≡ false)

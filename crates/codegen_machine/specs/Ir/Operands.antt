@@ -1,5 +1,5 @@
 -- The operands and clobbers of an operation, as the allocator reads them.
-use Rattle.std.specs.Prelude.{ℕ, Bool, true, false, ◌||◌, List, [], ◌∷◌}
+use Rattle.std.specs.Prelude.{ℕ, Bool, true, false, ◌||◌, List, [], ◌∷◌, Option, None, Some}
 use Rattle.regalloc2_names.specs.Register.{Register, VirtualRegister, is_register}
 use Rattle.regalloc2_names.specs.Operand.{OperandValue}
 use Rattle.regalloc2_names.specs.declared.OperandConstraint.{OperandConstraint}
@@ -10,8 +10,6 @@ use Rattle.regalloc2_names.specs.declared.OperandPos.TheVariants.{Early, Late}
 use Rattle.codegen_machine.specs.declared.ir.operation.Operation.{Operation}
 use Rattle.codegen_machine.specs.declared.ir.operation.Operation.TheVariants.{Argument, Constant, Copy, Compute, Shift, Divide, Compare, Select, Jump, BranchIf, BranchIfHolds}
 use Rattle.codegen_machine.specs.declared.ir.operation.Operation.TheVariants.{Load, Store, Call, Return}
-use Rattle.codegen_machine.specs.declared.ir.operation.Arguments.{Arguments}
-use Rattle.codegen_machine.specs.declared.ir.operation.Arguments.TheVariants.{Zero, One, Two, Three, Four, Five, Six}
 use Rattle.codegen_machine.specs.declared.ir.operation.DivisionPart.{DivisionPart}
 use Rattle.codegen_machine.specs.declared.ir.operation.DivisionPart.TheVariants.{Quotient, Remainder}
 use Rattle.codegen_machine.specs.declared.ir.operation.Count.{Count}
@@ -51,22 +49,31 @@ divide_operands part to left right = def_in (FixedReg (record { number = part_re
     ∷ use_in (FixedReg (record { number = 0; class = left.class })) left
     ∷ record { vreg = right; constraint = Any; kind = Use; position = Late } ∷ []
 
--- an argument passed in a register; a call passes its arguments in six of them, in this order
+-- the registers in which a call passes its first arguments, in order
+abbrev pub argument_registers : List ℕ
+argument_registers = 7 ∷ 6 ∷ 2 ∷ 1 ∷ 8 ∷ 9 ∷ []
+
+-- an argument passed in a register, and one passed on the stack, which the call reads late, from any place
 abbrev pub passed_in : ℕ → VirtualRegister → OperandValue
 passed_in r v = use_in (FixedReg (record { number = r; class = v.class })) v
 
-abbrev pub arguments_in : Arguments → List OperandValue
-arguments_in Zero = []
-arguments_in (One a) = passed_in 7 a ∷ []
-arguments_in (Two a b) = passed_in 7 a ∷ passed_in 6 b ∷ []
-arguments_in (Three a b c) = passed_in 7 a ∷ passed_in 6 b ∷ passed_in 2 c ∷ []
-arguments_in (Four a b c d) = passed_in 7 a ∷ passed_in 6 b ∷ passed_in 2 c ∷ passed_in 1 d ∷ []
-arguments_in (Five a b c d e) = passed_in 7 a ∷ passed_in 6 b ∷ passed_in 2 c ∷ passed_in 1 d ∷ passed_in 8 e ∷ []
-arguments_in (Six a b c d e f) = passed_in 7 a ∷ passed_in 6 b ∷ passed_in 2 c ∷ passed_in 1 d ∷ passed_in 8 e ∷ passed_in 9 f ∷ []
+abbrev pub passed_on_stack : VirtualRegister → OperandValue
+passed_on_stack v = record { vreg = v; constraint = Any; kind = Use; position = Late }
 
--- and returns its number in register 0
-abbrev pub call_operands : VirtualRegister → Arguments → List OperandValue
-call_operands to arguments = def_in (FixedReg (record { number = 0; class = to.class })) to ∷ arguments_in arguments
+-- an argument, given the register that passes it, if one does
+abbrev pub argument_in : Option ℕ → VirtualRegister → OperandValue
+argument_in (Some r) v = passed_in r v
+argument_in None v = passed_on_stack v
+
+-- the arguments of a call, given the registers left for them
+unfoldable pub arguments_in : List ℕ → List VirtualRegister → List OperandValue
+arguments_in rs [] = []
+arguments_in [] (v ∷ vs) = passed_on_stack v ∷ arguments_in [] vs
+arguments_in (r ∷ rs) (v ∷ vs) = passed_in r v ∷ arguments_in rs vs
+
+-- a call returns its number in register 0
+abbrev pub call_operands : VirtualRegister → List VirtualRegister → List OperandValue
+call_operands to arguments = def_in (FixedReg (record { number = 0; class = to.class })) to ∷ arguments_in argument_registers arguments
 
 abbrev pub operands_of : Operation → List OperandValue
 operands_of (Argument to k) = def_in Reg to ∷ []
@@ -79,7 +86,7 @@ operands_of (Compare w c to left right) = def_in Reg to ∷ use_in Reg left ∷ 
 operands_of (Select to c one other) = def_in (Reuse 1) to ∷ use_in Reg one ∷ use_in Any other ∷ use_in Any c ∷ []
 operands_of (Load bytes to address) = def_in Reg to ∷ use_in Reg address ∷ []
 operands_of (Store bytes address value) = use_in Reg address ∷ use_in Reg value ∷ []
-operands_of (Call g to arguments) = call_operands to arguments
+operands_of (Call g to arguments) = call_operands to arguments.items
 operands_of Jump = []
 operands_of (BranchIf v) = use_in Any v ∷ []
 operands_of (BranchIfHolds w c left right) = use_in Reg left ∷ right_in right

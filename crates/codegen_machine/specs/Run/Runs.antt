@@ -47,7 +47,7 @@ module_outcome m arguments memory n = further (module_begun (procedures_of m.pro
     (module_run (procedures_of m.procedures.items) (λ v. 0) n)
 
 abbrev pub empty_stack : ℕ → Stack
-empty_stack room = record { registers = λ n r. 0; frames = λ n k. 0; room = Some room }
+empty_stack room = record { registers = λ n r. 0; frames = λ n k. 0; outgoing = λ n k. 0; room = Some room }
 
 abbrev pub stack_outcome : ModuleCode → ℕ → List ℕ → List ℕ → ℕ → RunOutcome StackState
 stack_outcome c room arguments memory n = further (stack_begun (functions_of c.functions.items) (empty_stack room) (arguments_of arguments) memory)

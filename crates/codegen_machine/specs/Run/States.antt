@@ -3,10 +3,9 @@ use Rattle.std.specs.Prelude.{ℕ, ◌≡◌, ◌∷◌, nat_eq, nat_lt, if◌th
 use Rattle.std.specs.HashMap.{HashMap, get}
 use Rattle.regalloc2_names.specs.Register.{VirtualRegister}
 use Rattle.regalloc2_names.specs.RegisterBits.{bits_of_vreg}
-use Rattle.codegen_machine.specs.Calls.{FunctionCode, StackState, SuspendedActivation, activated, argument_register, calling, suspended_at, words_taken}
+use Rattle.codegen_machine.specs.Calls.{Calls, FunctionCode, Passes, StackAct as Act, StackState, SuspendedActivation, activated, arguments_passed, calling, suspended_at, words_taken}
 use Rattle.codegen_machine.specs.Ir.Calls.{CallValue, ModuleState, SuspendedFrame}
 use Rattle.codegen_machine.specs.Ir.Meaning.{ProcedureState}
-use Rattle.codegen_machine.specs.Ir.Modules.{listed}
 use Rattle.codegen_machine.specs.Ir.Numbers.{RunOutcome}
 use Rattle.codegen_machine.specs.Machine.{MachineState, code_of, is_general}
 use Rattle.codegen_machine.specs.declared.Source.{Source}
@@ -19,6 +18,8 @@ use Rattle.codegen_machine.specs.declared.run.module.Calling.{Calling}
 use Rattle.codegen_machine.specs.declared.run.module.Frames.{Frames}
 use Rattle.codegen_machine.specs.declared.run.procedure.State.{State}
 use Rattle.codegen_machine.specs.declared.run.stack.Activation.{Activation}
+use Rattle.codegen_machine.specs.declared.run.stack.StackAct.{StackAct}
+use Rattle.codegen_machine.specs.declared.run.stack.StackAct.TheVariants.{Call, Pass}
 use Rattle.codegen_machine.specs.declared.run.stack.Stack.{Stack}
 use Rattle.codegen_machine.specs.declared.run.standing.Standing.{Standing}
 use Rattle.codegen_machine.specs.declared.run.standing.Standing.TheVariants.{Stuck}
@@ -59,7 +60,7 @@ procedure_outcome answer s = run_outcome answer (state_of s) s.memory.items
 
 -- a call, suspended frames, the newest last, and the frames of a module
 abbrev pub call_value : Calling → CallValue
-call_value c = record { function = c.function; to = c.to; arguments = listed c.arguments }
+call_value c = record { function = c.function; to = c.to; arguments = c.arguments.now }
 
 abbrev pub frame_of : Frame → SuspendedFrame
 frame_of f = record {
@@ -85,6 +86,11 @@ frames_state s = record {
 abbrev pub frames_outcome : Standing → Frames → RunOutcome ModuleState
 frames_outcome answer s = run_outcome answer (frames_state s) s.state.memory.items
 
+-- what an instruction does to the stack
+abbrev pub act_of : StackAct → Act
+act_of (Call g) = Calls g
+act_of (Pass k from) = Passes k from
+
 -- a function, suspended activations, the newest last, and a stack of activations, given how many there have been
 abbrev pub function_of : NamedCode → FunctionCode
 function_of f = record { code = code_of f.code; arity = f.arity }
@@ -95,6 +101,7 @@ suspended_of a = record {
   args = arguments_of a.arguments.items;
   pc = a.pc;
   frame = λ k. slice_index a.frame.items k;
+  outgoing = λ k. slice_index a.outgoing.items k;
   registers = λ r. slice_index a.registers r;
 }
 
@@ -106,6 +113,7 @@ stack_state n s = record {
   function = s.function;
   args = arguments_of s.arguments.items;
   state = machine_state s.machine;
+  outgoing = λ k. slice_index s.outgoing.items k;
   callers = suspensions_of s.callers.items;
   activations = n;
 }
@@ -116,15 +124,15 @@ stack_standing n answer s = run_outcome answer (stack_state n s) s.machine.memor
 
 -- the step of a call
 abbrev pub instruction_called : List FunctionCode → ℕ → StackState → ℕ → RunOutcome StackState
-instruction_called fs room s g = activated fs (empty_stack room) g (λ k. s.state.registers (argument_register k)) s.state.memory (suspended_at s ∷ s.callers)
-    s.activations (slice_get fs g)
+instruction_called fs room s g = activated fs (empty_stack room) g (arguments_passed s) s.state.memory (suspended_at s ∷ s.callers) s.activations
+    (slice_get fs g)
 
--- the frame of a function's activation has the function's slots
-abbrev pub HasSlots : List FunctionCode → ℕ → ℕ → Type 0
-HasSlots fs g slots = (f : FunctionCode) → slice_get fs g ≡ Some f → slots ≡ f.code.slots
+-- the activation of a function has the function's slots and outgoing words
+abbrev pub HasWords : List FunctionCode → ℕ → ℕ → ℕ → Type 0
+HasWords fs g slots outgoing = (f : FunctionCode) → slice_get fs g ≡ Some f → (slots ≡ f.code.slots) × (outgoing ≡ f.code.outgoing)
 
--- the words that the activations take are known, and frames have their functions' slots
+-- the words that the activations take are known, and each activation has its function's words
 pub record IsSound (fs : List FunctionCode) (s : Stack) : Type 0 where
   pub words : s.words ≡ words_taken fs (s.function ∷ calling (suspensions_of s.callers.items))
-  pub framed : HasSlots fs s.function (vec_len s.machine.frame)
-  pub callers_framed : All (λ a. HasSlots fs a.function (vec_len a.frame)) s.callers.items
+  pub framed : HasWords fs s.function (vec_len s.machine.frame) (vec_len s.outgoing)
+  pub callers_framed : All (λ a. HasWords fs a.function (vec_len a.frame) (vec_len a.outgoing)) s.callers.items

@@ -1,5 +1,5 @@
 -- Instructions as x86-64 assembly in AT&T syntax, in which the source precedes the destination.
-use Rattle.std.specs.Prelude.{ℕ, ◌+◌, ◌%◌, Bool, false, nat_eq, nat_lt, if◌then◌else◌, codes, List, [], ◌∷◌, ◌++◌, length, slice_index_or, string_bytes}
+use Rattle.std.specs.Prelude.{ℕ, ◌+◌, ◌%◌, Bool, false, nat_eq, nat_lt, min, if◌then◌else◌, codes, List, [], ◌∷◌, ◌++◌, length, slice_index_or, string_bytes}
 use Rattle.std.specs.Fmt.{decimal}
 use Rattle.codegen_machine.specs.declared.ir.operation.Operator.{Operator}
 use Rattle.codegen_machine.specs.declared.ir.operation.Operator.TheVariants.{Add, Sub, Mul, And, Or, Xor}
@@ -18,6 +18,7 @@ use Rattle.codegen_machine.specs.declared.Instruction.{Instruction}
 use Rattle.codegen_machine.specs.declared.Instruction.TheVariants as variant
 use Rattle.codegen_machine.specs.declared.ModuleCode.{ModuleCode}
 use Rattle.codegen_machine.specs.declared.NamedCode.{NamedCode}
+use Rattle.codegen_machine.specs.declared.text.frame.FrameWords.{FrameWords}
 
 -- the registers by number
 abbrev pub register_names : List (List ℕ)
@@ -113,45 +114,59 @@ write_text Two r = codes "movw " ++ word_name r
 write_text Four r = codes "movl " ++ half_name r
 write_text Eight r = codes "movq " ++ register_name r
 
--- an operand in the frame: eight bytes, addressed by a register
-abbrev pub frame_slot_text : ℕ → List ℕ
-frame_slot_text k = codes "8*" ++ decimal k ++ codes "(%rsp)"
+-- a word of the frame, by the number of words below it
+abbrev pub word_text : List ℕ → List ℕ
+word_text below = codes "8*" ++ (below ++ codes "(%rsp)")
 
-abbrev pub source_text : Width → Source → List ℕ
-source_text w (Register r) = name_at w r
-source_text w (Slot k) = frame_slot_text k
-source_text w (Number n) = codes "$" ++ decimal n
+-- a slot of the frame: outgoing words are below the slots
+abbrev pub slot_text : ℕ → ℕ → List ℕ
+slot_text outgoing k = word_text (codes "(" ++ (decimal outgoing ++ (codes "+" ++ (decimal k ++ codes ")"))))
 
--- an operand in the frame behind that many slots
-abbrev pub behind_slots_text : ℕ → ℕ → List ℕ
-behind_slots_text slots k = codes "8*(" ++ decimal slots ++ codes "+" ++ decimal k ++ codes ")(%rsp)"
+abbrev pub source_text : ℕ → Width → Source → List ℕ
+source_text outgoing w (Register r) = name_at w r
+source_text outgoing w (Slot k) = slot_text outgoing k
+source_text outgoing w (Number n) = codes "$" ++ decimal n
 
--- an instruction of a function with that number and that many slots, as addq %rcx, %rax; its arguments are behind the slots
-abbrev pub instruction_text : ℕ → ℕ → Instruction → List ℕ
-instruction_text g slots (variant.Constant to n) = codes "movabsq $" ++ decimal n ++ codes ", " ++ register_name to
-instruction_text g slots (variant.Clear to) = codes "xorq " ++ register_name to ++ codes ", " ++ register_name to
-instruction_text g slots (variant.Argument to k) = codes "movq " ++ behind_slots_text slots k ++ codes ", " ++ register_name to
-instruction_text g slots (variant.Move to from) = codes "movq " ++ register_name from ++ codes ", " ++ register_name to
-instruction_text g slots (variant.Load to k) = codes "movq " ++ frame_slot_text k ++ codes ", " ++ register_name to
-instruction_text g slots (variant.Store k from) = codes "movq " ++ register_name from ++ codes ", " ++ frame_slot_text k
-instruction_text g slots (variant.Compute w o to from) = operator_name o ++ letter w ++ codes " " ++ source_text w from ++ codes ", " ++ name_at w to
-instruction_text g slots (variant.Shift w o to) = shift_name o ++ letter w ++ codes " %cl, " ++ name_at w to
-instruction_text g slots (variant.ShiftBy w o to n) = shift_name o ++ letter w ++ codes " $" ++ decimal n ++ codes ", " ++ name_at w to
-instruction_text g slots (variant.ExtendSign Full) = codes "cqto"
-instruction_text g slots (variant.ExtendSign Half) = codes "cltd"
-instruction_text g slots (variant.Divide w signed from) = division_name signed ++ letter w ++ codes " " ++ source_text w from
-instruction_text g slots (variant.Compare w left right) = codes "cmp" ++ letter w ++ codes " " ++ source_text w right ++ codes ", " ++ name_at w left
-instruction_text g slots (variant.Set to c) = codes "set" ++ condition_letters c ++ codes " " ++ byte_name to ++ codes "; movzbq " ++ byte_name to ++ codes ", "
+-- the words of a frame: outgoing ones, slots, the arguments that registers passed, and one more if their number is odd
+unfoldable pub frame_text : FrameWords → List ℕ
+frame_text f = decimal f.outgoing ++ (codes "+" ++ (decimal f.slots ++ (codes "+" ++ (decimal (min f.arity 6) ++ (codes "+"
+    ++ decimal ((f.outgoing % 2 + f.slots % 2 + min f.arity 6 % 2) % 2))))))
+
+-- an argument that a register passed, kept behind the slots; and any argument: the others are above the frame, behind five saved registers and the return
+-- address
+abbrev pub kept_text : FrameWords → ℕ → List ℕ
+kept_text f k = word_text (codes "(" ++ (decimal f.outgoing ++ (codes "+" ++ (decimal f.slots ++ (codes "+" ++ (decimal k ++ codes ")"))))))
+
+abbrev pub argument_text : FrameWords → ℕ → List ℕ
+argument_text f k = if nat_lt k 6 then kept_text f k else word_text (codes "(" ++ (frame_text f ++ (codes "+" ++ (decimal k ++ codes ")"))))
+
+-- an instruction of a function with that number and that frame, as addq %rcx, %rax
+abbrev pub instruction_text : ℕ → FrameWords → Instruction → List ℕ
+instruction_text g f (variant.Constant to n) = codes "movabsq $" ++ decimal n ++ codes ", " ++ register_name to
+instruction_text g f (variant.Clear to) = codes "xorq " ++ register_name to ++ codes ", " ++ register_name to
+instruction_text g f (variant.Argument to k) = codes "movq " ++ argument_text f k ++ codes ", " ++ register_name to
+instruction_text g f (variant.Move to from) = codes "movq " ++ register_name from ++ codes ", " ++ register_name to
+instruction_text g f (variant.Load to k) = codes "movq " ++ slot_text f.outgoing k ++ codes ", " ++ register_name to
+instruction_text g f (variant.Store k from) = codes "movq " ++ register_name from ++ codes ", " ++ slot_text f.outgoing k
+instruction_text g f (variant.Compute w o to from) = operator_name o ++ letter w ++ codes " " ++ source_text f.outgoing w from ++ codes ", " ++ name_at w to
+instruction_text g f (variant.Shift w o to) = shift_name o ++ letter w ++ codes " %cl, " ++ name_at w to
+instruction_text g f (variant.ShiftBy w o to n) = shift_name o ++ letter w ++ codes " $" ++ decimal n ++ codes ", " ++ name_at w to
+instruction_text g f (variant.ExtendSign Full) = codes "cqto"
+instruction_text g f (variant.ExtendSign Half) = codes "cltd"
+instruction_text g f (variant.Divide w signed from) = division_name signed ++ letter w ++ codes " " ++ source_text f.outgoing w from
+instruction_text g f (variant.Compare w left right) = codes "cmp" ++ letter w ++ codes " " ++ source_text f.outgoing w right ++ codes ", " ++ name_at w left
+instruction_text g f (variant.Set to c) = codes "set" ++ condition_letters c ++ codes " " ++ byte_name to ++ codes "; movzbq " ++ byte_name to ++ codes ", "
     ++ register_name to
-instruction_text g slots (variant.MoveIf c to from) = codes "cmov" ++ condition_letters c ++ codes "q " ++ source_text Full from ++ codes ", " ++ register_name to
-instruction_text g slots (variant.Test from) = codes "cmpq $0, " ++ source_text Full from
-instruction_text g slots (variant.Guard a limit) = guard_text a limit
-instruction_text g slots (variant.Read bytes to a) = read_text bytes a ++ read_name bytes to
-instruction_text g slots (variant.Write bytes a from) = write_text bytes from ++ codes ", (%r15," ++ register_name a ++ codes ")"
-instruction_text g slots (variant.Jump target) = codes "jmp .L" ++ decimal g ++ codes "_" ++ decimal target
-instruction_text g slots (variant.JumpIf c target) = codes "j" ++ condition_letters c ++ codes " .L" ++ decimal g ++ codes "_" ++ decimal target
-instruction_text g slots (variant.Call callee) = codes "call .Lf" ++ decimal callee
-instruction_text g slots variant.Return = codes "jmp .L" ++ decimal g ++ codes "_return"
+instruction_text g f (variant.MoveIf c to from) = codes "cmov" ++ condition_letters c ++ codes "q " ++ source_text f.outgoing Full from ++ codes ", " ++ register_name to
+instruction_text g f (variant.Test from) = codes "cmpq $0, " ++ source_text f.outgoing Full from
+instruction_text g f (variant.Guard a limit) = guard_text a limit
+instruction_text g f (variant.Read bytes to a) = read_text bytes a ++ read_name bytes to
+instruction_text g f (variant.Write bytes a from) = write_text bytes from ++ codes ", (%r15," ++ register_name a ++ codes ")"
+instruction_text g f (variant.Jump target) = codes "jmp .L" ++ decimal g ++ codes "_" ++ decimal target
+instruction_text g f (variant.JumpIf c target) = codes "j" ++ condition_letters c ++ codes " .L" ++ decimal g ++ codes "_" ++ decimal target
+instruction_text g f (variant.Call callee) = codes "call .Lf" ++ decimal callee
+instruction_text g f (variant.Pass k from) = codes "movq " ++ register_name from ++ codes ", " ++ word_text (decimal k)
+instruction_text g f variant.Return = codes "jmp .L" ++ decimal g ++ codes "_return"
 
 -- whether an instruction with that number, of that many, is only a jump to the next line
 abbrev pub is_next : ℕ → ℕ → Instruction → Bool
@@ -159,10 +174,10 @@ is_next count k (variant.Jump target) = nat_eq target (k + 1)
 is_next count k variant.Return = nat_eq (k + 1) count
 is_next count k i = false
 
-module _ (g slots count : ℕ) where
+module _ (g : ℕ) (f : FrameWords) (count : ℕ) where
   -- the text after a line's label
   abbrev pub line_rest : ℕ → Instruction → List ℕ
-  line_rest k i = if is_next count k i then [] else codes " " ++ instruction_text g slots i
+  line_rest k i = if is_next count k i then [] else codes " " ++ instruction_text g f i
 
   -- a line, with its label; a jump to the next line leaves the rest empty
   abbrev pub line_text : ℕ → Instruction → List ℕ
@@ -173,14 +188,10 @@ module _ (g slots count : ℕ) where
   lines_text k [] = []
   lines_text k (i ∷ rest) = line_text k i ++ lines_text (k + 1) rest
 
--- a function's name as a symbol; nothing if it is empty
+-- a function's name as a local symbol; nothing if it is empty
 unfoldable pub symbol_text : List ℕ → List ℕ
 symbol_text [] = []
-symbol_text (c ∷ cs) = codes "  .globl " ++ (c ∷ cs) ++ codes "\n" ++ (c ∷ cs) ++ codes ":\n"
-
--- the words of a function's arguments and slots, made even
-unfoldable pub frame_text : ℕ → ℕ → List ℕ
-frame_text arity slots = decimal arity ++ codes "+" ++ decimal slots ++ codes "+" ++ decimal ((arity % 2 + slots % 2) % 2)
+symbol_text (c ∷ cs) = (c ∷ cs) ++ codes ":\n"
 
 -- the registers that pass arguments
 abbrev pub argument_names : List (List ℕ)
@@ -189,21 +200,21 @@ argument_names = codes "%rdi" ∷ codes "%rsi" ∷ codes "%rdx" ∷ codes "%rcx"
 abbrev pub argument_name : ℕ → List ℕ
 argument_name k = slice_index_or argument_names k (codes "%none")
 
--- a function stores its arguments behind its slots; the entry loads those of function 0
-unfoldable pub argument_store_text : ℕ → ℕ → ℕ → List ℕ
-argument_store_text arity slots k =
-    if nat_lt k arity then codes "  movq " ++ argument_name k ++ codes ", " ++ behind_slots_text slots k ++ codes "\n" else []
+-- a function stores the arguments that registers passed behind its slots; the entry loads those of function 0
+unfoldable pub argument_store_text : FrameWords → ℕ → List ℕ
+argument_store_text f k =
+    if nat_lt k f.arity then codes "  movq " ++ argument_name k ++ codes ", " ++ kept_text f k ++ codes "\n" else []
 
 abbrev pub argument_load_text : ℕ → ℕ → List ℕ
 argument_load_text arity k =
     if nat_lt k arity then codes "  movq 8*" ++ decimal k ++ codes "(%rax), " ++ argument_name k ++ codes "\n" else []
 
--- all of them, at most six
-unfoldable pub argument_stores_text : ℕ → ℕ → List ℕ
-argument_stores_text arity slots = store 0 ++ store 1 ++ store 2 ++ store 3 ++ store 4 ++ store 5
+-- all of them
+unfoldable pub argument_stores_text : FrameWords → List ℕ
+argument_stores_text f = store 0 ++ store 1 ++ store 2 ++ store 3 ++ store 4 ++ store 5
   where
     store : ℕ → List ℕ
-    store k = argument_store_text arity slots k
+    store k = argument_store_text f k
 
 abbrev pub argument_loads_text : ℕ → List ℕ
 argument_loads_text arity = load 0 ++ load 1 ++ load 2 ++ load 3 ++ load 4 ++ load 5
@@ -220,21 +231,22 @@ pop_text = codes "  popq %r14\n  popq %r13\n  popq %r12\n  popq %rbp\n  popq %rb
 
 -- The start of a function: it overflows the stack if its activation would exceed the limit, which is below the memory; it pushes registers, allocates its
 -- frame, and stores its arguments. Its end frees the frame.
-abbrev pub limit_text : ℕ → ℕ → ℕ → List ℕ
-limit_text g arity slots = codes ".Lf" ++ (decimal g ++ (codes ":\n  leaq -8*(" ++ (frame_text arity slots
+abbrev pub limit_text : ℕ → FrameWords → List ℕ
+limit_text g f = codes ".Lf" ++ (decimal g ++ (codes ":\n  leaq -8*(" ++ (frame_text f
     ++ codes "+5)(%rsp), %rax\n  cmpq -8(%r15), %rax\n  jb .Loverflow\n")))
 
-abbrev pub entry_text : ℕ → ℕ → List ℕ
-entry_text arity slots =
-    push_text ++ (codes "  subq $8*(" ++ (frame_text arity slots ++ (codes "), %rsp\n" ++ argument_stores_text arity slots)))
+abbrev pub entry_text : FrameWords → List ℕ
+entry_text f = push_text ++ (codes "  subq $8*(" ++ (frame_text f ++ (codes "), %rsp\n" ++ argument_stores_text f)))
 
-abbrev pub exit_text : ℕ → ℕ → ℕ → List ℕ
-exit_text g arity slots =
-    codes ".L" ++ (decimal g ++ (codes "_return:\n  addq $8*(" ++ (frame_text arity slots ++ (codes "), %rsp\n" ++ pop_text))))
+abbrev pub exit_text : ℕ → FrameWords → List ℕ
+exit_text g f = codes ".L" ++ (decimal g ++ (codes "_return:\n  addq $8*(" ++ (frame_text f ++ (codes "), %rsp\n" ++ pop_text))))
+
+abbrev pub frame_words : NamedCode → FrameWords
+frame_words c = record { outgoing = c.code.outgoing; slots = c.code.slots; arity = c.arity }
 
 unfoldable pub function_text : ℕ → NamedCode → List ℕ
-function_text g c = symbol_text (string_bytes c.name) ++ (limit_text g c.arity c.code.slots ++ (entry_text c.arity c.code.slots
-    ++ (lines_text g c.code.slots (length c.code.instructions.items) 0 c.code.instructions.items ++ exit_text g c.arity c.code.slots)))
+function_text g c = symbol_text (string_bytes c.name) ++ (limit_text g (frame_words c) ++ (entry_text (frame_words c)
+    ++ (lines_text g (frame_words c) (length c.code.instructions.items) 0 c.code.instructions.items ++ exit_text g (frame_words c))))
 
 -- functions from that number on
 unfoldable pub functions_text : ℕ → List NamedCode → List ℕ

@@ -1,10 +1,10 @@
 //! Modules: functions that call each other.
 
-ghost use Rattle.std.specs.Prelude.{◌≡◌, ◌<◌, IfErr, IfOk, IsTrue, length, vec_len};
+ghost use Rattle.std.specs.Prelude.{◌≡◌, ◌<◌, IfErr, IfOk, IsTrue, vec_len};
 ghost use Rattle.std.specs.List.{list_all};
-ghost use Rattle.codegen_machine.specs.Ir.Modules.{arities_of, calls_function, calls_functions, has_memory, IsRefused, listed, passes_registers, reads_argument, reads_arguments};
+ghost use Rattle.codegen_machine.specs.Ir.Modules.{arities_of, calls_function, calls_functions, has_memory, IsRefused, passes_registers, reads_argument, reads_arguments};
 
-use super::operation::{Arguments, Line, Operation};
+use super::operation::{Line, Operation};
 use super::procedure::Procedure;
 use std::error::Error;
 use std::fmt;
@@ -29,7 +29,7 @@ pub struct Module {
     pub memory_size: usize,
     pub ghost some: { 0 < vec_len procedures },
     pub ghost memory: { IsTrue (list_all (has_memory memory_size) procedures.items) },
-    pub ghost few_arguments: { IsTrue (list_all passes_registers procedures.items) },
+    pub ghost few_arguments: { IsTrue (passes_registers procedures.items) },
     pub ghost arguments: { IsTrue (list_all reads_arguments procedures.items) },
     pub ghost calls: { IsTrue (list_all (calls_functions (arities_of procedures.items)) procedures.items) },
 }
@@ -41,7 +41,7 @@ pub enum Refusal {
     NoFunction,
     /// A function has a memory of another size.
     MemorySize,
-    /// A function has more than six arguments.
+    /// The first function has more than six arguments.
     ManyArguments,
     /// A line reads an argument that its function doesn't have.
     UnknownArgument,
@@ -54,7 +54,7 @@ impl fmt::Display for Refusal {
         match self {
             Refusal::NoFunction => write!(f, "there is no function"),
             Refusal::MemorySize => write!(f, "a function has a memory of another size"),
-            Refusal::ManyArguments => write!(f, "a function has more than six arguments"),
+            Refusal::ManyArguments => write!(f, "the first function has more than six arguments"),
             Refusal::UnknownArgument => {
                 write!(f, "a line reads an argument that its function doesn't have")
             }
@@ -67,21 +67,6 @@ impl fmt::Display for Refusal {
 }
 
 impl Error for Refusal {}
-
-/// How many arguments a call passes.
-fn count_of(arguments: Arguments) -> usize
-    ensures { result ≡ length (listed arguments) }
-{
-    match arguments {
-        Arguments::Zero => 0,
-        Arguments::One(..) => 1,
-        Arguments::Two(..) => 2,
-        Arguments::Three(..) => 3,
-        Arguments::Four(..) => 4,
-        Arguments::Five(..) => 5,
-        Arguments::Six(..) => 6,
-    }
-}
 
 /// Whether an argument that a line reads is one of its function's.
 fn reads_argument(line: &Line, arity: usize) -> bool
@@ -97,13 +82,13 @@ fn reads_argument(line: &Line, arity: usize) -> bool
 fn calls_function(line: &Line, procedures: &[NamedProcedure]) -> bool
     ensures { result ≡ calls_function (arities_of procedures.now) line.now.operation }
 {
-    match line.operation {
+    match &line.operation {
         Operation::Call {
             function,
             arguments,
             ..
-        } => match procedures.get(function) {
-            Some(callee) => callee.arity == count_of(arguments),
+        } => match procedures.get(*function) {
+            Some(callee) => callee.arity == arguments.len(),
             None => false,
         },
         _ => true,
@@ -145,11 +130,14 @@ fn all_have_memory(procedures: &[NamedProcedure], size: usize) -> bool
     procedures.iter().all(|p| p.procedure.memory_size == size)
 }
 
-/// Whether each function has at most six arguments.
-fn all_pass_registers(procedures: &[NamedProcedure]) -> bool
-    ensures { result ≡ list_all passes_registers procedures.now }
+/// Whether the first function's arguments are passed in registers: it has at most six.
+fn passes_registers(procedures: &[NamedProcedure]) -> bool
+    ensures { result ≡ passes_registers procedures.now }
 {
-    procedures.iter().all(|p| p.arity <= 6)
+    match procedures {
+        [first, ..] => first.arity <= 6,
+        [] => true,
+    }
 }
 
 /// Whether each function reads arguments of its own only.
@@ -183,7 +171,7 @@ impl Module {
         if !all_have_memory(&procedures, memory_size) {
             return Err(Refusal::MemorySize);
         }
-        if !all_pass_registers(&procedures) {
+        if !passes_registers(&procedures) {
             return Err(Refusal::ManyArguments);
         }
         if !all_read_arguments(&procedures) {

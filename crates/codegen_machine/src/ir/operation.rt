@@ -1,10 +1,10 @@
 //! The operations of a function's lines.
 
-ghost use Rattle.std.specs.Prelude.{◌≡◌, ◌≤◌, ◌∷◌, ◌++◌, IfOk, OnOk};
+ghost use Rattle.std.specs.Prelude.{◌≡◌, ◌≤◌, ◌∷◌, ◌++◌, IfOk, OnOk, slice_get};
 ghost use Rattle.std.proofs.Props.{props};
 ghost use Rattle.regalloc2_names.specs.Register.{Register};
 ghost use Rattle.regalloc2_names.specs.RegisterSet.{has_register};
-ghost use Rattle.codegen_machine.specs.Ir.Operands.{call_operands, count_in, def_in, divide_operands, is_lost_in, is_lost_in_call, passed_in, operands_of, other_register, part_register, right_in, use_in};
+ghost use Rattle.codegen_machine.specs.Ir.Operands.{argument_in, argument_registers, call_operands, count_in, def_in, divide_operands, is_lost_in, is_lost_in_call, operands_of, other_register, part_register, passed_on_stack, right_in, use_in};
 ghost use Rattle.codegen_machine.specs.Ir.Once.{operands-once};
 
 use regalloc2::{
@@ -20,6 +20,9 @@ const QUOTIENT_REGISTER: usize = 0;
 
 /// The register in which a call returns its number.
 const RESULT_REGISTER: usize = 0;
+
+/// The registers in which a call passes its first arguments.
+const ARGUMENT_REGISTERS: [usize; 6] = [7, 6, 2, 1, 8, 9];
 
 /// The register into which it writes remainders.
 const REMAINDER_REGISTER: usize = 2;
@@ -128,27 +131,8 @@ pub enum Count {
     Number(u8),
 }
 
-/// The arguments of a call, at most six.
-#[derive(Clone, Copy)]
-pub enum Arguments {
-    /// None.
-    Zero,
-    /// One.
-    One(VReg),
-    /// Two.
-    Two(VReg, VReg),
-    /// Three.
-    Three(VReg, VReg, VReg),
-    /// Four.
-    Four(VReg, VReg, VReg, VReg),
-    /// Five.
-    Five(VReg, VReg, VReg, VReg, VReg),
-    /// Six.
-    Six(VReg, VReg, VReg, VReg, VReg, VReg),
-}
-
 /// The operation of a line.
-#[derive(Clone, Copy)]
+#[derive(Drop)]
 pub enum Operation {
     /// Reads an argument of the function.
     Argument {
@@ -263,8 +247,8 @@ pub enum Operation {
         function: usize,
         /// The vreg it defines.
         to: VReg,
-        /// The arguments.
-        arguments: Arguments,
+        /// The arguments: six in registers, the others on the stack.
+        arguments: Vec<VReg>,
     },
     /// Jumps to the only successor of its block.
     Jump,
@@ -358,6 +342,18 @@ fn other_register(part: DivisionPart) -> usize
     }
 }
 
+/// The operand of a late use, from any place.
+fn read_late(vreg: VReg) -> Operand
+    ensures { result ≡ passed_on_stack vreg }
+{
+    Operand::new(
+        vreg,
+        OperandConstraint::Any,
+        OperandKind::Use,
+        OperandPos::Late,
+    )
+}
+
 /// The operands of a division. The divisor is read after the processor's two registers have been
 /// written, so its use is late.
 fn divide_operands(
@@ -371,49 +367,31 @@ fn divide_operands(
 {
     let to = Operand::reg_fixed_def(to, PReg::new(part_register(part), to.class()));
     let left = Operand::reg_fixed_use(left, PReg::new(QUOTIENT_REGISTER, left.class()));
-    let right = Operand::new(
-        right,
-        OperandConstraint::Any,
-        OperandKind::Use,
-        OperandPos::Late,
-    );
+    let right = read_late(right);
     [to, left, right].to_vec(alloc)
 }
 
-/// The operand of an argument, passed in a register.
-fn passed(register: usize, vreg: VReg) -> Operand
-    requires { register ≤ 9 }
-    ensures { result ≡ passed_in register vreg }
+/// The operand of a call's argument with that number: the first six are passed in registers, and
+/// the others are read late, from any place.
+fn passed(index: usize, vreg: VReg) -> Operand
+    ensures { result ≡ argument_in (slice_get argument_registers index) vreg }
 {
-    Operand::reg_fixed_use(vreg, PReg::new(register, vreg.class()))
+    match ARGUMENT_REGISTERS.get(index) {
+        Some(register) => Operand::reg_fixed_use(vreg, PReg::new(*register, vreg.class())),
+        None => read_late(vreg),
+    }
 }
 
-/// The operands of a call: the result in register 0, the arguments in registers 7, 6, 2, 1, 8 and 9.
-fn call_operands(alloc: Global, to: VReg, arguments: Arguments) -> Result<Vec<Operand>, AllocError>
-    ensures { IfOk result (λ v. v.items ≡ call_operands to arguments) }
+/// The operands of a call: the result in register 0, and the arguments.
+fn call_operands(alloc: Global, to: VReg, arguments: &[VReg]) -> Result<Vec<Operand>, AllocError>
+    ensures { IfOk result (λ v. v.items ≡ call_operands to arguments.now) }
 {
     let to = Operand::reg_fixed_def(to, PReg::new(RESULT_REGISTER, to.class()));
-    match arguments {
-        Arguments::Zero => [to].to_vec(alloc),
-        Arguments::One(a) => [to, passed(7, a)].to_vec(alloc),
-        Arguments::Two(a, b) => [to, passed(7, a), passed(6, b)].to_vec(alloc),
-        Arguments::Three(a, b, c) => {
-            [to, passed(7, a), passed(6, b), passed(2, c)].to_vec(alloc)
-        }
-        Arguments::Four(a, b, c, d) => {
-            let (a, b) = (passed(7, a), passed(6, b));
-            [to, a, b, passed(2, c), passed(1, d)].to_vec(alloc)
-        }
-        Arguments::Five(a, b, c, d, e) => {
-            let (a, b, c) = (passed(7, a), passed(6, b), passed(2, c));
-            [to, a, b, c, passed(1, d), passed(8, e)].to_vec(alloc)
-        }
-        Arguments::Six(a, b, c, d, e, f) => {
-            let (a, b, c) = (passed(7, a), passed(6, b), passed(2, c));
-            let (d, e, f) = (passed(1, d), passed(8, e), passed(9, f));
-            [to, a, b, c, d, e, f].to_vec(alloc)
-        }
+    let mut operands = [to].to_vec(alloc)?;
+    for index in 0..arguments.len() {
+        operands.push(passed(index, arguments[index]))?;
     }
+    Ok(operands)
 }
 
 /// The integer register of that number.
@@ -440,10 +418,10 @@ fn call_clobbers() -> PRegSet
 }
 
 /// The clobbers of an operation: registers that it overwrites besides its definitions.
-fn clobbers(operation: Operation) -> PRegSet
-    ensures { (r : Register) → has_register result r ≡ is_lost_in operation r }
+fn clobbers(operation: &Operation) -> PRegSet
+    ensures { (r : Register) → has_register result r ≡ is_lost_in operation.now r }
 {
-    match operation {
+    match *operation {
         Operation::Divide { part, .. } => {
             let register = PReg::new(other_register(part), RegClass::Int);
             PRegSet::empty().with(register)
@@ -521,7 +499,11 @@ fn operands(alloc: Global, operation: &Operation) -> Result<Vec<Operand>, AllocE
         Operation::Store { address, value, .. } => {
             [Operand::reg_use(address), Operand::reg_use(value)].to_vec(alloc)
         }
-        Operation::Call { to, arguments, .. } => call_operands(alloc, to, arguments),
+        Operation::Call {
+            to,
+            ref arguments,
+            ..
+        } => call_operands(alloc, to, arguments),
         Operation::Jump => Ok(Vec::new(alloc)),
         Operation::BranchIfHolds { left, right, .. } => {
             and_right(alloc, &[Operand::reg_use(left)], right)
@@ -537,11 +519,11 @@ impl Line {
     pub fn new(alloc: Global, operation: Operation) -> Result<Line, AllocError>
         ensures { IfOk result (λ l. l.operation ≡ operation) }
     {
-        let operands = operands(alloc, &operation)?;
+        let (operands, clobbers) = (operands(alloc, &operation)?, clobbers(&operation));
         Ok(Line {
             operation,
             operands,
-            clobbers: clobbers(operation),
+            clobbers,
         })
     }
 }

@@ -79,10 +79,10 @@ impl fmt::Display for Malformed {
 impl Error for Malformed {}
 
 /// The number of successors that an operation requires.
-fn successors_wanted(operation: Operation) -> usize
-    ensures { result ≡ wanted_by operation }
+fn successors_wanted(operation: &Operation) -> usize
+    ensures { result ≡ wanted_by operation.now }
 {
-    match operation {
+    match *operation {
         Operation::Jump => 1,
         Operation::BranchIf { .. } | Operation::BranchIfHolds { .. } => 2,
         _ => 0,
@@ -95,7 +95,7 @@ fn has_them(lines: &[Line], part: &Part) -> bool
 {
     let end = part.range.end().index();
     match lines.get(end.saturating_sub(1)) {
-        Some(line) => successors_wanted(line.operation) <= part.succs.len(),
+        Some(line) => successors_wanted(&line.operation) <= part.succs.len(),
         None => true,
     }
 }

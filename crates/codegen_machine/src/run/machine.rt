@@ -50,7 +50,7 @@ impl Machine {
     }
 
     /// The number in a register.
-    fn register(&self, register: usize) -> Option<u64>
+    pub fn register(&self, register: usize) -> Option<u64>
         ensures { result ≡ (if is_general register then Some ((machine_state self.now).registers register) else None) }
     {
         if is_for_numbers(register) {
@@ -377,7 +377,7 @@ impl Machine {
                 Some(Standing::Running)
             }
             Instruction::JumpIf { condition, target } => self.jump_if(condition, target),
-            Instruction::Call { .. } => None,
+            Instruction::Call { .. } | Instruction::Pass { .. } => None,
             Instruction::Return => Some(Standing::Returned(self.registers[0])),
         }
     }

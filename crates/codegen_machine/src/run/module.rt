@@ -1,32 +1,32 @@
 //! The interpreter of a module: frames of its functions, step by step.
 
-ghost use Rattle.std.specs.Prelude.{◌≡◌, ◌<◌, ◌^◌, ◌+◌, ◌∷◌, [], IfOk, IfSome, MatchOption, OnOk, map, slice_get};
+ghost use Rattle.std.specs.Prelude.{◌≡◌, ◌<◌, ◌^◌, ◌+◌, ◌∷◌, [], IfOk, IfSome, MatchOption, OnOk, slice_get};
 ghost use Rattle.std.specs.Option.{option_map};
 ghost use Rattle.codegen_machine.specs.Ir.Calls.{call_on, frame_called, frame_stepped, module_begun, module_step, returned_to};
 ghost use Rattle.codegen_machine.specs.Ir.Meaning.{procedure_step};
-ghost use Rattle.codegen_machine.specs.Ir.Modules.{listed, procedures_of};
+ghost use Rattle.codegen_machine.specs.Ir.Modules.{procedures_of};
 ghost use Rattle.codegen_machine.specs.Ir.Numbers.{Running};
 ghost use Rattle.codegen_machine.specs.Ir.Seen.{function_of_procedure, operations};
 ghost use Rattle.codegen_machine.specs.Run.Runs.{arguments_of, IsModuleRun, module_outcome};
-ghost use Rattle.codegen_machine.specs.Run.States.{call_value, frame_of, frames_of, frames_outcome, frames_state, numbers_by_vreg, state_of};
+ghost use Rattle.codegen_machine.specs.Run.States.{call_value, frame_of, frames_of, frames_outcome, frames_state, state_of};
 
 use super::frame::Frame;
 use super::procedure::{Numbers, State, first_line, no_numbers, numbers_at, put};
 use super::standing::{Run, Standing};
-use crate::ir::{Arguments, Module, Operation, Procedure};
+use crate::ir::{Module, Operation, Procedure};
 use regalloc2::VReg;
 use std::alloc::{AllocError, Global};
 use std::mem;
 
 /// A call on a line.
 #[derive(Clone, Copy)]
-pub struct Calling {
+pub struct Calling<'a> {
     /// The function's number.
     function: usize,
     /// The vreg that it defines.
     to: VReg,
     /// The arguments.
-    arguments: Arguments,
+    arguments: &'a [VReg],
 }
 
 /// The running frame, with the module's memory, and the suspended ones, the newest last.
@@ -39,37 +39,22 @@ pub struct Frames {
 }
 
 /// The call on a line, if there is one.
-fn call_on(procedure: &Procedure, inst: usize) -> Option<Calling>
+fn call_on(procedure: &Procedure, inst: usize) -> Option<Calling<'_>>
     ensures value { option_map call_value result ≡ call_on (slice_get (operations procedure.now).items inst) }
     ensures room { IfSome result (λ c. inst + 1 < 2 ^ 64) }
 {
     let line = procedure.lines.get(inst)?;
-    match line.operation {
+    match &line.operation {
         Operation::Call {
             function,
             to,
             arguments,
         } => Some(Calling {
-            function,
-            to,
+            function: *function,
+            to: *to,
             arguments,
         }),
         _ => None,
-    }
-}
-
-/// The numbers of a call's arguments.
-fn passed(alloc: Global, numbers: &Numbers, arguments: Arguments) -> Result<Vec<u64>, AllocError>
-    ensures { IfOk result (λ v. v.items ≡ map (λ v. numbers_by_vreg numbers.now v) (listed arguments)) }
-{
-    match arguments {
-        Arguments::Zero => numbers_at(alloc, numbers, &[]),
-        Arguments::One(a) => numbers_at(alloc, numbers, &[a]),
-        Arguments::Two(a, b) => numbers_at(alloc, numbers, &[a, b]),
-        Arguments::Three(a, b, c) => numbers_at(alloc, numbers, &[a, b, c]),
-        Arguments::Four(a, b, c, d) => numbers_at(alloc, numbers, &[a, b, c, d]),
-        Arguments::Five(a, b, c, d, e) => numbers_at(alloc, numbers, &[a, b, c, d, e]),
-        Arguments::Six(a, b, c, d, e, f) => numbers_at(alloc, numbers, &[a, b, c, d, e, f]),
     }
 }
 
@@ -92,17 +77,17 @@ impl Frames {
     /// The frame of function 0.
     fn new(
         alloc: Global,
-        module: &Module,
+        m: &Module,
         arguments: &[u64],
         memory: Vec<u8>,
     ) -> Result<Frames, AllocError>
-        ensures { IfOk result (λ f. module_begun (procedures_of module.now.procedures.items) (λ v. 0) (arguments_of arguments.now) memory.items
+        ensures { IfOk result (λ f. module_begun (procedures_of m.now.procedures.items) (λ v. 0) (arguments_of arguments.now) memory.items
             ≡ Running (frames_state f)) }
     {
         Ok(Frames {
             procedure: 0,
             arguments: arguments.to_vec(alloc)?,
-            state: State::first(alloc, &module.procedures[0].procedure, memory),
+            state: State::first(alloc, &m.procedures[0].procedure, memory),
             callers: Vec::new(alloc),
         })
     }
@@ -111,17 +96,17 @@ impl Frames {
     fn call(
         &mut self,
         alloc: Global,
-        module: &Module,
-        calling: Calling,
+        m: &Module,
+        calling: Calling<'_>,
     ) -> Result<Standing, AllocError>
         requires room { self.old.state.inst + 1 < 2 ^ 64 }
-        ensures { IfOk result (λ r. frame_called (procedures_of module.now.procedures.items) (λ v. 0) (frames_state self.old) (call_value calling)
+        ensures { IfOk result (λ r. frame_called (procedures_of m.now.procedures.items) (λ v. 0) (frames_state self.old) (call_value calling.entry)
             ≡ frames_outcome r self.new) }
     {
-        let Some(callee) = module.procedures.get(calling.function) else {
+        let Some(callee) = m.procedures.get(calling.function) else {
             return Ok(Standing::Stuck);
         };
-        let arguments = passed(alloc, &self.state.numbers, calling.arguments)?;
+        let arguments = numbers_at(alloc, &self.state.numbers, calling.arguments)?;
         let frame = Frame {
             procedure: self.procedure,
             arguments: mem::replace(&mut self.arguments, arguments),
@@ -168,14 +153,14 @@ impl Frames {
     }
 
     /// Makes a step.
-    fn step(&mut self, alloc: Global, module: &Module) -> Result<Standing, AllocError>
-        ensures { IfOk result (λ r. module_step (procedures_of module.now.procedures.items) (λ v. 0) (frames_state self.old) ≡ frames_outcome r self.new) }
+    fn step(&mut self, alloc: Global, m: &Module) -> Result<Standing, AllocError>
+        ensures { IfOk result (λ r. module_step (procedures_of m.now.procedures.items) (λ v. 0) (frames_state self.old) ≡ frames_outcome r self.new) }
     {
-        let Some(running) = module.procedures.get(self.procedure) else {
+        let Some(running) = m.procedures.get(self.procedure) else {
             return Ok(Standing::Stuck);
         };
         match call_on(&running.procedure, self.state.inst) {
-            Some(calling) => self.call(alloc, module, calling),
+            Some(calling) => self.call(alloc, m, calling),
             None => self.step_within(alloc, &running.procedure),
         }
     }
@@ -185,16 +170,16 @@ impl Frames {
 /// leaves, with 0 in all vregs of new frames. Arguments past the given ones are 0.
 pub fn run_module(
     alloc: Global,
-    module: &Module,
+    m: &Module,
     arguments: &[u64],
     memory: Vec<u8>,
     steps: u64,
 ) -> Result<Run, AllocError>
-    ensures { IfOk result (IsModuleRun (module_outcome module.now arguments.now memory.items steps)) }
+    ensures { IfOk result (IsModuleRun (module_outcome m.now arguments.now memory.items steps)) }
 {
-    let mut frames = Frames::new(alloc, module, arguments, memory)?;
+    let mut frames = Frames::new(alloc, m, arguments, memory)?;
     for _step in 0..steps {
-        let standing = frames.step(alloc, module)?;
+        let standing = frames.step(alloc, m)?;
         match standing {
             Standing::Running => {}
             _ => {

@@ -1,12 +1,14 @@
 //! The interpreter of a module's code: activations of its functions on a stack, step by step.
 
-ghost use Rattle.std.specs.Prelude.{ℕ, ◌≡◌, ◌<◌, ◌^◌, ◌+◌, ◌∷◌, ◌++◌, [], IfOk, MatchOption, OnOk, nat_lt, if◌then◌else◌, length, map, slice_get, slice_index, Some, None};
-ghost use Rattle.codegen_machine.specs.Calls.{StackState, activation_stepped, argument_registers, callee_of, functions_of, registers_returned, returned_into};
+ghost use Rattle.std.specs.Prelude.{ℕ, ◌≡◌, ◌<◌, ◌^◌, ◌+◌, ◌∷◌, ◌++◌, [], IfOk, IfSome, MatchOption, OnOk, nat_lt, if◌then◌else◌, map, slice_get, slice_index, vec_len, Some, None};
+ghost use Rattle.std.specs.Option.{option_map};
+ghost use Rattle.codegen_machine.specs.Calls.{StackState, act_on_stack, activation_stepped, functions_of, passed, registers_returned, returned_into};
 ghost use Rattle.codegen_machine.specs.Calls.{stack_step, words_of};
 ghost use Rattle.codegen_machine.specs.Ir.Numbers.{put};
+ghost use Rattle.codegen_machine.specs.Ir.Operands.{argument_registers};
 ghost use Rattle.codegen_machine.specs.Machine.{code_of, machine_step};
 ghost use Rattle.codegen_machine.specs.Run.Runs.{arguments_of, empty_stack, IsStackRun, stack_outcome};
-ghost use Rattle.codegen_machine.specs.Run.States.{function_of, instruction_called, IsSound, machine_state, stack_standing, stack_state, suspensions_of};
+ghost use Rattle.codegen_machine.specs.Run.States.{act_of, function_of, instruction_called, IsSound, machine_state, stack_standing, stack_state, suspensions_of};
 
 use super::machine::{Machine, zeros};
 use super::standing::{Run, Standing};
@@ -21,27 +23,47 @@ pub struct Activation {
     arguments: Vec<u64>,
     pc: usize,
     frame: Vec<u64>,
+    outgoing: Vec<u64>,
     registers: [u64; 16],
 }
 
-/// The running activation, with all registers and the memory, the suspended ones, the newest last,
-/// and the words that they take of the stack's room.
+/// The running activation, with all registers, the memory and its outgoing words, the suspended
+/// ones, the newest last, and the words that they take of the stack's room.
 #[derive(Drop)]
 pub struct Stack {
     function: usize,
     arguments: Vec<u64>,
     machine: Machine,
+    outgoing: Vec<u64>,
     callers: Vec<Activation>,
     words: u64,
     room: u64,
 }
 
-/// The function that an instruction calls, if it is a call.
-fn callee_of(code: &Code, pc: usize) -> Option<usize>
-    ensures value { result ≡ callee_of (slice_get (code_of code.now).instructions pc) }
+/// What an instruction does to the stack.
+pub enum StackAct {
+    /// It calls a function.
+    Call(usize),
+    /// It puts a register into an outgoing word.
+    Pass {
+        /// The word.
+        index: usize,
+        /// The register.
+        from: usize,
+    },
+}
+
+/// What the current instruction does to the stack, if anything.
+fn act_on_stack(code: &Code, pc: usize) -> Option<StackAct>
+    ensures value { option_map act_of result ≡ act_on_stack (slice_get (code_of code.now).instructions pc) }
+    ensures room { IfSome result (λ a. pc + 1 < 2 ^ 64) }
 {
     match code.instructions.get(pc)? {
-        Instruction::Call { function } => Some(*function),
+        Instruction::Call { function } => Some(StackAct::Call(*function)),
+        Instruction::Pass { index, from } => Some(StackAct::Pass {
+            index: *index,
+            from: *from,
+        }),
         _ => None,
     }
 }
@@ -51,7 +73,8 @@ fn words_of(function: &NamedCode) -> u128
     ensures value { result ≡ words_of (Some (function_of function.now)) }
     ensures small { result < 2 ^ 66 }
 {
-    let numbers = function.arity as u128 + function.code.slots as u128;
+    let kept = function.arity.min(6);
+    let numbers = kept as u128 + function.code.slots as u128 + function.code.outgoing as u128;
     6 + (numbers + numbers % 2)
 }
 
@@ -66,14 +89,15 @@ fn words_with(function: &NamedCode, words: u64, room: u64) -> Option<u64>
     Some(all as u64)
 }
 
-/// The arguments that a call passes.
-fn passed(alloc: Global, registers: &[u64; 16]) -> Result<Vec<u64>, AllocError>
-    ensures items { IfOk result (λ v. v.items ≡ map (λ r. slice_index registers.now r) argument_registers) }
-    ensures registers { length registers.now ≡ 16 }
+/// The arguments that a call passes: six in registers, the others in the outgoing words.
+fn passed(alloc: Global, registers: &[u64; 16], outgoing: &[u64]) -> Result<Vec<u64>, AllocError>
+    ensures items { IfOk result (λ v. v.items ≡ map (λ r. slice_index registers.now r) argument_registers ++ outgoing.now) }
 {
     let (first, second, third) = (registers[7], registers[6], registers[2]);
     let (fourth, fifth, sixth) = (registers[1], registers[8], registers[9]);
-    [first, second, third, fourth, fifth, sixth].to_vec(alloc)
+    let mut arguments = [first, second, third, fourth, fifth, sixth].to_vec(alloc)?;
+    arguments.extend_from_slice(outgoing)?;
+    Ok(arguments)
 }
 
 /// The registers at a return: those that a callee preserves are as at the call.
@@ -130,13 +154,15 @@ impl Stack {
             return Ok(Standing::Overflowed);
         };
         let registers = self.machine.registers;
-        let arguments = passed(alloc, &registers)?;
+        let arguments = passed(alloc, &registers, &self.outgoing)?;
         let frame = zeros(alloc, function.code.slots)?;
+        let outgoing = zeros(alloc, function.code.outgoing)?;
         let caller = Activation {
             function: self.function,
             arguments: mem::replace(&mut self.arguments, arguments),
             pc: self.machine.pc + 1,
             frame: mem::replace(&mut self.machine.frame, frame),
+            outgoing: mem::replace(&mut self.outgoing, outgoing),
             registers,
         };
         push(&mut self.callers, caller)?;
@@ -146,6 +172,28 @@ impl Stack {
         self.machine.compared = None;
         self.words = words;
         Ok(Standing::Running)
+    }
+
+    /// Puts a register into an outgoing word.
+    fn pass(&mut self, index: usize, from: usize) -> Standing
+        requires room { self.old.machine.pc + 1 < 2 ^ 64 }
+        ensures function { self.new.function ≡ self.old.function }
+        ensures callers { self.new.callers ≡ self.old.callers }
+        ensures words { self.new.words ≡ self.old.words }
+        ensures room { self.new.room ≡ self.old.room }
+        ensures slots { vec_len self.new.machine.frame ≡ vec_len self.old.machine.frame }
+        ensures outgoing { vec_len self.new.outgoing ≡ vec_len self.old.outgoing }
+        ensures step { (n : ℕ) → passed (vec_len self.old.outgoing) (stack_state n self.old) index from ≡ stack_standing n result self.new }
+    {
+        let Some(number) = self.machine.register(from) else {
+            return Standing::Stuck;
+        };
+        if index >= self.outgoing.len() {
+            return Standing::Stuck;
+        }
+        self.outgoing[index] = number;
+        self.machine.pc += 1;
+        Standing::Running
     }
 
     /// Returns a number, and leaves these registers, to the newest suspended activation, which
@@ -175,6 +223,7 @@ impl Stack {
         self.machine.pc = caller.pc;
         self.machine.registers = registers_returned(&caller.registers, left, number);
         self.machine.frame = caller.frame;
+        self.outgoing = caller.outgoing;
         self.machine.compared = None;
         Standing::Running
     }
@@ -207,8 +256,9 @@ impl Stack {
         let Some(function) = code.functions.get(self.function) else {
             return Ok(Standing::Stuck);
         };
-        match callee_of(&function.code, self.machine.pc) {
-            Some(callee) => self.call(alloc, code, callee),
+        match act_on_stack(&function.code, self.machine.pc) {
+            Some(StackAct::Call(callee)) => self.call(alloc, code, callee),
+            Some(StackAct::Pass { index, from }) => Ok(self.pass(index, from)),
             None => Ok(self.step_within(code, function)),
         }
     }
@@ -244,10 +294,12 @@ pub fn run_module_code(
     };
     let machine = Machine::new(alloc, function.code.slots, memory)?;
     let given = copied(alloc, arguments)?;
+    let outgoing = zeros(alloc, function.code.outgoing)?;
     let mut stack = Stack {
         function: 0,
         arguments: given,
         machine,
+        outgoing,
         callers: Vec::new(alloc),
         words,
         room,

@@ -3,10 +3,13 @@
 ghost use Rattle.std.specs.Prelude.{◌≡◌, ◌+◌, ◌++◌, codes, length, nat_eq, Some};
 ghost use Rattle.codegen_machine.specs.Text.Assembly.{byte_name, condition_letters, division_name, half_name, letter, name_at, operator_name, register_name, shift_name};
 ghost use Rattle.codegen_machine.specs.Text.Assembly.{guard_text, read_name, read_text, word_name, write_text};
-ghost use Rattle.codegen_machine.specs.Text.Assembly.{argument_name, argument_load_text, argument_loads_text, argument_store_text, argument_stores_text};
-ghost use Rattle.codegen_machine.specs.Text.Assembly.{assembly_text, call_text, entry_text, exit_text, first_arity, frame_text, function_text, functions_text, pop_text, push_text};
-ghost use Rattle.codegen_machine.specs.Text.Assembly.{instruction_text, is_next, limit_text, line_text, lines_text, source_text, stub_text, symbol_text, traps_text};
+ghost use Rattle.codegen_machine.specs.Text.Assembly.{assembly_text, call_text, first_arity, function_text, functions_text};
+ghost use Rattle.codegen_machine.specs.Text.Assembly.{instruction_text, is_next, line_text, lines_text, source_text, stub_text, symbol_text, traps_text};
 
+use super::frame::{
+    ArgumentLoadsText, ArgumentText, EntryText, ExitText, FrameWords, LimitText, SlotText,
+    frame_words,
+};
 use crate::ir::{Bytes, Condition, Operator, ShiftOperator, Width};
 use crate::{Instruction, ModuleCode, NamedCode, Source};
 use std::fmt;
@@ -53,48 +56,6 @@ fn traps_text() -> &'static str
   int3
   .section .note.GNU-stack,\"\",@progbits
 "
-}
-
-/// Pushes the registers that a function must preserve for its caller.
-#[tactic(auto, unfolding(crate::specs::Text::Assembly::push_text))]
-fn push_text() -> &'static str
-    ensures { result.now ≡ push_text }
-{
-    "  pushq %rbx
-  pushq %rbp
-  pushq %r12
-  pushq %r13
-  pushq %r14
-"
-}
-
-/// Pops those registers, and returns.
-#[tactic(auto, unfolding(crate::specs::Text::Assembly::pop_text))]
-fn pop_text() -> &'static str
-    ensures { result.now ≡ pop_text }
-{
-    "  popq %r14
-  popq %r13
-  popq %r12
-  popq %rbp
-  popq %rbx
-  ret
-"
-}
-
-/// The name of the register that passes an argument.
-fn argument_name(index: usize) -> &'static str
-    ensures { result.now ≡ argument_name index }
-{
-    match index {
-        0 => "%rdi",
-        1 => "%rsi",
-        2 => "%rdx",
-        3 => "%rcx",
-        4 => "%r8",
-        5 => "%r9",
-        _ => "%none",
-    }
 }
 
 /// The name of a register.
@@ -267,17 +228,20 @@ fn condition_letters(condition: Condition) -> &'static str
     }
 }
 
-/// A register or a slot of the frame at a width, or a number.
+/// A register or a slot of a frame with that many outgoing words, at a width, or a number.
 #[derive(Clone, Copy)]
-struct SourceText(Width, Source);
+struct SourceText(usize, Width, Source);
 
 impl fmt::Display for SourceText {
-    ghost output = { λ t. Some (source_text t.0 t.1) };
+    ghost output = { λ t. Some (source_text t.0 t.1 t.2) };
 
     fn fmt<W: fmt::Write>(&self, f: &mut fmt::Formatter<W>) -> fmt::Result {
-        match self.1 {
-            Source::Register(register) => f.write_str(name_at(self.0, register)),
-            Source::Slot(slot) => write!(f, "8*{slot}(%rsp)"),
+        match self.2 {
+            Source::Register(register) => f.write_str(name_at(self.1, register)),
+            Source::Slot(slot) => {
+                let text = SlotText(self.0, slot);
+                write!(f, "{text}")
+            }
             Source::Number(number) => write!(f, "${number}"),
         }
     }
@@ -339,17 +303,18 @@ impl fmt::Display for WriteText {
 pub struct InstructionText {
     /// The function's number.
     pub function: usize,
-    /// How many slots its frame has; its arguments are behind them.
-    pub slots: usize,
+    /// The words of its frame.
+    pub frame: FrameWords,
     /// The instruction.
     pub instruction: Instruction,
 }
 
 impl fmt::Display for InstructionText {
-    ghost output = { λ t. Some (instruction_text t.function t.slots t.instruction) };
+    ghost output = { λ t. Some (instruction_text t.function t.frame t.instruction) };
 
     fn fmt<W: fmt::Write>(&self, f: &mut fmt::Formatter<W>) -> fmt::Result {
-        let (function, slots) = (self.function, self.slots);
+        let (function, frame) = (self.function, self.frame);
+        let outgoing = frame.outgoing;
         match self.instruction {
             Instruction::Constant { to, value } => {
                 let to = register_name(to);
@@ -360,20 +325,20 @@ impl fmt::Display for InstructionText {
                 write!(f, "xorq {to}, {to}")
             }
             Instruction::Argument { to, index } => {
-                let to = register_name(to);
-                write!(f, "movq 8*({slots}+{index})(%rsp), {to}")
+                let (from, to) = (ArgumentText(frame, index as usize), register_name(to));
+                write!(f, "movq {from}, {to}")
             }
             Instruction::Move { to, from } => {
                 let (to, from) = (register_name(to), register_name(from));
                 write!(f, "movq {from}, {to}")
             }
             Instruction::Load { to, slot } => {
-                let to = register_name(to);
-                write!(f, "movq 8*{slot}(%rsp), {to}")
+                let (from, to) = (SlotText(outgoing, slot), register_name(to));
+                write!(f, "movq {from}, {to}")
             }
             Instruction::Store { slot, from } => {
-                let from = register_name(from);
-                write!(f, "movq {from}, 8*{slot}(%rsp)")
+                let (from, to) = (register_name(from), SlotText(outgoing, slot));
+                write!(f, "movq {from}, {to}")
             }
             Instruction::Compute {
                 width,
@@ -382,7 +347,7 @@ impl fmt::Display for InstructionText {
                 from,
             } => {
                 let (name, letter) = (operator_name(operator), letter(width));
-                let (to, from) = (name_at(width, to), SourceText(width, from));
+                let (to, from) = (name_at(width, to), SourceText(outgoing, width, from));
                 write!(f, "{name}{letter} {from}, {to}")
             }
             Instruction::Shift {
@@ -412,12 +377,12 @@ impl fmt::Display for InstructionText {
                 from,
             } => {
                 let (name, letter) = (division_name(is_signed), letter(width));
-                let from = SourceText(width, from);
+                let from = SourceText(outgoing, width, from);
                 write!(f, "{name}{letter} {from}")
             }
             Instruction::Compare { width, left, right } => {
                 let (letter, left) = (letter(width), name_at(width, left));
-                let right = SourceText(width, right);
+                let right = SourceText(outgoing, width, right);
                 write!(f, "cmp{letter} {right}, {left}")
             }
             Instruction::Set { to, condition } => {
@@ -436,12 +401,12 @@ impl fmt::Display for InstructionText {
                 let (letters, to, from) = (
                     condition_letters(condition),
                     register_name(to),
-                    SourceText(Width::Full, from),
+                    SourceText(outgoing, Width::Full, from),
                 );
                 write!(f, "cmov{letters}q {from}, {to}")
             }
             Instruction::Test { from } => {
-                let from = SourceText(Width::Full, from);
+                let from = SourceText(outgoing, Width::Full, from);
                 write!(f, "cmpq $0, {from}")
             }
             Instruction::Guard { address, limit } => {
@@ -466,6 +431,10 @@ impl fmt::Display for InstructionText {
                 write!(f, "j{letters} .L{function}_{target}")
             }
             Instruction::Call { function: callee } => write!(f, "call .Lf{callee}"),
+            Instruction::Pass { index, from } => {
+                let from = register_name(from);
+                write!(f, "movq {from}, 8*{index}(%rsp)")
+            }
             Instruction::Return => write!(f, "jmp .L{function}_return"),
         }
     }
@@ -476,7 +445,7 @@ impl fmt::Display for InstructionText {
 #[derive(Clone, Copy)]
 struct LineText {
     function: usize,
-    slots: usize,
+    frame: FrameWords,
     count: usize,
     at: usize,
     instruction: Instruction,
@@ -503,13 +472,13 @@ impl LineText {
 }
 
 impl fmt::Display for LineText {
-    ghost output = { λ l. Some (line_text l.function l.slots l.count l.at l.instruction) };
+    ghost output = { λ l. Some (line_text l.function l.frame l.count l.at l.instruction) };
 
     fn fmt<W: fmt::Write>(&self, f: &mut fmt::Formatter<W>) -> fmt::Result {
         let (function, at) = (self.function, self.at);
         let text = InstructionText {
             function,
-            slots: self.slots,
+            frame: self.frame,
             instruction: self.instruction,
         };
         if self.is_next() {
@@ -524,24 +493,24 @@ impl fmt::Display for LineText {
 #[derive(Clone, Copy)]
 struct LinesText<'a> {
     function: usize,
-    slots: usize,
+    frame: FrameWords,
     instructions: &'a [Instruction],
 }
 
 impl fmt::Display for LinesText<'_> {
-    ghost output = { λ t. Some (lines_text t.function t.slots (length t.instructions.now) 0 t.instructions.now) };
+    ghost output = { λ t. Some (lines_text t.function t.frame (length t.instructions.now) 0 t.instructions.now) };
 
     fn fmt<W: fmt::Write>(&self, f: &mut fmt::Formatter<W>) -> fmt::Result {
         let LinesText {
             function,
-            slots,
+            frame,
             instructions,
         } = *self;
         let count = instructions.len();
         for at in 0..count {
             let line = LineText {
                 function,
-                slots,
+                frame,
                 count,
                 at,
                 instruction: instructions[at],
@@ -565,193 +534,8 @@ impl fmt::Display for SymbolText<'_> {
         if name.is_empty() {
             f.write_str("")
         } else {
-            write!(f, "  .globl {name}\n{name}:\n")
+            write!(f, "{name}:\n")
         }
-    }
-}
-
-/// The number of words of a function's arguments and slots, made even, as a sum.
-#[derive(Clone, Copy)]
-struct FrameText {
-    arity: usize,
-    slots: usize,
-}
-
-impl fmt::Display for FrameText {
-    ghost output = { λ t. Some (frame_text t.arity t.slots) };
-
-    #[tactic(auto, unfolding(crate::specs::Text::Assembly::frame_text))]
-    fn fmt<W: fmt::Write>(&self, f: &mut fmt::Formatter<W>) -> fmt::Result {
-        let FrameText { arity, slots } = *self;
-        let odd = (arity % 2 + slots % 2) % 2;
-        write!(f, "{arity}+{slots}+{odd}")
-    }
-}
-
-/// The line that stores an argument behind the slots of a function, if the function has it.
-#[derive(Clone, Copy)]
-struct ArgumentStoreText {
-    arity: usize,
-    slots: usize,
-    index: usize,
-}
-
-impl fmt::Display for ArgumentStoreText {
-    ghost output = { λ t. Some (argument_store_text t.arity t.slots t.index) };
-
-    #[tactic(auto, unfolding(crate::specs::Text::Assembly::argument_store_text))]
-    fn fmt<W: fmt::Write>(&self, f: &mut fmt::Formatter<W>) -> fmt::Result {
-        let (slots, index, from) = (self.slots, self.index, argument_name(self.index));
-        if index < self.arity {
-            write!(f, "  movq {from}, 8*({slots}+{index})(%rsp)\n")
-        } else {
-            f.write_str("")
-        }
-    }
-}
-
-/// The lines that store a function's arguments.
-#[derive(Clone, Copy)]
-struct ArgumentStoresText {
-    arity: usize,
-    slots: usize,
-}
-
-/// The line that stores an argument.
-fn store_of(arity: usize, slots: usize, index: usize) -> ArgumentStoreText
-    ensures arity { result.arity ≡ arity }
-    ensures slots { result.slots ≡ slots }
-    ensures index { result.index ≡ index }
-{
-    ArgumentStoreText {
-        arity,
-        slots,
-        index,
-    }
-}
-
-impl fmt::Display for ArgumentStoresText {
-    ghost output = { λ t. Some (argument_stores_text t.arity t.slots) };
-
-    #[tactic(auto, unfolding(crate::specs::Text::Assembly::argument_stores_text))]
-    fn fmt<W: fmt::Write>(&self, f: &mut fmt::Formatter<W>) -> fmt::Result {
-        let (n, s) = (self.arity, self.slots);
-        let (a, b, c) = (store_of(n, s, 0), store_of(n, s, 1), store_of(n, s, 2));
-        let (d, e, g) = (store_of(n, s, 3), store_of(n, s, 4), store_of(n, s, 5));
-        write!(f, "{a}{b}{c}{d}{e}{g}")
-    }
-}
-
-/// The line that loads an argument of function 0 from the array of arguments, if the function has
-/// it.
-#[derive(Clone, Copy)]
-struct ArgumentLoadText {
-    arity: usize,
-    index: usize,
-}
-
-impl fmt::Display for ArgumentLoadText {
-    ghost output = { λ t. Some (argument_load_text t.arity t.index) };
-
-    fn fmt<W: fmt::Write>(&self, f: &mut fmt::Formatter<W>) -> fmt::Result {
-        let (index, to) = (self.index, argument_name(self.index));
-        if index < self.arity {
-            write!(f, "  movq 8*{index}(%rax), {to}\n")
-        } else {
-            f.write_str("")
-        }
-    }
-}
-
-/// The lines that load the arguments of function 0.
-#[derive(Clone, Copy)]
-struct ArgumentLoadsText(usize);
-
-impl ArgumentLoadsText {
-    /// The line of an argument.
-    fn line(&self, index: usize) -> ArgumentLoadText
-        ensures { result ≡ record { arity = self.now.0; index = index } }
-    {
-        ArgumentLoadText {
-            arity: self.0,
-            index,
-        }
-    }
-}
-
-impl fmt::Display for ArgumentLoadsText {
-    ghost output = { λ t. Some (argument_loads_text t.0) };
-
-    fn fmt<W: fmt::Write>(&self, f: &mut fmt::Formatter<W>) -> fmt::Result {
-        let (a, b, c) = (self.line(0), self.line(1), self.line(2));
-        let (d, e, g) = (self.line(3), self.line(4), self.line(5));
-        write!(f, "{a}{b}{c}{d}{e}{g}")
-    }
-}
-
-/// The label of the function with that number, and the test that its activation doesn't exceed the
-/// stack's limit.
-#[derive(Clone, Copy)]
-struct LimitText {
-    function: usize,
-    arity: usize,
-    slots: usize,
-}
-
-impl fmt::Display for LimitText {
-    ghost output = { λ t. Some (limit_text t.function t.arity t.slots) };
-
-    fn fmt<W: fmt::Write>(&self, f: &mut fmt::Formatter<W>) -> fmt::Result {
-        let LimitText {
-            function,
-            arity,
-            slots,
-        } = *self;
-        let words = FrameText { arity, slots };
-        write!(
-            f,
-            ".Lf{function}:\n  leaq -8*({words}+5)(%rsp), %rax\n  cmpq -8(%r15), %rax\n  jb .Loverflow\n"
-        )
-    }
-}
-
-/// The start of a function: it pushes registers, allocates its frame, and stores its arguments.
-#[derive(Clone, Copy)]
-struct EntryText {
-    arity: usize,
-    slots: usize,
-}
-
-impl fmt::Display for EntryText {
-    ghost output = { λ t. Some (entry_text t.arity t.slots) };
-
-    fn fmt<W: fmt::Write>(&self, f: &mut fmt::Formatter<W>) -> fmt::Result {
-        let EntryText { arity, slots } = *self;
-        let (words, push) = (FrameText { arity, slots }, push_text());
-        let stores = ArgumentStoresText { arity, slots };
-        write!(f, "{push}  subq $8*({words}), %rsp\n{stores}")
-    }
-}
-
-/// The end of the function with that number, which frees its frame.
-#[derive(Clone, Copy)]
-struct ExitText {
-    function: usize,
-    arity: usize,
-    slots: usize,
-}
-
-impl fmt::Display for ExitText {
-    ghost output = { λ t. Some (exit_text t.function t.arity t.slots) };
-
-    fn fmt<W: fmt::Write>(&self, f: &mut fmt::Formatter<W>) -> fmt::Result {
-        let ExitText {
-            function,
-            arity,
-            slots,
-        } = *self;
-        let (words, pop) = (FrameText { arity, slots }, pop_text());
-        write!(f, ".L{function}_return:\n  addq $8*({words}), %rsp\n{pop}")
     }
 }
 
@@ -765,23 +549,16 @@ impl fmt::Display for FunctionText<'_> {
     #[tactic(auto, unfolding(crate::specs::Text::Assembly::function_text))]
     fn fmt<W: fmt::Write>(&self, f: &mut fmt::Formatter<W>) -> fmt::Result {
         let FunctionText(function, named) = *self;
-        let (symbol, arity) = (SymbolText(named.name.as_str()), named.arity);
-        let slots = named.code.slots;
-        let limit = LimitText {
-            function,
-            arity,
-            slots,
-        };
-        let entry = EntryText { arity, slots };
+        let (symbol, frame) = (SymbolText(named.name.as_str()), frame_words(named));
+        let (limit, entry, exit) = (
+            LimitText(function, frame),
+            EntryText(frame),
+            ExitText(function, frame),
+        );
         let lines = LinesText {
             function,
-            slots,
+            frame,
             instructions: named.code.instructions.as_slice(),
-        };
-        let exit = ExitText {
-            function,
-            arity,
-            slots,
         };
         write!(f, "{symbol}{limit}{entry}{lines}{exit}")
     }
@@ -826,8 +603,8 @@ fn first_arity(functions: &[NamedCode]) -> usize
 /// stack. A trap is an illegal instruction (`SIGILL`) or a bad division (`SIGFPE`), a stack overflow
 /// a breakpoint (`SIGTRAP`).
 ///
-/// The entry preserves its caller's registers. The functions' own symbols are for debuggers and for
-/// code that keeps the memory's address in `r15` and the stack's limit below it.
+/// The entry preserves its caller's registers. The functions' own symbols are for debuggers; they
+/// are local, so that a function may be named `main`.
 #[derive(Clone, Copy)]
 pub struct AssemblyText<'a>(pub &'a ModuleCode);
 

@@ -57,7 +57,7 @@ impl DraftBlock {
             cursor.misfit("a block, after the last instruction of one");
         }
         if cursor.begins("v") {
-            return read_value(cursor, scope);
+            return read_value(alloc, cursor, scope);
         }
         if let Some(store) = read_store(cursor) {
             return store;

@@ -9,8 +9,11 @@ use std::alloc::Global;
 use std::collections::HashMap;
 use std::hash::{BuildHasherDefault, FoldHasher};
 
-/// The greatest number of a function's arguments, which registers pass.
-pub const MOST_ARGUMENTS: usize = 6;
+/// The greatest number of the first function's arguments, which registers pass.
+pub const FIRST_ARGUMENTS: usize = 6;
+
+/// The greatest number of another function's arguments.
+pub const MOST_ARGUMENTS: usize = 1_000_000;
 
 /// The symbol of the assembly's entry.
 const ENTRY: &str = "compiled";
@@ -52,10 +55,10 @@ fn read_name<'t>(cursor: &mut Cursor<'_, 't>) -> &'t str {
     name
 }
 
-/// The number of a function's arguments, from the bracket on.
-fn read_arity(cursor: &mut Cursor<'_, '_>) -> usize {
+/// The number of a function's arguments, at most that many, from the bracket on.
+fn read_arity(cursor: &mut Cursor<'_, '_>, most: usize) -> usize {
     cursor.want("(");
-    let arity = cursor.number(MOST_ARGUMENTS as u64) as usize;
+    let arity = cursor.number(most as u64) as usize;
     cursor.want(")");
     cursor.want(":");
     arity
@@ -104,7 +107,13 @@ impl<'t> Functions<'t> {
         if self.by_name.contains_key(name) {
             cursor.misfit_before("a name that no function before it has");
         }
-        let (function, arity) = (self.by_name.len(), read_arity(&mut cursor));
+        let function = self.by_name.len();
+        let most = if function == 0 {
+            FIRST_ARGUMENTS
+        } else {
+            MOST_ARGUMENTS
+        };
+        let arity = read_arity(&mut cursor, most);
         cursor.finish()?;
         self.by_name.insert(name, Callee { function, arity })?;
         Ok(())

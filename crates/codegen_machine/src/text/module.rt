@@ -1,7 +1,7 @@
 //! The functions of a text read so far, and the module they make.
 
 use super::draft::Draft;
-use super::functions::{Callee, Functions, MOST_ARGUMENTS};
+use super::functions::{Callee, FIRST_ARGUMENTS, Functions};
 use crate::ir::{Module, NamedProcedure, Refusal};
 use regalloc2_text::cursor::{Cursor, Expected, Flaw, Found, Token};
 use std::alloc::Global;
@@ -21,7 +21,7 @@ pub struct ModuleDraft<'t> {
 
 /// A draft without lines of a function without a name.
 fn unnamed(alloc: Global) -> Draft {
-    Draft::new(alloc, String::new(alloc), MOST_ARGUMENTS)
+    Draft::new(alloc, String::new(alloc), FIRST_ARGUMENTS)
 }
 
 impl<'t> ModuleDraft<'t> {
@@ -110,7 +110,7 @@ fn flaw_of<'t>(refusal: Refusal) -> Flaw<'t> {
     let expected = match refusal {
         Refusal::NoFunction => "a function",
         Refusal::MemorySize => "one size of memory",
-        Refusal::ManyArguments => "at most six arguments of each function",
+        Refusal::ManyArguments => "at most six arguments of the first function",
         Refusal::UnknownArgument => "arguments of the function",
         Refusal::WrongCall => "calls with as many arguments as their functions have",
     };

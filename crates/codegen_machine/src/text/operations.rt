@@ -3,13 +3,13 @@
 ghost use Rattle.std.specs.Prelude.{◌≤◌};
 ghost use Rattle.regalloc2_text.specs.Cursor.Cursor.{tokens_left};
 
-use super::functions::{Callee, Functions};
+use super::functions::{Callee, Functions, MOST_ARGUMENTS};
 use crate::ir::{
-    Arguments, Bytes, Condition, Count, DivisionPart, Operation, Operator, Right, ShiftOperator,
-    Width,
+    Bytes, Condition, Count, DivisionPart, Operation, Operator, Right, ShiftOperator, Width,
 };
 use regalloc2::{RegClass, VReg};
 use regalloc2_text::cursor::Cursor;
+use std::alloc::Global;
 
 /// What a line of a function may name besides vregs and blocks.
 #[derive(Clone, Copy)]
@@ -257,9 +257,9 @@ fn read_named(cursor: &mut Cursor<'_, '_>, to: VReg) -> Option<Operation> {
     Some(read_division(cursor, width, division, to))
 }
 
-/// The number of an argument, of at most six.
+/// The number of an argument.
 fn read_index(cursor: &mut Cursor<'_, '_>, arity: usize) -> u32 {
-    match arity.min(6).checked_sub(1) {
+    match arity.min(MOST_ARGUMENTS).checked_sub(1) {
         Some(last) => cursor.number(last as u64) as u32,
         None => {
             cursor.misfit_before("an operation of a function without arguments");
@@ -277,52 +277,43 @@ fn arguments_wanted(arity: usize) -> &'static str {
         3 => "3 arguments of this function",
         4 => "4 arguments of this function",
         5 => "5 arguments of this function",
-        _ => "6 arguments of this function",
+        6 => "6 arguments of this function",
+        _ => "as many arguments as this function has",
     }
 }
 
-/// The arguments of a call, from the bracket on; the vregs past them are any.
-fn read_vregs(cursor: &mut Cursor<'_, '_>, arity: usize) -> [VReg; 6] {
-    let wanted = arguments_wanted(arity);
-    let mut vregs = [VReg::new(0, RegClass::Int); 6];
+/// The arguments of a call, from the bracket on.
+fn read_arguments(alloc: Global, cursor: &mut Cursor<'_, '_>, arity: usize) -> Vec<VReg> {
+    let mut arguments = Vec::new(alloc);
     cursor.want("(");
-    for at in 0..arity.min(6) {
-        if at > 0 && !cursor.has(",") {
-            cursor.misfit(wanted);
+    for at in 0..arity {
+        let is_next = at == 0 || cursor.has(",");
+        if !is_next || cursor.begins(")") {
+            break;
         }
-        if cursor.begins(")") {
-            cursor.misfit(wanted);
-        }
-        vregs[at] = read_vreg(cursor);
+        let argument = read_vreg(cursor);
+        cursor.push(&mut arguments, argument);
     }
-    if !cursor.has(")") {
-        cursor.misfit(wanted);
+    if arguments.len() != arity || !cursor.has(")") {
+        cursor.misfit(arguments_wanted(arity));
     }
-    vregs
-}
-
-/// The first `count` of six vregs as the arguments of a call; all of them from six on.
-fn arguments(count: usize, [a, b, c, d, e, f]: [VReg; 6]) -> Arguments {
-    match count {
-        0 => Arguments::Zero,
-        1 => Arguments::One(a),
-        2 => Arguments::Two(a, b),
-        3 => Arguments::Three(a, b, c),
-        4 => Arguments::Four(a, b, c, d),
-        5 => Arguments::Five(a, b, c, d, e),
-        _ => Arguments::Six(a, b, c, d, e, f),
-    }
+    arguments
 }
 
 /// A call, from the function's name on.
-fn read_call(cursor: &mut Cursor<'_, '_>, functions: &Functions<'_>, to: VReg) -> Operation {
+fn read_call(
+    alloc: Global,
+    cursor: &mut Cursor<'_, '_>,
+    functions: &Functions<'_>,
+    to: VReg,
+) -> Operation {
     let name = cursor.peek().unwrap_or("");
     let Some(Callee { function, arity }) = functions.named(name) else {
         cursor.misfit("a function of the text");
         return Operation::Copy { to, from: to };
     };
     cursor.advance();
-    let arguments = arguments(arity, read_vregs(cursor, arity));
+    let arguments = read_arguments(alloc, cursor, arity);
     Operation::Call {
         function,
         to,
@@ -331,7 +322,7 @@ fn read_call(cursor: &mut Cursor<'_, '_>, functions: &Functions<'_>, to: VReg) -
 }
 
 /// The operation that writes a vreg, from the register on.
-pub fn read_value(cursor: &mut Cursor<'_, '_>, scope: Scope<'_, '_>) -> Operation {
+pub fn read_value(alloc: Global, cursor: &mut Cursor<'_, '_>, scope: Scope<'_, '_>) -> Operation {
     let to = read_vreg(cursor);
     cursor.want("=");
     if cursor.has("argument") {
@@ -339,7 +330,7 @@ pub fn read_value(cursor: &mut Cursor<'_, '_>, scope: Scope<'_, '_>) -> Operatio
         return Operation::Argument { to, index };
     }
     if cursor.has("call") {
-        return read_call(cursor, scope.functions, to);
+        return read_call(alloc, cursor, scope.functions, to);
     }
     if cursor.has("copy") {
         let from = read_vreg(cursor);

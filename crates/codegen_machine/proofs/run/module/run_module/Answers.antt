@@ -1,4 +1,4 @@
-use Rattle.std.proofs.Common.{ℕ, ◌≡◌, refl, ap, ◌∙◌, arith}
+use Rattle.std.proofs.Common.{◌≡◌, refl, ap, ◌∙◌, arith}
 use Rattle.codegen_machine.specs.Ir.Calls.{module_begun}
 use Rattle.codegen_machine.specs.Ir.Modules.{procedures_of}
 use Rattle.codegen_machine.specs.Run.Runs.{arguments_of, module_outcome, run_outcome}
@@ -9,13 +9,13 @@ use Rattle.codegen_machine.proofs.run.module.run_module.Goals as goal
 
 pub loop-step-init : goal.loop-step-init
 loop-step-init c =
-    let ps = procedures_of c.args.module.now.procedures.items in
+    let ps = procedures_of c.args.m.now.procedures.items in
     module_none ps (λ v. 0) (module_begun ps (λ v. 0) (arguments_of c.args.arguments.now) c.args.memory.items) (frames_state c.in_ok-frames.frames)
     c.in_ok-frames.ensures
 
 pub returns-in_default : goal.returns-in_default
 returns-in_default c =
-    let ps = procedures_of c.args.module.now.procedures.items in
+    let ps = procedures_of c.args.m.now.procedures.items in
     let new = frames_state c.step.new.self in (
       new,
       refl,
@@ -26,7 +26,7 @@ returns-in_default c =
 
 pub loop-step-preserved : goal.loop-step-preserved
 loop-step-preserved c =
-    let ps = procedures_of c.args.module.now.procedures.items in
+    let ps = procedures_of c.args.m.now.procedures.items in
     let new = frames_state c.step.new.self in
     module_more ps (λ v. 0) (module_begun ps (λ v. 0) (arguments_of c.args.arguments.now) c.args.memory.items) c.loop-step._step stand.Running
     (frames_state c.loop-step.frames) new new.state.memory c.loop-step.invariant
@@ -37,5 +37,5 @@ returns c =
     let all : c.args.steps ≡ c.loop-step._step = omega (arith, c.loop-step-test.false) in (
       frames_state c.loop-step.frames,
       refl,
-      ap (λ n. module_outcome c.args.module.now c.args.arguments.now c.args.memory.items n) all ∙ c.loop-step.invariant,
+      ap (λ n. module_outcome c.args.m.now c.args.arguments.now c.args.memory.items n) all ∙ c.loop-step.invariant,
     )

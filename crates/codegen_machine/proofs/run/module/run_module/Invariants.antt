@@ -5,4 +5,4 @@ use Rattle.codegen_machine.specs.Run.States.{frames_state}
 use Rattle.codegen_machine.proofs.run.module.run_module.Given as goal
 
 abbrev pub invariant-loop-step : goal.invariant-loop-step
-invariant-loop-step l = module_outcome l.module l.arguments l.fn.memory.items l._step ≡ Running (frames_state l.frames)
+invariant-loop-step l = module_outcome l.m l.arguments l.fn.memory.items l._step ≡ Running (frames_state l.frames)

@@ -8,7 +8,7 @@ use Rattle.codegen_machine.specs.Run.States.{function_of, machine_state, stack_s
 use Rattle.codegen_machine.specs.declared.NamedCode.{NamedCode}
 use Rattle.codegen_machine.proofs.RunLemmas.Modules.{stack_more, stack_none}
 use Rattle.codegen_machine.proofs.RunLemmas.Stands.{over_stays}
-use Rattle.codegen_machine.proofs.RunLemmas.Stacks.{begun_as, begun_overflows, begun_runs, begun_sticks, first_sound, function_at, function_none}
+use Rattle.codegen_machine.proofs.RunLemmas.Stacks.{begun_as, begun_overflows, begun_runs, begun_sticks, first_sound, function_at, function_none, zeros_are}
 use Rattle.codegen_machine.proofs.run.stack.run_module_code.Goals as goal
 
 pub returns-in_default : goal.returns-in_default
@@ -16,7 +16,7 @@ returns-in_default c =
     let code = c.args.code.now.functions.items in
     let none : slice_get code 0 ≡ None = subst (λ (xs : List NamedCode). slice_get xs 0 ≡ None) c.deref.ensures.value
     (slice_get_past c.deref.result.now 0 c.in_default.ensures.lookup.3) in (
-      record { function = 0; args = λ k. 0; state = first_machine c.args.memory.items; callers = []; activations = 0 },
+      record { function = 0; args = λ k. 0; state = first_machine c.args.memory.items; outgoing = λ k. 0; callers = []; activations = 0 },
       refl,
       ap (λ (o : RunOutcome StackState). further o (stack_run (functions_of code) (empty_stack c.args.room) c.args.steps))
           (begun_sticks (functions_of code) c.args.room (arguments_of c.args.arguments.now) c.args.memory.items (function_none code 0 none)),
@@ -28,7 +28,7 @@ returns-in_default-words_with c =
     let f = c.in-Some.function.now in
     let at : slice_get code 0 ≡ Some f = subst (λ (xs : List NamedCode). slice_get xs 0 ≡ Some f) c.deref.ensures.value
     (slice_get_read c.deref.result.now (length c.deref.result.now) 0 f refl c.in-Some.ensures.lookup.3.0 c.in-Some.ensures.lookup.1) in (
-      record { function = 0; args = λ k. 0; state = first_machine c.args.memory.items; callers = []; activations = 0 },
+      record { function = 0; args = λ k. 0; state = first_machine c.args.memory.items; outgoing = λ k. 0; callers = []; activations = 0 },
       refl,
       ap (λ (o : RunOutcome StackState). further o (stack_run (functions_of code) (empty_stack c.args.room) c.args.steps))
           (begun_overflows (functions_of code) (function_of f) c.args.room (arguments_of c.args.arguments.now) c.args.memory.items (function_at code 0 f at)
@@ -46,16 +46,19 @@ loop-step-init c =
     let none : [] ≡ suspensions_of c.new-2.result.items = rw c.new-2.ensures.items refl in
     let all : c.args.steps ≡ c.args.steps - 0 = omega arith in (
       1,
-      first_sound (functions_of code) (function_of f) _ (function_at code 0 f at) refl c.new-2.ensures.items begun.0 c.in_ok-machine.ensures.frame,
+      first_sound (functions_of code) (function_of f) _ (function_at code 0 f at) refl c.new-2.ensures.items begun.0 c.in_ok-machine.ensures.frame
+          c.in_ok-outgoing.ensures.len,
       refl,
       ap (λ (o : RunOutcome StackState). further o (stack_run (functions_of code) (empty_stack c.args.room) c.args.steps))
-          (begun.1 ∙ begun_as (functions_of code) c.args.room (arguments_of c.args.arguments.now) (arguments_of c.in_ok-given.given.items) c.args.memory.items
+          (begun.1 ∙ begun_as (functions_of code) c.args.room (arguments_of c.args.arguments.now) (arguments_of c.in_ok-given.given.items)
+          (arguments_of c.in_ok-outgoing.outgoing.items) c.args.memory.items
           (machine_state c.in_ok-machine.machine) (suspensions_of c.new-2.result.items) (ap arguments_of (sym c.in_ok-given.ensures))
-          (sym c.in_ok-machine.ensures.state) none)
+          (sym c.in_ok-machine.ensures.state) (zeros_are f.code.outgoing ∙ ap arguments_of (sym c.in_ok-outgoing.ensures.items)) none)
           ∙ ap (λ (n : ℕ). stack_run (functions_of code) (empty_stack c.args.room) n (record {
             function = 0;
             args = arguments_of c.in_ok-given.given.items;
             state = machine_state c.in_ok-machine.machine;
+            outgoing = arguments_of c.in_ok-outgoing.outgoing.items;
             callers = suspensions_of c.new-2.result.items;
             activations = 1;
           })) all,

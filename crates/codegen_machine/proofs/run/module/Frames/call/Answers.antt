@@ -1,4 +1,4 @@
-use Rattle.std.proofs.Common.{◌≡◌, ℕ, List, length, refl, subst}
+use Rattle.std.proofs.Common.{◌≡◌, List, length, refl, subst}
 use Rattle.std.proofs.lemmas.Option.{slice_get_read}
 use Rattle.std.specs.Prelude.{slice_get, Some}
 use Rattle.codegen_machine.specs.Run.States.{call_value, frames_of, frames_state, numbers_by_vreg}
@@ -8,7 +8,7 @@ use Rattle.codegen_machine.proofs.run.module.Frames.call.Goals as goal
 
 pub returns : goal.returns
 returns c =
-    let ps = c.args.module.now.procedures.items in
+    let ps = c.args.m.now.procedures.items in
     let p = c.in-Some.callee.now in
     let g = c.args.calling.function in
     let at : slice_get ps g ≡ Some p = subst (λ (xs : List NamedProcedure). slice_get xs g ≡ Some p) c.deref.ensures.value

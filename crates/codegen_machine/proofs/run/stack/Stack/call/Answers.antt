@@ -1,7 +1,8 @@
-use Rattle.std.proofs.Common.{ℕ, ◌≡◌, ◌+◌, ◌∷◌, List, length, refl, sym, ap, ◌∙◌, subst}
+use Rattle.std.proofs.Common.{ℕ, ◌≡◌, ◌+◌, ◌∷◌, ◌++◌, List, length, map, refl, sym, ap, ◌∙◌, subst}
 use Rattle.std.proofs.lemmas.Option.{slice_get_read}
-use Rattle.std.specs.Prelude.{slice_get, slice_index, Some, replicate}
-use Rattle.codegen_machine.specs.Calls.{argument_register, functions_of, suspended_at}
+use Rattle.std.specs.Prelude.{slice_get, slice_index, Some}
+use Rattle.codegen_machine.specs.Calls.{arguments_passed, functions_of, suspended_at}
+use Rattle.codegen_machine.specs.Ir.Operands.{argument_registers}
 use Rattle.codegen_machine.specs.Run.Runs.{arguments_of}
 use Rattle.codegen_machine.specs.Run.States.{function_of, stack_state, suspended_of, suspensions_of}
 use Rattle.codegen_machine.specs.declared.NamedCode.{NamedCode}
@@ -33,10 +34,12 @@ returns-clause-sound c =
       arguments = c.replace.result;
       pc = old.machine.pc + 1;
       frame = c.replace-2.result;
+      outgoing = c.replace-3.result;
       registers = old.machine.registers;
     } in
     sound_called (functions_of code) (function_of f) g old _ a c.requires.sound (function_at code g f at) refl (rw c.replace-2.ensures.value refl)
-    c.in_ok-push.ensures refl (rw c.replace-2.ensures.after c.in_ok-frame.ensures.len)
+    (rw c.replace-3.ensures.value refl) c.in_ok-push.ensures refl (rw c.replace-2.ensures.after c.in_ok-frame.ensures.len)
+    (rw c.replace-3.ensures.after c.in_ok-outgoing.ensures.len)
     (call_runs (functions_of code) (function_of f) g old.room 0 old c.requires.sound (function_at code g f at) c.in-Some-words_with.words
     (sym c.words_with.ensures ∙ c.in-Some-words_with.is)).0
 
@@ -53,17 +56,22 @@ returns-clause-step c = λ n.
       arguments = c.replace.result;
       pc = old.machine.pc + 1;
       frame = c.replace-2.result;
+      outgoing = c.replace-3.result;
       registers = old.machine.registers;
     } in
-    let is : suspended_of a ≡ suspended_at (stack_state n old) = rw (c.replace.ensures.value, c.replace-2.ensures.value) refl in
-    let given : arguments_of c.replace.new.dest.items ≡ (λ k. slice_index old.machine.registers (argument_register k)) =
-    rw c.replace.ensures.after (ap arguments_of c.in_ok-arguments.ensures.items ∙ passed_are old.machine.registers c.in_ok-arguments.ensures.registers) in
+    let is : suspended_of a ≡ suspended_at (stack_state n old) = rw (c.replace.ensures.value, c.replace-2.ensures.value, c.replace-3.ensures.value) refl in
+    let given : arguments_of c.replace.new.dest.items ≡ arguments_passed (stack_state n old) =
+    rw c.replace.ensures.after (ap arguments_of c.in_ok-arguments.ensures.items
+    ∙ ap (λ (os : List ℕ). arguments_of (map (λ r. slice_index old.machine.registers r) argument_registers ++ os)) c.deref-2.ensures.value
+    ∙ passed_are old.machine.registers old.outgoing.items) in
     let frame : ◌≡◌ {A = ℕ → ℕ} (λ k. 0) (λ k. slice_index c.replace-2.new.dest.items k) =
     rw c.replace-2.ensures.after (zeros_are f.code.slots ∙ ap arguments_of (sym c.in_ok-frame.ensures.items)) in
+    let outgoing : ◌≡◌ {A = ℕ → ℕ} (λ k. 0) (λ k. slice_index c.replace-3.new.dest.items k) =
+    rw c.replace-3.ensures.after (zeros_are f.code.outgoing ∙ ap arguments_of (sym c.in_ok-outgoing.ensures.items)) in
     let callers : suspensions_of c.push.new.activations.items ≡ suspended_at (stack_state n old) ∷ suspensions_of old.callers.items =
     ap suspensions_of c.in_ok-push.ensures ∙ suspensions_pushed old.callers.items a ∙ ap (λ x. x ∷ suspensions_of old.callers.items) is in
     (call_runs (functions_of code) (function_of f) g old.room n old c.requires.sound (function_at code g f at) c.in-Some-words_with.words
     (sym c.words_with.ensures ∙ c.in-Some-words_with.is)).1
-    ∙ activation_is (functions_of code) g n (λ k. slice_index old.machine.registers (argument_register k)) (arguments_of c.replace.new.dest.items) _
-    (λ k. slice_index c.replace-2.new.dest.items k) old.machine.memory.items _ (suspensions_of c.push.new.activations.items) old.room (sym given) (zeros_are 16)
-    frame (sym callers)
+    ∙ activation_is (functions_of code) g n (arguments_passed (stack_state n old)) (arguments_of c.replace.new.dest.items) _
+    (λ k. slice_index c.replace-2.new.dest.items k) (λ k. slice_index c.replace-3.new.dest.items k) old.machine.memory.items _
+    (suspensions_of c.push.new.activations.items) old.room (sym given) (zeros_are 16) frame outgoing (sym callers)

@@ -17,7 +17,7 @@ overflow_sub-self c =
 pub returns-clause-sound : goal.returns-clause-sound
 returns-clause-sound c =
     sound_returned (functions_of c.args.code.now.functions.items) (function_of c.args.function.now) c.args.self.now _ c.in-Some.caller c.requires.sound
-    c.requires.running c.in-Some.ensures refl refl (ap (λ (k : ℕ). c.args.self.now.words - k) c.words_of-taken.ensures.value)
+    c.requires.running c.in-Some.ensures refl refl refl (ap (λ (k : ℕ). c.args.self.now.words - k) c.words_of-taken.ensures.value)
 
 pub returns-clause-step : goal.returns-clause-step
 returns-clause-step c = λ s same.

@@ -13,14 +13,14 @@ pub loop-at-preserved : goal.loop-at-preserved
 loop-at-preserved g c = λ p.
     let all = c.args.self.now.instructions.now in
     let function = c.args.self.now.function in
-    let slots = c.args.self.now.slots in
+    let frame = c.args.self.now.frame in
     let k = c.loop-at.at in
-    let line : HasWritten g.W.Write.write_str_gives c.loop-at.f (line_text function slots (length all) k (get_or all k (Constant 0 0))) c.write.new.self = search rules in
-    has_written_of_eq _ _ _ _ _ (lines_next function slots (length all) all k (Constant 0 0) c.loop-at-test.true) (has_written_append _ _ _ _ _ _ (c.loop-at.invariant p) line)
+    let line : HasWritten g.W.Write.write_str_gives c.loop-at.f (line_text function frame (length all) k (get_or all k (Constant 0 0))) c.write.new.self = search rules in
+    has_written_of_eq _ _ _ _ _ (lines_next function frame (length all) all k (Constant 0 0) c.loop-at-test.true) (has_written_append _ _ _ _ _ _ (c.loop-at.invariant p) line)
 
 pub returns-clause-writes : goal.returns-clause-writes
 returns-clause-writes g c = λ p e.
     let all = c.args.self.now.instructions.now in
     let function = c.args.self.now.function in
-    let slots = c.args.self.now.slots in
-    has_written_of_eq _ _ _ _ _ (lines_all function slots (length all) all c.loop-at.at c.loop-at-test.false) (c.loop-at.invariant p)
+    let frame = c.args.self.now.frame in
+    has_written_of_eq _ _ _ _ _ (lines_all function frame (length all) all c.loop-at.at c.loop-at-test.false) (c.loop-at.invariant p)

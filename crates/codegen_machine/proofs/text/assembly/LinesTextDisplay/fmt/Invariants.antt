@@ -5,4 +5,4 @@ use Rattle.codegen_machine.proofs.text.assembly.LinesTextDisplay.fmt.Given as go
 
 abbrev pub invariant-loop-at : goal.invariant-loop-at
 invariant-loop-at g l =
-    IsPlainFormatter l.initial.f → HasWritten g.W.Write.write_str_gives l.initial.f (lines_text l.function l.slots (length l.instructions) 0 (take l.at l.instructions)) l.f
+    IsPlainFormatter l.initial.f → HasWritten g.W.Write.write_str_gives l.initial.f (lines_text l.function l.frame (length l.instructions) 0 (take l.at l.instructions)) l.f
