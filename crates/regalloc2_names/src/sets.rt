@@ -4,7 +4,7 @@ ghost use Rattle.std.specs.Prelude.{◌≢◌, ◌∷◌, [], List, Contains, �
 ghost use Rattle.regalloc2_names.specs.Register.{IsRegister, Register, class_code, is_register};
 ghost use Rattle.regalloc2_names.specs.RegisterBits.{bits_of_register};
 ghost use Rattle.std.specs.Int.{bit_at};
-ghost use Rattle.regalloc2_names.specs.RegisterSet.{has_register, word_members, registers_of};
+ghost use Rattle.regalloc2_names.specs.RegisterSet.{has_register, word_members, words_have, registers_of};
 ghost use Rattle.regalloc2_names.specs.declared.RegClass.{RegClass};
 ghost use Rattle.std.specs.Iterator.{YieldsFirst, item_count};
 
@@ -26,6 +26,14 @@ impl PRegSet {
         ensures { (r : Register) → has_register result r ≡ false }
     {
         PRegSet { bits: [0; 3] }
+    }
+
+    /// The set of the registers whose bits are 1 in three words, one for each class. Upstream has no
+    /// such call.
+    pub const fn from_words(words: [u64; 3]) -> Self
+        ensures { (r : Register) → has_register result r ≡ words_have words r }
+    {
+        PRegSet { bits: words }
     }
 
     const fn split_index(reg: PReg) -> (usize, usize)

@@ -1,66 +1,96 @@
 -- Sets of registers from words of bits.
-use Rattle.std.proofs.Common.{◌≡◌, ◌∙◌, ℕ, ◌+◌, ◌*◌, ◌/◌, ◌%◌, ◌<◌, ◌≤◌, Bool, true, false, ◌&&◌, ◌||◌, List, ap, arith}
+use Rattle.std.proofs.Common.{◌≡◌, ◌∙◌, ℕ, zero, suc, ◌+◌, ◌*◌, ◌/◌, ◌%◌, ◌^◌, ◌<◌, ◌≤◌, true, false, ◌&&◌, List, [], ◌∷◌, sym, ap, arith, inl, inr, ◌⊎◌, ◌-◌, refl}
 use Rattle.std.specs.Prelude.{nat_eq, nat_lt, slice_index}
 use Rattle.std.specs.Int.{bit_at}
+use Rattle.std.proofs.lemmas.Bool.{cases_lt}
 use Rattle.std.proofs.lemmas.Bool.Decides.{nat_tests}
-use Rattle.std.proofs.lemmas.Nat.Bits.{bit_at-zero}
+use Rattle.std.proofs.Math.Nat.{pow-zero, pow-succ', mul_left_comm}
+use Rattle.std.proofs.lemmas.Nat.Bits.{bit_at-suc, bit_at_lowest, bit_at_above}
 use Rattle.regalloc2_names.specs.declared.RegClass.{RegClass}
 use Rattle.regalloc2_names.specs.declared.RegClass.TheVariants.{Int, Float, Vector}
-use Rattle.regalloc2_names.specs.Register.{Register, class_code, is_register}
-use Rattle.regalloc2_names.specs.RegisterBits.{register_of_bits, bits_of_register, class_code-class_of_code}
-use Rattle.regalloc2_names.specs.RegisterSet.{has_register}
-use Rattle.regalloc2_names.specs.declared.sets.PRegSet.{PRegSet}
-use Rattle.regalloc2_serialize.specs.Flat.Columns.Value.{is_bit_set, HasBits, HasBitsBelow}
+use Rattle.regalloc2_names.specs.Register.{Register}
+use Rattle.regalloc2_names.specs.RegisterBits.{bits_of_register}
+use Rattle.regalloc2_names.specs.RegisterSet.{words_have}
+use Rattle.regalloc2_serialize.specs.Flat.Columns.Value.{is_bit_set, long_at}
 
-class-small : (c : RegClass) → class_code c < 3
-class-small Int = omega arith
-class-small Float = omega arith
-class-small Vector = omega arith
+halved : (a m n : ℕ) → n ≡ 2 * m → (a + n) / 2 ≡ a / 2 + m
+halved a m n e = omega (arith, e)
 
--- a register is that of an index exactly if it has that index
-same-place : (n c m : ℕ) → n < 192 → (nat_eq (n / 64) c && nat_eq (n % 64) m) ≡ (nat_lt m 64 && nat_eq (c * 64 + m) n)
-same-place n c m small = grind (arith, nat_tests)
+doubled : (b k : ℕ) → b * 2 ^ suc k ≡ 2 * (b * 2 ^ k)
+doubled b k = ap (λ (n : ℕ). b * n) (pow-succ' 2 k) ∙ mul_left_comm b 2 (2 ^ k)
 
-is-place : (n : ℕ) (r : Register) → n < 192 → is_register (register_of_bits n) r ≡ (nat_lt r.number 64 && nat_eq (bits_of_register r) n)
-is-place n r small = rw (class_code-class_of_code (n / 64) (omega arith)) (same-place n (class_code r.class) r.number small)
+even : (a m n : ℕ) → n ≡ 2 * m → (a + n) % 2 ≡ a % 2
+even a m n e = omega (arith, e)
 
-more : (x n m : ℕ) (t e o : Bool) → o ≡ (nat_lt x n && (nat_lt m 64 && t)) → e ≡ (nat_lt m 64 && nat_eq x n) → (x ≡ n → t ≡ true) →
-    (e || o) ≡ (nat_lt x (n + 1) && (nat_lt m 64 && t))
-more x n m t e o ho he ht = grind (arith, nat_tests)
+-- the bits of a number of which the lower ones are another's
+low-bits : (k i a b : ℕ) → i < k → bit_at (a + b * 2 ^ k) i ≡ bit_at a i
+low-bits zero i a b less = absurd (omega arith)
+low-bits (suc k) zero a b less =
+    bit_at_lowest (a + b * 2 ^ suc k) ∙ even a (b * 2 ^ k) (b * 2 ^ suc k) (doubled b k) ∙ sym (bit_at_lowest a)
+low-bits (suc k) (suc i) a b less =
+    bit_at-suc (a + b * 2 ^ suc k) i ∙ ap (λ (n : ℕ). bit_at n i) (halved a (b * 2 ^ k) (b * 2 ^ suc k) (doubled b k))
+    ∙ low-bits k i (a / 2) b (omega arith) ∙ sym (bit_at-suc a i)
 
-kept : (x n k m : ℕ) (t o : Bool) → o ≡ (nat_lt x n && (nat_lt m 64 && t)) → (n ≤ x → x < n + k → t ≡ false) → o ≡ (nat_lt x (n + k) && (nat_lt m 64 && t))
-kept x n k m t o ho ht = grind (arith, nat_tests)
-
--- no register has an index below 0
-pub bits-none : (words : List ℕ) (s : PRegSet) → ((r : Register) → has_register s r ≡ false) → HasBitsBelow words 0 s
-bits-none words s none r = none r ∙ grind (arith, nat_tests)
-
--- one more index, whose bit is 1
-pub bits-more : (words : List ℕ) (n : ℕ) (old new : PRegSet) → n < 192 → HasBitsBelow words n old → is_bit_set words n ≡ true →
-    ((r : Register) → has_register new r ≡ is_register (register_of_bits n) r || has_register old r) → HasBitsBelow words (n + 1) new
-bits-more words n old new small before one now r =
-    now r ∙ more (bits_of_register r) n r.number (is_bit_set words (bits_of_register r)) (is_register (register_of_bits n) r) (has_register old r)
-    (before r) (is-place n r small) (λ same. ap (is_bit_set words) same ∙ one)
-
--- and one whose bit is 0
-pub bits-same : (words : List ℕ) (n : ℕ) (s : PRegSet) → HasBitsBelow words n s → is_bit_set words n ≡ false → HasBitsBelow words (n + 1) s
-bits-same words n s before zero r =
-    kept (bits_of_register r) n 1 r.number (is_bit_set words (bits_of_register r)) (has_register s r) (before r)
-    (λ low high. let same : bits_of_register r ≡ n = omega arith in ap (is_bit_set words) same ∙ zero)
-
--- a word that is 0
-pub bits-skipped : (words : List ℕ) (w : ℕ) (s : PRegSet) → HasBitsBelow words (32 * w) s → slice_index words w ≡ 0 → HasBitsBelow words (32 * w + 32) s
-bits-skipped words w s before zero r =
-    kept (bits_of_register r) (32 * w) 32 r.number (is_bit_set words (bits_of_register r)) (has_register s r) (before r)
-    (λ low high.
-    let at : bits_of_register r / 32 ≡ w = omega arith in
-    let none : bit_at (slice_index words (bits_of_register r / 32)) (bits_of_register r % 32) ≡ 0 =
-    rw (at, zero) (bit_at-zero (bits_of_register r % 32)) in
-    ap (λ b. nat_eq b 1) none)
-
--- all indexes
-pub bits-all : (words : List ℕ) (s : PRegSet) → HasBitsBelow words 192 s → HasBits words s
-bits-all words s below r = below r ∙ all (bits_of_register r) r.number (is_bit_set words (bits_of_register r)) (λ small. omega (arith, class-small r.class))
+high-bits : (k i a b : ℕ) → a < 2 ^ k → bit_at (a + b * 2 ^ k) (k + i) ≡ bit_at b i
+high-bits zero i a b less =
+    ap (λ (n : ℕ). bit_at (a + b * 2 ^ 0) n) (start i) ∙ ap (λ (n : ℕ). bit_at n i) (one a b (2 ^ 0) (pow-zero 2) less)
   where
-    all : (x m : ℕ) (t : Bool) → (m < 64 → x < 192) → (nat_lt x 192 && (nat_lt m 64 && t)) ≡ (nat_lt m 64 && t)
-    all x m t less = grind (arith, nat_tests)
+    start : (i : ℕ) → 0 + i ≡ i
+    start i = omega arith
+
+    one : (a b p : ℕ) → p ≡ 1 → a < p → a + b * p ≡ b
+    one a b p e less = let none : a ≡ 0 = omega (arith, e, less) in ap (λ (q : ℕ). a + b * q) e ∙ omega (arith, none)
+high-bits (suc k) i a b less =
+    ap (λ (n : ℕ). bit_at (a + b * 2 ^ suc k) n) (shift k i) ∙ bit_at-suc (a + b * 2 ^ suc k) (k + i) ∙ ap (λ (n : ℕ). bit_at n (k + i)) (halved a (b * 2 ^ k) (b * 2 ^ suc k) (doubled b k))
+    ∙ high-bits k i (a / 2) b (half a (2 ^ k) (2 ^ suc k) (power k) less)
+  where
+    shift : (k i : ℕ) → suc k + i ≡ suc (k + i)
+    shift k i = omega arith
+
+    half : (a p q : ℕ) → q ≡ 2 * p → a < q → a / 2 < p
+    half a p q e less = omega (arith, e, less)
+
+    power : (k : ℕ) → 2 ^ suc k ≡ 2 * 2 ^ k
+    power k = pow-succ' 2 k
+
+-- the bits of a class's registers, in two words of 32 bits
+class-bits : (words : List ℕ) (c n : ℕ) → slice_index words (2 * c) < 2 ^ 32 → slice_index words (2 * c + 1) < 2 ^ 32 →
+    nat_eq (bit_at (long_at words c) n) 1 ≡ (nat_lt n 64 && is_bit_set words (c * 64 + n))
+class-bits words c n low high = pick (cases_lt n 32) (cases_lt n 64)
+  where
+    inside : (n : ℕ) → n < 64 → nat_lt n 64 ≡ true
+    inside n less = grind (arith, nat_tests)
+
+    outside : (n : ℕ) → 64 ≤ n → nat_lt n 64 ≡ false
+    outside n more = grind (arith, nat_tests)
+
+    small : (a b : ℕ) → a < 2 ^ 32 → b < 2 ^ 32 → a + b * 2 ^ 32 < 2 ^ 64
+    small a b la lb = omega (arith, la, lb)
+
+    pick : (n < 32) ⊎ (32 ≤ n) → (n < 64) ⊎ (64 ≤ n) → nat_eq (bit_at (long_at words c) n) 1 ≡ (nat_lt n 64 && is_bit_set words (c * 64 + n))
+    pick (inl less) any =
+        let word : (c * 64 + n) / 32 ≡ 2 * c = omega (arith, less) in
+        let place : (c * 64 + n) % 32 ≡ n = omega (arith, less) in
+        rw (inside n (omega (arith, less)), word, place)
+        (ap (λ (b : ℕ). nat_eq b 1) (low-bits 32 n (slice_index words (2 * c)) (slice_index words (2 * c + 1)) less))
+    pick (inr more) (inl less) =
+        let word : (c * 64 + n) / 32 ≡ 2 * c + 1 = omega (arith, more, less) in
+        let place : (c * 64 + n) % 32 ≡ n - 32 = omega (arith, more, less) in
+        let sum : n ≡ 32 + (n - 32) = omega (arith, more) in
+        rw (inside n less, word, place)
+        (ap (λ (b : ℕ). nat_eq b 1) (ap (λ (k : ℕ). bit_at (long_at words c) k) sum
+        ∙ high-bits 32 (n - 32) (slice_index words (2 * c)) (slice_index words (2 * c + 1)) low))
+    pick (inr more) (inr past) =
+        let none : bit_at (long_at words c) n ≡ 0 =
+        bit_at_above (long_at words c) 64 n (small (slice_index words (2 * c)) (slice_index words (2 * c + 1)) low high) past in
+        rw (outside n past, none) refl
+
+-- three numbers that are six words
+pub has-bits : (words : List ℕ) (a b c : ℕ) → ((k : ℕ) → k < 6 → slice_index words k < 2 ^ 32) → a ≡ long_at words 0 → b ≡ long_at words 1 →
+    c ≡ long_at words 2 → (r : Register) → words_have (a ∷ b ∷ c ∷ []) r ≡ (nat_lt r.number 64 && is_bit_set words (bits_of_register r))
+has-bits words a b c small ea eb ec r = pick r.class refl
+  where
+    pick : (class : RegClass) → r.class ≡ class → words_have (a ∷ b ∷ c ∷ []) r ≡ (nat_lt r.number 64 && is_bit_set words (bits_of_register r))
+    pick Int e = rw (e, ea) (class-bits words 0 r.number (small 0 (omega arith)) (small 1 (omega arith)))
+    pick Float e = rw (e, eb) (class-bits words 1 r.number (small 2 (omega arith)) (small 3 (omega arith)))
+    pick Vector e = rw (e, ec) (class-bits words 2 r.number (small 4 (omega arith)) (small 5 (omega arith)))

@@ -122,10 +122,6 @@ is_bit_set bits index = nat_eq (bit_at (slice_index bits (index / 32)) (index % 
 abbrev pub HasBits : List ℕ → PRegSet → Type 0
 HasBits bits s = (r : Register) → has_register s r ≡ nat_lt r.number 64 && is_bit_set bits (bits_of_register r)
 
--- the same of the registers with an index below a number
-abbrev pub HasBitsBelow : List ℕ → ℕ → PRegSet → Type 0
-HasBitsBelow bits n s = (r : Register) → has_register s r ≡ nat_lt (bits_of_register r) n && (nat_lt r.number 64 && is_bit_set bits (bits_of_register r))
-
 -- the six words of set k
 abbrev pub bits_at : List ℕ → ℕ → List ℕ
 bits_at words k = slice_range words (6 * k) (6 * k + 6)

@@ -62,13 +62,24 @@ pub fn long(words: &[u32], k: usize) -> u64
     u64::from(words[2 * k]) + u64::from(words[2 * k + 1]) * 4_294_967_296
 }
 
+/// Whether the bits encode an operand. Most are under the first three constraints.
+#[inline(always)]
+fn is_operand(bits: u64) -> bool
+    ensures { IsTrue result ↔ IsOperandBits bits }
+{
+    if bits >> 36 < 3 {
+        return bits & 0xffff_ffff < 1 << 30 && (bits >> 32) & 0b11 != 0b11;
+    }
+    Operand::is_bits(bits)
+}
+
 /// Whether all are words of operands.
 fn are_operand_words(words: &[u32], count: usize) -> bool
     requires { length words.now ≡ 2 * count }
     ensures { IsTrue result ↔ ((k : ℕ) → k < count → IsOperandBits (long_at words.now k)) }
 {
     for k in 0..count {
-        if !Operand::is_bits(long(words, k)) {
+        if !is_operand(long(words, k)) {
             return false;
         }
     }

@@ -5,7 +5,7 @@ ghost use Rattle.std.specs.List.{range_with_len};
 ghost use Rattle.regalloc2_names.specs.Packing.{IsRegisterIndex, IsVRegBits, IsOperandBits, register_of_bits, operand_of_bits};
 ghost use Rattle.regalloc2_function.specs.FunctionValue.{label_of};
 ghost use Rattle.regalloc2_serialize.specs.TableFunction.Table.{sizes_of_table};
-ghost use Rattle.regalloc2_serialize.specs.Flat.Columns.Value.{is_bit_set, HasBits, HasBitsBelow, HaveBits, AreNumbered, long_at, longs, label_at};
+ghost use Rattle.regalloc2_serialize.specs.Flat.Columns.Value.{HasBits, HaveBits, AreNumbered, long_at, longs, label_at};
 ghost use Rattle.regalloc2_serialize.specs.Flat.Columns.Value.{scratch_of_word, column_sizes};
 ghost use Rattle.regalloc2_serialize.specs.Flat.Columns.Sound.{Covers};
 
@@ -16,56 +16,12 @@ use regalloc2_index::Inst;
 use regalloc2_names::{Operand, PReg, PRegSet, VReg};
 use std::alloc::{AllocError, Allocator};
 
-/// Whether the bit of an index is 1 in six words.
-fn has_bit(words: &[u32], index: usize) -> bool
-    requires six { length words.now ≡ 6 }
-    requires index { index < 192 }
-    ensures { result ≡ is_bit_set words.now index }
-{
-    (words[index / 32] >> (index % 32)) & 1 == 1
-}
-
-/// A set of the registers below an index, with that of the index if its bit is 1.
-fn with_bit(set: PRegSet, words: &[u32], index: usize) -> PRegSet
-    requires six { length words.now ≡ 6 }
-    requires index { index < 192 }
-    requires before { HasBitsBelow words.now index set }
-    ensures { HasBitsBelow words.now (index + 1) result }
-{
-    if has_bit(words, index) {
-        set.with(PReg::from_index(index))
-    } else {
-        set
-    }
-}
-
-/// A set of the registers before a word, with those of the word.
-fn with_word(set: PRegSet, words: &[u32], word: usize) -> PRegSet
-    requires six { length words.now ≡ 6 }
-    requires word { word < 6 }
-    requires before { HasBitsBelow words.now (32 * word) set }
-    ensures { HasBitsBelow words.now (32 * word + 32) result }
-{
-    if words[word] == 0 {
-        return set;
-    }
-    let mut set = set;
-    for bit in 0..32 {
-        set = with_bit(set, words, 32 * word + bit);
-    }
-    set
-}
-
 /// The set of the registers whose bits are 1 in six words.
 fn set_of(words: &[u32]) -> PRegSet
     requires { length words.now ≡ 6 }
     ensures { HasBits words.now result }
 {
-    let mut set = PRegSet::empty();
-    for word in 0..6 {
-        set = with_word(set, words, word);
-    }
-    set
+    PRegSet::from_words([long(words, 0), long(words, 1), long(words, 2)])
 }
 
 /// Three sets.
