@@ -4,7 +4,7 @@
 -- Locations: `inverse_marked` in `VRegInPRegInverse`, the two tables stay inverse; `RegistersOfVRegs`. Slots:
 -- `SpillSlotUnits` (how many units they take), `SlotsAsPlaces`. Registers: `LrusOfMachine` and `LrusByClass`, over
 -- `ArraysByClass`, `ClassIsEmpty`, `SetMembers`, `SetOfList` and `CountingLaws`. Edits:
--- `PointsDescend` (points never rise), `EditsPushed`.
+-- `PointsDescend` (points never rise), `EditsPushed`. Operands of an instruction as masks: `MaskLemmas`.
 -- Other crates cite `ArraysByClass`, `CountingLaws`, `PointsDescend`, `SetMembers`, `SlotsAsPlaces`,
 -- `SpillSlotUnits` and `TakenOut`.
 pub mod ArraysByClass
@@ -13,6 +13,7 @@ pub mod CountingLaws
 pub mod EditsPushed
 pub mod LrusByClass
 pub mod LrusOfMachine
+pub mod MaskLemmas
 pub mod PointsDescend
 pub mod RegistersOfVRegs
 pub mod SetMembers

@@ -5,6 +5,7 @@
 pub mod Choice
 pub mod FilledRegs
 pub mod InstRegs
+pub mod Masks
 pub mod OutOfResources
 pub mod ScratchPool
 pub mod StateParts

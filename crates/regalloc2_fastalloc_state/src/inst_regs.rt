@@ -1,7 +1,7 @@
 //! The registers of one instruction: which are free at its two positions, and how many are still
 //! required.
 
-ghost use Rattle.std.specs.Prelude.{IsTrue, ◌≡◌, ◌+◌, ◌-◌, ◌&&◌, ◌||◌, ◌∷◌, [], true, None, Some, not, length, min, slice_index_or, slice_set};
+ghost use Rattle.std.specs.Prelude.{IsTrue, ◌≡◌, ◌+◌, ◌-◌, ◌<◌, ◌&&◌, ◌||◌, ◌∷◌, [], true, None, Some, not, slice_index_or, slice_set, if◌then◌else◌};
 ghost use Rattle.regalloc2_names.specs.Register.{Register, class_code, is_register};
 ghost use Rattle.regalloc2_names.specs.RegisterSet.{has_register};
 ghost use Rattle.regalloc2_fastalloc_state.specs.InstRegs.{RemovesAvailable, IsAvailableAt, SameAvailable, awaited_of, both_positions};
@@ -133,14 +133,15 @@ impl InstRegs {
         self.late = self.late.difference(taken);
     }
 
-    /// Counts one more operand of the class that requires any register.
-    pub fn add_any_reg_op(&mut self, class: RegClass)
+    /// Counts one more operand of the class, if it requires any register.
+    #[inline(always)]
+    pub fn add_any_reg_op(&mut self, class: RegClass, is_one: bool)
+        requires { awaited_of self.old class < 18446744073709551615 }
         ensures sets { SameAvailable self.old self.new }
-        ensures long { length self.old.awaited ≡ 3 }
-        ensures awaited { self.new.awaited ≡ slice_set self.old.awaited (class_code class) (min (awaited_of self.old class + 1) 18446744073709551615) }
+        ensures awaited { self.new.awaited ≡ slice_set self.old.awaited (class_code class) (awaited_of self.old class + (if is_one then 1 else 0)) }
     {
         let awaited = self.awaited[class as usize];
-        self.awaited[class as usize] = awaited.saturating_add(1);
+        self.awaited[class as usize] = awaited + is_one as usize;
     }
 
     /// Counts an operand of the class that required any register as placed.

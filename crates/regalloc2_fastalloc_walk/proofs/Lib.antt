@@ -4,8 +4,10 @@
 -- `AvailableCount` says which registers are found free, and `LrusOfClasses` what the order of their use has.
 -- `RegsReserved` (`reserves_all`) is the loop over fixed registers, `OperandOutOfRegs` says where an operand stops,
 -- `Steps` chains steps.
+-- `InstPlaced`: an instruction is allocated once its operands are placed.
 -- `NothingPassed`: a branch to blocks without parameters does nothing to the tables. `FilledClobbers`: only clobbers
 -- in which vregs are have to be emptied.
+-- `OperandsSorted` is the pass that counts operands, and finds whether any is fixed.
 -- `SlotUses` (`slot_use`): a use under `Any` stays in its vreg's slot.
 -- What a branch defines: `OwnDefs` (the tables say what is its own), `StoresListed` (`lists_stores`: what a block's
 -- beginning stores is listed, each once, counted in `CountedOnce`), `StoresPushed` (the moves of that, as they are
@@ -13,12 +15,14 @@
 pub mod AvailableCount
 pub mod CountedOnce
 pub mod FilledClobbers
+pub mod InstPlaced
 pub mod RegOperands
 pub mod RegsReserved
 pub mod LrusOfClasses
 pub mod NothingPassed
 pub mod OperandsProcessed
 pub mod OperandOutOfRegs
+pub mod OperandsSorted
 pub mod OwnDefs
 pub mod PickedInTurn
 pub mod SlotUses

@@ -1,27 +1,23 @@
 -- What operands reserve, one after another.
-use Rattle.std.proofs.Common.{ℕ, zero, suc, add-one, ◌≡◌, ◌+◌, ◌<◌, ◌≤◌, ◌⊎◌, inl, inr, Bool, true, false, List, [], ◌∷◌, length, refl}
+use Rattle.std.proofs.Common.{ℕ, zero, suc, add-one, ◌≡◌, ◌+◌, ◌<◌, ◌≤◌, ◌⊎◌, inl, inr, Bool, true, false, List, length, refl}
 use Rattle.std.proofs.Common.{arith, sym, ap, ◌∙◌, subst}
-use Rattle.std.specs.Prelude.{Option, None, Some, IfSome, not, ◌&&◌, ◌||◌, take, slice_index}
+use Rattle.std.specs.Prelude.{Option, None, Some, IfSome, not, ◌&&◌, ◌||◌}
 use Rattle.std.proofs.lemmas.Bool.{cases_Bool, cases_eq, and_parts, or_left, or_right, and_from, or_cases, both_ways}
-use Rattle.std.proofs.lemmas.List.{length-take-le, take_all}
-use Rattle.std.proofs.lemmas.List.Sums.{count_by-le-length, count_by_more_yes, count_by_more_no}
 use Rattle.std.proofs.Math.Bool.{and_comm}
-use Rattle.regalloc2_names.specs.declared.RegClass.{RegClass}
 use Rattle.regalloc2_names.specs.declared.OperandConstraint.TheVariants.{FixedReg}
-use Rattle.regalloc2_names.specs.Register.{Register, class_code, is_register}
+use Rattle.regalloc2_names.specs.Register.{Register, is_register}
 use Rattle.regalloc2_names.specs.RegisterSet.{has_register}
 use Rattle.regalloc2_names.specs.Operand.{OperandValue}
 use Rattle.regalloc2_semantics.proofs.Cells.{is_register-same, is_register-true}
 use Rattle.regalloc2_fastalloc_state.specs.declared.inst_regs.Positions.{Positions}
 use Rattle.regalloc2_fastalloc_state.specs.declared.inst_regs.InstRegs.{InstRegs}
 use Rattle.regalloc2_fastalloc_walk.specs.declared.reserve_regs.ReservedRegs.{ReservedRegs}
-use Rattle.regalloc2_fastalloc_state.specs.InstRegs.{RemovesAvailable, awaited_of, is_free_throughout}
-use Rattle.regalloc2_fastalloc_state.proofs.ArraysByClass.{zeros}
-use Rattle.regalloc2_function.specs.FunctionValue.{op_at, no_operand}
-use Rattle.regalloc2_fastalloc_proofs.specs.InstSteps.{StateValue, NeedsFixedReg, own, named, IsFixedIn, ReservesRegs, asks_reg_of_class, asking}
+use Rattle.regalloc2_fastalloc_state.specs.InstRegs.{RemovesAvailable, SameAvailable, is_free_throughout}
+use Rattle.regalloc2_function.specs.FunctionValue.{op_at}
+use Rattle.regalloc2_fastalloc_proofs.specs.InstSteps.{StateValue, NeedsFixedReg, own, named, IsFixedIn, ReservesRegs}
 use Rattle.regalloc2_fastalloc_proofs.specs.InstSteps.{EvictsFixed, none_cleared, not_fixed, RegsAreNotReserved, SameButOrder, unknown, shared}
 use Rattle.regalloc2_fastalloc_walk.specs.ReserveSteps.{IsMachineReg, Shrinks, KeepsReserved, IsNewlyReserved, IsReserved, ReservesRegForOperand, TakesOnly}
-use Rattle.regalloc2_fastalloc_walk.specs.ReserveSteps.{TakesFixed, AwaitsOne, ReservesOnly, OperandReserves, RegIsNotReserved}
+use Rattle.regalloc2_fastalloc_walk.specs.ReserveSteps.{TakesFixed, AwaitsAll, ReservesClaims, ReservesOnly, OperandReserves, RegIsNotReserved}
 use Rattle.regalloc2_fastalloc_proofs.proofs.BlockEnd.NoMoveInPasses.{overlap_cases}
 
 -- no register becomes available where nothing changes
@@ -238,44 +234,39 @@ stops_reserve ops k t u c old lt h s = elim s.stops [
   ]
 ]
 
--- so many of the first k operands require any register of a class
-abbrev pub Awaiting : List OperandValue → ℕ → InstRegs → InstRegs → Type 0
-Awaiting ops k t u = t.awaited ≡ 0 ∷ 0 ∷ 0 ∷ [] → (class : RegClass) → awaited_of u class ≡ asking (take k ops) class
-
--- of the first 0 operands none requires a register
-pub awaiting_none : (ops : List OperandValue) (t : InstRegs) → Awaiting ops 0 t t
-awaiting_none ops t e class = ap (λ xs. slice_index xs (class_code class)) e ∙ zeros class
-
-asking_few : (ops : List OperandValue) (k : ℕ) (class : RegClass) → k < length ops → asking (take k ops) class ≤ k
-asking_few ops k class lt = (let a = count_by-le-length (asks_reg_of_class class) (take k ops) in let b = length-take-le k ops (omega (arith, lt)) in omega
-    (arith, a, b))
-
--- operand k is counted if it is under `Reg`: then the count is that of the first k + 1 operands, as long as it fits in 64 bits
-pub awaiting_more : (ops : List OperandValue) (k : ℕ) (t u w : InstRegs) → k < length ops → k < 18446744073709551615 → AwaitsOne ops k u w →
-    Awaiting ops k t u → Awaiting ops (k + 1) t w
-awaiting_more ops k t u w lt small one h e class =
-    let was = h e class in
-    let few = asking_few ops k class lt in
-    let now = one class (omega (arith, was, few, small)) in
-    elim (cases_Bool (asks_reg_of_class class (op_at ops k))) [
-      | inl asked ↦ (let n = rw asked at now in let m = count_by_more_yes (asks_reg_of_class class) ops k no_operand lt asked in omega (arith, was, n, m))
-      | inr unasked ↦ (let n = rw unasked at now in let m = count_by_more_no (asks_reg_of_class class) ops k no_operand lt unasked in omega (arith, was, n, m))
-    ]
-
--- once all operands have reserved what they need and are counted, the instruction's registers are reserved
-pub reserves_all : (ops : List OperandValue) (k : ℕ) (t u : InstRegs) (c : ReservedRegs) (old : StateValue) → k ≡ length ops → Awaiting ops k t u →
-    Reserving ops k t u c old → ReservesRegs ops t u old
-reserves_all ops k t u c old e w h = record {
+-- once all operands have reserved what they need, the instruction's registers are reserved, as soon as operands are counted
+pub reserves_all : (ops : List OperandValue) (k : ℕ) (t u : InstRegs) (c : ReservedRegs) (old : StateValue) → k ≡ length ops →
+    Reserving ops k t u c old → ReservesClaims ops t u old
+reserves_all ops k t u c old e h began same counted = record {
   known = λ j r p lt a. h.known j r p (omega arith) a;
   held_early = λ j r p lt a. h.held_early j r p (omega arith) a;
   held_late = λ j r p lt a. h.held_late j r p (omega arith) a;
   apart = λ i j r p q li lj a b. h.apart i j r p q (omega arith) (omega arith) a b;
-  early = h.shrinks.early;
-  late = h.shrinks.late;
-  scratch = h.shrinks.scratch;
-  only = h.takes;
-  awaited = λ zero class. w zero class ∙ ap (λ (xs : List OperandValue). asking xs class) (take_all k ops (omega (arith, e)));
+  early = λ r a. ap (λ q. has_register q r) (sym same.early) ∙ h.shrinks.early r a;
+  late = λ r a. ap (λ q. has_register q r) (sym same.late) ∙ h.shrinks.late r a;
+  scratch = h.shrinks.scratch ∙ same.scratch;
+  only = λ r was now. (let free : is_free_throughout t r ≡ is_free_throughout began r = rw (same.early, same.late) refl in h.takes r (free ∙ was) now);
+  awaited = counted;
 }
+
+-- where no operand is fixed, none claims a register: they are reserved as they are
+pub reserves_none : (ops : List OperandValue) (t u : InstRegs) (old : StateValue) →
+    ((k : ℕ) → k < length ops → (r : Register) → (op_at ops k).constraint ≡ FixedReg r → ⊥) → SameAvailable t u → AwaitsAll ops t u →
+    ReservesRegs ops t u old
+reserves_none ops t u old never same counted = record {
+  known = λ j r p lt a. absurd (claims j r p lt a);
+  held_early = λ j r p lt a e. absurd (claims j r p lt a);
+  held_late = λ j r p lt a e. absurd (claims j r p lt a);
+  apart = λ i j r p q li lj a b e. absurd (claims i r p li a);
+  early = λ r a. ap (λ q. has_register q r) (sym same.early) ∙ a;
+  late = λ r a. ap (λ q. has_register q r) (sym same.late) ∙ a;
+  scratch = same.scratch;
+  only = fixed_none ops t u same.early same.late;
+  awaited = counted;
+}
+  where
+    claims : (j : ℕ) (r : Register) (p : Positions) → j < length ops → NeedsFixedReg ops j r p → ⊥
+    claims j r p lt a = (let f = claims_fixed ops j r p lt a in never f.0 f.1 r f.2)
 
 -- what is reserved stays so where nothing changes
 pub grows_none : (c : ReservedRegs) → KeepsReserved c c
@@ -361,22 +352,3 @@ reserve_fails_used ops k c old m e h =
 -- registers that are used in two steps
 pub used_then : (a b c : StateValue) → SameButOrder a b → SameButOrder b c → SameButOrder a c
 used_then a b c x y = y ∙ ap (λ (t : StateValue). record t { lrus = c.lrus }) x
-
--- the operands up to the next one, where none of them is fixed, or some one is
-abbrev pub NoneIsFixed : List OperandValue → ℕ → Type 0
-NoneIsFixed ops k = (j : ℕ) → j < k → (r : Register) → (op_at ops j).constraint ≡ FixedReg r → ⊥
-
-abbrev pub SomeIsFixed : List OperandValue → ℕ → Type 0
-SomeIsFixed ops k = (j : ℕ) × (r : Register) × (j < k) × ((op_at ops j).constraint ≡ FixedReg r)
-
-pub none_fixed_more : (ops : List OperandValue) (k : ℕ) (o : OperandValue) → o ≡ op_at ops k → NoneIsFixed ops k →
-    ((r : Register) → o.constraint ≡ FixedReg r → ⊥) → NoneIsFixed ops (k + 1)
-none_fixed_more ops k o is none here j lt r e = elim (cases_eq j k) [
-  | inl same ↦ here r (ap (λ (p : OperandValue). p.constraint) is ∙ ap (λ (n : ℕ). (op_at ops n).constraint) (sym same) ∙ e)
-  | inr other ↦ none j (omega (arith, lt, other)) r e
-]
-
-pub some_fixed_more : (ops : List OperandValue) (k : ℕ) (o : OperandValue) (b : Bool) → o ≡ op_at ops k → (b ≡ true → SomeIsFixed ops k) →
-    ((b ≡ true) ⊎ ((r : Register) × (o.constraint ≡ FixedReg r))) → SomeIsFixed ops (k + 1)
-some_fixed_more ops k o b is some (inl e) = let x = some e in (x.0, x.1, omega (arith, x.2), x.3)
-some_fixed_more ops k o b is some (inr h) = (k, h.0, omega arith, ap (λ (p : OperandValue). p.constraint) (sym is) ∙ h.1)

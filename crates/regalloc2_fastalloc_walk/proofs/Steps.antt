@@ -12,8 +12,8 @@ use Rattle.regalloc2_fastalloc_state.specs.StateParts.{AllAtOrAfter}
 use Rattle.regalloc2_fastalloc_walk.specs.declared.state.State.{State}
 use Rattle.regalloc2_fastalloc_walk.specs.StateView.{tables_of, IsStepAt}
 
--- a step after a step, at one point, both of which succeed
-pub step_then : {A T U V : Type 0} {point : ℕ} {t : T} {u : U} {v : V} (a b c : State A) → IsStepAt point (Ok t) a b → IsStepAt point (Ok u) b c
+-- a step after a step, both of which succeed: edits are at the second one's point or after it
+pub step_then : {A T U V : Type 0} {first point : ℕ} {t : T} {u : U} {v : V} (a b c : State A) → IsStepAt first (Ok t) a b → IsStepAt point (Ok u) b c
     → IsStepAt point (Ok v) a c
 step_then a b c first second = record {
   machine = same_then (tables_of a) (tables_of b) (tables_of c) first.machine second.machine;
@@ -53,6 +53,12 @@ pub outcome_of : {T P R : Type 0} {Q S : RegAllocError → Type 0} (r : Result T
     → MatchResult r (λ x. R) S
 outcome_of (Ok x) p q ok err = ok p
 outcome_of (Err e) p q ok err = err e q
+
+-- and what is more than that, if more follows in both cases
+pub outcome_more : {T P R : Type 0} {Q S : RegAllocError → Type 0} (r : Result T RegAllocError) → (P → R) → ((e : RegAllocError) → Q e → S e) →
+    MatchResult r (λ x. P) Q → MatchResult r (λ x. R) S
+outcome_more (Ok x) ok err p = ok p
+outcome_more (Err e) ok err q = err e q
 
 -- a register that can't be emptied of others can't be emptied
 pub stops_others : {point : ℕ} {r : Register} {v : VirtualRegister} {t : InstRegs} {old : StateValue} → EvictOtherVRegs point r v t old no_register →

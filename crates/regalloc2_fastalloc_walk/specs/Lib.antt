@@ -5,5 +5,6 @@ pub mod BranchStores
 pub mod OperandsAt
 pub mod OwnDefs
 pub mod PlaceChoice
+pub mod PlaceSteps
 pub mod ReserveSteps
 pub mod StateView

@@ -1,15 +1,18 @@
 -- What one operand reserves before operands are allocated.
-use Rattle.std.specs.Prelude.{ℕ, ◌≡◌, ◌+◌, ◌<◌, ◌⊎◌, ◌&&◌, ◌||◌, true, false, if◌then◌else◌, List}
+use Rattle.std.specs.Prelude.{ℕ, ◌≡◌, ◌<◌, ◌≤◌, ◌⊎◌, ◌&&◌, ◌||◌, true, false, List, [], ◌∷◌, length}
 use Rattle.regalloc2_names.specs.declared.RegClass.{RegClass}
+use Rattle.regalloc2_names.specs.declared.OperandConstraint.TheVariants.{FixedReg}
 use Rattle.regalloc2_names.specs.Register.{Register, is_register}
 use Rattle.regalloc2_names.specs.RegisterSet.{has_register}
 use Rattle.regalloc2_names.specs.Operand.{OperandValue}
 use Rattle.regalloc2_fastalloc_state.specs.declared.inst_regs.Positions.{Positions}
 use Rattle.regalloc2_fastalloc_state.specs.declared.inst_regs.InstRegs.{InstRegs}
-use Rattle.regalloc2_fastalloc_state.specs.InstRegs.{awaited_of, is_free_throughout}
+use Rattle.regalloc2_fastalloc_state.specs.InstRegs.{SameAvailable, awaited_of, is_free_throughout}
+use Rattle.regalloc2_fastalloc_state.specs.Masks.{AreMasks}
 use Rattle.regalloc2_function.specs.FunctionValue.{op_at}
 use Rattle.regalloc2_fastalloc_walk.specs.declared.reserve_regs.ReservedRegs.{ReservedRegs}
-use Rattle.regalloc2_fastalloc_proofs.specs.InstSteps.{StateValue, NeedsFixedReg, IsFixedIn, asks_reg_of_class}
+use Rattle.regalloc2_fastalloc_walk.specs.declared.reserve_regs.Sorted.{Sorted}
+use Rattle.regalloc2_fastalloc_proofs.specs.InstSteps.{StateValue, NeedsFixedReg, IsFixedIn, ReservesRegs, asking}
 
 -- one of the machine's registers or fixed stack slots
 abbrev pub IsMachineReg : StateValue → Register → Type 0
@@ -30,10 +33,9 @@ pub record TakesOnly (by : Register) (t u : InstRegs) : Type 0 where
 abbrev pub TakesFixed : List OperandValue → InstRegs → InstRegs → Type 0
 TakesFixed operands t u = (r : Register) → is_free_throughout t r ≡ true → is_free_throughout u r ≡ false → IsFixedIn operands r
 
--- the operand k is counted if it requires any register
-abbrev pub AwaitsOne : List OperandValue → ℕ → InstRegs → InstRegs → Type 0
-AwaitsOne operands k t u = (class : RegClass) → awaited_of t class < 18446744073709551615 →
-    awaited_of u class ≡ awaited_of t class + (if asks_reg_of_class class (op_at operands k) then 1 else 0)
+-- of none so far, the operands that require any register are counted
+abbrev pub AwaitsAll : List OperandValue → InstRegs → InstRegs → Type 0
+AwaitsAll operands t u = t.awaited ≡ 0 ∷ 0 ∷ 0 ∷ [] → (class : RegClass) → awaited_of u class ≡ asking operands class
 
 -- claims are kept
 pub record KeepsReserved (c d : ReservedRegs) : Type 0 where
@@ -83,3 +85,13 @@ pub record RegIsNotReserved (operands : List OperandValue) (k : ℕ) (c : Reserv
   pub positions : Positions
   pub claims : NeedsFixedReg operands k register positions
   pub stops : ((has_register old.allocatable register || has_register old.fixed_stack register) ≡ false) ⊎ IsReservedAt c register positions
+
+-- the operands' registers are reserved, whatever is counted beside
+abbrev pub ReservesClaims : List OperandValue → InstRegs → InstRegs → StateValue → Type 0
+ReservesClaims operands t u old = (began : InstRegs) → SameAvailable began t → AwaitsAll operands began u → ReservesRegs operands began u old
+
+-- what one pass over operands finds
+pub record AreSorted (operands : List OperandValue) (s : Sorted) : Type 0 where
+  pub masks : length operands ≤ 63 → AreMasks operands s.masks
+  pub some : s.any_fixed ≡ true → (k : ℕ) × (r : Register) × (k < length operands) × ((op_at operands k).constraint ≡ FixedReg r)
+  pub none : s.any_fixed ≡ false → (k : ℕ) → k < length operands → (r : Register) → (op_at operands k).constraint ≡ FixedReg r → ⊥

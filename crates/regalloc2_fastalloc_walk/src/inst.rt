@@ -3,23 +3,28 @@
 ghost use Rattle.std.specs.Prelude.{Bool};
 ghost use Rattle.regalloc2_names.specs.RegisterSet.{has_register};
 ghost use Rattle.regalloc2_names.specs.Register.{Register, VirtualRegister};
-ghost use Rattle.std.specs.Prelude.{◌≡◌, ◌<◌, ◌≤◌, ◌+◌, ◌↔◌, [], length, not, false, true, slice_set, slice_index_or, ℕ, OnOk, IfSome, IfNone};
+ghost use Rattle.std.specs.Prelude.{◌≡◌, ◌<◌, ◌≤◌, ◌+◌, ◌↔◌, [], length, not, false, true, slice_set, slice_index_or, ℕ, OnOk, IfSome, IfNone, IfOk};
 ghost use Rattle.std.specs.Prelude.{IsNone, IsTrue, List};
 ghost use Rattle.regalloc2_names.specs.Point.{after, before, inst_limit};
 ghost use Rattle.regalloc2_names.specs.Place.{Place, NoPlace, is_place, is_in_slot};
 ghost use Rattle.regalloc2_names.specs.Operand.{is_def, is_late, is_reading};
 ghost use Rattle.regalloc2_parts.specs.Picked.{picked};
 ghost use Rattle.regalloc2_fastalloc_walk.specs.OperandsAt.{is_at};
+ghost use Rattle.regalloc2_fastalloc_state.specs.Masks.{AreMasks};
 ghost use Rattle.regalloc2_fastalloc_state.specs.StateParts.{AllAtOrAfter, alloc_of};
 ghost use Rattle.regalloc2_function.specs.FunctionValue.{op_at};
 ghost use Rattle.regalloc2_fastalloc_proofs.specs.InstSteps.{IsFresh, reuse_requirement_of, requirement_of, def_request, reuse_request, ProcessOperand};
 ghost use Rattle.regalloc2_fastalloc_proofs.specs.InstSteps.{use_request, InTables, ProcessOperandsAt, MoveUse, MoveUses, PrepareRegs, AllocInst};
+ghost use Rattle.regalloc2_fastalloc_walk.specs.ReserveSteps.{AreSorted};
+ghost use Rattle.regalloc2_fastalloc_walk.specs.PlaceSteps.{PlaceOperands};
 ghost use Rattle.regalloc2_fastalloc_walk.specs.StateView.{IsStepAt, tables_of, ComesTo};
 ghost use Rattle.regalloc2_fastalloc_proofs.specs.BlockSteps.{AllocInstAt};
 
 use super::operand::PlaceMove;
+use super::reserve_regs::Sorted;
 use super::state::State;
 use regalloc2_fastalloc_state::inst_regs::{InstRegs, Positions};
+use regalloc2_fastalloc_state::masks::{Masks, Selected};
 use regalloc2_fastalloc_state::request::{OperandRequest, Requirement};
 use regalloc2_index::Inst;
 use regalloc2_names::{
@@ -36,6 +41,19 @@ fn operands_at<'o>(operands: &'o [Operand], pos: OperandPos) -> PickedOperands<'
     match pos {
         OperandPos::Early => operands.early(),
         OperandPos::Late => operands.late(),
+    }
+}
+
+/// The operands at a position, by their masks.
+#[inline(always)]
+fn masked_at<'o>(masks: &Masks, operands: &'o [Operand], pos: OperandPos) -> Selected<'o>
+    requires masks { AreMasks operands.now masks.now }
+    requires few { length operands.now ≤ 63 }
+    ensures { result ≡ picked (is_at pos) operands.now }
+{
+    match pos {
+        OperandPos::Early => masks.early(operands),
+        OperandPos::Late => masks.late(operands),
     }
 }
 
@@ -365,9 +383,9 @@ impl<'a, A: Allocator> State<'a, A> {
         Ok(())
     }
 
-    /// Allocates the operands of one position, in operand order.
-    #[inline(always)]
-    pub fn process_operands_at(
+    /// Allocates the operands of one position, in operand order, however many there are.
+    #[inline(never)]
+    fn process_each_at(
         &mut self,
         inst_regs: &mut InstRegs,
         pos: OperandPos,
@@ -388,7 +406,35 @@ impl<'a, A: Allocator> State<'a, A> {
         Ok(())
     }
 
+    /// Allocates the operands of one position, in operand order. There are at most
+    /// 63, whose masks are given.
+    #[inline(always)]
+    pub fn process_operands_at(
+        &mut self,
+        inst_regs: &mut InstRegs,
+        pos: OperandPos,
+        cx: &InstCx<'_>,
+        masks: &Masks,
+        allocs: &mut [Allocation],
+    ) -> Result<(), RegAllocError>
+        requires masks { AreMasks cx.now.operands.now masks.now }
+        requires few { length cx.now.operands.now ≤ 63 }
+        requires inst { cx.now.inst < inst_limit }
+        requires later { AllAtOrAfter (after cx.now.inst) self.old.edits }
+        requires in_tables { InTables cx.now.operands.now (tables_of self.old) }
+        requires allocs_long { length allocs.old ≡ length cx.now.operands.now }
+        ensures outcome { ComesTo (ProcessOperandsAt cx.now.inst cx.now.ends_block (is_late pos) cx.now.operands.now allocs.old inst_regs.old)
+            (allocs.new, inst_regs.new) result self.old self.new }
+        ensures step { IsStepAt (after cx.now.inst) result self.old self.new }
+    {
+        for (k, _operand) in masked_at(masks, cx.operands, pos) {
+            self.process_operand_allocation(inst_regs, cx, allocs, k)?;
+        }
+        Ok(())
+    }
+
     /// Moves a use from its vreg's current location to its place.
+    #[inline(always)]
     fn move_use(
         &mut self,
         inst_regs: &mut InstRegs,
@@ -417,8 +463,9 @@ impl<'a, A: Allocator> State<'a, A> {
     }
 
     /// Moves the uses of an instruction from their vregs' current locations to their places, in
-    /// operand order.
-    pub fn move_uses(
+    /// operand order, however many there are.
+    #[inline(never)]
+    fn move_each(
         &mut self,
         inst_regs: &mut InstRegs,
         point: ProgPoint,
@@ -438,27 +485,76 @@ impl<'a, A: Allocator> State<'a, A> {
         }
         Ok(())
     }
+
+    /// Moves the uses of an instruction from their vregs' current locations to their places, in
+    /// operand order. There are at most 63 operands, whose masks are given.
+    pub fn move_uses(
+        &mut self,
+        inst_regs: &mut InstRegs,
+        point: ProgPoint,
+        operands: &[Operand],
+        masks: &Masks,
+        allocs: &[Allocation],
+    ) -> Result<(), RegAllocError>
+        requires masks { AreMasks operands.now masks.now }
+        requires few { length operands.now ≤ 63 }
+        requires later { AllAtOrAfter point self.old.edits }
+        requires in_tables { InTables operands.now (tables_of self.old) }
+        requires allocs_long { length allocs.now ≡ length operands.now }
+        ensures outcome { ComesTo (MoveUses point operands.now allocs.now inst_regs.old) inst_regs.new result self.old self.new }
+        ensures step { IsStepAt point result self.old self.new }
+    {
+        for (k, operand) in masks.uses(operands) {
+            if operand.is_reading() {
+                self.move_use(inst_regs, point, operand, allocs[k])?;
+            }
+        }
+        Ok(())
+    }
 }
 
 impl<'a, A: Allocator> State<'a, A> {
-    /// Claims the fixed registers and the clobbers of an instruction, and empties them.
+    /// Sorts the operands of an instruction, claims its fixed registers and its clobbers, and empties them.
     #[inline(always)]
     fn prepare_regs(
         &mut self,
         inst_regs: &mut InstRegs,
         cx: &InstCx<'_>,
-    ) -> Result<(), RegAllocError>
+    ) -> Result<Sorted, RegAllocError>
         requires inst { cx.now.inst < inst_limit }
         requires later { AllAtOrAfter (after cx.now.inst) self.old.edits }
         requires fresh { IsFresh inst_regs.old (tables_of self.old) }
+        ensures sorted { IfOk result (AreSorted cx.now.operands.now) }
         ensures outcome { ComesTo (PrepareRegs cx.now.inst cx.now.operands.now cx.now.clobbers inst_regs.old) inst_regs.new result self.old self.new }
         ensures step { IsStepAt (after cx.now.inst) result self.old self.new }
     {
         let point = ProgPoint::after(cx.inst);
-        let any_fixed = self.reserve(inst_regs, cx.operands)?;
+        let sorted = self.reserve(inst_regs, cx.operands)?;
         self.remove_clobbers_from_available_pregs(inst_regs, cx.clobbers);
-        self.evict_fixed(inst_regs, point, cx.operands, any_fixed)?;
+        self.evict_fixed(inst_regs, point, cx.operands, sorted.any_fixed)?;
         self.evict_clobbers(inst_regs, point, cx.clobbers)?;
+        Ok(sorted)
+    }
+
+    /// Allocates the operands of an instruction whose registers are prepared, and moves its uses.
+    #[inline(never)]
+    fn place_each(
+        &mut self,
+        inst_regs: &mut InstRegs,
+        cx: &InstCx<'_>,
+        allocs: &mut [Allocation],
+    ) -> Result<(), RegAllocError>
+        requires inst { cx.now.inst < inst_limit }
+        requires later { AllAtOrAfter (after cx.now.inst) self.old.edits }
+        requires in_tables { InTables cx.now.operands.now (tables_of self.old) }
+        requires allocs_long { length allocs.old ≡ length cx.now.operands.now }
+        ensures outcome { ComesTo (PlaceOperands cx.now.inst cx.now.operands.now cx.now.ends_block allocs.old inst_regs.old)
+            (allocs.new, inst_regs.new) result self.old self.new }
+        ensures step { IsStepAt (before cx.now.inst) result self.old self.new }
+    {
+        self.process_each_at(inst_regs, OperandPos::Late, cx, allocs)?;
+        self.process_each_at(inst_regs, OperandPos::Early, cx, allocs)?;
+        self.move_each(inst_regs, ProgPoint::before(cx.inst), cx.operands, allocs)?;
         Ok(())
     }
 
@@ -479,10 +575,20 @@ impl<'a, A: Allocator> State<'a, A> {
             (allocs.new, inst_regs.new) result self.old self.new }
         ensures step { IsStepAt (before cx.now.inst) result self.old self.new }
     {
-        self.prepare_regs(inst_regs, cx)?;
-        self.process_operands_at(inst_regs, OperandPos::Late, cx, allocs)?;
-        self.process_operands_at(inst_regs, OperandPos::Early, cx, allocs)?;
-        self.move_uses(inst_regs, ProgPoint::before(cx.inst), cx.operands, allocs)?;
+        let sorted = self.prepare_regs(inst_regs, cx)?;
+        let masks = &sorted.masks;
+        if cx.operands.len() > 63 {
+            return self.place_each(inst_regs, cx, allocs);
+        }
+        self.process_operands_at(inst_regs, OperandPos::Late, cx, masks, allocs)?;
+        self.process_operands_at(inst_regs, OperandPos::Early, cx, masks, allocs)?;
+        self.move_uses(
+            inst_regs,
+            ProgPoint::before(cx.inst),
+            cx.operands,
+            masks,
+            allocs,
+        )?;
         Ok(())
     }
 

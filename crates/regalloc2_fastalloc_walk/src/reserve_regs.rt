@@ -1,18 +1,21 @@
 //! What an instruction claims before its operands are allocated: fixed registers and clobbers.
 
-ghost use Rattle.std.specs.Prelude.{ℕ, ◌≡◌, ◌<◌, ◌⊎◌, ◌||◌, ◌↔◌, length, true, false, IsTrue, OnOk, IfOk, IfSome, IfNone, IfErr, Some, MatchResult};
+ghost use Rattle.std.specs.Prelude.{ℕ, ◌≡◌, ◌<◌, ◌⊎◌, ◌||◌, ◌↔◌, ◌∷◌, [], length, true, false, IsTrue, OnOk, IfOk, IfSome, IfNone, IfErr, Some, MatchResult};
 ghost use Rattle.regalloc2_names.specs.Register.{Register};
 ghost use Rattle.regalloc2_names.specs.RegisterSet.{has_register, registers_of};
+ghost use Rattle.regalloc2_fastalloc_state.specs.InstRegs.{SameAvailable};
 ghost use Rattle.regalloc2_fastalloc_state.specs.StateParts.{AllAtOrAfter};
 ghost use Rattle.regalloc2_fastalloc_state.specs.OutOfResources.{IsResourceErrorIn};
 ghost use Rattle.regalloc2_function.specs.FunctionValue.{op_at};
-ghost use Rattle.regalloc2_fastalloc_proofs.specs.InstSteps.{NeedsFixedReg, NoneUsed, RemovesClobbers, ReserveRegs, EvictFixed, EvictEach, SameButOrder};
+ghost use Rattle.regalloc2_fastalloc_proofs.specs.InstSteps.{NeedsFixedReg, NoneUsed, RegsAreNotReserved, RemovesClobbers, ReserveRegs};
+ghost use Rattle.regalloc2_fastalloc_proofs.specs.InstSteps.{EvictFixed, EvictEach, SameButOrder};
 ghost use Rattle.regalloc2_fastalloc_walk.specs.StateView.{Between, IsStepAt, SameTables, tables_of, ComesTo};
-ghost use Rattle.regalloc2_fastalloc_walk.specs.ReserveSteps.{AwaitsOne, ReservesOnly, IsNewlyReserved, IsReservedAt, IsReserved, KeepsReserved, Shrinks};
-ghost use Rattle.regalloc2_fastalloc_walk.specs.ReserveSteps.{ReservesRegForOperand, TakesOnly, RegIsNotReserved};
+ghost use Rattle.regalloc2_fastalloc_walk.specs.ReserveSteps.{AreSorted, AwaitsAll, ReservesClaims, ReservesOnly, IsNewlyReserved, IsReservedAt, IsReserved};
+ghost use Rattle.regalloc2_fastalloc_walk.specs.ReserveSteps.{KeepsReserved, Shrinks, ReservesRegForOperand, TakesOnly, RegIsNotReserved};
 
 use super::state::State;
 use regalloc2_fastalloc_state::inst_regs::{InstRegs, Positions};
+use regalloc2_fastalloc_state::masks::Masks;
 use regalloc2_names::{Operand, OperandConstraint, PReg, PRegSet, ProgPoint, RegAllocError};
 use std::alloc::Allocator;
 
@@ -61,15 +64,36 @@ impl ReservedRegs {
     }
 }
 
-/// Whether an operand is fixed to a register, or one of those before it was.
-fn is_fixed_so_far(any_fixed: bool, operand: Operand) -> bool
-    ensures some { result ≡ true → (any_fixed ≡ true) ⊎ ((r : Register) × (operand.constraint ≡ OperandConstraint.FixedReg r)) }
-    ensures none { result ≡ false → (any_fixed ≡ false) × ((r : Register) → operand.constraint ≡ OperandConstraint.FixedReg r → ⊥) }
+/// What one pass over an instruction's operands finds.
+#[derive(Clone, Copy)]
+pub struct Sorted {
+    /// Which are late, and which are uses, if there are at most 63.
+    pub masks: Masks,
+    /// Whether any is fixed to a register.
+    pub any_fixed: bool,
+}
+
+/// Makes that pass, without a branch for each operand, and counts those that require any register.
+#[inline(always)]
+fn sort(inst_regs: &mut InstRegs, operands: &[Operand]) -> Sorted
+    requires { inst_regs.old.awaited ≡ 0 ∷ 0 ∷ 0 ∷ [] }
+    ensures sorted { AreSorted operands.now result }
+    ensures available { SameAvailable inst_regs.old inst_regs.new }
+    ensures awaited { AwaitsAll operands.now inst_regs.old inst_regs.new }
 {
-    match operand.constraint() {
-        OperandConstraint::FixedReg(_) => true,
-        _ => any_fixed,
+    let mut masks = Masks::none();
+    // only the bits of fixed operands reach 2^42
+    let mut bits = 0u64;
+    let mut k = operands.len();
+    while k > 0 {
+        k -= 1;
+        let operand = operands[k];
+        inst_regs.add_any_reg_op(operand.class(), operand.is_any_reg());
+        masks = masks.before(operand);
+        bits |= operand.bits();
     }
+    let any_fixed = bits >= 1 << 42;
+    Sorted { masks, any_fixed }
 }
 
 /// The register that an operand is fixed to.
@@ -185,8 +209,7 @@ impl<'a, A: Allocator> State<'a, A> {
         }
     }
 
-    /// Reserves what the operand k claims before operands are allocated, and counts it if it
-    /// requires any register.
+    /// Reserves what the operand k claims before operands are allocated.
     fn reserve_reg_for_operand(
         &mut self,
         inst_regs: &mut InstRegs,
@@ -198,18 +221,13 @@ impl<'a, A: Allocator> State<'a, A> {
         ensures outcome { MatchResult result
             (λ x. ReservesRegForOperand operands.now k inst_regs.old inst_regs.new claims.old claims.new (tables_of self.old))
             (λ e. e ≡ RegAllocError.TooManyLiveRegs → RegIsNotReserved operands.now k claims.old (tables_of self.old)) }
-        ensures awaited { OnOk result (AwaitsOne operands.now k inst_regs.old inst_regs.new) }
+        ensures awaited { inst_regs.new.awaited ≡ inst_regs.old.awaited }
         ensures same { Between SameButOrder self.old self.new }
         ensures err { IfErr result (IsResourceErrorIn self.new.slots) }
         ensures unused { OnOk result (((r : Register) → (op_at operands.now k).constraint ≡ OperandConstraint.FixedReg r → ⊥) →
             self.new.registers.lrus ≡ self.old.registers.lrus) }
     {
         let operand = operands[k];
-        // one that requires any register claims none, and is fixed to none
-        if operand.is_any_reg() {
-            inst_regs.add_any_reg_op(operand.class());
-            return Ok(());
-        }
         if let Some(claim) = reserved_by(operands, k) {
             self.reserve_preg(inst_regs, claims, claim.0, claim.1)?;
         }
@@ -219,29 +237,46 @@ impl<'a, A: Allocator> State<'a, A> {
         Ok(())
     }
 
-    /// Reserves what the operands claim before they are placed, in operand order. Returns whether
-    /// any is fixed to a register.
+    /// Reserves what the operands claim before they are placed, in operand order.
+    fn reserve_each(
+        &mut self,
+        inst_regs: &mut InstRegs,
+        operands: &[Operand],
+    ) -> Result<(), RegAllocError>
+        ensures outcome { MatchResult result (λ x. ReservesClaims operands.now inst_regs.old inst_regs.new (tables_of self.old))
+            (λ e. e ≡ RegAllocError.TooManyLiveRegs → RegsAreNotReserved operands.now (tables_of self.old)) }
+        ensures awaited { inst_regs.new.awaited ≡ inst_regs.old.awaited }
+        ensures same { Between SameButOrder self.old self.new }
+        ensures err { IfErr result (IsResourceErrorIn self.new.slots) }
+        ensures unused { OnOk result (NoneUsed operands.now self.old.registers.lrus self.new.registers.lrus) }
+    {
+        let mut claims = ReservedRegs::none();
+        for k in 0..operands.len() {
+            self.reserve_reg_for_operand(inst_regs, &mut claims, operands, k)?;
+        }
+        Ok(())
+    }
+
+    /// Sorts the operands, counts those that require any register, and reserves what operands claim
+    /// before they are placed.
+    #[inline(always)]
     pub fn reserve(
         &mut self,
         inst_regs: &mut InstRegs,
         operands: &[Operand],
-    ) -> Result<bool, RegAllocError>
+    ) -> Result<Sorted, RegAllocError>
+        requires { inst_regs.old.awaited ≡ 0 ∷ 0 ∷ 0 ∷ [] }
         ensures outcome { ComesTo (ReserveRegs operands.now inst_regs.old) inst_regs.new result self.old self.new }
         ensures same { Between SameButOrder self.old self.new }
         ensures err { IfErr result (IsResourceErrorIn self.new.slots) }
         ensures unused { OnOk result (NoneUsed operands.now self.old.registers.lrus self.new.registers.lrus) }
-        ensures fixed { IfOk result (λ any_fixed. any_fixed ≡ false → (k : ℕ) → k < length operands.now → (r : Register) →
-            (op_at operands.now k).constraint ≡ OperandConstraint.FixedReg r → ⊥) }
-        ensures some { IfOk result (λ any_fixed. any_fixed ≡ true → (k : ℕ) × (r : Register) × (k < length operands.now)
-            × ((op_at operands.now k).constraint ≡ OperandConstraint.FixedReg r)) }
+        ensures sorted { IfOk result (AreSorted operands.now) }
     {
-        let mut claims = ReservedRegs::none();
-        let mut any_fixed = false;
-        for k in 0..operands.len() {
-            self.reserve_reg_for_operand(inst_regs, &mut claims, operands, k)?;
-            any_fixed = is_fixed_so_far(any_fixed, operands[k]);
+        let sorted = sort(inst_regs, operands);
+        if sorted.any_fixed {
+            self.reserve_each(inst_regs, operands)?;
         }
-        Ok(any_fixed)
+        Ok(sorted)
     }
 
     /// Removes the clobbers from the available registers while late operands are there.

@@ -22,7 +22,7 @@ evict_fixed-requires g c =
       (
         subst (λ (t : StateValue). AllAtOrAfter c.after-point.result t.edits) (sym same)
             (subst (λ (p : ℕ). AllAtOrAfter p c.args.self.now.edits) (sym at) c.requires.later),
-        c.in_ok-any_fixed.ensures.fixed,
+        c.in_ok-sorted.ensures.sorted.none,
       ),
     )
 
@@ -41,14 +41,14 @@ returns-clause-outcome g c =
       held = c.remove_clobbers_from_available_pregs.new.inst_regs;
       cleared = c.evict_fixed.new.inst_regs;
       middle = tables_of c.evict_fixed.new.self;
-      reserves = c.in_ok-any_fixed.ensures.outcome;
+      reserves = c.in_ok-sorted.ensures.outcome;
       holds = c.remove_clobbers_from_available_pregs.ensures.removed;
-      fixed = evicts_fixed_from c.in_ok-any_fixed.ensures.unused (subst (F (after c.args.cx.now.inst)) same
+      fixed = evicts_fixed_from c.in_ok-sorted.ensures.unused (subst (F (after c.args.cx.now.inst)) same
           (subst (λ (p : ℕ). F p (tables_of c.remove_clobbers_from_available_pregs.new.self)) at c.in_ok-evict_fixed.ensures.outcome));
       emptied = subst C at c.in_ok-evict_clobbers.ensures.outcome;
       awaited = λ class. ap (λ (xs : List ℕ). slice_index xs (class_code class))
           (c.evict_clobbers.ensures.awaited ∙ c.evict_fixed.ensures.awaited ∙ c.remove_clobbers_from_available_pregs.ensures.removed.awaited)
-          ∙ c.in_ok-any_fixed.ensures.outcome.awaited c.requires.fresh.awaited class;
+          ∙ c.in_ok-sorted.ensures.outcome.awaited c.requires.fresh.awaited class;
     }
 
 pub returns-clause-step : goal.returns-clause-step
@@ -64,10 +64,10 @@ returns-clause-step g c =
     }
 
 -- the machine stays, wherever the walk stops
-pub returns-in_err-any_fixed-clause-step : goal.returns-in_err-any_fixed-clause-step
-returns-in_err-any_fixed-clause-step g c =
+pub returns-in_err-sorted-clause-step : goal.returns-in_err-sorted-clause-step
+returns-in_err-sorted-clause-step g c =
     let e = err_from_is_err_and c.from_residual.result c.from_residual.ensures.1 in
-    fails_with c.from_residual.result c.args.self.now c.reserve.new.self e.1 e.2 (same_used _ _ _ c.reserve.ensures.same) c.in_err-any_fixed.ensures.err
+    fails_with c.from_residual.result c.args.self.now c.reserve.new.self e.1 e.2 (same_used _ _ _ c.reserve.ensures.same) c.in_err-sorted.ensures.err
 
 pub returns-in_err-evict_fixed-clause-step : goal.returns-in_err-evict_fixed-clause-step
 returns-in_err-evict_fixed-clause-step g c =
@@ -83,10 +83,10 @@ returns-in_err-evict_clobbers-clause-step g c =
     c.in_err-evict_clobbers.ensures.step
 
 -- what is lacking
-pub returns-in_err-any_fixed-clause-outcome : goal.returns-in_err-any_fixed-clause-outcome
-returns-in_err-any_fixed-clause-outcome g c =
+pub returns-in_err-sorted-clause-outcome : goal.returns-in_err-sorted-clause-outcome
+returns-in_err-sorted-clause-outcome g c =
     let e = err_from_is_err_and c.from_residual.result c.from_residual.ensures.1 in
-    rw e.1 (λ lacks. in_reserve (c.in_err-any_fixed.ensures.outcome (sym e.2 ∙ lacks)))
+    rw e.1 (λ lacks. in_reserve (c.in_err-sorted.ensures.outcome (sym e.2 ∙ lacks)))
 
 pub returns-in_err-evict_fixed-clause-outcome : goal.returns-in_err-evict_fixed-clause-outcome
 returns-in_err-evict_fixed-clause-outcome g c =
@@ -98,9 +98,9 @@ returns-in_err-evict_fixed-clause-outcome g c =
     c.remove_clobbers_from_available_pregs.ensures.same ∙ c.reserve.ensures.same in
     let X : ℕ → StateValue → Type 0 = λ p t. EvictFixed p ops c.remove_clobbers_from_available_pregs.new.inst_regs t no_register in
     let e = err_from_is_err_and c.from_residual-in_err-evict_fixed.result c.from_residual-in_err-evict_fixed.ensures.1 in
-    rw e.1 (λ lacks. in_fixed c.reserve.new.inst_regs c.remove_clobbers_from_available_pregs.new.inst_regs c.in_ok-any_fixed.ensures.outcome
+    rw e.1 (λ lacks. in_fixed c.reserve.new.inst_regs c.remove_clobbers_from_available_pregs.new.inst_regs c.in_ok-sorted.ensures.outcome
     c.remove_clobbers_from_available_pregs.ensures.removed
-    (fails_from c.in_ok-any_fixed.ensures.unused (subst (X (after i)) same
+    (fails_from c.in_ok-sorted.ensures.unused (subst (X (after i)) same
     (subst (λ (p : ℕ). X p (tables_of c.remove_clobbers_from_available_pregs.new.self)) at (c.in_err-evict_fixed.ensures.outcome (sym e.2 ∙ lacks))))))
 
 pub returns-in_err-evict_clobbers-clause-outcome : goal.returns-in_err-evict_clobbers-clause-outcome
@@ -113,11 +113,11 @@ returns-in_err-evict_clobbers-clause-outcome g c =
     c.remove_clobbers_from_available_pregs.ensures.same ∙ c.reserve.ensures.same in
     let F : ℕ → StateValue → Type 0 = λ p t. EvictsFixed p ops c.remove_clobbers_from_available_pregs.new.inst_regs t (length ops) c.evict_fixed.new.inst_regs
     (tables_of c.evict_fixed.new.self) in
-    let fixed : F (after i) old = evicts_fixed_from c.in_ok-any_fixed.ensures.unused (subst (F (after i)) same
+    let fixed : F (after i) old = evicts_fixed_from c.in_ok-sorted.ensures.unused (subst (F (after i)) same
     (subst (λ (p : ℕ). F p (tables_of c.remove_clobbers_from_available_pregs.new.self)) at c.in_ok-evict_fixed.ensures.outcome)) in
     let e = err_from_is_err_and c.from_residual-in_err-evict_clobbers.result c.from_residual-in_err-evict_clobbers.ensures.1 in
     rw e.1 (λ lacks. in_clobbers c.reserve.new.inst_regs c.remove_clobbers_from_available_pregs.new.inst_regs c.evict_fixed.new.inst_regs
-    (tables_of c.evict_fixed.new.self) c.in_ok-any_fixed.ensures.outcome c.remove_clobbers_from_available_pregs.ensures.removed fixed
+    (tables_of c.evict_fixed.new.self) c.in_ok-sorted.ensures.outcome c.remove_clobbers_from_available_pregs.ensures.removed fixed
     (subst (λ (p : ℕ). EvictEach p (registers_of c.args.cx.now.clobbers) c.evict_fixed.new.inst_regs
     (tables_of c.evict_fixed.new.self) no_register) at
     (c.in_err-evict_clobbers.ensures.outcome (sym e.2 ∙ lacks))))

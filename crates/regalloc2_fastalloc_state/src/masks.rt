@@ -1,0 +1,131 @@
+//! Which of an instruction's operands are late, early, or uses, as bits of a word each.
+//!
+//! The walk visits each of these groups in turn. Tests of each operand in each loop would be branches
+//! that a processor predicts badly. One pass that sets bits has none.
+
+ghost use Rattle.std.specs.Prelude.{◌≡◌, ◌≢◌, ◌<◌, ◌≤◌, ◌^◌, ◌∷◌, [], List, length};
+ghost use Rattle.std.specs.Iterator.{YieldsFirst, item_count};
+ghost use Rattle.regalloc2_names.specs.Operand.{OperandValue};
+ghost use Rattle.regalloc2_function.specs.FunctionValue.{op_at};
+ghost use Rattle.regalloc2_parts.specs.Picked.{is_early_operand, is_late_operand, is_use_operand, picked};
+ghost use Rattle.regalloc2_fastalloc_state.specs.Masks.{AreMasks, selected};
+
+use regalloc2_names::Operand;
+use std::marker::Model;
+
+/// Which of an instruction's operands, 63 at most, are late, and which are uses: bit k for the operand k.
+#[derive(Clone, Copy)]
+pub struct Masks {
+    late: u64,
+    uses: u64,
+}
+
+impl Masks {
+    /// Those of no operand.
+    #[inline(always)]
+    pub fn none() -> Masks
+        ensures { AreMasks [] result }
+    {
+        Masks { late: 0, uses: 0 }
+    }
+
+    /// Those of the operands with one more before them.
+    #[inline(always)]
+    pub fn before(self, operand: Operand) -> Masks
+        ensures { (operands : List OperandValue) → length operands < 63 → AreMasks operands self → AreMasks (operand ∷ operands) result }
+    {
+        Masks {
+            late: (self.late << 1) | operand.is_late() as u64,
+            uses: (self.uses << 1) | !operand.is_def() as u64,
+        }
+    }
+
+    /// The late operands, with their indexes.
+    #[inline(always)]
+    pub fn late<'o>(&self, operands: &'o [Operand]) -> Selected<'o>
+        requires masks { AreMasks operands.now self.now }
+        requires few { length operands.now ≤ 63 }
+        ensures { result ≡ picked is_late_operand operands.now }
+    {
+        Selected {
+            operands,
+            left: self.late,
+        }
+    }
+
+    /// The early operands, with their indexes.
+    #[inline(always)]
+    pub fn early<'o>(&self, operands: &'o [Operand]) -> Selected<'o>
+        requires masks { AreMasks operands.now self.now }
+        requires few { length operands.now ≤ 63 }
+        ensures { result ≡ picked is_early_operand operands.now }
+    {
+        Selected {
+            operands,
+            left: !self.late & ((1 << operands.len()) - 1),
+        }
+    }
+
+    /// The uses, with their indexes.
+    #[inline(always)]
+    pub fn uses<'o>(&self, operands: &'o [Operand]) -> Selected<'o>
+        requires masks { AreMasks operands.now self.now }
+        requires few { length operands.now ≤ 63 }
+        ensures { result ≡ picked is_use_operand operands.now }
+    {
+        Selected {
+            operands,
+            left: self.uses,
+        }
+    }
+}
+
+/// Operands with their indexes, in order; specified as the list of those that are left.
+#[derive(Clone, Drop)]
+pub struct Selected<'o> {
+    operands: &'o [Operand],
+    left: u64,
+}
+
+impl<'o> Model for Selected<'o> {
+    ghost use Rattle.std.specs.Prelude.{List, ℕ, ◌<◌, ◌^◌, length};
+    ghost use Rattle.regalloc2_names.specs.Operand.{OperandValue};
+    ghost use Rattle.regalloc2_fastalloc_state.specs.Masks.{selected};
+
+    ghost Value = { List (ℕ × OperandValue) };
+
+    ghost view = { λ it. selected it.left it.operands.now };
+
+    ghost invariant = { λ it. it.left < 2 ^ length it.operands.now };
+}
+
+/// Clears the lowest bit set in a word, and returns its index.
+#[inline(always)]
+fn take_lowest(word: &mut u64) -> usize
+    requires { word.old ≢ 0 }
+    ensures inside { (operands : List OperandValue) → word.old < 2 ^ length operands → result < length operands }
+    ensures taken { (operands : List OperandValue) → word.old < 2 ^ length operands →
+        selected word.old operands ≡ (result, op_at operands result) ∷ selected word.new operands }
+    ensures below { word.new < word.old }
+{
+    let bit = word.trailing_zeros();
+    *word &= *word - 1;
+    bit as usize
+}
+
+impl<'o> Iterator for Selected<'o> {
+    type Item = (usize, Operand);
+
+    ghost next_gives = { YieldsFirst (λ left. left) };
+
+    ghost remaining = { item_count (λ left. left) };
+
+    #[inline(always)]
+    fn next(&mut self) -> Option<(usize, Operand)> {
+        if self.left == 0 {
+            return None;
+        }
+        let index = take_lowest(&mut self.left);
+        Some((index, self.operands[index]))
+    }
+}

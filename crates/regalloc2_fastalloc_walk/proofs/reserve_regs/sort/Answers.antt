@@ -1,0 +1,30 @@
+use Rattle.std.proofs.Common.{ℕ, ◌≡◌, ◌+◌, ◌-◌, ◌<◌, List, length, subst, arith}
+use Rattle.std.specs.Prelude.{if◌then◌else◌, slice_set}
+use Rattle.regalloc2_names.specs.declared.RegClass.{RegClass}
+use Rattle.regalloc2_names.specs.Register.{class_code}
+use Rattle.regalloc2_names.specs.Operand.{OperandValue}
+use Rattle.regalloc2_fastalloc_state.specs.InstRegs.{awaited_of}
+use Rattle.regalloc2_fastalloc_state.proofs.ValidateLemmas.OperandReads.{read_operand}
+use Rattle.regalloc2_fastalloc_walk.proofs.OperandsSorted.{Sorting, sorted_all, sorting_more, sorting_none}
+use Rattle.regalloc2_fastalloc_walk.proofs.reserve_regs.sort.Goals as goal
+
+pub loop-k-init : goal.loop-k-init
+loop-k-init c = sorting_none c.args.operands.now c.args.inst_regs.now c.none-masks.result c.requires c.none-masks.ensures
+
+pub loop-k-preserved : goal.loop-k-preserved
+loop-k-preserved c =
+    let ops : List OperandValue = c.args.operands.now in
+    let k : ℕ = c.loop-k.k - 1 in
+    let back : c.loop-k.k ≡ k + 1 = omega arith in
+    let inside : k < length ops = (let i = c.loop-k.invariant.inside in omega (arith, i)) in
+    sorting_more ops k c.args.inst_regs.now c.loop-k.inst_regs c.add_any_reg_op.new.self c.loop-k.masks c.before-masks.result c.loop-k.bits c.bits-bits.result
+    c.index-operands-k.result c.is_any_reg.result
+    (subst (λ (n : ℕ). Sorting ops n c.args.inst_regs.now c.loop-k.inst_regs c.loop-k.masks c.loop-k.bits) back c.loop-k.invariant)
+    (read_operand ops k c.index-operands-k.result inside c.index-operands-k.is) c.add_any_reg_op.ensures.sets c.is_any_reg.ensures
+    (subst (λ (x : RegClass). c.add_any_reg_op.new.self.awaited ≡ slice_set c.loop-k.inst_regs.awaited (class_code x)
+    (awaited_of c.loop-k.inst_regs x + (if c.is_any_reg.result then 1 else 0))) c.class.ensures c.add_any_reg_op.ensures.awaited)
+    c.before-masks.ensures c.bits-bits.ensures.bits c.bits-bits.ensures.operand
+
+pub returns-clause-sorted : goal.returns-clause-sorted
+returns-clause-sorted c =
+    sorted_all c.args.operands.now c.loop-k.k c.args.inst_regs.now c.loop-k.inst_regs c.loop-k.masks c.loop-k.bits (omega arith) c.loop-k.invariant
