@@ -1,5 +1,5 @@
 -- A listing that is made instruction by instruction.
-use Rattle.std.proofs.Common.{ℕ, zero, suc, ◌≡◌, ◌+◌, ◌-◌, ◌<◌, ◌≤◌, inl, inr, List, [], ◌∷◌, ◌++◌, length, get_or, map, refl, sym, ap, ◌∙◌, subst, arith}
+use Rattle.std.proofs.Common.{ℕ, zero, suc, ◌≡◌, ◌+◌, ◌-◌, ◌<◌, ◌≤◌, inl, inr, List, [], ◌∷◌, length, get_or, map, refl, sym, ap, ◌∙◌, subst, arith}
 use Rattle.std.proofs.Common.{Bool, true, false, cond, take, drop}
 use Rattle.std.specs.Prelude.{filter}
 use Rattle.std.specs.List.{slice_range}
@@ -9,14 +9,16 @@ use Rattle.std.proofs.lemmas.Bool.Decides.{nat_tests}
 use Rattle.std.proofs.lemmas.List.{length-map, length_push, get_or_push, get_or_append_left}
 use Rattle.regalloc2_names.specs.Point.{before}
 use Rattle.regalloc2_function.specs.FunctionValue.{FunctionValue, block_at}
-use Rattle.regalloc2_function.specs.OutputValue.{OutputValue, MoveValue, allocs_of, moves_before, is_listed_at}
+use Rattle.regalloc2_function.specs.OutputValue.{OutputValue, MoveValue, IsInOrder, moves_before, is_listed_at}
 use Rattle.regalloc2_function.specs.AllocatedRun.{moves_at}
-use Rattle.regalloc2_function.specs.Views.{edit_of}
+use Rattle.regalloc2_function.specs.Views.{edit_of, output_of}
 use Rattle.regalloc2_function.specs.WellFormed.{IsFramed}
 use Rattle.regalloc2_function.specs.declared.listing.Edit.{Edit}
+use Rattle.regalloc2_function.specs.declared.listing.Output.{Output}
 use Rattle.regalloc2_checker.specs.declared.listing.Listed.{Listed}
+use Rattle.regalloc2_checker.specs.declared.listing.Listing.{Listing}
 use Rattle.regalloc2_checker.specs.ListingCopied.{AreBeforePoint, IsSplit, IsAdded, IsListedBefore}
-use Rattle.regalloc2_checker.specs.Listing.{IsListing, listed_move}
+use Rattle.regalloc2_checker.specs.Listing.{AreMovesListed, IsListing, IsPart, listed_move, edits_in}
 
 -- edits whose points never fall are so as they are stored
 at_map : (es : List (ℕ × Edit)) (j : ℕ) (d : ℕ × Edit) → (get_or (map edit_of es) j (edit_of d)).0 ≡ (get_or es j d).0
@@ -173,62 +175,66 @@ part_is o es first i from end eo l m a b =
     ∙ ap (λ (xs : List (ℕ × MoveValue)). map (λ e. e.1) (filter (λ e. is_listed_at first i e.0) xs)) (sym eo)
 
 -- The listing of a block: what is listed of it and of the blocks before
-pub record IsCopying (f : FunctionValue) (o : OutputValue) (b : ℕ) (ls : List Listed) : Type 0 where
+pub record IsCopying (f : FunctionValue) (o : OutputValue) (es : List (ℕ × Edit)) (b : ℕ) (ls : List Listed) : Type 0 where
   pub within : (c : ℕ) → c < b → (block_at f c).range.end ≤ length ls
   pub moves : (c i : ℕ) (d : Listed) → c < b → (block_at f c).range.first ≤ i → i < (block_at f c).range.end →
-      map listed_move (get_or ls i d).moves.now ≡ moves_at f o (record { block = c; inst = i })
+      map listed_move (edits_in es (get_or ls i d)) ≡ moves_at f o (record { block = c; inst = i })
   pub here : (i : ℕ) (d : Listed) → (block_at f b).range.first ≤ i → i < length ls →
-      map listed_move (get_or ls i d).moves.now ≡ moves_at f o (record { block = b; inst = i })
-  pub places : (i : ℕ) (d : Listed) → i < length ls → (get_or ls i d).places.now ≡ allocs_of o i
+      map listed_move (edits_in es (get_or ls i d)) ≡ moves_at f o (record { block = b; inst = i })
+  pub parts : (i : ℕ) (d : Listed) → i < length ls → IsPart es (get_or ls i d)
 
 -- where all earlier blocks are listed, a block's first instruction comes next
-pub begins_at : (f : FunctionValue) (o : OutputValue) → IsFramed f → (b : ℕ) → b < length f.blocks → (ls : List Listed) → IsListedBefore f o b ls →
-    length ls ≡ (block_at f b).range.first
-begins_at f o h zero less ls l = (let e = (h.follow 0 less).1 refl in let n = l.none refl in omega arith)
-begins_at f o h (suc b) less ls l =
+pub begins_at : (f : FunctionValue) (o : OutputValue) (es : List (ℕ × Edit)) → IsFramed f → (b : ℕ) → b < length f.blocks → (ls : List Listed) →
+    IsListedBefore f o es b ls → length ls ≡ (block_at f b).range.first
+begins_at f o es h zero less ls l = (let e = (h.follow 0 less).1 refl in let n = l.none refl in omega arith)
+begins_at f o es h (suc b) less ls l =
     let e = (h.follow (suc b) less).2 (omega arith) in
     let one : suc b - 1 ≡ b = omega arith in
     let s = l.size b (omega arith) in
     s ∙ sym (rw one at e)
 
 -- and none of the block is listed
-pub copying_starts : (f : FunctionValue) (o : OutputValue) → IsFramed f → (b : ℕ) → b < length f.blocks → (ls : List Listed) → IsListedBefore f o b ls →
-    IsCopying f o b ls
-copying_starts f o h b less ls l =
-    let at = begins_at f o h b less ls l in
-    record { within = l.within; moves = l.moves; here = λ i d a z. absurd (omega arith); places = l.places }
+pub copying_starts : (f : FunctionValue) (o : OutputValue) (es : List (ℕ × Edit)) → IsFramed f → (b : ℕ) → b < length f.blocks → (ls : List Listed) →
+    IsListedBefore f o es b ls → IsCopying f o es b ls
+copying_starts f o es h b less ls l =
+    let at = begins_at f o es h b less ls l in
+    record { within = l.within; moves = l.moves; here = λ i d a z. absurd (omega arith); parts = l.parts }
 
--- one instruction more is listed, with the places of its operands and the moves before it
-pub copying_inst : (f : FunctionValue) (o : OutputValue) (b j : ℕ) (es : List (ℕ × Edit)) (ls to : List Listed) →
-    IsCopying f o b ls → j ≡ length ls → IsAdded ls to es (allocs_of o j) → map listed_move es ≡ moves_before o (block_at f b).range.first j →
-    IsCopying f o b to
-copying_inst f o b j es ls to h e a m =
+-- one instruction more is listed, with the moves before it
+pub copying_inst : (f : FunctionValue) (o : OutputValue) (es : List (ℕ × Edit)) (b j from end : ℕ) (ls to : List Listed) →
+    IsCopying f o es b ls → j ≡ length ls → IsAdded ls to from end → from ≤ end → end ≤ length es →
+    map listed_move (slice_range es from end) ≡ moves_before o (block_at f b).range.first j → IsCopying f o es b to
+copying_inst f o es b j from end ls to h e a rises inside m =
     let first : ℕ = (block_at f b).range.first in
     let grown : length to ≡ length ls + 1 = ap length a.whole ∙ length_push ls a.last in
     let kept : (i : ℕ) (d : Listed) → i < length ls → get_or to i d ≡ get_or ls i d = λ i d z. ap (λ (xs : List Listed). get_or xs i d) a.whole
     ∙ get_or_append_left ls (a.last ∷ []) d i z in
     let newest : (i : ℕ) (d : Listed) → i ≡ length ls → get_or to i d ≡ a.last = λ i d z. ap (λ (xs : List Listed). get_or xs i d) a.whole
     ∙ get_or_push ls a.last d i (sym z) in
+    let last : edits_in es a.last ≡ slice_range es from end = ap (λ (n : ℕ). slice_range es n a.last.end) a.from_is
+    ∙ ap (λ (n : ℕ). slice_range es from n) a.end_is in
+    let part : IsPart es a.last =
+    (let x = a.from_is in let y = a.end_is in omega arith, let y = a.end_is in omega arith) in
     record {
       within = λ c z. (let w = h.within c z in omega arith);
-      moves = λ c i d z low high. ap (λ (x : Listed). map listed_move x.moves.now) (kept i d (let w = h.within c z in omega arith)) ∙ h.moves c i d z low high;
+      moves = λ c i d z low high. ap (λ (x : Listed). map listed_move (edits_in es x)) (kept i d (let w = h.within c z in omega arith))
+          ∙ h.moves c i d z low high;
       here = λ i d low high. elim (cases_lt i (length ls)) [
-        | inl l ↦ ap (λ (x : Listed). map listed_move x.moves.now) (kept i d l) ∙ h.here i d low l
+        | inl l ↦ ap (λ (x : Listed). map listed_move (edits_in es x)) (kept i d l) ∙ h.here i d low l
         | inr l ↦ (let q : i ≡ length ls = omega arith in
-            ap (λ (x : Listed). map listed_move x.moves.now) (newest i d q) ∙ ap (λ (xs : List (ℕ × Edit)). map listed_move xs) a.moves_are ∙ m
+            ap (λ (x : Listed). map listed_move (edits_in es x)) (newest i d q) ∙ ap (λ (xs : List (ℕ × Edit)). map listed_move xs) last ∙ m
             ∙ ap (λ (k : ℕ). moves_before o first k) (e ∙ sym q))
       ];
-      places = λ i d high. elim (cases_lt i (length ls)) [
-        | inl l ↦ ap (λ (x : Listed). x.places.now) (kept i d l) ∙ h.places i d l
-        | inr l ↦ (let q : i ≡ length ls = omega arith in
-            ap (λ (x : Listed). x.places.now) (newest i d q) ∙ a.places_are ∙ ap (allocs_of o) (e ∙ sym q))
+      parts = λ i d high. elim (cases_lt i (length ls)) [
+        | inl l ↦ subst (IsPart es) (sym (kept i d l)) (h.parts i d l)
+        | inr l ↦ (let q : i ≡ length ls = omega arith in subst (IsPart es) (sym (newest i d q)) part)
       ];
     }
 
 -- where all of a block's instructions are listed, the blocks up to it are
-pub copying_ends : (f : FunctionValue) (o : OutputValue) (b : ℕ) (ls : List Listed) → IsCopying f o b ls → length ls ≡ (block_at f b).range.end →
-    (block_at f b).range.first < (block_at f b).range.end → IsListedBefore f o (b + 1) ls
-copying_ends f o b ls h whole some =
+pub copying_ends : (f : FunctionValue) (o : OutputValue) (es : List (ℕ × Edit)) (b : ℕ) (ls : List Listed) → IsCopying f o es b ls →
+    length ls ≡ (block_at f b).range.end → (block_at f b).range.first < (block_at f b).range.end → IsListedBefore f o es (b + 1) ls
+copying_ends f o es b ls h whole some =
     let end : ℕ = (block_at f b).range.end in
     record {
       none = λ z. absurd (omega arith);
@@ -241,27 +247,40 @@ copying_ends f o b ls h whole some =
         | inl l ↦ h.moves c i d l low up
         | inr l ↦ (let q : c ≡ b = omega arith in
             subst (λ (k : ℕ). (block_at f k).range.first ≤ i → i < (block_at f k).range.end →
-            map listed_move (get_or ls i d).moves.now ≡ moves_at f o (record { block = k; inst = i })) (sym q)
+            map listed_move (edits_in es (get_or ls i d)) ≡ moves_at f o (record { block = k; inst = i })) (sym q)
             (λ lo hi. h.here i d lo (omega arith)) low up)
       ];
-      places = h.places;
+      parts = h.parts;
     }
 
 -- an empty list is the copy of no blocks
-pub listed_none : (f : FunctionValue) (o : OutputValue) (ls : List Listed) → ls ≡ [] → IsListedBefore f o 0 ls
-listed_none f o ls e = rw e (record {
+pub listed_none : (f : FunctionValue) (o : OutputValue) (es : List (ℕ × Edit)) (ls : List Listed) → ls ≡ [] → IsListedBefore f o es 0 ls
+listed_none f o es ls e = rw e (record {
   none = λ z. refl;
   size = λ c z. absurd (omega arith);
   within = λ c z. absurd (omega arith);
   moves = λ c i d z low high. absurd (omega arith);
-  places = λ i d z. absurd (omega arith);
+  parts = λ i d z. absurd (omega arith);
 })
 
--- in a structurally valid function (`IsFramed`), a copy of all blocks has each instruction's moves and places as the output has them
-pub listed_all : (f : FunctionValue) (o : OutputValue) (ls : List Listed) → IsFramed f → IsListedBefore f o (length f.blocks) ls → IsListing f o ls
-listed_all f o ls framed h =
+-- in a structurally valid function (`IsFramed`), a copy of all blocks has each instruction's moves as the output has them
+pub listed_all : (f : FunctionValue) (o : OutputValue) (es : List (ℕ × Edit)) (ls : List Listed) → IsFramed f →
+    IsListedBefore f o es (length f.blocks) ls → AreMovesListed f o es ls
+listed_all f o es ls framed h =
     let some : f.entry < length f.blocks = framed.successors.0 in
     let last : ℕ = length f.blocks - 1 in
     let end : (block_at f last).range.end ≡ length f.insts = (framed.follow last (omega arith)).3 (omega arith) in
     let whole : length ls ≡ length f.insts = h.size last (omega arith) ∙ end in
-    record { size = whole; moves = λ b i d less low high. h.moves b i d less low high; places = λ i d less. h.places i d (omega arith) }
+    record { size = whole; parts = h.parts; moves = λ b i d less low high. h.moves b i d less low high }
+
+-- what was listed of an output, with the output's parts
+pub listing_of : {A : Type 0} (f : FunctionValue) (o : OutputValue) (out : Output A) (l : Listing) (ls : List Listed) → output_of out ≡ o →
+    IsInOrder f (output_of out) → AreMovesListed f (output_of out) out.edits.items ls → l.edits.now ≡ out.edits.items → l.listed.now ≡ ls →
+    l.allocs.now ≡ out.allocs.items → l.offsets.now ≡ out.inst_alloc_offsets.items → IsListing f o l
+listing_of f o out l ls e ordered listed ee le ae oe = record {
+  moves = rw (ee, le, ← e) listed;
+  allocs = ae ∙ ap (λ (x : OutputValue). x.allocs) e;
+  offsets = oe ∙ ap (λ (x : OutputValue). x.offsets) e;
+  one_offset_each = ap length oe ∙ ordered.one_offset_each;
+  in_order = rw (ae, oe) (record { begins = ordered.offsets.begins; rises = ordered.offsets.rises; within = ordered.offsets.within });
+}

@@ -12,9 +12,10 @@ use Rattle.regalloc2_function.specs.Path.{Location}
 use Rattle.regalloc2_function.specs.SourceRun.{arguments_at}
 use Rattle.regalloc2_function.specs.AllocatedRun.{moves_at}
 use Rattle.regalloc2_function.specs.declared.listing.Edit.{Edit}
-use Rattle.regalloc2_checker.specs.Listing.{listed_move}
+use Rattle.regalloc2_checker.specs.Listing.{listed_move, edits_in, listed_output}
 use Rattle.regalloc2_checker_tables.specs.Showing.{Showing}
 use Rattle.regalloc2_checker.specs.declared.listing.Listed.{Listed}
+use Rattle.regalloc2_checker.specs.declared.listing.Listing.{Listing}
 use Rattle.regalloc2_checker.specs.Facts.{Facts, facts_after, facts_after_moves}
 use Rattle.regalloc2_checker.specs.Facts.{facts_after_early_defs, facts_after_defs, facts_after_clobbers, facts_over_edge}
 use Rattle.regalloc2_checker.specs.Fixpoint.{facts_within}
@@ -38,20 +39,17 @@ unfolding facts_after
 after_run f o l F E L ms ps os clobbers r ec ee el = rw (el, ee, r.moves, r.places, r.operands, ec) refl
 
 -- what is listed at an instruction
-pub listed_moves : (f : FunctionValue) (o : OutputValue) (ls : List Listed) (b i n : ℕ) (x : Listed) (ms : List (ℕ × Edit)) → IsListing f o ls →
-    ms ≡ x.moves.now → n ≡ i → x ≡ get_or ls n x →
+pub listed_moves : (f : FunctionValue) (o : OutputValue) (l : Listing) (b i : ℕ) (ms : List (ℕ × Edit)) → IsListing f o l →
+    ((d : Listed) → ms ≡ edits_in l.edits.now (get_or l.listed.now i d)) →
     b < length f.blocks → (block_at f b).range.first ≤ i → i < (block_at f b).range.end → map listed_move ms ≡ moves_at f o (record { block = b; inst = i })
-listed_moves f o ls b i n x ms h e en is lb low high =
-    let there : x ≡ get_or ls i x = rw en at is in
-    ap (λ (es : List (ℕ × Edit)). map listed_move es) e ∙ ap (λ (y : Listed). map listed_move y.moves.now) there ∙ h.moves b i x lb low high
+listed_moves f o l b i ms h e lb low high =
+    let d : Listed = record { from = 0; end = 0 } in
+    ap (λ (es : List (ℕ × Edit)). map listed_move es) (e d) ∙ h.moves.moves b i d lb low high
 
 -- the places listed at an instruction are those that the output has for its operands
-pub listed_places : (f : FunctionValue) (o : OutputValue) (ls : List Listed) (i n : ℕ) (x : Listed) (ps : List Place) → IsListing f o ls →
-    ps ≡ x.places.now → n ≡ i → x ≡ get_or ls n x →
-    i < length f.insts → ps ≡ allocs_of o i
-listed_places f o ls i n x ps h e en is li =
-    let there : x ≡ get_or ls i x = rw en at is in
-    e ∙ ap (λ (y : Listed). y.places.now) there ∙ h.places i x li
+pub listed_places : (f : FunctionValue) (o : OutputValue) (l : Listing) (i : ℕ) (ps : List Place) → IsListing f o l →
+    ps ≡ allocs_of (listed_output l) i → ps ≡ allocs_of o i
+listed_places f o l i ps h e = rw (← h.allocs, ← h.offsets) e
 
 -- tables that list what another lists name the same
 pub named_same : (f : FunctionValue) (o : OutputValue) (t u : Showing) → u.places ≡ t.places → u.vregs ≡ t.vregs → AreNamed f o t → AreNamed f o u

@@ -11,7 +11,7 @@ ghost use Rattle.regalloc2_checker.specs.Propagation.{IsBlockEnd, IsPropagatedOv
 ghost use Rattle.regalloc2_checker.specs.TableFacts.{facts_now, facts_table, AreNamed, AreNamedVRegs};
 ghost use Rattle.regalloc2_checker.specs.Tables.{view_at, facts_at, weight, ListTheSame, IsMeet, IsSolved, views};
 
-use crate::listing::Listed;
+use crate::listing::Listing;
 use crate::order::ranks;
 use crate::queue::Queue;
 use crate::transfer_block::{transfer_block, transfer_edge};
@@ -127,7 +127,7 @@ fn propagate_edges<F: Function, A: Allocator + Copy>(
 fn propagate_block<F: Function, A: Allocator + Copy>(
     alloc: A,
     f: &F,
-    listing: &[Listed<'_>],
+    listing: &Listing<'_>,
     state: &mut Analysis<A>,
     block: Block,
 ) -> Result<(), AllocError>
@@ -215,7 +215,7 @@ fn start<F: Function, A: Allocator + Copy>(
 pub fn analyze<F: Function, A: Allocator + Copy>(
     alloc: A,
     f: &F,
-    listing: &[Listed<'_>],
+    listing: &Listing<'_>,
     values: PassingTables<A>,
 ) -> Result<Analysis<A>, AllocError>
     ghost o: { OutputValue }

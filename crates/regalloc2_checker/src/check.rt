@@ -20,7 +20,7 @@ ghost use Rattle.regalloc2_checker.specs.declared.errors.CheckerError.{CheckerEr
 
 use crate::constraints::{check_constraint, is_stack};
 use crate::errors::CheckerError;
-use crate::listing::Listed;
+use crate::listing::Listing;
 use crate::transfer::{go_to_early, go_to_late, place_at};
 use crate::vregs_in::{holds, vregs_in};
 use regalloc2_checker_tables::PassingTables;
@@ -36,7 +36,7 @@ pub struct Judging<'a, 'o, F: Function, A: Allocator> {
     pub alloc: A,
     pub f: &'a F,
     pub slots: PRegSet,
-    pub listing: &'a [Listed<'o>],
+    pub listing: &'a Listing<'o>,
 }
 
 /// An instruction's operands and their places.
@@ -217,9 +217,8 @@ pub fn check_inst<F: Function, A: Allocator + Copy>(
     let f = by.f;
     let slots = &by.slots;
     let listing = by.listing;
-    let listed = &listing[inst.index()];
-    let moves = listed.moves;
-    let places = listed.places;
+    let moves = listing.moves(inst);
+    let places = listing.places(inst);
     let operands = f.inst_operands(inst);
     let at = Placed {
         inst,

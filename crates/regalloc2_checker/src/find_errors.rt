@@ -19,7 +19,7 @@ use crate::check::{Judging, check_inst};
 use crate::constraints::stack_slots;
 use crate::errors::CheckerError;
 use crate::handle::handle_listing;
-use crate::listing::Listed;
+use crate::listing::Listing;
 use crate::names::{named_places, named_vregs};
 use regalloc2_checker_tables::PassingTables;
 use regalloc2_function::{Function, MachineEnv, Output, finds_earlier_writes};
@@ -59,7 +59,7 @@ fn check_all<F: Function, A: Allocator + Copy>(
     alloc: A,
     f: &F,
     slots: PRegSet,
-    listing: &[Listed<'_>],
+    listing: &Listing<'_>,
     reached: &[bool],
     values: &mut PassingTables<A>,
 ) -> Result<Vec<CheckerError<A>, A>, AllocError>
@@ -102,7 +102,13 @@ pub fn find_errors<F: Function, A: Allocator + Copy, B: Allocator, C: Allocator>
     requires in_order { IsInOrder (F.function f.now) (output_of out.now) }
     ensures { IfOk result (λ r. IsReport (F.function f.now) (machine_of env.now) o r.items) }
 {
-    let listing = handle_listing(alloc, f, out)?;
+    let listed = handle_listing(alloc, f, out)?;
+    let listing = Listing {
+        edits: &out.edits,
+        listed: &listed,
+        allocs: &out.allocs,
+        offsets: &out.inst_alloc_offsets,
+    };
     let places = named_places(alloc, f, out)?;
     let vregs = named_vregs(alloc, f)?;
     let tables = PassingTables::new(alloc, f.num_blocks() + 1, places, vregs)?;

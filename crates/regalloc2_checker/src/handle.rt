@@ -3,11 +3,11 @@
 ghost use Rattle.std.specs.Prelude.{◌≡◌, ◌<◌, ◌≤◌, ◌+◌, OnOk, IfOk, length};
 ghost use Rattle.std.specs.List.Sorted.{IsNonDecreasingBy};
 ghost use Rattle.regalloc2_names.specs.Point.{before};
-ghost use Rattle.regalloc2_function.specs.OutputValue.{OffsetsInOrder, IsInOrder, allocs_of};
+ghost use Rattle.regalloc2_function.specs.OutputValue.{IsInOrder};
 ghost use Rattle.regalloc2_function.specs.Views.{output_of};
 ghost use Rattle.regalloc2_function.specs.WellFormed.{IsFramed};
 ghost use Rattle.regalloc2_checker.specs.ListingCopied.{AreBeforePoint, IsSplit, IsAdded, IsListedBefore};
-ghost use Rattle.regalloc2_checker.specs.Listing.{IsListing};
+ghost use Rattle.regalloc2_checker.specs.Listing.{AreMovesListed};
 
 use crate::listing::Listed;
 use regalloc2_function::{Edit, Function, Output};
@@ -31,40 +31,36 @@ fn first_from(edits: &[(ProgPoint, Edit)], from: usize, point: u64) -> usize
     edits.len()
 }
 
-/// Lists an instruction with the moves before it, and the places of its operands.
-fn handle_inst<'a, A: Allocator, B: Allocator>(
-    out: &'a Output<B>,
-    inst: Inst,
-    moves: &'a [(ProgPoint, Edit)],
-    listing: &mut Vec<Listed<'a>, A>,
+/// Lists an instruction: where the moves before it begin and end.
+fn handle_inst<A: Allocator>(
+    from: usize,
+    end: usize,
+    listing: &mut Vec<Listed, A>,
 ) -> Result<(), AllocError>
-    requires in_order { OffsetsInOrder (output_of out.now) }
-    requires inst { inst < length (output_of out.now).offsets }
-    ensures { OnOk result (IsAdded listing.old.items listing.new.items moves.now (allocs_of (output_of out.now) inst)) }
+    ensures { OnOk result (IsAdded listing.old.items listing.new.items from end) }
 {
-    let places = out.inst_allocs(inst);
-    listing.push(Listed { moves, places })?;
+    listing.push(Listed { from, end })?;
     Ok(())
 }
 
 /// Lists a block's instructions, after those of the blocks before. Returns how many edits are
 /// passed then.
-fn handle_block<'a, F: Function, A: Allocator, B: Allocator>(
+fn handle_block<F: Function, A: Allocator, B: Allocator>(
     f: &F,
-    out: &'a Output<B>,
+    out: &Output<B>,
     block: Block,
     passed: usize,
-    listing: &mut Vec<Listed<'a>, A>,
+    listing: &mut Vec<Listed, A>,
 ) -> Result<usize, AllocError>
     requires framed { IsFramed (F.function f.now) }
     requires in_order { IsInOrder (F.function f.now) (output_of out.now) }
     requires block { block < length (F.function f.now).blocks }
     requires within { passed ≤ length out.now.edits.items }
     requires passed { AreBeforePoint out.now.edits.items passed (before (length listing.old.items)) }
-    requires before { IsListedBefore (F.function f.now) (output_of out.now) block listing.old.items }
+    requires before { IsListedBefore (F.function f.now) (output_of out.now) out.now.edits.items block listing.old.items }
     ensures within { IfOk result (λ r. r ≤ length out.now.edits.items) }
     ensures passed { IfOk result (λ r. AreBeforePoint out.now.edits.items r (before (length listing.new.items))) }
-    ensures listed { OnOk result (IsListedBefore (F.function f.now) (output_of out.now) (block + 1) listing.new.items) }
+    ensures listed { OnOk result (IsListedBefore (F.function f.now) (output_of out.now) out.now.edits.items (block + 1) listing.new.items) }
 {
     let edits = out.edits.as_slice();
     let range = f.block_insns(block);
@@ -73,21 +69,21 @@ fn handle_block<'a, F: Function, A: Allocator, B: Allocator>(
     for i in first.index()..range.end().index() {
         let inst = Inst::new(i);
         let end = first_from(edits, from, 2 * u64::from(inst.0) + 1);
-        handle_inst(out, inst, &edits[from..end], listing)?;
+        handle_inst(from, end, listing)?;
         from = end;
     }
     Ok(from)
 }
 
 /// Lists the instructions of each block.
-pub fn handle_listing<'a, F: Function, A: Allocator + Copy, B: Allocator>(
+pub fn handle_listing<F: Function, A: Allocator + Copy, B: Allocator>(
     alloc: A,
     f: &F,
-    out: &'a Output<B>,
-) -> Result<Vec<Listed<'a>, A>, AllocError>
+    out: &Output<B>,
+) -> Result<Vec<Listed, A>, AllocError>
     requires framed { IsFramed (F.function f.now) }
     requires in_order { IsInOrder (F.function f.now) (output_of out.now) }
-    ensures { IfOk result (λ r. IsListing (F.function f.now) (output_of out.now) r.items) }
+    ensures { IfOk result (λ r. AreMovesListed (F.function f.now) (output_of out.now) out.now.edits.items r.items) }
 {
     let mut listing = Vec::with_capacity(alloc, f.num_insts())?;
     let mut passed = 0;

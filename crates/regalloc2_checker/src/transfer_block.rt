@@ -11,7 +11,7 @@ ghost use Rattle.regalloc2_checker.specs.TableFacts.{facts_now, AreNamed, AreNam
 ghost use Rattle.regalloc2_checker.specs.Propagation.{over};
 ghost use Rattle.regalloc2_checker.specs.Listing.{IsListing};
 
-use crate::listing::Listed;
+use crate::listing::Listing;
 use crate::transfer::{go_to_early, go_to_late, take_arguments};
 use regalloc2_checker_tables::PassingTables;
 use regalloc2_function::Function;
@@ -21,7 +21,7 @@ use std::alloc::{AllocError, Allocator};
 /// Runs one instruction of a block.
 fn transfer_inst<F: Function, A: Allocator + Copy>(
     f: &F,
-    listing: &[Listed<'_>],
+    listing: &Listing<'_>,
     block: Block,
     inst: Inst,
     values: &mut PassingTables<A>,
@@ -36,17 +36,18 @@ fn transfer_inst<F: Function, A: Allocator + Copy>(
     ensures kept { OnOk result (AreTablesKept values.old values.new) }
     ensures now { OnOk result (facts_now values.new ≡ facts_after (F.function f.now) o (record { block = block; inst = inst }) (facts_now values.old)) }
 {
-    let listed = &listing[inst.index()];
+    let moves = listing.moves(inst);
+    let places = listing.places(inst);
     let operands = f.inst_operands(inst);
-    go_to_early(values, listed.moves, listed.places, operands)?;
-    go_to_late(values, listed.places, operands, f.inst_clobbers(inst))?;
+    go_to_early(values, moves, places, operands)?;
+    go_to_late(values, places, operands, f.inst_clobbers(inst))?;
     Ok(())
 }
 
 /// Runs a block's instructions.
 pub fn transfer_block<F: Function, A: Allocator + Copy>(
     f: &F,
-    listing: &[Listed<'_>],
+    listing: &Listing<'_>,
     block: Block,
     values: &mut PassingTables<A>,
 ) -> Result<(), AllocError>

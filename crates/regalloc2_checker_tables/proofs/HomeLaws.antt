@@ -1,15 +1,16 @@
 -- The places of a vreg's homes: adding one, and walks over them.
 use Rattle.std.proofs.Common.{inl, inr, ℕ, ◌≡◌, ◌+◌, ◌*◌, ◌%◌, ◌<◌, ◌^◌, arith, Bool, true, false, cond, bit_or, w64}
-use Rattle.std.proofs.Common.{nat_eq, nat_lt, eq-eqb, List, [], ◌∷◌, ◌++◌, length, get_or, refl, sym, ap, ◌∙◌, append_assoc}
-use Rattle.std.specs.Prelude.{◌&&◌, ◌||◌, ◌==◌, if◌then◌else◌}
+use Rattle.std.proofs.Common.{nat_eq, nat_lt, eq-eqb, List, [], ◌∷◌, ◌++◌, refl, sym, ap, ◌∙◌, append_assoc}
+use Rattle.std.specs.Prelude.{◌&&◌, ◌||◌, Option, None, Some, if◌then◌else◌}
+use Rattle.std.specs.Option.{is_some, option_map}
 use Rattle.std.specs.Int.{bit_at}
-use Rattle.std.proofs.lemmas.Bool.{cases_eq, eqb-true, lt-ltb as below, ne_eqb}
+use Rattle.std.proofs.lemmas.Bool.{cases_eq, lt-ltb as below, ne_eqb, true≢false}
 use Rattle.std.proofs.lemmas.Bool.Decides.{nat_tests}
-use Rattle.std.proofs.lemmas.List.{append-nil, get_or_past}
+use Rattle.std.proofs.lemmas.List.{append-nil}
 use Rattle.std.proofs.lemmas.Nat.Bits.{bit_at-lt, bit_at-zero, bit_at_set_same, bit_at_set_other}
 use Rattle.std.proofs.Math.Bool.{or-true}
 use Rattle.regalloc2_shape.specs.Numbers.{NumberSet, has_number, word_of, times_listed}
-use Rattle.regalloc2_checker_tables.specs.Homes.{HomePlaces, place_list, stands_for, has_few, has_home}
+use Rattle.regalloc2_checker_tables.specs.Homes.{HomePlaces, place_list, stands_for, has_few, has_home, set_in}
 use Rattle.regalloc2_checker_tables.proofs.Walked.{times-append, times-one, times-nil}
 
 -- an empty set has no number
@@ -55,11 +56,9 @@ few-listed h low hl i =
     bit n less = grind (arith, nat_tests)
 
 -- no homes
-pub home-none : (sets : List NumberSet) → sets ≡ [] → (i : ℕ) → has_home (record { low = 0; first = 0; second = 0; others = get_or sets 0 [] }) i ≡ false
+pub home-none : (i : ℕ) → has_home (record { low = 0; first = 0; second = 0; others = [] }) i ≡ false
 unfolding has_home has_few
-home-none sets e i =
-    ap (λ (l : List NumberSet). nat_eq (bit_at 0 i) 1 || (false || false) || has_number (get_or l 0 []) i) e
-    ∙ ap (λ k. nat_eq k 1 || (false || false) || has_number [] i) (bit_at-zero i) ∙ empty-has i
+home-none i = ap (λ k. nat_eq k 1 || (false || false) || has_number [] i) (bit_at-zero i) ∙ empty-has i
 
 -- no place of an empty mask, nor of two numbers that are 0
 pub few-none : (h : HomePlaces) → h.low ≡ 0 → h.first ≡ 0 → h.second ≡ 0 → (i : ℕ) → has_few h i ≡ false
@@ -70,20 +69,10 @@ few-none h l f s i =
     ∙ ap (λ n. nat_eq (bit_at 0 i) 1 || (false || stands_for n i)) s
     ∙ ap (λ k. nat_eq k 1 || (false || false)) (bit_at-zero i)
 
--- no items, by a test
-pub no-items : (n : ℕ) (b : Bool) → b ≡ (n == 0) → b ≡ true → n ≡ 0
-no-items n b e h = eqb-true n 0 (sym e ∙ h)
-
--- no set has no number
-pub others-none : (sets : List NumberSet) → length sets ≡ 0 → (i : ℕ) → has_number (get_or sets 0 []) i ≡ false
-others-none sets z i = ap (λ (s : NumberSet). has_number s i) (get_or_past sets 0 [] (omega arith)) ∙ empty-has i
-
--- an empty set is put into a vector that has none
-pub others-begun : (old made new : List NumberSet) (s : NumberSet) → length old ≡ 0 → made ≡ [] → new ≡ made ++ s ∷ [] →
-    ((i : ℕ) → has_number s i ≡ false) → (i : ℕ) → has_number (get_or new 0 []) i ≡ has_number (get_or old 0 []) i
-others-begun old made new s z m e none i =
-    ap (λ (l : List NumberSet). has_number (get_or l 0 []) i) (e ∙ ap (λ (l : List NumberSet). l ++ s ∷ []) m) ∙ none i
-    ∙ sym (ap (λ (s : NumberSet). has_number s i) (get_or_past old 0 [] (omega arith)) ∙ empty-has i)
+-- where there is no set, it has no number
+pub none-has : {X : Type 0} (value : X → NumberSet) (set : Option X) → is_some set ≡ false → (i : ℕ) → has_number (set_in (option_map value set)) i ≡ false
+none-has value None e i = empty-has i
+none-has value (Some x) e i = absurd (true≢false e)
 
 -- a walk that is one place on
 pub few-walked : (h : HomePlaces) (done left rest : List ℕ) (x : ℕ) → ((i : ℕ) → nat_lt 0 (times_listed (done ++ left) i) ≡ has_few h i) → left ≡ x ∷ rest →

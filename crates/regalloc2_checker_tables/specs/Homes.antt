@@ -1,5 +1,5 @@
 -- The homes of a vreg: the places where it may be.
-use Rattle.std.specs.Prelude.{ℕ, Bool, ◌&&◌, ◌||◌, nat_eq, nat_lt, List, [], ◌∷◌, if◌then◌else◌}
+use Rattle.std.specs.Prelude.{ℕ, Bool, ◌&&◌, ◌||◌, nat_eq, nat_lt, List, [], ◌∷◌, Option, None, Some, if◌then◌else◌}
 use Rattle.std.specs.Int.{bit_at}
 use Rattle.regalloc2_shape.specs.Numbers.{NumberSet, has_number}
 
@@ -9,6 +9,11 @@ pub record HomePlaces : Type 0 where
   pub first : ℕ
   pub second : ℕ
   pub others : NumberSet
+
+-- the numbers of a set, if there is one
+abbrev pub set_in : Option NumberSet → NumberSet
+set_in None = []
+set_in (Some s) = s
 
 -- no places
 abbrev pub no_homes : HomePlaces

@@ -1,32 +1,37 @@
 //! The places where a vreg may be.
 
-ghost use Rattle.std.specs.Prelude.{◌≡◌, ℕ, ◌+◌, ◌<◌, ◌^◌, true, false, cond, nat_eq, nat_lt, [], ◌∷◌, length, get_or};
+ghost use Rattle.std.specs.Prelude.{◌≡◌, ℕ, ◌<◌, ◌^◌, true, false, cond, nat_eq, nat_lt, [], ◌∷◌};
 ghost use Rattle.std.specs.Prelude.{OnOk, OnErr, IfSome, IfNone, IsTrue, ◌↔◌};
 ghost use Rattle.std.specs.Iterator.{YieldsFirst, item_count};
 ghost use Rattle.regalloc2_shape.specs.Numbers.{has_number, times_listed};
-ghost use Rattle.regalloc2_checker_tables.specs.Homes.{place_list, has_few, has_home};
+ghost use Rattle.std.specs.Option.{option_map};
+ghost use Rattle.regalloc2_checker_tables.specs.Homes.{place_list, has_few, has_home, set_in};
 
 use regalloc2_shape::indexset::{IndexSet, SetBitsIter};
 use std::alloc::{AllocError, Allocator};
 use std::marker::Model;
 
 /// Takes the place out that a number stands for, which is zero if it stands for none.
-fn take_place(number: &mut usize) -> Option<usize>
+fn take_place(number: &mut u32) -> Option<usize>
     ensures some { IfSome result (λ place. place_list number.old ≡ place ∷ []) }
     ensures none { IfNone result (place_list number.old ≡ []) }
     ensures taken { number.new ≡ 0 }
 {
     let place = *number;
     *number = 0;
-    if place == 0 { None } else { Some(place) }
+    if place == 0 {
+        None
+    } else {
+        Some(place as usize)
+    }
 }
 
 /// The remaining places of a home's mask and of its two numbers; a contract sees them as a list.
 #[derive(Drop)]
 pub struct FewPlacesIter {
     low: SetBitsIter,
-    first: usize,
-    second: usize,
+    first: u32,
+    second: u32,
 }
 
 impl Model for FewPlacesIter {
@@ -57,20 +62,20 @@ impl Iterator for FewPlacesIter {
 }
 
 /// The set, if there is one.
-fn set_of<A: Allocator + Copy>(others: &Vec<IndexSet<A>, A>) -> Option<&IndexSet<A>>
-    ensures some { IfSome result (λ set. set.now ≡ get_or others.now.items 0 []) }
-    ensures none { IfNone result ((i : ℕ) → has_number (get_or others.now.items 0 []) i ≡ false) }
+fn set_of<A: Allocator + Copy>(others: &Option<Box<IndexSet<A>, A>>) -> Option<&IndexSet<A>>
+    ensures some { IfSome result (λ set. set.now ≡ set_in (option_map (λ b. b.value) others.now)) }
+    ensures none { IfNone result ((i : ℕ) → has_number (set_in (option_map (λ b. b.value) others.now)) i ≡ false) }
 {
-    if others.is_empty() {
-        return None;
+    match others {
+        Some(set) => Some(set.as_ref()),
+        None => None,
     }
-    Some(&others[0])
 }
 
 /// Whether a place is in the set, if there is one.
-fn has_other<A: Allocator + Copy>(others: &Vec<IndexSet<A>, A>, place: usize) -> bool
+fn has_other<A: Allocator + Copy>(others: &Option<Box<IndexSet<A>, A>>, place: usize) -> bool
     requires { place < 2 ^ 38 }
-    ensures { result ≡ has_number (get_or others.now.items 0 []) place }
+    ensures { result ≡ has_number (set_in (option_map (λ b. b.value) others.now)) place }
 {
     let Some(set) = set_of(others) else {
         return false;
@@ -78,35 +83,24 @@ fn has_other<A: Allocator + Copy>(others: &Vec<IndexSet<A>, A>, place: usize) ->
     set.get(place)
 }
 
-/// Makes a set, if there is none yet.
-fn begin_others<A: Allocator + Copy>(
-    alloc: A,
-    others: &mut Vec<IndexSet<A>, A>,
-) -> Result<(), AllocError>
-    ensures some { OnOk result (0 < length others.new.items) }
-    ensures same { (i : ℕ) → has_number (get_or others.new.items 0 []) i ≡ has_number (get_or others.old.items 0 []) i }
-{
-    if others.is_empty() {
-        *others = Vec::with_capacity(alloc, 1)?;
-        others.push(IndexSet::new(alloc))?;
-    }
-    Ok(())
-}
-
 /// Adds a place to the set, which is made if there is none yet.
 fn add_other<A: Allocator + Copy>(
     alloc: A,
-    others: &mut Vec<IndexSet<A>, A>,
+    others: &mut Option<Box<IndexSet<A>, A>>,
     place: usize,
 ) -> Result<(), AllocError>
     requires { place < 2 ^ 38 }
-    ensures ok { OnOk result ((i : ℕ) → has_number (get_or others.new.items 0 []) i
-        ≡ cond (nat_eq i place) true (has_number (get_or others.old.items 0 []) i)) }
-    ensures err { OnErr result ((i : ℕ) → has_number (get_or others.new.items 0 []) i ≡ has_number (get_or others.old.items 0 []) i) }
+    ensures ok { OnOk result ((i : ℕ) → has_number (set_in (option_map (λ b. b.value) others.new)) i
+        ≡ cond (nat_eq i place) true (has_number (set_in (option_map (λ b. b.value) others.old)) i)) }
+    ensures err { OnErr result ((i : ℕ) → has_number (set_in (option_map (λ b. b.value) others.new)) i ≡ has_number (set_in (option_map (λ b. b.value) others.old)) i) }
 {
-    begin_others(alloc, others)?;
-    let set = &mut others[0];
-    set.set(place, true)
+    if let Some(set) = others {
+        return set.set(place, true);
+    }
+    let mut set = IndexSet::new(alloc);
+    set.set(place, true)?;
+    *others = Some(Box::new(alloc, set)?);
+    Ok(())
 }
 
 /// The places where a vreg may be: a mask of the places below 64, two numbers that stand for a place each, or for none if
@@ -114,19 +108,19 @@ fn add_other<A: Allocator + Copy>(
 #[derive(Drop)]
 pub struct Home<A: Allocator> {
     low: u64,
-    first: usize,
-    second: usize,
-    others: Vec<IndexSet<A>, A>,
+    first: u32,
+    second: u32,
+    others: Option<Box<IndexSet<A>, A>>,
     alloc: A,
 }
 
 impl<A: Allocator> Model for Home<A> {
-    ghost use Rattle.std.specs.Prelude.{[], get_or};
-    ghost use Rattle.regalloc2_checker_tables.specs.Homes.{HomePlaces};
+    ghost use Rattle.std.specs.Option.{option_map};
+    ghost use Rattle.regalloc2_checker_tables.specs.Homes.{HomePlaces, set_in};
 
     ghost Value = { HomePlaces };
 
-    ghost view = { λ h. record { low = h.low; first = h.first; second = h.second; others = get_or h.others.items 0 [] } };
+    ghost view = { λ h. record { low = h.low; first = h.first; second = h.second; others = set_in (option_map (λ b. b.value) h.others) } };
 }
 
 impl<A: Allocator + Copy> Home<A> {
@@ -138,7 +132,7 @@ impl<A: Allocator + Copy> Home<A> {
             low: 0,
             first: 0,
             second: 0,
-            others: Vec::new(alloc),
+            others: None,
             alloc,
         }
     }
@@ -154,15 +148,18 @@ impl<A: Allocator + Copy> Home<A> {
             self.low |= 1 << place;
             return Ok(());
         }
-        if place == self.first || place == self.second {
+        let Ok(number) = u32::try_from(place) else {
+            return add_other(self.alloc, &mut self.others, place);
+        };
+        if number == self.first || number == self.second {
             return Ok(());
         }
         if self.first == 0 {
-            self.first = place;
+            self.first = number;
             return Ok(());
         }
         if self.second == 0 {
-            self.second = place;
+            self.second = number;
             return Ok(());
         }
         if has_other(&self.others, place) {

@@ -220,6 +220,7 @@ impl<A: Allocator + Copy> PassingTables<A> {
     }
 
     /// Gives a place what another has.
+    #[inline(always)]
     pub fn copy(&mut self, from: usize, to: usize) -> Result<(), AllocError>
         requires from { from < length self.old.places }
         requires to { to < length self.old.places }

@@ -315,6 +315,7 @@ fn note_two<A: Allocator + Copy>(
 }
 
 /// Notes that the listed vregs of a set may be at a place.
+#[inline(always)]
 fn note_set<A: Allocator + Copy>(
     vregs: &Positions<A>,
     sets: &Sets<A>,
@@ -549,6 +550,7 @@ impl<A: Allocator + Copy> Tables<A> {
     }
 
     /// Gives a place what another has.
+    #[inline(always)]
     pub fn copy(&mut self, from: usize, to: usize) -> Result<(), AllocError>
         requires from { from < length self.old.places }
         requires to { to < length self.old.places }

@@ -307,7 +307,7 @@ impl<A: Allocator + Copy> Versions<A> {
         requires { position < length self.old.cells }
         ensures { self.new ≡ record self.old { cells = slice_set self.old.cells position number } }
     {
-        // Many writes in a row write one number, which marks a chunk, so a comparison is less work.
+        // A write that changes nothing doesn't mark the chunk as written, so the chunk keeps its base.
         if self.cells[position] == number {
             return;
         }

@@ -2,13 +2,15 @@ use Rattle.std.proofs.Common.{◌≡◌, ◌∙◌, ◌+◌, ℕ, List, ap, sym,
 use Rattle.regalloc2_index.specs.Range.{Span}
 use Rattle.regalloc2_names.specs.Point.{before}
 use Rattle.regalloc2_function.specs.FunctionValue.{FunctionValue, block_at}
-use Rattle.regalloc2_function.specs.OutputValue.{OutputValue}
+use Rattle.regalloc2_function.specs.OutputValue.{OutputValue, moves_before}
 use Rattle.regalloc2_function.specs.Views.{output_of, edit_of}
 use Rattle.regalloc2_function.specs.declared.listing.Edit.{Edit}
-use Rattle.regalloc2_checker.proofs.BlocksInRange.{insts_within, nonempty}
+use Rattle.regalloc2_checker.proofs.BlocksInRange.{nonempty}
 use Rattle.regalloc2_checker.proofs.CopiedListing.{begins_at, BeginsAt, begins_first, begins_next, begun_passed, copying_starts, copying_inst, copying_ends}
 use Rattle.regalloc2_checker.proofs.CopiedListing.{part_is, passed_later, sorted_edits}
 use Rattle.regalloc2_checker.specs.ListingCopied.{IsSplit}
+use Rattle.regalloc2_checker.specs.Listing.{listed_move}
+use Rattle.std.specs.List.{slice_range}
 use Rattle.std.proofs.lemmas.List.{length_push}
 use Rattle.std.proofs.Common.{refl}
 use Rattle.regalloc2_checker.proofs.handle.handle_block.Goals as goal
@@ -16,7 +18,7 @@ use Rattle.regalloc2_checker.proofs.handle.handle_block.Goals as goal
 pub first_from-from-requires : goal.first_from-from-requires
 first_from-from-requires g c =
     let f : FunctionValue = g.F.Function.function c.args.f.now in
-    let at = begins_at f (output_of c.args.out.now) c.requires.framed c.args.block c.requires.block c.args.listing.now.items c.requires.before in
+    let at = begins_at f (output_of c.args.out.now) c.args.out.now.edits.items c.requires.framed c.args.block c.requires.block c.args.listing.now.items c.requires.before in
     let first = c.first-first.ensures ∙ ap (λ (s : Span). s.first) c.block_insns-range.ensures in
     rw c.as_slice-edits.ensures.value (record {
       sorted = sorted_edits c.args.out.now.edits.items c.requires.in_order.points_never_fall;
@@ -27,7 +29,7 @@ first_from-from-requires g c =
 pub loop-i-init : goal.loop-i-init
 loop-i-init g c =
     let f : FunctionValue = g.F.Function.function c.args.f.now in
-    let at = begins_at f (output_of c.args.out.now) c.requires.framed c.args.block c.requires.block c.args.listing.now.items c.requires.before in
+    let at = begins_at f (output_of c.args.out.now) c.args.out.now.edits.items c.requires.framed c.args.block c.requires.block c.args.listing.now.items c.requires.before in
     let first = c.first-first.ensures ∙ ap (λ (s : Span). s.first) c.block_insns-range.ensures in
     let some = nonempty f c.requires.framed c.args.block c.requires.block in
     record {
@@ -37,7 +39,7 @@ loop-i-init g c =
       long = omega (arith, first, c.index-i.ensures, at);
       begins = begins_first c.as_slice-edits.result.now _ _ c.first_from-from.result _ (omega (arith, first, c.index-i.ensures)) (omega (arith, first))
           c.first_from-from.ensures.split;
-      copying = copying_starts f (output_of c.args.out.now) c.requires.framed c.args.block c.requires.block c.args.listing.now.items c.requires.before;
+      copying = copying_starts f (output_of c.args.out.now) c.args.out.now.edits.items c.requires.framed c.args.block c.requires.block c.args.listing.now.items c.requires.before;
     }
 
 pub first_from-end-requires : goal.first_from-end-requires
@@ -50,12 +52,6 @@ first_from-end-requires g c =
       from = begun.0;
       passed = passed_later c.as_slice-edits.result.now c.loop-i.from (before c.loop-i.i + 1) _ (omega (arith, c.new-inst.ensures)) begun.1;
     }
-
-pub handle_inst-requires-clause-inst : goal.handle_inst-requires-clause-inst
-handle_inst-requires-clause-inst g c =
-    let f : FunctionValue = g.F.Function.function c.args.f.now in
-    let inside = insts_within f c.requires.framed c.args.block c.requires.block in
-    omega (arith, c.new-inst.ensures, c.loop-i-test.true, c.loop-i.invariant.end, inside, c.requires.in_order.one_offset_each)
 
 pub loop-i-preserved : goal.loop-i-preserved
 loop-i-preserved g c =
@@ -80,10 +76,14 @@ loop-i-preserved g c =
       );
       begins = begins_next c.as_slice-edits.result.now _ c.loop-i.i c.first_from-end.result _ c.loop-i.invariant.low (omega (arith, c.new-inst.ensures))
           c.first_from-end.ensures.split;
-      copying = copying_inst f o c.args.block c.new-inst.result _ c.loop-i.listing.items c.handle_inst.new.listing.items c.loop-i.invariant.copying
-          (c.new-inst.ensures ∙ c.loop-i.invariant.long) c.in_ok-handle_inst.ensures
+      copying = copying_inst f o c.args.out.now.edits.items c.args.block c.new-inst.result c.loop-i.from c.first_from-end.result c.loop-i.listing.items
+          c.handle_inst.new.listing.items c.loop-i.invariant.copying
+          (c.new-inst.ensures ∙ c.loop-i.invariant.long) c.in_ok-handle_inst.ensures c.first_from-end.ensures.from
+          (rw (← c.as_slice-edits.ensures.value) split.within)
+          (subst (λ (xs : List (ℕ × Edit)). map listed_move (slice_range xs c.loop-i.from c.first_from-end.result)
+          ≡ moves_before o (block_at f c.args.block).range.first c.new-inst.result) c.as_slice-edits.ensures.value
           (part_is o es (block_at f c.args.block).range.first c.new-inst.result c.loop-i.from c.first_from-end.result
-          seen (omega (arith, c.new-inst.ensures, c.loop-i.invariant.low)) c.first_from-end.ensures.from begins split);
+          seen (omega (arith, c.new-inst.ensures, c.loop-i.invariant.low)) c.first_from-end.ensures.from begins split));
     }
 
 pub returns : goal.returns
@@ -95,6 +95,6 @@ returns g c =
     record {
       within = rw (← c.as_slice-edits.ensures.value) begun.0;
       passed = rw (← c.as_slice-edits.ensures.value, ← c.loop-i.invariant.long) begun.1;
-      listed = copying_ends f (output_of c.args.out.now) c.args.block c.loop-i.listing.items c.loop-i.invariant.copying
+      listed = copying_ends f (output_of c.args.out.now) c.args.out.now.edits.items c.args.block c.loop-i.listing.items c.loop-i.invariant.copying
           (sym c.loop-i.invariant.long ∙ at) (nonempty f c.requires.framed c.args.block c.requires.block);
     }

@@ -12,5 +12,5 @@ invariant-loop-i g l = record {
   high : l.i ≤ (block_at (g.F.Function.function l.f) l.fn.block).range.end;
   long : l.i ≡ length l.listing.items;
   begins : BeginsAt l.edits (block_at (g.F.Function.function l.f) l.fn.block).range.first l.i l.from;
-  copying : IsCopying (g.F.Function.function l.f) (output_of l.out) l.fn.block l.listing.items;
+  copying : IsCopying (g.F.Function.function l.f) (output_of l.out) l.out.edits.items l.fn.block l.listing.items;
 }

@@ -11,7 +11,7 @@ loop-b-init g c = record {
   low = omega arith;
   edits = omega arith;
   passed = λ k d less. absurd (omega arith);
-  listed = listed_none _ _ _ c.in_ok-listing.ensures.items;
+  listed = listed_none _ _ _ _ c.in_ok-listing.ensures.items;
 }
 
 pub loop-b-preserved : goal.loop-b-preserved
@@ -37,5 +37,5 @@ pub returns : goal.returns
 returns g c =
     let f : FunctionValue = g.F.Function.function c.args.f.now in
     let all : c.loop-b.b ≡ length f.blocks = omega (arith, c.loop-b-test.false, c.loop-b.invariant.within, c.loop-b.invariant.low) in
-    listed_all f (output_of c.args.out.now) c.loop-b.listing.items c.requires.framed
-    (subst (λ (n : ℕ). IsListedBefore f (output_of c.args.out.now) n c.loop-b.listing.items) all c.loop-b.invariant.listed)
+    listed_all f (output_of c.args.out.now) c.args.out.now.edits.items c.loop-b.listing.items c.requires.framed
+    (subst (λ (n : ℕ). IsListedBefore f (output_of c.args.out.now) c.args.out.now.edits.items n c.loop-b.listing.items) all c.loop-b.invariant.listed)

@@ -10,5 +10,5 @@ invariant-loop-b g l = record {
   low : l.b ≤ length (g.F.Function.function l.f).blocks;
   edits : l.passed ≤ length l.out.edits.items;
   passed : AreBeforePoint l.out.edits.items l.passed (before (length l.listing.items));
-  listed : IsListedBefore (g.F.Function.function l.f) (output_of l.out) l.b l.listing.items;
+  listed : IsListedBefore (g.F.Function.function l.f) (output_of l.out) l.out.edits.items l.b l.listing.items;
 }
