@@ -115,9 +115,6 @@ struct KnownSets {
 
 impl KnownSets {
     fn words(&mut self, set: PRegSet) -> Result<SetWords, Unwritten> {
-        if set == PRegSet::empty() {
-            return Ok(SetWords::default());
-        }
         match self.sets.iter().find(|(known, _)| *known == set) {
             Some((_, words)) => Ok(*words),
             None => self.add(set),
@@ -190,11 +187,17 @@ impl Sets {
     }
 
     /// Returns the number of a set, which is added to the columns if it isn't there. The empty one has the number 0.
-    #[inline(never)]
+    #[inline]
     fn number(&mut self, to: &mut Columns, set: PRegSet) -> Result<u32, Unwritten> {
         if set == NONE {
-            return Ok(0);
+            Ok(0)
+        } else {
+            self.number_of_some(to, set)
         }
+    }
+
+    #[inline(never)]
+    fn number_of_some(&mut self, to: &mut Columns, set: PRegSet) -> Result<u32, Unwritten> {
         match self.few.iter().position(|few| *few == set) {
             Some(k) => Ok(k as u32 + 1),
             None => self.find(to, set),
@@ -237,8 +240,7 @@ impl FunctionWords {
 
     fn insts(&mut self, f: &impl Function) -> Result<(), Unwritten> {
         for inst in (0..f.num_insts()).map(Inst::new) {
-            let clobbers = f.inst_clobbers(inst);
-            let set = if clobbers == NONE { 0 } else { self.sets.number(&mut self.columns, clobbers)? };
+            let set = self.sets.number(&mut self.columns, f.inst_clobbers(inst))?;
             self.columns.inst(kind(f, inst), set, f.inst_operands(inst).iter().map(|op| op.bits()));
         }
         Ok(())
@@ -330,7 +332,11 @@ pub fn place(word: u32) -> Allocation {
 
 /// Returns the vreg of a word from the library; the invalid vreg if the word has no class.
 pub fn vreg(word: u32) -> VReg {
-    if word & 3 == 3 { VReg::invalid() } else { VReg::from_bits(word) }
+    if word & 3 == 3 {
+        VReg::invalid()
+    } else {
+        VReg::from_bits(word)
+    }
 }
 
 #[cfg(test)]
