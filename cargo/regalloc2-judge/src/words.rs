@@ -192,12 +192,12 @@ impl Sets {
         if set == NONE {
             Ok(0)
         } else {
-            self.number_of_some(to, set)
+            self.number_of_nonempty(to, set)
         }
     }
 
     #[inline(never)]
-    fn number_of_some(&mut self, to: &mut Columns, set: PRegSet) -> Result<u32, Unwritten> {
+    fn number_of_nonempty(&mut self, to: &mut Columns, set: PRegSet) -> Result<u32, Unwritten> {
         match self.few.iter().position(|few| *few == set) {
             Some(k) => Ok(k as u32 + 1),
             None => self.find(to, set),
