@@ -8,7 +8,7 @@ ghost use Rattle.regalloc2_names.specs.Point.{before, inst_limit};
 ghost use Rattle.regalloc2_names.specs.Register.{Register, class_code};
 ghost use Rattle.regalloc2_function.specs.FunctionValue.{block_at, inst_at};
 ghost use Rattle.regalloc2_parts.specs.AtOnce.{ends_of, HasOneSourceEach};
-ghost use Rattle.regalloc2_parts.specs.Resolved.{has_scratch, moves_listed, with_place, IsResolution, IsRunnable};
+ghost use Rattle.regalloc2_parts.specs.Resolved.{moves_listed, with_place};
 ghost use Rattle.regalloc2_fastalloc_proofs.specs.BranchSteps.{RegsAvoidStack, AreBetweenSlots, AreVRegsInTables, AreNextTempSlots, AreOf, ClassMove, OrderMoves};
 ghost use Rattle.regalloc2_fastalloc_proofs.specs.BranchSteps.{IsScratchRegFor, AddsTempSlotsAtMost, MayBeParallel, MayBranch, PushMoves, SpillArgument};
 ghost use Rattle.regalloc2_fastalloc_proofs.specs.BranchSteps.{ParametersDiffer, GatherEdge, GatherMoves, PushAllClasses, ProcessBranch};
@@ -86,21 +86,6 @@ fn are_none<A: Allocator + Copy>(moves: &MoveVecWithScratch<(), A>) -> bool
     match moves {
         MoveVecWithScratch::NoScratch(list) => list.is_empty(),
         MoveVecWithScratch::Scratch(list) => list.is_empty(),
-    }
-}
-
-/// Moves in an order in which they can be made, but for a scratch place.
-fn resolve<A: Allocator + Copy>(
-    moves: ParallelMoves<(), A>,
-) -> Result<MoveVecWithScratch<(), A>, RegAllocError>
-    requires { HasOneSourceEach (ends_of moves) }
-    ensures resolved { IfOk result (λ r. IsResolution moves (has_scratch r) (moves_listed r)) }
-    ensures runnable { IfOk result (λ r. IsRunnable r) }
-    ensures err { IfErr result (λ e. e ≡ RegAllocError.Memory) }
-{
-    match moves.resolve() {
-        Ok(resolved) => Ok(resolved),
-        Err(_) => Err(RegAllocError::Memory),
     }
 }
 
@@ -227,7 +212,7 @@ impl<'a, A: Allocator> State<'a, A> {
         ensures unchanged { OnErr result (SameTables self.old self.new) }
         ensures err { IfErr result (IsResourceError (SlotsExhaustedWith self.old.slots (self.old.slots.num_temp_slots + 2))) }
     {
-        let resolved = resolve(moves)?;
+        let resolved = moves.resolve()?;
         if are_none(&resolved) {
             return Ok(resolved.with_scratch(Allocation::none()));
         }

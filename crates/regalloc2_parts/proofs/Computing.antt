@@ -17,8 +17,8 @@ use Rattle.regalloc2_parts.specs.declared.moves.passing.Held.{Held}
 use Rattle.regalloc2_parts.specs.declared.moves.passing.Held.TheVariants.{Free, InRegister}
 use Rattle.regalloc2_parts.specs.declared.moves.passing.ScratchReg.{ScratchReg}
 use Rattle.regalloc2_parts.specs.Tracking.{CanExpand, IsExpanded, IsMade, IsEither, IsUnused}
-use Rattle.regalloc2_parts.specs.Computed.{Asked, MayBeAskedTwice, Owes, IsHanding, IsRefusing, IsVia, IsChoice, IsAnswer, IsComputed}
-use Rattle.regalloc2_parts.specs.Computed.{AreApartInMemory, AreSeenApart}
+use Rattle.regalloc2_parts.specs.Computed.{Asked, MayBeAskedTwice, Owes, IsHanding, IsRefusing, IsVia, IsPlaceChosen, IsAnswer, IsComputed}
+use Rattle.regalloc2_parts.specs.Computed.{AreApartInMemory, AreSeenApart, handed_place}
 use Rattle.regalloc2_parts.proofs.Filling.{fills_same, fills_real, or_some, or_none}
 use Rattle.regalloc2_parts.proofs.Places.{cases_place}
 
@@ -56,6 +56,22 @@ answered_more rs ss qs ts p h = ⊎_elim (λ l. inl (Contains-append_left rs qs 
 pub unfilled : {T A : Type 0} (s : Place) (moves : MoveVecWithScratch T A) → has_scratch moves ≡ false → with_place s moves ≡ moves_listed moves
 unfilled s (NoScratch ms) e = refl
 unfilled s (Scratch ms) e = let no : true ≡ false = e in absurd cc
+
+-- the moves with a scratch place chosen, where they need one
+abbrev pub IsChoice : {F G T A : Type 0} → (F → Option Place → F → Type 0) → (G → Option Place → G → Type 0) → F → F → G → G → MoveVecWithScratch T A →
+    List (Place × Place × T) → Type 0
+IsChoice registers slots f f' g g' moves made =
+    ((has_scratch moves ≡ false) × (f' ≡ f) × (g' ≡ g) × (made ≡ moves_listed moves))
+    ⊎ ((h : Handed) × (has_scratch moves ≡ true) × IsHanding registers slots f f' g g' h × (made ≡ with_place (handed_place h) moves))
+
+-- the place that was chosen, put where the moves need one
+pub choice : {F G T A : Type 0} (registers : F → Option Place → F → Type 0) (slots : G → Option Place → G → Type 0) (f f' : F) (g g' : G)
+    (moves : MoveVecWithScratch T A) (made : List (Place × Place × T)) (is_needed : Bool) (s : Place) → is_needed ≡ has_scratch moves →
+    IsPlaceChosen registers slots f f' g g' is_needed s → made ≡ with_place s moves → IsChoice registers slots f f' g g' moves made
+choice registers slots f f' g g' moves made is_needed s same had e = ⊎_elim
+    (λ no. let none : has_scratch moves ≡ false = sym same ∙ no.0 in inl (none, no.1, no.2, e ∙ unfilled s moves none))
+    (λ yes. inr (yes.0, sym same ∙ yes.1, yes.2, e ∙ ap (λ p. with_place p moves) yes.3))
+    had
 
 module _ {F G T : Type 0} (registers : F → Option Place → F → Type 0) (slots : G → Option Place → G → Type 0) (stack : Place → Bool → Type 0)
     (borrowed : Place) where

@@ -1,5 +1,5 @@
 -- Lemmas on a list of moves that is sorted, and then freed of repeats and of moves that change nothing.
-use Rattle.std.proofs.Common.{◌≡◌, suc, zero, ◌<◌, ◌≤◌, ◌==◌, Bool, true, false, not, List, [], ◌∷◌, get_or, ◌⊎◌, refl, sym, ap, ◌∙◌, subst, inl, inr}
+use Rattle.std.proofs.Common.{◌≡◌, ℕ, suc, zero, ◌+◌, ◌<◌, ◌≤◌, ◌==◌, Bool, true, false, not, List, [], ◌∷◌, get_or, ◌⊎◌, refl, sym, ap, ◌∙◌, subst, inl, inr}
 use Rattle.std.proofs.Common.{⊎_elim, arith}
 use Rattle.std.proofs.lemmas.Bool.{cond_both, cases_eq, cases_lt}
 use Rattle.std.proofs.lemmas.Bool.Decides.{nat_tests}
@@ -11,12 +11,12 @@ use Rattle.std.specs.List.{All, AllPairs, Contains, Any, filter, dedup, dedup_fr
 use Rattle.std.specs.List.Sorted.{IsNonDecreasingBy, IsPermutation}
 use Rattle.std.specs.List.Retain.{RetainsInTurn}
 use Rattle.std.proofs.Common.{cond, length}
-use Rattle.std.proofs.lemmas.List.{get_or-map, length-map}
+use Rattle.std.proofs.lemmas.List.{get_or-map, get_or_default, length-map}
 use Rattle.std.proofs.lemmas.List.Sorted.{IsPermutation-map}
 use Rattle.regalloc2_names.specs.Place.{Place}
 use Rattle.regalloc2_names.specs.PlaceBits.{bits_of_place}
 use Rattle.regalloc2_parts.specs.AtOnce.{Ends, ends, ends_of, no_move}
-use Rattle.regalloc2_parts.specs.Giving.{to_at, AreMovesApart, AreProper, Below, IsTidied, AreFair}
+use Rattle.regalloc2_parts.specs.Giving.{from_at, to_at, AreMovesApart, AreProper, Below, IsTidied, AreFair}
 use Rattle.regalloc2_parts.proofs.Places.{same_word}
 
 -- the places written never fall, from k on
@@ -151,6 +151,63 @@ tidies old sorted new proper fair perm up e =
           let t : p y ≡ true = grind (arith, nat_tests) in
           subst (λ z. Contains (filter p once) z) (same_ends y m from_is to_is) (contains_filter p once y t inside);
     })
+
+-- of the first k moves, each writes a place of a higher encoding than the one before, and none is to its own source
+pub record IsTidyTo (ms : List Ends) (last k : ℕ) : Type 0 where
+  pub rising : (i j : ℕ) → i < j → j < k → bits_of_place (to_at ms i) < bits_of_place (to_at ms j)
+  pub below : (i : ℕ) → i < k → bits_of_place (to_at ms i) ≤ last
+  pub away : (i : ℕ) → i < k → bits_of_place (from_at ms i) ≡ bits_of_place (to_at ms i) → ⊥
+
+pub tidy_none : (ms : List Ends) → IsTidyTo ms 0 0
+tidy_none ms = record {
+  rising = λ i j o r. absurd (omega arith);
+  below = λ i r. absurd (omega arith);
+  away = λ i r. absurd (omega arith);
+}
+
+pub tidy_more : (ms : List Ends) (last k : ℕ) → IsTidyTo ms last k → last < bits_of_place (to_at ms k) →
+    (bits_of_place (from_at ms k) ≡ bits_of_place (to_at ms k) → ⊥) → IsTidyTo ms (bits_of_place (to_at ms k)) (k + 1)
+tidy_more ms last k had high other = record {
+  rising = λ i j o r. ⊎_elim
+      (λ here. subst (λ x. bits_of_place (to_at ms i) < bits_of_place (to_at ms x)) (sym here)
+      (let low : bits_of_place (to_at ms i) ≤ last = had.below i (omega arith) in omega arith))
+      (λ n. had.rising i j o (omega arith))
+      (cases_eq j k);
+  below = λ i r. ⊎_elim
+      (λ here. subst (λ x. bits_of_place (to_at ms x) ≤ bits_of_place (to_at ms k)) (sym here) (omega arith))
+      (λ n. let low : bits_of_place (to_at ms i) ≤ last = had.below i (omega arith) in omega arith)
+      (cases_eq i k);
+  away = λ i r. ⊎_elim
+      (λ here. subst (λ x. bits_of_place (from_at ms x) ≡ bits_of_place (to_at ms x) → ⊥) (sym here) other)
+      (λ n. had.away i (omega arith))
+      (cases_eq i k);
+}
+
+-- a list that is tidy to its end is as it would be after tidying
+pub tidy_whole : (ms : List Ends) (last k : ℕ) → IsTidyTo ms last k → length ms ≤ k → IsTidied ms ms
+tidy_whole ms last k had end = record {
+  strict = λ i j d o r.
+      let at_i : to_at ms i ≡ (get_or ms i d).to = ap (λ (m : Ends). m.to) (get_or_default ms i no_move d (omega arith)) in
+      let at_j : to_at ms j ≡ (get_or ms j d).to = ap (λ (m : Ends). m.to) (get_or_default ms j no_move d r) in
+      let low : bits_of_place (to_at ms i) < bits_of_place (to_at ms j) = had.rising i j o (omega arith) in
+      subst (λ p. bits_of_place p < bits_of_place (get_or ms j d).to) at_i
+      (subst (λ p. bits_of_place (to_at ms i) < bits_of_place p) at_j low);
+  away = λ m h e.
+      let is : get_or ms h.0 no_move ≡ m = get_or_default ms h.0 no_move m h.1 ∙ h.2 in
+      had.away h.0 (let low : h.0 < length ms = h.1 in omega arith)
+      (ap (λ (x : Ends). bits_of_place x.from) is ∙ ap bits_of_place e ∙ ap (λ (x : Ends). bits_of_place x.to) (sym is));
+  of_old = λ m h. h;
+  of_new = λ m h n. h;
+}
+
+-- sorting alone tidies a list, if the sorted one is tidy
+pub tidied_permuted : (old new : List Ends) → IsPermutation old new → IsTidied new new → IsTidied old new
+tidied_permuted old new perm is = record {
+  strict = is.strict;
+  away = is.away;
+  of_old = λ m h. Contains-permutation new old m (IsPermutation-sym old new perm) h;
+  of_new = λ m h n. Contains-permutation old new m perm h;
+}
 
 -- after such a clean-up each place has one writer, and no move goes from a place to itself or names none
 pub tidied_apart : (old new : List Ends) → AreFair old → IsTidied old new → AreMovesApart new

@@ -13,7 +13,7 @@ use Rattle.regalloc2_parts.specs.declared.moves.passing.ScratchReg.{ScratchReg}
 use Rattle.regalloc2_parts.specs.declared.moves.scratch.MoveAndScratchResolver.{MoveAndScratchResolver}
 use Rattle.regalloc2_parts.specs.declared.moves.resolved.MoveVecWithScratch.{MoveVecWithScratch}
 use Rattle.regalloc2_parts.specs.AtOnce.{ends_of, own_names, in_turn}
-use Rattle.regalloc2_parts.specs.Resolved.{moves_listed, has_scratch, with_place, IsUnnamed}
+use Rattle.regalloc2_parts.specs.Resolved.{moves_listed, has_scratch, IsUnnamed}
 
 module _ {G : Type 0} (step : G → Option Place → G → Type 0) where
   -- what a closure returned as it went from the state old to the state new, in at most two calls
@@ -73,12 +73,11 @@ abbrev pub handed_place : Handed → Place
 handed_place (Register p) = p
 handed_place (Slot p) = p
 
--- the moves with a scratch place chosen, where they need one
-abbrev pub IsChoice : {F G T A : Type 0} → (F → Option Place → F → Type 0) → (G → Option Place → G → Type 0) → F → F → G → G → MoveVecWithScratch T A →
-    List (Place × Place × T) → Type 0
-IsChoice registers slots f f' g g' moves made =
-    ((has_scratch moves ≡ false) × (f' ≡ f) × (g' ≡ g) × (made ≡ moves_listed moves))
-    ⊎ ((h : Handed) × (has_scratch moves ≡ true) × IsHanding registers slots f f' g g' h × (made ≡ with_place (handed_place h) moves))
+-- a scratch place was handed out, if one is needed
+abbrev pub IsPlaceChosen : {F G : Type 0} → (F → Option Place → F → Type 0) → (G → Option Place → G → Type 0) → F → F → G → G → Bool → Place → Type 0
+IsPlaceChosen registers slots f f' g g' is_needed place =
+    ((is_needed ≡ false) × (f' ≡ f) × (g' ≡ g))
+    ⊎ ((h : Handed) × (is_needed ≡ true) × IsHanding registers slots f f' g g' h × (place ≡ handed_place h))
 
 -- a place is one of the returned ones
 abbrev pub IsAnswer : List (Option Place) → List (Option Place) → Place → Type 0

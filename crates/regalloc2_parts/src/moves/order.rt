@@ -161,7 +161,7 @@ fn give_all<T: Copy + Default, A: Allocator + Copy>(
     requires indexed { length nexts.now ≡ length moves.now }
     ensures order { IfOk result (λ given. IsOrder (ends_of moves.now) nexts.now (ends_of given.items) × All (IsOfMoves moves.now) given.items) }
 {
-    let mut given = SmallVec::new(alloc);
+    let mut given = SmallVec::with_capacity(alloc, moves.len().saturating_add(1))?;
     let mut chain: Indexes<'_, A> = SmallVec::new(&alloc);
     let mut states: SmallVec<State, 16, &A> = SmallVec::from_elem(
         &alloc,
@@ -273,6 +273,21 @@ fn sort_moves<T: Copy + Default, A: Allocator + Copy>(moves: &mut MoveVec<T, A>)
     moves.sort_unstable_by_key(|m| m.1.bits());
 }
 
+/// Whether the encodings of the destinations rise strictly, and no move is to its own source.
+fn is_tidy<T: Copy + Default>(moves: &[(Allocation, Allocation, T)]) -> bool
+    ensures { IsTrue result → IsTidied (ends_of moves.now) (ends_of moves.now) }
+{
+    let mut last = 0;
+    for m in moves {
+        let word = m.1.bits();
+        if word <= last || m.0.bits() == word {
+            return false;
+        }
+        last = word;
+    }
+    true
+}
+
 /// Sorts the moves by destination, and drops repeats and moves that change nothing.
 fn tidy<T: Copy + Default, A: Allocator + Copy>(moves: &mut MoveVec<T, A>)
     requires fair { AreFair (ends_of moves.old.items) }
@@ -281,6 +296,9 @@ fn tidy<T: Copy + Default, A: Allocator + Copy>(moves: &mut MoveVec<T, A>)
     ensures given { (m : Place × Place × _) → Contains moves.new.items m → Contains moves.old.items m }
 {
     sort_moves(moves);
+    if is_tidy(moves.as_slice()) {
+        return;
+    }
     moves.dedup_by_key(|m| m.1.bits());
     moves.retain(|m| m.0.bits() != m.1.bits());
 }

@@ -6,7 +6,6 @@ ghost use Rattle.regalloc2_parts.specs.AtOnce.{CellsOf, ends_of, in_turn, moved}
 ghost use Rattle.regalloc2_parts.specs.Tracking.{Tracks, CanPass, SavesOrRestores, GoesThrough, IsMadeFor};
 ghost use Rattle.regalloc2_parts.specs.declared.moves.passing.Held.TheVariants.{Free, InRegister, InBoth, InSave};
 
-use super::MoveVec;
 use regalloc2_names::Allocation;
 use std::alloc::{AllocError, Allocator};
 
@@ -35,7 +34,7 @@ pub(super) struct ScratchReg {
 fn save_first<T: Copy + Default, A: Allocator + Copy>(
     via: &ScratchReg,
     held: Held,
-    out: &mut MoveVec<T, A>,
+    out: &mut Vec<(Allocation, Allocation, T), A>,
 ) -> Result<Held, AllocError>
     ensures tracks { IfOk result (λ after. (c d : CellsOf Place) → Tracks via.now.register via.now.save held c (in_turn (ends_of out.old.items) d) →
         Tracks via.now.register via.now.save after c (in_turn (ends_of out.new.items) d)) }
@@ -57,7 +56,7 @@ fn save_first<T: Copy + Default, A: Allocator + Copy>(
 pub(super) fn restore_first<T: Copy + Default, A: Allocator + Copy>(
     via: &ScratchReg,
     held: Held,
-    out: &mut MoveVec<T, A>,
+    out: &mut Vec<(Allocation, Allocation, T), A>,
 ) -> Result<Held, AllocError>
     ensures tracks { IfOk result (λ after. (c d : CellsOf Place) → Tracks via.now.register via.now.save held c (in_turn (ends_of out.old.items) d) →
         Tracks via.now.register via.now.save after c (in_turn (ends_of out.new.items) d)) }
@@ -80,7 +79,7 @@ fn pass<T: Copy + Default, A: Allocator + Copy>(
     m: &(Allocation, Allocation, T),
     via: &ScratchReg,
     held: Held,
-    out: &mut MoveVec<T, A>,
+    out: &mut Vec<(Allocation, Allocation, T), A>,
 ) -> Result<Held, AllocError>
     requires from { (m.now.0 ≢ via.now.register) × (m.now.0 ≢ via.now.save) }
     requires to { (m.now.1 ≢ via.now.register) × (m.now.1 ≢ via.now.save) }
@@ -102,7 +101,7 @@ fn copy<T: Copy + Default, A: Allocator + Copy>(
     m: &(Allocation, Allocation, T),
     via: &ScratchReg,
     held: Held,
-    out: &mut MoveVec<T, A>,
+    out: &mut Vec<(Allocation, Allocation, T), A>,
 ) -> Result<Held, AllocError>
     requires unnamed { (m.now.0 ≢ via.now.save) × (m.now.1 ≢ via.now.save) }
     requires ready { m.now.0 ≡ via.now.register → held ≢ InSave }
@@ -123,7 +122,7 @@ pub(super) fn make<T: Copy + Default, A: Allocator + Copy>(
     is_passing: bool,
     via: &ScratchReg,
     held: Held,
-    out: &mut MoveVec<T, A>,
+    out: &mut Vec<(Allocation, Allocation, T), A>,
 ) -> Result<Held, AllocError>
     requires unnamed { (m.now.0 ≢ via.now.save) × (m.now.1 ≢ via.now.save) }
     requires passing { IsTrue is_passing → (m.now.0 ≢ via.now.register) × (m.now.1 ≢ via.now.register) }

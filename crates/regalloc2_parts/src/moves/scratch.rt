@@ -2,9 +2,9 @@
 
 ghost use Rattle.std.specs.Prelude.{◌≡◌, ◌⊎◌, true, false, IfOk, IfErr, MatchResult};
 ghost use Rattle.regalloc2_names.specs.Place.{InRegister};
-ghost use Rattle.regalloc2_parts.specs.Resolved.{moves_listed, has_scratch, IsRunnable};
+ghost use Rattle.regalloc2_parts.specs.Resolved.{moves_listed, IsRunnable};
 ghost use Rattle.regalloc2_parts.specs.Tracking.{CanExpandBy, IsExpanded};
-ghost use Rattle.regalloc2_parts.specs.Computed.{CanAsk, Owes, MayBeAskedTwice, IsHanding, IsRefusing, IsVia, IsChoice};
+ghost use Rattle.regalloc2_parts.specs.Computed.{CanAsk, Owes, MayBeAskedTwice, IsHanding, IsRefusing, IsVia, IsPlaceChosen};
 ghost use Rattle.regalloc2_parts.specs.Computed.{Computes, AreApartInMemory, AreSeenApart};
 
 use super::passing::{self, Held, ScratchReg};
@@ -32,6 +32,10 @@ where
     /// The register that is used if none is free. What the moves leave in it is restored.
     pub borrowed_scratch_reg: PReg,
 }
+
+/// The least room for moves that go through a register: more than are stored inline, so that their
+/// list isn't copied at last.
+const MIN_CAPACITY: usize = 17;
 
 /// A place that the closures returned.
 #[derive(Clone, Copy, Debug, PartialEq, Eq)]
@@ -114,26 +118,23 @@ where
         false
     }
 
-    /// The moves with a scratch place in place of `Allocation::none()`, if they need one.
-    fn choose_scratch<T: Copy + Default, A: Allocator + Copy>(
-        &mut self,
-        moves: MoveVecWithScratch<T, A>,
-    ) -> Result<MoveVec<T, A>, MoveFault>
+    /// A scratch place, if one is needed; else `Allocation::none()`.
+    fn choose_scratch(&mut self, is_needed: bool) -> Result<Allocation, MoveFault>
         requires { CanAsk (GetReg.pre self.old.find_free_reg) (GetStackSlot.pre self.old.get_stackslot) }
         ensures stack { self.new.is_stack_alloc ≡ self.old.is_stack_alloc }
         ensures borrowed { self.new.borrowed_scratch_reg ≡ self.old.borrowed_scratch_reg }
-        ensures chosen { IfOk result (λ made. IsChoice (λ s a t. GetReg.step s a t) (λ s a t. GetStackSlot.step s a t) self.old.find_free_reg
-            self.new.find_free_reg self.old.get_stackslot self.new.get_stackslot moves made.items) }
-        ensures none { IfErr result (λ e. (e ≡ MoveFault.NoSlot) × (has_scratch moves ≡ true)
+        ensures chosen { IfOk result (λ place. IsPlaceChosen (λ s a t. GetReg.step s a t) (λ s a t. GetStackSlot.step s a t) self.old.find_free_reg
+            self.new.find_free_reg self.old.get_stackslot self.new.get_stackslot is_needed place) }
+        ensures none { IfErr result (λ e. (e ≡ MoveFault.NoSlot) × (is_needed ≡ true)
             × IsRefusing (λ s a t. GetReg.step s a t) (λ s a t. GetStackSlot.step s a t) self.old.find_free_reg self.new.find_free_reg self.old.get_stackslot
             self.new.get_stackslot) }
     {
-        if !moves.needs_scratch() {
-            return Ok(moves.with_scratch(Allocation::none()));
+        if !is_needed {
+            return Ok(Allocation::none());
         }
         match self.hand_out()? {
-            Handed::Register(register) => Ok(moves.with_scratch(register)),
-            Handed::Slot(slot) => Ok(moves.with_scratch(slot)),
+            Handed::Register(register) => Ok(register),
+            Handed::Slot(slot) => Ok(slot),
         }
     }
 
@@ -150,13 +151,13 @@ where
             out.items) (λ e. e ≡ MoveFault.Memory) }
     {
         let mut held = first;
-        let mut out = SmallVec::new(alloc);
+        let mut out = Vec::with_capacity(alloc, moves.len().saturating_mul(2).max(MIN_CAPACITY))?;
         for m in moves {
             let is_passing = self.is_stack_to_stack(m.0, m.1);
             held = passing::make(m, is_passing, via, held, &mut out)?;
         }
         let _held = passing::restore_first(via, held, &mut out)?;
-        Ok(out)
+        Ok(SmallVec::from_vec(out))
     }
 
     /// `compute`, but keeps the resolver: a caller can read the states that its closures reached.
@@ -173,7 +174,8 @@ where
         ensures computed { Computes (λ s a t. GetReg.step s a t) (λ s a t. GetStackSlot.step s a t) (λ p b. IsStackAlloc.post self.old.is_stack_alloc p b)
             self.old self.new moves result }
     {
-        let chosen = self.choose_scratch(moves)?;
+        let scratch = self.choose_scratch(moves.needs_scratch())?;
+        let chosen = moves.with_scratch(scratch);
         let list = chosen.as_slice();
         if !self.has_stack_to_stack(list) {
             return Ok(chosen);

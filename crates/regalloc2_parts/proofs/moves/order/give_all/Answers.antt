@@ -17,9 +17,9 @@ loop-start-init g c =
     let all : c.as_mut_slice-state.result.now ≡ replicate (length c.args.moves.now) Todo = c.as_mut_slice-state.ensures.value
     ∙ c.in_ok-states.ensures.items_if_clones_equal (λ x h. h) in
     record {
-      given = given_none (ends_of c.args.moves.now) c.args.nexts.now c.as_mut_slice-state.result.now (ends_of c.new-given.result.items) c.new-chain.result.items
-          (all ∙ ap (λ n. replicate n Todo) (sym many)) (ap ends_of c.new-given.ensures.items) c.new-chain.ensures.items;
-      of_moves = subst (λ x. All (IsOfMoves c.args.moves.now) x) (sym c.new-given.ensures.items) (All-nil (IsOfMoves c.args.moves.now));
+      given = given_none (ends_of c.args.moves.now) c.args.nexts.now c.as_mut_slice-state.result.now (ends_of c.in_ok-given.given.items) c.new-chain.result.items
+          (all ∙ ap (λ n. replicate n Todo) (sym many)) (ap ends_of c.in_ok-given.ensures.items) c.new-chain.ensures.items;
+      of_moves = subst (λ x. All (IsOfMoves c.args.moves.now) x) (sym c.in_ok-given.ensures.items) (All-nil (IsOfMoves c.args.moves.now));
     }
 
 pub give_from-requires : goal.give_from-requires
@@ -88,7 +88,7 @@ returns g c =
 
 pub returns-in_err-states : goal.returns-in_err-states
 returns-in_err-states g c =
-    let p = err_from_is_err_and c.from_residual.result c.from_residual.ensures.1 in
+    let p = err_from_is_err_and c.from_residual-in_err-states.result c.from_residual-in_err-states.ensures.1 in
     rw p.1 (record { order = tt })
 
 pub returns-in_err-give_from : goal.returns-in_err-give_from

@@ -1,4 +1,4 @@
-use Rattle.std.proofs.Common.{◌≡◌, true, false, rules, inl, inr, sym, subst, ⊎_elim}
+use Rattle.std.proofs.Common.{◌≡◌, true, false, inl, inr, sym, subst, ⊎_elim}
 use Rattle.std.proofs.lemmas.Result.{on_ok_weaker, IfOk-weaker}
 use Rattle.regalloc2_parts.specs.Tracking.{IsMadeFor}
 use Rattle.regalloc2_parts.proofs.moves.passing.make.Goals as goal
@@ -35,10 +35,10 @@ returns-clause-tracks g c = c.copy-2.ensures.tracks
 pub pass-requires : goal.pass-requires
 pass-requires g c =
     let apart = c.requires.passing c.if-is_passing.true in
-    (search rules, ((apart.0, c.requires.unnamed.0), (apart.1, c.requires.unnamed.1)))
+    record { from = (apart.0, c.requires.unnamed.0); to = (apart.1, c.requires.unnamed.1) }
 
 pub copy-requires : goal.copy-requires
-copy-requires g c = (search rules, (c.requires.unnamed, λ e. c.in_ok-after.ensures.restored))
+copy-requires g c = record { unnamed = c.requires.unnamed; ready = λ e. c.in_ok-after.ensures.restored }
 
 pub copy-requires-2 : goal.copy-requires-2
-copy-requires-2 g c = (search rules, (c.requires.unnamed, λ e. let no : false ≡ true = c.if-is_same.ensures.same.1 e in absurd cc))
+copy-requires-2 g c = record { unnamed = c.requires.unnamed; ready = λ e. let no : false ≡ true = c.if-is_same.ensures.same.1 e in absurd cc }

@@ -9,10 +9,10 @@ returns-in_ok-push-in-InRegister-clause-tracks g c = λ x d had.
     let r = c.args.via.now.register in
     let s = c.args.via.now.save in
     let old = c.args.out.now.items in
-    saves_pushed r s x d old c.push.new.self.items (r, s, c.default.result) refl refl c.in_ok-push-in-InRegister.ensures.ok
+    saves_pushed r s x d old c.push.new.self.items (r, s, c.default.result) refl refl c.in_ok-push-in-InRegister.ensures.items
     (subst (λ h. Tracks r s h x (in_turn (ends_of old) d)) c.in-InRegister.is had)
 
 pub returns-in_ok-push-in-InRegister-clause-added : goal.returns-in_ok-push-in-InRegister-clause-added
 returns-in_ok-push-in-InRegister-clause-added g c = λ x h.
     added_aside c.args.via.now.register c.args.via.now.save x c.args.out.now.items c.push.new.self.items
-    (c.args.via.now.register, c.args.via.now.save, c.default.result) (inl (refl, refl)) c.in_ok-push-in-InRegister.ensures.ok h
+    (c.args.via.now.register, c.args.via.now.save, c.default.result) (inl (refl, refl)) c.in_ok-push-in-InRegister.ensures.items h

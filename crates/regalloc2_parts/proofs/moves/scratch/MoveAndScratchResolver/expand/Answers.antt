@@ -1,4 +1,4 @@
-use Rattle.std.proofs.Common.{◌≡◌, ◌≢◌, ◌<◌, ◌≤◌, Bool, true, length, rules, arith, sym, subst}
+use Rattle.std.proofs.Common.{◌≡◌, ◌≢◌, ◌<◌, ◌≤◌, Bool, true, length, arith, sym, subst}
 use Rattle.std.specs.Prelude.{Contains}
 use Rattle.std.specs.List.{All}
 use Rattle.std.proofs.lemmas.List.Elements.{All-contains, All-nil}
@@ -12,10 +12,10 @@ use Rattle.regalloc2_parts.proofs.moves.scratch.MoveAndScratchResolver.expand.Go
 
 pub loop-m-init : goal.loop-m-init
 loop-m-init g c = record {
-  follows = follows_none c.args.via.now.register c.args.via.now.save c.args.first c.args.moves.now c.new-out.result.items c.requires.can.first
-      c.requires.can.fits c.new-out.ensures.items;
+  follows = follows_none c.args.via.now.register c.args.via.now.save c.args.first c.args.moves.now c.in_ok-out.out.items c.requires.can.first
+      c.requires.can.fits c.in_ok-out.ensures.items;
   made = subst (λ xs. All (IsMade (λ p b. goal.IsStackAlloc-post g c.args.self.now.is_stack_alloc p b) c.args.via.now.register c.args.via.now.save
-      c.args.moves.now) xs) (sym c.new-out.ensures.items) (All-nil _);
+      c.args.moves.now) xs) (sym c.in_ok-out.ensures.items) (All-nil _);
 }
 
 pub make-requires : goal.make-requires
@@ -25,17 +25,14 @@ make-requires g c =
     let inside : Contains c.args.moves.now m =
     read_in c.args.moves.now c.loop-m.m-index m c.loop-m-test.true c.m-item.is in
     let free : (m.0 ≢ s) × (m.1 ≢ s) = All-contains (λ (x : Place × Place × g.row.T.Denot). (x.0 ≢ s) × (x.1 ≢ s)) c.args.moves.now m c.requires.can.unnamed
-    inside in (
-      search rules,
-      (
-        free,
-        (λ yes.
-            let both = c.is_stack_to_stack-is_passing.ensures.both yes in (
-              (λ h. c.requires.can.no_memory (subst (λ p. goal.IsStackAlloc-post g c.args.self.now.is_stack_alloc p true) h both.0)),
-              (λ h. c.requires.can.no_memory (subst (λ p. goal.IsStackAlloc-post g c.args.self.now.is_stack_alloc p true) h both.1)),
-            )),
-      ),
-    )
+    inside in record {
+      unnamed = free;
+      passing = λ yes.
+          let both = c.is_stack_to_stack-is_passing.ensures.both yes in (
+            (λ h. c.requires.can.no_memory (subst (λ p. goal.IsStackAlloc-post g c.args.self.now.is_stack_alloc p true) h both.0)),
+            (λ h. c.requires.can.no_memory (subst (λ p. goal.IsStackAlloc-post g c.args.self.now.is_stack_alloc p true) h both.1)),
+          );
+    }
 
 pub loop-m-preserved : goal.loop-m-preserved
 loop-m-preserved g c =
@@ -60,9 +57,13 @@ loop-m-preserved g c =
           c.is_stack_to_stack-is_passing.ensures.one c.loop-m.invariant.made c.in_ok-held.ensures.added;
     }
 
+pub returns-in_err-out : goal.returns-in_err-out
+returns-in_err-out g c =
+    let p = err_from_is_err_and c.from_residual.result c.from_residual.ensures.1 in rw p.1 (record { expanded = p.2 })
+
 pub returns-in_err-held : goal.returns-in_err-held
 returns-in_err-held g c =
-    let p = err_from_is_err_and c.from_residual.result c.from_residual.ensures.1 in rw p.1 (record { expanded = p.2 })
+    let p = err_from_is_err_and c.from_residual-in_err-held.result c.from_residual-in_err-held.ensures.1 in rw p.1 (record { expanded = p.2 })
 
 pub returns-in_err-_held : goal.returns-in_err-_held
 returns-in_err-_held g c =
@@ -82,4 +83,4 @@ returns g c =
       each = made_last stack r s c.requires.can.no_memory c.requires.can.real ms c.loop-m.out.items c.restore_first.new.out.items c.loop-m.invariant.made
           c.in_ok-_held.ensures.added;
     } in
-    record { expanded = expanded }
+    record { expanded = subst (λ xs. IsExpanded stack r s ms xs) (sym c.from_vec.ensures.items) expanded }
