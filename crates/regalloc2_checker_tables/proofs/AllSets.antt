@@ -126,7 +126,7 @@ push-at kept new s n has q m h =
     }
 
 -- lower numbers are of the same sets, whatever is kept
-few-same : (kept new : List NumberSet) (n : ℕ) → n < 2147483648 → get_or (all_sets new) n [] ≡ get_or (all_sets kept) n []
+pub few-same : (kept new : List NumberSet) (n : ℕ) → n < 2147483648 → get_or (all_sets new) n [] ≡ get_or (all_sets kept) n []
 unfolding all_sets
 few-same kept new zero l = refl
 few-same kept new (suc n) l =

@@ -1,11 +1,10 @@
 -- Steps of walks over the places where a vreg may be.
-use Rattle.std.proofs.Common.{inl, inr, ℕ, ◌≡◌, ◌+◌, ◌<◌, arith, Bool, true, false, cond}
+use Rattle.std.proofs.Common.{inl, inr, ℕ, ◌≡◌, ◌+◌, ◌<◌, arith, Bool, true, false}
 use Rattle.std.proofs.Common.{nat_eq, nat_lt, eq-eqb, List, [], ◌∷◌, ◌++◌, length, get_or, take, refl, sym, ap, ◌∙◌, subst}
-use Rattle.std.specs.Prelude.{◌&&◌, ◌||◌, if◌then◌else◌, slice_set}
+use Rattle.std.specs.Prelude.{◌&&◌, ◌||◌, if◌then◌else◌}
 use Rattle.std.specs.List.Sorted.{IsStrictlyIncreasing}
 use Rattle.std.proofs.lemmas.List.{take_more}
 use Rattle.std.proofs.lemmas.Bool.{cases_eq, lt-ltb as below, ne_eqb}
-use Rattle.std.proofs.lemmas.List.{get_or-set_other, get_or-set_same, length-set}
 use Rattle.std.proofs.Math.Bool.{and-false, or-false as or-no}
 use Rattle.regalloc2_shape.specs.Numbers.{NumberSet, has_number, times_listed}
 use Rattle.regalloc2_checker_tables.specs.SavedNumbers.{NumberCopies}
@@ -142,12 +141,12 @@ holders-more old mid new test done place h g i = elim (cases_eq i place) [
 -- each place of a home is one of the few, or of the set
 pub holders-all : (none few all : ℕ → Bool) (home : HomePlaces) (bound : ℕ) (has : ℕ → Bool) → ((i : ℕ) → none i ≡ false) →
     ((i : ℕ) → few i ≡ (none i || (has_few home i && (nat_lt i bound && has i)))) →
-    ((i : ℕ) → all i ≡ (few i || (has_number home.others i && (nat_lt i bound && has i)))) → (i : ℕ) →
+    ((i : ℕ) → all i ≡ (few i || (has_number home.more.others i && (nat_lt i bound && has i)))) → (i : ℕ) →
     all i ≡ (nat_lt i bound && (has_home home i && has i))
 holders-all none few all home bound has e h g i =
-    g i ∙ ap (λ b. b || (has_number home.others i && (nat_lt i bound && has i)))
+    g i ∙ ap (λ b. b || (has_number home.more.others i && (nat_lt i bound && has i)))
     (h i ∙ ap (λ b. b || (has_few home i && (nat_lt i bound && has i))) (e i))
-    ∙ by (has_few home i) (has_number home.others i) (nat_lt i bound) (has i)
+    ∙ by (has_few home i) (has_number home.more.others i) (nat_lt i bound) (has i)
     ∙ ap (λ b. nat_lt i bound && (b && has i)) (sym (home-is home i))
   where
     by : (f o l x : Bool) → (false || (f && (l && x)) || (o && (l && x))) ≡ (l && ((f || o) && x))
@@ -164,7 +163,7 @@ holders-all none few all home bound has e h g i =
 
 -- so it is where there is no set
 pub holders-few : (none few : ℕ → Bool) (home : HomePlaces) (bound : ℕ) (has : ℕ → Bool) → ((i : ℕ) → none i ≡ false) →
-    ((i : ℕ) → has_number home.others i ≡ false) → ((i : ℕ) → few i ≡ (none i || (has_few home i && (nat_lt i bound && has i)))) → (i : ℕ) →
+    ((i : ℕ) → has_number home.more.others i ≡ false) → ((i : ℕ) → few i ≡ (none i || (has_few home i && (nat_lt i bound && has i)))) → (i : ℕ) →
     few i ≡ (nat_lt i bound && (has_home home i && has i))
 holders-few none few home bound has e lacks h =
     holders-all none few few home bound has e h (λ i. sym (ap (λ b. few i || (b && (nat_lt i bound && has i))) (lacks i) ∙ or-no (few i)))
@@ -172,11 +171,11 @@ holders-few none few home bound has e lacks h =
 -- dropped at the few places, and at those of the set
 pub dropped-all : (old mid new : ℕ → ℕ → Bool) (home : HomePlaces) (bits size : ℕ) →
     ((i y : ℕ) → i < size → mid i y ≡ (if has_few home i && nat_eq y bits then false else old i y)) →
-    ((i y : ℕ) → i < size → new i y ≡ (if has_number home.others i && nat_eq y bits then false else mid i y)) → (i y : ℕ) → i < size →
+    ((i y : ℕ) → i < size → new i y ≡ (if has_number home.more.others i && nat_eq y bits then false else mid i y)) → (i y : ℕ) → i < size →
     new i y ≡ (if has_home home i && nat_eq y bits then false else old i y)
 dropped-all old mid new home bits size h g i y l =
-    g i y l ∙ ap (λ b. if has_number home.others i && nat_eq y bits then false else b) (h i y l)
-    ∙ by (has_few home i) (has_number home.others i) (nat_eq y bits) (old i y)
+    g i y l ∙ ap (λ b. if has_number home.more.others i && nat_eq y bits then false else b) (h i y l)
+    ∙ by (has_few home i) (has_number home.more.others i) (nat_eq y bits) (old i y)
     ∙ ap (λ b. if b && nat_eq y bits then false else old i y) (sym (home-is home i))
   where
     by : (f o e x : Bool) → (if o && e then false else (if f && e then false else x)) ≡ (if (f || o) && e then false else x)
@@ -188,45 +187,19 @@ dropped-all old mid new home bits size h g i y l =
     by false false e x = refl
 
 -- so it is where there is no set
-pub dropped-few : (old mid : ℕ → ℕ → Bool) (home : HomePlaces) (bits size : ℕ) → ((i : ℕ) → has_number home.others i ≡ false) →
+pub dropped-few : (old mid : ℕ → ℕ → Bool) (home : HomePlaces) (bits size : ℕ) → ((i : ℕ) → has_number home.more.others i ≡ false) →
     ((i y : ℕ) → i < size → mid i y ≡ (if has_few home i && nat_eq y bits then false else old i y)) → (i y : ℕ) → i < size →
     mid i y ≡ (if has_home home i && nat_eq y bits then false else old i y)
 dropped-few old mid home bits size lacks h =
     dropped-all old mid mid home bits size h (λ i y l. sym (ap (λ b. if b && nat_eq y bits then false else mid i y) (lacks i)))
 
--- homes (the places where a vreg may be): one vreg gets a place
-pub homes-more : (homes : List HomePlaces) (j place : ℕ) (home : HomePlaces) → j < length homes →
-    ((i : ℕ) → has_home home i ≡ cond (nat_eq i place) true (has_home (get_or homes j no_homes) i)) → AreMoreHomes homes (slice_set homes j home)
-homes-more homes j place home less h = record {
-  long = length-set homes j home;
-  kept = λ k i e. elim (cases_eq k j) [
-    | inl q ↦
-        ap (λ n. has_home (get_or (slice_set homes j home) n no_homes) i) q
-        ∙ ap (λ (h : HomePlaces). has_home h i) (get_or-set_same homes j home no_homes less) ∙ h i
-        ∙ ap (λ b. cond (nat_eq i place) true b) (ap (λ n. has_home (get_or homes n no_homes) i) (sym q) ∙ e) ∙ always (nat_eq i place)
-    | inr n ↦ ap (λ (h : HomePlaces). has_home h i) (get_or-set_other homes j k home no_homes n) ∙ e
-  ];
-}
-  where
-    always : (b : Bool) → cond b true true ≡ true
-    always true = refl
-    always false = refl
-
--- homes that stay are still there
+-- homes (the places where a vreg may be) that stay are still there
 pub homes-same : (homes : List HomePlaces) → AreMoreHomes homes homes
 homes-same homes = record { long = refl; kept = λ j i e. e }
 
 -- homes that stay over two steps stay over both
 pub homes-then : (a b c : List HomePlaces) → AreMoreHomes a b → AreMoreHomes b c → AreMoreHomes a c
 homes-then a b c h g = record { long = g.long ∙ h.long; kept = λ j i e. g.kept j i (h.kept j i e) }
-
--- a place that is put into a vreg's homes is there
-pub noted-here : (homes : List HomePlaces) (j place : ℕ) (home : HomePlaces) → j < length homes →
-    ((i : ℕ) → has_home home i ≡ cond (nat_eq i place) true (has_home (get_or homes j no_homes) i)) →
-    has_home (get_or (slice_set homes j home) j no_homes) place ≡ true
-noted-here homes j place home less h =
-    ap (λ (h : HomePlaces). has_home h place) (get_or-set_same homes j home no_homes less) ∙ h place
-    ∙ ap (λ b. cond b true (has_home (get_or homes j no_homes) place)) (eq-eqb place place refl)
 
 -- with a place in a vreg's homes, it is one where the vreg may be
 pub home-at : (vregs : List ℕ) (homes : List HomePlaces) (j place bits : ℕ) → IsStrictlyIncreasing vregs → j < length vregs → get_or vregs j 0 ≡ bits →

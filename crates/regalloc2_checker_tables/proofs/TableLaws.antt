@@ -306,19 +306,6 @@ put-home t h place vreg set a less m here members y is = elim (cases_eq y (get_o
       home-kept t.vregs t.homes h place y m (a.now.homed place y (omega arith) there)
 ]
 
--- homes of which one is set to what it was stay
-pub homes-kept-at : (homes : List HomePlaces) (j : ℕ) (home : HomePlaces) → j < length homes →
-    ((i : ℕ) → has_home home i ≡ has_home (get_or homes j no_homes) i) → AreMoreHomes homes (slice_set homes j home)
-homes-kept-at homes j home less e = record {
-  long = length-set homes j home;
-  kept = λ k i is. elim (cases_eq k j) [
-    | inl q ↦
-        ap (λ n. has_home (get_or (slice_set homes j home) n no_homes) i) q ∙ ap (λ (h : HomePlaces). has_home h i) (get_or-set_same homes j home no_homes less)
-        ∙ e i ∙ ap (λ n. has_home (get_or homes n no_homes) i) (sym q) ∙ is
-    | inr n ↦ ap (λ (h : HomePlaces). has_home h i) (get_or-set_other homes j k home no_homes n) ∙ is
-  ];
-}
-
 -- a set has the members of an equal test
 pub set-as : (s : List NumberSet) (n : ℕ) (f g : ℕ → Bool) → ((y : ℕ) → f y ≡ g y) → IsSetOf s n f → IsSetOf s n g
 set-as s n f g e h = record { below = h.below; members = λ y. h.members y ∙ e y }

@@ -7,4 +7,5 @@ pub mod EntrySets
 pub mod Homes
 pub mod PlaceEntries
 pub mod Holding
+pub mod Renumbering
 pub mod Showing

@@ -1,5 +1,5 @@
 -- An array of numbers, and saved copies of it in chunks of 64, stored in one list of words. Where chunks begin is an array of its own, with saved copies.
-use Rattle.std.specs.Prelude.{ℕ, ◌≡◌, ◌+◌, ◌*◌, ◌/◌, ◌%◌, ◌<◌, ◌≤◌, List, [], length, get_or}
+use Rattle.std.specs.Prelude.{ℕ, ◌≡◌, ◌+◌, ◌*◌, ◌/◌, ◌%◌, ◌<◌, ◌≤◌, ◌⊎◌, Bool, false, List, [], length, get_or}
 use Rattle.regalloc2_checker_tables.specs.SavedCopies.{Copies, number_in, saved_at, number_in_cell, IsChunkAt}
 
 -- saved copies: where their chunks begin among the words is itself stored in chunks, of other words
@@ -57,3 +57,30 @@ AreLoaded words cells bases k end = (j : ℕ) → j < end → j < length bases.c
 -- the chunks of the array below a chunk are among the words
 abbrev pub AreSaved : Copies → ℕ → Type 0
 AreSaved bases end = (j : ℕ) → j < end → j < length bases.cells → number_in_cell bases j < 4294967295
+
+-- so many numbers are written into the array, from a position on
+pub record AreWrittenTo (numbers : List ℕ) (first n : ℕ) (old new : NumberCopies) : Type 0 where
+  pub count : copy_count new ≡ copy_count old
+  pub saved : (k i : ℕ) → saved_number new k i ≡ saved_number old k i
+  pub long : length new.cells ≡ length old.cells
+  pub written : (t : ℕ) → t < n → number_now new (first + t) ≡ get_or numbers t 0
+  pub before : (i : ℕ) → i < first → number_now new i ≡ number_now old i
+  pub after : (i : ℕ) → first + n ≤ i → number_now new i ≡ number_now old i
+
+-- two arrays have the same numbers
+pub record AreNumbersSame (a b : NumberCopies) : Type 0 where
+  pub long : length b.cells ≡ length a.cells
+  pub same : (i : ℕ) → i < length a.cells → number_now b i ≡ number_now a i
+
+-- the array has what it had, or what a saved copy has
+abbrev pub IsSomeArray : NumberCopies → NumberCopies → Type 0
+IsSomeArray old new = ((i : ℕ) → i < length old.cells → number_now new i ≡ number_now old i)
+    ⊎ ((k : ℕ) × ((i : ℕ) → i < length old.cells → number_now new i ≡ saved_number old k i))
+
+-- saved copies without those that have a mark, which are zeros
+pub record IsWithout (marks : List Bool) (old new : NumberCopies) : Type 0 where
+  pub count : copy_count new ≡ copy_count old
+  pub long : length new.cells ≡ length old.cells
+  pub array : IsSomeArray old new
+  pub kept : (k i : ℕ) → k < copy_count old → get_or marks k false ≡ false → i < length old.cells → saved_number new k i ≡ saved_number old k i
+  pub each : (k i : ℕ) → i < length old.cells → (saved_number new k i ≡ 0) ⊎ (saved_number new k i ≡ saved_number old k i)

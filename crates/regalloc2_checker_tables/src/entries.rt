@@ -2,16 +2,19 @@
 //! another.
 //!
 //! An array is kept in chunks of 64 numbers. The chunks of all saved copies are in one list of
-//! words that only grows. Where the chunks of each copy begin is an array of numbers itself, with
-//! saved copies, so neither saving nor loading a copy goes over all chunks.
+//! words that grows until copies are dropped. Where the chunks of each copy begin is an array of
+//! numbers itself, with saved copies, so neither saving nor loading a copy goes over all chunks.
 
 ghost use Rattle.std.specs.Prelude.{◌≡◌, ◌≢◌, ℕ, ◌+◌, ◌*◌, ◌/◌, ◌%◌, ◌-◌, ◌^◌, ◌<◌, ◌≤◌, length, get_or, slice_set};
-ghost use Rattle.std.specs.Prelude.{IfOk, OnOk, OnErr, None, Some};
+ghost use Rattle.std.specs.Prelude.{◌⊎◌, IfOk, IfSome, OnOk, OnErr, None, Some, [], true, false};
+ghost use Rattle.std.specs.Bool.{OnTrue};
+ghost use Rattle.regalloc2_checker_tables.specs.Renumbering.{renamed, IsMarked, AppearsIn};
 ghost use Rattle.regalloc2_checker_tables.specs.SavedCopies.{number_in_cell, saved_at, AreMoreWords};
 ghost use Rattle.regalloc2_checker_tables.specs.SavedNumbers.{copy_count, saved_number, number_now, AreAlikeBetween, AreChunksKept, AreCopiesKept, AreLoaded};
-ghost use Rattle.regalloc2_checker_tables.specs.SavedNumbers.{AreSaved};
+ghost use Rattle.regalloc2_checker_tables.specs.SavedNumbers.{AreSaved, AreWrittenTo, AreNumbersSame, IsSomeArray, IsWithout};
 
-use crate::versions::{Versions, copy_chunk, is_same_chunk, make_room};
+use crate::unused_sets::{note_all, rename_all};
+use crate::versions::{Versions, begins_with_zeros, copy_chunk, is_same_chunk, make_room};
 use std::alloc::{AllocError, Allocator};
 use std::marker::Model;
 
@@ -115,11 +118,19 @@ fn save_chunks<A: Allocator + Copy>(
     Ok(())
 }
 
+/// Whether there is a mark at an index.
+fn is_marked(marks: &[bool], index: usize) -> bool
+    ensures { result ≡ get_or marks.now index false }
+{
+    index < marks.len() && marks[index]
+}
+
 impl<A: Allocator + Copy> Entries<A> {
     /// Zeros, for so many positions and so many saved copies.
     pub fn new(alloc: A, count: usize, size: usize) -> Result<Entries<A>, AllocError>
         requires { size < 2 ^ 62 }
         ensures long { IfOk result (λ v. size < length v.cells) }
+        ensures chunks { IfOk result (λ v. length v.cells ≡ 64 * (size / 64 + 1)) }
         ensures count { IfOk result (λ v. copy_count v ≡ count) }
         ensures cells { IfOk result (λ v. (i : ℕ) → number_now v i ≡ 0) }
         ensures saved { IfOk result (λ v. (k i : ℕ) → saved_number v k i ≡ 0) }
@@ -183,6 +194,104 @@ impl<A: Allocator + Copy> Entries<A> {
         self.words[index]
     }
 
+    /// How many words are stored.
+    pub fn word_count(&self) -> usize {
+        self.words.len()
+    }
+
+    /// Writes numbers, from a position on.
+    fn write_all(&mut self, first: usize, numbers: &[u32])
+        requires small { first < 2 ^ 63 }
+        requires within { first + length numbers.now ≤ length self.old.cells }
+        ensures { AreWrittenTo numbers.now first (length numbers.now) self.old self.new }
+    {
+        for t in 0..numbers.len() {
+            self.set(first + t, numbers[t]);
+        }
+    }
+
+    /// Gives another array, which has the numbers of this one, those of a saved copy.
+    fn write_copy(&self, copy: usize, to: &mut Entries<A>)
+        requires copy { copy < copy_count self.now }
+        requires long { length to.old.cells ≡ length self.now.cells }
+        requires same { (i : ℕ) → i < length self.now.cells → number_now to.old i ≡ number_now self.now i }
+        ensures count { copy_count to.new ≡ copy_count to.old }
+        ensures saved { (k i : ℕ) → saved_number to.new k i ≡ saved_number to.old k i }
+        ensures long { length to.new.cells ≡ length to.old.cells }
+        ensures written { (i : ℕ) → i < length self.now.cells → number_now to.new i ≡ saved_number self.now copy i }
+    {
+        let mut from = 0;
+        'chunks: while let Some(chunk) = self.next_chunk(copy, from) {
+            let base = self.base(copy, chunk);
+            to.write_all(64 * chunk, &self.words[base..base + 64]);
+            from = chunk + 1;
+        }
+    }
+
+    /// Whether a copy was never saved.
+    fn is_unsaved(&self, copy: usize) -> bool
+        requires { copy < copy_count self.now }
+        ensures { OnTrue result (get_or self.now.base_rows copy [] ≡ []) }
+    {
+        self.bases.is_unsaved(copy)
+    }
+
+    /// Whether copies that were never saved are known to have zeros alone.
+    fn begins_with_zeros(&self) -> bool
+        ensures { OnTrue result ((k i : ℕ) → get_or self.now.base_rows k [] ≡ [] → saved_number self.now k i ≡ 0) }
+    {
+        self.bases.begins_with_zeros() && begins_with_zeros(&self.words)
+    }
+
+    /// Loads a saved copy, and saves it in another array, which has the numbers of this one.
+    fn keep_copy(&mut self, copy: usize, to: &mut Entries<A>) -> Result<(), AllocError>
+        requires copy { copy < copy_count self.old }
+        requires count { copy_count to.old ≡ copy_count self.old }
+        requires same { AreNumbersSame self.old to.old }
+        ensures count { copy_count self.new ≡ copy_count self.old }
+        ensures saved { (k i : ℕ) → saved_number self.new k i ≡ saved_number self.old k i }
+        ensures long { length self.new.cells ≡ length self.old.cells }
+        ensures loaded { (i : ℕ) → i < length self.new.cells → number_now self.new i ≡ saved_number self.old copy i }
+        ensures as_many { copy_count to.new ≡ copy_count to.old }
+        ensures same { AreNumbersSame self.new to.new }
+        ensures others { (k i : ℕ) → (k ≡ copy → ⊥) → i < length to.old.cells → saved_number to.new k i ≡ saved_number to.old k i }
+        ensures kept { OnOk result ((i : ℕ) → i < length to.old.cells → saved_number to.new copy i ≡ saved_number self.old copy i) }
+    {
+        self.write_copy(copy, to);
+        self.load(copy);
+        to.save(copy)
+    }
+
+    /// The saved copies without those that have a mark, stored anew, if they don't take more words than before. The
+    /// array may be that of a saved copy then.
+    pub fn without(&mut self, alloc: A, marks: &[bool]) -> Result<Option<Entries<A>>, AllocError>
+        requires { 0 < length self.old.cells }
+        ensures count { copy_count self.new ≡ copy_count self.old }
+        ensures saved { (k i : ℕ) → saved_number self.new k i ≡ saved_number self.old k i }
+        ensures long { length self.new.cells ≡ length self.old.cells }
+        ensures array { IsSomeArray self.old self.new }
+        ensures without { IfOk result (λ r. IfSome r (IsWithout marks.now self.old)) }
+    {
+        let count = self.bases.count();
+        let mut to = Entries::new(alloc, count, self.cells.len() - 1)?;
+        to.write_all(0, &self.cells);
+        let begins_with_zeros = self.begins_with_zeros();
+        for copy in 0..count {
+            if is_marked(marks, copy) {
+                continue;
+            }
+            // a copy of the new array has zeros until it is saved
+            if begins_with_zeros && self.is_unsaved(copy) {
+                continue;
+            }
+            self.keep_copy(copy, &mut to)?;
+            if to.words.len() > self.words.len() {
+                return Ok(None);
+            }
+        }
+        Ok(Some(to))
+    }
+
     /// Gives the array the numbers of a saved copy.
     pub fn load(&mut self, copy: usize)
         requires { copy < copy_count self.old }
@@ -213,6 +322,29 @@ impl<A: Allocator + Copy> Entries<A> {
         save_chunks(&mut self.words, &mut self.bases, near, copy, &self.cells)?;
         self.last = copy;
         self.bases.save(copy)
+    }
+
+    /// Marks the kept sets whose numbers the array and the saved copies have.
+    pub fn note_numbers(&self, used: &mut [bool])
+        ensures long { length used.new ≡ length used.old }
+        ensures now { (i : ℕ) → i < length self.now.cells → IsMarked used.new (number_now self.now i) }
+        ensures saved { (k i : ℕ) → i < length self.now.cells → IsMarked used.new (saved_number self.now k i) }
+        ensures only { (j : ℕ) → get_or used.new j true ≡ true → (get_or used.old j true ≡ true) ⊎ AppearsIn self.now (2147483648 + j) }
+    {
+        note_all(&self.words, used);
+        note_all(&self.cells, used);
+    }
+
+    /// Replaces the numbers of sets by their new ones.
+    pub fn renumber(&mut self, numbers: &[u32])
+        ensures count { copy_count self.new ≡ copy_count self.old }
+        ensures long { length self.new.cells ≡ length self.old.cells }
+        ensures now { (i : ℕ) → number_now self.new i ≡ renamed numbers.now (number_now self.old i) }
+        ensures saved { (k i : ℕ) → saved_number self.new k i ≡ renamed numbers.now (saved_number self.old k i) }
+        ensures all { (n : ℕ) → AppearsIn self.old n → AppearsIn self.new (renamed numbers.now n) }
+    {
+        rename_all(&mut self.words, numbers);
+        rename_all(&mut self.cells, numbers);
     }
 
     /// The first chunk from one on that may differ from that of a saved copy.

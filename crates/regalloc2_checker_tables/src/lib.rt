@@ -9,6 +9,7 @@ mod place_positions;
 mod positions;
 mod sets;
 mod tables;
+mod unused_sets;
 mod versions;
 
 pub use passing::PassingTables;

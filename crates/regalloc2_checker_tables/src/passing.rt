@@ -332,6 +332,22 @@ impl<A: Allocator + Copy> PassingTables<A> {
         Ok(())
     }
 
+    /// How many words the tables take.
+    pub fn word_count(&self) -> usize {
+        self.tables.word_count()
+    }
+
+    /// Drops the tables that have a mark, unless that makes no room, and the one that is worked on.
+    pub fn drop_marked(&mut self, marks: &[bool]) -> Result<(), AllocError>
+        ensures places { self.new.places ≡ self.old.places }
+        ensures vregs { self.new.vregs ≡ self.old.vregs }
+        ensures count { table_count self.new ≡ table_count self.old }
+        ensures tables { OnOk result ((k i y : ℕ) → get_or marks.now k false ≡ false → i < length self.old.places
+            → shows_in self.new k i y ≡ shows_in self.old k i y) }
+    {
+        self.tables.drop_marked(self.alloc, marks)
+    }
+
     /// Works on a table.
     pub fn load(&mut self, table: usize)
         requires { table < table_count self.old }

@@ -1,9 +1,10 @@
 //! Sets of the bits of vregs, which are never changed once they are made.
 
-ghost use Rattle.std.specs.Prelude.{◌≡◌, ℕ, ◌<◌, ◌≤◌, ◌++◌, ◌∷◌, [], true, false, ◌&&◌, ◌||◌, nat_eq, if◌then◌else◌, length, IfOk, OnErr};
+ghost use Rattle.std.specs.Prelude.{◌≡◌, ℕ, ◌<◌, ◌≤◌, ◌+◌, ◌++◌, ◌∷◌, [], true, false, ◌&&◌, ◌||◌, nat_eq, if◌then◌else◌, length, get_or, IfOk, OnErr};
 ghost use Rattle.std.specs.Bool.{OnTrue, OnFalse};
 ghost use Rattle.regalloc2_shape.specs.Numbers.{has_number};
 ghost use Rattle.regalloc2_checker_tables.specs.EntrySets.{has_bits, is_member, AreMore, IsSetOf, ListsBits, IsLess};
+ghost use Rattle.regalloc2_checker_tables.specs.Renumbering.{AreMovedDown, AreMarkedKept};
 
 use crate::kept_set::Kept;
 use regalloc2_shape::indexset::IndexSet;
@@ -12,7 +13,7 @@ use std::marker::Model;
 
 /// The number of the first set that is kept. A lower number stands for the empty set, or for a set of one member, which
 /// is one less than the number.
-const FIRST: u32 = 1 << 31;
+pub const FIRST: u32 = 1 << 31;
 
 /// Sets of bits, by number. The first is the empty one.
 ///
@@ -72,6 +73,36 @@ fn has_no_other<A: Allocator + Copy>(set: &IndexSet<A>, only: u32) -> bool
         }
     }
     true
+}
+
+/// Whether the kept set at an index stays: it has a mark, or is past the marks.
+fn stays(marks: &[bool], index: usize) -> bool
+    ensures { result ≡ get_or marks.now index true }
+{
+    if index < marks.len() {
+        return marks[index];
+    }
+    true
+}
+
+/// Drops the kept sets without a mark, and moves the others down. The list gets their new numbers.
+fn move_down<A: Allocator>(kept: &mut Vec<Kept<A>, A>, marks: &[bool], numbers: &mut [u32])
+    requires long { length numbers.old ≡ length kept.old.items }
+    requires few { length kept.old.items ≤ 2147483648 }
+    ensures long { length numbers.new ≡ length numbers.old }
+    ensures moved { AreMovedDown marks.now kept.old.items kept.new.items numbers.new (length kept.old.items) (length kept.new.items) }
+{
+    let mut next = 0;
+    for i in 0..numbers.len() {
+        if !stays(marks, i) {
+            numbers[i] = 0;
+            continue;
+        }
+        kept.swap(next, i);
+        numbers[i] = FIRST + next as u32;
+        next += 1;
+    }
+    kept.truncate(next);
 }
 
 impl<A: Allocator + Copy> Sets<A> {
@@ -483,5 +514,28 @@ impl<A: Allocator + Copy> Sets<A> {
             return Ok(0);
         }
         self.both(set, other)
+    }
+
+    /// How many sets are kept.
+    pub fn kept_count(&self) -> usize
+        ensures { length self.now ≡ 2147483648 + result }
+    {
+        self.kept.len()
+    }
+
+    /// Drops the kept sets without a mark, and returns the numbers that the others have then.
+    pub fn keep_marked(&mut self, marks: &[bool]) -> Result<Vec<u32, A>, AllocError>
+        ensures kept { IfOk result (λ numbers. AreMarkedKept marks.now self.old self.new numbers.items) }
+        ensures err { OnErr result (self.new ≡ self.old) }
+    {
+        let count = self.kept.len();
+        if count > FIRST as usize {
+            return Err(AllocError);
+        }
+        let mut numbers = Vec::new(self.alloc);
+        numbers.resize(count, 0)?;
+        self.grown = None;
+        move_down(&mut self.kept, marks, &mut numbers);
+        Ok(numbers)
     }
 }

@@ -16,10 +16,11 @@ ghost use Rattle.regalloc2_checker_tables.specs.Holding.{is_in, AreKeptTables, H
 ghost use Rattle.regalloc2_checker_tables.specs.Holding.{LosesSome, IsMetBetween};
 
 use crate::entries::Entries;
-use crate::homes::Home;
+use crate::homes::{Home, Homes};
 use crate::place_positions::PlacePositions;
 use crate::positions::Positions;
 use crate::sets::Sets;
+use crate::unused_sets::drop_unused_sets;
 use regalloc2_names::Allocation;
 use regalloc2_shape::indexset::IndexSet;
 use std::alloc::{AllocError, Allocator};
@@ -35,7 +36,7 @@ pub struct Tables<A: Allocator> {
     vregs: Positions<A>,
     entries: Entries<A>,
     sets: Sets<A>,
-    homes: Vec<Home<A>, A>,
+    homes: Homes<A>,
 }
 
 impl<A: Allocator> Model for Tables<A> {
@@ -43,9 +44,9 @@ impl<A: Allocator> Model for Tables<A> {
 
     ghost Value = { Holding };
 
-    ghost view = { λ t. record { places = t.places; vregs = t.vregs; entries = t.entries; sets = t.sets; homes = t.homes.items } };
+    ghost view = { λ t. record { places = t.places; vregs = t.vregs; entries = t.entries; sets = t.sets; homes = t.homes } };
 
-    ghost invariant = { λ t. IsSoundHolding (record { places = t.places; vregs = t.vregs; entries = t.entries; sets = t.sets; homes = t.homes.items }) };
+    ghost invariant = { λ t. IsSoundHolding (record { places = t.places; vregs = t.vregs; entries = t.entries; sets = t.sets; homes = t.homes }) };
 }
 
 /// Takes a vreg out of one place.
@@ -76,7 +77,7 @@ fn drop_at<A: Allocator + Copy>(
 fn drop_each<A: Allocator + Copy>(
     entries: &mut Entries<A>,
     sets: &mut Sets<A>,
-    home: &Home<A>,
+    home: &Home<'_, A>,
     bits: u32,
 ) -> Result<(), AllocError>
     requires { AreBelow sets.old entries.old }
@@ -96,7 +97,7 @@ fn drop_each<A: Allocator + Copy>(
 fn drop_few<A: Allocator + Copy>(
     entries: &mut Entries<A>,
     sets: &mut Sets<A>,
-    home: &Home<A>,
+    home: &Home<'_, A>,
     bits: u32,
 ) -> Result<(), AllocError>
     requires { AreBelow sets.old entries.old }
@@ -136,7 +137,7 @@ fn drop_members<A: Allocator + Copy>(
 fn drop_everywhere<A: Allocator + Copy>(
     entries: &mut Entries<A>,
     sets: &mut Sets<A>,
-    home: &Home<A>,
+    home: &Home<'_, A>,
     bits: u32,
 ) -> Result<(), AllocError>
     requires { AreBelow sets.old entries.old }
@@ -182,7 +183,7 @@ fn list_few<A: Allocator + Copy>(
     holders: &mut Vec<usize, A>,
     entries: &Entries<A>,
     sets: &Sets<A>,
-    home: &Home<A>,
+    home: &Home<'_, A>,
     bits: u32,
     bound: usize,
 ) -> Result<(), AllocError>
@@ -222,7 +223,7 @@ fn holders_among<A: Allocator + Copy>(
     alloc: A,
     entries: &Entries<A>,
     sets: &Sets<A>,
-    home: &Home<A>,
+    home: &Home<'_, A>,
     bits: u32,
     bound: usize,
 ) -> Result<Vec<usize, A>, AllocError>
@@ -240,54 +241,39 @@ fn holders_among<A: Allocator + Copy>(
     Ok(holders)
 }
 
-/// Notes that the vreg with a number may be at a place.
-#[inline(always)]
-fn note_at<A: Allocator + Copy>(
-    homes: &mut Vec<Home<A>, A>,
-    vreg: usize,
-    place: usize,
-) -> Result<(), AllocError>
-    requires vreg { vreg < length homes.old.items }
-    requires place { place < 2 ^ 38 }
-    ensures more { AreMoreHomes homes.old.items homes.new.items }
-    ensures noted { OnOk result (has_home (get_or homes.new.items vreg no_homes) place ≡ true) }
-{
-    let home = &mut homes[vreg];
-    home.add(place)
-}
-
 /// Notes that a vreg may be at a place, if it is listed.
+#[inline(always)]
 fn note<A: Allocator + Copy>(
     vregs: &Positions<A>,
-    homes: &mut Vec<Home<A>, A>,
+    homes: &mut Homes<A>,
     bits: u32,
     place: usize,
 ) -> Result<(), AllocError>
     requires rising { IsStrictlyIncreasing vregs.now }
-    requires homes { length homes.old.items ≡ length vregs.now }
+    requires homes { length homes.old ≡ length vregs.now }
     requires place { place < 2 ^ 38 }
-    ensures more { AreMoreHomes homes.old.items homes.new.items }
-    ensures noted { OnOk result (IsHome vregs.now homes.new.items place bits) }
+    ensures more { AreMoreHomes homes.old homes.new }
+    ensures noted { OnOk result (IsHome vregs.now homes.new place bits) }
 {
     let Some(vreg) = vregs.find(bits, bits as usize / 4) else {
         return Ok(());
     };
-    note_at(homes, vreg, place)
+    homes.add(vreg, place)
 }
 
 /// Notes that listed vregs may be at a place.
 #[inline(never)]
 fn note_all<A: Allocator + Copy>(
     vregs: &Positions<A>,
-    homes: &mut Vec<Home<A>, A>,
+    homes: &mut Homes<A>,
     members: &[u32],
     place: usize,
 ) -> Result<(), AllocError>
     requires rising { IsStrictlyIncreasing vregs.now }
-    requires homes { length homes.old.items ≡ length vregs.now }
+    requires homes { length homes.old ≡ length vregs.now }
     requires place { place < 2 ^ 38 }
-    ensures more { AreMoreHomes homes.old.items homes.new.items }
-    ensures noted { OnOk result ((y : ℕ) → 0 < times_listed members.now y → IsHome vregs.now homes.new.items place y) }
+    ensures more { AreMoreHomes homes.old homes.new }
+    ensures noted { OnOk result ((y : ℕ) → 0 < times_listed members.now y → IsHome vregs.now homes.new place y) }
 {
     for bits in members {
         note(vregs, homes, *bits, place)?;
@@ -299,16 +285,16 @@ fn note_all<A: Allocator + Copy>(
 #[inline(never)]
 fn note_two<A: Allocator + Copy>(
     vregs: &Positions<A>,
-    homes: &mut Vec<Home<A>, A>,
+    homes: &mut Homes<A>,
     pair: (u32, u32),
     place: usize,
 ) -> Result<(), AllocError>
     requires rising { IsStrictlyIncreasing vregs.now }
-    requires homes { length homes.old.items ≡ length vregs.now }
+    requires homes { length homes.old ≡ length vregs.now }
     requires place { place < 2 ^ 38 }
-    ensures more { AreMoreHomes homes.old.items homes.new.items }
-    ensures first { OnOk result (IsHome vregs.now homes.new.items place pair.0) }
-    ensures second { OnOk result (IsHome vregs.now homes.new.items place pair.1) }
+    ensures more { AreMoreHomes homes.old homes.new }
+    ensures first { OnOk result (IsHome vregs.now homes.new place pair.0) }
+    ensures second { OnOk result (IsHome vregs.now homes.new place pair.1) }
 {
     note(vregs, homes, pair.0, place)?;
     note(vregs, homes, pair.1, place)
@@ -319,17 +305,17 @@ fn note_two<A: Allocator + Copy>(
 fn note_set<A: Allocator + Copy>(
     vregs: &Positions<A>,
     sets: &Sets<A>,
-    homes: &mut Vec<Home<A>, A>,
+    homes: &mut Homes<A>,
     set: u32,
     place: usize,
 ) -> Result<(), AllocError>
     requires rising { IsStrictlyIncreasing vregs.now }
-    requires homes { length homes.old.items ≡ length vregs.now }
+    requires homes { length homes.old ≡ length vregs.now }
     requires set { set < length sets.now }
     requires empty { (y : ℕ) → is_member sets.now 0 y ≡ false }
     requires place { place < 2 ^ 38 }
-    ensures more { AreMoreHomes homes.old.items homes.new.items }
-    ensures noted { OnOk result ((y : ℕ) → is_member sets.now set y ≡ true → IsHome vregs.now homes.new.items place y) }
+    ensures more { AreMoreHomes homes.old homes.new }
+    ensures noted { OnOk result ((y : ℕ) → is_member sets.now set y ≡ true → IsHome vregs.now homes.new place y) }
 {
     if set == 0 {
         return Ok(());
@@ -455,18 +441,6 @@ fn meet_entries<A: Allocator + Copy>(
     Ok(is_less)
 }
 
-/// So many homes without places.
-fn empty_homes<A: Allocator + Copy>(alloc: A, count: usize) -> Result<Vec<Home<A>, A>, AllocError>
-    ensures { IfOk result (λ homes. length homes.items ≡ count) }
-{
-    let mut homes = Vec::with_capacity(alloc, count)?;
-    for k in 0..count {
-        let _number = k;
-        homes.push(Home::new(alloc))?;
-    }
-    Ok(homes)
-}
-
 impl<A: Allocator + Copy> Tables<A> {
     /// Tables without a member, over listed places and vregs. Past 2^38 places the memory
     /// allocation fails.
@@ -490,7 +464,7 @@ impl<A: Allocator + Copy> Tables<A> {
         let places = PlacePositions::of(alloc, places)?;
         let entries = Entries::new(alloc, count, places.len())?;
         let sets = Sets::new(alloc);
-        let homes = empty_homes(alloc, vregs.len())?;
+        let homes = Homes::new(alloc, vregs.len())?;
         Ok(Tables {
             places,
             vregs,
@@ -571,7 +545,12 @@ impl<A: Allocator + Copy> Tables<A> {
         ensures now { OnOk result (HoldsNow self.new (λ i y. if nat_eq y (get_or self.old.vregs vreg 0) then false else holds_now self.old i y)) }
     {
         let bits = self.vregs.number(vreg);
-        drop_everywhere(&mut self.entries, &mut self.sets, &self.homes[vreg], bits)
+        drop_everywhere(
+            &mut self.entries,
+            &mut self.sets,
+            &self.homes.at(vreg),
+            bits,
+        )
     }
 
     /// Gives a place a set.
@@ -585,7 +564,7 @@ impl<A: Allocator + Copy> Tables<A> {
         ensures kept { AreKeptTables self.old self.new }
         ensures now { OnOk result (HoldsNow self.new (λ i y. if nat_eq i place then is_member self.old.sets set y else holds_now self.old i y)) }
     {
-        note_at(&mut self.homes, vreg, place)?;
+        self.homes.add(vreg, place)?;
         self.entries.set(place, set);
         Ok(())
     }
@@ -624,7 +603,7 @@ impl<A: Allocator + Copy> Tables<A> {
             alloc,
             &self.entries,
             &self.sets,
-            &self.homes[vreg],
+            &self.homes.at(vreg),
             self.vregs.number(vreg),
             self.places.len(),
         )
@@ -667,6 +646,26 @@ impl<A: Allocator + Copy> Tables<A> {
             self.add_at(*place, vreg)?;
         }
         Ok(())
+    }
+
+    /// How many words the tables take.
+    pub fn word_count(&self) -> usize {
+        self.entries.word_count()
+    }
+
+    /// Drops the tables that have a mark, unless that makes no room, and the one that is worked on.
+    pub fn drop_marked(&mut self, alloc: A, marks: &[bool]) -> Result<(), AllocError>
+        ensures places { self.new.places ≡ self.old.places }
+        ensures vregs { self.new.vregs ≡ self.old.vregs }
+        ensures count { count_of self.new ≡ count_of self.old }
+        ensures tables { OnOk result ((k i y : ℕ) → k < count_of self.old → get_or marks.now k false ≡ false → i < length self.old.places
+            → holds_in self.new k i y ≡ holds_in self.old k i y) }
+    {
+        let Some(entries) = self.entries.without(alloc, marks)? else {
+            return Ok(());
+        };
+        self.entries = entries;
+        drop_unused_sets(alloc, &mut self.entries, &mut self.sets)
     }
 
     /// Works on a table.

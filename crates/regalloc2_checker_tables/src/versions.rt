@@ -6,6 +6,7 @@
 //! written since.
 
 ghost use Rattle.std.specs.Prelude.{◌≡◌, ℕ, [], true, ◌+◌, ◌*◌, ◌/◌, ◌%◌, ◌-◌, ◌^◌, ◌<◌, ◌≤◌, ◌++◌, Some, None, length, get_or, slice_set, slice_index, map};
+ghost use Rattle.std.specs.Bool.{OnTrue};
 ghost use Rattle.std.specs.Prelude.{List, ◌≢◌, IfOk, OnOk, OnErr, IsTrue, ◌↔◌, MatchOption};
 ghost use Rattle.regalloc2_checker_tables.specs.SavedCopies.{saved_at, number_in_cell, IsChunkAt, IsDifferenceIn, AreSameBetween, AreClean, AreWithin, AreMoreWords};
 ghost use Rattle.regalloc2_checker_tables.specs.SavedCopies.{AreBases, AreSame, IsFirstDifference};
@@ -63,6 +64,17 @@ pub fn is_same_chunk(words: &[u32], base: usize, cells: &[u32], first: usize) ->
     ensures { (result ≡ true) ↔ ((t : ℕ) → t < 64 → get_or cells.now (first + t) 0 ≡ get_or words.now (base + t) 0) }
 {
     &cells[first..first + 64] == &words[base..base + 64]
+}
+
+/// Whether words begin with a chunk of zeros.
+pub fn begins_with_zeros(words: &[u32]) -> bool
+    ensures { OnTrue result ((t : ℕ) → t < 64 → get_or words.now t 0 ≡ 0) }
+{
+    if words.len() < 64 {
+        return false;
+    }
+    let zeros = [0; 64];
+    is_same_chunk(&zeros, 0, words, 0)
 }
 
 /// How many words of a chunk, from some on, are passed over in groups of sixteen that are those of a chunk of words.
@@ -128,7 +140,7 @@ fn load_chunk(
     clean[chunk] = Some(base);
 }
 
-/// Makes room for a chunk of words. The room grows by an eighth, since doubling leaves much of it unused.
+/// Makes room for a chunk of words. The room grows by a half, since doubling leaves much of it unused.
 pub fn make_room<A: Allocator>(words: &mut Vec<u32, A>) -> Result<(), AllocError>
     ensures { words.new.items ≡ words.old.items }
 {
@@ -136,7 +148,7 @@ pub fn make_room<A: Allocator>(words: &mut Vec<u32, A>) -> Result<(), AllocError
     if words.capacity() - len >= 64 {
         return Ok(());
     }
-    words.reserve_exact(len / 8 + 256)
+    words.reserve_exact(len / 2 + 256)
 }
 
 /// Where a chunk of the array is among the words: where it was when it was last loaded or saved, if
@@ -322,6 +334,21 @@ impl<A: Allocator + Copy> Versions<A> {
     {
         let base = base_of(&self.saved[copy], position / 64);
         self.words[base + position % 64]
+    }
+
+    /// Whether a copy was never saved.
+    pub fn is_unsaved(&self, copy: usize) -> bool
+        requires { copy < length self.now.saved }
+        ensures { OnTrue result (get_or self.now.saved copy [] ≡ []) }
+    {
+        self.saved[copy].is_empty()
+    }
+
+    /// Whether the words begin with a chunk of zeros, which each copy has that was never saved.
+    pub fn begins_with_zeros(&self) -> bool
+        ensures { OnTrue result ((k i : ℕ) → get_or self.now.saved k [] ≡ [] → saved_at self.now k i ≡ 0) }
+    {
+        begins_with_zeros(&self.words)
     }
 
     /// Gives the array the numbers of a saved copy.

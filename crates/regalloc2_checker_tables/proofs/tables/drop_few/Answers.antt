@@ -10,5 +10,5 @@ returns-then-has_no_few-clause-still g c = still-same c.args.sets.now c.args.ent
 
 pub returns-then-has_no_few-clause-ok : goal.returns-then-has_no_few-clause-ok
 returns-then-has_no_few-clause-ok g c i y l =
-    let z = c.has_no_few.ensures.0 c.if-has_no_few.true in
-    sym (ap (λ b. if b && nat_eq y c.args.bits then false else held c.args.sets.now c.args.entries.now i y) (few-none c.args.home.now z.0 z.1 z.2 i))
+    let z = c.has_no_few.ensures c.if-has_no_few.true in
+    sym (ap (λ b. if b && nat_eq y c.args.bits then false else held c.args.sets.now c.args.entries.now i y) (few-none c.args.home.now z.0 z.1 z.2 z.3 i))

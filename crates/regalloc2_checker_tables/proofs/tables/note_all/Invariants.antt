@@ -5,6 +5,6 @@ use Rattle.regalloc2_checker_tables.proofs.tables.note_all.Given as goal
 
 abbrev pub invariant-loop-bits : goal.invariant-loop-bits
 invariant-loop-bits g l = record {
-  more : AreMoreHomes l.fn.homes.items l.homes.items;
-  noted : (y : ℕ) → 0 < times_listed (take l.bits-index l.members) y → IsHome l.vregs l.homes.items l.place y;
+  more : AreMoreHomes l.fn.homes l.homes;
+  noted : (y : ℕ) → 0 < times_listed (take l.bits-index l.members) y → IsHome l.vregs l.homes l.place y;
 }

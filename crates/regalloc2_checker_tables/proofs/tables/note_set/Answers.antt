@@ -10,7 +10,7 @@ use Rattle.regalloc2_checker_tables.proofs.TableLaws.{listed-times}
 use Rattle.regalloc2_checker_tables.proofs.tables.note_set.Goals as goal
 
 pub returns-then-set-eq0-clause-more : goal.returns-then-set-eq0-clause-more
-returns-then-set-eq0-clause-more g c = homes-same c.args.homes.now.items
+returns-then-set-eq0-clause-more g c = homes-same c.args.homes.now
 
 pub returns-then-set-eq0-clause-noted : goal.returns-then-set-eq0-clause-noted
 returns-then-set-eq0-clause-noted g c y is =
@@ -20,11 +20,11 @@ pub returns-in-Some-clause-noted : goal.returns-in-Some-clause-noted
 returns-in-Some-clause-noted g c =
     let alone = c.in-Some.ensures c.in-Some.only refl in
     on_ok_as _ _ c.note.result
-    (λ ok y is. subst (λ (b : ℕ). IsHome c.args.vregs.now c.note.new.homes.items c.args.place b)
+    (λ ok y is. subst (λ (b : ℕ). IsHome c.args.vregs.now c.note.new.homes c.args.place b)
     (sym (eqb-true y c.in-Some.only (sym (alone.members y) ∙ is))) ok) c.note.ensures.noted
 
 pub returns-in_err-members-clause-more : goal.returns-in_err-members-clause-more
-returns-in_err-members-clause-more g c = homes-same c.args.homes.now.items
+returns-in_err-members-clause-more g c = homes-same c.args.homes.now
 
 pub returns-clause-noted : goal.returns-clause-noted
 returns-clause-noted g c =
@@ -36,5 +36,5 @@ pub returns-in-Some-two-clause-noted : goal.returns-in-Some-two-clause-noted
 returns-in-Some-two-clause-noted g c =
     let members = c.in-Some-two.ensures c.in-Some-two.pair refl in
     on_ok_of_both _ _ _ c.note_two.result
-    (λ first second y is. either_member (IsHome c.args.vregs.now c.note_two.new.homes.items c.args.place) c.in-Some-two.pair.0 c.in-Some-two.pair.1 y
+    (λ first second y is. either_member (IsHome c.args.vregs.now c.note_two.new.homes c.args.place) c.in-Some-two.pair.0 c.in-Some-two.pair.1 y
     (sym (members y) ∙ is) first second) c.note_two.ensures.first c.note_two.ensures.second

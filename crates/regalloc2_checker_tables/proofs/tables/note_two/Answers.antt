@@ -3,11 +3,11 @@ use Rattle.regalloc2_checker_tables.proofs.TableLaws.{on_ok_as}
 use Rattle.regalloc2_checker_tables.proofs.tables.note_two.Goals as goal
 
 pub returns-clause-more : goal.returns-clause-more
-returns-clause-more g c = homes-then c.args.homes.now.items c.note.new.homes.items c.note-2.new.homes.items c.in_ok-note.ensures.more c.note-2.ensures.more
+returns-clause-more g c = homes-then c.args.homes.now c.note.new.homes c.note-2.new.homes c.in_ok-note.ensures.more c.note-2.ensures.more
 
 pub returns-clause-first : goal.returns-clause-first
 returns-clause-first g c = on_ok_as _ _ c.note-2.result
-    (λ h. home-kept c.args.vregs.now c.note.new.homes.items c.note-2.new.homes.items c.args.place c.args.pair.0 c.note-2.ensures.more
+    (λ h. home-kept c.args.vregs.now c.note.new.homes c.note-2.new.homes c.args.place c.args.pair.0 c.note-2.ensures.more
     c.in_ok-note.ensures.noted) c.note-2.ensures.noted
 
 pub returns-clause-second : goal.returns-clause-second

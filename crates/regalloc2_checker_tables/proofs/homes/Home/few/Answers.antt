@@ -1,6 +1,7 @@
-use Rattle.std.proofs.Common.{ap, ◌∙◌}
-use Rattle.regalloc2_checker_tables.specs.Homes.{HomePlaces, has_few, set_in}
+use Rattle.std.proofs.Common.{ℕ, List, nat_lt, ◌++◌, ap, ◌∙◌}
 use Rattle.std.specs.Option.{option_map}
+use Rattle.regalloc2_shape.specs.Numbers.{times_listed}
+use Rattle.regalloc2_checker_tables.specs.Homes.{HomePlaces, more_in, has_few, place_list, places_list}
 use Rattle.regalloc2_checker_tables.proofs.HomeLaws.{few-listed}
 use Rattle.regalloc2_checker_tables.proofs.homes.Home.few.Goals as goal
 
@@ -10,6 +11,8 @@ returns g c i =
       low = c.self.inside.low;
       first = c.self.inside.first;
       second = c.self.inside.second;
-      others = set_in (option_map (λ b. b.value) c.self.inside.others);
+      more = more_in (option_map (λ m. m.now) c.self.inside.more);
     } in
-    few-listed home c.new.result c.new.ensures.members i ∙ ap (λ (h : HomePlaces). has_few h i) c.self.view_is
+    ap (λ (ns : List ℕ). nat_lt 0 (times_listed (c.new.result ++ (place_list home.first ++ (place_list home.second ++ places_list ns))) i))
+    c.numbers_of.ensures
+    ∙ few-listed home c.new.result c.new.ensures.members i ∙ ap (λ (h : HomePlaces). has_few h i) c.self.view_is

@@ -11,7 +11,7 @@ invariant_of-self g c =
       vregs = c.self.inside.vregs;
       entries = c.self.inside.entries;
       sets = c.self.inside.sets;
-      homes = c.self.inside.homes.items;
+      homes = c.self.inside.homes;
     } in
     (clear-all old c.args.place c.set.new.self c.self.invariant (subst (λ (o : Holding). c.args.place < length o.places) (sym c.self.view_is) c.requires)
     c.set.ensures).tables
@@ -23,7 +23,7 @@ returns-clause-kept g c =
       vregs = c.self.inside.vregs;
       entries = c.self.inside.entries;
       sets = c.self.inside.sets;
-      homes = c.self.inside.homes.items;
+      homes = c.self.inside.homes;
     } in
     subst (λ (o : Holding). AreKeptTables o (record old { entries = c.set.new.self })) c.self.view_is
     (clear-all old c.args.place c.set.new.self c.self.invariant (subst (λ (o : Holding). c.args.place < length o.places) (sym c.self.view_is) c.requires)
@@ -36,7 +36,7 @@ returns-clause-now g c =
       vregs = c.self.inside.vregs;
       entries = c.self.inside.entries;
       sets = c.self.inside.sets;
-      homes = c.self.inside.homes.items;
+      homes = c.self.inside.homes;
     } in
     subst (λ (o : Holding). HoldsNow (record old { entries = c.set.new.self }) (λ i y. if nat_eq i c.args.place then false else holds_now o i y)) c.self.view_is
     (clear-all old c.args.place c.set.new.self c.self.invariant (subst (λ (o : Holding). c.args.place < length o.places) (sym c.self.view_is) c.requires)

@@ -19,7 +19,7 @@ note_set-requires g c =
       vregs = c.self.inside.vregs;
       entries = c.self.inside.entries;
       sets = c.self.inside.sets;
-      homes = c.self.inside.homes.items;
+      homes = c.self.inside.homes;
     } in
     let less : c.args.to < length c.self.inside.places = subst (λ (o : Holding). c.args.to < length o.places) (sym c.self.view_is) c.requires.to in
     record {
@@ -38,9 +38,9 @@ invariant_of-self g c =
       vregs = c.self.inside.vregs;
       entries = c.self.inside.entries;
       sets = c.self.inside.sets;
-      homes = c.self.inside.homes.items;
+      homes = c.self.inside.homes;
     } in
-    (more-all old c.self.inside.sets c.note_set.new.homes.items c.self.invariant (same-sets c.self.inside.sets c.self.inside.sets refl)
+    (more-all old c.self.inside.sets c.note_set.new.homes c.self.invariant (same-sets c.self.inside.sets c.self.inside.sets refl)
     c.in_err-note_set.ensures.more).tables
 
 pub returns-in_err-note_set-clause-kept : goal.returns-in_err-note_set-clause-kept
@@ -50,10 +50,10 @@ returns-in_err-note_set-clause-kept g c =
       vregs = c.self.inside.vregs;
       entries = c.self.inside.entries;
       sets = c.self.inside.sets;
-      homes = c.self.inside.homes.items;
+      homes = c.self.inside.homes;
     } in
-    subst (λ (o : Holding). AreKeptTables o (record old { homes = c.note_set.new.homes.items })) c.self.view_is
-    (more-all old c.self.inside.sets c.note_set.new.homes.items c.self.invariant (same-sets c.self.inside.sets c.self.inside.sets refl)
+    subst (λ (o : Holding). AreKeptTables o (record old { homes = c.note_set.new.homes })) c.self.view_is
+    (more-all old c.self.inside.sets c.note_set.new.homes c.self.invariant (same-sets c.self.inside.sets c.self.inside.sets refl)
     c.in_err-note_set.ensures.more).kept
 
 pub set-requires : goal.set-requires
@@ -68,9 +68,9 @@ invariant_of-self-2 g c =
       vregs = c.self.inside.vregs;
       entries = c.self.inside.entries;
       sets = c.self.inside.sets;
-      homes = c.self.inside.homes.items;
+      homes = c.self.inside.homes;
     } in
-    (put-all old c.note_set.new.homes.items c.args.to c.get-set.result c.set.new.self c.self.invariant
+    (put-all old c.note_set.new.homes c.args.to c.get-set.result c.set.new.self c.self.invariant
     (subst (λ (o : Holding). c.args.to < length o.places) (sym c.self.view_is) c.requires.to)
     (get-below old c.args.from c.get-set.result c.self.invariant (subst (λ (o : Holding). c.args.from < length o.places) (sym c.self.view_is) c.requires.from)
     c.get-set.ensures) c.in_ok-note_set.ensures.more c.in_ok-note_set.ensures.noted c.set.ensures).tables
@@ -82,10 +82,10 @@ returns-clause-kept g c =
       vregs = c.self.inside.vregs;
       entries = c.self.inside.entries;
       sets = c.self.inside.sets;
-      homes = c.self.inside.homes.items;
+      homes = c.self.inside.homes;
     } in
-    subst (λ (o : Holding). AreKeptTables o (record old { entries = c.set.new.self; homes = c.note_set.new.homes.items })) c.self.view_is
-    (put-all old c.note_set.new.homes.items c.args.to c.get-set.result c.set.new.self c.self.invariant
+    subst (λ (o : Holding). AreKeptTables o (record old { entries = c.set.new.self; homes = c.note_set.new.homes })) c.self.view_is
+    (put-all old c.note_set.new.homes c.args.to c.get-set.result c.set.new.self c.self.invariant
     (subst (λ (o : Holding). c.args.to < length o.places) (sym c.self.view_is) c.requires.to)
     (get-below old c.args.from c.get-set.result c.self.invariant (subst (λ (o : Holding). c.args.from < length o.places) (sym c.self.view_is) c.requires.from)
     c.get-set.ensures) c.in_ok-note_set.ensures.more c.in_ok-note_set.ensures.noted c.set.ensures).kept
@@ -97,12 +97,12 @@ returns-clause-now g c =
       vregs = c.self.inside.vregs;
       entries = c.self.inside.entries;
       sets = c.self.inside.sets;
-      homes = c.self.inside.homes.items;
+      homes = c.self.inside.homes;
     } in
-    let p = put-all old c.note_set.new.homes.items c.args.to c.get-set.result c.set.new.self c.self.invariant
+    let p = put-all old c.note_set.new.homes c.args.to c.get-set.result c.set.new.self c.self.invariant
     (subst (λ (o : Holding). c.args.to < length o.places) (sym c.self.view_is) c.requires.to)
     (get-below old c.args.from c.get-set.result c.self.invariant (subst (λ (o : Holding). c.args.from < length o.places) (sym c.self.view_is) c.requires.from)
     c.get-set.ensures) c.in_ok-note_set.ensures.more c.in_ok-note_set.ensures.noted c.set.ensures in
-    subst (λ (o : Holding). HoldsNow (record old { entries = c.set.new.self; homes = c.note_set.new.homes.items })
+    subst (λ (o : Holding). HoldsNow (record old { entries = c.set.new.self; homes = c.note_set.new.homes })
     (λ i y. if nat_eq i c.args.to then holds_now o c.args.from y else holds_now o i y)) c.self.view_is
     (λ i y l. p.now i y l ∙ ap (λ n. if nat_eq i c.args.to then is_member c.self.inside.sets n y else holds_now old i y) c.get-set.ensures)

@@ -10,7 +10,7 @@ has-requires g c =
       vregs = c.self.inside.vregs;
       entries = c.self.inside.entries;
       sets = c.self.inside.sets;
-      homes = c.self.inside.homes.items;
+      homes = c.self.inside.homes;
     } in
     get-below old c.args.place c.get.result c.self.invariant (subst (λ (o : Holding). c.args.place < length o.places) (sym c.self.view_is) c.requires)
     c.get.ensures

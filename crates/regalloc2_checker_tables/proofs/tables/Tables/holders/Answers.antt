@@ -1,10 +1,15 @@
-use Rattle.std.proofs.Common.{◌<◌, length, get_or, arith, ap, sym, ◌∙◌, refl, subst, nat_lt}
+use Rattle.std.proofs.Common.{◌<◌, length, get_or, arith, ap, sym, ◌∙◌, subst, nat_lt}
 use Rattle.std.specs.Prelude.{◌&&◌}
 use Rattle.regalloc2_checker_tables.specs.Homes.{HomePlaces, no_homes, has_home}
 use Rattle.regalloc2_checker_tables.specs.Holding.{Holding, held, holds_now}
-use Rattle.regalloc2_checker_tables.proofs.Bits.{read-is, ok-as}
+use Rattle.regalloc2_checker_tables.proofs.Bits.{ok-as}
 use Rattle.regalloc2_checker_tables.proofs.TableLaws.{holders-are}
 use Rattle.regalloc2_checker_tables.proofs.tables.Tables.holders.Goals as goal
+
+pub at-requires : goal.at-requires
+at-requires g c =
+    let lv : c.args.vreg < length c.self.inside.vregs = subst (λ (o : Holding). c.args.vreg < length o.vregs) (sym c.self.view_is) c.requires in
+    omega (arith, lv, c.self.invariant.homes_long)
 
 pub holders_among-requires-clause-below : goal.holders_among-requires-clause-below
 holders_among-requires-clause-below g c = c.self.invariant.now.below
@@ -16,16 +21,15 @@ returns g c =
       vregs = c.self.inside.vregs;
       entries = c.self.inside.entries;
       sets = c.self.inside.sets;
-      homes = c.self.inside.homes.items;
+      homes = c.self.inside.homes;
     } in
     let lv : c.args.vreg < length c.self.inside.vregs = subst (λ (o : Holding). c.args.vreg < length o.vregs) (sym c.self.view_is) c.requires in
-    let lh : c.args.vreg < length c.self.inside.homes.items = omega (arith, lv, c.self.invariant.homes_long) in
-    let had = read-is c.self.inside.homes.items c.self.inside.homes.items c.args.vreg c.index.result.now no_homes refl lh c.index.ensures in
+    let had = c.at.ensures in
     ok-as _ _ c.holders_among.result
     (λ r h i. holders-are old c.args.vreg r.items c.self.invariant lv
     (λ i. h i ∙ ap (λ (h : HomePlaces). nat_lt i c.len.result && (has_home h i && held c.self.inside.sets c.self.inside.entries i c.number.result)) had
-    ∙ ap (λ k. nat_lt i c.len.result && (has_home (get_or c.self.inside.homes.items c.args.vreg no_homes) i && held c.self.inside.sets c.self.inside.entries i
+    ∙ ap (λ k. nat_lt i c.len.result && (has_home (get_or c.self.inside.homes c.args.vreg no_homes) i && held c.self.inside.sets c.self.inside.entries i
     k)) c.number.ensures
-    ∙ ap (λ k. nat_lt i k && (has_home (get_or c.self.inside.homes.items c.args.vreg no_homes) i && holds_now old i (get_or c.self.inside.vregs c.args.vreg 0)))
+    ∙ ap (λ k. nat_lt i k && (has_home (get_or c.self.inside.homes c.args.vreg no_homes) i && holds_now old i (get_or c.self.inside.vregs c.args.vreg 0)))
     c.len.ensures) i
     ∙ ap (λ (o : Holding). nat_lt i (length o.places) && holds_now o i (get_or o.vregs c.args.vreg 0)) c.self.view_is) c.holders_among.ensures

@@ -10,7 +10,7 @@ invariant_of-self g c =
       vregs = c.self.inside.vregs;
       entries = c.self.inside.entries;
       sets = c.self.inside.sets;
-      homes = c.self.inside.homes.items;
+      homes = c.self.inside.homes;
     } in
     (load-all old c.load.new.self c.args.table c.self.invariant c.load.ensures.count c.load.ensures.saved c.load.ensures.long c.load.ensures.loaded).tables
 
@@ -21,7 +21,7 @@ returns-clause-kept g c =
       vregs = c.self.inside.vregs;
       entries = c.self.inside.entries;
       sets = c.self.inside.sets;
-      homes = c.self.inside.homes.items;
+      homes = c.self.inside.homes;
     } in
     subst (λ (o : Holding). AreKeptTables o (record old { entries = c.load.new.self })) c.self.view_is
     (load-all old c.load.new.self c.args.table c.self.invariant c.load.ensures.count c.load.ensures.saved c.load.ensures.long c.load.ensures.loaded).kept
@@ -33,7 +33,7 @@ returns-clause-now g c =
       vregs = c.self.inside.vregs;
       entries = c.self.inside.entries;
       sets = c.self.inside.sets;
-      homes = c.self.inside.homes.items;
+      homes = c.self.inside.homes;
     } in
     subst (λ (o : Holding). HoldsNow (record old { entries = c.load.new.self }) (holds_in o c.args.table)) c.self.view_is
     (load-all old c.load.new.self c.args.table c.self.invariant c.load.ensures.count c.load.ensures.saved c.load.ensures.long c.load.ensures.loaded).now

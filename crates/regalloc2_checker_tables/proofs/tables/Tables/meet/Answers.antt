@@ -27,7 +27,7 @@ invariant_of-self g c =
       vregs = c.self.inside.vregs;
       entries = c.self.inside.entries;
       sets = c.self.inside.sets;
-      homes = c.self.inside.homes.items;
+      homes = c.self.inside.homes;
     } in
     drop-all old c.meet_entries.new.sets c.meet_entries.new.entries c.self.invariant c.in_err-is_less.ensures.still c.in_err-is_less.ensures.fewer
 
@@ -38,7 +38,7 @@ invariant_of-self-then-not-is_less g c =
       vregs = c.self.inside.vregs;
       entries = c.self.inside.entries;
       sets = c.self.inside.sets;
-      homes = c.self.inside.homes.items;
+      homes = c.self.inside.homes;
     } in
     drop-all old c.meet_entries.new.sets c.meet_entries.new.entries c.self.invariant c.in_ok-is_less.ensures.still c.in_ok-is_less.ensures.fewer
 
@@ -49,7 +49,7 @@ invariant_of-self-in_err-save g c =
       vregs = c.self.inside.vregs;
       entries = c.self.inside.entries;
       sets = c.self.inside.sets;
-      homes = c.self.inside.homes.items;
+      homes = c.self.inside.homes;
     } in
     save-all (record old { entries = c.meet_entries.new.entries; sets = c.meet_entries.new.sets }) c.save.new.self c.args.table c.save.result
     (drop-all old c.meet_entries.new.sets c.meet_entries.new.entries c.self.invariant c.in_ok-is_less.ensures.still c.in_ok-is_less.ensures.fewer)
@@ -63,7 +63,7 @@ invariant_of-self-2 g c =
       vregs = c.self.inside.vregs;
       entries = c.self.inside.entries;
       sets = c.self.inside.sets;
-      homes = c.self.inside.homes.items;
+      homes = c.self.inside.homes;
     } in
     save-all (record old { entries = c.meet_entries.new.entries; sets = c.meet_entries.new.sets }) c.save.new.self c.args.table c.save.result
     (drop-all old c.meet_entries.new.sets c.meet_entries.new.entries c.self.invariant c.in_ok-is_less.ensures.still c.in_ok-is_less.ensures.fewer)
@@ -113,7 +113,7 @@ returns-then-not-is_less-clause-met g c =
       vregs = c.self.inside.vregs;
       entries = c.self.inside.entries;
       sets = c.self.inside.sets;
-      homes = c.self.inside.homes.items;
+      homes = c.self.inside.homes;
     } in
     subst (λ (o : Holding). (k i y : ℕ) → i < length o.places →
     holds_in (record old { entries = c.meet_entries.new.entries; sets = c.meet_entries.new.sets }) k i y
@@ -128,7 +128,7 @@ returns-then-not-is_less-clause-same g c =
       vregs = c.self.inside.vregs;
       entries = c.self.inside.entries;
       sets = c.self.inside.sets;
-      homes = c.self.inside.homes.items;
+      homes = c.self.inside.homes;
     } in
     subst (λ (o : Holding). (i y : ℕ) → i < length o.places → holds_in o c.args.table i y ≡ true → holds_now o i y ≡ true) c.self.view_is
     (λ i y l is. c.in_ok-is_less.ensures.same c.if-not-is_less.true i y (subst (λ n. i < n) (sym c.len.ensures) l) is)
@@ -140,7 +140,7 @@ returns-clause-met g c =
       vregs = c.self.inside.vregs;
       entries = c.self.inside.entries;
       sets = c.self.inside.sets;
-      homes = c.self.inside.homes.items;
+      homes = c.self.inside.homes;
     } in
     subst (λ (o : Holding). (k i y : ℕ) → i < length o.places → holds_in (record old { entries = c.save.new.self; sets = c.meet_entries.new.sets }) k i y
     ≡ (if nat_eq k c.args.table then holds_in o k i y && holds_now o i y else holds_in o k i y)) c.self.view_is
@@ -156,7 +156,7 @@ returns-clause-less g c =
       vregs = c.self.inside.vregs;
       entries = c.self.inside.entries;
       sets = c.self.inside.sets;
-      homes = c.self.inside.homes.items;
+      homes = c.self.inside.homes;
     } in
     subst (λ (o : Holding). LosesSome (length o.places) (holds_in o c.args.table) (holds_now o)) c.self.view_is
     (subst (λ n. LosesSome n (holds_in old c.args.table) (holds_now old)) c.len.ensures (c.in_ok-is_less.ensures.less c.if-not-is_less.false))

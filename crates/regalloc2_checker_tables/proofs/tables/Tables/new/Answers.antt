@@ -8,7 +8,7 @@ pub invariant_of-result : goal.invariant_of-result
 invariant_of-result g c =
     let e = c.in_ok-places.ensures in
     let long = ap (λ (l : List ℕ). length l) e in
-    new-all c.in_ok-places.places c.args.vregs c.in_ok-entries.entries c.new-sets.result c.in_ok-homes.homes.items
+    new-all c.in_ok-places.places c.args.vregs c.in_ok-entries.entries c.new-sets.result c.in_ok-homes.homes
     (subst IsStrictlyIncreasing (sym e) c.requires.places) c.requires.vregs
     (omega (arith, c.in_ok-entries.ensures.long, c.len-2.ensures)) (omega (arith, long, c.len.ensures)) c.new-sets.ensures
     (let h = c.in_ok-homes.ensures in omega arith) c.in_ok-entries.ensures.cells c.in_ok-entries.ensures.saved

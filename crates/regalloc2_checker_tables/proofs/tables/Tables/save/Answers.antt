@@ -13,7 +13,7 @@ invariant_of-self g c =
       vregs = c.self.inside.vregs;
       entries = c.self.inside.entries;
       sets = c.self.inside.sets;
-      homes = c.self.inside.homes.items;
+      homes = c.self.inside.homes;
     } in
     save-all old c.save.new.self c.args.table c.save.result c.self.invariant c.save.ensures.cells c.save.ensures.others c.save.ensures.saved
     c.save.ensures.err
@@ -38,7 +38,7 @@ returns-clause-tables g c =
       vregs = c.self.inside.vregs;
       entries = c.self.inside.entries;
       sets = c.self.inside.sets;
-      homes = c.self.inside.homes.items;
+      homes = c.self.inside.homes;
     } in
     on_ok_as _ _ c.save.result
     (λ ok. subst (λ (o : Holding). (k i y : ℕ) → i < length o.places → holds_in (record old { entries = c.save.new.self }) k i y

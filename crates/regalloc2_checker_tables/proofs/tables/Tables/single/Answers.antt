@@ -13,9 +13,9 @@ invariant_of-self g c =
       vregs = c.self.inside.vregs;
       entries = c.self.inside.entries;
       sets = c.self.inside.sets;
-      homes = c.self.inside.homes.items;
+      homes = c.self.inside.homes;
     } in
-    (more-all old c.single.new.self c.self.inside.homes.items c.self.invariant c.single.ensures.more (homes-same c.self.inside.homes.items)).tables
+    (more-all old c.single.new.self c.self.inside.homes c.self.invariant c.single.ensures.more (homes-same c.self.inside.homes)).tables
 
 pub returns-clause-kept : goal.returns-clause-kept
 returns-clause-kept g c =
@@ -24,10 +24,10 @@ returns-clause-kept g c =
       vregs = c.self.inside.vregs;
       entries = c.self.inside.entries;
       sets = c.self.inside.sets;
-      homes = c.self.inside.homes.items;
+      homes = c.self.inside.homes;
     } in
     subst (λ (o : Holding). AreKeptTables o (record old { sets = c.single.new.self })) c.self.view_is
-    (more-all old c.single.new.self c.self.inside.homes.items c.self.invariant c.single.ensures.more (homes-same c.self.inside.homes.items)).kept
+    (more-all old c.single.new.self c.self.inside.homes c.self.invariant c.single.ensures.more (homes-same c.self.inside.homes)).kept
 
 pub returns-clause-now : goal.returns-clause-now
 returns-clause-now g c =
@@ -36,10 +36,10 @@ returns-clause-now g c =
       vregs = c.self.inside.vregs;
       entries = c.self.inside.entries;
       sets = c.self.inside.sets;
-      homes = c.self.inside.homes.items;
+      homes = c.self.inside.homes;
     } in
     subst (λ (o : Holding). HoldsNow (record old { sets = c.single.new.self }) (holds_now o)) c.self.view_is
-    (more-all old c.single.new.self c.self.inside.homes.items c.self.invariant c.single.ensures.more (homes-same c.self.inside.homes.items)).now
+    (more-all old c.single.new.self c.self.inside.homes c.self.invariant c.single.ensures.more (homes-same c.self.inside.homes)).now
 
 pub returns-clause-set : goal.returns-clause-set
 returns-clause-set g c =

@@ -15,9 +15,9 @@ invariant_of-self g c =
       vregs = c.self.inside.vregs;
       entries = c.self.inside.entries;
       sets = c.self.inside.sets;
-      homes = c.self.inside.homes.items;
+      homes = c.self.inside.homes;
     } in
-    (more-all old c.with.new.self c.self.inside.homes.items c.self.invariant c.with.ensures.more (homes-same c.self.inside.homes.items)).tables
+    (more-all old c.with.new.self c.self.inside.homes c.self.invariant c.with.ensures.more (homes-same c.self.inside.homes)).tables
 
 pub returns-clause-kept : goal.returns-clause-kept
 returns-clause-kept g c =
@@ -26,10 +26,10 @@ returns-clause-kept g c =
       vregs = c.self.inside.vregs;
       entries = c.self.inside.entries;
       sets = c.self.inside.sets;
-      homes = c.self.inside.homes.items;
+      homes = c.self.inside.homes;
     } in
     subst (λ (o : Holding). AreKeptTables o (record old { sets = c.with.new.self })) c.self.view_is
-    (more-all old c.with.new.self c.self.inside.homes.items c.self.invariant c.with.ensures.more (homes-same c.self.inside.homes.items)).kept
+    (more-all old c.with.new.self c.self.inside.homes c.self.invariant c.with.ensures.more (homes-same c.self.inside.homes)).kept
 
 pub returns-clause-now : goal.returns-clause-now
 returns-clause-now g c =
@@ -38,10 +38,10 @@ returns-clause-now g c =
       vregs = c.self.inside.vregs;
       entries = c.self.inside.entries;
       sets = c.self.inside.sets;
-      homes = c.self.inside.homes.items;
+      homes = c.self.inside.homes;
     } in
     subst (λ (o : Holding). HoldsNow (record old { sets = c.with.new.self }) (holds_now o)) c.self.view_is
-    (more-all old c.with.new.self c.self.inside.homes.items c.self.invariant c.with.ensures.more (homes-same c.self.inside.homes.items)).now
+    (more-all old c.with.new.self c.self.inside.homes c.self.invariant c.with.ensures.more (homes-same c.self.inside.homes)).now
 
 pub with-requires : goal.with-requires
 with-requires g c =
@@ -50,7 +50,7 @@ with-requires g c =
       vregs = c.self.inside.vregs;
       entries = c.self.inside.entries;
       sets = c.self.inside.sets;
-      homes = c.self.inside.homes.items;
+      homes = c.self.inside.homes;
     } in
     get-below old c.args.place c.get.result c.self.invariant (subst (λ (o : Holding). c.args.place < length o.places) (sym c.self.view_is) c.requires.place)
     c.get.ensures
@@ -62,7 +62,7 @@ returns-clause-set g c =
       vregs = c.self.inside.vregs;
       entries = c.self.inside.entries;
       sets = c.self.inside.sets;
-      homes = c.self.inside.homes.items;
+      homes = c.self.inside.homes;
     } in
     ok-as _ _ c.with.result
     (λ n h. set-as c.with.new.self n _ _
