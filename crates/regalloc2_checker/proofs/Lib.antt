@@ -15,6 +15,7 @@ pub mod NamedPlaces
 pub mod PairsDecrease
 pub mod RoundInvariant
 pub mod Updates
+pub mod Laid
 pub mod UnmarkedStaySolved
 pub mod Queues
 pub mod Started
@@ -22,6 +23,7 @@ pub mod TransferFollowsFacts
 pub mod BlocksInRange
 pub mod CopiedListing
 pub mod Blocks
+pub mod Sweeps
 pub mod NoErrorsIsFaithful
 pub mod OperandErrors
 pub mod Members

@@ -4,6 +4,7 @@ use Rattle.std.proofs.Common.{subst, below_more}
 use Rattle.std.specs.Prelude.{◌&&◌, slice_index}
 use Rattle.std.proofs.lemmas.Bool.{cases_Bool, cases_eq, and_parts}
 use Rattle.std.proofs.lemmas.List.{get_or-set_same, get_or-set_other, length-set}
+use Rattle.std.specs.declared.cmp.Reverse.{Reverse}
 use Rattle.regalloc2_index.proofs.Bools.{from_both}
 use Rattle.regalloc2_names.specs.Register.{VirtualRegister}
 use Rattle.regalloc2_names.specs.Place.{Place}
@@ -13,7 +14,7 @@ use Rattle.regalloc2_function.specs.WellFormed.{IsFramed}
 use Rattle.regalloc2_checker.specs.Facts.{Facts}
 use Rattle.regalloc2_checker.specs.Fixpoint.{facts_passed}
 use Rattle.regalloc2_checker.specs.Tables.{BlockView, view_at, facts_at, AreSoundViews, BlockSolved, EdgeSolved, EdgesSolved, IsUpdated}
-use Rattle.regalloc2_checker.specs.Propagation.{mark_at, over, IsBlockEnd, IsPropagatedOver, UnmarkedAreSolved, ArePropagated}
+use Rattle.regalloc2_checker.specs.Propagation.{mark_at, over, IsBlockEnd, IsPropagatedOver, AreReached, UnmarkedAreSolved, ArePropagated}
 use Rattle.regalloc2_checker.proofs.RoundInvariant.{over-same, sound-updated}
 use Rattle.regalloc2_checker.proofs.FactsFollowMaps.{AreEarlier}
 
@@ -134,6 +135,12 @@ mark-taken f o t marks b h = record {
 pub record EdgesPassed (f : FunctionValue) (o : OutputValue) (old t : List BlockView) (marks : List Bool) (b k : ℕ) : Type 0 where
   pub sound : AreSoundViews f o t
   pub kept : ArePropagated f o old t marks b k
+
+-- so many are, and the queue has blocks that are reached
+pub record ArePassedOn (f : FunctionValue) (o : OutputValue) (old t : List BlockView) (marks : List Bool) (entries : List (Reverse (ℕ × ℕ))) (b k : ℕ)
+    : Type 0 where
+  pub passed : EdgesPassed f o old t marks b k
+  pub reached : AreReached t entries
 
 -- before any of them is
 pub edges-first : (f : FunctionValue) (o : OutputValue) (t : List BlockView) (marks : List Bool) (b : ℕ) → AreSoundViews f o t →

@@ -9,6 +9,7 @@ pub mod NamedPlaces
 pub mod NamedBits
 pub mod Tables
 pub mod Propagation
+pub mod Swept
 pub mod Listing
 pub mod ListingCopied
 pub mod FramedIsProp

@@ -1,15 +1,16 @@
 //! What holds at the blocks' beginnings, passed on until it stands still.
 
-ghost use Rattle.std.specs.Prelude.{◌≡◌, ◌≢◌, ◌<◌, ◌≤◌, ◌+◌, ℕ, Bool, true, false, IfOk, OnOk, length, get_or, nat_eq, sum_by};
+ghost use Rattle.std.specs.Prelude.{◌≡◌, ◌≢◌, ◌<◌, ◌≤◌, ◌+◌, ℕ, List, slice_index, Bool, true, false, IfOk, OnOk, length, get_or, nat_eq, sum_by};
 ghost use Rattle.std.specs.BinaryHeap.{heap_items, heap_len};
 ghost use Rattle.regalloc2_function.specs.FunctionValue.{block_at};
 ghost use Rattle.regalloc2_function.specs.OutputValue.{OutputValue};
 ghost use Rattle.regalloc2_function.specs.WellFormed.{IsFramed};
 ghost use Rattle.regalloc2_checker_tables.specs.Showing.{table_count, shows_in};
 ghost use Rattle.regalloc2_checker.specs.Listing.{IsListing};
-ghost use Rattle.regalloc2_checker.specs.Propagation.{IsBlockEnd, IsPropagatedOver, IsQueue, AreReached, IsReady, IsUnderWay, AreSized};
+ghost use Rattle.regalloc2_checker.specs.Propagation.{IsBlockEnd, IsQueue, IsReady, IsUnderWay, AreSized};
+ghost use Rattle.regalloc2_checker.specs.Swept.{laid, done_at, IsPassedOver, LeadsToNoneDone};
 ghost use Rattle.regalloc2_checker.specs.TableFacts.{facts_now, facts_table, AreNamed, AreNamedVRegs};
-ghost use Rattle.regalloc2_checker.specs.Tables.{view_at, facts_at, weight, ListTheSame, IsMeet, IsSolved, views};
+ghost use Rattle.regalloc2_checker.specs.Tables.{BlockView, view_at, facts_at, weight, ListTheSame, IsMeet, IsSolved, views};
 
 use crate::listing::Listing;
 use crate::order::ranks;
@@ -68,16 +69,16 @@ fn propagate_over<F: Function, A: Allocator + Copy>(
     requires position { position < length (block_at (F.function f.now) block).succs }
     requires sized { AreSized (F.function f.now) state.old.values state.old.reached.items state.old.queue.is_queued.items }
     requires queue { IsQueue state.old.queue.is_queued.items (heap_items state.old.queue.heap) }
-    requires reached { AreReached (views state.old.values state.old.reached.items) (heap_items state.old.queue.heap) }
     ensures alike { OnOk result (ListTheSame state.old.values state.new.values) }
     ensures sized { OnOk result (AreSized (F.function f.now) state.new.values state.new.reached.items state.new.queue.is_queued.items) }
     ensures kept { OnOk result (facts_table state.new.values (length (F.function f.now).blocks)
         ≡ facts_table state.old.values (length (F.function f.now).blocks)) }
-    ensures over { OnOk result ((changed : Bool) × IsPropagatedOver (F.function f.now) block position (facts_now state.old.values)
+    ensures over { OnOk result ((done : List Bool) (vs : List BlockView)
+        → done_at done (slice_index (block_at (F.function f.now) block).succs position) ≡ false
+        → IsPassedOver (F.function f.now) block position (facts_now state.old.values) done vs
         (views state.old.values state.old.reached.items) (views state.new.values state.new.reached.items)
-        state.old.queue.is_queued.items state.new.queue.is_queued.items changed) }
+        state.old.queue.is_queued.items state.new.queue.is_queued.items (heap_items state.old.queue.heap) (heap_items state.new.queue.heap)) }
     ensures queue { OnOk result (IsQueue state.new.queue.is_queued.items (heap_items state.new.queue.heap)) }
-    ensures reached { OnOk result (AreReached (views state.new.values state.new.reached.items) (heap_items state.new.queue.heap)) }
     ensures falls { OnOk result (sum_by weight (views state.new.values state.new.reached.items) + heap_len state.new.queue.heap
         ≤ sum_by weight (views state.old.values state.old.reached.items) + heap_len state.old.queue.heap) }
 {
@@ -103,12 +104,16 @@ fn propagate_edges<F: Function, A: Allocator + Copy>(
     requires named { AreNamed (F.function f.now) o state.old.values }
     requires block { block < length (F.function f.now).blocks }
     requires sized { AreSized (F.function f.now) state.old.values state.old.reached.items state.old.queue.is_queued.items }
-    requires ready { IsReady (F.function f.now) o (views state.old.values state.old.reached.items) state.old.queue.is_queued.items
-        (heap_items state.old.queue.heap) block }
-    requires values { IsBlockEnd (F.function f.now) o block (facts_at (views state.old.values state.old.reached.items) block) (facts_now state.old.values) }
+    requires queue { IsQueue state.old.queue.is_queued.items (heap_items state.old.queue.heap) }
     ensures alike { OnOk result (ListTheSame state.old.values state.new.values) }
     ensures sized { OnOk result (AreSized (F.function f.now) state.new.values state.new.reached.items state.new.queue.is_queued.items) }
-    ensures on_way { OnOk result (IsUnderWay (F.function f.now) o (views state.new.values state.new.reached.items) state.new.queue.is_queued.items
+    ensures queue { OnOk result (IsQueue state.new.queue.is_queued.items (heap_items state.new.queue.heap)) }
+    ensures on_way { OnOk result ((done : List Bool) (vs : List BlockView) → LeadsToNoneDone (F.function f.now) done block
+        → IsReady (F.function f.now) o (laid done vs (views state.old.values state.old.reached.items)) state.old.queue.is_queued.items
+        (heap_items state.old.queue.heap) block
+        → IsBlockEnd (F.function f.now) o block (facts_at (laid done vs (views state.old.values state.old.reached.items)) block)
+        (facts_now state.old.values)
+        → IsUnderWay (F.function f.now) o (laid done vs (views state.new.values state.new.reached.items)) state.new.queue.is_queued.items
         (heap_items state.new.queue.heap)) }
     ensures falls { OnOk result (sum_by weight (views state.new.values state.new.reached.items) + heap_len state.new.queue.heap
         ≤ sum_by weight (views state.old.values state.old.reached.items) + heap_len state.old.queue.heap) }
@@ -124,7 +129,7 @@ fn propagate_edges<F: Function, A: Allocator + Copy>(
 }
 
 /// Passes on what a block has over its edges.
-fn propagate_block<F: Function, A: Allocator + Copy>(
+pub fn propagate_block<F: Function, A: Allocator + Copy>(
     alloc: A,
     f: &F,
     listing: &Listing<'_>,
@@ -137,11 +142,14 @@ fn propagate_block<F: Function, A: Allocator + Copy>(
     requires named { AreNamed (F.function f.now) o state.old.values }
     requires block { block < length (F.function f.now).blocks }
     requires sized { AreSized (F.function f.now) state.old.values state.old.reached.items state.old.queue.is_queued.items }
-    requires ready { IsReady (F.function f.now) o (views state.old.values state.old.reached.items) state.old.queue.is_queued.items
-        (heap_items state.old.queue.heap) block }
+    requires queue { IsQueue state.old.queue.is_queued.items (heap_items state.old.queue.heap) }
     ensures alike { OnOk result (ListTheSame state.old.values state.new.values) }
     ensures sized { OnOk result (AreSized (F.function f.now) state.new.values state.new.reached.items state.new.queue.is_queued.items) }
-    ensures on_way { OnOk result (IsUnderWay (F.function f.now) o (views state.new.values state.new.reached.items) state.new.queue.is_queued.items
+    ensures queue { OnOk result (IsQueue state.new.queue.is_queued.items (heap_items state.new.queue.heap)) }
+    ensures on_way { OnOk result ((done : List Bool) (vs : List BlockView) → LeadsToNoneDone (F.function f.now) done block
+        → IsReady (F.function f.now) o (laid done vs (views state.old.values state.old.reached.items)) state.old.queue.is_queued.items
+        (heap_items state.old.queue.heap) block
+        → IsUnderWay (F.function f.now) o (laid done vs (views state.new.values state.new.reached.items)) state.new.queue.is_queued.items
         (heap_items state.new.queue.heap)) }
     ensures falls { OnOk result (sum_by weight (views state.new.values state.new.reached.items) + heap_len state.new.queue.heap
         ≤ sum_by weight (views state.old.values state.old.reached.items) + heap_len state.old.queue.heap) }
@@ -162,7 +170,7 @@ fn propagate_block<F: Function, A: Allocator + Copy>(
 }
 
 /// So many marks, of which none is set.
-fn no_marks<A: Allocator>(alloc: A, count: usize) -> Result<Vec<bool, A>, AllocError>
+pub fn no_marks<A: Allocator>(alloc: A, count: usize) -> Result<Vec<bool, A>, AllocError>
     ensures long { IfOk result (λ marks. length marks.items ≡ count) }
     ensures none { IfOk result (λ marks. (b : ℕ) (d : Bool) → b < count → get_or marks.items b d ≡ false) }
 {
@@ -183,7 +191,7 @@ fn one_mark<A: Allocator>(alloc: A, count: usize, at: usize) -> Result<Vec<bool,
 }
 
 /// What is known before anything is passed on: a path reaches the entry, and nothing holds there.
-fn start<F: Function, A: Allocator + Copy>(
+pub fn start<F: Function, A: Allocator + Copy>(
     alloc: A,
     f: &F,
     values: PassingTables<A>,

@@ -1,6 +1,6 @@
 //! Checks the blocks that a path reaches.
 
-ghost use Rattle.std.specs.Prelude.{◌≡◌, ◌<◌, ◌≤◌, ◌+◌, ◌-◌, ◌++◌, OnOk, IfOk, List, length};
+ghost use Rattle.std.specs.Prelude.{◌≡◌, ◌<◌, ◌≤◌, ◌+◌, ◌-◌, ◌++◌, ℕ, false, OnOk, IfOk, List, length};
 ghost use Rattle.regalloc2_function.specs.FunctionValue.{block_at};
 ghost use Rattle.regalloc2_function.specs.Machine.{MachineValue};
 ghost use Rattle.regalloc2_function.specs.OutputValue.{OutputValue, IsInOrder};
@@ -8,7 +8,7 @@ ghost use Rattle.regalloc2_function.specs.Views.{machine_of, output_of};
 ghost use Rattle.regalloc2_function.specs.WellFormed.{IsFramed};
 ghost use Rattle.regalloc2_checker.specs.Blocks.{IsBlockJudged};
 ghost use Rattle.regalloc2_checker.specs.CheckInputs.{AreStackSlots};
-ghost use Rattle.regalloc2_checker_tables.specs.Showing.{table_count, AreTablesKept};
+ghost use Rattle.regalloc2_checker_tables.specs.Showing.{table_count, shows_in, AreTablesKept};
 ghost use Rattle.regalloc2_checker.specs.TableFacts.{facts_table, AreNamed};
 ghost use Rattle.regalloc2_checker.specs.Report.{IsReport};
 ghost use Rattle.regalloc2_checker.specs.Tables.{IsSolved, views};
@@ -21,6 +21,7 @@ use crate::errors::CheckerError;
 use crate::handle::handle_listing;
 use crate::listing::Listing;
 use crate::names::{named_places, named_vregs};
+use crate::sweep::is_clean;
 use regalloc2_checker_tables::PassingTables;
 use regalloc2_function::{Function, MachineEnv, Output, finds_earlier_writes};
 use regalloc2_index::{Block, Inst};
@@ -29,7 +30,7 @@ use std::alloc::{AllocError, Allocator};
 
 /// Checks a block's instructions, from what holds at its beginning.
 #[inline(always)]
-fn check_block<F: Function, A: Allocator + Copy>(
+pub fn check_block<F: Function, A: Allocator + Copy>(
     by: &Judging<'_, '_, F, A>,
     block: Block,
     values: &mut PassingTables<A>,
@@ -89,6 +90,24 @@ fn check_all<F: Function, A: Allocator + Copy>(
     Ok(errors)
 }
 
+/// Empty tables, one for each block and one beside them, of the places and the vregs that are named.
+fn tables_of<F: Function, A: Allocator + Copy, C: Allocator>(
+    alloc: A,
+    f: &F,
+    out: &Output<C>,
+) -> Result<PassingTables<A>, AllocError>
+    requires framed { IsFramed (F.function f.now) }
+    requires in_order { IsInOrder (F.function f.now) (output_of out.now) }
+    ensures named { IfOk result (λ t. AreNamed (F.function f.now) (output_of out.now) t) }
+    ensures count { IfOk result (λ t. table_count t ≡ length (F.function f.now).blocks + 1) }
+    ensures empty { IfOk result (λ t. (k i y : ℕ) → shows_in t k i y ≡ false) }
+{
+    let places = named_places(alloc, f, out)?;
+    let vregs = named_vregs(alloc, f)?;
+    let tables = PassingTables::new(alloc, f.num_blocks() + 1, places, vregs)?;
+    Ok(tables)
+}
+
 /// The errors of an output.
 pub fn find_errors<F: Function, A: Allocator + Copy, B: Allocator, C: Allocator>(
     alloc: A,
@@ -109,17 +128,13 @@ pub fn find_errors<F: Function, A: Allocator + Copy, B: Allocator, C: Allocator>
         allocs: &out.allocs,
         offsets: &out.inst_alloc_offsets,
     };
-    let places = named_places(alloc, f, out)?;
-    let vregs = named_vregs(alloc, f)?;
-    let tables = PassingTables::new(alloc, f.num_blocks() + 1, places, vregs)?;
-    let mut state = analyze(alloc, f, &listing, tables)?;
-    let errors = check_all(
-        alloc,
-        f,
-        stack_slots(env),
-        &listing,
-        &state.reached,
-        &mut state.values,
-    )?;
+    let slots = stack_slots(env);
+    let tables = tables_of(alloc, f, out)?;
+    if is_clean(alloc, f, slots, &listing, tables)? {
+        return Ok(Vec::new(alloc));
+    }
+    let new_tables = tables_of(alloc, f, out)?;
+    let mut state = analyze(alloc, f, &listing, new_tables)?;
+    let errors = check_all(alloc, f, slots, &listing, &state.reached, &mut state.values)?;
     Ok(errors)
 }

@@ -18,6 +18,7 @@ mod number_list;
 mod order;
 mod place_list;
 mod queue;
+mod sweep;
 mod texts;
 mod transfer;
 mod transfer_block;

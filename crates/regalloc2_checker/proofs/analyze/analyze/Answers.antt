@@ -4,7 +4,8 @@ use Rattle.std.specs.BinaryHeap.{heap_items}
 use Rattle.regalloc2_function.specs.FunctionValue.{FunctionValue}
 use Rattle.regalloc2_checker.specs.Propagation.{IsReady}
 use Rattle.regalloc2_checker.specs.Tables.{BlockView, views}
-use Rattle.regalloc2_checker.proofs.Queues.{alike-same, all-settled, ready-popped}
+use Rattle.regalloc2_checker.proofs.Laid.{way-all}
+use Rattle.regalloc2_checker.proofs.Queues.{alike-same, alike-twice, all-settled, ready-popped}
 use Rattle.regalloc2_checker.proofs.RoundInvariant.{solved}
 use Rattle.regalloc2_checker.proofs.TransferFollowsFacts.{named_same}
 use Rattle.regalloc2_checker.proofs.analyze.analyze.Goals as goal
@@ -26,9 +27,6 @@ propagate_block-requires g c κs within =
     let f : FunctionValue = g.F.Function.function c.args.f.now in
     let inv = c.passes.invariant in
     let marks : List Bool = c.passes.state.queue.is_queued.items in
-    let t : List BlockView = views c.passes.state.values c.passes.state.reached.items in
-    let e = c.in-Some.ensures.entries in
-    let ready = ready-popped f g.o t marks (heap_items c.passes.state.queue.heap) (heap_items c.pop.new.self.heap) e.0 c.in-Some.block e.1 e.2 inv.on_way in
     let less : c.new.result < length f.blocks = omega (arith, c.new.ensures, c.in-Some.ensures.marks.0, inv.sized.marks) in (
       search rules,
       (
@@ -47,8 +45,7 @@ propagate_block-requires g c κs within =
                     count = inv.sized.count;
                     marks = ap (λ (xs : List Bool). length xs) c.in-Some.ensures.marks.1 ∙ length-set marks c.in-Some.block false ∙ inv.sized.marks;
                   },
-                  rw c.new.ensures (subst (λ (ms : List Bool). IsReady f g.o t ms (heap_items c.pop.new.self.heap) c.in-Some.block)
-                      (sym c.in-Some.ensures.marks.1) ready),
+                  c.in-Some.ensures.queue,
                 ),
               ),
             ),
@@ -56,6 +53,25 @@ propagate_block-requires g c κs within =
         ),
       ),
     )
+
+pub passes-preserved : goal.passes-preserved
+passes-preserved g c =
+    let f : FunctionValue = g.F.Function.function c.args.f.now in
+    let inv = c.passes.invariant in
+    let marks : List Bool = c.passes.state.queue.is_queued.items in
+    let t : List BlockView = views c.passes.state.values c.passes.state.reached.items in
+    let e = c.in-Some.ensures.entries in
+    let p = c.in_ok-propagate_block.ensures in
+    let ready = ready-popped f g.o t marks (heap_items c.passes.state.queue.heap) (heap_items c.pop.new.self.heap) e.0 c.in-Some.block e.1 e.2 inv.on_way in
+    record {
+      alike = alike-twice c.args.values c.passes.state.values c.propagate_block.new.state.values inv.alike p.alike;
+      sized = p.sized;
+      on_way = way-all f g.o t (views c.propagate_block.new.state.values c.propagate_block.new.state.reached.items) c.pop.new.self.is_queued.items
+          c.propagate_block.new.state.queue.is_queued.items (heap_items c.pop.new.self.heap) (heap_items c.propagate_block.new.state.queue.heap) c.new.result
+          p.on_way
+          (rw c.new.ensures (subst (λ (ms : List Bool). IsReady f g.o t ms (heap_items c.pop.new.self.heap) c.in-Some.block)
+          (sym c.in-Some.ensures.marks.1) ready));
+    }
 
 pub returns-clause-solved : goal.returns-clause-solved
 returns-clause-solved g c =

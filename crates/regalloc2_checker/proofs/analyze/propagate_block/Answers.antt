@@ -5,9 +5,11 @@ use Rattle.regalloc2_function.specs.FunctionValue.{FunctionValue, block_at}
 use Rattle.regalloc2_function.specs.OutputValue.{OutputValue}
 use Rattle.regalloc2_checker_tables.specs.Showing.{Showing}
 use Rattle.regalloc2_checker.specs.Propagation.{IsBlockEnd, IsPropagatedOver, AreReached, IsReady}
+use Rattle.regalloc2_checker.specs.Swept.{laid}
 use Rattle.regalloc2_checker.specs.TableFacts.{facts_now}
 use Rattle.regalloc2_checker.specs.Tables.{BlockView, facts_at, views, weight}
 use Rattle.regalloc2_checker.proofs.FactsFollowMaps.{AreEarlier}
+use Rattle.regalloc2_checker.proofs.Laid.{end-laid}
 use Rattle.regalloc2_checker.proofs.Queues.{views-kept, alike-after, alike-same, way-none, way-done, block-end}
 use Rattle.regalloc2_checker.proofs.TableSteps.{kept-twice}
 use Rattle.regalloc2_checker.proofs.TransferFollowsFacts.{named_same}
@@ -41,8 +43,9 @@ returns-then-count-eq0 g c =
     record {
       alike = alike-same c.args.state.now.values;
       sized = c.requires.1.1.1.1.1.1.0;
-      on_way = way-none f g.o (views c.args.state.now.values c.args.state.now.reached.items) c.args.state.now.queue.is_queued.items
-          (heap_items c.args.state.now.queue.heap) c.args.block none c.requires.1.1.1.1.1.1.1;
+      queue = c.requires.1.1.1.1.1.1.1;
+      on_way = λ done vs away ready. way-none f g.o (laid done vs (views c.args.state.now.values c.args.state.now.reached.items))
+          c.args.state.now.queue.is_queued.items (heap_items c.args.state.now.queue.heap) c.args.block none ready;
       falls = omega arith;
     }
 
@@ -62,7 +65,6 @@ returns-then-count-eq1 g c =
     let old : List BlockView = views t rs in
     let new : List BlockView = views n c.propagate_over.new.state.reached.items in
     let sized = c.requires.1.1.1.1.1.1.0 in
-    let ready = c.requires.1.1.1.1.1.1.1 in
     let p = c.in_ok-propagate_over.ensures in
     let kept = kept-twice t m w c.load.ensures.kept c.in_ok-transfer_block.ensures.kept in
     let same : views w rs ≡ old = views-kept t w rs kept in
@@ -71,26 +73,29 @@ returns-then-count-eq1 g c =
     c.in_ok-transfer_block.ensures.now in
     let e = ap (λ (xs : List ℕ). length xs) c.block_succs-count.ensures in
     let one : 0 + 1 ≡ length (block_at f b).succs = omega (arith, e, c.if-count-eq1.true) in
-    let over : IsPropagatedOver f b 0 (facts_now w) old new marks after p.over.0 =
-    subst (λ (vs : List BlockView). IsPropagatedOver f b 0 (facts_now w) vs new marks after p.over.0) same p.over.1 in
     let sums = ap (λ (vs : List BlockView). sum_by weight vs) same in
     record {
       alike = alike-after t w n kept p.alike;
       sized = p.sized;
-      on_way = way-done f o old new after (heap_items c.propagate_over.new.state.queue.heap) b (0 + 1) one
-          (edge-passed law f o c.requires.1.1.1.0 old old new marks after b 0 (facts_now w) p.over.0
-          (record { sound = ready.sound; reached = ready.here; low = c.requires.1.1.1.1.1.0; less = omega (arith, one); ends = ends })
-          (edges-first f o old marks b ready.sound ready.none) over) p.queue p.reached;
+      queue = p.queue;
+      on_way = λ done vs away ready.
+          let e = p.over done vs (away.succs 0 (omega (arith, one))) in
+          let there : laid done vs (views w rs) ≡ laid done vs old = ap (laid done vs) same in
+          let over : IsPropagatedOver f b 0 (facts_now w) (laid done vs old) (laid done vs new) marks after e.changed =
+          subst (λ (ts : List BlockView). IsPropagatedOver f b 0 (facts_now w) ts (laid done vs new) marks after e.changed) there e.over in
+          way-done f o (laid done vs old) (laid done vs new) after (heap_items c.propagate_over.new.state.queue.heap) b (0 + 1) one
+          (edge-passed law f o c.requires.1.1.1.0 (laid done vs old) (laid done vs old) (laid done vs new) marks after b 0 (facts_now w) e.changed
+          (record {
+            sound = ready.sound;
+            reached = ready.here;
+            low = c.requires.1.1.1.1.1.0;
+            less = omega (arith, one);
+            ends = end-laid f o b done vs old (facts_now w) away.here ends;
+          })
+          (edges-first f o (laid done vs old) marks b ready.sound ready.none) over) p.queue
+          (e.reached (subst (λ (ts : List BlockView). AreReached ts (heap_items c.args.state.now.queue.heap)) (sym there) ready.reached));
       falls = omega (arith, sums, p.falls);
     }
-
-pub propagate_over-requires-clause-reached : goal.propagate_over-requires-clause-reached
-propagate_over-requires-clause-reached g c =
-    let t : Showing = c.args.state.now.values in
-    let w : Showing = c.transfer_block.new.values in
-    let rs : List Bool = c.args.state.now.reached.items in
-    subst (λ (vs : List BlockView). AreReached vs (heap_items c.args.state.now.queue.heap))
-    (sym (views-kept t w rs (kept-twice t c.load.new.self w c.load.ensures.kept c.in_ok-transfer_block.ensures.kept))) c.requires.1.1.1.1.1.1.1.reached
 
 pub propagate_edges-requires : goal.propagate_edges-requires
 propagate_edges-requires g c κs within =
@@ -102,13 +107,8 @@ propagate_edges-requires g c κs within =
     let w : Showing = c.transfer_block.new.values in
     let rs : List Bool = c.args.state.now.reached.items in
     let marks : List Bool = c.args.state.now.queue.is_queued.items in
-    let entries = heap_items c.args.state.now.queue.heap in
     let sized = c.requires.1.1.1.1.1.1.0 in
-    let kept = kept-twice t m w c.load.ensures.kept c.in_ok-transfer_block.ensures.kept in
-    let same : views w rs ≡ views t rs = views-kept t w rs kept in
-    let ends : IsBlockEnd f o b (facts_at (views t rs) b) (facts_now w) =
-    block-end f o b t m w rs (omega (arith, sized.reached, c.requires.1.1.1.1.1.0)) c.load.ensures.kept.places (rw c.index.ensures at c.load.ensures.now)
-    c.in_ok-transfer_block.ensures.now in (
+    let kept = kept-twice t m w c.load.ensures.kept c.in_ok-transfer_block.ensures.kept in (
       search rules,
       (
         search rules,
@@ -120,10 +120,7 @@ propagate_edges-requires g c κs within =
               c.requires.1.1.1.1.1.0,
               (
                 record { reached = sized.reached; count = kept.count ∙ sized.count; marks = sized.marks },
-                (
-                  subst (λ (vs : List BlockView). IsReady f o vs marks entries b) (sym same) c.requires.1.1.1.1.1.1.1,
-                  subst (λ (vs : List BlockView). IsBlockEnd f o b (facts_at vs b) (facts_now w)) (sym same) ends,
-                ),
+                c.requires.1.1.1.1.1.1.1,
               ),
             ),
           ),
@@ -133,16 +130,30 @@ propagate_edges-requires g c κs within =
 
 pub returns : goal.returns
 returns g c =
+    let f : FunctionValue = g.F.Function.function c.args.f.now in
+    let o : OutputValue = g.o in
+    let b : ℕ = c.args.block in
     let t : Showing = c.args.state.now.values in
     let m : Showing = c.load.new.self in
     let w : Showing = c.transfer_block.new.values in
     let rs : List Bool = c.args.state.now.reached.items in
+    let sized = c.requires.1.1.1.1.1.1.0 in
     let p = c.in_ok-propagate_edges.ensures in
     let kept = kept-twice t m w c.load.ensures.kept c.in_ok-transfer_block.ensures.kept in
-    let sums = ap (λ (vs : List BlockView). sum_by weight vs) (views-kept t w rs kept) in
+    let same : views w rs ≡ views t rs = views-kept t w rs kept in
+    let sums = ap (λ (vs : List BlockView). sum_by weight vs) same in
+    let ends : IsBlockEnd f o b (facts_at (views t rs) b) (facts_now w) =
+    block-end f o b t m w rs (omega (arith, sized.reached, c.requires.1.1.1.1.1.0)) c.load.ensures.kept.places (rw c.index.ensures at c.load.ensures.now)
+    c.in_ok-transfer_block.ensures.now in
     record {
       alike = alike-after t w c.propagate_edges.new.state.values kept p.alike;
       sized = p.sized;
-      on_way = p.on_way;
+      queue = p.queue;
+      on_way = λ done vs away ready.
+          let there : laid done vs (views w rs) ≡ laid done vs (views t rs) = ap (laid done vs) same in
+          p.on_way done vs away (subst (λ (ts : List BlockView). IsReady f o ts c.args.state.now.queue.is_queued.items
+          (heap_items c.args.state.now.queue.heap) b) (sym there) ready)
+          (subst (λ (ts : List BlockView). IsBlockEnd f o b (facts_at ts b) (facts_now w)) (sym there)
+          (end-laid f o b done vs (views t rs) (facts_now w) away.here ends));
       falls = omega (arith, sums, p.falls);
     }

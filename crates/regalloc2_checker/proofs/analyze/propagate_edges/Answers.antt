@@ -6,6 +6,7 @@ use Rattle.regalloc2_function.specs.OutputValue.{OutputValue}
 use Rattle.regalloc2_checker_tables.specs.Showing.{Showing, shows_in, shows_now}
 use Rattle.regalloc2_checker.specs.Facts.{Facts}
 use Rattle.regalloc2_checker.specs.Propagation.{IsPropagatedOver, AreReached}
+use Rattle.regalloc2_checker.specs.Swept.{laid}
 use Rattle.regalloc2_checker.specs.TableFacts.{facts_now, facts_table}
 use Rattle.regalloc2_checker.specs.Tables.{BlockView, views, weight}
 use Rattle.regalloc2_checker.proofs.FactsFollowMaps.{AreEarlier}
@@ -23,7 +24,6 @@ loop-k-init g c =
     let rs : List Bool = c.args.state.now.reached.items in
     let marks : List Bool = c.args.state.now.queue.is_queued.items in
     let sized = c.requires.1.1.1.1.1.0 in
-    let ready = c.requires.1.1.1.1.1.1.0 in
     let end : c.num_blocks-end.result ≡ length f.blocks = c.num_blocks-end.ensures.count in
     let same : views u rs ≡ views t rs = views-beside t u rs c.num_blocks-end.result (shows_now t) (omega (arith, end, sized.reached)) c.save.ensures.places
     c.in_ok-save.ensures.tables in
@@ -34,10 +34,12 @@ loop-k-init g c =
       alike = record { places = c.save.ensures.places; vregs = c.save.ensures.vregs; count = c.save.ensures.count };
       sized = record { reached = sized.reached; count = c.save.ensures.count ∙ sized.count; marks = sized.marks };
       table = subst (λ (n : ℕ). facts_table u n ≡ facts_now t) end (table-saved t u c.num_blocks-end.result c.save.ensures.places c.in_ok-save.ensures.tables);
-      done = subst (λ (vs : List BlockView). EdgesPassed f g.o (views t rs) vs marks c.args.block 0) (sym same)
-          (edges-first f g.o (views t rs) marks c.args.block ready.sound ready.none);
-      queue = ready.queue;
-      reached = subst (λ (vs : List BlockView). AreReached vs (heap_items c.args.state.now.queue.heap)) (sym same) ready.reached;
+      done = λ done vs none ready ends. record {
+        passed = subst (λ (ts : List BlockView). EdgesPassed f g.o (laid done vs (views t rs)) ts marks c.args.block 0) (sym (ap (laid done vs) same))
+            (edges-first f g.o (laid done vs (views t rs)) marks c.args.block ready.sound ready.none);
+        reached = subst (λ (ts : List BlockView). AreReached ts (heap_items c.args.state.now.queue.heap)) (sym (ap (laid done vs) same)) ready.reached;
+      };
+      queue = c.requires.1.1.1.1.1.1;
       falls = omega (arith, sums);
     }
 
@@ -61,16 +63,12 @@ loop-k-preserved g c =
     let F : Facts = facts_now at in
     let inv = c.loop-k.invariant in
     let p = c.in_ok-propagate_over.ensures in
-    let ready = c.requires.1.1.1.1.1.1.0 in
     let same : mid ≡ t = views-kept l m c.loop-k.state.reached.items c.load.ensures.kept in
     let end : c.num_blocks-end.result ≡ length f.blocks = c.num_blocks-end.ensures.count in
     let now : facts_now m ≡ F =
     now-as l m (shows_in l c.num_blocks-end.result) c.load.ensures.kept.places c.load.ensures.now
     ∙ ap (λ (i : ℕ). facts_table l i) end ∙ inv.table in
     let less : k < length (block_at f b).succs = omega (arith, c.loop-k-test.true, inv.last) in
-    let over : IsPropagatedOver f b k F t new marks after p.over.0 =
-    subst (λ (X : Facts). IsPropagatedOver f b k X t new marks after p.over.0) now
-    (subst (λ (vs : List BlockView). IsPropagatedOver f b k (facts_now m) vs new marks after p.over.0) same p.over.1) in
     let sums = ap (λ (vs : List BlockView). sum_by weight vs) same in
     record {
       last = inv.last;
@@ -78,10 +76,19 @@ loop-k-preserved g c =
       alike = alike-twice at l n inv.alike (alike-after l m n c.load.ensures.kept p.alike);
       sized = p.sized;
       table = p.kept ∙ table-kept l m (length f.blocks) c.load.ensures.kept ∙ inv.table;
-      done = edge-passed law f o c.requires.1.1.0 old t new marks after b k F p.over.0
-          (record { sound = ready.sound; reached = ready.here; low = c.requires.1.1.1.1.0; less = less; ends = c.requires.1.1.1.1.1.1.1 }) inv.done over;
+      done = λ done vs none ready ends.
+          let on = inv.done done vs none ready ends in
+          let e = p.over done vs (none.succs k less) in
+          let there : laid done vs mid ≡ laid done vs t = ap (laid done vs) same in
+          let over : IsPropagatedOver f b k F (laid done vs t) (laid done vs new) marks after e.changed =
+          subst (λ (X : Facts). IsPropagatedOver f b k X (laid done vs t) (laid done vs new) marks after e.changed) now
+          (subst (λ (ts : List BlockView). IsPropagatedOver f b k (facts_now m) ts (laid done vs new) marks after e.changed) there e.over) in
+          record {
+            passed = edge-passed law f o c.requires.1.1.0 (laid done vs old) (laid done vs t) (laid done vs new) marks after b k F e.changed
+                (record { sound = ready.sound; reached = ready.here; low = c.requires.1.1.1.1.0; less = less; ends = ends }) on.passed over;
+            reached = e.reached (subst (λ (ts : List BlockView). AreReached ts (heap_items c.loop-k.state.queue.heap)) (sym there) on.reached);
+          };
       queue = p.queue;
-      reached = p.reached;
       falls = omega (arith, sums, p.falls, inv.falls);
     }
 
@@ -93,12 +100,11 @@ returns g c =
     record {
       alike = inv.alike;
       sized = inv.sized;
-      on_way = way-done f g.o (views c.args.state.now.values c.args.state.now.reached.items) (views c.loop-k.state.values c.loop-k.state.reached.items)
-          c.loop-k.state.queue.is_queued.items (heap_items c.loop-k.state.queue.heap) c.args.block c.loop-k.k all inv.done inv.queue inv.reached;
+      queue = inv.queue;
+      on_way = λ done vs none ready ends.
+          let on = inv.done done vs none ready ends in
+          way-done f g.o (laid done vs (views c.args.state.now.values c.args.state.now.reached.items))
+          (laid done vs (views c.loop-k.state.values c.loop-k.state.reached.items)) c.loop-k.state.queue.is_queued.items (heap_items c.loop-k.state.queue.heap)
+          c.args.block c.loop-k.k all on.passed inv.queue on.reached;
       falls = inv.falls;
     }
-
-pub propagate_over-requires-clause-reached : goal.propagate_over-requires-clause-reached
-propagate_over-requires-clause-reached g c =
-    subst (λ (vs : List BlockView). AreReached vs (heap_items c.loop-k.state.queue.heap))
-    (sym (views-kept c.loop-k.state.values c.load.new.self c.loop-k.state.reached.items c.load.ensures.kept)) c.loop-k.invariant.reached

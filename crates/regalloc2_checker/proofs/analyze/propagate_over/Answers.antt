@@ -3,9 +3,11 @@ use Rattle.std.proofs.lemmas.List.{length-set}
 use Rattle.std.specs.BinaryHeap.{heap_items, heap_len}
 use Rattle.regalloc2_function.specs.FunctionValue.{FunctionValue, block_at}
 use Rattle.regalloc2_checker.specs.Propagation.{AreReached}
+use Rattle.regalloc2_checker.specs.Swept.{laid, done_at}
 use Rattle.regalloc2_checker.specs.TableFacts.{facts_now}
 use Rattle.regalloc2_checker.specs.Tables.{BlockView, views, IsMeet}
 use Rattle.regalloc2_checker.proofs.BlocksInRange.{index_is}
+use Rattle.regalloc2_checker.proofs.Laid.{laid-meet}
 use Rattle.regalloc2_checker.proofs.Queues.{views-kept, alike-after, over-is, reached-either, left-falls, left-stays, sized-on}
 use Rattle.regalloc2_checker.proofs.TableSteps.{table-kept}
 use Rattle.regalloc2_checker.proofs.analyze.propagate_over.Goals as goal
@@ -35,14 +37,17 @@ returns-then-not-changed g c =
           c.args.state.now.queue.is_queued.items alike u.long refl c.requires.sized;
       kept = u.others (length f.blocks) (λ e. omega (arith, e, target, inside))
           ∙ table-kept c.args.state.now.values c.transfer_edge.new.values (length f.blocks) kept;
-      over = (
-        false,
-        over-is f c.args.block c.args.position (facts_now c.args.state.now.values) (facts_now c.transfer_edge.new.values) old mid new
-            c.args.state.now.queue.is_queued.items c.args.state.now.queue.is_queued.items c.index-target.result false
-            (record { aimed = target; tables = same; facts = c.in_ok-transfer_edge.ensures.now }) met refl,
-      );
+      over = λ done vs h. record {
+        changed = false;
+        over = over-is f c.args.block c.args.position (facts_now c.args.state.now.values) (facts_now c.transfer_edge.new.values) (laid done vs old)
+            (laid done vs mid) (laid done vs new) c.args.state.now.queue.is_queued.items c.args.state.now.queue.is_queued.items c.index-target.result false
+            (record { aimed = target; tables = ap (laid done vs) same; facts = c.in_ok-transfer_edge.ensures.now })
+            (laid-meet done vs mid new c.index-target.result (facts_now c.transfer_edge.new.values) false
+            (ap (λ n. done_at done n) target ∙ h) met) refl;
+        reached = subst (λ (t : List BlockView). AreReached t (heap_items c.args.state.now.queue.heap))
+            (sym (ap (laid done vs) ((met.same refl).0 ∙ same)));
+      };
       queue = c.requires.queue;
-      reached = subst (λ (t : List BlockView). AreReached t (heap_items c.args.state.now.queue.heap)) (sym ((met.same refl).0 ∙ same)) c.requires.reached;
       falls = left-stays old mid new c.index-target.result (heap_len c.args.state.now.queue.heap) (facts_now c.transfer_edge.new.values) same met;
     }
 
@@ -72,16 +77,20 @@ returns g c =
           alike u.long (ap (λ (xs : List Bool). length xs) c.in_ok-push.ensures.marks ∙ length-set marks c.index-target.result true) c.requires.sized;
       kept = u.others (length f.blocks) (λ e. omega (arith, e, target, inside))
           ∙ table-kept c.args.state.now.values c.transfer_edge.new.values (length f.blocks) kept;
-      over = (
-        true,
-        over-is f c.args.block c.args.position (facts_now c.args.state.now.values) (facts_now c.transfer_edge.new.values) old mid new
-            marks c.push.new.self.is_queued.items c.index-target.result true
-            (record { aimed = target; tables = same; facts = c.in_ok-transfer_edge.ensures.now }) met c.in_ok-push.ensures.marks,
-      );
+      over = λ done vs h.
+          let m : IsMeet (laid done vs mid) (laid done vs new) c.index-target.result (facts_now c.transfer_edge.new.values) true =
+          laid-meet done vs mid new c.index-target.result (facts_now c.transfer_edge.new.values) true (ap (λ n. done_at done n) target ∙ h) met in
+          record {
+            changed = true;
+            over = over-is f c.args.block c.args.position (facts_now c.args.state.now.values) (facts_now c.transfer_edge.new.values) (laid done vs old)
+                (laid done vs mid) (laid done vs new) marks c.push.new.self.is_queued.items c.index-target.result true
+                (record { aimed = target; tables = ap (laid done vs) same; facts = c.in_ok-transfer_edge.ensures.now }) m c.in_ok-push.ensures.marks;
+            reached = λ r. reached-either (laid done vs mid) (laid done vs new) c.index-target.result (facts_now c.transfer_edge.new.values)
+                (heap_items c.args.state.now.queue.heap) (heap_items c.push.new.self.heap) (m.updated refl)
+                (subst (λ (t : List BlockView). AreReached t (heap_items c.args.state.now.queue.heap)) (sym (ap (laid done vs) same)) r)
+                c.in_ok-push.ensures.entries;
+          };
       queue = c.in_ok-push.ensures.queue;
-      reached = reached-either mid new c.index-target.result (facts_now c.transfer_edge.new.values) (heap_items c.args.state.now.queue.heap)
-          (heap_items c.push.new.self.heap) (met.updated refl)
-          (subst (λ (t : List BlockView). AreReached t (heap_items c.args.state.now.queue.heap)) (sym same) c.requires.reached) c.in_ok-push.ensures.entries;
       falls = left-falls old mid new c.index-target.result (heap_len c.args.state.now.queue.heap) (heap_len c.push.new.self.heap)
           (facts_now c.transfer_edge.new.values) same met c.in_ok-push.ensures.longer;
     }

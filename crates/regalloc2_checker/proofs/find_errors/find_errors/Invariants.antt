@@ -5,3 +5,6 @@ ghost-analyze g a = g.o
 
 abbrev pub ghost-check_all : goal.ghost-check_all
 ghost-check_all g a = g.o
+
+abbrev pub ghost-is_clean : goal.ghost-is_clean
+ghost-is_clean g a = g.o
