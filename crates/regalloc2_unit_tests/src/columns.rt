@@ -44,14 +44,20 @@ const CHANGES: [(&str, usize, u32); 18] = [
     ("a slot too large", 14, 25),
 ];
 
+/// Adds a line's words, but for the one of that index.
+fn push_line(words: &mut Vec<u32>, line: &str, at: usize, word: u32) -> Result<(), AllocError> {
+    for text in line.split(' ') {
+        let number = text.parse::<u32>().unwrap_or(0);
+        words.push(if words.len() == at { word } else { number })?;
+    }
+    Ok(())
+}
+
 /// The words of the function, with one replaced.
 fn words_with(alloc: Global, at: usize, word: u32) -> Result<Vec<u32>, AllocError> {
     let mut words = Vec::new(alloc);
     for (_, line) in LINES {
-        for text in line.split(' ') {
-            let number = text.parse::<u32>().unwrap_or(0);
-            words.push(if words.len() == at { word } else { number })?;
-        }
+        push_line(&mut words, line, at, word)?;
     }
     Ok(words)
 }

@@ -90,20 +90,38 @@ fn copied<A: Allocator + Copy>(
     SerializableFunction::new(alloc, f, env)
 }
 
-/// The stored numbers of a function, copied with a machine without registers, and of an output that JSON texts give.
+/// The stored numbers of a function that a JSON text gives, copied with a machine without registers.
+fn stored_function<A: Allocator + Copy>(
+    global: Global,
+    alloc: A,
+    text: &str,
+) -> Result<StoredFunction<A>, RegAllocError> {
+    let value = Value::from_str(global, text).map_err(|_| RegAllocError::EntryLivein)?;
+    let stored = StoredFunction::from_value(alloc, &value).map_err(|fault| fault_of(fault))?;
+    let f = SerializableFunction::from_stored(alloc, &stored).map_err(|fault| fault_of(fault))?;
+    Ok(copied(alloc, &f)?.stored()?)
+}
+
+/// The stored numbers of an output that a JSON text gives.
+fn stored_output<A: Allocator + Copy>(
+    global: Global,
+    alloc: A,
+    text: &str,
+) -> Result<StoredOutput<A>, RegAllocError> {
+    let value = Value::from_str(global, text).map_err(|_| RegAllocError::EntryLivein)?;
+    let read = StoredOutput::from_value(alloc, &value).map_err(|fault| fault_of(fault))?;
+    let output = Output::from_stored(alloc, &read).map_err(|fault| fault_of(fault))?;
+    Ok(output.stored()?)
+}
+
+/// The stored numbers of a function and of an output that JSON texts give.
 fn stored<A: Allocator + Copy>(
     global: Global,
     alloc: A,
     texts: (&str, &str),
 ) -> Result<(StoredFunction<A>, StoredOutput<A>), RegAllocError> {
-    let value = Value::from_str(global, texts.0).map_err(|_| RegAllocError::EntryLivein)?;
-    let stored = StoredFunction::from_value(alloc, &value).map_err(|fault| fault_of(fault))?;
-    let f = SerializableFunction::from_stored(alloc, &stored).map_err(|fault| fault_of(fault))?;
-    let copy = copied(alloc, &f)?;
-    let value = Value::from_str(global, texts.1).map_err(|_| RegAllocError::EntryLivein)?;
-    let read = StoredOutput::from_value(alloc, &value).map_err(|fault| fault_of(fault))?;
-    let output = Output::from_stored(alloc, &read).map_err(|fault| fault_of(fault))?;
-    Ok((copy.stored()?, output.stored()?))
+    let f = stored_function(global, alloc, texts.0)?;
+    Ok((f, stored_output(global, alloc, texts.1)?))
 }
 
 /// Writes the numbers that the texts of a function and an output give, and of each call whether it
