@@ -42,20 +42,21 @@ FLOORS = [
         ("ra2", "program: JSON"),
         ("ra2_text_program", "subcommands, text or JSON"),
         ("ra2_text", "program: texts")])],
+    [("Code generator", [
+        ("codegen_ir", "functions, modules"),
+        ("codegen_machine", "machine, text"),
+        ("codegen", "the compiler"),
+        ("compile", "program"),
+        ("example_call", "program: one call"),
+        ("example_toy", "program: a client")])],
     [("Rewriting", [
         ("regalloc2_rewrite", "split edges, renumber")]),
-     ("Code generator", [
-         ("codegen_machine", "functions, machine, text"),
-         ("codegen", "the compiler"),
-         ("compile", "program"),
-         ("example_call", "program: one call"),
-         ("example_toy", "program: a client")])],
-    [("Tests", [
-        ("regalloc2_test_alloc", "failing allocator"),
-        ("regalloc2_unit_tests", "parts"),
-        ("regalloc2_tests", "allocator, programs"),
-        ("regalloc2_cases", "case files"),
-        ("regalloc2_bench", "cost")])],
+     ("Tests", [
+         ("regalloc2_test_alloc", "failing allocator"),
+         ("regalloc2_unit_tests", "parts"),
+         ("regalloc2_tests", "allocator, programs"),
+         ("regalloc2_cases", "case files"),
+         ("regalloc2_bench", "cost")])],
 ]
 
 # The data's way: the rooms after the front, and what is handed on to each.

@@ -1,7 +1,7 @@
 //! From a module to code.
 
 ghost use Rattle.std.specs.Prelude.{◌≡◌, ◌∷◌, ◌++◌, [], IfErr, IfOk, OnOk, map, string_bytes};
-ghost use Rattle.codegen_machine.specs.Ir.Seen.{function_of_procedure};
+ghost use Rattle.codegen_ir.specs.Seen.{function_of_procedure};
 ghost use Rattle.codegen_machine.specs.Machine.{code_of};
 ghost use Rattle.codegen_machine.specs.Calls.{functions_of};
 ghost use Rattle.codegen.specs.Behaves.{BehavesAs};
@@ -10,7 +10,7 @@ ghost use Rattle.codegen.specs.Reasons.{IsCompileReason, IsModuleReason, compile
 
 use super::emit::emit;
 use super::registers::target;
-use codegen_machine::ir::{Module, NamedProcedure, Procedure};
+use codegen_ir::{Module, NamedProcedure, Procedure};
 use codegen_machine::{Code, ModuleCode, NamedCode};
 use regalloc2::{TestedRunError, run_tested};
 use regalloc2_semantics::values::runs_alike;

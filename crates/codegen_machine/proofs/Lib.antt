@@ -1,6 +1,5 @@
 -- Lemmas for the interpreters of procedures and machine code, and for reading texts of procedures.
 -- Read first: `RunLemmas`: an interpreter makes the steps of its spec.
 -- Depends on the specs.
-pub mod Arguments
 pub mod RunLemmas
 pub mod TextLemmas

@@ -1,7 +1,6 @@
--- Procedures over 64-bit integers (`Ir`), the target machine (`Machine`), interpreters of both (`Run`), and their texts.
--- Read first: `Machine`: `machine_step` is one step, `machine_run` a run; then `Ir/Meaning`, the steps of a procedure.
--- Depends on `Ir/Numbers`, the arithmetic of 64-bit integers, and on regalloc2_function for a procedure's function.
-pub mod Ir
+-- The target machine (`Machine`), its calls and returns (`Calls`), interpreters of procedures and of machine code (`Run`), and the text of code (`Text`).
+-- Read first: `Machine`: `machine_step` is one step, `machine_run` a run.
+-- Depends on codegen_ir: `Numbers`, the arithmetic of 64-bit integers, and the interpreters of procedures (`Meaning`, `Calls`).
 pub mod Machine
 pub mod Calls
 pub mod Run

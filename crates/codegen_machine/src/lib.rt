@@ -6,9 +6,8 @@
 //! `specs/Calls.antt` calls and returns.
 #![tactic(auto)]
 
-use crate::ir::{Bytes, Condition, Operator, ShiftOperator, Width};
+use codegen_ir::{Bytes, Condition, Operator, ShiftOperator, Width};
 
-pub mod ir;
 pub mod run;
 pub mod text;
 

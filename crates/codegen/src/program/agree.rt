@@ -2,8 +2,8 @@
 
 use super::random::random_program;
 use crate::compile;
+use codegen_ir::Module;
 use codegen_machine::ModuleCode;
-use codegen_machine::ir::Module;
 use codegen_machine::run::{Run, Standing, run_module, run_module_code};
 use codegen_machine::text::read_module;
 use std::alloc::{AllocError, Global};

@@ -2,15 +2,15 @@
 use Rattle.std.specs.Prelude.{ℕ, ◌≡◌, List, codes, slice_index, None, Some}
 use Rattle.std.specs.Fmt.{decimal}
 use Rattle.regalloc2_function.specs.Path.{first_of}
-use Rattle.codegen_machine.specs.Ir.Numbers.{RunOutcome, Running as runs, Returned as returned, Trapped as traps, Overflowed as overflows, Stuck as sticks, further}
-use Rattle.codegen_machine.specs.Ir.Meaning.{ProcedureState}
-use Rattle.codegen_machine.specs.Ir.Seen.{function_of_procedure}
-use Rattle.codegen_machine.specs.declared.ir.procedure.Procedure.{Procedure}
+use Rattle.codegen_ir.specs.Numbers.{RunOutcome, Running as runs, Returned as returned, Trapped as traps, Overflowed as overflows, Stuck as sticks, further}
+use Rattle.codegen_ir.specs.Meaning.{ProcedureState}
+use Rattle.codegen_ir.specs.Seen.{function_of_procedure}
+use Rattle.codegen_ir.specs.declared.procedure.Procedure.{Procedure}
 use Rattle.codegen_machine.specs.Machine.{MachineState}
-use Rattle.codegen_machine.specs.Ir.Calls.{ModuleState, module_begun, module_run}
-use Rattle.codegen_machine.specs.Ir.Modules.{procedures_of}
+use Rattle.codegen_ir.specs.Calls.{ModuleState, module_begun, module_run}
+use Rattle.codegen_ir.specs.Modules.{procedures_of}
 use Rattle.codegen_machine.specs.Calls.{Stack, StackState, functions_of, stack_begun, stack_run}
-use Rattle.codegen_machine.specs.declared.ir.module.Module.{Module}
+use Rattle.codegen_ir.specs.declared.module.Module.{Module}
 use Rattle.codegen_machine.specs.declared.ModuleCode.{ModuleCode}
 use Rattle.codegen_machine.specs.declared.run.standing.Run.{Run}
 use Rattle.codegen_machine.specs.declared.run.standing.Standing.{Standing}

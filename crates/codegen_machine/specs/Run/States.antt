@@ -4,9 +4,9 @@ use Rattle.std.specs.HashMap.{HashMap, get}
 use Rattle.regalloc2_names.specs.Register.{VirtualRegister}
 use Rattle.regalloc2_names.specs.RegisterBits.{bits_of_vreg}
 use Rattle.codegen_machine.specs.Calls.{Calls, FunctionCode, Passes, StackAct as Act, StackState, SuspendedActivation, activated, arguments_passed, calling, suspended_at, words_taken}
-use Rattle.codegen_machine.specs.Ir.Calls.{CallValue, ModuleState, SuspendedFrame}
-use Rattle.codegen_machine.specs.Ir.Meaning.{ProcedureState}
-use Rattle.codegen_machine.specs.Ir.Numbers.{RunOutcome}
+use Rattle.codegen_ir.specs.Calls.{CallValue, ModuleState, SuspendedFrame}
+use Rattle.codegen_ir.specs.Meaning.{ProcedureState}
+use Rattle.codegen_ir.specs.Numbers.{RunOutcome}
 use Rattle.codegen_machine.specs.Machine.{MachineState, code_of, is_general}
 use Rattle.codegen_machine.specs.declared.Source.{Source}
 use Rattle.codegen_machine.specs.declared.Source.TheVariants.{Register, Slot, Number}

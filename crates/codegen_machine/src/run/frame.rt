@@ -3,7 +3,7 @@
 ghost use Rattle.std.specs.Prelude.{◌<◌, ◌+◌, ◌^◌};
 
 use super::procedure::Numbers;
-use regalloc2::VReg;
+use regalloc2_names::VReg;
 
 /// A frame suspended at a call: its function, its arguments, the line of the call, the numbers of
 /// its vregs, and the vreg that the call defines.

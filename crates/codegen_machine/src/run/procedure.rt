@@ -5,17 +5,19 @@ ghost use Rattle.regalloc2_semantics.specs.Values.Interpreters.{number_set, pass
 ghost use Rattle.regalloc2_function.specs.FunctionValue.{block_at};
 ghost use Rattle.regalloc2_function.specs.Path.{first_of};
 ghost use Rattle.regalloc2_function.specs.SourceRun.{arguments_at};
-ghost use Rattle.codegen_machine.specs.Ir.Numbers.{condition_holds, divided_at, division_traps, is_within, number_at, widened, with_number, Trapped};
-ghost use Rattle.codegen_machine.specs.Ir.Meaning.{along, count_number, onward, right_number, stored, procedure_run, procedure_step};
-ghost use Rattle.codegen_machine.specs.Ir.Seen.{function_of_procedure, operations};
+ghost use Rattle.codegen_ir.specs.Numbers.{condition_holds, divided_at, division_traps, is_within, number_at, widened, with_number, Trapped};
+ghost use Rattle.codegen_ir.specs.Meaning.{along, count_number, onward, right_number, stored, procedure_run, procedure_step};
+ghost use Rattle.codegen_ir.specs.Seen.{function_of_procedure, operations};
 ghost use Rattle.codegen_machine.specs.Run.Runs.{arguments_of, first_state, IsProcedureRun};
 ghost use Rattle.codegen_machine.specs.Run.States.{numbers_by_vreg, procedure_outcome, state_of};
 
 use super::memory::{is_within, number_at, put_number};
 use super::numbers::{argument, compute_at, divided_at, does_hold, does_trap, shift_at, widened};
 use super::standing::{Run, Standing};
-use crate::ir::{Bytes, Condition, Count, DivisionPart, Operation, Procedure, Right, Width};
-use regalloc2::{Block, Function, VReg};
+use codegen_ir::{Bytes, Condition, Count, DivisionPart, Operation, Procedure, Right, Width};
+use regalloc2_function::Function;
+use regalloc2_index::Block;
+use regalloc2_names::VReg;
 use std::alloc::{AllocError, Global};
 use std::collections::HashMap;
 use std::hash::{BuildHasherDefault, FoldHasher};

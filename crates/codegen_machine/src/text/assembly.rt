@@ -10,8 +10,8 @@ use super::frame::{
     ArgumentLoadsText, ArgumentText, EntryText, ExitText, FrameWords, LimitText, SlotText,
     frame_words,
 };
-use crate::ir::{Bytes, Condition, Operator, ShiftOperator, Width};
 use crate::{Instruction, ModuleCode, NamedCode, Source};
+use codegen_ir::{Bytes, Condition, Operator, ShiftOperator, Width};
 use std::fmt;
 
 /// The start of the entry: keeps the memory's address, and below it the stack's limit.

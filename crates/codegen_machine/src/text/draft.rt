@@ -2,8 +2,9 @@
 
 use super::functions::Functions;
 use super::operations::{Scope, read_branch, read_store, read_value, read_vreg};
-use crate::ir::{Line, Malformed, NamedProcedure, Operation, Part, Procedure};
-use regalloc2::{Block, Inst, InstRange, VReg};
+use codegen_ir::{Line, Malformed, NamedProcedure, Operation, Part, Procedure};
+use regalloc2_index::{Block, Inst, InstRange};
+use regalloc2_names::VReg;
 use regalloc2_text::cursor::{Cursor, Expected, Flaw, Found, Token};
 use std::alloc::Global;
 

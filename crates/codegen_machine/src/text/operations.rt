@@ -4,10 +4,10 @@ ghost use Rattle.std.specs.Prelude.{◌≤◌};
 ghost use Rattle.regalloc2_text.specs.Cursor.Cursor.{tokens_left};
 
 use super::functions::{Callee, Functions, MOST_ARGUMENTS};
-use crate::ir::{
+use codegen_ir::{
     Bytes, Condition, Count, DivisionPart, Operation, Operator, Right, ShiftOperator, Width,
 };
-use regalloc2::{RegClass, VReg};
+use regalloc2_names::{RegClass, VReg};
 use regalloc2_text::cursor::Cursor;
 use std::alloc::Global;
 

@@ -1,6 +1,6 @@
 use Rattle.std.specs.Prelude.{◌≡◌}
 use Rattle.regalloc2_function.specs.Views.{output_of}
-use Rattle.codegen_machine.specs.Ir.Seen.{function_of_procedure, operations}
+use Rattle.codegen_ir.specs.Seen.{function_of_procedure, operations}
 use Rattle.codegen.specs.Emitted.{blocks_code}
 use Rattle.codegen.proofs.Emitting.{AreStarts}
 use Rattle.codegen.proofs.emit.emit.Given as goal

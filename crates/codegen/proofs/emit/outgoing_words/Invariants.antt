@@ -1,5 +1,5 @@
 use Rattle.std.specs.Prelude.{◌≡◌, take}
-use Rattle.codegen_machine.specs.Ir.Successors.{operations_of}
+use Rattle.codegen_ir.specs.Successors.{operations_of}
 use Rattle.codegen.specs.Emitted.{outgoing_words}
 use Rattle.codegen.proofs.emit.outgoing_words.Given as goal
 

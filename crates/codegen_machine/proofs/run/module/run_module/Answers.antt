@@ -1,6 +1,6 @@
 use Rattle.std.proofs.Common.{◌≡◌, refl, ap, ◌∙◌, arith}
-use Rattle.codegen_machine.specs.Ir.Calls.{module_begun}
-use Rattle.codegen_machine.specs.Ir.Modules.{procedures_of}
+use Rattle.codegen_ir.specs.Calls.{module_begun}
+use Rattle.codegen_ir.specs.Modules.{procedures_of}
 use Rattle.codegen_machine.specs.Run.Runs.{arguments_of, module_outcome, run_outcome}
 use Rattle.codegen_machine.specs.Run.States.{frames_state}
 use Rattle.codegen_machine.specs.declared.run.standing.Standing.TheVariants as stand

@@ -2,10 +2,12 @@
 
 ghost use Rattle.std.specs.Prelude.{◌≡◌, ◌⊎◌, ◌<◌, ◌≤◌, ◌^◌, ◌-◌, IfOk, IfErr, IsTrue, All, map, vec_len};
 ghost use Rattle.std.specs.List.{list_all};
-ghost use Rattle.codegen_machine.specs.Ir.Successors.{has_small_number, has_successors, knows_registers, operations_of, wanted_by, IsMalformed};
+ghost use Rattle.codegen_ir.specs.Successors.{has_small_number, has_successors, knows_registers, operations_of, wanted_by, IsMalformed};
 
 use super::operation::{Line, Operation, Right};
-use regalloc2::{Block, Function, Inst, InstRange, Operand, PRegSet, RegClass, VReg};
+use regalloc2_function::Function;
+use regalloc2_index::{Block, Inst, InstRange};
+use regalloc2_names::{Operand, PRegSet, RegClass, VReg};
 use std::error::Error;
 use std::fmt;
 
@@ -205,7 +207,7 @@ impl Procedure {
 }
 
 impl Function for Procedure {
-    ghost use Rattle.codegen_machine.specs.Ir.Seen.{function_of_procedure, limited_procedure};
+    ghost use Rattle.codegen_ir.specs.Seen.{function_of_procedure, limited_procedure};
 
     ghost function = { function_of_procedure };
 

@@ -2,8 +2,8 @@
 //! as input to a code generator.
 //!
 //! Operators, shifts, divisions and conditions have a 32-bit form ([`Width`]).
-//! `specs/Ir/Numbers.antt` defines them, `specs/Ir/Meaning.antt` interprets a function, step by
-//! step.
+//! `specs/Numbers.antt` defines them, `specs/Meaning.antt` interprets a function, step by step.
+#![tactic(auto)]
 
 mod module;
 mod operation;

@@ -4,10 +4,10 @@ ghost use Rattle.std.specs.Prelude.{◌≡◌, ◌≤◌, ◌∷◌, ◌++◌, I
 ghost use Rattle.std.proofs.Props.{props};
 ghost use Rattle.regalloc2_names.specs.Register.{Register};
 ghost use Rattle.regalloc2_names.specs.RegisterSet.{has_register};
-ghost use Rattle.codegen_machine.specs.Ir.Operands.{argument_in, argument_registers, call_operands, count_in, def_in, divide_operands, is_lost_in, is_lost_in_call, operands_of, other_register, part_register, passed_on_stack, right_in, use_in};
-ghost use Rattle.codegen_machine.specs.Ir.Once.{operands-once};
+ghost use Rattle.codegen_ir.specs.Operands.{argument_in, argument_registers, call_operands, count_in, def_in, divide_operands, is_lost_in, is_lost_in_call, operands_of, other_register, part_register, passed_on_stack, right_in, use_in};
+ghost use Rattle.codegen_ir.specs.Once.{operands-once};
 
-use regalloc2::{
+use regalloc2_names::{
     Operand, OperandConstraint, OperandKind, OperandPos, PReg, PRegSet, RegClass, VReg,
 };
 use std::alloc::{AllocError, Global};

@@ -5,12 +5,12 @@ use Rattle.std.proofs.lemmas.List.{length-map}
 use Rattle.std.proofs.lemmas.List.Elements.{All-nil}
 use Rattle.regalloc2_function.specs.FunctionValue.{FunctionValue, BlockValue, InstValue, IsLimited}
 use Rattle.regalloc2_function.specs.SingleUnits.{single_units, IsSlotSize-single_units}
-use Rattle.codegen_machine.specs.Ir.Operands.{operands_of, is_jump, is_return}
-use Rattle.codegen_machine.specs.Ir.Successors.{operations_of}
-use Rattle.codegen_machine.specs.declared.ir.operation.Operation.{Operation}
-use Rattle.codegen_machine.specs.declared.ir.operation.Line.{Line}
-use Rattle.codegen_machine.specs.declared.ir.procedure.Part.{Part}
-use Rattle.codegen_machine.specs.declared.ir.procedure.Procedure.{Procedure}
+use Rattle.codegen_ir.specs.Operands.{operands_of, is_jump, is_return}
+use Rattle.codegen_ir.specs.Successors.{operations_of}
+use Rattle.codegen_ir.specs.declared.operation.Operation.{Operation}
+use Rattle.codegen_ir.specs.declared.operation.Line.{Line}
+use Rattle.codegen_ir.specs.declared.procedure.Part.{Part}
+use Rattle.codegen_ir.specs.declared.procedure.Procedure.{Procedure}
 
 abbrev pub inst_of_line : Line → InstValue
 inst_of_line l = record {

@@ -2,15 +2,15 @@
 -- bounds.
 use Rattle.std.specs.Prelude.{ℕ, ◌≡◌, ◌-◌, ◌^◌, ◌<◌, ◌⊎◌, Bool, true, false, nat_le, nat_lt, List, map, length, slice_get, Option, None, Some}
 use Rattle.std.specs.List.{list_all}
-use Rattle.codegen_machine.specs.declared.ir.operation.Operation.{Operation}
-use Rattle.codegen_machine.specs.declared.ir.operation.Operation.TheVariants.{Compute, Compare, Jump, BranchIf, BranchIfHolds}
-use Rattle.codegen_machine.specs.declared.ir.operation.Right.{Right}
-use Rattle.codegen_machine.specs.declared.ir.operation.Right.TheVariants.{VReg, Number}
-use Rattle.codegen_machine.specs.Ir.Operands.{operands_of}
-use Rattle.codegen_machine.specs.declared.ir.operation.Line.{Line}
-use Rattle.codegen_machine.specs.declared.ir.procedure.Part.{Part}
-use Rattle.codegen_machine.specs.declared.ir.procedure.Malformed.{Malformed}
-use Rattle.codegen_machine.specs.declared.ir.procedure.Malformed.TheVariants.{TooLarge, MissingSuccessor, UnknownRegister, LargeNumber, LargeMemory}
+use Rattle.codegen_ir.specs.declared.operation.Operation.{Operation}
+use Rattle.codegen_ir.specs.declared.operation.Operation.TheVariants.{Compute, Compare, Jump, BranchIf, BranchIfHolds}
+use Rattle.codegen_ir.specs.declared.operation.Right.{Right}
+use Rattle.codegen_ir.specs.declared.operation.Right.TheVariants.{VReg, Number}
+use Rattle.codegen_ir.specs.Operands.{operands_of}
+use Rattle.codegen_ir.specs.declared.operation.Line.{Line}
+use Rattle.codegen_ir.specs.declared.procedure.Part.{Part}
+use Rattle.codegen_ir.specs.declared.procedure.Malformed.{Malformed}
+use Rattle.codegen_ir.specs.declared.procedure.Malformed.TheVariants.{TooLarge, MissingSuccessor, UnknownRegister, LargeNumber, LargeMemory}
 
 -- the number of successors that an operation requires
 abbrev pub wanted_by : Operation → ℕ
