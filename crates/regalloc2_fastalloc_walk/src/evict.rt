@@ -55,8 +55,7 @@ impl<'a, A: Allocator> State<'a, A> {
         if let Some(preg) = inst_regs.scratch_of(class) {
             return Ok(preg);
         }
-        let free = inst_regs.available_pregs(Positions::both());
-        let Some(preg) = self.registers.choose_register(class, free) else {
+        let Some(preg) = self.choose_free(inst_regs, class, Positions::both()) else {
             return Err(RegAllocError::TooManyLiveRegs);
         };
         inst_regs.remove_available(preg, Positions::both());

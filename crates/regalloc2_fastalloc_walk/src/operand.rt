@@ -198,20 +198,22 @@ impl<'a, A: Allocator> State<'a, A> {
     /// registers isn't built, and no ring is searched, since the search would stop at its first
     /// step.
     #[inline(always)]
-    fn choose_free(&self, inst_regs: &InstRegs, request: &OperandRequest) -> Option<PReg>
-        ensures chosen { IfSome result (λ r. chosen (is_available_at inst_regs.now request.now.positions)
-            (lru_of self.now.registers request.now.vreg.class) ≡ Some r) }
-        ensures may_hold { IfSome result (λ r. MayHold (tables_of self.now) request.now.vreg.class r) }
-        ensures free { IfSome result (λ r. IsAvailableAt inst_regs.now request.now.positions r) }
-        ensures none { IfNone result ((r : Register) → MayHold (tables_of self.now) request.now.vreg.class r →
-            is_available_at inst_regs.now request.now.positions r ≡ false) }
+    pub fn choose_free(
+        &self,
+        inst_regs: &InstRegs,
+        class: RegClass,
+        positions: Positions,
+    ) -> Option<PReg>
+        ensures chosen { IfSome result (λ r. chosen (is_available_at inst_regs.now positions) (lru_of self.now.registers class) ≡ Some r) }
+        ensures may_hold { IfSome result (λ r. MayHold (tables_of self.now) class r) }
+        ensures free { IfSome result (λ r. IsAvailableAt inst_regs.now positions r) }
+        ensures none { IfNone result ((r : Register) → MayHold (tables_of self.now) class r → is_available_at inst_regs.now positions r ≡ false) }
     {
-        let class = request.vreg.class();
         let first = self.registers.first_choice(class)?;
-        if inst_regs.is_available(first, request.positions) {
+        if inst_regs.is_available(first, positions) {
             return Some(first);
         }
-        self.search_free(inst_regs, class, request.positions)
+        self.search_free(inst_regs, class, positions)
     }
 
     /// A free register for an operand that may be in any, or that may be anywhere and gets one.
@@ -229,7 +231,7 @@ impl<'a, A: Allocator> State<'a, A> {
         ensures chosen { IfSome result (λ r. chosen (is_available_at inst_regs.now request.now.positions) (lru_of self.now.registers request.now.vreg.class)
             ≡ Some r) }
     {
-        let preg = self.choose_free(inst_regs, request)?;
+        let preg = self.choose_free(inst_regs, request.vreg.class(), request.positions)?;
         match request.requirement {
             Requirement::AnyReg => Some(preg),
             Requirement::AnyPlace if self.prefers_register(inst_regs, request, preg) => Some(preg),

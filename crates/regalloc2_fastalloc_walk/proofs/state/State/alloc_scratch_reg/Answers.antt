@@ -9,11 +9,10 @@ use Rattle.regalloc2_fastalloc_walk.proofs.state.State.alloc_scratch_reg.Goals a
 
 pub returns-clause-outcome : goal.returns-clause-outcome
 returns-clause-outcome g c =
-    let r : Register = c.in-Some-choose_register.preg in
-    let f = c.in-Some-choose_register.ensures.found in
-    let free : IsAvailableAt c.args.inst_regs.now c.both.result r = c.available_pregs-free.ensures.free r f.free_there in
+    let r : Register = c.in-Some-choose_free.preg in
+    let free : IsAvailableAt c.args.inst_regs.now c.both.result r = c.in-Some-choose_free.ensures.free in
     found (sym c.dedicated_scratch.ensures ∙ c.in_default.is) (sym c.scratch_of.ensures ∙ c.in_default-scratch_of.is)
-    (record { of_class = f.of_class; small = f.small; allocatable = f.allocatable })
+    c.in-Some-choose_free.ensures.may_hold
     (free.early (ap (λ (p : Positions). p.early) c.both.ensures))
     (free.late (ap (λ (p : Positions). p.late) c.both.ensures))
     (left_of_both c.args.inst_regs.now.early c.remove_available.new.self.early c.set_scratch.new.self.early r c.both-2.result.early
