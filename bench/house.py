@@ -45,18 +45,20 @@ FLOORS = [
     [("Code generator", [
         ("codegen_ir", "functions, modules"),
         ("codegen_machine", "machine, text"),
+        ("codegen_emit", "instructions"),
         ("codegen", "the compiler"),
-        ("compile", "program"),
-        ("example_call", "program: one call"),
-        ("example_toy", "program: a client")])],
+        ("compile", "program")])],
     [("Rewriting", [
         ("regalloc2_rewrite", "split edges, renumber")]),
-     ("Tests", [
-         ("regalloc2_test_alloc", "failing allocator"),
-         ("regalloc2_unit_tests", "parts"),
-         ("regalloc2_tests", "allocator, programs"),
-         ("regalloc2_cases", "case files"),
-         ("regalloc2_bench", "cost")])],
+     ("Examples", [
+         ("example_call", "program: one call"),
+         ("example_toy", "program: a client")])],
+    [("Tests", [
+        ("regalloc2_test_alloc", "failing allocator"),
+        ("regalloc2_unit_tests", "parts"),
+        ("regalloc2_tests", "allocator, programs"),
+        ("regalloc2_cases", "case files"),
+        ("regalloc2_bench", "cost")])],
 ]
 
 # The data's way: the rooms after the front, and what is handed on to each.
@@ -72,6 +74,7 @@ WIDE = 2 * MARGIN + 6 * ROOM + 5 * GAP
 COLOURS = {
     "Names and functions": "#e8eef7", "Stored forms": "#f3ecdf", "Analysis": "#e6f2e6", "Moves": "#f2e8f2",
     "Allocator": "#fbe9e0", "Checker": "#e2f1f3", "Front": "#fff6d6", "Tools": "#f3ecdf", "Code generator": "#eeeeee",
+    "Examples": "#eeeeee",
     "Rewriting": "#f3ecdf",
     "Tests": "#eeeeee",
 }

@@ -28,8 +28,8 @@ use Rattle.codegen_ir.specs.declared.operation.Operation.TheVariants.{Call as Ca
 use Rattle.codegen_machine.specs.declared.Instruction.{Instruction}
 use Rattle.codegen_machine.specs.Calls.{argument_register, is_caller_saved, registers_returned}
 use Rattle.codegen_machine.specs.Machine.{CodeValue, MachineState, is_general}
-use Rattle.codegen.specs.Pinned.{is_allocated, slot_place}
-use Rattle.codegen.specs.Emitted.{call_code, items_code, operation_at, operation_code, stack_arguments}
+use Rattle.codegen_emit.specs.Pinned.{is_allocated, slot_place}
+use Rattle.codegen_emit.specs.Emitted.{call_code, items_code, operation_at, operation_code, stack_arguments}
 use Rattle.codegen.proofs.Premise.{AreRead, ArePassed, IsHere, IsPlaced, IsPlain, IsCall, IsEnd, IsEmitted}
 use Rattle.codegen.proofs.Choices.{Choice, leavings, source_reads, source_after, found_reads, place_after, place_next, ReadAlike, Together, StepsOn, AlikeByChoices}
 use Rattle.codegen.proofs.Runs.{Comes}

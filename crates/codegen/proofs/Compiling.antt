@@ -11,7 +11,7 @@ use Rattle.codegen_machine.specs.declared.NamedCode.{NamedCode}
 use Rattle.codegen_machine.specs.Calls.{FunctionCode, functions_of}
 use Rattle.codegen_machine.specs.Machine.{CodeValue, code_of}
 use Rattle.codegen.specs.Compiled.{IsCodeOf, IsNamedCodeOf}
-use Rattle.codegen.specs.Emitted.{block_label}
+use Rattle.codegen_emit.specs.Emitted.{block_label}
 use Rattle.codegen.specs.Reasons.{IsCompileReason, IsModuleReason}
 use Rattle.codegen.specs.declared.compiler.CompileError.{CompileError}
 use Rattle.codegen.specs.declared.compiler.CompileError.TheVariants.{Refused, Memory}

@@ -21,8 +21,8 @@ use Rattle.codegen_ir.specs.declared.operation.Operation.TheVariants.{Divide as 
 use Rattle.codegen_machine.specs.declared.Instruction.{Instruction}
 use Rattle.codegen_machine.specs.declared.Instruction.TheVariants.{Clear, ExtendSign, Divide}
 use Rattle.codegen_machine.specs.Machine.{CodeValue, MachineState, divides, executed, machine_run, parted}
-use Rattle.codegen.specs.Pinned.{slot_place}
-use Rattle.codegen.specs.Emitted.{register_of, source_of, extension_code, divide_code, operation_code, resolved}
+use Rattle.codegen_emit.specs.Pinned.{slot_place}
+use Rattle.codegen_emit.specs.Emitted.{register_of, source_of, extension_code, divide_code, operation_code, resolved}
 use Rattle.codegen.proofs.Premise.{IsGeneral, IsHere, IsPlaced, IsPlain}
 use Rattle.codegen.proofs.Choices.{Choice}
 use Rattle.codegen.proofs.Runs.{Comes, comes_by, comes_on, ends_by, ends_then}

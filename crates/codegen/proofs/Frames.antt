@@ -25,7 +25,7 @@ use Rattle.codegen_ir.specs.declared.procedure.Procedure.{Procedure}
 use Rattle.codegen_machine.specs.Calls.{FunctionCode, Stack, StackState, SuspendedActivation, activated, activation_of, arguments_passed, calling, exceeds}
 use Rattle.codegen_machine.specs.Calls.{registers_returned, returned_into, stack_begun, stack_run, stack_step, suspended_at, words_taken}
 use Rattle.codegen_machine.specs.Machine.{MachineState}
-use Rattle.codegen.specs.Emitted.{operation_at}
+use Rattle.codegen_emit.specs.Emitted.{operation_at}
 use Rattle.codegen.specs.Behaves.{Beginning, words_needed}
 use Rattle.codegen.proofs.Premise.{IsCall}
 use Rattle.codegen.proofs.Choices.{AlikeByChoices}

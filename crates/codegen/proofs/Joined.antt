@@ -11,7 +11,7 @@ use Rattle.codegen_ir.specs.Numbers.{RunOutcome, Running, Returned, Trapped, Ove
 use Rattle.codegen_ir.specs.Meaning.{ProcedureState, procedure_step}
 use Rattle.codegen_ir.specs.Seen.{Operations}
 use Rattle.codegen_machine.specs.Machine.{CodeValue, MachineState, machine_run}
-use Rattle.codegen.specs.Emitted.{operation_at, blocks_code}
+use Rattle.codegen_emit.specs.Emitted.{operation_at, blocks_code}
 use Rattle.codegen.proofs.Premise.{IsCall, IsEmitted}
 use Rattle.codegen.proofs.Choices.{Choice, leavings, source_reads, source_next, found_reads, place_next, ReadAlike, Together, StepsOn, AlikeByChoices}
 use Rattle.codegen.proofs.Runs.{Comes}

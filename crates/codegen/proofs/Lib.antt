@@ -7,8 +7,7 @@
 -- do by choices (`Chosen`).
 -- `Premises` shows the assumptions for the code emitted for an allocated procedure, and `Compiling` for a module's; `Steps` is one
 -- operation, `Places` one move. `Stands` and `Runs` are code at an address and runs of it, `Activations` its runs on the stack,
--- `Procedures` a procedure's function; `Emitting` is the code that grows.
-pub mod Emitting
+-- `Procedures` a procedure's function.
 pub mod Procedures
 pub mod Premise
 pub mod Targets

@@ -12,10 +12,10 @@ use Rattle.codegen_machine.specs.declared.Instruction.{Instruction}
 use Rattle.codegen_machine.specs.declared.Instruction.TheVariants.{Call, Load}
 use Rattle.codegen_machine.specs.Calls.{FunctionCode, Stack, StackState, argument_register, arguments_passed}
 use Rattle.codegen_machine.specs.Machine.{MachineState}
-use Rattle.codegen.specs.declared.placement.MachinePlace.{MachinePlace}
-use Rattle.codegen.specs.declared.placement.MachinePlace.TheVariants.{Register as AtRegister, Slot as AtSlot}
-use Rattle.codegen.specs.Pinned.{is_allocated, machine_place, slot_place}
-use Rattle.codegen.specs.Emitted.{call_code, pass_code, passed_from, passes_code}
+use Rattle.codegen_emit.specs.declared.placement.MachinePlace.{MachinePlace}
+use Rattle.codegen_emit.specs.declared.placement.MachinePlace.TheVariants.{Register as AtRegister, Slot as AtSlot}
+use Rattle.codegen_emit.specs.Pinned.{is_allocated, machine_place, slot_place}
+use Rattle.codegen_emit.specs.Emitted.{call_code, pass_code, passed_from, passes_code}
 use Rattle.codegen.proofs.Premise.{IsHere, IsWithin}
 use Rattle.codegen.proofs.Runs.{comes_by}
 use Rattle.codegen.proofs.Stands.{StandAt}

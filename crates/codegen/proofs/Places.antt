@@ -16,11 +16,11 @@ use Rattle.codegen_ir.specs.Numbers.{RunOutcome, Running, Stuck, put}
 use Rattle.codegen_ir.specs.Seen.{Operations}
 use Rattle.codegen_machine.specs.declared.Instruction.{Instruction}
 use Rattle.codegen_machine.specs.Machine.{CodeValue, MachineState, is_general, with_register, with_source, written, frame_stored, executed}
-use Rattle.codegen.specs.declared.placement.MachinePlace.{MachinePlace}
-use Rattle.codegen.specs.declared.placement.MachinePlace.TheVariants.{Register as AtRegister, Slot as AtSlot}
-use Rattle.codegen.specs.Pinned.{is_allocated, slot_place, machine_place, source_at}
+use Rattle.codegen_emit.specs.declared.placement.MachinePlace.{MachinePlace}
+use Rattle.codegen_emit.specs.declared.placement.MachinePlace.TheVariants.{Register as AtRegister, Slot as AtSlot}
+use Rattle.codegen_emit.specs.Pinned.{is_allocated, slot_place, machine_place, source_at}
 use Rattle.codegen_machine.specs.Calls.{is_caller_saved}
-use Rattle.codegen.specs.Emitted.{register_of, source_of, fetched_from, fetched, moved_to, move_code, resolved, items_code}
+use Rattle.codegen_emit.specs.Emitted.{register_of, source_of, fetched_from, fetched, moved_to, move_code, resolved, items_code}
 use Rattle.codegen.proofs.Premise.{IsGeneral, IsWithin, IsHere, CanMove}
 use Rattle.codegen.proofs.Runs.{Comes, comes_here, comes_by, comes_on}
 use Rattle.codegen.proofs.Stands.{StandAt}

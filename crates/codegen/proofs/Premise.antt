@@ -18,10 +18,10 @@ use Rattle.codegen_ir.specs.declared.operation.Count.TheVariants.{VReg as CountI
 use Rattle.codegen_ir.specs.declared.operation.Right.{Right}
 use Rattle.codegen_ir.specs.declared.operation.Right.TheVariants.{VReg, Number as Given}
 use Rattle.codegen_machine.specs.Machine.{CodeValue, is_general}
-use Rattle.codegen.specs.declared.placement.MachinePlace.{MachinePlace}
-use Rattle.codegen.specs.declared.placement.MachinePlace.TheVariants.{Register as AtRegister, Slot as AtSlot}
-use Rattle.codegen.specs.Pinned.{is_allocated, slot_place}
-use Rattle.codegen.specs.Emitted.{register_of, operation_at, stack_arguments, blocks_code, block_start, resolved}
+use Rattle.codegen_emit.specs.declared.placement.MachinePlace.{MachinePlace}
+use Rattle.codegen_emit.specs.declared.placement.MachinePlace.TheVariants.{Register as AtRegister, Slot as AtSlot}
+use Rattle.codegen_emit.specs.Pinned.{is_allocated, slot_place}
+use Rattle.codegen_emit.specs.Emitted.{register_of, operation_at, stack_arguments, blocks_code, block_start, resolved}
 
 -- a register that the allocator allocates
 abbrev pub IsGeneral : Place → Type 0

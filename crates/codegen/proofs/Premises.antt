@@ -36,8 +36,8 @@ use Rattle.codegen_ir.specs.declared.operation.Count.TheVariants.{VReg as CountI
 use Rattle.codegen_ir.specs.declared.operation.Right.{Right}
 use Rattle.codegen_ir.specs.declared.operation.Right.TheVariants.{VReg, Number as Given}
 use Rattle.codegen_ir.specs.declared.procedure.Procedure.{Procedure}
-use Rattle.codegen.specs.Pinned.{slot_place, frame_slots}
-use Rattle.codegen.specs.Emitted.{register_of, operation_at, stack_arguments, outgoing_words, emitted, block_label, block_start}
+use Rattle.codegen_emit.specs.Pinned.{slot_place, frame_slots}
+use Rattle.codegen_emit.specs.Emitted.{register_of, operation_at, stack_arguments, outgoing_words, emitted, block_label, block_start}
 use Rattle.codegen.specs.Target.{IsTarget}
 use Rattle.codegen.proofs.Premise.{IsGeneral, IsWithin, IsHere, IsRightHere, IsCountHere, IsCountRead, AreRead, IsRead, ArePassed, CanMove, IsPlaced, IsPlain, IsCall}
 use Rattle.codegen.proofs.Premise.{IsEnd, IsEmitted}

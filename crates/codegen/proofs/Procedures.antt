@@ -15,7 +15,7 @@ use Rattle.codegen_ir.specs.declared.operation.Operation.TheVariants.{Jump as Go
 use Rattle.codegen_ir.specs.declared.operation.Line.{Line}
 use Rattle.codegen_ir.specs.declared.procedure.Part.{Part}
 use Rattle.codegen_ir.specs.declared.procedure.Procedure.{Procedure}
-use Rattle.codegen.specs.Emitted.{operation_at}
+use Rattle.codegen_emit.specs.Emitted.{operation_at}
 
 -- an instruction is that of an operation
 pub record IsInstOf (i : InstValue) (o : Operation) : Type 0 where

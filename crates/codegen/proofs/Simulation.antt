@@ -20,7 +20,7 @@ use Rattle.codegen_ir.specs.declared.operation.Operation.{Operation}
 use Rattle.codegen_ir.specs.declared.operation.Operation.TheVariants.{Divide as Dividing, Load as Loading, Store as Storing, Call as Calling}
 use Rattle.codegen_machine.specs.declared.Instruction.{Instruction}
 use Rattle.codegen_machine.specs.Machine.{CodeValue, MachineState, machine_run}
-use Rattle.codegen.specs.Emitted.{operation_at, operation_code, items_code, block_code, block_start}
+use Rattle.codegen_emit.specs.Emitted.{operation_at, operation_code, items_code, block_code, block_start}
 use Rattle.codegen.proofs.Premise.{CanMove, IsPlain, IsCall, IsEnd, IsEmitted}
 use Rattle.codegen.proofs.Choices.{Choice, found_by, found_reads, place_after, place_next, ReadAlike}
 use Rattle.codegen.proofs.Runs.{Comes, comes_on, ends_then}

@@ -23,7 +23,7 @@ use Rattle.codegen_ir.specs.declared.operation.DivisionPart.{DivisionPart}
 use Rattle.codegen_ir.specs.declared.operation.Count.TheVariants.{VReg as CountIn, Number as CountOf}
 use Rattle.codegen_ir.specs.declared.operation.Right.TheVariants.{VReg, Number as Given}
 use Rattle.codegen_machine.specs.Machine.{CodeValue}
-use Rattle.codegen.specs.Emitted.{operation_at}
+use Rattle.codegen_emit.specs.Emitted.{operation_at}
 use Rattle.codegen.proofs.Premise.{IsPlain, IsCall, IsEnd, IsEmitted}
 use Rattle.codegen.proofs.Choices.{source_reads, source_next}
 use Rattle.codegen.proofs.Simulation.{plain_unless}

@@ -37,8 +37,8 @@ use Rattle.codegen_machine.specs.declared.Instruction.TheVariants.{Constant, Cle
 use Rattle.codegen_machine.specs.declared.Instruction.TheVariants.{Return, Guard, Read, Write}
 use Rattle.codegen_machine.specs.Machine.{CodeValue, MachineState, is_general, with_register, with_source, written, compared_to, jumped, executed, machine_run}
 use Rattle.codegen_machine.specs.Machine.{guarded, memory_read, memory_written}
-use Rattle.codegen.specs.Emitted.{register_of, source_of, right_source, fetched, constant_code, branch_code, branch_if_code, compare_code, select_code}
-use Rattle.codegen.specs.Emitted.{address_count, load_code, store_code, opposite, shift_code, resolved, operation_code}
+use Rattle.codegen_emit.specs.Emitted.{register_of, source_of, right_source, fetched, constant_code, branch_code, branch_if_code, compare_code, select_code}
+use Rattle.codegen_emit.specs.Emitted.{address_count, load_code, store_code, opposite, shift_code, resolved, operation_code}
 use Rattle.codegen.proofs.Premise.{IsGeneral, IsHere, IsRightHere, IsCountHere, IsPlaced, IsPlain, IsEnd}
 use Rattle.codegen.proofs.Choices.{Choice}
 use Rattle.codegen.proofs.Runs.{Comes, comes_by, comes_on, ends_by, ends_then}

@@ -10,7 +10,7 @@ use Rattle.regalloc2_names.specs.declared.sets.PRegSet.{PRegSet}
 use Rattle.regalloc2_function.specs.Machine.{MachineValue, is_allocatable, scratch_of}
 use Rattle.codegen_machine.specs.Machine.{is_general}
 use Rattle.codegen_machine.specs.Calls.{is_caller_saved}
-use Rattle.codegen.specs.Pinned.{is_allocated}
+use Rattle.codegen_emit.specs.Pinned.{is_allocated}
 use Rattle.codegen.specs.Target.{IsTarget}
 
 no : false ≡ true → ⊥

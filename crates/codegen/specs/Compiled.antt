@@ -10,7 +10,7 @@ use Rattle.codegen_ir.specs.declared.procedure.Procedure.{Procedure}
 use Rattle.codegen_ir.specs.declared.module.NamedProcedure.{NamedProcedure}
 use Rattle.codegen_machine.specs.declared.NamedCode.{NamedCode}
 use Rattle.codegen_machine.specs.Machine.{CodeValue, code_of}
-use Rattle.codegen.specs.Emitted.{emitted}
+use Rattle.codegen_emit.specs.Emitted.{emitted}
 use Rattle.codegen.specs.Target.{IsTarget}
 
 -- code emitted for an allocation for the machine's registers, under which the interpreters over vregs and over places run alike

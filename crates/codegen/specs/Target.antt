@@ -4,7 +4,7 @@ use Rattle.regalloc2_names.specs.Register.{Register}
 use Rattle.regalloc2_names.specs.declared.RegClass.{RegClass}
 use Rattle.regalloc2_names.specs.declared.RegClass.TheVariants.{Int}
 use Rattle.regalloc2_function.specs.Machine.{MachineValue, is_allocatable, scratch_of}
-use Rattle.codegen.specs.Pinned.{is_allocated}
+use Rattle.codegen_emit.specs.Pinned.{is_allocated}
 
 -- a machine whose registers are exactly the caller-saved ones that hold numbers, none of them one that a slot is kept in, without a dedicated scratch register or fixed stack slots
 pub record IsTarget (env : MachineValue) : Type 0 where

@@ -8,8 +8,8 @@ ghost use Rattle.codegen.specs.Behaves.{BehavesAs};
 ghost use Rattle.codegen.specs.Compiled.{IsCodeOf, IsNamedCodeOf};
 ghost use Rattle.codegen.specs.Reasons.{IsCompileReason, IsModuleReason, compile_error_text};
 
-use super::emit::emit;
 use super::registers::target;
+use codegen_emit::emit::emit;
 use codegen_ir::{Module, NamedProcedure, Procedure};
 use codegen_machine::{Code, ModuleCode, NamedCode};
 use regalloc2::{TestedRunError, run_tested};

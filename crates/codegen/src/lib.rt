@@ -39,7 +39,7 @@
 //! to slots and reads them there. Slots are therefore registers as far as possible: the allocator
 //! allocates only the caller-saved registers, its first five slots are the callee-saved registers
 //! rbx, rbp, r12, r13 and r14, and the frame holds the others. `machine_place` maps each place of the
-//! allocator to its register or slot of the frame (`specs/Pinned.antt`), and each instruction that
+//! allocator to its register or slot of the frame (`codegen_emit`'s `Pinned.antt`), and each instruction that
 //! is emitted names the result. The map is injective, so a write to a place leaves the numbers of the
 //! others (`proofs/Places.antt`). An outgoing word is no place of the allocator; the frame has as many
 //! as the function's calls need.
@@ -102,8 +102,6 @@
 #![tactic(auto)]
 
 mod compiler;
-mod emit;
-mod placement;
 pub mod program;
 mod registers;
 

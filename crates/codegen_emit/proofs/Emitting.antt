@@ -15,7 +15,7 @@ use Rattle.codegen_ir.specs.Successors.{operations_of}
 use Rattle.codegen_ir.specs.declared.operation.Line.{Line}
 use Rattle.codegen_ir.specs.declared.operation.Operation.{Operation}
 use Rattle.codegen_machine.specs.declared.Instruction.{Instruction}
-use Rattle.codegen.specs.Emitted.{item_code, items_code, block_code, blocks_code, block_start, pass_code, passes_code, stack_arguments, outgoing_words}
+use Rattle.codegen_emit.specs.Emitted.{item_code, items_code, block_code, blocks_code, block_start, pass_code, passes_code, stack_arguments, outgoing_words}
 
 -- the numbers within a block are within the function
 wider : (first end n : ℕ) (x : Listed) → end ≤ n → IsListedWithin first end x → IsListedWithin 0 n x

@@ -30,9 +30,9 @@ use Rattle.codegen_machine.specs.declared.Instruction.TheVariants.{Constant, Cle
 use Rattle.codegen_machine.specs.declared.Instruction.TheVariants.{Shift, ShiftBy, ExtendSign, Divide, Compare, Set, MoveIf, Test, Jump}
 use Rattle.codegen_machine.specs.declared.Instruction.TheVariants.{JumpIf, Call, Pass, Return, Guard, Read, Write}
 use Rattle.codegen_machine.specs.Machine.{CodeValue}
-use Rattle.codegen.specs.declared.placement.MachinePlace.{MachinePlace}
-use Rattle.codegen.specs.declared.placement.MachinePlace.TheVariants.{Register as AtRegister, Slot as AtSlot}
-use Rattle.codegen.specs.Pinned.{machine_place, register_at, source_at, frame_slots}
+use Rattle.codegen_emit.specs.declared.placement.MachinePlace.{MachinePlace}
+use Rattle.codegen_emit.specs.declared.placement.MachinePlace.TheVariants.{Register as AtRegister, Slot as AtSlot}
+use Rattle.codegen_emit.specs.Pinned.{machine_place, register_at, source_at, frame_slots}
 
 -- the register of a place
 abbrev pub register_of : Place → ℕ

@@ -6,8 +6,8 @@ use Rattle.codegen_machine.specs.declared.Source.{Source}
 use Rattle.codegen_machine.specs.declared.Source.TheVariants.{Register, Slot}
 use Rattle.codegen_machine.specs.Calls.{is_caller_saved}
 use Rattle.codegen_machine.specs.Machine.{is_general}
-use Rattle.codegen.specs.declared.placement.MachinePlace.{MachinePlace}
-use Rattle.codegen.specs.declared.placement.MachinePlace.TheVariants.{Register as AtRegister, Slot as AtSlot}
+use Rattle.codegen_emit.specs.declared.placement.MachinePlace.{MachinePlace}
+use Rattle.codegen_emit.specs.declared.placement.MachinePlace.TheVariants.{Register as AtRegister, Slot as AtSlot}
 
 -- The registers that the allocator allocates: those that hold numbers and that a call may change, rax, rcx, rdx, and rsi to r11.
 abbrev pub is_allocated : ℕ → Bool

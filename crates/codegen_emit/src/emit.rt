@@ -9,18 +9,20 @@ ghost use Rattle.regalloc2_function.specs.WellFormed.{BlocksFollow};
 ghost use Rattle.codegen_ir.specs.Seen.{function_of_procedure, operations};
 ghost use Rattle.codegen_ir.specs.Successors.{operations_of};
 ghost use Rattle.codegen_machine.specs.Machine.{code_of};
-ghost use Rattle.codegen.specs.Emitted.{register_of, source_of, right_source, fetched_from, fetched, move_code, constant_code, operation_code, opposite, item_code, resolved};
-ghost use Rattle.codegen.specs.Emitted.{branch_code, branch_if_code, branch_if_holds_code, compare_code, divide_code, extension_code, return_code, select_code, shift_code};
-ghost use Rattle.codegen.specs.Emitted.{address_count, load_code, store_code};
-ghost use Rattle.codegen.specs.Emitted.{call_code, outgoing_words, pass_code, passed_from, passes_code, stack_arguments};
-ghost use Rattle.codegen.specs.Emitted.{block_code, emitted};
+ghost use Rattle.codegen_emit.specs.Emitted.{register_of, source_of, right_source, fetched_from, fetched, move_code, constant_code, operation_code, opposite, item_code, resolved};
+ghost use Rattle.codegen_emit.specs.Emitted.{branch_code, branch_if_code, branch_if_holds_code, compare_code, divide_code, extension_code, return_code, select_code, shift_code};
+ghost use Rattle.codegen_emit.specs.Emitted.{address_count, load_code, store_code};
+ghost use Rattle.codegen_emit.specs.Emitted.{call_code, outgoing_words, pass_code, passed_from, passes_code, stack_arguments};
+ghost use Rattle.codegen_emit.specs.Emitted.{block_code, emitted};
 
 use super::placement::{MachinePlace, frame_slots, machine_place};
 use codegen_ir::{
     Bytes, Condition, Count, Line, Operation, Procedure, Right, ShiftOperator, Width,
 };
 use codegen_machine::{Code, Instruction, Source};
-use regalloc2::{Allocation, Block, Function, InstOrEdit, Output};
+use regalloc2_function::{Function, InstOrEdit, Output};
+use regalloc2_index::Block;
+use regalloc2_names::Allocation;
 use std::alloc::{AllocError, Global};
 
 /// The register of a place.

@@ -1,10 +1,10 @@
 //! Where the machine keeps the numbers of the allocator's places.
 
 ghost use Rattle.std.specs.Prelude.{◌≡◌};
-ghost use Rattle.codegen.specs.Pinned.{slot_place, machine_place, register_at, source_at, frame_slots};
+ghost use Rattle.codegen_emit.specs.Pinned.{slot_place, machine_place, register_at, source_at, frame_slots};
 
 use codegen_machine::{NO_REGISTER, Source};
-use regalloc2::Allocation;
+use regalloc2_names::Allocation;
 
 /// A place of the machine: a register, or a slot of its frame.
 #[derive(Clone, Copy, Debug, PartialEq, Eq)]

@@ -1,8 +1,8 @@
 use Rattle.std.proofs.Common.{◌∙◌}
 use Rattle.regalloc2_function.specs.Views.{output_of}
 use Rattle.codegen_ir.specs.Seen.{function_of_procedure, operations}
-use Rattle.codegen.proofs.Emitting.{no_block_yet, one_block, no_start, one_start}
-use Rattle.codegen.proofs.emit.emit.Goals as goal
+use Rattle.codegen_emit.proofs.Emitting.{no_block_yet, one_block, no_start, one_start}
+use Rattle.codegen_emit.proofs.emit.emit.Goals as goal
 
 pub loop-b-init : goal.loop-b-init
 loop-b-init c =

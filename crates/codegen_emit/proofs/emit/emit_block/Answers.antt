@@ -3,9 +3,9 @@ use Rattle.regalloc2_function.specs.FunctionValue.{block_at}
 use Rattle.regalloc2_function.specs.Following.{end_within}
 use Rattle.regalloc2_function.specs.Views.{output_of}
 use Rattle.codegen_ir.specs.Seen.{function_of_procedure, operations}
-use Rattle.codegen.specs.Emitted.{items_code}
-use Rattle.codegen.proofs.Emitting.{all_wider, next_within, one_item, no_item}
-use Rattle.codegen.proofs.emit.emit_block.Goals as goal
+use Rattle.codegen_emit.specs.Emitted.{items_code}
+use Rattle.codegen_emit.proofs.Emitting.{all_wider, next_within, one_item, no_item}
+use Rattle.codegen_emit.proofs.emit.emit_block.Goals as goal
 
 pub loop-item-init : goal.loop-item-init
 loop-item-init c =

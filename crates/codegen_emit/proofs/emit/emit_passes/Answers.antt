@@ -1,5 +1,5 @@
-use Rattle.codegen.proofs.Emitting.{no_pass, one_pass}
-use Rattle.codegen.proofs.emit.emit_passes.Goals as goal
+use Rattle.codegen_emit.proofs.Emitting.{no_pass, one_pass}
+use Rattle.codegen_emit.proofs.emit.emit_passes.Goals as goal
 
 pub loop-index-init : goal.loop-index-init
 loop-index-init c = no_pass _ _

@@ -1,5 +1,5 @@
-use Rattle.codegen.proofs.Emitting.{no_words, one_word}
-use Rattle.codegen.proofs.emit.outgoing_words.Goals as goal
+use Rattle.codegen_emit.proofs.Emitting.{no_words, one_word}
+use Rattle.codegen_emit.proofs.emit.outgoing_words.Goals as goal
 
 pub loop-line-init : goal.loop-line-init
 loop-line-init c = no_words

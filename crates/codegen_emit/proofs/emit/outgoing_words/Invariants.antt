@@ -1,7 +1,7 @@
 use Rattle.std.specs.Prelude.{◌≡◌, take}
 use Rattle.codegen_ir.specs.Successors.{operations_of}
-use Rattle.codegen.specs.Emitted.{outgoing_words}
-use Rattle.codegen.proofs.emit.outgoing_words.Given as goal
+use Rattle.codegen_emit.specs.Emitted.{outgoing_words}
+use Rattle.codegen_emit.proofs.emit.outgoing_words.Given as goal
 
 abbrev pub invariant-loop-line : goal.invariant-loop-line
 invariant-loop-line l = l.most ≡ outgoing_words (take l.line-index (operations_of l.lines))

@@ -1,7 +1,7 @@
 use Rattle.std.proofs.Common.{ℕ, zero, suc, ◌≡◌, ◌-◌, ◌≤◌, sym, ap, arith}
-use Rattle.codegen.specs.declared.placement.MachinePlace.TheVariants.{Slot as AtSlot}
-use Rattle.codegen.specs.Pinned.{slot_place}
-use Rattle.codegen.proofs.placement.slot_place.Goals as goal
+use Rattle.codegen_emit.specs.declared.placement.MachinePlace.TheVariants.{Slot as AtSlot}
+use Rattle.codegen_emit.specs.Pinned.{slot_place}
+use Rattle.codegen_emit.proofs.placement.slot_place.Goals as goal
 
 -- past the first five, slots are in the frame
 in_frame : (n : ℕ) → 5 ≤ n → AtSlot (n - 5) ≡ slot_place n

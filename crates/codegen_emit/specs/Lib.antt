@@ -1,0 +1,5 @@
+-- Definitions for the emitter of code.
+-- Read first: `Pinned`, the machine's place for each of the allocator's; then `Emitted`, the code of each operation and move.
+-- Depends on procedures (`codegen_ir`), on the machine's instructions, and on regalloc2_function.
+pub mod Pinned
+pub mod Emitted
