@@ -37,11 +37,14 @@ FLOORS = [
     [("Front", [("regalloc2", "allocate, run_tested, run_checked, and all items under upstream's paths")])],
     [("Tools", [
         ("regalloc2_explain", "causes of errors"),
-        ("regalloc2_tool", "listings, pictures, calls"),
-        ("regalloc2_c", "library for C"),
-        ("ra2", "program: JSON"),
+        ("regalloc2_tool", "listings, pictures, calls")]),
+     ("C library", [
+         ("regalloc2_c_words", "statuses, words"),
+         ("regalloc2_c", "calls")])],
+    [("Programs", [
+        ("ra2", "JSON"),
         ("ra2_text_program", "subcommands, text or JSON"),
-        ("ra2_text", "program: texts")])],
+        ("ra2_text", "texts")])],
     [("Code generator", [
         ("codegen_ir", "functions, modules"),
         ("codegen_machine", "machine, text"),
@@ -73,7 +76,7 @@ ROOM, HIGH, GAP, MARGIN, FLOOR = 156, 50, 8, 76, 108
 WIDE = 2 * MARGIN + 6 * ROOM + 5 * GAP
 COLOURS = {
     "Names and functions": "#e8eef7", "Stored forms": "#f3ecdf", "Analysis": "#e6f2e6", "Moves": "#f2e8f2",
-    "Allocator": "#fbe9e0", "Checker": "#e2f1f3", "Front": "#fff6d6", "Tools": "#f3ecdf", "Code generator": "#eeeeee",
+    "Allocator": "#fbe9e0", "Checker": "#e2f1f3", "Front": "#fff6d6", "Tools": "#f3ecdf", "C library": "#f3ecdf", "Programs": "#f3ecdf", "Code generator": "#eeeeee",
     "Examples": "#eeeeee",
     "Rewriting": "#f3ecdf",
     "Tests": "#eeeeee",

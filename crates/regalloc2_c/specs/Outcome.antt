@@ -1,5 +1,5 @@
 -- What the statuses mean.
-use Rattle.std.specs.Prelude.{ℕ, ◌≡◌, ◌<◌, ◌≤◌, ◌⊎◌, true, List, [], length, map, take, All, Some, Result, Ok, Err}
+use Rattle.std.specs.Prelude.{ℕ, ◌≡◌, ◌<◌, ◌≤◌, ◌⊎◌, true, List, [], map, All, Some, Result, Ok, Err}
 use Rattle.std.specs.List.{flat_map}
 use Rattle.std.specs.Global.{Vec}
 use Rattle.std.specs.Str.{IsUtf8}
@@ -27,17 +27,17 @@ use Rattle.regalloc2_function.specs.declared.serialize.StoredFault.{StoredFault}
 use Rattle.regalloc2_serialize.specs.Flat.Columns.Sound.{AreSoundColumns, IsColumnsFault}
 use Rattle.regalloc2_serialize.specs.Flat.Columns.Value.{IsLaidOutAs, IsMachineOf}
 use Rattle.regalloc2_serialize.specs.Flat.Flat.{HasLongWord, output_words, words_of_triple}
-use Rattle.regalloc2_c.specs.Status.{failure_number, columns_failure}
-use Rattle.regalloc2_c.specs.Payload.{failure_words}
-use Rattle.regalloc2_c.specs.Faults.{AreFaultsOf, faults_words}
+use Rattle.regalloc2_c_words.specs.Status.{failure_number, columns_failure}
+use Rattle.regalloc2_c_words.specs.Handing.{IsHandedOut}
+use Rattle.regalloc2_c_words.specs.Faults.{AreFaultsOf, faults_words}
 use Rattle.regalloc2.specs.Report.{IsReport}
 use Rattle.regalloc2_checker.specs.declared.errors.CheckerError.{CheckerError}
 use Rattle.regalloc2_text.specs.declared.cursor.error.TextError.{TextError}
 use Rattle.regalloc2_text.specs.declared.cursor.error.TextError.TheVariants.{Fault as TextFault, Memory as TextMemory}
-use Rattle.regalloc2_c.specs.Payload.{as_word}
-use Rattle.regalloc2_c.specs.declared.failure.Failure.{Failure}
-use Rattle.regalloc2_c.specs.declared.failure.Failure.TheVariants.{Unreadable, BadMachine, NoRoom, Faults, NoMemory, NotFramed, BadOutput}
-use Rattle.regalloc2_c.specs.declared.failure.Failure.TheVariants.{ReadBeforeWritten, BadText, BadFunction, Refused}
+use Rattle.regalloc2_c_words.specs.Payload.{as_word}
+use Rattle.regalloc2_c_words.specs.declared.failure.Failure.{Failure}
+use Rattle.regalloc2_c_words.specs.declared.failure.Failure.TheVariants.{Unreadable, BadMachine, NoRoom, Faults, NoMemory, NotFramed, BadOutput}
+use Rattle.regalloc2_c_words.specs.declared.failure.Failure.TheVariants.{ReadBeforeWritten, BadText, BadFunction, Refused}
 
 -- words lay out a function and a machine in columns
 pub record AreWordsOf (words : List ℕ) (f : FunctionValue) (env : MachineValue) : Type 0 where
@@ -184,25 +184,6 @@ IsAllocationFound Names None found = ResultsIn Names None IsAllocatedOutput IsAl
 
 abbrev pub IsRunFound : List ℕ → Result (Vec ℕ) Failure → Type 0
 IsRunFound words found = ResultsIn (AreWordsOf words) (AreUnreadWords words) IsTestedOutput IsRunFailure found
-
--- the status and the words of what is found
-abbrev pub status_of : Result (Vec ℕ) Failure → ℕ
-status_of (Ok v) = 0
-status_of (Err e) = failure_number e
-
-abbrev pub result_of : Result (Vec ℕ) Failure → List ℕ
-result_of (Ok v) = v.items
-result_of (Err e) = failure_words e
-
--- a status and its words are handed out if there is room for the words; else nothing is written, and the status says so
-abbrev pub IsWrittenOut : ℕ → List ℕ → List ℕ → List ℕ → ℕ → Type 0
-IsWrittenOut status words old now got = ((length words ≤ length old) × (got ≡ status) × (take (length words) now ≡ words))
-    ⊎ ((length old < length words) × (got ≡ failure_number NoRoom) × (now ≡ old))
-
--- how many words there are is reported whether or not there is room for them
-pub record IsHandedOut (found : Result (Vec ℕ) Failure) (old now : List ℕ) (needed got : ℕ) : Type 0 where
-  pub needed_words : needed ≡ length (result_of found)
-  pub given : IsWrittenOut (status_of found) (result_of found) old now got
 
 -- what a call hands out
 abbrev pub IsAllocateOutcome : (FunctionValue → MachineValue → Type 0) → (Failure → Type 0) → List ℕ → List ℕ → ℕ → ℕ → Type 0

@@ -23,9 +23,9 @@ use Rattle.regalloc2_checker.specs.declared.errors.CheckerError.TheVariants.{Mis
 use Rattle.regalloc2_checker.specs.declared.errors.CheckerError.TheVariants.{IncorrectValuesInAllocation, ConstraintViolated, AllocationIsNotReg}
 use Rattle.regalloc2_checker.specs.declared.errors.CheckerError.TheVariants.{AllocationIsNotFixedReg, AllocationIsNotReuse, AllocationIsNotStack}
 use Rattle.regalloc2_checker.specs.declared.errors.CheckerError.TheVariants.{StackToStackMove, AllocationOutsideLimit, MalformedOutput, Memory}
-use Rattle.regalloc2_c.specs.Payload.{none, as_word}
-use Rattle.regalloc2_c.specs.declared.failure.Failure.{Failure}
-use Rattle.regalloc2_c.specs.declared.failure.Failure.TheVariants.{Faults, NoMemory}
+use Rattle.regalloc2_c_words.specs.Payload.{none, as_word}
+use Rattle.regalloc2_c_words.specs.declared.failure.Failure.{Failure}
+use Rattle.regalloc2_c_words.specs.declared.failure.Failure.TheVariants.{Faults, NoMemory}
 
 -- the first number from k on, of n, that passes a test, as a word
 abbrev pub first_index : (ℕ → Bool) → ℕ → ℕ → ℕ

@@ -1,0 +1,2 @@
+-- Lemmas for an operand's index among an instruction's.
+pub mod Indexes
