@@ -76,8 +76,8 @@ ROOM, HIGH, GAP, MARGIN, FLOOR = 156, 50, 8, 76, 108
 WIDE = 2 * MARGIN + 6 * ROOM + 5 * GAP
 COLOURS = {
     "Names and functions": "#e8eef7", "Stored forms": "#f3ecdf", "Analysis": "#e6f2e6", "Moves": "#f2e8f2",
-    "Allocator": "#fbe9e0", "Checker": "#e2f1f3", "Front": "#fff6d6", "Tools": "#f3ecdf", "C library": "#f3ecdf", "Programs": "#f3ecdf", "Code generator": "#eeeeee",
-    "Examples": "#eeeeee",
+    "Allocator": "#fbe9e0", "Checker": "#e2f1f3", "Front": "#fff6d6", "Tools": "#f3ecdf", "C library": "#f3ecdf",
+    "Programs": "#f3ecdf", "Code generator": "#eeeeee", "Examples": "#eeeeee",
     "Rewriting": "#f3ecdf",
     "Tests": "#eeeeee",
 }
