@@ -26,13 +26,16 @@ FLOORS = [
          ("regalloc2_analysis", "liveness, ranges, branches")]),
      ("Moves", [
          ("regalloc2_parts", "lists, parallel moves")])],
+    [("Checker", [
+        ("regalloc2_checker_sets", "sets, saved copies"),
+        ("regalloc2_checker_steps", "one place"),
+        ("regalloc2_checker_tables", "vregs of places")])],
     [("Allocator", [
         ("regalloc2_fastalloc_state", "tests, tables of the walk"),
         ("regalloc2_fastalloc_proofs", "steps as relations"),
         ("regalloc2_fastalloc_walk", "the walk"),
         ("regalloc2_fastalloc", "run, the output")]),
      ("Checker", [
-         ("regalloc2_checker_tables", "vregs of places"),
          ("regalloc2_checker", "Checker, test_cells")])],
     [("Front", [("regalloc2", "allocate, run_tested, run_checked, and all items under upstream's paths")])],
     [("Tools", [

@@ -14,7 +14,7 @@ ghost use Rattle.regalloc2_checker.specs.TableFacts.{IsListedVReg, AreNamedPlace
 
 use crate::number_list::NumberList;
 use crate::place_list::PlaceList;
-use regalloc2_checker_tables::Positions;
+use regalloc2_checker_sets::Positions;
 use regalloc2_function::{Edit, Function, Output};
 use regalloc2_index::{Block, Inst};
 use regalloc2_names::{Allocation, Operand, PRegSet, ProgPoint, VReg};

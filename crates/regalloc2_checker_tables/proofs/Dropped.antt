@@ -2,9 +2,9 @@
 use Rattle.std.proofs.Common.{ℕ, ◌≡◌, ◌<◌, ◌⊎◌, inl, inr, arith, Bool, true, false, List, length, get_or, sym, ap, ◌∙◌, subst}
 use Rattle.std.specs.Prelude.{◌&&◌, nat_lt, Option, None}
 use Rattle.regalloc2_shape.specs.Numbers.{NumberSet}
-use Rattle.regalloc2_checker_tables.specs.Homes.{HomePlaces}
-use Rattle.regalloc2_checker_tables.specs.SavedNumbers.{NumberCopies, saved_number, number_now, IsSomeArray, IsWithout}
-use Rattle.regalloc2_checker_tables.specs.EntrySets.{is_member, IsSetOf}
+use Rattle.regalloc2_checker_sets.specs.Homes.{HomePlaces}
+use Rattle.regalloc2_checker_sets.specs.SavedNumbers.{NumberCopies, saved_number, number_now, IsSomeArray, IsWithout}
+use Rattle.regalloc2_checker_sets.specs.EntrySets.{is_member, IsSetOf}
 use Rattle.regalloc2_checker_tables.specs.Showing.{showing, read_as, shows_in, AreShown}
 use Rattle.regalloc2_checker_tables.specs.declared.passing.Passed.{Passed}
 use Rattle.regalloc2_checker_tables.specs.Holding.{Holding, count_of, holds_in, IsHome, AreEntries, IsSoundHolding}

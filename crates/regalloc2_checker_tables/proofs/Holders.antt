@@ -7,14 +7,16 @@ use Rattle.std.proofs.lemmas.List.{take_more}
 use Rattle.std.proofs.lemmas.Bool.{cases_eq, lt-ltb as below, ne_eqb}
 use Rattle.std.proofs.Math.Bool.{and-false, or-false as or-no}
 use Rattle.regalloc2_shape.specs.Numbers.{NumberSet, has_number, times_listed}
-use Rattle.regalloc2_checker_tables.specs.SavedNumbers.{NumberCopies}
-use Rattle.regalloc2_checker_tables.specs.EntrySets.{AreMore}
-use Rattle.regalloc2_checker_tables.specs.Homes.{HomePlaces, no_homes, has_few, has_home}
-use Rattle.regalloc2_checker_tables.specs.Holding.{IsHome, AreBelow, AreStill, AreMoreHomes, is_in}
-use Rattle.regalloc2_checker_tables.proofs.Bits.{other-times, same-times}
-use Rattle.regalloc2_checker_tables.proofs.HomeLaws.{home-is}
-use Rattle.regalloc2_checker_tables.proofs.Walked.{walked-more}
-use Rattle.regalloc2_checker_tables.proofs.Listed.{listed-once}
+use Rattle.regalloc2_checker_sets.specs.SavedNumbers.{NumberCopies}
+use Rattle.regalloc2_checker_sets.specs.EntrySets.{AreMore}
+use Rattle.regalloc2_checker_sets.specs.Homes.{HomePlaces, no_homes, has_few, has_home}
+use Rattle.regalloc2_checker_tables.specs.Holding.{IsHome, is_in}
+use Rattle.regalloc2_checker_sets.specs.Held.{AreBelow, AreStill}
+use Rattle.regalloc2_checker_sets.specs.Homes.{AreMoreHomes}
+use Rattle.regalloc2_checker_sets.proofs.Bits.{other-times, same-times}
+use Rattle.regalloc2_checker_sets.proofs.HomeLaws.{home-is}
+use Rattle.regalloc2_checker_sets.proofs.Walked.{walked-more}
+use Rattle.regalloc2_checker_sets.proofs.Listed.{listed-once}
 
 -- sets that stay over two steps stay over both
 pub more-sets : (a b c : List NumberSet) → AreMore a b → AreMore b c → AreMore a c

@@ -4,9 +4,10 @@ use Rattle.std.specs.Prelude.{◌&&◌}
 use Rattle.std.proofs.lemmas.Bool.{cases_eq, cases_lt}
 use Rattle.regalloc2_index.proofs.Bools.{and_second}
 use Rattle.regalloc2_shape.specs.Numbers.{NumberSet}
-use Rattle.regalloc2_checker_tables.specs.SavedNumbers.{NumberCopies, saved_number, number_now}
-use Rattle.regalloc2_checker_tables.specs.EntrySets.{is_member, IsLess}
-use Rattle.regalloc2_checker_tables.specs.Holding.{held, AreBelow, AreStill, LosesSome, IsMetBetween}
+use Rattle.regalloc2_checker_sets.specs.SavedNumbers.{NumberCopies, saved_number, number_now}
+use Rattle.regalloc2_checker_sets.specs.EntrySets.{is_member, IsLess}
+use Rattle.regalloc2_checker_tables.specs.Holding.{LosesSome, IsMetBetween}
+use Rattle.regalloc2_checker_sets.specs.Held.{held, AreBelow, AreStill}
 use Rattle.regalloc2_checker_tables.proofs.Holders.{still-same, still-then}
 
 both-same : (b : Bool) → b ≡ (b && b)

@@ -12,9 +12,9 @@ use Rattle.regalloc2_checker_tables.specs.Showing.{Showing, showing, read_as, ta
 use Rattle.regalloc2_checker_tables.specs.Showing.{AreTablesKept, ShowsNow}
 use Rattle.regalloc2_checker_tables.specs.declared.passing.Passed.{Passed}
 use Rattle.regalloc2_shape.specs.Numbers.{times_listed}
-use Rattle.regalloc2_checker_tables.proofs.Bits.{other-times, same-times}
+use Rattle.regalloc2_checker_sets.proofs.Bits.{other-times, same-times}
 use Rattle.regalloc2_checker_tables.proofs.Times.{times-of, contains-of}
-use Rattle.regalloc2_checker_tables.proofs.Walked.{times-append, times-nil}
+use Rattle.regalloc2_checker_sets.proofs.Walked.{times-append, times-nil}
 
 -- nothing is passed: each is held under its own bits
 pub read-none : (vs : List ℕ) (y : ℕ) → read_as vs None y ≡ y

@@ -7,11 +7,14 @@ use Rattle.std.specs.List.Sorted.{IsStrictlyIncreasing}
 use Rattle.std.proofs.lemmas.Bool.{cases_eq, cases_lt, eqb-true, le-ltb, ne_eqb, or_left}
 use Rattle.std.proofs.lemmas.List.{get_or-set_other, get_or-set_same, length-set, take_more}
 use Rattle.regalloc2_shape.specs.Numbers.{NumberSet, times_listed}
-use Rattle.regalloc2_checker_tables.specs.SavedNumbers.{NumberCopies, copy_count, saved_number, number_now}
-use Rattle.regalloc2_checker_tables.specs.EntrySets.{is_member, AreMore, IsSetOf, ListsBits}
-use Rattle.regalloc2_checker_tables.specs.Homes.{HomePlaces, no_homes, has_home}
-use Rattle.regalloc2_checker_tables.specs.Holding.{Holding, held, holds_now, holds_in, IsHome, AreEntries}
-use Rattle.regalloc2_checker_tables.specs.Holding.{IsSoundHolding, AreStill, AreMoreHomes, AreKeptTables, HoldsNow, is_in}
+use Rattle.regalloc2_checker_sets.specs.SavedNumbers.{NumberCopies, copy_count, saved_number, number_now}
+use Rattle.regalloc2_checker_sets.specs.EntrySets.{is_member, AreMore, IsSetOf, ListsBits}
+use Rattle.regalloc2_checker_sets.specs.Homes.{HomePlaces, no_homes, has_home}
+use Rattle.regalloc2_checker_tables.specs.Holding.{Holding, holds_now, holds_in, IsHome, AreEntries}
+use Rattle.regalloc2_checker_sets.specs.Held.{held}
+use Rattle.regalloc2_checker_tables.specs.Holding.{IsSoundHolding, AreKeptTables, HoldsNow, is_in}
+use Rattle.regalloc2_checker_sets.specs.Held.{AreStill}
+use Rattle.regalloc2_checker_sets.specs.Homes.{AreMoreHomes}
 use Rattle.regalloc2_checker_tables.proofs.Holders.{homes-same, home-kept, is_in-more}
 
 -- sets and homes (the places where a vreg may be) are added
@@ -203,26 +206,6 @@ drop-now t s f j a less h i y l =
         no e = absurd cc
     by false true false g = refl
     by false false o g = refl
-
--- what follows from both a success and an error holds
-pub less_either : {E : Type 0} (P Q R : Type 0) (r : Result (Unit {0}) E) → (P → R) → (Q → R) → OnOk r P → OnErr r Q → R
-less_either P Q R (Ok x) f g h k = f h
-less_either P Q R (Err e) f g h k = g k
-
--- what follows from a fact of each success holds of each
-pub on_ok_as : {E : Type 0} (P Q : Type 0) (r : Result (Unit {0}) E) → (P → Q) → OnOk r P → OnOk r Q
-on_ok_as P Q (Ok x) f h = f h
-on_ok_as P Q (Err e) f h = tt
-
--- and what follows from two
-pub on_ok_of_both : {E : Type 0} (P Q R : Type 0) (r : Result (Unit {0}) E) → (P → Q → R) → OnOk r P → OnOk r Q → OnOk r R
-on_ok_of_both P Q R (Ok x) f h k = f h k
-on_ok_of_both P Q R (Err e) f h k = tt
-
--- and so does what follows from a fact of each error
-pub on_err_as : {E : Type 0} (P Q : Type 0) (r : Result (Unit {0}) E) → (P → Q) → OnErr r P → OnErr r Q
-on_err_as P Q (Ok x) f h = tt
-on_err_as P Q (Err e) f h = f h
 
 -- tables that are kept over two steps are kept over both
 pub kept_then : (a b c : Holding) → AreKeptTables a b → AreKeptTables b c → AreKeptTables a c

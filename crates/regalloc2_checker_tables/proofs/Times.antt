@@ -2,7 +2,7 @@
 use Rattle.std.proofs.Common.{inl, inr, Bool, true, false, ℕ, zero, suc, ◌≡◌, ◌<◌, arith}
 use Rattle.std.proofs.Common.{cond, nat_eq, eq-eqb, List, [], ◌∷◌, length, get_or, refl, ap}
 use Rattle.std.specs.Prelude.{Contains, ◌↔◌, if◌then◌else◌}
-use Rattle.regalloc2_checker_tables.specs.EntrySets.{ListsBits}
+use Rattle.regalloc2_checker_sets.specs.EntrySets.{ListsBits}
 use Rattle.std.proofs.lemmas.Bool.{cases_eq, ne_eqb}
 use Rattle.regalloc2_shape.specs.Numbers.{times_listed}
 

@@ -1,9 +1,9 @@
 -- What tables hold stays if their sets have the members that they had.
 use Rattle.std.proofs.Common.{arith, List, refl, sym, ◌∙◌}
 use Rattle.regalloc2_shape.specs.Numbers.{NumberSet}
-use Rattle.regalloc2_checker_tables.specs.SavedNumbers.{NumberCopies}
+use Rattle.regalloc2_checker_sets.specs.SavedNumbers.{NumberCopies}
 use Rattle.regalloc2_checker_tables.specs.Holding.{Holding, IsSoundHolding, AreKeptTables}
-use Rattle.regalloc2_checker_tables.specs.Renumbering.{AreOfSets, HaveSameMembers}
+use Rattle.regalloc2_checker_sets.specs.Renumbering.{AreOfSets, HaveSameMembers}
 
 -- the numbers of tables are of sets
 pub sets-sound : (t : Holding) → IsSoundHolding t → AreOfSets t.sets t.entries

@@ -3,9 +3,10 @@ use Rattle.std.specs.Prelude.{ℕ, ◌≡◌, ◌<◌, ◌≤◌, ◌⊎◌, Boo
 use Rattle.std.specs.List.{list_any}
 use Rattle.std.specs.List.Sorted.{IsStrictlyIncreasing}
 use Rattle.regalloc2_shape.specs.Numbers.{NumberSet}
-use Rattle.regalloc2_checker_tables.specs.Homes.{HomePlaces, no_homes, has_home}
-use Rattle.regalloc2_checker_tables.specs.SavedNumbers.{NumberCopies, copy_count, saved_number, number_now}
-use Rattle.regalloc2_checker_tables.specs.EntrySets.{is_member, AreMore, IsSetOf}
+use Rattle.regalloc2_checker_sets.specs.Homes.{HomePlaces, no_homes, has_home}
+use Rattle.regalloc2_checker_sets.specs.SavedNumbers.{NumberCopies, copy_count, saved_number, number_now}
+use Rattle.regalloc2_checker_sets.specs.EntrySets.{is_member, IsSetOf}
+use Rattle.regalloc2_checker_sets.specs.Held.{held, AreStill}
 
 -- the listed places and vregs, by their bits; the numbers of the sets that tables have; the sets; and each vreg's homes, the places where it may be
 pub record Holding : Type 0 where
@@ -18,10 +19,6 @@ pub record Holding : Type 0 where
 -- how many tables there are
 abbrev pub count_of : Holding → ℕ
 count_of t = copy_count t.entries
-
--- whether an array of numbers has a set with bits at a position
-abbrev pub held : List NumberSet → NumberCopies → ℕ → ℕ → Bool
-held sets e i y = is_member sets (number_now e i) y
 
 -- whether the place at a position holds the vreg with bits, in the table that is worked on
 abbrev pub holds_now : Holding → ℕ → ℕ → Bool
@@ -50,23 +47,6 @@ pub record IsSoundHolding (t : Holding) : Type 0 where
   pub homes_long : length t.homes ≡ length t.vregs
   pub now : AreEntries t.sets t.vregs t.homes (length t.entries.cells) (number_now t.entries)
   pub tables : (k : ℕ) → AreEntries t.sets t.vregs t.homes (length t.entries.cells) (saved_number t.entries k)
-
--- the numbers of the array that is worked on are of sets
-abbrev pub AreBelow : List NumberSet → NumberCopies → Type 0
-AreBelow sets e = (i : ℕ) → i < length e.cells → number_now e i < length sets
-
--- only the array that is worked on changed, and sets were added
-pub record AreStill (s : List NumberSet) (e : NumberCopies) (t : List NumberSet) (f : NumberCopies) : Type 0 where
-  pub more : AreMore s t
-  pub long : length f.cells ≡ length e.cells
-  pub count : copy_count f ≡ copy_count e
-  pub saved : (k i : ℕ) → saved_number f k i ≡ saved_number e k i
-  pub below : AreBelow t f
-
--- homes are added
-pub record AreMoreHomes (old new : List HomePlaces) : Type 0 where
-  pub long : length new ≡ length old
-  pub kept : (j i : ℕ) → has_home (get_or old j no_homes) i ≡ true → has_home (get_or new j no_homes) i ≡ true
 
 -- whether a number is in a list
 abbrev pub is_in : List ℕ → ℕ → Bool

@@ -1,11 +1,5 @@
 -- Tables of the vregs that each place holds, by number; blocks share the chunks in which their tables agree.
--- Read first: `Showing`, what tables show; below it `Holding`, what places hold, and `SavedNumbers`, saved copies.
--- Depends on the sets of numbers in `NumberCopies` alone: places and vregs are numbers here.
-pub mod SavedCopies
-pub mod SavedNumbers
-pub mod EntrySets
-pub mod Homes
-pub mod PlaceEntries
+-- Read first: `Showing`, what tables show; below it `Holding`, what places hold.
+-- Depends on regalloc2_checker_sets: the sets, the saved copies, and the places where vregs may be.
 pub mod Holding
-pub mod Renumbering
 pub mod Showing

@@ -1,8 +1,8 @@
 -- What tables show in which one vreg may stand for a second, whose places aren't noted yet: a parameter that was passed for its argument.
 use Rattle.std.specs.Prelude.{ℕ, ◌≡◌, ◌+◌, ◌<◌, Bool, ◌&&◌, nat_eq, nat_lt, if◌then◌else◌, List, length, get_or, Option, None, Some}
 use Rattle.regalloc2_shape.specs.Numbers.{NumberSet}
-use Rattle.regalloc2_checker_tables.specs.SavedNumbers.{NumberCopies}
-use Rattle.regalloc2_checker_tables.specs.Homes.{HomePlaces}
+use Rattle.regalloc2_checker_sets.specs.SavedNumbers.{NumberCopies}
+use Rattle.regalloc2_checker_sets.specs.Homes.{HomePlaces}
 use Rattle.regalloc2_checker_tables.specs.Holding.{Holding, count_of, holds_now, holds_in}
 use Rattle.regalloc2_checker_tables.specs.declared.passing.Passed.{Passed}
 

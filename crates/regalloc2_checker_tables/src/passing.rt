@@ -13,8 +13,8 @@ ghost use Rattle.regalloc2_names.specs.PlaceBits.{bits_of_place};
 ghost use Rattle.regalloc2_checker_tables.specs.Holding.{count_of, holds_now, holds_in, is_in, AreKeptTables, HoldsNow, LosesSome};
 ghost use Rattle.regalloc2_checker_tables.specs.Showing.{read_as, table_count, shows_now, shows_in, ListsPassed, IsReadApart, AreTablesKept, ShowsNow};
 
-use crate::positions::Positions;
 use crate::tables::Tables;
+use regalloc2_checker_sets::Positions;
 use regalloc2_names::Allocation;
 use std::alloc::{AllocError, Allocator};
 use std::marker::Model;

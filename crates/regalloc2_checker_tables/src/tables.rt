@@ -1,26 +1,29 @@
 //! Tables of which vregs places hold.
 
-ghost use Rattle.std.specs.Prelude.{◌≡◌, ◌≢◌, ◌⊎◌, ℕ, ◌+◌, ◌*◌, ◌<◌, ◌≤◌, ◌^◌, ◌==◌, true, false, ◌&&◌, ◌||◌};
-ghost use Rattle.std.specs.Prelude.{[], nat_eq, nat_lt, if◌then◌else◌, length, get_or};
+ghost use Rattle.std.specs.Prelude.{◌≡◌, ℕ, ◌+◌, ◌*◌, ◌<◌, ◌≤◌, ◌^◌, ◌==◌, true, false, ◌&&◌, ◌||◌};
+ghost use Rattle.std.specs.Prelude.{nat_eq, nat_lt, if◌then◌else◌, length, get_or};
 ghost use Rattle.std.specs.Prelude.{◌↔◌, Contains, IfOk, OnOk, OnErr};
 ghost use Rattle.std.specs.Bool.{OnTrue, OnFalse};
 ghost use Rattle.std.specs.List.{position};
 ghost use Rattle.std.specs.List.Sorted.{IsStrictlyIncreasing};
 ghost use Rattle.regalloc2_names.specs.PlaceBits.{bits_of_place};
 ghost use Rattle.regalloc2_shape.specs.Numbers.{has_number, times_listed};
-ghost use Rattle.regalloc2_checker_tables.specs.SavedNumbers.{copy_count, number_now, saved_number};
-ghost use Rattle.regalloc2_checker_tables.specs.EntrySets.{is_member, IsSetOf, IsLess};
-ghost use Rattle.regalloc2_checker_tables.specs.Homes.{no_homes, has_few, has_home};
-ghost use Rattle.regalloc2_checker_tables.specs.Holding.{count_of, held, holds_now, holds_in, AreBelow, AreStill, AreMoreHomes};
+ghost use Rattle.regalloc2_checker_sets.specs.SavedNumbers.{copy_count, saved_number};
+ghost use Rattle.regalloc2_checker_sets.specs.EntrySets.{is_member, IsSetOf};
+ghost use Rattle.regalloc2_checker_sets.specs.Homes.{has_few, has_home};
+ghost use Rattle.regalloc2_checker_tables.specs.Holding.{count_of, holds_now, holds_in};
+ghost use Rattle.regalloc2_checker_sets.specs.Held.{held, AreBelow, AreStill};
+ghost use Rattle.regalloc2_checker_sets.specs.Homes.{AreMoreHomes};
 ghost use Rattle.regalloc2_checker_tables.specs.Holding.{is_in, AreKeptTables, HoldsNow, IsHome};
 ghost use Rattle.regalloc2_checker_tables.specs.Holding.{LosesSome, IsMetBetween};
 
-use crate::entries::Entries;
-use crate::homes::{Home, Homes};
-use crate::place_positions::PlacePositions;
-use crate::positions::Positions;
-use crate::sets::Sets;
-use crate::unused_sets::drop_unused_sets;
+use regalloc2_checker_sets::Positions;
+use regalloc2_checker_sets::entries::Entries;
+use regalloc2_checker_sets::homes::{Home, Homes};
+use regalloc2_checker_sets::place_positions::PlacePositions;
+use regalloc2_checker_sets::sets::Sets;
+use regalloc2_checker_sets::unused_sets::drop_unused_sets;
+use regalloc2_checker_steps::{drop_at, meet_at};
 use regalloc2_names::Allocation;
 use regalloc2_shape::indexset::IndexSet;
 use std::alloc::{AllocError, Allocator};
@@ -47,29 +50,6 @@ impl<A: Allocator> Model for Tables<A> {
     ghost view = { λ t. record { places = t.places; vregs = t.vregs; entries = t.entries; sets = t.sets; homes = t.homes } };
 
     ghost invariant = { λ t. IsSoundHolding (record { places = t.places; vregs = t.vregs; entries = t.entries; sets = t.sets; homes = t.homes }) };
-}
-
-/// Takes a vreg out of one place.
-#[inline(always)]
-fn drop_at<A: Allocator + Copy>(
-    entries: &mut Entries<A>,
-    sets: &mut Sets<A>,
-    place: usize,
-    bits: u32,
-) -> Result<(), AllocError>
-    requires { AreBelow sets.old entries.old }
-    ensures still { AreStill sets.old entries.old sets.new entries.new }
-    ensures ok { OnOk result ((i y : ℕ) → i < length entries.old.cells → held sets.new entries.new i y
-        ≡ (if nat_eq i place && nat_eq y bits then false else held sets.old entries.old i y)) }
-    ensures err { OnErr result (entries.new ≡ entries.old) }
-{
-    if place >= entries.len() {
-        return Ok(());
-    }
-    let set = entries.get(place);
-    let less = sets.without(set, bits)?;
-    entries.set(place, less);
-    Ok(())
 }
 
 /// Takes a vreg out of the places of a home's mask and of its two numbers.
@@ -328,45 +308,6 @@ fn note_set<A: Allocator + Copy>(
     }
     let members = sets.members(set)?;
     note_all(vregs, homes, &members, place)
-}
-
-/// Whether something changed before, or two numbers differ.
-fn is_changed(before: bool, had: u32, common: u32) -> bool
-    ensures yes { result ≡ true → (before ≡ true) ⊎ (common ≢ had) }
-    ensures no { result ≡ false → (before ≡ false) × (common ≡ had) }
-{
-    if before {
-        return true;
-    }
-    common != had
-}
-
-/// Keeps at a position only what a set has too; returns whether the set has more, or `before` is set.
-fn meet_at<A: Allocator + Copy>(
-    entries: &mut Entries<A>,
-    sets: &mut Sets<A>,
-    place: usize,
-    had: u32,
-    before: bool,
-) -> Result<bool, AllocError>
-    requires place { place < length entries.old.cells }
-    requires below { AreBelow sets.old entries.old }
-    requires had { had < length sets.old }
-    ensures still { AreStill sets.old entries.old sets.new entries.new }
-    ensures words { entries.new.words ≡ entries.old.words }
-    ensures others { (i : ℕ) → (i ≡ place → ⊥) → number_now entries.new i ≡ number_now entries.old i }
-    ensures met { OnOk result ((y : ℕ) → held sets.new entries.new place y ≡ (is_member sets.old had y && held sets.old entries.old place y)) }
-    ensures less { IfOk result (λ less. less ≡ true → (before ≡ true) ⊎ IsLess (is_member sets.old had) (held sets.old entries.old place)) }
-    ensures same { IfOk result (λ less. less ≡ false → (before ≡ false)
-        × ((y : ℕ) → is_member sets.old had y ≡ true → held sets.old entries.old place y ≡ true)) }
-    ensures err { OnErr result (entries.new ≡ entries.old) }
-{
-    if entries.get(place) == had {
-        return Ok(before);
-    }
-    let common = sets.common(had, entries.get(place))?;
-    entries.set(place, common);
-    Ok(is_changed(before, had, common))
 }
 
 /// How many positions of a chunk are below a bound.

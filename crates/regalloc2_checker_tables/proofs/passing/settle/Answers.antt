@@ -3,7 +3,8 @@ use Rattle.std.specs.Prelude.{Option}
 use Rattle.regalloc2_checker_tables.specs.Holding.{holds_now, HoldsNow, is_in}
 use Rattle.regalloc2_checker_tables.specs.Showing.{read_as}
 use Rattle.regalloc2_checker_tables.specs.declared.passing.Passed.{Passed}
-use Rattle.regalloc2_checker_tables.proofs.TableLaws.{on_ok_as, kept_same}
+use Rattle.regalloc2_checker_tables.proofs.TableLaws.{kept_same}
+use Rattle.regalloc2_checker_sets.proofs.Results.{on_ok_as}
 use Rattle.regalloc2_checker_tables.proofs.Shown.{read-none, settled-now, holders-within}
 use Rattle.regalloc2_checker_tables.proofs.passing.settle.Goals as goal
 

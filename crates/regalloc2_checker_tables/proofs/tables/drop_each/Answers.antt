@@ -1,8 +1,8 @@
 use Rattle.std.proofs.Common.{ℕ, List, false, nat_eq, nat_lt, length, arith, ap, ◌∙◌}
 use Rattle.std.specs.Prelude.{◌&&◌, if◌then◌else◌}
 use Rattle.regalloc2_shape.specs.Numbers.{times_listed}
-use Rattle.regalloc2_checker_tables.specs.Holding.{held}
-use Rattle.regalloc2_checker_tables.proofs.HomeLaws.{few-walked, few-ended}
+use Rattle.regalloc2_checker_sets.specs.Held.{held}
+use Rattle.regalloc2_checker_sets.proofs.HomeLaws.{few-walked, few-ended}
 use Rattle.regalloc2_checker_tables.proofs.Holders.{still-same, still-then, dropped-none, dropped-more}
 use Rattle.regalloc2_checker_tables.proofs.tables.drop_each.Goals as goal
 

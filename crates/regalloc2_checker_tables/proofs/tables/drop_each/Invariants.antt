@@ -1,8 +1,8 @@
 use Rattle.std.proofs.Common.{ℕ, ◌≡◌, ◌<◌, ◌++◌, false, nat_eq, nat_lt, length}
 use Rattle.std.specs.Prelude.{◌&&◌, if◌then◌else◌}
 use Rattle.regalloc2_shape.specs.Numbers.{times_listed}
-use Rattle.regalloc2_checker_tables.specs.Homes.{has_few}
-use Rattle.regalloc2_checker_tables.specs.Holding.{held, AreStill}
+use Rattle.regalloc2_checker_sets.specs.Homes.{has_few}
+use Rattle.regalloc2_checker_sets.specs.Held.{held, AreStill}
 use Rattle.regalloc2_checker_tables.proofs.tables.drop_each.Given as goal
 
 abbrev pub invariant-loop-place : goal.invariant-loop-place

@@ -1,9 +1,9 @@
 use Rattle.std.proofs.Common.{false, nat_eq, length, arith, ap, ◌∙◌}
 use Rattle.std.specs.Prelude.{◌&&◌, if◌then◌else◌}
 use Rattle.regalloc2_shape.specs.Numbers.{NumberSet, has_number}
-use Rattle.regalloc2_checker_tables.specs.Holding.{held}
+use Rattle.regalloc2_checker_sets.specs.Held.{held}
 use Rattle.regalloc2_checker_tables.proofs.Holders.{dropped-all, dropped-few}
-use Rattle.regalloc2_checker_tables.proofs.TableLaws.{on_ok_as}
+use Rattle.regalloc2_checker_sets.proofs.Results.{on_ok_as}
 use Rattle.regalloc2_checker_tables.proofs.tables.drop_everywhere.Goals as goal
 
 pub returns-in_default-clause-ok : goal.returns-in_default-clause-ok

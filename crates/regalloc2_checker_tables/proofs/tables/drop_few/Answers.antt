@@ -1,7 +1,7 @@
 use Rattle.std.proofs.Common.{false, nat_eq, ap, sym}
 use Rattle.std.specs.Prelude.{◌&&◌, if◌then◌else◌}
-use Rattle.regalloc2_checker_tables.specs.Holding.{held}
-use Rattle.regalloc2_checker_tables.proofs.HomeLaws.{few-none}
+use Rattle.regalloc2_checker_sets.specs.Held.{held}
+use Rattle.regalloc2_checker_sets.proofs.HomeLaws.{few-none}
 use Rattle.regalloc2_checker_tables.proofs.Holders.{still-same}
 use Rattle.regalloc2_checker_tables.proofs.tables.drop_few.Goals as goal
 

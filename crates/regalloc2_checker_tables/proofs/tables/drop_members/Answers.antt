@@ -1,7 +1,7 @@
 use Rattle.std.proofs.Common.{ℕ, List, length, arith, ap, ◌∙◌}
 use Rattle.regalloc2_shape.specs.Numbers.{times_listed}
-use Rattle.regalloc2_checker_tables.specs.Holding.{held}
-use Rattle.regalloc2_checker_tables.proofs.Walked.{walked-on}
+use Rattle.regalloc2_checker_sets.specs.Held.{held}
+use Rattle.regalloc2_checker_sets.proofs.Walked.{walked-on}
 use Rattle.regalloc2_checker_tables.proofs.Holders.{still-same, still-then, dropped-none, dropped-more}
 use Rattle.regalloc2_checker_tables.proofs.tables.drop_members.Goals as goal
 

@@ -1,7 +1,7 @@
 use Rattle.std.proofs.Common.{ℕ, ◌≡◌, ◌<◌, ◌++◌, false, nat_eq, nat_lt, length}
 use Rattle.std.specs.Prelude.{◌&&◌, if◌then◌else◌}
 use Rattle.regalloc2_shape.specs.Numbers.{ListsMembers, times_listed}
-use Rattle.regalloc2_checker_tables.specs.Holding.{held, AreStill}
+use Rattle.regalloc2_checker_sets.specs.Held.{held, AreStill}
 use Rattle.regalloc2_checker_tables.proofs.tables.drop_members.Given as goal
 
 abbrev pub invariant-loop-place : goal.invariant-loop-place

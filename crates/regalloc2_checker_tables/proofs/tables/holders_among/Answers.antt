@@ -1,7 +1,8 @@
 use Rattle.std.proofs.Common.{ℕ, List, nat_lt, ap, ◌∙◌}
 use Rattle.std.specs.Prelude.{◌&&◌, ◌||◌}
 use Rattle.regalloc2_shape.specs.Numbers.{NumberSet, has_number}
-use Rattle.regalloc2_checker_tables.specs.Holding.{held, is_in}
+use Rattle.regalloc2_checker_tables.specs.Holding.{is_in}
+use Rattle.regalloc2_checker_sets.specs.Held.{held}
 use Rattle.regalloc2_checker_tables.proofs.Holders.{holders-all, holders-few}
 use Rattle.regalloc2_checker_tables.proofs.tables.holders_among.Goals as goal
 

@@ -1,8 +1,9 @@
 use Rattle.std.proofs.Common.{ℕ, List, nat_lt, ap, ◌∙◌}
 use Rattle.std.specs.Prelude.{◌&&◌, ◌||◌}
 use Rattle.regalloc2_shape.specs.Numbers.{times_listed}
-use Rattle.regalloc2_checker_tables.specs.Holding.{held, is_in}
-use Rattle.regalloc2_checker_tables.proofs.HomeLaws.{few-walked, few-ended}
+use Rattle.regalloc2_checker_tables.specs.Holding.{is_in}
+use Rattle.regalloc2_checker_sets.specs.Held.{held}
+use Rattle.regalloc2_checker_sets.proofs.HomeLaws.{few-walked, few-ended}
 use Rattle.regalloc2_checker_tables.proofs.Holders.{holders-none, holders-more}
 use Rattle.regalloc2_checker_tables.proofs.tables.list_few.Goals as goal
 

@@ -1,8 +1,9 @@
 use Rattle.std.proofs.Common.{ℕ, ◌≡◌, ◌++◌, nat_lt}
 use Rattle.std.specs.Prelude.{◌&&◌, ◌||◌}
 use Rattle.regalloc2_shape.specs.Numbers.{times_listed}
-use Rattle.regalloc2_checker_tables.specs.Homes.{has_few}
-use Rattle.regalloc2_checker_tables.specs.Holding.{held, is_in}
+use Rattle.regalloc2_checker_sets.specs.Homes.{has_few}
+use Rattle.regalloc2_checker_tables.specs.Holding.{is_in}
+use Rattle.regalloc2_checker_sets.specs.Held.{held}
 use Rattle.regalloc2_checker_tables.proofs.tables.list_few.Given as goal
 
 abbrev pub invariant-loop-place : goal.invariant-loop-place

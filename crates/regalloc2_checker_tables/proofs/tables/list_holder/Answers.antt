@@ -2,8 +2,9 @@ use Rattle.std.proofs.Common.{ℕ, List, nat_lt, ap, sym, ◌∙◌}
 use Rattle.std.specs.Prelude.{◌&&◌}
 use Rattle.std.proofs.Math.Bool.{and-false}
 use Rattle.std.proofs.lemmas.Bool.{le-ltb, lt-ltb}
-use Rattle.regalloc2_checker_tables.specs.EntrySets.{is_member}
-use Rattle.regalloc2_checker_tables.specs.Holding.{held, is_in}
+use Rattle.regalloc2_checker_sets.specs.EntrySets.{is_member}
+use Rattle.regalloc2_checker_tables.specs.Holding.{is_in}
+use Rattle.regalloc2_checker_sets.specs.Held.{held}
 use Rattle.regalloc2_checker_tables.proofs.Holders.{holder-is, holder-not}
 use Rattle.regalloc2_checker_tables.proofs.tables.list_holder.Goals as goal
 

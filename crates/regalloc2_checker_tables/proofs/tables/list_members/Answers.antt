@@ -1,8 +1,9 @@
 use Rattle.std.proofs.Common.{ℕ, List, nat_lt, ap, ◌∙◌}
 use Rattle.std.specs.Prelude.{◌&&◌}
 use Rattle.regalloc2_shape.specs.Numbers.{times_listed}
-use Rattle.regalloc2_checker_tables.specs.Holding.{held, is_in}
-use Rattle.regalloc2_checker_tables.proofs.Walked.{walked-on}
+use Rattle.regalloc2_checker_tables.specs.Holding.{is_in}
+use Rattle.regalloc2_checker_sets.specs.Held.{held}
+use Rattle.regalloc2_checker_sets.proofs.Walked.{walked-on}
 use Rattle.regalloc2_checker_tables.proofs.Holders.{holders-none, holders-more}
 use Rattle.regalloc2_checker_tables.proofs.tables.list_members.Goals as goal
 

@@ -1,7 +1,8 @@
 use Rattle.std.proofs.Common.{ℕ, ◌≡◌, ◌++◌, nat_lt}
 use Rattle.std.specs.Prelude.{◌&&◌, ◌||◌}
 use Rattle.regalloc2_shape.specs.Numbers.{ListsMembers, times_listed}
-use Rattle.regalloc2_checker_tables.specs.Holding.{held, is_in}
+use Rattle.regalloc2_checker_tables.specs.Holding.{is_in}
+use Rattle.regalloc2_checker_sets.specs.Held.{held}
 use Rattle.regalloc2_checker_tables.proofs.tables.list_members.Given as goal
 
 abbrev pub invariant-loop-place : goal.invariant-loop-place

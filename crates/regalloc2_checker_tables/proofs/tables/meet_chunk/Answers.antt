@@ -1,5 +1,5 @@
 use Rattle.std.proofs.Common.{ℕ, ◌≡◌, ◌+◌, ◌*◌, ◌<◌, List, length, get_or, arith, refl, sym, ap, ◌∙◌}
-use Rattle.regalloc2_checker_tables.specs.SavedNumbers.{saved_number}
+use Rattle.regalloc2_checker_sets.specs.SavedNumbers.{saved_number}
 use Rattle.regalloc2_checker_tables.proofs.Meets.{met-none, met-past, met-at, met-then}
 use Rattle.regalloc2_checker_tables.proofs.tables.meet_chunk.Goals as goal
 

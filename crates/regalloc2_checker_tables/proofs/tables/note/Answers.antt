@@ -1,7 +1,7 @@
 use Rattle.std.proofs.Common.{arith, sym}
-use Rattle.regalloc2_checker_tables.proofs.Listed.{at-position, not-listed}
+use Rattle.regalloc2_checker_sets.proofs.Listed.{at-position, not-listed}
 use Rattle.regalloc2_checker_tables.proofs.Holders.{home-at}
-use Rattle.regalloc2_checker_tables.proofs.TableLaws.{on_ok_as}
+use Rattle.regalloc2_checker_sets.proofs.Results.{on_ok_as}
 use Rattle.regalloc2_checker_tables.proofs.tables.note.Goals as goal
 
 pub returns-in_default-clause-noted : goal.returns-in_default-clause-noted

@@ -1,5 +1,5 @@
 use Rattle.std.proofs.Common.{arith, refl}
-use Rattle.regalloc2_checker_tables.proofs.Walked.{times-nil}
+use Rattle.regalloc2_checker_sets.proofs.Walked.{times-nil}
 use Rattle.regalloc2_checker_tables.proofs.Holders.{homes-same, homes-then, noted-more}
 use Rattle.regalloc2_checker_tables.proofs.tables.note_all.Goals as goal
 

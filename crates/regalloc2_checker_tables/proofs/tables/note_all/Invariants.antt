@@ -1,6 +1,7 @@
 use Rattle.std.proofs.Common.{ℕ, ◌<◌, take}
 use Rattle.regalloc2_shape.specs.Numbers.{times_listed}
-use Rattle.regalloc2_checker_tables.specs.Holding.{AreMoreHomes, IsHome}
+use Rattle.regalloc2_checker_tables.specs.Holding.{IsHome}
+use Rattle.regalloc2_checker_sets.specs.Homes.{AreMoreHomes}
 use Rattle.regalloc2_checker_tables.proofs.tables.note_all.Given as goal
 
 abbrev pub invariant-loop-bits : goal.invariant-loop-bits

@@ -1,11 +1,11 @@
 use Rattle.std.proofs.Common.{ℕ, ap, sym, ◌∙◌, refl, subst}
 use Rattle.std.proofs.lemmas.Bool.{eqb-true}
 use Rattle.regalloc2_index.proofs.Bools.{not_both}
-use Rattle.regalloc2_checker_tables.specs.EntrySets.{is_member}
+use Rattle.regalloc2_checker_sets.specs.EntrySets.{is_member}
 use Rattle.regalloc2_checker_tables.specs.Holding.{IsHome}
 use Rattle.regalloc2_checker_tables.proofs.Holders.{homes-same}
-use Rattle.regalloc2_checker_tables.proofs.TableLaws.{on_ok_as, on_ok_of_both}
-use Rattle.regalloc2_checker_tables.proofs.TwoSets.{either_member}
+use Rattle.regalloc2_checker_sets.proofs.Results.{on_ok_as, on_ok_of_both}
+use Rattle.regalloc2_checker_sets.proofs.TwoSets.{either_member}
 use Rattle.regalloc2_checker_tables.proofs.TableLaws.{listed-times}
 use Rattle.regalloc2_checker_tables.proofs.tables.note_set.Goals as goal
 

@@ -1,5 +1,5 @@
 use Rattle.regalloc2_checker_tables.proofs.Holders.{homes-then, home-kept}
-use Rattle.regalloc2_checker_tables.proofs.TableLaws.{on_ok_as}
+use Rattle.regalloc2_checker_sets.proofs.Results.{on_ok_as}
 use Rattle.regalloc2_checker_tables.proofs.tables.note_two.Goals as goal
 
 pub returns-clause-more : goal.returns-clause-more

@@ -3,7 +3,7 @@ use Rattle.std.specs.Prelude.{if◌then◌else◌}
 use Rattle.regalloc2_checker_tables.specs.Holding.{holds_now}
 use Rattle.regalloc2_checker_tables.specs.Showing.{Showing, showing, shows_now, AreTablesKept}
 use Rattle.regalloc2_checker_tables.specs.Showing.{ShowsNow}
-use Rattle.regalloc2_checker_tables.proofs.TableLaws.{on_ok_as}
+use Rattle.regalloc2_checker_sets.proofs.Results.{on_ok_as}
 use Rattle.regalloc2_checker_tables.proofs.Shown.{shown-after, kept-shown, now-shown}
 use Rattle.regalloc2_checker_tables.proofs.passing.PassingTables.copy.Goals as goal
 

@@ -1,6 +1,6 @@
 use Rattle.std.proofs.Common.{ℕ, ◌≡◌, ◌<◌, false, length, get_or, ap, ◌∙◌, subst}
 use Rattle.regalloc2_checker_tables.specs.Showing.{Showing, showing, table_count, shows_in}
-use Rattle.regalloc2_checker_tables.proofs.TableLaws.{on_ok_as}
+use Rattle.regalloc2_checker_sets.proofs.Results.{on_ok_as}
 use Rattle.regalloc2_checker_tables.proofs.Shown.{shown-after}
 use Rattle.regalloc2_checker_tables.proofs.Dropped.{shown-without}
 use Rattle.regalloc2_checker_tables.proofs.passing.PassingTables.drop_marked.Goals as goal

@@ -1,5 +1,5 @@
 use Rattle.std.proofs.Common.{ℕ, ◌<◌, List, length, get_or, ap, sym, subst}
-use Rattle.regalloc2_checker_tables.proofs.TableLaws.{on_ok_as}
+use Rattle.regalloc2_checker_sets.proofs.Results.{on_ok_as}
 use Rattle.regalloc2_checker_tables.proofs.Shown.{shown-after, inside-kept, settled-seen, forgotten-shown}
 use Rattle.regalloc2_checker_tables.proofs.passing.PassingTables.forget.Goals as goal
 

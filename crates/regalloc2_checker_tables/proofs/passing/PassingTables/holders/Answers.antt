@@ -4,7 +4,7 @@ use Rattle.std.specs.Prelude.{◌&&◌, Option}
 use Rattle.regalloc2_checker_tables.specs.Holding.{holds_now}
 use Rattle.regalloc2_checker_tables.specs.Showing.{Showing, read_as, shows_now}
 use Rattle.regalloc2_checker_tables.specs.declared.passing.Passed.{Passed}
-use Rattle.regalloc2_checker_tables.proofs.Bits.{ok-as}
+use Rattle.regalloc2_checker_sets.proofs.Bits.{ok-as}
 use Rattle.regalloc2_checker_tables.proofs.Shown.{read-none, read-here, read-other}
 use Rattle.regalloc2_checker_tables.proofs.passing.PassingTables.holders.Goals as goal
 

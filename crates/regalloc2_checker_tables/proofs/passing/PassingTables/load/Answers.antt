@@ -3,7 +3,7 @@ use Rattle.std.specs.Prelude.{Option, None}
 use Rattle.regalloc2_checker_tables.specs.Showing.{Showing, showing, shows_in, ListsPassed, AreTablesKept}
 use Rattle.regalloc2_checker_tables.specs.Showing.{ShowsNow}
 use Rattle.regalloc2_checker_tables.specs.declared.passing.Passed.{Passed}
-use Rattle.regalloc2_checker_tables.proofs.Bits.{read-is}
+use Rattle.regalloc2_checker_sets.proofs.Bits.{read-is}
 use Rattle.regalloc2_checker_tables.proofs.Shown.{shown-after, shown-with, kept-shown, inside-table, loaded-shown}
 use Rattle.regalloc2_checker_tables.proofs.passing.PassingTables.load.Goals as goal
 

@@ -1,5 +1,5 @@
 use Rattle.std.proofs.Common.{◌<◌, arith, sym, ◌∙◌, subst}
-use Rattle.regalloc2_checker_tables.proofs.Bits.{ok-as}
+use Rattle.regalloc2_checker_sets.proofs.Bits.{ok-as}
 use Rattle.regalloc2_checker_tables.proofs.Shown.{on_ok_with, shown-after, both-bare, met-bare, less-bare, same-bare}
 use Rattle.regalloc2_checker_tables.proofs.passing.PassingTables.meet.Goals as goal
 

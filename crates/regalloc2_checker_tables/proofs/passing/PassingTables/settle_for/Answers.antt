@@ -2,7 +2,7 @@ use Rattle.std.proofs.Common.{◌<◌, length, get_or, ap, sym, ◌∙◌, subst
 use Rattle.std.specs.Prelude.{Option}
 use Rattle.regalloc2_checker_tables.specs.Showing.{Showing, IsReadApart}
 use Rattle.regalloc2_checker_tables.specs.declared.passing.Passed.{Passed}
-use Rattle.regalloc2_checker_tables.proofs.TableLaws.{on_ok_as}
+use Rattle.regalloc2_checker_sets.proofs.Results.{on_ok_as}
 use Rattle.regalloc2_checker_tables.proofs.Shown.{shown-same, none-apart, read-apart}
 use Rattle.regalloc2_checker_tables.proofs.passing.PassingTables.settle_for.Goals as goal
 

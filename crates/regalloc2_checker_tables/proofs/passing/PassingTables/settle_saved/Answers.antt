@@ -5,7 +5,7 @@ use Rattle.regalloc2_checker_tables.specs.Holding.{holds_now, holds_in}
 use Rattle.regalloc2_checker_tables.specs.Showing.{Showing, showing, read_as, table_count, shows_now, shows_in, ListsPassed}
 use Rattle.regalloc2_checker_tables.specs.Showing.{ShowsNow}
 use Rattle.regalloc2_checker_tables.specs.declared.passing.Passed.{Passed}
-use Rattle.regalloc2_checker_tables.proofs.Bits.{read-is}
+use Rattle.regalloc2_checker_sets.proofs.Bits.{read-is}
 use Rattle.regalloc2_checker_tables.proofs.Shown.{shown-after, shown-set, none-passed, inside-table, now-shown, settled-shown}
 use Rattle.regalloc2_checker_tables.proofs.passing.PassingTables.settle_saved.Goals as goal
 

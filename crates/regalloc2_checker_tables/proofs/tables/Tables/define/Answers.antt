@@ -1,5 +1,6 @@
 use Rattle.std.proofs.Common.{ℕ, ◌<◌, List, length, sym, subst}
-use Rattle.regalloc2_checker_tables.proofs.TableLaws.{on_ok_as, kept_then}
+use Rattle.regalloc2_checker_tables.proofs.TableLaws.{kept_then}
+use Rattle.regalloc2_checker_sets.proofs.Results.{on_ok_as}
 use Rattle.regalloc2_checker_tables.proofs.TableLaws.{define-now, define-members}
 use Rattle.regalloc2_checker_tables.proofs.tables.Tables.define.Goals as goal
 

@@ -1,9 +1,9 @@
 use Rattle.std.proofs.Common.{ℕ, ◌≡◌, ◌<◌, arith, false, length, get_or, ap, ◌∙◌, subst}
-use Rattle.regalloc2_checker_tables.specs.EntrySets.{is_member}
-use Rattle.regalloc2_checker_tables.specs.SavedNumbers.{IsWithout}
+use Rattle.regalloc2_checker_sets.specs.EntrySets.{is_member}
+use Rattle.regalloc2_checker_sets.specs.SavedNumbers.{IsWithout}
 use Rattle.regalloc2_checker_tables.specs.Holding.{Holding, count_of, holds_in}
 use Rattle.regalloc2_checker_tables.proofs.Dropped.{sound-kept, sound-without, held-without}
-use Rattle.regalloc2_checker_tables.proofs.TableLaws.{on_ok_as}
+use Rattle.regalloc2_checker_sets.proofs.Results.{on_ok_as}
 use Rattle.regalloc2_checker_tables.proofs.UnusedSets.{sets-sound, members-sound, members-kept}
 use Rattle.regalloc2_checker_tables.proofs.tables.Tables.drop_marked.Goals as goal
 

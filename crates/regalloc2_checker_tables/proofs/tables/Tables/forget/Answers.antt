@@ -1,9 +1,11 @@
 use Rattle.std.proofs.Common.{ℕ, ◌≡◌, ◌<◌, length, get_or, arith, true, false, ap, sym, ◌∙◌, subst, nat_eq}
 use Rattle.std.specs.Prelude.{◌&&◌, if◌then◌else◌}
-use Rattle.regalloc2_checker_tables.specs.Homes.{HomePlaces, no_homes, has_home}
-use Rattle.regalloc2_checker_tables.specs.Holding.{Holding, held, holds_now, AreKeptTables, HoldsNow}
+use Rattle.regalloc2_checker_sets.specs.Homes.{HomePlaces, no_homes, has_home}
+use Rattle.regalloc2_checker_tables.specs.Holding.{Holding, holds_now, AreKeptTables, HoldsNow}
+use Rattle.regalloc2_checker_sets.specs.Held.{held}
 use Rattle.regalloc2_checker_tables.proofs.Holders.{dropped-less}
-use Rattle.regalloc2_checker_tables.proofs.TableLaws.{drop-all, drop-kept, drop-now, less_either, on_ok_as}
+use Rattle.regalloc2_checker_tables.proofs.TableLaws.{drop-all, drop-kept, drop-now}
+use Rattle.regalloc2_checker_sets.proofs.Results.{less_either, on_ok_as}
 use Rattle.regalloc2_checker_tables.proofs.tables.Tables.forget.Goals as goal
 
 pub at-requires : goal.at-requires

@@ -1,8 +1,9 @@
 use Rattle.std.proofs.Common.{◌<◌, length, get_or, arith, ap, sym, ◌∙◌, subst, nat_lt}
 use Rattle.std.specs.Prelude.{◌&&◌}
-use Rattle.regalloc2_checker_tables.specs.Homes.{HomePlaces, no_homes, has_home}
-use Rattle.regalloc2_checker_tables.specs.Holding.{Holding, held, holds_now}
-use Rattle.regalloc2_checker_tables.proofs.Bits.{ok-as}
+use Rattle.regalloc2_checker_sets.specs.Homes.{HomePlaces, no_homes, has_home}
+use Rattle.regalloc2_checker_tables.specs.Holding.{Holding, holds_now}
+use Rattle.regalloc2_checker_sets.specs.Held.{held}
+use Rattle.regalloc2_checker_sets.proofs.Bits.{ok-as}
 use Rattle.regalloc2_checker_tables.proofs.TableLaws.{holders-are}
 use Rattle.regalloc2_checker_tables.proofs.tables.Tables.holders.Goals as goal
 

@@ -1,6 +1,6 @@
 use Rattle.std.proofs.Common.{ℕ, ◌≡◌, ◌<◌, length, arith, true, ap, sym, ◌∙◌, subst, nat_eq}
 use Rattle.std.specs.Prelude.{◌&&◌, if◌then◌else◌}
-use Rattle.regalloc2_checker_tables.specs.SavedNumbers.{copy_count}
+use Rattle.regalloc2_checker_sets.specs.SavedNumbers.{copy_count}
 use Rattle.regalloc2_checker_tables.specs.Holding.{Holding, holds_now, holds_in, count_of, LosesSome}
 use Rattle.regalloc2_checker_tables.proofs.TableLaws.{drop-all}
 use Rattle.regalloc2_checker_tables.proofs.TableLaws.{save-all, meet-false, meet-true}

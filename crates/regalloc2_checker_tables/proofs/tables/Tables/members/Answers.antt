@@ -1,5 +1,5 @@
 use Rattle.std.proofs.Common.{ℕ, ◌≡◌, ◌<◌, List, length, true, ap, sym, ◌∙◌, subst}
-use Rattle.regalloc2_checker_tables.specs.EntrySets.{is_member}
+use Rattle.regalloc2_checker_sets.specs.EntrySets.{is_member}
 use Rattle.regalloc2_checker_tables.specs.Holding.{Holding, holds_now}
 use Rattle.regalloc2_checker_tables.proofs.TableLaws.{get-below}
 use Rattle.std.proofs.Common.{Bool}

@@ -1,8 +1,8 @@
 use Rattle.std.proofs.Common.{ℕ, ◌≡◌, ◌<◌, length, get_or, arith, true, sym, refl, subst, nat_eq}
 use Rattle.std.specs.Prelude.{◌||◌, if◌then◌else◌}
-use Rattle.regalloc2_checker_tables.specs.EntrySets.{is_member}
+use Rattle.regalloc2_checker_sets.specs.EntrySets.{is_member}
 use Rattle.regalloc2_checker_tables.specs.Holding.{Holding, holds_now, AreKeptTables, HoldsNow}
-use Rattle.regalloc2_checker_tables.proofs.Bits.{same-sets}
+use Rattle.regalloc2_checker_sets.proofs.Bits.{same-sets}
 use Rattle.regalloc2_checker_tables.proofs.Holders.{home-at}
 use Rattle.regalloc2_checker_tables.proofs.TableLaws.{more-all, put-all}
 use Rattle.regalloc2_checker_tables.proofs.TableLaws.{put-home}

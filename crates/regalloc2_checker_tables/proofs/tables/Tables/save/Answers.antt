@@ -1,8 +1,8 @@
 use Rattle.std.proofs.Common.{ℕ, ◌≡◌, ◌<◌, List, length, get_or, ap, ◌∙◌, subst, nat_eq}
 use Rattle.std.specs.Prelude.{if◌then◌else◌}
-use Rattle.regalloc2_checker_tables.specs.EntrySets.{is_member}
+use Rattle.regalloc2_checker_sets.specs.EntrySets.{is_member}
 use Rattle.regalloc2_checker_tables.specs.Holding.{Holding, holds_now, holds_in, count_of}
-use Rattle.regalloc2_checker_tables.proofs.TableLaws.{on_ok_as}
+use Rattle.regalloc2_checker_sets.proofs.Results.{on_ok_as}
 use Rattle.regalloc2_checker_tables.proofs.TableLaws.{save-all, save-in}
 use Rattle.regalloc2_checker_tables.proofs.tables.Tables.save.Goals as goal
 

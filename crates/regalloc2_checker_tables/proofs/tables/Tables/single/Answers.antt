@@ -1,6 +1,6 @@
 use Rattle.std.proofs.Common.{get_or, ap, ◌∙◌, subst, nat_eq}
 use Rattle.regalloc2_checker_tables.specs.Holding.{Holding, holds_now, AreKeptTables, HoldsNow}
-use Rattle.regalloc2_checker_tables.proofs.Bits.{ok-as}
+use Rattle.regalloc2_checker_sets.proofs.Bits.{ok-as}
 use Rattle.regalloc2_checker_tables.proofs.Holders.{homes-same}
 use Rattle.regalloc2_checker_tables.proofs.TableLaws.{more-all}
 use Rattle.regalloc2_checker_tables.proofs.TableLaws.{set-as}

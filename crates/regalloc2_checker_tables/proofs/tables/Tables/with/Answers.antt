@@ -1,8 +1,8 @@
 use Rattle.std.proofs.Common.{◌<◌, length, get_or, true, ap, sym, ◌∙◌, subst, nat_eq}
 use Rattle.std.specs.Prelude.{if◌then◌else◌}
-use Rattle.regalloc2_checker_tables.specs.EntrySets.{is_member}
+use Rattle.regalloc2_checker_sets.specs.EntrySets.{is_member}
 use Rattle.regalloc2_checker_tables.specs.Holding.{Holding, holds_now, AreKeptTables, HoldsNow}
-use Rattle.regalloc2_checker_tables.proofs.Bits.{ok-as}
+use Rattle.regalloc2_checker_sets.proofs.Bits.{ok-as}
 use Rattle.regalloc2_checker_tables.proofs.Holders.{homes-same}
 use Rattle.regalloc2_checker_tables.proofs.TableLaws.{more-all}
 use Rattle.regalloc2_checker_tables.proofs.TableLaws.{get-below, set-as}

@@ -1,0 +1,12 @@
+use Rattle.std.proofs.Common.{ℕ, ◌≡◌, ◌*◌, ◌-◌, ◌≤◌, length, get_or}
+use Rattle.regalloc2_checker_sets.specs.SavedNumbers.{AreLoaded}
+use Rattle.regalloc2_checker_sets.proofs.entries.load_chunks.Given as goal
+
+abbrev pub invariant-chunks : goal.invariant-chunks
+invariant-chunks g l = record {
+  loaded : AreLoaded l.words l.cells l.bases l.copy l.from;
+  rest : (i : ℕ) → 64 * l.from ≤ i → get_or l.cells i 0 ≡ get_or l.fn.cells i 0;
+}
+
+abbrev pub decreases-chunks : goal.decreases-chunks
+decreases-chunks g l = length l.bases.cells - l.from

@@ -1,0 +1,13 @@
+use Rattle.std.proofs.Common.{refl}
+use Rattle.regalloc2_checker_sets.specs.EntrySets.{is_member}
+use Rattle.regalloc2_checker_sets.proofs.Bits.{ok-as}
+use Rattle.regalloc2_checker_sets.proofs.Lone.{set-is}
+use Rattle.regalloc2_checker_sets.proofs.TwoSets.{pair-more}
+use Rattle.regalloc2_checker_sets.proofs.sets.Sets.added.Goals as goal
+
+pub returns-in-Some-clause-found : goal.returns-in-Some-clause-found
+returns-in-Some-clause-found g c =
+    let is = c.in-Some.ensures c.in-Some.only refl in
+    ok-as _ _ c.add_pair.result
+    (λ n h. set-is c.add_pair.new.self n _ _ (pair-more (is_member c.args.self.now c.args.set) c.args.bits c.in-Some.only is.members) h)
+    c.add_pair.ensures.found

@@ -1,0 +1,10 @@
+use Rattle.std.proofs.Common.{ℕ, ◌≡◌, ◌<◌, ◌++◌, true}
+use Rattle.regalloc2_shape.specs.Numbers.{ListsMembers, times_listed}
+use Rattle.regalloc2_checker_sets.specs.EntrySets.{is_member}
+use Rattle.regalloc2_checker_sets.proofs.sets.Sets.is_subset.Given as goal
+
+abbrev pub invariant-loop-member : goal.invariant-loop-member
+invariant-loop-member g l = record {
+  all : ListsMembers l.set (l.yielded ++ l.member-iterator);
+  there : (y : ℕ) → 0 < times_listed l.yielded y → y < 4294967296 → is_member l.self l.other y ≡ true;
+}

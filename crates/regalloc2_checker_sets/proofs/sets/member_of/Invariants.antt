@@ -1,0 +1,9 @@
+use Rattle.std.proofs.Common.{ℕ, ◌<◌, ◌++◌}
+use Rattle.regalloc2_shape.specs.Numbers.{ListsMembers, times_listed}
+use Rattle.regalloc2_checker_sets.proofs.sets.member_of.Given as goal
+
+abbrev pub invariant-loop-member : goal.invariant-loop-member
+invariant-loop-member g l = record {
+  all : ListsMembers l.set (l.yielded ++ l.member-iterator);
+  none : (y : ℕ) → 0 < times_listed l.yielded y → y < 4294967296 → ⊥;
+}

@@ -1,0 +1,429 @@
+//! The places where vregs may be.
+
+ghost use Rattle.std.specs.Prelude.{◌≡◌, ◌≢◌, ◌⊎◌, ℕ, ◌<◌, ◌≤◌, ◌^◌, true, false, cond, nat_eq, nat_lt, [], ◌∷◌, length, get_or};
+ghost use Rattle.std.specs.Prelude.{OnOk, OnErr, IfOk, IfSome, IfNone, IsTrue};
+ghost use Rattle.std.specs.Iterator.{YieldsFirst, item_count};
+ghost use Rattle.std.specs.Option.{option_map};
+ghost use Rattle.regalloc2_shape.specs.Numbers.{has_number, times_listed};
+ghost use Rattle.regalloc2_checker_sets.specs.Homes.{no_more, no_homes, more_in, home_of, place_list, is_first, has_more, has_few, has_home, set_in};
+ghost use Rattle.regalloc2_checker_sets.specs.Homes.{IsMoreHome, AreMorePlaces};
+ghost use Rattle.regalloc2_checker_sets.specs.Homes.{AreMoreHomes};
+
+use regalloc2_shape::indexset::{IndexSet, SetBitsIter};
+use std::alloc::{AllocError, Allocator};
+use std::marker::Model;
+
+/// Takes the place out that a number stands for, which is zero if it stands for none.
+fn take_place(number: &mut u32) -> Option<usize>
+    ensures some { IfSome result (λ place. place_list number.old ≡ place ∷ []) }
+    ensures none { IfNone result (place_list number.old ≡ []) }
+    ensures taken { number.new ≡ 0 }
+{
+    let place = *number;
+    *number = 0;
+    if place == 0 {
+        None
+    } else {
+        Some(place as usize)
+    }
+}
+
+/// The remaining places that numbers stand for; a contract sees them as a list.
+#[derive(Drop)]
+struct NumbersIter<'a>(&'a [u32]);
+
+impl<'a> Model for NumbersIter<'a> {
+    ghost use Rattle.std.specs.Prelude.{List, ℕ};
+    ghost use Rattle.regalloc2_checker_sets.specs.Homes.{places_list};
+
+    ghost Value = { List ℕ };
+
+    ghost view = { λ it. places_list it.0.now };
+}
+
+impl<'a> Iterator for NumbersIter<'a> {
+    type Item = usize;
+
+    ghost next_gives = { YieldsFirst (λ left. left) };
+
+    ghost remaining = { item_count (λ left. left) };
+
+    fn next(&mut self) -> Option<usize> {
+        while let Some((number, rest)) = self.0.split_first() {
+            self.0 = rest;
+            if *number != 0 {
+                return Some(*number as usize);
+            }
+        }
+        None
+    }
+}
+
+/// The remaining places of a home's mask and of its numbers; a contract sees them as a list.
+#[derive(Drop)]
+pub struct FewPlacesIter<'a> {
+    low: SetBitsIter,
+    first: u32,
+    second: u32,
+    more: NumbersIter<'a>,
+}
+
+impl<'a> Model for FewPlacesIter<'a> {
+    ghost use Rattle.std.specs.Prelude.{List, ℕ, ◌++◌};
+    ghost use Rattle.regalloc2_checker_sets.specs.Homes.{place_list};
+
+    ghost Value = { List ℕ };
+
+    ghost view = { λ it. it.low ++ (place_list it.first ++ (place_list it.second ++ it.more)) };
+}
+
+impl<'a> Iterator for FewPlacesIter<'a> {
+    type Item = usize;
+
+    ghost next_gives = { YieldsFirst (λ left. left) };
+
+    ghost remaining = { item_count (λ left. left) };
+
+    fn next(&mut self) -> Option<usize> {
+        if let Some(place) = self.low.next() {
+            return Some(place);
+        }
+        if let Some(place) = take_place(&mut self.first) {
+            return Some(place);
+        }
+        if let Some(place) = take_place(&mut self.second) {
+            return Some(place);
+        }
+        self.more.next()
+    }
+}
+
+/// The set, if there is one.
+fn set_of<A: Allocator + Copy>(others: &Option<Box<IndexSet<A>, A>>) -> Option<&IndexSet<A>>
+    ensures some { IfSome result (λ set. set.now ≡ set_in (option_map (λ b. b.value) others.now)) }
+    ensures none { IfNone result ((i : ℕ) → has_number (set_in (option_map (λ b. b.value) others.now)) i ≡ false) }
+{
+    match others {
+        Some(set) => Some(set.as_ref()),
+        None => None,
+    }
+}
+
+/// Adds a place to the set, which is made if there is none yet.
+fn add_other<A: Allocator + Copy>(
+    alloc: A,
+    others: &mut Option<Box<IndexSet<A>, A>>,
+    place: usize,
+) -> Result<(), AllocError>
+    requires { place < 2 ^ 38 }
+    ensures ok { OnOk result ((i : ℕ) → has_number (set_in (option_map (λ b. b.value) others.new)) i
+        ≡ cond (nat_eq i place) true (has_number (set_in (option_map (λ b. b.value) others.old)) i)) }
+    ensures err { OnErr result ((i : ℕ) → has_number (set_in (option_map (λ b. b.value) others.new)) i ≡ has_number (set_in (option_map (λ b. b.value) others.old)) i) }
+{
+    if let Some(set) = others {
+        return set.set(place, true);
+    }
+    let mut set = IndexSet::new(alloc);
+    set.set(place, true)?;
+    *others = Some(Box::new(alloc, set)?);
+    Ok(())
+}
+
+/// Whether a number may be put where one is: over the same, or over a 0.
+fn is_room_for(had: u32, number: u32) -> bool
+    ensures yes { result ≡ true → (had ≡ 0) ⊎ (had ≡ number) }
+    ensures no { result ≡ false → (had ≢ 0) × (had ≢ number) }
+{
+    had == 0 || had == number
+}
+
+/// The index of a number among others, or of a 0 before it.
+fn index_for(numbers: &[u32], number: u32) -> Option<usize>
+    ensures some { IfSome result (λ n. (n < length numbers.now) × ((get_or numbers.now n 0 ≡ 0) ⊎ (get_or numbers.now n 0 ≡ number))) }
+    ensures none { IfNone result ((k : ℕ) → k < length numbers.now → (get_or numbers.now k 0 ≢ 0) × (get_or numbers.now k 0 ≢ number)) }
+{
+    for n in 0..numbers.len() {
+        if is_room_for(numbers[n], number) {
+            return Some(n);
+        }
+    }
+    None
+}
+
+/// More places where a vreg may be: six numbers that stand for a place each, or for none if they are 0, and a set of other
+/// places, which is made for the first of them.
+#[derive(Drop)]
+struct More<A: Allocator> {
+    numbers: [u32; 6],
+    others: Option<Box<IndexSet<A>, A>>,
+}
+
+impl<A: Allocator> Model for More<A> {
+    ghost use Rattle.std.specs.Option.{option_map};
+    ghost use Rattle.regalloc2_checker_sets.specs.Homes.{MorePlaces, set_in};
+
+    ghost Value = { MorePlaces };
+
+    ghost view = { λ m. record { numbers = m.numbers; others = set_in (option_map (λ b. b.value) m.others) } };
+}
+
+impl<A: Allocator + Copy> More<A> {
+    /// No places. Allocates nothing.
+    fn new() -> Self
+        ensures { (i : ℕ) → has_more result i ≡ false }
+    {
+        More {
+            numbers: [0; 6],
+            others: None,
+        }
+    }
+
+    /// Adds a place.
+    fn add(&mut self, alloc: A, place: usize) -> Result<(), AllocError>
+        requires place { place < 2 ^ 38 }
+        requires some { 0 < place }
+        ensures ok { OnOk result ((i : ℕ) → has_more self.new i ≡ cond (nat_eq i place) true (has_more self.old i)) }
+        ensures err { OnErr result ((i : ℕ) → has_more self.new i ≡ has_more self.old i) }
+    {
+        let Ok(number) = u32::try_from(place) else {
+            return add_other(alloc, &mut self.others, place);
+        };
+        let Some(n) = index_for(&self.numbers, number) else {
+            return add_other(alloc, &mut self.others, place);
+        };
+        self.numbers[n] = number;
+        Ok(())
+    }
+}
+
+/// A home as it is kept: a mask of the places below 32, two numbers that stand for a place each, or for none if they are
+/// 0, and the index of its more places in their list, past the last if it has none.
+#[derive(Clone, Copy)]
+struct Entry {
+    low: u32,
+    first: u32,
+    second: u32,
+    index: u32,
+}
+
+impl Model for Entry {
+    ghost use Rattle.regalloc2_checker_sets.specs.Homes.{HomeEntry};
+
+    ghost Value = { HomeEntry };
+
+    ghost view = { λ e. record { low = e.low; first = e.first; second = e.second; index = e.index } };
+
+    ghost inverse = { λ h. record { low = h.low; first = h.first; second = h.second; index = h.index } };
+}
+
+impl Entry {
+    /// Adds a place to the mask, or as one of the two; returns whether it is there now.
+    #[inline(always)]
+    fn add(&mut self, place: usize) -> bool
+        ensures index { self.new.index ≡ self.old.index }
+        ensures added { result ≡ true → (i : ℕ) → is_first self.new.low self.new.first self.new.second i
+            ≡ cond (nat_eq i place) true (is_first self.old.low self.old.first self.old.second i) }
+        ensures full { result ≡ false → self.new ≡ self.old }
+        ensures past { result ≡ false → 32 ≤ place }
+    {
+        if place < 32 {
+            self.low |= 1 << place;
+            return true;
+        }
+        let Ok(number) = u32::try_from(place) else {
+            return false;
+        };
+        if is_room_for(self.first, number) {
+            self.first = number;
+            return true;
+        }
+        if is_room_for(self.second, number) {
+            self.second = number;
+            return true;
+        }
+        false
+    }
+}
+
+/// The index of a home's more places, which are made if there are none yet.
+fn index_of<A: Allocator + Copy>(
+    more: &mut Vec<More<A>, A>,
+    entry: &mut Entry,
+) -> Result<usize, AllocError>
+    ensures others { AreMorePlaces more.old.items more.new.items }
+    ensures kept { IsMoreHome (home_of more.old.items entry.old) (home_of more.new.items entry.new) }
+    ensures at { IfOk result (λ n. (n < length more.new.items) × (entry.new.index ≡ n)) }
+{
+    if (entry.index as usize) < more.len() {
+        return Ok(entry.index as usize);
+    }
+    let end = more.len();
+    let Ok(index) = u32::try_from(end) else {
+        return Err(AllocError);
+    };
+    more.push(More::new())?;
+    entry.index = index;
+    Ok(end)
+}
+
+/// Adds a place to a home's more places.
+#[inline(never)]
+fn add_more<A: Allocator + Copy>(
+    alloc: A,
+    more: &mut Vec<More<A>, A>,
+    entry: &mut Entry,
+    place: usize,
+) -> Result<(), AllocError>
+    requires place { place < 2 ^ 38 }
+    requires some { 0 < place }
+    ensures others { AreMorePlaces more.old.items more.new.items }
+    ensures kept { IsMoreHome (home_of more.old.items entry.old) (home_of more.new.items entry.new) }
+    ensures added { OnOk result (has_home (home_of more.new.items entry.new) place ≡ true) }
+{
+    let index = index_of(more, entry)?;
+    let places = &mut more[index];
+    places.add(alloc, place)
+}
+
+/// More places at an index, if it is not past the last.
+#[inline(always)]
+fn more_at<A: Allocator + Copy>(more: &Vec<More<A>, A>, index: usize) -> Option<&More<A>>
+    ensures { more_in (option_map (λ m. m.now) result) ≡ get_or more.now.items index no_more }
+{
+    if index < more.len() {
+        return Some(&more[index]);
+    }
+    None
+}
+
+/// The numbers of more places, if there are some.
+fn numbers_of<A: Allocator>(more: Option<&More<A>>) -> &[u32]
+    ensures { result.now ≡ (more_in (option_map (λ m. m.now) more.entry)).numbers }
+{
+    match more {
+        Some(more) => &more.numbers,
+        None => &[],
+    }
+}
+
+/// The places where a vreg may be: a mask of the places below 32, two numbers that stand for a place each, or for none if
+/// they are 0, and more places, if there are some.
+#[derive(Drop)]
+pub struct Home<'a, A: Allocator> {
+    low: u32,
+    first: u32,
+    second: u32,
+    more: Option<&'a More<A>>,
+}
+
+impl<'a, A: Allocator> Model for Home<'a, A> {
+    ghost use Rattle.std.specs.Option.{option_map};
+    ghost use Rattle.regalloc2_checker_sets.specs.Homes.{HomePlaces, more_in};
+
+    ghost Value = { HomePlaces };
+
+    ghost view = { λ h. record { low = h.low; first = h.first; second = h.second; more = more_in (option_map (λ m. m.now) h.more) } };
+}
+
+impl<'a, A: Allocator + Copy> Home<'a, A> {
+    /// Whether the mask is empty, the two numbers are 0, and there are no more places.
+    #[inline(always)]
+    pub fn has_no_few(&self) -> bool
+        ensures { IsTrue result → (self.now.low ≡ 0) × (self.now.first ≡ 0) × (self.now.second ≡ 0) × (self.now.more ≡ no_more) }
+    {
+        if self.more.is_some() {
+            return false;
+        }
+        self.low == 0 && self.first == 0 && self.second == 0
+    }
+
+    /// The places of the mask and of the numbers. Allocates nothing.
+    pub fn few(&self) -> FewPlacesIter<'a>
+        ensures { (i : ℕ) → nat_lt 0 (times_listed result i) ≡ has_few self.now i }
+    {
+        FewPlacesIter {
+            low: SetBitsIter::new(self.low as u64),
+            first: self.first,
+            second: self.second,
+            more: NumbersIter(numbers_of(self.more)),
+        }
+    }
+
+    /// The set of other places, if there is one.
+    #[inline(always)]
+    pub fn others(&self) -> Option<&'a IndexSet<A>>
+        ensures some { IfSome result (λ set. set.now ≡ self.now.more.others) }
+        ensures none { IfNone result ((i : ℕ) → has_number self.now.more.others i ≡ false) }
+    {
+        match self.more {
+            Some(more) => set_of(&more.others),
+            None => None,
+        }
+    }
+}
+
+/// The places where vregs may be, by the vreg's number.
+#[derive(Drop)]
+pub struct Homes<A: Allocator> {
+    entries: Vec<Entry, A>,
+    more: Vec<More<A>, A>,
+    alloc: A,
+}
+
+impl<A: Allocator> Model for Homes<A> {
+    ghost use Rattle.std.specs.Prelude.{List, map};
+    ghost use Rattle.regalloc2_checker_sets.specs.Homes.{HomePlaces, home_of};
+
+    ghost Value = { List HomePlaces };
+
+    ghost view = { λ h. map (home_of h.more.items) h.entries.items };
+}
+
+impl<A: Allocator + Copy> Homes<A> {
+    /// So many homes without places.
+    pub fn new(alloc: A, count: usize) -> Result<Self, AllocError>
+        ensures { IfOk result (λ homes. length homes ≡ count) }
+    {
+        let none = Entry {
+            low: 0,
+            first: 0,
+            second: 0,
+            index: u32::MAX,
+        };
+        Ok(Homes {
+            entries: vec![in alloc; none; count]?,
+            more: Vec::new(alloc),
+            alloc,
+        })
+    }
+
+    /// The places where a vreg may be.
+    #[inline(always)]
+    pub fn at(&self, vreg: usize) -> Home<'_, A>
+        requires { vreg < length self.now }
+        ensures { result ≡ get_or self.now vreg no_homes }
+    {
+        let entry = self.entries[vreg];
+        Home {
+            low: entry.low,
+            first: entry.first,
+            second: entry.second,
+            more: more_at(&self.more, entry.index as usize),
+        }
+    }
+
+    /// Adds a place where a vreg may be.
+    #[inline(always)]
+    pub fn add(&mut self, vreg: usize, place: usize) -> Result<(), AllocError>
+        requires vreg { vreg < length self.old }
+        requires place { place < 2 ^ 38 }
+        ensures more { AreMoreHomes self.old self.new }
+        ensures noted { OnOk result (has_home (get_or self.new vreg no_homes) place ≡ true) }
+    {
+        let entry = &mut self.entries[vreg];
+        if entry.add(place) {
+            return Ok(());
+        }
+        add_more(self.alloc, &mut self.more, entry, place)
+    }
+}

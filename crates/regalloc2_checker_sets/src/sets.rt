@@ -1,0 +1,541 @@
+//! Sets of the bits of vregs, which are never changed once they are made.
+
+ghost use Rattle.std.specs.Prelude.{◌≡◌, ℕ, ◌<◌, ◌≤◌, ◌+◌, ◌++◌, ◌∷◌, [], true, false, ◌&&◌, ◌||◌, nat_eq, if◌then◌else◌, length, get_or, IfOk, OnErr};
+ghost use Rattle.std.specs.Bool.{OnTrue, OnFalse};
+ghost use Rattle.regalloc2_shape.specs.Numbers.{has_number};
+ghost use Rattle.regalloc2_checker_sets.specs.EntrySets.{has_bits, is_member, AreMore, IsSetOf, ListsBits, IsLess};
+ghost use Rattle.regalloc2_checker_sets.specs.Renumbering.{AreMovedDown, AreMarkedKept};
+
+use crate::kept_set::Kept;
+use regalloc2_shape::indexset::IndexSet;
+use std::alloc::{AllocError, Allocator};
+use std::marker::Model;
+
+/// The number of the first set that is kept. A lower number stands for the empty set, or for a set of one member, which
+/// is one less than the number.
+pub const FIRST: u32 = 1 << 31;
+
+/// Sets of bits, by number. The first is the empty one.
+///
+/// Most have one member alone, and are kept nowhere, since the number says the member. The set that was last made of
+/// another and one member more is noted, since many places may get that member one after another. A loop that passes its
+/// parameters on in another order makes many sets of two members, which `Kept` has as two numbers.
+#[derive(Drop)]
+pub struct Sets<A: Allocator> {
+    kept: Vec<Kept<A>, A>,
+    grown: Option<Grown>,
+    alloc: A,
+}
+
+/// A set that was made of another and one member more.
+#[derive(Clone, Copy, Drop)]
+pub struct Grown {
+    pub from: u32,
+    pub bits: u32,
+    pub number: u32,
+}
+
+impl<A: Allocator> Model for Sets<A> {
+    ghost use Rattle.std.specs.Prelude.{List};
+    ghost use Rattle.regalloc2_shape.specs.Numbers.{NumberSet};
+    ghost use Rattle.regalloc2_checker_sets.specs.EntrySets.{all_sets, IsGrown};
+
+    ghost Value = { List NumberSet };
+
+    ghost view = { λ s. all_sets s.kept.items };
+
+    ghost invariant = { λ s. IsGrown (all_sets s.kept.items) s.grown };
+}
+
+/// A member of a set, if it has one.
+fn member_of<A: Allocator + Copy>(set: &IndexSet<A>) -> Option<u32>
+    ensures none { result ≡ None → (y : ℕ) → has_bits set.now y ≡ false }
+    ensures some { (b : ℕ) → result ≡ Some b → has_bits set.now b ≡ true }
+{
+    for member in set.iter() {
+        if let Ok(bits) = u32::try_from(member) {
+            return Some(bits);
+        }
+    }
+    None
+}
+
+/// Whether a set has no member but one.
+fn has_no_other<A: Allocator + Copy>(set: &IndexSet<A>, only: u32) -> bool
+    ensures { result ≡ true → (y : ℕ) → has_bits set.now y ≡ true → y ≡ only }
+{
+    for member in set.iter() {
+        let Ok(bits) = u32::try_from(member) else {
+            continue;
+        };
+        if bits != only {
+            return false;
+        }
+    }
+    true
+}
+
+/// Whether the kept set at an index stays: it has a mark, or is past the marks.
+fn stays(marks: &[bool], index: usize) -> bool
+    ensures { result ≡ get_or marks.now index true }
+{
+    if index < marks.len() {
+        return marks[index];
+    }
+    true
+}
+
+/// Drops the kept sets without a mark, and moves the others down. The list gets their new numbers.
+fn move_down<A: Allocator>(kept: &mut Vec<Kept<A>, A>, marks: &[bool], numbers: &mut [u32])
+    requires long { length numbers.old ≡ length kept.old.items }
+    requires few { length kept.old.items ≤ 2147483648 }
+    ensures long { length numbers.new ≡ length numbers.old }
+    ensures moved { AreMovedDown marks.now kept.old.items kept.new.items numbers.new (length kept.old.items) (length kept.new.items) }
+{
+    let mut next = 0;
+    for i in 0..numbers.len() {
+        if !stays(marks, i) {
+            numbers[i] = 0;
+            continue;
+        }
+        kept.swap(next, i);
+        numbers[i] = FIRST + next as u32;
+        next += 1;
+    }
+    kept.truncate(next);
+}
+
+impl<A: Allocator + Copy> Sets<A> {
+    /// The empty set, and those of one member.
+    pub fn new(alloc: A) -> Sets<A>
+        ensures { IsSetOf result 0 (λ y. false) }
+    {
+        Sets {
+            kept: Vec::new(alloc),
+            grown: None,
+            alloc,
+        }
+    }
+
+    /// The one member of a set, if it is known to have one alone.
+    pub fn only(&self, set: u32) -> Option<u32>
+        requires { set < length self.now }
+        ensures { (b : ℕ) → result ≡ Some b → IsSetOf self.now set (λ y. nat_eq y b) }
+    {
+        let _ = &self.kept;
+        if set >= FIRST {
+            return None;
+        }
+        if set == 0 {
+            return None;
+        }
+        Some(set - 1)
+    }
+
+    /// A set that is kept.
+    fn kept(&self, set: u32) -> &Kept<A>
+        requires kept { 2147483648 ≤ set }
+        requires set { set < length self.now }
+        ensures { (y : ℕ) → has_bits result.now y ≡ is_member self.now set y }
+    {
+        &self.kept[(set - FIRST) as usize]
+    }
+
+    /// Whether bits are a member of a set.
+    pub fn has(&self, set: u32, bits: u32) -> bool
+        requires { set < length self.now }
+        ensures { result ≡ is_member self.now set bits }
+    {
+        let _ = &self.kept;
+        if set >= FIRST {
+            return self.kept(set).has(bits);
+        }
+        if set == 0 {
+            return false;
+        }
+        bits == set - 1
+    }
+
+    /// The members of a set, in no guaranteed order.
+    pub fn members(&self, set: u32) -> Result<Vec<u32, A>, AllocError>
+        requires { set < length self.now }
+        ensures { IfOk result (λ members. ListsBits (is_member self.now set) members.items) }
+    {
+        let _ = &self.kept;
+        if set >= FIRST {
+            return self.kept(set).members(self.alloc);
+        }
+        let mut members = Vec::new(self.alloc);
+        if set == 0 {
+            return Ok(members);
+        }
+        members.push(set - 1)?;
+        Ok(members)
+    }
+
+    /// Adds a set that is kept, and returns its number.
+    #[inline(always)]
+    fn keep(&mut self, set: Kept<A>) -> Result<u32, AllocError>
+        ensures more { AreMore self.old self.new }
+        ensures found { IfOk result (λ n. IsSetOf self.new n (has_bits set)) }
+    {
+        let Ok(index) = u32::try_from(self.kept.len()) else {
+            return Err(AllocError);
+        };
+        if index >= FIRST {
+            return Err(AllocError);
+        }
+        self.kept.push(set)?;
+        Ok(FIRST + index)
+    }
+
+    /// Adds a set, and returns its number.
+    fn add(&mut self, set: IndexSet<A>) -> Result<u32, AllocError>
+        ensures more { AreMore self.old self.new }
+        ensures found { IfOk result (λ n. IsSetOf self.new n (has_bits set)) }
+    {
+        let kept = Kept::many(self.alloc, set)?;
+        self.keep(kept)
+    }
+
+    /// Adds a set of two members, and returns its number.
+    fn add_pair(&mut self, first: u32, second: u32) -> Result<u32, AllocError>
+        ensures more { AreMore self.old self.new }
+        ensures found { IfOk result (λ n. IsSetOf self.new n (λ y. nat_eq y first || nat_eq y second)) }
+    {
+        let kept = Kept::pair(self.alloc, first, second);
+        self.keep(kept)
+    }
+
+    /// Adds a set of one member, which no number below the others stands for.
+    #[inline(never)]
+    fn new_single(&mut self, bits: u32) -> Result<u32, AllocError>
+        ensures more { AreMore self.old self.new }
+        ensures found { IfOk result (λ n. IsSetOf self.new n (λ y. nat_eq y bits)) }
+    {
+        let mut set = IndexSet::new(self.alloc);
+        set.set(bits as usize, true)?;
+        self.add(set)
+    }
+
+    /// A set of one member.
+    pub fn single(&mut self, bits: u32) -> Result<u32, AllocError>
+        ensures more { AreMore self.old self.new }
+        ensures found { IfOk result (λ n. IsSetOf self.new n (λ y. nat_eq y bits)) }
+    {
+        let _ = &self.kept;
+        if bits < FIRST - 1 {
+            return Ok(bits + 1);
+        }
+        self.new_single(bits)
+    }
+
+    /// The number of a set: that of the empty one, of one of one member, or one that is added.
+    fn settle(&mut self, set: IndexSet<A>) -> Result<u32, AllocError>
+        ensures more { AreMore self.old self.new }
+        ensures found { IfOk result (λ n. IsSetOf self.new n (has_bits set)) }
+    {
+        let _ = &self.kept;
+        let Some(member) = member_of(&set) else {
+            return Ok(0);
+        };
+        if has_no_other(&set, member) {
+            return self.single(member);
+        }
+        self.add(set)
+    }
+
+    /// A copy of a set.
+    #[inline(always)]
+    fn copied(&self, set: u32) -> Result<IndexSet<A>, AllocError>
+        requires { set < length self.now }
+        ensures { IfOk result (λ s. (y : ℕ) → has_bits s y ≡ is_member self.now set y) }
+    {
+        let _ = &self.kept;
+        if set >= FIRST {
+            return self.kept(set).copied(self.alloc);
+        }
+        let mut copy = IndexSet::new(self.alloc);
+        if set == 0 {
+            return Ok(copy);
+        }
+        copy.set((set - 1) as usize, true)?;
+        Ok(copy)
+    }
+
+    /// A set with its one member changed: `bits` is a member or none.
+    #[inline(always)]
+    fn changed(&self, set: u32, bits: u32, is_in: bool) -> Result<IndexSet<A>, AllocError>
+        requires { set < length self.now }
+        ensures { IfOk result (λ s. (y : ℕ) → has_bits s y ≡ (if nat_eq y bits then is_in else is_member self.now set y)) }
+    {
+        let mut copy = self.copied(set)?;
+        copy.set(bits as usize, is_in)?;
+        Ok(copy)
+    }
+
+    /// The number of a set and one member more, if it is kept.
+    fn kept_grown(&self, set: u32, bits: u32) -> Option<u32>
+        ensures { (n : ℕ) → result ≡ Some n → IsSetOf self.now n (λ y. if nat_eq y bits then true else is_member self.now set y) }
+    {
+        let _ = &self.kept;
+        let grown = self.grown?;
+        if grown.from == set && grown.bits == bits {
+            return Some(grown.number);
+        }
+        None
+    }
+
+    /// Keeps the number of a set and one member more.
+    fn keep_grown(&mut self, set: u32, bits: u32, number: u32)
+        requires set { set < length self.old }
+        requires grown { IsSetOf self.old number (λ y. if nat_eq y bits then true else is_member self.old set y) }
+        ensures { self.new ≡ self.old }
+    {
+        self.grown = Some(Grown {
+            from: set,
+            bits,
+            number,
+        });
+    }
+
+    /// Adds a set of another and one member more.
+    fn added(&mut self, set: u32, bits: u32) -> Result<u32, AllocError>
+        requires { set < length self.old }
+        ensures more { AreMore self.old self.new }
+        ensures found { IfOk result (λ n. IsSetOf self.new n (λ y. if nat_eq y bits then true else is_member self.old set y)) }
+    {
+        let _ = &self.kept;
+        if let Some(only) = self.only(set) {
+            return self.add_pair(bits, only);
+        }
+        let more = self.changed(set, bits, true)?;
+        self.add(more)
+    }
+
+    /// Adds a set of another and one member more, and notes it.
+    #[inline(never)]
+    fn new_grown(&mut self, set: u32, bits: u32) -> Result<u32, AllocError>
+        requires { set < length self.old }
+        ensures more { AreMore self.old self.new }
+        ensures found { IfOk result (λ n. IsSetOf self.new n (λ y. if nat_eq y bits then true else is_member self.old set y)) }
+    {
+        let number = self.added(set, bits)?;
+        self.keep_grown(set, bits, number);
+        Ok(number)
+    }
+
+    /// A set and one member more.
+    pub fn with(&mut self, set: u32, bits: u32) -> Result<u32, AllocError>
+        requires { set < length self.old }
+        ensures more { AreMore self.old self.new }
+        ensures found { IfOk result (λ n. IsSetOf self.new n (λ y. if nat_eq y bits then true else is_member self.old set y)) }
+    {
+        let _ = &self.kept;
+        if self.has(set, bits) {
+            return Ok(set);
+        }
+        if set == 0 {
+            return self.single(bits);
+        }
+        if let Some(number) = self.kept_grown(set, bits) {
+            return Ok(number);
+        }
+        self.new_grown(set, bits)
+    }
+
+    /// The members of a set that is kept as two numbers.
+    pub fn two(&self, set: u32) -> Option<(u32, u32)>
+        requires { set < length self.now }
+        ensures { (p : ℕ × ℕ) → result ≡ Some p → (y : ℕ) → is_member self.now set y ≡ (nat_eq y p.0 || nat_eq y p.1) }
+    {
+        if set < FIRST {
+            return None;
+        }
+        self.kept(set).two()
+    }
+
+    /// The number of a set of two members without `bits`.
+    fn other_single(&mut self, first: u32, second: u32, bits: u32) -> Result<u32, AllocError>
+        ensures more { AreMore self.old self.new }
+        ensures found { IfOk result (λ n. IsSetOf self.new n (λ y. if nat_eq y bits then false else (nat_eq y first || nat_eq y second))) }
+    {
+        let _ = &self.kept;
+        if first != bits {
+            if second != bits {
+                return self.add_pair(first, second);
+            }
+            return self.single(first);
+        }
+        if second == bits {
+            return Ok(0);
+        }
+        self.single(second)
+    }
+
+    /// The number of a set without one of its members.
+    #[inline(never)]
+    fn shrunk(&mut self, set: u32, bits: u32) -> Result<u32, AllocError>
+        requires { set < length self.old }
+        ensures more { AreMore self.old self.new }
+        ensures found { IfOk result (λ n. IsSetOf self.new n (λ y. if nat_eq y bits then false else is_member self.old set y)) }
+    {
+        let _ = &self.kept;
+        if let Some((first, second)) = self.two(set) {
+            return self.other_single(first, second, bits);
+        }
+        let less = self.changed(set, bits, false)?;
+        self.settle(less)
+    }
+
+    /// A set and one member less.
+    pub fn without(&mut self, set: u32, bits: u32) -> Result<u32, AllocError>
+        requires { set < length self.old }
+        ensures more { AreMore self.old self.new }
+        ensures found { IfOk result (λ n. IsSetOf self.new n (λ y. if nat_eq y bits then false else is_member self.old set y)) }
+    {
+        let _ = &self.kept;
+        if !self.has(set, bits) {
+            return Ok(set);
+        }
+        if let Some(_only) = self.only(set) {
+            return Ok(0);
+        }
+        self.shrunk(set, bits)
+    }
+
+    /// The members that another set has too.
+    pub fn intersection(&self, set: &IndexSet<A>, other: u32) -> Result<IndexSet<A>, AllocError>
+        requires { other < length self.now }
+        ensures { IfOk result (λ both. (y : ℕ) → has_bits both y ≡ (has_bits set.now y && is_member self.now other y)) }
+    {
+        let mut both = IndexSet::new(self.alloc);
+        for member in set.iter() {
+            let Ok(bits) = u32::try_from(member) else {
+                continue;
+            };
+            if !self.has(other, bits) {
+                continue;
+            }
+            both.set(bits as usize, true)?;
+        }
+        Ok(both)
+    }
+
+    /// The number of the set of those of two bits that another set has.
+    fn both_of_two(&mut self, first: u32, second: u32, other: u32) -> Result<u32, AllocError>
+        requires { other < length self.old }
+        ensures more { AreMore self.old self.new }
+        ensures found { IfOk result (λ n. IsSetOf self.new n (λ y. (nat_eq y first || nat_eq y second) && is_member self.old other y)) }
+    {
+        let _ = &self.kept;
+        if self.has(other, first) {
+            if self.has(other, second) {
+                return self.add_pair(first, second);
+            }
+            return self.single(first);
+        }
+        if self.has(other, second) {
+            return self.single(second);
+        }
+        Ok(0)
+    }
+
+    /// The members of two sets, of which the first is kept.
+    #[inline(never)]
+    fn both(&mut self, set: u32, other: u32) -> Result<u32, AllocError>
+        requires kept { 2147483648 ≤ set }
+        requires set { set < length self.old }
+        requires other { other < length self.old }
+        ensures more { AreMore self.old self.new }
+        ensures found { IfOk result (λ n. IsSetOf self.new n (λ y. is_member self.old set y && is_member self.old other y)) }
+    {
+        let _ = &self.kept;
+        if let Some(only) = self.only(other) {
+            if self.has(set, only) {
+                return Ok(other);
+            }
+            return Ok(0);
+        }
+        if let Some((first, second)) = self.two(set) {
+            return self.both_of_two(first, second, other);
+        }
+        let both = self.kept(set).common(self, self.alloc, other)?;
+        self.settle(both)
+    }
+
+    /// Whether another set has each member.
+    pub fn is_subset(&self, set: &IndexSet<A>, other: u32) -> bool
+        requires { other < length self.now }
+        ensures yes { OnTrue result ((y : ℕ) → has_bits set.now y ≡ true → is_member self.now other y ≡ true) }
+        ensures no { OnFalse result (IsLess (has_bits set.now) (is_member self.now other)) }
+    {
+        for member in set.iter() {
+            let Ok(bits) = u32::try_from(member) else {
+                continue;
+            };
+            if !self.has(other, bits) {
+                return false;
+            }
+        }
+        true
+    }
+
+    /// Whether each member of a set is one of another.
+    fn is_within(&self, set: u32, other: u32) -> bool
+        requires set { set < length self.now }
+        requires other { other < length self.now }
+        ensures yes { OnTrue result ((y : ℕ) → is_member self.now set y ≡ true → is_member self.now other y ≡ true) }
+        ensures no { OnFalse result (IsLess (is_member self.now set) (is_member self.now other)) }
+    {
+        let _ = &self.kept;
+        if set >= FIRST {
+            return self.kept(set).is_within(self, other);
+        }
+        if set == 0 {
+            return true;
+        }
+        self.has(other, set - 1)
+    }
+
+    /// The members of both sets. The number is that of the first exactly where each of its members is one of the other.
+    pub fn common(&mut self, set: u32, other: u32) -> Result<u32, AllocError>
+        requires set { set < length self.old }
+        requires other { other < length self.old }
+        ensures more { AreMore self.old self.new }
+        ensures found { IfOk result (λ n. IsSetOf self.new n (λ y. is_member self.old set y && is_member self.old other y)) }
+        ensures less { IfOk result (λ n. (n ≡ set → ⊥) → IsLess (is_member self.old set) (is_member self.old other)) }
+    {
+        let _ = &self.kept;
+        if self.is_within(set, other) {
+            return Ok(set);
+        }
+        if set < FIRST {
+            return Ok(0);
+        }
+        self.both(set, other)
+    }
+
+    /// How many sets are kept.
+    pub fn kept_count(&self) -> usize
+        ensures { length self.now ≡ 2147483648 + result }
+    {
+        self.kept.len()
+    }
+
+    /// Drops the kept sets without a mark, and returns the numbers that the others have then.
+    pub fn keep_marked(&mut self, marks: &[bool]) -> Result<Vec<u32, A>, AllocError>
+        ensures kept { IfOk result (λ numbers. AreMarkedKept marks.now self.old self.new numbers.items) }
+        ensures err { OnErr result (self.new ≡ self.old) }
+    {
+        let count = self.kept.len();
+        if count > FIRST as usize {
+            return Err(AllocError);
+        }
+        let mut numbers = Vec::new(self.alloc);
+        numbers.resize(count, 0)?;
+        self.grown = None;
+        move_down(&mut self.kept, marks, &mut numbers);
+        Ok(numbers)
+    }
+}
