@@ -71,3 +71,6 @@ returns-in-Err g c =
           (λ k d lt. stay_apart g.M.Fn c.args.resolver.now.is_stack_alloc c.args.pool.now.fixed_stack c.requires.tells (get_or (moves_listed c.args.moves) k d)
           (apart k d lt));
     }
+
+pub get_stackslot-next-requires : goal.get_stackslot-next-requires
+get_stackslot-next-requires g c = c.requires.slots _
