@@ -1,14 +1,15 @@
 -- Lemmas on the search for the move that writes a place.
-use Rattle.std.proofs.Common.{◌≡◌, ◌≢◌, ℕ, ◌+◌, ◌<◌, ◌≤◌, List, [], ◌∷◌, ◌++◌, length, get_or, Ok, Err, sym, ap, ◌∙◌, subst, ⊎_elim, arith}
+use Rattle.std.proofs.Common.{◌≡◌, ◌≢◌, ℕ, ◌+◌, ◌<◌, ◌≤◌, List, [], ◌∷◌, ◌++◌, length, get_or, Ok, Err, sym, ap, ◌∙◌, subst, ⊎_elim, arith, eqb}
+use Rattle.std.specs.Prelude.{IsTrue, ◌↔◌}
 use Rattle.std.specs.List.Sorted.{IsBinarySearchResult, IsNonDecreasingBy}
 use Rattle.std.specs.Ordering.{nat_cmp, ordering_index}
 use Rattle.std.proofs.lemmas.Cmp.{ranked}
 use Rattle.std.proofs.lemmas.Bool.Decides.{nat_tests}
-use Rattle.std.proofs.lemmas.Bool.{cases_lt}
+use Rattle.std.proofs.lemmas.Bool.{cases_lt, eqb-true, eq-eqb}
 use Rattle.std.proofs.lemmas.List.{get_or-map}
 use Rattle.std.proofs.lemmas.List.Elements.{Contains-get_or}
 use Rattle.regalloc2_names.specs.Place.{Place}
-use Rattle.regalloc2_names.specs.PlaceBits.{bits_of_place}
+use Rattle.regalloc2_names.specs.PlaceBits.{bits_of_place, place_of_bits}
 use Rattle.regalloc2_parts.specs.AtOnce.{Ends, ends, ends_of, IsPlace, no_move}
 use Rattle.regalloc2_parts.specs.Giving.{from_at, to_at, number_at, IsWriterOf, AreProper}
 use Rattle.regalloc2_parts.proofs.Chains.{length_push, at_left, at_last}
@@ -18,6 +19,15 @@ use Rattle.regalloc2_parts.proofs.Places.{same_word}
 -- what is written by the move of an index, under any default
 written_at : {T : Type 0} (ms : List (Place × Place × T)) (k : ℕ) (d : Place × Place × T) → k < length ms → to_at (ends_of ms) k ≡ (get_or ms k d).1
 written_at ms k d r = ap (λ (m : Ends). m.to) (get_or-map ends ms k d no_move r)
+
+-- whether the move of an index writes a place, by the words of both
+pub writes_by_word : {T : Type 0} (ms : List (Place × Place × T)) (at : ℕ) (d : Place × Place × T) (place : Place) (a b : ℕ) → at < length ms →
+    a ≡ bits_of_place (get_or ms at d).1 → place_of_bits a ≡ (get_or ms at d).1 → b ≡ bits_of_place place → place_of_bits b ≡ place →
+    IsTrue (eqb a b) ↔ ((at < length ms) × (to_at (ends_of ms) at ≡ place))
+writes_by_word ms at d place a b low word_a place_a word_b place_b = (
+  λ e. (low, written_at ms at d low ∙ sym place_a ∙ ap place_of_bits (eqb-true a b e) ∙ place_b),
+  λ h. eq-eqb a b (word_a ∙ ap bits_of_place (sym (written_at ms at d low) ∙ h.1) ∙ sym word_b),
+)
 
 -- a list that is not empty has a first element
 some_in : {M : Type 0} (ms : List M) (k : ℕ) → k < length ms → M

@@ -1,6 +1,6 @@
 -- Operand filters, the LRU list, the list of live vregs, and resolvers of parallel moves.
 -- Read first: `AtOnce`, parallel moves; their resolvers, `Resolved` and `Computed`; `Ring`, `LiveList`, `Picked`.
--- Depends on regalloc2_names. `Giving`, `Tracking`, `Links`, `RingNodes` and `VRegNodes` are private steps of these.
+-- Depends on regalloc2_names. `Giving`, `Tracking`, `Steps`, `Links`, `RingNodes` and `VRegNodes` are private steps of these.
 pub mod AtOnce
 pub mod Callmoves
 pub mod Computed
@@ -15,5 +15,6 @@ pub mod Resolved
 pub mod Ring
 pub mod RingNodes
 pub mod ScratchPool
+pub mod Steps
 pub mod Tracking
 pub mod VRegNodes

@@ -4,8 +4,8 @@ ghost use Rattle.std.specs.Prelude.{◌≡◌, ◌⊎◌, false, None, Some, IfO
 ghost use Rattle.std.specs.List.{All};
 ghost use Rattle.regalloc2_names.specs.Place.{is_memory};
 ghost use Rattle.regalloc2_parts.specs.Resolved.{has_scratch, moves_listed, IsRunnable};
-ghost use Rattle.regalloc2_parts.specs.ScratchPool.{AreNotBothInMemory, AreThere, DecidesStack, HasTooFewSlots, IsOrderedWith, IsUsableFor, MayDecideStack};
-ghost use Rattle.regalloc2_parts.specs.ScratchPool.{YieldsInOrder};
+ghost use Rattle.regalloc2_parts.specs.ScratchPool.{AreNotBothInMemory, AreThere, HasTooFewSlots, IsOrderedWith, IsUsableFor};
+ghost use Rattle.regalloc2_parts.specs.Steps.{CanOrder, HasOrdered};
 
 use crate::moves::{MoveAndScratchResolver, MoveFault, MoveVec, MoveVecWithScratch};
 use regalloc2_names::{Allocation, PReg, PRegSet};
@@ -104,7 +104,7 @@ impl ScratchPair {
 
 /// The moves that a resolver makes whose closures return these places.
 fn compute_with_resolver<R, S, M, A: Allocator + Copy>(
-    mut resolver: MoveAndScratchResolver<R, S, M>,
+    resolver: &mut MoveAndScratchResolver<R, S, M>,
     pool: &ScratchPool,
     moves: MoveVecWithScratch<(), A>,
 ) -> Result<OrderedMoves<A>, MoveFault>
@@ -112,20 +112,8 @@ where
     R: FnMut() -> Option<Allocation>,
     S: FnMut() -> Option<Allocation>,
     M: Fn(Allocation) -> bool,
-    requires registers { (f : _) → R.pre f }
-    requires slots { (f : _) → S.pre f }
-    requires stack { M.IsAlwaysCallable resolver.is_stack_alloc }
-    requires borrowed { resolver.borrowed_scratch_reg ≡ pool.now.borrowed }
-    requires first { YieldsInOrder R.FnMut resolver.find_free_reg pool.now.registers }
-    requires second { YieldsInOrder S.FnMut resolver.get_stackslot pool.now.slots }
-    requires tells { DecidesStack M.Fn resolver.is_stack_alloc pool.now.fixed_stack }
-    requires may_tell { MayDecideStack M.Fn resolver.is_stack_alloc pool.now.fixed_stack }
-    requires serves { IsUsableFor pool.now (moves_listed moves) }
-    requires runnable { IsRunnable moves }
-    ensures made { IfOk result (λ m. IsOrderedWith pool.now m.slots (moves_listed moves) m.moves.items) }
-    ensures there { IfOk result (λ m. AreThere pool.now.slots m.slots) }
-    ensures err { IfErr result (λ e. e ≡ MoveFault.NoSlot → HasTooFewSlots pool.now.slots) }
-    ensures plain { has_scratch moves ≡ false → All (λ m. AreNotBothInMemory pool.now.fixed_stack m.0 m.1) (moves_listed moves) → IsOk result }
+    requires { CanOrder (λ f. R.pre f) (λ f. S.pre f) (λ f. M.IsAlwaysCallable f) R.FnMut S.FnMut M.Fn resolver.old pool.now moves }
+    ensures { HasOrdered pool.now moves result }
 {
     match resolver.compute_by_ref(moves) {
         Ok(moves) => {
@@ -155,7 +143,7 @@ impl ScratchPool {
         let fixed_stack = self.fixed_stack;
         let mut registers = self.registers;
         let mut slots = self.slots;
-        let resolver = MoveAndScratchResolver {
+        let mut resolver = MoveAndScratchResolver {
             find_free_reg: move || registers.take(),
             get_stackslot: move || slots.take(),
             is_stack_alloc: |place: Allocation|
@@ -163,6 +151,6 @@ impl ScratchPool {
             { place.is_memory(fixed_stack) },
             borrowed_scratch_reg: self.borrowed,
         };
-        compute_with_resolver(resolver, self, moves)
+        compute_with_resolver(&mut resolver, self, moves)
     }
 }

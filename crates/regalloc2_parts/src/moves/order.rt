@@ -22,7 +22,7 @@ ghost use Rattle.regalloc2_names.specs.PlaceBits.{bits_of_place};
 ghost use Rattle.regalloc2_parts.specs.AtOnce.{ends_of, AreReal, HasOneSourceEach, IsOfMoves, IsPlace};
 ghost use Rattle.regalloc2_parts.specs.Giving.{to_at, AreFair, AreProper, IsTidied, IsWriterOf, AreMovesApart, AreNexts, IsOrder, IsMoveChain};
 ghost use Rattle.regalloc2_parts.specs.Giving.{CanFollow, CanOpen, CanGive, CanBegin, IsGiving, LeadsTo, HasGoneOn, IsGivenOut, AreSameDone, state_at};
-ghost use Rattle.regalloc2_parts.specs.Resolved.{moves_listed, has_scratch, IsResolution, IsRunnable};
+ghost use Rattle.regalloc2_parts.specs.Steps.{IsRunnableResolution};
 ghost use Rattle.regalloc2_parts.specs.declared.moves.order.State.TheVariants.{Todo, Pending, Done};
 
 use super::{MoveFault, MoveVec, MoveVecWithScratch};
@@ -324,8 +324,7 @@ pub(super) fn resolve<T: Copy + Default, A: Allocator + Copy>(
 ) -> Result<MoveVecWithScratch<T, A>, MoveFault>
     requires one_source { HasOneSourceEach (ends_of moves.items) }
     requires real { AreReal moves.items }
-    ensures resolved { IfOk result (λ r. IsResolution moves.items (has_scratch r) (moves_listed r)) }
-    ensures runnable { IfOk result (λ r. IsRunnable r) }
+    ensures resolved { IfOk result (λ r. IsRunnableResolution moves.items r) }
     ensures short { length moves.items ≤ 1 → IsOk result }
     ensures memory { IfErr result (λ e. e ≡ MoveFault.Memory) }
 {

@@ -11,10 +11,9 @@ use Rattle.regalloc2_parts.proofs.Resolving.{real_proper, real_fair, resolves_sh
 use Rattle.regalloc2_parts.proofs.moves.order.resolve.Goals as goal
 
 pub returns-then-len-le1-clause-resolved : goal.returns-then-len-le1-clause-resolved
-returns-then-len-le1-clause-resolved g c = resolves_short c.args.moves.items c.requires.one_source c.requires.real (omega arith)
-
-pub returns-then-len-le1-clause-runnable : goal.returns-then-len-le1-clause-runnable
-returns-then-len-le1-clause-runnable g c = (resolves_short c.args.moves.items c.requires.one_source c.requires.real (omega arith)).plain refl
+returns-then-len-le1-clause-resolved g c =
+    let r = resolves_short c.args.moves.items c.requires.one_source c.requires.real (omega arith) in
+    record { resolved = r; runnable = r.plain refl }
 
 pub tidy-requires : goal.tidy-requires
 tidy-requires g c = (search rules, (real_fair c.args.moves.items c.requires.one_source c.requires.real, real_proper c.args.moves.items c.requires.real))
@@ -41,20 +40,9 @@ returns-then-are_free-clause-resolved g c =
     c.in_ok-nexts.ensures.ok in
     let free : (k : ℕ) → k < length c.as_slice-2.result.now → length c.as_slice-2.result.now ≤ get_or c.as_slice-2.result.now k 0 = c.if-are_free.ensures.0
     refl in
-    resolves_free old new nexts c.requires.one_source c.requires.real (omega arith) c.tidy.ensures.tidied c.tidy.ensures.given ns
-    (subst (λ (xs : List ℕ). (k : ℕ) → k < length xs → length xs ≤ get_or xs k 0) c.as_slice-2.ensures free)
-
-pub returns-then-are_free-clause-runnable : goal.returns-then-are_free-clause-runnable
-returns-then-are_free-clause-runnable g c =
-    let old = c.args.moves.items in
-    let new = c.tidy.new.moves.items in
-    let nexts = c.in_ok-nexts.nexts.items in
-    let ns : AreNexts (ends_of new) nexts = subst (λ (xs : List (Place × Place × g.row.T.Denot)). AreNexts (ends_of xs) nexts) c.as_slice.ensures
-    c.in_ok-nexts.ensures.ok in
-    let free : (k : ℕ) → k < length c.as_slice-2.result.now → length c.as_slice-2.result.now ≤ get_or c.as_slice-2.result.now k 0 = c.if-are_free.ensures.0
-    refl in
-    (resolves_free old new nexts c.requires.one_source c.requires.real (omega arith) c.tidy.ensures.tidied c.tidy.ensures.given ns
-    (subst (λ (xs : List ℕ). (k : ℕ) → k < length xs → length xs ≤ get_or xs k 0) c.as_slice-2.ensures free)).plain refl
+    let r = resolves_free old new nexts c.requires.one_source c.requires.real (omega arith) c.tidy.ensures.tidied c.tidy.ensures.given ns
+    (subst (λ (xs : List ℕ). (k : ℕ) → k < length xs → length xs ≤ get_or xs k 0) c.as_slice-2.ensures free) in
+    record { resolved = r; runnable = r.plain refl }
 
 pub give_all-requires : goal.give_all-requires
 give_all-requires g c =
@@ -90,24 +78,9 @@ returns-then-len-clause-resolved g c =
     c.as_slice-3.ensures c.in_ok-given.ensures.order.0) in
     let of_moves : All (IsOfMoves new) c.in_ok-given.given.items = subst (λ (xs : List (Place × Place × g.row.T.Denot)). All (IsOfMoves xs)
     c.in_ok-given.given.items) c.as_slice-3.ensures c.in_ok-given.ensures.order.1 in
-    resolves_order old new c.in_ok-given.given.items c.turn_round.new.moves.items nexts true c.requires.one_source c.requires.real (omega arith)
-    c.tidy.ensures.tidied c.tidy.ensures.given ns order of_moves c.turn_round.ensures (record { more = λ e. omega arith; few = λ e. absurd cc })
-
-pub returns-then-len-clause-runnable : goal.returns-then-len-clause-runnable
-returns-then-len-clause-runnable g c =
-    let old = c.args.moves.items in
-    let new = c.tidy.new.moves.items in
-    let nexts = c.in_ok-nexts.nexts.items in
-    let ns : AreNexts (ends_of new) nexts = subst (λ (xs : List (Place × Place × g.row.T.Denot)). AreNexts (ends_of xs) nexts) c.as_slice.ensures
-    c.in_ok-nexts.ensures.ok in
-    let order : IsOrder (ends_of new) nexts (ends_of c.in_ok-given.given.items) =
-    subst (λ (ks : List ℕ). IsOrder (ends_of new) ks (ends_of c.in_ok-given.given.items)) c.as_slice-4.ensures
-    (subst (λ (xs : List (Place × Place × g.row.T.Denot)). IsOrder (ends_of xs) c.as_slice-4.result.now (ends_of c.in_ok-given.given.items))
-    c.as_slice-3.ensures c.in_ok-given.ensures.order.0) in
-    let of_moves : All (IsOfMoves new) c.in_ok-given.given.items = subst (λ (xs : List (Place × Place × g.row.T.Denot)). All (IsOfMoves xs)
-    c.in_ok-given.given.items) c.as_slice-3.ensures c.in_ok-given.ensures.order.1 in
-    (resolves_order old new c.in_ok-given.given.items c.turn_round.new.moves.items nexts true c.requires.one_source c.requires.real (omega arith)
-    c.tidy.ensures.tidied c.tidy.ensures.given ns order of_moves c.turn_round.ensures (record { more = λ e. omega arith; few = λ e. absurd cc })).written
+    let r = resolves_order old new c.in_ok-given.given.items c.turn_round.new.moves.items nexts true c.requires.one_source c.requires.real (omega arith)
+    c.tidy.ensures.tidied c.tidy.ensures.given ns order of_moves c.turn_round.ensures (record { more = λ e. omega arith; few = λ e. absurd cc }) in
+    record { resolved = r; runnable = r.written }
 
 pub returns-clause-resolved : goal.returns-clause-resolved
 returns-clause-resolved g c =
@@ -122,24 +95,9 @@ returns-clause-resolved g c =
     c.as_slice-3.ensures c.in_ok-given.ensures.order.0) in
     let of_moves : All (IsOfMoves new) c.in_ok-given.given.items = subst (λ (xs : List (Place × Place × g.row.T.Denot)). All (IsOfMoves xs)
     c.in_ok-given.given.items) c.as_slice-3.ensures c.in_ok-given.ensures.order.1 in
-    resolves_order old new c.in_ok-given.given.items c.turn_round.new.moves.items nexts false c.requires.one_source c.requires.real (omega arith)
-    c.tidy.ensures.tidied c.tidy.ensures.given ns order of_moves c.turn_round.ensures (record { more = λ e. absurd cc; few = λ e. omega arith })
-
-pub returns-clause-runnable : goal.returns-clause-runnable
-returns-clause-runnable g c =
-    let old = c.args.moves.items in
-    let new = c.tidy.new.moves.items in
-    let nexts = c.in_ok-nexts.nexts.items in
-    let ns : AreNexts (ends_of new) nexts = subst (λ (xs : List (Place × Place × g.row.T.Denot)). AreNexts (ends_of xs) nexts) c.as_slice.ensures
-    c.in_ok-nexts.ensures.ok in
-    let order : IsOrder (ends_of new) nexts (ends_of c.in_ok-given.given.items) =
-    subst (λ (ks : List ℕ). IsOrder (ends_of new) ks (ends_of c.in_ok-given.given.items)) c.as_slice-4.ensures
-    (subst (λ (xs : List (Place × Place × g.row.T.Denot)). IsOrder (ends_of xs) c.as_slice-4.result.now (ends_of c.in_ok-given.given.items))
-    c.as_slice-3.ensures c.in_ok-given.ensures.order.0) in
-    let of_moves : All (IsOfMoves new) c.in_ok-given.given.items = subst (λ (xs : List (Place × Place × g.row.T.Denot)). All (IsOfMoves xs)
-    c.in_ok-given.given.items) c.as_slice-3.ensures c.in_ok-given.ensures.order.1 in
-    (resolves_order old new c.in_ok-given.given.items c.turn_round.new.moves.items nexts false c.requires.one_source c.requires.real (omega arith)
-    c.tidy.ensures.tidied c.tidy.ensures.given ns order of_moves c.turn_round.ensures (record { more = λ e. absurd cc; few = λ e. omega arith })).plain refl
+    let r = resolves_order old new c.in_ok-given.given.items c.turn_round.new.moves.items nexts false c.requires.one_source c.requires.real (omega arith)
+    c.tidy.ensures.tidied c.tidy.ensures.given ns order of_moves c.turn_round.ensures (record { more = λ e. absurd cc; few = λ e. omega arith }) in
+    record { resolved = r; runnable = r.plain refl }
 
 pub returns-in_err-nexts-clause-short : goal.returns-in_err-nexts-clause-short
 returns-in_err-nexts-clause-short g c = λ h. absurd (omega arith)

@@ -1,0 +1,41 @@
+-- What private functions require, and what they guarantee to the public ones that call them, as one record each. No public contract cites this.
+use Rattle.std.specs.Prelude.{◌≡◌, Bool, false, List, Option, Result, IfOk, IfErr, IsOk}
+use Rattle.std.specs.Fn.{Mut, Shared}
+use Rattle.std.specs.List.{All}
+use Rattle.regalloc2_names.specs.Place.{Place}
+use Rattle.regalloc2_parts.specs.Resolved.{moves_listed, has_scratch, IsResolution, IsRunnable}
+use Rattle.regalloc2_parts.specs.ScratchPool.{AreNotBothInMemory, AreThere, DecidesStack, HasTooFewSlots, IsOrderedWith, IsUsableFor, MayDecideStack}
+use Rattle.regalloc2_parts.specs.ScratchPool.{YieldsInOrder}
+use Rattle.regalloc2_parts.specs.declared.moves.MoveFault.{MoveFault}
+use Rattle.regalloc2_parts.specs.declared.moves.MoveFault.TheVariants.{NoSlot}
+use Rattle.regalloc2_parts.specs.declared.moves.resolved.MoveVecWithScratch.{MoveVecWithScratch}
+use Rattle.regalloc2_parts.specs.declared.moves.scratch.MoveAndScratchResolver.{MoveAndScratchResolver}
+use Rattle.regalloc2_parts.specs.declared.scratch_pool.OrderedMoves.{OrderedMoves}
+use Rattle.regalloc2_parts.specs.declared.scratch_pool.ScratchPool.{ScratchPool}
+
+-- the moves r do what the parallel moves ms do, and can be run
+pub record IsRunnableResolution {T A : Type 0} (ms : List (Place × Place × T)) (r : MoveVecWithScratch T A) : Type 0 where
+  pub resolved : IsResolution ms (has_scratch r) (moves_listed r)
+  pub runnable : IsRunnable r
+
+-- a resolver's closures return the places of a pool, which serve the moves
+pub record CanOrder {F G H A : Type 0} (pre : F → Type 0) (slots_pre : G → Type 0) (callable : H → Type 0) (r : Mut F (Unit {0}) (Option Place))
+    (s : Mut G (Unit {0}) (Option Place)) (m : Shared H (Place × Unit {0}) Bool) (resolver : MoveAndScratchResolver F G H) (l : ScratchPool)
+    (moves : MoveVecWithScratch (Unit {0}) A) : Type 0 where
+  pub registers : (f : F) → pre f
+  pub slots : (g : G) → slots_pre g
+  pub stack : callable resolver.is_stack_alloc
+  pub borrowed : resolver.borrowed_scratch_reg ≡ l.borrowed
+  pub first : YieldsInOrder r resolver.find_free_reg l.registers
+  pub second : YieldsInOrder s resolver.get_stackslot l.slots
+  pub tells : DecidesStack m resolver.is_stack_alloc l.fixed_stack
+  pub may_tell : MayDecideStack m resolver.is_stack_alloc l.fixed_stack
+  pub serves : IsUsableFor l (moves_listed moves)
+  pub runnable : IsRunnable moves
+
+-- the moves were ordered with the places of a pool, or why they were not
+pub record HasOrdered {A : Type 0} (l : ScratchPool) (moves : MoveVecWithScratch (Unit {0}) A) (result : Result (OrderedMoves A) MoveFault) : Type 0 where
+  pub made : IfOk result (λ m. IsOrderedWith l m.slots (moves_listed moves) m.moves.items)
+  pub there : IfOk result (λ m. AreThere l.slots m.slots)
+  pub err : IfErr result (λ e. e ≡ NoSlot → HasTooFewSlots l.slots)
+  pub plain : has_scratch moves ≡ false → All (λ m. AreNotBothInMemory l.fixed_stack m.0 m.1) (moves_listed moves) → IsOk result
