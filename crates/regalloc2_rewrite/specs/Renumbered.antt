@@ -21,6 +21,12 @@ pub record ListsEachOnce (count : ℕ) (order : List ℕ) : Type 0 where
 abbrev pub new_number : List ℕ → ℕ → ℕ
 new_number order b = position_or_len (λ x. nat_eq x b) order
 
+-- an order lists each of so many blocks once, and these are their new numbers
+pub record AreNumbers (count : ℕ) (order numbers : List ℕ) : Type 0 where
+  pub listed : ListsEachOnce count order
+  pub long : length numbers ≡ count
+  pub each : (b : ℕ) → b < count → slice_index numbers b ≡ new_number order b
+
 -- block `n` of `g` is block `b` of `f`, but for the numbers of its successors and instructions
 pub record IsRenumberedBlock (f : FunctionValue) (order : List ℕ) (b : ℕ) (g : FunctionValue) (n : ℕ) : Type 0 where
   pub params : (block_at g n).params ≡ (block_at f b).params

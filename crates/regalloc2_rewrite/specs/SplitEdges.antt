@@ -23,6 +23,17 @@ entries_into f t = sum_by (λ b. times_in t b.succs) f.blocks + (if nat_eq t f.e
 abbrev pub AgreeUpToTwo : ℕ → ℕ → Type 0
 AgreeUpToTwo m n = (m < 2 → m ≡ n) × (n < 2 → m ≡ n)
 
+-- in how many ways each block is entered, counted up to two
+pub record AreEntries (f : FunctionValue) (counts : List ℕ) : Type 0 where
+  pub long : length counts ≡ length f.blocks
+  pub counted : (t : ℕ) → t < length f.blocks → AgreeUpToTwo (slice_index counts t) (entries_into f t)
+
+-- a block of a valid function, with the ways into all blocks
+pub record IsCounted (f : FunctionValue) (b : ℕ) (counts : List ℕ) : Type 0 where
+  pub framed : IsFramed f
+  pub block : b < length f.blocks
+  pub entries : AreEntries f counts
+
 -- whether the edge from a block to its successor at a position is critical
 abbrev pub is_critical : FunctionValue → ℕ → ℕ → Bool
 is_critical f b k = nat_lt 1 (length (block_at f b).succs) && nat_lt 1 (entries_into f (slice_index (block_at f b).succs k))
@@ -137,6 +148,11 @@ jump_on none f e = record {
 -- the blocks on the critical edges of the first so many blocks and on those among the next one's first so many
 abbrev pub AreJumps : PRegSet → FunctionValue → ℕ → ℕ → List DraftValue → Type 0
 AreJumps none f b k jumps = jumps ≡ map (jump_on none f) (edges_before f b ++ edges_upto f b k)
+
+-- an edge whose turn it is: the new blocks so far are those on the edges before it
+pub record IsToSplit (none : PRegSet) (f : FunctionValue) (b k : ℕ) (counts : List ℕ) (jumps : List DraftValue) : Type 0 where
+  pub counted : IsCounted f b counts
+  pub before : AreJumps none f b k jumps
 
 -- a successor and its arguments, where the edge is split if it is critical
 abbrev pub split_succ : FunctionValue → ℕ → ℕ → ℕ

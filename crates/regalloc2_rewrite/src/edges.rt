@@ -5,7 +5,7 @@ ghost use Rattle.regalloc2_function.specs.FunctionValue.{block_at};
 ghost use Rattle.regalloc2_function.specs.WellFormed.{IsFramed, SuccessorsAreBlocks, times_in};
 ghost use Rattle.regalloc2_serialize.specs.TableFunction.Table.{function_of_table};
 ghost use Rattle.regalloc2_serialize.specs.TableFunction.Draft.{draft_of};
-ghost use Rattle.regalloc2_rewrite.specs.SplitEdges.{AgreeUpToTwo, AreJumps, HasSplitEdges, IsUnsplit, entries_into, is_critical, kept_block, split_arguments, split_drafts, split_succ};
+ghost use Rattle.regalloc2_rewrite.specs.SplitEdges.{AgreeUpToTwo, AreEntries, AreJumps, HasSplitEdges, IsCounted, IsToSplit, IsUnsplit, is_critical, kept_block, split_arguments, split_drafts, split_succ};
 
 use crate::copied::{copied_insts, laid_like};
 use crate::error::RewriteError;
@@ -53,8 +53,7 @@ fn count_entries<A: Allocator>(counts: &mut Vec<usize, A>, succs: &[Block])
 /// In how many ways each block is entered, counted up to two.
 fn entries_of<F: Function, A: Allocator>(alloc: A, f: &F) -> Result<Vec<usize, A>, AllocError>
     requires { SuccessorsAreBlocks (F.function f.now) }
-    ensures long { IfOk result (λ counts. length counts.items ≡ length (F.function f.now).blocks) }
-    ensures counted { IfOk result (λ counts. (t : ℕ) → t < length (F.function f.now).blocks → AgreeUpToTwo (slice_index counts.items t) (entries_into (F.function f.now) t)) }
+    ensures { IfOk result (λ counts. AreEntries (F.function f.now) counts.items) }
 {
     let mut counts = Vec::new(alloc);
     counts.resize(f.num_blocks(), 0usize)?;
@@ -67,11 +66,8 @@ fn entries_of<F: Function, A: Allocator>(alloc: A, f: &F) -> Result<Vec<usize, A
 
 /// Whether an edge is critical.
 fn has_critical_edge<F: Function>(f: &F, block: Block, k: usize, entries: &[usize]) -> bool
-    requires successors { SuccessorsAreBlocks (F.function f.now) }
-    requires block { block < length (F.function f.now).blocks }
+    requires counted { IsCounted (F.function f.now) block entries.now }
     requires position { k < length (block_at (F.function f.now) block).succs }
-    requires long { length entries.now ≡ length (F.function f.now).blocks }
-    requires counted { (t : ℕ) → t < length (F.function f.now).blocks → AgreeUpToTwo (slice_index entries.now t) (entries_into (F.function f.now) t) }
     ensures { result ≡ is_critical (F.function f.now) block k }
 {
     let succs = f.block_succs(block);
@@ -80,6 +76,15 @@ fn has_critical_edge<F: Function>(f: &F, block: Block, k: usize, entries: &[usiz
     }
     let entered = entries[succs[k].index()];
     entered > 1
+}
+
+/// A list of one item.
+fn one_of<T: Drop, A: Allocator>(alloc: A, item: T) -> Result<Vec<T, A>, AllocError>
+    ensures { IfOk result (λ v. v.items ≡ item ∷ []) }
+{
+    let mut items = Vec::new(alloc);
+    items.push(item)?;
+    Ok(items)
 }
 
 /// A block that jumps to another one with these arguments.
@@ -96,20 +101,20 @@ fn jump_to<A: Allocator + Copy>(
       arguments = arguments.items ∷ [];
     }) }
 {
-    let mut draft = BlockDraft {
+    let insts = one_of(
+        alloc,
+        TableInst {
+            operands: Vec::new(alloc),
+            clobbers: none,
+            op: InstOpcode::Branch,
+        },
+    )?;
+    Ok(BlockDraft {
         params: Vec::new(alloc),
-        insts: Vec::new(alloc),
-        succs: Vec::new(alloc),
-        arguments: Vec::new(alloc),
-    };
-    draft.insts.push(TableInst {
-        operands: Vec::new(alloc),
-        clobbers: none,
-        op: InstOpcode::Branch,
-    })?;
-    draft.succs.push(to)?;
-    draft.arguments.push(arguments)?;
-    Ok(draft)
+        insts,
+        succs: one_of(alloc, to)?,
+        arguments: one_of(alloc, arguments)?,
+    })
 }
 
 /// Returns where an edge goes and what it passes, and adds a block on it if it is critical.
@@ -122,14 +127,9 @@ fn split_edge<F: Function, A: Allocator + Copy>(
     entries: &[usize],
     jumps: &mut Vec<BlockDraft<A>, A>,
 ) -> Result<(Block, Vec<VReg, A>), RewriteError>
-    requires framed { IsFramed (F.function f.now) }
-    requires block { block < length (F.function f.now).blocks }
+    requires to_split { IsToSplit none (F.function f.now) block k entries.now (map draft_of jumps.old.items) }
     requires position { k < length (block_at (F.function f.now) block).succs }
-    requires long { length entries.now ≡ length (F.function f.now).blocks }
-    requires counted { (t : ℕ) → t < length (F.function f.now).blocks → AgreeUpToTwo (slice_index entries.now t) (entries_into (F.function f.now) t) }
-    requires jumps { AreJumps none (F.function f.now) block k (map draft_of jumps.old.items) }
-    ensures succ { IfOk result (λ r. r.0 ≡ split_succ (F.function f.now) block k) }
-    ensures arguments { IfOk result (λ r. r.1.items ≡ split_arguments (F.function f.now) block k) }
+    ensures ends { IfOk result (λ r. (r.0 ≡ split_succ (F.function f.now) block k) × (r.1.items ≡ split_arguments (F.function f.now) block k)) }
     ensures jumps { OnOk result (AreJumps none (F.function f.now) block (k + 1) (map draft_of jumps.new.items)) }
     ensures err { IfErr result (λ e. IsUnsplit (F.function f.now) e) }
 {
@@ -157,13 +157,8 @@ fn split_edges<F: Function, A: Allocator + Copy>(
     entries: &[usize],
     jumps: &mut Vec<BlockDraft<A>, A>,
 ) -> Result<(Vec<Block, A>, Vec<Vec<VReg, A>, A>), RewriteError>
-    requires framed { IsFramed (F.function f.now) }
-    requires block { block < length (F.function f.now).blocks }
-    requires long { length entries.now ≡ length (F.function f.now).blocks }
-    requires counted { (t : ℕ) → t < length (F.function f.now).blocks → AgreeUpToTwo (slice_index entries.now t) (entries_into (F.function f.now) t) }
-    requires jumps { AreJumps none (F.function f.now) block 0 (map draft_of jumps.old.items) }
-    ensures succs { IfOk result (λ r. r.0.items ≡ (kept_block (F.function f.now) block).succs) }
-    ensures arguments { IfOk result (λ r. map (λ v. v.items) r.1.items ≡ (kept_block (F.function f.now) block).arguments) }
+    requires { IsToSplit none (F.function f.now) block 0 entries.now (map draft_of jumps.old.items) }
+    ensures ends { IfOk result (λ r. (r.0.items ≡ (kept_block (F.function f.now) block).succs) × (map (λ v. v.items) r.1.items ≡ (kept_block (F.function f.now) block).arguments)) }
     ensures jumps { OnOk result (AreJumps none (F.function f.now) (block + 1) 0 (map draft_of jumps.new.items)) }
     ensures err { IfErr result (λ e. IsUnsplit (F.function f.now) e) }
 {
@@ -185,11 +180,7 @@ fn split_block<F: Function, A: Allocator + Copy>(
     entries: &[usize],
     jumps: &mut Vec<BlockDraft<A>, A>,
 ) -> Result<BlockDraft<A>, RewriteError>
-    requires framed { IsFramed (F.function f.now) }
-    requires block { block < length (F.function f.now).blocks }
-    requires long { length entries.now ≡ length (F.function f.now).blocks }
-    requires counted { (t : ℕ) → t < length (F.function f.now).blocks → AgreeUpToTwo (slice_index entries.now t) (entries_into (F.function f.now) t) }
-    requires jumps { AreJumps none (F.function f.now) block 0 (map draft_of jumps.old.items) }
+    requires { IsToSplit none (F.function f.now) block 0 entries.now (map draft_of jumps.old.items) }
     ensures ok { IfOk result (λ draft. draft_of draft ≡ kept_block (F.function f.now) block) }
     ensures jumps { OnOk result (AreJumps none (F.function f.now) (block + 1) 0 (map draft_of jumps.new.items)) }
     ensures err { IfErr result (λ e. IsUnsplit (F.function f.now) e) }

@@ -33,14 +33,14 @@ impl fmt::Display for RewriteError {
     ghost output = { λ e. Some (rewrite_text e) };
 
     fn fmt<W: fmt::Write>(&self, f: &mut fmt::Formatter<W>) -> fmt::Result {
-        match self {
-            Self::Memory => write!(f, "out of memory"),
-            Self::Unframed => write!(f, "the function isn't structurally valid"),
-            Self::NoOrder => write!(f, "the order doesn't list each block once"),
-            Self::Labels => write!(f, "the function has labels"),
-            Self::TooManyBlocks => write!(f, "there would be 2^32 - 1 blocks or more"),
-            Self::TooManyInsts => write!(f, "there would be 2^30 instructions or more"),
-        }
+        f.write_str(match self {
+            Self::Memory => "out of memory",
+            Self::Unframed => "the function isn't structurally valid",
+            Self::NoOrder => "the order doesn't list each block once",
+            Self::Labels => "the function has labels",
+            Self::TooManyBlocks => "there would be 2^32 - 1 blocks or more",
+            Self::TooManyInsts => "there would be 2^30 instructions or more",
+        })
     }
 }
 

@@ -6,7 +6,7 @@ ghost use Rattle.regalloc2_function.specs.FunctionValue.{block_at, inst_at};
 ghost use Rattle.regalloc2_function.specs.WellFormed.{IsFramed};
 ghost use Rattle.regalloc2_serialize.specs.TableFunction.Table.{function_of_table, inst_of_table};
 ghost use Rattle.regalloc2_serialize.specs.TableFunction.Draft.{draft_of};
-ghost use Rattle.regalloc2_rewrite.specs.Renumbered.{ListsEachOnce, IsRenumbered, IsUnnumbered, IsUnrenumbered, new_number, renamed};
+ghost use Rattle.regalloc2_rewrite.specs.Renumbered.{AreNumbers, IsRenumbered, IsUnnumbered, IsUnrenumbered, renamed};
 
 use crate::copied::{copied_insts, laid_like};
 use crate::error::RewriteError;
@@ -30,9 +30,7 @@ fn numbers_in<A: Allocator>(
     count: usize,
 ) -> Result<Vec<Block, A>, RewriteError>
     requires { count < 2 ^ 32 - 1 }
-    ensures order { IfOk result (λ numbers. ListsEachOnce count order.now) }
-    ensures count { IfOk result (λ numbers. length numbers.items ≡ count) }
-    ensures numbers { IfOk result (λ numbers. (b : ℕ) → b < count → slice_index numbers.items b ≡ new_number order.now b) }
+    ensures ok { IfOk result (λ numbers. AreNumbers count order.now numbers.items) }
     ensures err { IfErr result (λ e. IsUnnumbered count order.now e) }
 {
     if order.len() != count {

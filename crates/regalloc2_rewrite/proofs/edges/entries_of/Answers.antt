@@ -20,13 +20,17 @@ loop-block-preserved g c =
           (c.count_entries.ensures.counted t (omega (arith, c.loop-block.invariant.long, less))));
     }
 
-pub returns-clause-counted : goal.returns-clause-counted
-returns-clause-counted g c t less =
+pub returns : goal.returns
+returns g c =
     let f : FunctionValue = g.F.Function.function c.args.f.now in
     let now : List ℕ = c.loop-block.counts.items in
     let next : List ℕ = c.count_entry.new.counts.items in
     let end : c.loop-block.block ≡ length f.blocks =
     omega (arith, c.loop-block-test.false, c.loop-block.auto.block-end, c.num_blocks-block-end.ensures.count) in
-    entered-all f now next t (subst (λ (n : ℕ). AgreeUpToTwo (slice_index now t) (listed_by f n t)) end (c.loop-block.invariant.counted t less))
-    (subst (λ (e : ℕ). AgreeUpToTwo (slice_index next t) (slice_index now t + times_in t (e ∷ []))) c.entry_block.ensures
-    (c.count_entry.ensures.counted t (omega (arith, c.loop-block.invariant.long, less))))
+    record {
+      long = c.count_entry.ensures.long ∙ c.loop-block.invariant.long;
+      counted = λ t less. entered-all f now next t
+          (subst (λ (n : ℕ). AgreeUpToTwo (slice_index now t) (listed_by f n t)) end (c.loop-block.invariant.counted t less))
+          (subst (λ (e : ℕ). AgreeUpToTwo (slice_index next t) (slice_index now t + times_in t (e ∷ []))) c.entry_block.ensures
+          (c.count_entry.ensures.counted t (omega (arith, c.loop-block.invariant.long, less))));
+    }

@@ -9,26 +9,29 @@ use Rattle.regalloc2_rewrite.proofs.EdgeLists.{edge}
 use Rattle.regalloc2_rewrite.proofs.SplitSteps.{critical-jumps, critical-more, critical-succ, jump-made, plain-jumps}
 use Rattle.regalloc2_rewrite.proofs.edges.split_edge.Goals as goal
 
+pub has_critical_edge-requires : goal.has_critical_edge-requires
+has_critical_edge-requires g c = record { counted = c.requires.to_split.counted; position = c.requires.position }
+
 pub returns-then-not-has_critical_edge-clause-jumps : goal.returns-then-not-has_critical_edge-clause-jumps
 returns-then-not-has_critical_edge-clause-jumps g c =
     let f : FunctionValue = g.F.Function.function c.args.f.now in
     let plain : is_critical f c.args.block c.args.k ≡ false = sym c.has_critical_edge.ensures ∙ c.if-not-has_critical_edge.true in
-    plain-jumps c.args.none f c.args.block c.args.k (map draft_of c.args.jumps.now.items) plain c.requires.jumps
+    plain-jumps c.args.none f c.args.block c.args.k (map draft_of c.args.jumps.now.items) plain c.requires.to_split.before
 
 pub returns-then-number-ge-BLOCK_LIMIT-clause-err : goal.returns-then-number-ge-BLOCK_LIMIT-clause-err
 returns-then-number-ge-BLOCK_LIMIT-clause-err g c =
     let f : FunctionValue = g.F.Function.function c.args.f.now in
     let critical : is_critical f c.args.block c.args.k ≡ true = sym c.has_critical_edge.ensures ∙ c.if-not-has_critical_edge.false in
-    let more = critical-more c.args.none f c.args.block c.args.k (map draft_of c.args.jumps.now.items) c.requires.block c.requires.position critical
-    c.requires.jumps in
+    let more = critical-more c.args.none f c.args.block c.args.k (map draft_of c.args.jumps.now.items) c.requires.to_split.counted.block c.requires.position critical
+    c.requires.to_split.before in
     omega (arith, more, c.if-number-ge-BLOCK_LIMIT.true, c.num_blocks.ensures.count, c.len.ensures, length-map c.args.jumps.now.items draft_of)
 
-pub returns-clause-succ : goal.returns-clause-succ
-returns-clause-succ g c =
+pub returns-clause-ends : goal.returns-clause-ends
+returns-clause-ends g c =
     let f : FunctionValue = g.F.Function.function c.args.f.now in
     let critical : is_critical f c.args.block c.args.k ≡ true = sym c.has_critical_edge.ensures ∙ c.if-not-has_critical_edge.false in
-    let at = critical-succ c.args.none f c.args.block c.args.k (map draft_of c.args.jumps.now.items) critical c.requires.jumps in
-    omega (arith, at, c.new.ensures, c.num_blocks.ensures.count, c.len.ensures, length-map c.args.jumps.now.items draft_of)
+    let at = critical-succ c.args.none f c.args.block c.args.k (map draft_of c.args.jumps.now.items) critical c.requires.to_split.before in
+    (omega (arith, at, c.new.ensures, c.num_blocks.ensures.count, c.len.ensures, length-map c.args.jumps.now.items draft_of), rw critical (search rules))
 
 pub returns-clause-jumps : goal.returns-clause-jumps
 returns-clause-jumps g c =
@@ -46,4 +49,4 @@ returns-clause-jumps g c =
     let e : c.push.new.self.items ≡ c.args.jumps.now.items ++ c.in_ok-jump.jump ∷ [] = search rules in
     ap (map draft_of) e ∙ map-append draft_of c.args.jumps.now.items (c.in_ok-jump.jump ∷ [])
     ∙ ap (λ (d : DraftValue). map draft_of c.args.jumps.now.items ++ d ∷ []) made
-    ∙ critical-jumps c.args.none f b k (map draft_of c.args.jumps.now.items) critical c.requires.jumps
+    ∙ critical-jumps c.args.none f b k (map draft_of c.args.jumps.now.items) critical c.requires.to_split.before

@@ -8,6 +8,12 @@ use Rattle.regalloc2_rewrite.proofs.Lists.{filled-more}
 use Rattle.regalloc2_rewrite.proofs.SplitSteps.{jumps-next}
 use Rattle.regalloc2_rewrite.proofs.edges.split_edges.Goals as goal
 
+pub split_edge-requires : goal.split_edge-requires
+split_edge-requires g c = record {
+  to_split = record { counted = c.requires.counted; before = c.loop-k.invariant.jumps };
+  position = omega (arith, c.loop-k-test.true, ap length c.block_succs-k-end.ensures);
+}
+
 pub loop-k-preserved : goal.loop-k-preserved
 loop-k-preserved g c =
     let f : FunctionValue = g.F.Function.function c.args.f.now in
@@ -15,26 +21,21 @@ loop-k-preserved g c =
     let d : c.push-in-loop-k.new.self.items ≡ c.loop-k.lists.items ++ c.in_ok-succ.arguments ∷ [] = search rules in
     record {
       succs = e
-          ∙ filled-more (split_succ f c.args.block) c.loop-k.succs.items c.in_ok-succ.succ c.loop-k.k c.loop-k.invariant.succs c.in_ok-succ.ensures.succ;
+          ∙ filled-more (split_succ f c.args.block) c.loop-k.succs.items c.in_ok-succ.succ c.loop-k.k c.loop-k.invariant.succs c.in_ok-succ.ensures.ends.0;
       lists = ap (map (λ v. v.items)) d ∙ map-append (λ v. v.items) c.loop-k.lists.items (c.in_ok-succ.arguments ∷ [])
           ∙ filled-more (split_arguments f c.args.block) (map (λ v. v.items) c.loop-k.lists.items) c.in_ok-succ.arguments.items c.loop-k.k
-          c.loop-k.invariant.lists c.in_ok-succ.ensures.arguments;
+          c.loop-k.invariant.lists c.in_ok-succ.ensures.ends.1;
       jumps = c.in_ok-succ.ensures.jumps;
     }
 
-pub returns-clause-succs : goal.returns-clause-succs
-returns-clause-succs g c =
+pub returns-clause-ends : goal.returns-clause-ends
+returns-clause-ends g c =
     let f : FunctionValue = g.F.Function.function c.args.f.now in
     let all : c.loop-k.k ≡ length (block_at f c.args.block).succs =
-    omega (arith, c.loop-k-test.false, c.loop-k.auto.k-end, ap length c.block_succs-k-end.ensures) in
-    c.loop-k.invariant.succs ∙ ap (λ (n : ℕ). map (split_succ f c.args.block) (range_with_len 0 n)) all
-
-pub returns-clause-arguments : goal.returns-clause-arguments
-returns-clause-arguments g c =
-    let f : FunctionValue = g.F.Function.function c.args.f.now in
-    let all : c.loop-k.k ≡ length (block_at f c.args.block).succs =
-    omega (arith, c.loop-k-test.false, c.loop-k.auto.k-end, ap length c.block_succs-k-end.ensures) in
-    c.loop-k.invariant.lists ∙ ap (λ (n : ℕ). map (split_arguments f c.args.block) (range_with_len 0 n)) all
+    omega (arith, c.loop-k-test.false, c.loop-k.auto.k-end, ap length c.block_succs-k-end.ensures) in (
+      c.loop-k.invariant.succs ∙ ap (λ (n : ℕ). map (split_succ f c.args.block) (range_with_len 0 n)) all,
+      c.loop-k.invariant.lists ∙ ap (λ (n : ℕ). map (split_arguments f c.args.block) (range_with_len 0 n)) all,
+    )
 
 pub returns-clause-jumps : goal.returns-clause-jumps
 returns-clause-jumps g c =

@@ -46,25 +46,20 @@ returns-then-not-all_numbered-clause-err g c is =
     order-marked c.args.order.now c.loop-n.numbers.items c.args.count c.loop-n.invariant.long c.requires is marks in
     false≢true (sym c.if-not-all_numbered.true ∙ c.all_numbered.ensures.1 (rw c.as_slice.ensures.value all))
 
-pub returns-clause-order : goal.returns-clause-order
-returns-clause-order g c =
+pub returns-clause-ok : goal.returns-clause-ok
+returns-clause-ok g c =
     let order : List ℕ = c.args.order.now in
     let numbers : List ℕ = c.loop-n.numbers.items in
     let end : c.loop-n.n ≡ c.args.count = omega (arith, c.loop-n-test.false, c.loop-n.auto.n-end) in
     let long : length numbers ≡ c.args.count = c.loop-n.invariant.long in
-    let some : All (λ n. n ≢ 4294967295) numbers = rw c.as_slice.ensures.value at (c.all_numbered.ensures.0 c.if-not-all_numbered.false) in
-    all-marked order numbers c.args.count (omega (arith, c.if-order-count.false)) c.requires
-    (subst (λ n. All (λ b. b < c.args.count) (take n order)) end c.loop-n.invariant.within)
-    (λ b less. c.loop-n.invariant.marked b less ∙ ap (λ (n : ℕ). marked order n b) end)
-    (λ b less. some b 0 (omega (arith, long, less)))
-
-pub returns-clause-numbers : goal.returns-clause-numbers
-returns-clause-numbers g c =
-    let order : List ℕ = c.args.order.now in
-    let numbers : List ℕ = c.loop-n.numbers.items in
-    let end : c.loop-n.n ≡ c.args.count = omega (arith, c.loop-n-test.false, c.loop-n.auto.n-end) in
-    let long : length numbers ≡ c.args.count = c.loop-n.invariant.long in
-    let some : All (λ n. n ≢ 4294967295) numbers = rw c.as_slice.ensures.value at (c.all_numbered.ensures.0 c.if-not-all_numbered.false) in
-    marked-number order numbers c.args.count (omega (arith, c.if-order-count.false)) c.requires
-    (λ b less. c.loop-n.invariant.marked b less ∙ ap (λ (n : ℕ). marked order n b) end)
-    (λ b less. some b 0 (omega (arith, long, less)))
+    let listed : length order ≡ c.args.count = omega (arith, c.if-order-count.false) in
+    let marks : (b : ℕ) → b < c.args.count → slice_index numbers b ≡ marked order c.args.count b =
+    λ b less. c.loop-n.invariant.marked b less ∙ ap (λ (n : ℕ). marked order n b) end in
+    let all : All (λ n. n ≢ 4294967295) numbers = rw c.as_slice.ensures.value at (c.all_numbered.ensures.0 c.if-not-all_numbered.false) in
+    let some : (b : ℕ) → b < c.args.count → slice_index numbers b ≢ 4294967295 = λ b less. all b 0 (omega (arith, long, less)) in
+    record {
+      listed = all-marked order numbers c.args.count listed c.requires (subst (λ n. All (λ b. b < c.args.count) (take n order)) end c.loop-n.invariant.within)
+          marks some;
+      long = long;
+      each = marked-number order numbers c.args.count listed c.requires marks some;
+    }

@@ -14,14 +14,14 @@ returns-clause-ok g c =
     let order : List ℕ = c.args.order.now in
     let numbers : List ℕ = c.in_ok-numbers.numbers.items in
     let framed : IsFramed f = c.is_framed.ensures.0 c.if-not-is_framed.false in
-    let is : ListsEachOnce (length f.blocks) order = subst (λ n. ListsEachOnce n order) c.num_blocks.ensures.count c.in_ok-numbers.ensures.order in
+    let is : ListsEachOnce (length f.blocks) order = subst (λ n. ListsEachOnce n order) c.num_blocks.ensures.count c.in_ok-numbers.ensures.ok.listed in
     let table : (b : ℕ) → b < length f.blocks → slice_index numbers b ≡ new_number order b =
-    λ b less. c.in_ok-numbers.ensures.numbers b (omega (arith, c.num_blocks.ensures.count, less)) in
+    λ b less. c.in_ok-numbers.ensures.ok.each b (omega (arith, c.num_blocks.ensures.count, less)) in
     let same : map draft_of c.in_ok-drafts.drafts.items ≡ map (renamed (λ s. slice_index numbers s) f) order =
     rw c.as_slice.ensures.value at c.in_ok-drafts.ensures in
     let entry : c.index-entry.result.now ≡ get_or numbers f.entry c.index-entry.result.now = search rules in
     let none : map label_of c.new.result.items ≡ [] = rw c.new.ensures.items refl in
-    let long : length numbers ≡ length f.blocks = c.in_ok-numbers.ensures.count ∙ c.num_blocks.ensures.count in
+    let long : length numbers ≡ length f.blocks = c.in_ok-numbers.ensures.ok.long ∙ c.num_blocks.ensures.count in
     renumbered-by-table f order numbers (map draft_of c.in_ok-drafts.drafts.items) framed is table same c.index-entry.result.now
     (map label_of c.new.result.items) _ none long entry c.in_ok-laid_like.ensures.ok
 
@@ -31,9 +31,9 @@ returns-in_err-laid_like-clause-err g c =
     let order : List ℕ = c.args.order.now in
     let numbers : List ℕ = c.in_ok-numbers.numbers.items in
     let framed : IsFramed f = c.is_framed.ensures.0 c.if-not-is_framed.false in
-    let is : ListsEachOnce (length f.blocks) order = subst (λ n. ListsEachOnce n order) c.num_blocks.ensures.count c.in_ok-numbers.ensures.order in
+    let is : ListsEachOnce (length f.blocks) order = subst (λ n. ListsEachOnce n order) c.num_blocks.ensures.count c.in_ok-numbers.ensures.ok.listed in
     let table : (b : ℕ) → b < length f.blocks → slice_index numbers b ≡ new_number order b =
-    λ b less. c.in_ok-numbers.ensures.numbers b (omega (arith, c.num_blocks.ensures.count, less)) in
+    λ b less. c.in_ok-numbers.ensures.ok.each b (omega (arith, c.num_blocks.ensures.count, less)) in
     let same : map draft_of c.in_ok-drafts.drafts.items ≡ map (renamed (λ s. slice_index numbers s) f) order =
     rw c.as_slice.ensures.value at c.in_ok-drafts.ensures in
     let p = err_from_is_err_and c.from_residual-in_err-laid_like.result c.from_residual-in_err-laid_like.ensures.1 in
