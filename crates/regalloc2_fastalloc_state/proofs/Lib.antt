@@ -2,8 +2,8 @@
 -- Read first: `inverse_marked` in `VRegInPRegInverse`: the two tables of locations stay inverse.
 -- Depends on the specs, and on `Cells` and `Plain` of regalloc2_semantics for maps that change at one place.
 -- Locations: `inverse_marked` in `VRegInPRegInverse`, the two tables stay inverse; `RegistersOfVRegs`. Slots:
--- `SpillSlotUnits` (how many units they take), `SlotsAsPlaces`. Registers: `LrusOfMachine` and `LrusByClass`, over
--- `ArraysByClass`, `ClassIsEmpty`, `SetMembers`, `SetOfList` and `CountingLaws`. Edits:
+-- `SpillSlotUnits` (how many units they take), `SlotsAsPlaces`. Registers: `LrusOfMachine`, `LrusByClass` and `GreatestOfClass`,
+-- over `ArraysByClass`, `ClassIsEmpty`, `SetMembers`, `SetOfList` and `CountingLaws`. Edits:
 -- `PointsDescend` (points never rise), `EditsPushed`. Operands of an instruction as masks: `MaskLemmas`.
 -- Other crates cite `ArraysByClass`, `CountingLaws`, `PointsDescend`, `SetMembers`, `SlotsAsPlaces`,
 -- `SpillSlotUnits` and `TakenOut`.
@@ -11,6 +11,7 @@ pub mod ArraysByClass
 pub mod ClassIsEmpty
 pub mod CountingLaws
 pub mod EditsPushed
+pub mod GreatestOfClass
 pub mod LrusByClass
 pub mod LrusOfMachine
 pub mod MaskLemmas

@@ -1,7 +1,7 @@
 -- The LRU lists of a machine's registers.
 use Rattle.std.proofs.Common.{ℕ, suc, ◌≡◌, ◌≢◌, ◌+◌, ◌<◌, List, [], ◌∷◌, ◌++◌, Bool, true, false, length, refl, sym, ap, ◌∙◌, ◌⊎◌, ⊎_elim, inl, inr}
 use Rattle.std.proofs.Common.{subst, arith, slice_index_or}
-use Rattle.std.specs.Prelude.{All, Contains, ◌||◌}
+use Rattle.std.specs.Prelude.{All, Contains, ◌||◌, Result, Ok, Err, IfOk}
 use Rattle.std.specs.List.{IsDistinct, AllByRecursion}
 use Rattle.std.proofs.lemmas.List.Elements.{Contains-append_left, Contains-append_right, All-contains}
 use Rattle.std.proofs.lemmas.List.Sorted.{Contains-permutation, IsPermutation-sym}
@@ -12,6 +12,7 @@ use Rattle.regalloc2_names.specs.Register.{Register, class_code, is_register}
 use Rattle.regalloc2_names.specs.RegisterSet.{has_register}
 use Rattle.regalloc2_semantics.proofs.Cells.{is_register-true}
 use Rattle.regalloc2_parts.specs.Ring.{IsNewRing}
+use Rattle.regalloc2_fastalloc_state.specs.ClassLrus.{AreLrusOf}
 use Rattle.regalloc2_fastalloc_state.specs.StateParts.{AreThoseBelow, AreLrus, AreSplit, IsLruOf}
 use Rattle.std.proofs.lemmas.List.Elements.{All-push}
 use Rattle.std.proofs.lemmas.Bool.{cases_eq, cases_Bool, or_left, or_right}
@@ -145,7 +146,7 @@ by_class all int float vector P r u h a b c =
     (one_of (has_register int r) (has_register float r) (has_register vector r) (sym (u.same r) ∙ h))
 
 -- three lists, newly filled with all registers of each class of a set, are the LRUs of that set
-pub rings_from : (all int float vector : PRegSet) (ints floats vectors : List Register) (lrus : List (List Register)) → IsUnion all int float vector
+rings_from : (all int float vector : PRegSet) (ints floats vectors : List Register) (lrus : List (List Register)) → IsUnion all int float vector
     → AreThoseBelow int Int 64 ints → AreThoseBelow float Float 64 floats → AreThoseBelow vector Vector 64 vectors
     → length lrus ≡ 3 → IsNewRing ints (slice_index_or lrus 0 []) → IsNewRing floats (slice_index_or lrus 1 []) → IsNewRing vectors (slice_index_or lrus 2 [])
     → AreLrus all lrus
@@ -162,6 +163,33 @@ rings_from all int float vector ints floats vectors lrus u ti tf tv three ni nf 
     (λ r h. u.same r ∙ or_third (has_register int r) (has_register float r) (has_register vector r) h)
     (λ r c h. by_class all int float vector (has_register vector r ≡ true) r u h (λ x. absurd (let e = sym c ∙ u.int_class r x in cc))
     (λ x. absurd (let e = sym c ∙ u.float_class r x in cc)) (λ x. x)))
+
+-- so it is with lists made of the sets
+pub rings_of : (all int float vector : PRegSet) (lrus : List (List Register)) → IsUnion all int float vector → AreLrusOf int float vector lrus →
+    AreLrus all lrus
+rings_of all int float vector lrus u made =
+    rings_from all int float vector made.ints made.floats made.vectors lrus u made.of_int made.of_float made.of_vector made.three made.int_lru made.float_lru
+    made.vector_lru
+
+-- lists made of the registers of each set, where there was memory for them
+pub lrus_made : {R E : Type 0} (lrus : R → List (List Register)) (result : Result R E) (int float vector : PRegSet) (ints floats vectors : List Register) →
+    AreThoseBelow int Int 64 ints → AreThoseBelow float Float 64 floats → AreThoseBelow vector Vector 64 vectors →
+    IfOk result (λ r. length (lrus r) ≡ 3) → IfOk result (λ r. IsNewRing ints (slice_index_or (lrus r) 0 [])) →
+    IfOk result (λ r. IsNewRing floats (slice_index_or (lrus r) 1 [])) → IfOk result (λ r. IsNewRing vectors (slice_index_or (lrus r) 2 [])) →
+    IfOk result (λ r. AreLrusOf int float vector (lrus r))
+lrus_made lrus (Err e) int float vector ints floats vectors ti tf tv three ni nf nv = tt
+lrus_made lrus (Ok r) int float vector ints floats vectors ti tf tv three ni nf nv = record {
+  ints = ints;
+  floats = floats;
+  vectors = vectors;
+  of_int = ti;
+  of_float = tf;
+  of_vector = tv;
+  three = three;
+  int_lru = ni;
+  float_lru = nf;
+  vector_lru = nv;
+}
 
 -- a member of the set of its class is one of the union
 pub in_union : (all int float vector : PRegSet) →
@@ -192,3 +220,11 @@ split_from all int float vector u Vector r = (
   λ h. by_class all int float vector (has_register vector r ≡ true) r u h.1 (λ x. absurd (let e = sym h.0 ∙ u.int_class r x in cc))
       (λ x. absurd (let e = sym h.0 ∙ u.float_class r x in cc)) (λ x. x),
 )
+
+-- an array of three is that of its items
+pub three_items : {X : Type 0} (xs : List X) (a b d : X) → length xs ≡ 3 → slice_index_or xs 0 a ∷ slice_index_or xs 1 b ∷ slice_index_or xs 2 d ∷ [] ≡ xs
+three_items [] a b d three = absurd (omega (arith, three))
+three_items (x ∷ []) a b d three = absurd (omega (arith, three))
+three_items (x ∷ y ∷ []) a b d three = absurd (omega (arith, three))
+three_items (x ∷ y ∷ z ∷ []) a b d three = refl
+three_items (x ∷ y ∷ z ∷ w ∷ ws) a b d three = absurd (omega (arith, three))

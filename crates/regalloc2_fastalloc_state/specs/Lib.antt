@@ -3,6 +3,7 @@
 -- Read first: `StateParts`, then `InstRegs`; `chosen` in `Choice` is the register that the allocator takes.
 -- Depends on regalloc2_names, on `Machine` and `Fitting` of regalloc2_function, and on the LRU list of regalloc2_parts.
 pub mod Choice
+pub mod ClassLrus
 pub mod FilledRegs
 pub mod InstRegs
 pub mod Masks

@@ -9,6 +9,7 @@ ghost use Rattle.regalloc2_names.specs.Register.{Register, class_code, is_regist
 ghost use Rattle.regalloc2_names.specs.Place.{is_memory};
 ghost use Rattle.regalloc2_names.specs.RegisterSet.{has_register};
 ghost use Rattle.regalloc2_fastalloc_state.specs.Choice.{chosen};
+ghost use Rattle.regalloc2_fastalloc_state.specs.ClassLrus.{AreLrusOf};
 ghost use Rattle.regalloc2_fastalloc_state.specs.StateParts.{IsLeastRecentIn, NoneIsIn, NoneIsFrom, AreLrus, AreThoseBelow, SameRegisters, lru_of};
 ghost use Rattle.regalloc2_fastalloc_state.specs.StateParts.{scratch_reserve_for};
 
@@ -60,6 +61,23 @@ fn class_registers<A: Allocator>(
     Ok(regs)
 }
 
+/// The LRU list of each class, of its registers in the class's set: the lowest number is the most
+/// recently used.
+fn lrus_of<A: Allocator + Copy>(
+    alloc: A,
+    int: PRegSet,
+    float: PRegSet,
+    vector: PRegSet,
+) -> Result<Lrus<A>, RegAllocError>
+    ensures ok { IfOk result (λ lrus. AreLrusOf int float vector lrus.items) }
+    ensures err { IfErr result (λ e. e ≡ RegAllocError.Memory) }
+{
+    let int_regs = class_registers(alloc, int, RegClass::Int)?;
+    let float_regs = class_registers(alloc, float, RegClass::Float)?;
+    let vector_regs = class_registers(alloc, vector, RegClass::Vector)?;
+    Lrus::new(alloc, &int_regs, &float_regs, &vector_regs)
+}
+
 /// The allocatable registers of a class.
 pub fn allocatable_of<A: Allocator>(env: &MachineEnv<A>, class: RegClass) -> PRegSet
     ensures { (r : Register) → has_register result r ≡ is_allocatable (machine_of env.now) class r }
@@ -96,10 +114,7 @@ impl<A: Allocator + Copy> AllocatableRegs<A> {
         let int = allocatable_of(env, RegClass::Int);
         let float = allocatable_of(env, RegClass::Float);
         let vector = allocatable_of(env, RegClass::Vector);
-        let int_regs = class_registers(alloc, int, RegClass::Int)?;
-        let float_regs = class_registers(alloc, float, RegClass::Float)?;
-        let vector_regs = class_registers(alloc, vector, RegClass::Vector)?;
-        let lrus = Lrus::new(alloc, &int_regs, &float_regs, &vector_regs)?;
+        let lrus = lrus_of(alloc, int, float, vector)?;
         Ok(AllocatableRegs {
             allocatable: int | float | vector,
             lrus,

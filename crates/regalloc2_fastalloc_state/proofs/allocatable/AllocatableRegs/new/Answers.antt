@@ -1,5 +1,5 @@
-use Rattle.std.proofs.Common.{ℕ, ◌≡◌, ◌<◌, inl, inr, rules, slice_index, List, [], Bool, true, ap, ◌∙◌, sym, subst, slice_index_or}
-use Rattle.std.specs.Prelude.{◌||◌}
+use Rattle.std.proofs.Common.{ℕ, ◌≡◌, ◌<◌, inl, inr, rules, slice_index, List, Bool, true, ap, ◌∙◌, sym, subst}
+use Rattle.std.specs.Prelude.{◌||◌, ◌↔◌, Contains}
 use Rattle.regalloc2_names.specs.declared.RegClass.{RegClass}
 use Rattle.regalloc2_names.specs.declared.RegClass.TheVariants.{Int, Float, Vector}
 use Rattle.regalloc2_names.specs.declared.sets.PRegSet.{PRegSet}
@@ -8,8 +8,7 @@ use Rattle.regalloc2_names.specs.RegisterSet.{has_register}
 use Rattle.regalloc2_names.specs.Listed.{has_register-small}
 use Rattle.regalloc2_function.specs.Machine.{is_allocatable}
 use Rattle.regalloc2_function.specs.Views.{machine_of}
-use Rattle.regalloc2_parts.specs.Ring.{IsNewRing}
-use Rattle.regalloc2_fastalloc_state.proofs.LrusOfMachine.{IsUnion, by_class, rings_from, split_from, in_union}
+use Rattle.regalloc2_fastalloc_state.proofs.LrusOfMachine.{IsUnion, by_class, rings_of, split_from, in_union, three_items}
 use Rattle.regalloc2_fastalloc_state.proofs.allocatable.AllocatableRegs.new.Goals as goal
 
 pub invariant_of-result : goal.invariant_of-result
@@ -23,14 +22,8 @@ invariant_of-result g c =
       int_class = λ r h. c.requires Int r (sym (c.allocatable_of-int.ensures r) ∙ h);
       float_class = λ r h. c.requires Float r (sym (c.allocatable_of-float.ensures r) ∙ h);
       vector_class = λ r h. c.requires Vector r (sym (c.allocatable_of-vector.ensures r) ∙ h);
-    } in
-    let lrus : List (List Register) = c.in_ok-lrus.lrus.items in (
-      rings_from c.bitor-2.result int float vector c.in_ok-int_regs.int_regs.items c.in_ok-float_regs.float_regs.items c.in_ok-vector_regs.vector_regs.items
-          lrus u
-          c.in_ok-int_regs.ensures.ok c.in_ok-float_regs.ensures.ok c.in_ok-vector_regs.ensures.ok c.in_ok-lrus.ensures.three
-          (subst (λ (l : List Register). IsNewRing l (slice_index_or lrus 0 [])) c.deref.ensures.value c.in_ok-lrus.ensures.int)
-          (subst (λ (l : List Register). IsNewRing l (slice_index_or lrus 1 [])) c.deref-2.ensures.value c.in_ok-lrus.ensures.float)
-          (subst (λ (l : List Register). IsNewRing l (slice_index_or lrus 2 [])) c.deref-3.ensures.value c.in_ok-lrus.ensures.vector),
+    } in (
+      rings_of c.bitor-2.result int float vector c.in_ok-lrus.lrus.items u c.in_ok-lrus.ensures.ok,
       split_from c.bitor-2.result int float vector u,
       λ r h. has_register-small c.set_of.result (λ i. search rules) r h,
     )
@@ -85,10 +78,12 @@ returns-clause-lrus g c =
       float_class = λ r h. c.requires Float r (sym (c.allocatable_of-float.ensures r) ∙ h);
       vector_class = λ r h. c.requires Vector r (sym (c.allocatable_of-vector.ensures r) ∙ h);
     } in
-    let lrus : List (List Register) = c.in_ok-lrus.lrus.items in
-    rings_from c.bitor-2.result int float vector c.in_ok-int_regs.int_regs.items c.in_ok-float_regs.float_regs.items c.in_ok-vector_regs.vector_regs.items lrus
-    u
-    c.in_ok-int_regs.ensures.ok c.in_ok-float_regs.ensures.ok c.in_ok-vector_regs.ensures.ok c.in_ok-lrus.ensures.three
-    (subst (λ (l : List Register). IsNewRing l (slice_index_or lrus 0 [])) c.deref.ensures.value c.in_ok-lrus.ensures.int)
-    (subst (λ (l : List Register). IsNewRing l (slice_index_or lrus 1 [])) c.deref-2.ensures.value c.in_ok-lrus.ensures.float)
-    (subst (λ (l : List Register). IsNewRing l (slice_index_or lrus 2 [])) c.deref-3.ensures.value c.in_ok-lrus.ensures.vector)
+    rings_of c.bitor-2.result int float vector c.in_ok-lrus.lrus.items u c.in_ok-lrus.ensures.ok
+
+pub returns-clause-fixed_stack : goal.returns-clause-fixed_stack
+returns-clause-fixed_stack g c = λ r.
+    subst (λ (l : List Register). (has_register c.set_of.result r ≡ true) ↔ Contains l r) c.deref.ensures.value (c.set_of.ensures r)
+
+pub returns-clause-dedicated_scratch : goal.returns-clause-dedicated_scratch
+returns-clause-dedicated_scratch g c =
+    three_items c.args.env.now.scratch_by_class c.index-env-0.result c.index-env-1.result c.index-env-2.result (search rules)
