@@ -29,14 +29,17 @@ FLOORS = [
     [("Checker", [
         ("regalloc2_checker_sets", "sets, saved copies"),
         ("regalloc2_checker_steps", "one place"),
-        ("regalloc2_checker_tables", "vregs of places")])],
+        ("regalloc2_checker_tables", "vregs of places"),
+        ("regalloc2_checker_facts", "facts, reports, names"),
+        ("regalloc2_checker_flow", "instructions, edges"),
+        ("regalloc2_checker_sweep", "all blocks, test_cells")])],
     [("Allocator", [
         ("regalloc2_fastalloc_state", "tests, tables of the walk"),
         ("regalloc2_fastalloc_proofs", "steps as relations"),
         ("regalloc2_fastalloc_walk", "the walk"),
         ("regalloc2_fastalloc", "run, the output")]),
      ("Checker", [
-         ("regalloc2_checker", "Checker, test_cells")])],
+         ("regalloc2_checker", "Checker")])],
     [("Front", [("regalloc2", "allocate, run_tested, run_checked, and all items under upstream's paths")])],
     [("Tools", [
         ("regalloc2_explain", "causes of errors"),

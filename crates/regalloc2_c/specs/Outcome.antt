@@ -13,7 +13,7 @@ use Rattle.regalloc2_function.specs.Misfit.{IsMisfit}
 use Rattle.regalloc2.specs.OutputValue.{OutputValue, MoveValue, IsInOrder}
 use Rattle.regalloc2.specs.Stored.{NamesMove, NamesValues, stored_move, output_of_stored}
 use Rattle.regalloc2.specs.Faithful.{IsFaithful}
-use Rattle.regalloc2_checker.specs.Cells.{AreCells}
+use Rattle.regalloc2_checker_sweep.specs.Cells.{AreCells}
 use Rattle.regalloc2.specs.WellFormed.{IsWellFormed, IsFramed}
 use Rattle.regalloc2.specs.Promise.{IsAllocation, RunsAsTheFunction, LiveInSlots}
 use Rattle.regalloc2.specs.SourceRun.{IsWrittenFirst}
@@ -31,7 +31,7 @@ use Rattle.regalloc2_c_words.specs.Status.{failure_number, columns_failure}
 use Rattle.regalloc2_c_words.specs.Handing.{IsHandedOut}
 use Rattle.regalloc2_c_words.specs.Faults.{AreFaultsOf, faults_words}
 use Rattle.regalloc2.specs.Report.{IsReport}
-use Rattle.regalloc2_checker.specs.declared.errors.CheckerError.{CheckerError}
+use Rattle.regalloc2_checker_facts.specs.declared.errors.CheckerError.{CheckerError}
 use Rattle.regalloc2_text.specs.declared.cursor.error.TextError.{TextError}
 use Rattle.regalloc2_text.specs.declared.cursor.error.TextError.TheVariants.{Fault as TextFault, Memory as TextMemory}
 use Rattle.regalloc2_c_words.specs.Payload.{as_word}

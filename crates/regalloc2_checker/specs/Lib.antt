@@ -1,24 +1,6 @@
--- Definitions for the checker: facts (which write a place holds), their fixpoint, and the errors reported.
--- Read first: `Facts`, then `AcceptedIsFaithful` in `Fixpoint`, then `IsReport` in `Report`. `Cells`: places are apart.
--- Depends on regalloc2_function (paths, both runs, faithful outputs) and on the tables of regalloc2_checker_tables.
-pub mod Facts
-pub mod Fixpoint
-pub mod TableFacts
-pub mod Renamed
-pub mod NamedPlaces
-pub mod NamedBits
-pub mod Tables
-pub mod Propagation
-pub mod Swept
-pub mod Listing
-pub mod ListingCopied
+-- What a checker holds, and what it found.
+-- Read first: `Prepared`.
+-- Depends on regalloc2_checker_facts, which has the facts and the errors reported.
 pub mod FramedIsProp
 pub mod Prepared
 pub mod ErrorsFound
-pub mod Report
-pub mod CheckInputs
-pub mod CellRegisters
-pub mod Blocks
-pub mod Text
-pub mod Cells
-pub mod CellFaults

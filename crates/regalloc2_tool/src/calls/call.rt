@@ -1,7 +1,7 @@
 //! The calls about a stored function, and their results as text.
 
 ghost use Rattle.std.specs.Prelude.{◌≡◌, true, IfOk};
-ghost use Rattle.regalloc2_checker.specs.Cells.{AreCells};
+ghost use Rattle.regalloc2_checker_sweep.specs.Cells.{AreCells};
 ghost use Rattle.regalloc2_function.specs.Faithful.{IsFaithful};
 ghost use Rattle.regalloc2_function.specs.OutputValue.{IsInOrder};
 ghost use Rattle.regalloc2_function.specs.SourceRun.{IsWrittenFirst};

@@ -1,5 +1,5 @@
 use Rattle.std.proofs.Common.{◌∙◌, sym, inr}
-use Rattle.regalloc2_checker.proofs.NoErrorsIsFaithful.{accepts, refuses}
+use Rattle.regalloc2_checker_facts.proofs.NoErrorsIsFaithful.{accepts, refuses}
 use Rattle.regalloc2_checker.proofs.checker.Checker.run.Goals as goal
 
 pub returns-then-is_empty-clause-accepted : goal.returns-then-is_empty-clause-accepted

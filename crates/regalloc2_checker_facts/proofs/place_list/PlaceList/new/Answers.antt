@@ -1,0 +1,6 @@
+use Rattle.std.proofs.Common.{◌∙◌, ◌++◌, List, ℕ, ap}
+use Rattle.regalloc2_checker_facts.proofs.PlacesListed.{none-listed}
+use Rattle.regalloc2_checker_facts.proofs.place_list.PlaceList.new.Goals as goal
+
+pub returns : goal.returns
+returns g c = ap (λ (l : List ℕ). l ++ c.in_ok-new.field-0) (none-listed c.empty.result c.empty.ensures) ∙ c.in_ok-new.ensures

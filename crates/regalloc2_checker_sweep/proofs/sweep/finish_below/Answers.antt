@@ -1,0 +1,26 @@
+use Rattle.std.proofs.Common.{ℕ, ◌≡◌, Bool, true, false, List, get_or, ap, subst, ◌∙◌, arith, below_more}
+use Rattle.std.proofs.lemmas.Bool.{OnTrue_at}
+use Rattle.regalloc2_checker_facts.specs.Swept.{done_at}
+use Rattle.regalloc2_checker_facts.proofs.Sweeps.{further-twice}
+use Rattle.regalloc2_checker_sweep.proofs.sweep.finish_below.Goals as goal
+
+pub loop-b-preserved : goal.loop-b-preserved
+loop-b-preserved g c =
+    let inv = c.loop-b.invariant in
+    let p = c.in_ok-finish.ensures in
+    let b : ℕ = c.loop-b.b in
+    let rs : List Bool = c.args.sweep.now.state.reached.items in
+    let now : List Bool = c.loop-b.sweep.state.reached.items in
+    let after : List Bool = c.finish.new.sweep.is_done.items in
+    let here : get_or rs b false ≡ true → done_at after b ≡ true = λ r.
+    subst (λ (n : ℕ). get_or now n false ≡ true → done_at after n ≡ true) c.new.ensures (OnTrue_at c.if-not-branch.false p.here)
+    (ap (λ (xs : List Bool). get_or xs b false) inv.further.reached ∙ r) in
+    record {
+      within = inv.within;
+      low = omega (arith, c.loop-b-test.true, inv.within);
+      further = further-twice c.args.sweep.now.state.values c.loop-b.sweep.state.values c.finish.new.sweep.state.values rs now
+          c.finish.new.sweep.state.reached.items c.args.sweep.now.is_done.items c.loop-b.sweep.is_done.items after inv.further p.further;
+      queue = p.queue ∙ inv.queue;
+      swept = λ vs s. OnTrue_at c.if-not-branch.false p.swept vs (inv.swept vs s);
+      all = λ none. below_more _ _ (λ n less r. p.further.kept n (inv.all none n less r)) here;
+    }

@@ -1,0 +1,14 @@
+use Rattle.std.proofs.Common.{ap, ◌∙◌, Bool, false, List, get_or}
+use Rattle.std.proofs.lemmas.Bool.{OnTrue_at}
+use Rattle.regalloc2_function.specs.FunctionValue.{FunctionValue}
+use Rattle.regalloc2_checker_facts.proofs.Sweeps.{swept-dropped}
+use Rattle.regalloc2_checker_sweep.proofs.sweep.make_room.Goals as goal
+
+pub returns-clause-swept : goal.returns-clause-swept
+returns-clause-swept g c = λ vs s.
+    let f : FunctionValue = g.F.Function.function c.args.by.now.f.now in
+    let t = c.finish_below.new.sweep in
+    let d = c.in_ok-drop_marked.ensures in
+    swept-dropped g.row.A.Denot f g.o c.args.by.now.slots t.is_done.items t.state.values c.drop_marked.new.self t.state.reached.items d.places
+    (λ k i y un less. d.tables k i y (ap (λ (xs : List Bool). get_or xs k false) c.deref-3.ensures.value ∙ un) less) vs
+    (OnTrue_at c.if-not-branch.false c.in_ok-finish_below.ensures.swept vs s)
