@@ -13,6 +13,8 @@ ghost use Rattle.regalloc2_analysis.specs.BranchDefs.BranchDefs.{EndsInDefinitio
 ghost use Rattle.regalloc2_analysis.specs.BranchDefs.BranchDefs.{fixed_definition as fixed_definition_of};
 ghost use Rattle.regalloc2_analysis.specs.BranchDefs.Tables.{AreBranchDefsOf, edge_of, site_of, stored_of};
 
+pub use regalloc2_analysis_steps::edges::EdgeInto;
+
 use edges::{edges_into, some_branch_defines};
 use regalloc2_function::Function;
 use regalloc2_index::{Block, Inst};
@@ -29,22 +31,6 @@ pub struct DefSite {
     pub branch: Inst,
     /// The index among its operands.
     pub index: usize,
-}
-
-/// The edge into a block from a branch that defines.
-#[derive(Clone, Copy)]
-pub struct EdgeInto {
-    /// The block that the branch ends.
-    pub from: Block,
-    /// The branch.
-    pub branch: Inst,
-    /// The position of the block among the successors.
-    pub position: usize,
-    /// The registers to which definitions of the branch are fixed.
-    pub held: PRegSet,
-    // where the branch's operands begin and end in the list of those that are stored
-    first: usize,
-    end: usize,
 }
 
 /// What branches define.

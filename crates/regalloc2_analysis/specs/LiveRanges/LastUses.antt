@@ -9,6 +9,7 @@ use Rattle.regalloc2_function.specs.FunctionValue.{FunctionValue, block_at, inst
 use Rattle.regalloc2_function.specs.SourceRun.{arguments_at}
 use Rattle.regalloc2_function.specs.WellFormed.{last_of}
 use Rattle.regalloc2_function.specs.FunctionValue.{op_at}
+use Rattle.regalloc2_analysis_steps.specs.Ends.{read_end}
 use Rattle.regalloc2_analysis.specs.declared.live_ranges.ends.RangeEnd.{RangeEnd}
 
 -- what a table says of a number; nothing past its end
@@ -32,11 +33,6 @@ pub record ReadsNumber (ops : List OperandValue) (n : ℕ) (at : OperandPos) (k 
 pub record ReadsFirst (ops : List OperandValue) (n : ℕ) (at : OperandPos) (k : ℕ) : Type 0 where
   pub reads : ReadsNumber ops n at k
   pub first : (j : ℕ) → j < k → ReadsNumber ops n at j → ⊥
-
--- the point at which a read of an instruction ends
-abbrev pub read_end : OperandPos → ℕ → ℕ
-read_end Early i = after i
-read_end Late i = before (i + 1)
 
 -- the end of a read by the operand at k
 abbrev pub end_of_reader : OperandPos → ℕ → ℕ → RangeEnd
