@@ -13,12 +13,11 @@ ghost use Rattle.regalloc2_analysis.specs.BranchDefs.BranchDefs.{EndsInDefinitio
 ghost use Rattle.regalloc2_analysis.specs.BranchDefs.BranchDefs.{fixed_definition as fixed_definition_of};
 ghost use Rattle.regalloc2_analysis.specs.BranchDefs.Tables.{AreBranchDefsOf, edge_of, site_of, stored_of};
 
-pub use regalloc2_analysis_steps::edges::EdgeInto;
-
 use edges::{edges_into, some_branch_defines};
+pub use regalloc2_analysis_steps::edges::EdgeInto;
 use regalloc2_function::Function;
 use regalloc2_index::{Block, Inst};
-use regalloc2_names::{Operand, OperandConstraint, PReg, PRegSet, RegAllocError, VReg};
+use regalloc2_names::{Operand, OperandConstraint, PReg, RegAllocError, VReg};
 use regalloc2_shape::table_length::table_length;
 use sites::{branch_sites, site_in};
 use std::alloc::Allocator;

@@ -1,6 +1,6 @@
 //! The edges into blocks from branches that define.
 
-ghost use Rattle.std.specs.Prelude.{◌≡◌, ◌<◌, All, length};
+ghost use Rattle.std.specs.Prelude.{◌<◌, All, length};
 ghost use Rattle.regalloc2_analysis_steps.specs.Edges.{NotesEdges};
 
 use regalloc2_index::{Block, Inst};

@@ -1,6 +1,6 @@
 //! Marks of vregs, by number.
 
-ghost use Rattle.std.specs.Prelude.{◌≡◌, ◌<◌, true, false, length, slice_index_or};
+ghost use Rattle.std.specs.Prelude.{◌≡◌, ◌<◌, true, false, slice_index_or};
 ghost use Rattle.regalloc2_shape.specs.MarkedNumbers.{Marks};
 
 use regalloc2_names::VReg;

@@ -2,10 +2,9 @@
 use Rattle.std.proofs.Common.{ℕ, zero, suc, ◌≡◌, ◌+◌, ◌<◌, Bool, true, false, List, [], ◌∷◌, length, get_or, take, refl, sym, ap}
 use Rattle.std.proofs.Common.{◌∙◌, subst, arith, inl, inr}
 use Rattle.std.specs.Prelude.{◌&&◌, ◌||◌, not, Contains}
-use Rattle.std.specs.List.{list_any}
 use Rattle.std.proofs.lemmas.List.Folds.{list_any_more, list_any_at}
 use Rattle.std.proofs.lemmas.Bool.{and_parts, not-true, or_cases, or_parts, or_right}
-use Rattle.std.proofs.Math.Bool.{and-or_distrib_right, or-false}
+use Rattle.std.proofs.Math.Bool.{and-or_distrib_right}
 use Rattle.regalloc2_index.proofs.Numbers.{nat_eq-self}
 use Rattle.regalloc2_names.specs.declared.OperandPos.{OperandPos}
 use Rattle.regalloc2_names.specs.declared.OperandPos.TheVariants.{Early, Late}

@@ -8,7 +8,6 @@ use Rattle.regalloc2_function.specs.WellFormed.{last_of}
 use Rattle.regalloc2_function.specs.FunctionValue.{op_at}
 use Rattle.regalloc2_analysis.specs.BranchDefs.BranchDefs.{DefinesNumber, IsUsedElsewhere, fixed_definition}
 use Rattle.regalloc2_analysis.specs.declared.branch_defs.DefSite.{DefSite}
-use Rattle.regalloc2_analysis_steps.specs.declared.edges.EdgeInto.{EdgeInto}
 
 -- the first operands of a branch are noted by the numbers that they define, and nothing is forgotten
 pub record NotesSites (operands : List OperandValue) (branch count : ℕ) (old new : List (Option DefSite)) : Type 0 where

@@ -5,7 +5,6 @@ ghost use Rattle.std.specs.Option.{option_or};
 ghost use Rattle.regalloc2_function.specs.FunctionValue.{block_at, inst_at};
 ghost use Rattle.regalloc2_function.specs.WellFormed.{BlocksFollow, last_of};
 ghost use Rattle.regalloc2_analysis.specs.LiveRanges.LastUses.{NotesArguments, NotesPassed, NotesReads, NotesUses, end_at};
-ghost use Rattle.regalloc2_analysis_steps.specs.Ends.{read_end};
 ghost use Rattle.regalloc2_analysis.specs.LiveRanges.Slots.{HasSlot, IsApart, spread};
 
 use super::InstOperand;

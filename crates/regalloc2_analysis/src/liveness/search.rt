@@ -5,7 +5,7 @@ ghost use Rattle.regalloc2_function.specs.FunctionValue.{FunctionValue, block_at
 ghost use Rattle.regalloc2_function.specs.Path.{first_of};
 ghost use Rattle.regalloc2_function.specs.SourceRun.{arguments_at};
 ghost use Rattle.regalloc2_function.specs.WellFormed.{IsFramed};
-ghost use Rattle.regalloc2_names.specs.Operand.{is_def, reads_at};
+ghost use Rattle.regalloc2_names.specs.Operand.{reads_at};
 ghost use Rattle.regalloc2_names.specs.Register.{VirtualRegister};
 ghost use Rattle.regalloc2_semantics.specs.Blocks.{IsUnwritten};
 ghost use Rattle.regalloc2_analysis.specs.Liveness.LiveIn.{IsNeeded};
