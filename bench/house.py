@@ -16,16 +16,17 @@ FLOORS = [
     [("Names and functions", [
         ("regalloc2_index", "instructions, blocks"),
         ("regalloc2_names", "vregs, operands, places"),
-        ("regalloc2_function", "Function, Output, specs")])],
+        ("regalloc2_function", "Function, Output, specs")]),
+     ("Moves", [
+         ("regalloc2_parts", "lists, parallel moves")])],
     [("Stored forms", [
         ("regalloc2_serialize", "numbers, JSON, words"),
         ("regalloc2_text", "texts")]),
      ("Analysis", [
          ("regalloc2_shape", "well-formedness, IndexSet"),
          ("regalloc2_semantics", "from blocks to paths"),
-         ("regalloc2_analysis", "liveness, ranges, branches")]),
-     ("Moves", [
-         ("regalloc2_parts", "lists, parallel moves")])],
+         ("regalloc2_analysis_steps", "one operand or edge"),
+         ("regalloc2_analysis", "liveness, ranges, branches")])],
     [("Checker", [
         ("regalloc2_checker_sets", "sets, saved copies"),
         ("regalloc2_checker_steps", "one place"),

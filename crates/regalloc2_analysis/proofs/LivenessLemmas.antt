@@ -5,12 +5,10 @@
 -- and `needed_unwritten` in `StepsWalked` say so of what the walk over a tree and the search find; `none_listed` and `lists_none` in `PropagatedToFixpoint` of
 -- the list that needs, passed on, end with. `never_needed` in `ScopedIsWritten`: what is clear at a step isn't needed there. `ChainCut`, `SitesKept` and
 -- `StepsWalked` have the walk over the tree, `SearchedBack` the search. `walked_whole` in `LiveAtBlockBegin` has the upward-exposed uses of one block, and
--- `WalkSteps` its loops; `PairLists`, `PairSets` and `EdgeLists` say what the lists and sets of the needs hold.
+-- `WalkSteps` its loops; `EdgeLists` says what the lists of edges hold, `PairLists` and `PairSets` of regalloc2_analysis_steps those and the sets of needs.
 pub mod LiveAtBlockBegin
 pub mod PropagatedToFixpoint
 pub mod ReadsWrittenDecided
-pub mod PairLists
-pub mod PairSets
 pub mod WalkSteps
 pub mod EdgeLists
 pub mod ChainCut

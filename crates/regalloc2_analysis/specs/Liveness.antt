@@ -3,7 +3,6 @@
 -- Depends on definite assignment (`IsWrittenFirst`) of regalloc2_function and on `Blocks` of regalloc2_semantics.
 pub mod Edges
 pub mod LiveIn
-pub mod BlockVRegPairs
 pub mod Propagation
 pub mod BlockWalk
 pub mod Scopes

@@ -14,9 +14,10 @@ ghost use Rattle.regalloc2_analysis.specs.BranchDefs.BranchDefs.{fixed_definitio
 ghost use Rattle.regalloc2_analysis.specs.BranchDefs.Tables.{AreBranchDefsOf, edge_of, site_of, stored_of};
 
 use edges::{edges_into, some_branch_defines};
+pub use regalloc2_analysis_steps::edges::EdgeInto;
 use regalloc2_function::Function;
 use regalloc2_index::{Block, Inst};
-use regalloc2_names::{Operand, OperandConstraint, PReg, PRegSet, RegAllocError, VReg};
+use regalloc2_names::{Operand, OperandConstraint, PReg, RegAllocError, VReg};
 use regalloc2_shape::table_length::table_length;
 use sites::{branch_sites, site_in};
 use std::alloc::Allocator;
@@ -29,22 +30,6 @@ pub struct DefSite {
     pub branch: Inst,
     /// The index among its operands.
     pub index: usize,
-}
-
-/// The edge into a block from a branch that defines.
-#[derive(Clone, Copy)]
-pub struct EdgeInto {
-    /// The block that the branch ends.
-    pub from: Block,
-    /// The branch.
-    pub branch: Inst,
-    /// The position of the block among the successors.
-    pub position: usize,
-    /// The registers to which definitions of the branch are fixed.
-    pub held: PRegSet,
-    // where the branch's operands begin and end in the list of those that are stored
-    first: usize,
-    end: usize,
 }
 
 /// What branches define.

@@ -20,9 +20,10 @@ use Rattle.regalloc2_semantics.proofs.SingleDef.{DefinesAt, one_made}
 use Rattle.regalloc2_semantics.proofs.SingleDef.Made.{by_operand}
 use Rattle.regalloc2_analysis.specs.BranchDefs.BranchDefs.{AreStoredOperands, EndsInDefinitions, IsEdgeInto, IsHeld, IsUsedElsewhere, MayHaveTables}
 use Rattle.regalloc2_analysis.specs.BranchDefs.BranchDefs.{fixed_definition}
-use Rattle.regalloc2_analysis.specs.BranchDefs.Notes.{AreUsed, IsMarkedDefinition, ListsStored, NotesEdges}
+use Rattle.regalloc2_analysis.specs.BranchDefs.Notes.{AreUsed, IsMarkedDefinition, ListsStored}
+use Rattle.regalloc2_analysis_steps.specs.Edges.{NotesEdges}
 use Rattle.regalloc2_analysis.specs.BranchDefs.Tables.{AreEdges, IsEdgeOf}
-use Rattle.regalloc2_analysis.specs.declared.branch_defs.EdgeInto.{EdgeInto}
+use Rattle.regalloc2_analysis_steps.specs.declared.edges.EdgeInto.{EdgeInto}
 use Rattle.regalloc2_analysis.proofs.BranchDefsLemmas.UseNotes.{used_made}
 
 -- the registers to which definitions among the first operands are fixed

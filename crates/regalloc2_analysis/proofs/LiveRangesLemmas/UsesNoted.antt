@@ -16,7 +16,7 @@ use Rattle.regalloc2_semantics.proofs.Order.{stands_later}
 use Rattle.regalloc2_analysis.specs.declared.live_ranges.ends.RangeEnd.{RangeEnd}
 use Rattle.regalloc2_analysis.specs.LiveRanges.LastUses.{EndsFrom, EndsUse, HasPassed, NotesRangeEnd, NotesPassed, NotesReads, NotesUses}
 use Rattle.regalloc2_analysis.specs.LiveRanges.LastUses.{PassesNumber, ReadsFirst, ReadsNumber, UsesNumber, end_at, end_of_argument, end_of_reader}
-use Rattle.regalloc2_analysis.specs.LiveRanges.LastUses.{read_end}
+use Rattle.regalloc2_analysis_steps.specs.Ends.{read_end}
 use Rattle.regalloc2_analysis.specs.LiveRanges.LastUses.UsesNumber.{reads, passes}
 use Rattle.regalloc2_analysis.specs.LiveRanges.LastUses.EndsUse.{late, early, passed}
 use Rattle.regalloc2_analysis.proofs.LiveRangesLemmas.ItemsPastEnd.{op_is}

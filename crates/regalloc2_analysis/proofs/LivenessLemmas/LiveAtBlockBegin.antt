@@ -14,15 +14,11 @@ use Rattle.regalloc2_semantics.specs.Carry.{Undefined}
 use Rattle.regalloc2_semantics.specs.Listing.{defines}
 use Rattle.regalloc2_semantics.proofs.UnwrittenPlaces.{defines_none}
 use Rattle.regalloc2_analysis.specs.Liveness.LiveIn.{IsRead, IsNeeded, read, passed_on, later, IsUnwrittenTo}
-use Rattle.regalloc2_analysis.specs.Liveness.BlockVRegPairs.{Pair, lists, BlockSets, holds, Gains, Grows}
+use Rattle.regalloc2_analysis_steps.specs.BlockVRegPairs.{Pair, lists, BlockSets, holds, Gains, Grows}
 use Rattle.regalloc2_analysis.specs.Liveness.BlockWalk.{asks_for_vreg, IsBlockWalkedTo, PassesNeeds, IsBlockWalked, AreWrites, AreAsked, AreParameters}
-use Rattle.regalloc2_analysis.proofs.LivenessLemmas.PairSets.{holds_nothing}
+use Rattle.regalloc2_analysis_steps.proofs.PairLists.{nothing}
+use Rattle.regalloc2_analysis_steps.proofs.PairSets.{holds_nothing}
 use Rattle.regalloc2_analysis.proofs.LivenessLemmas.WalkSteps.{asked_read, read_asked, defines_not, names_found, names_there}
-
--- an empty list
-pub nothing : (p : Pair) → lists [] p ≡ false
-unfolding lists
-nothing p = refl
 
 module _ (f : FunctionValue) (b : ℕ) (v : VirtualRegister) where
   -- a vreg that is needed at an instruction, and isn't defined by those before it, is needed at the block's beginning

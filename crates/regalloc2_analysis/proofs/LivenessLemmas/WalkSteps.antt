@@ -2,10 +2,9 @@
 use Rattle.std.proofs.Common.{ℕ, zero, suc, ◌≡◌, ◌+◌, ◌<◌, Bool, true, false, List, [], ◌∷◌, length, get_or, take, refl, sym, ap}
 use Rattle.std.proofs.Common.{◌∙◌, subst, arith, inl, inr}
 use Rattle.std.specs.Prelude.{◌&&◌, ◌||◌, not, Contains}
-use Rattle.std.specs.List.{list_any}
 use Rattle.std.proofs.lemmas.List.Folds.{list_any_more, list_any_at}
 use Rattle.std.proofs.lemmas.Bool.{and_parts, not-true, or_cases, or_parts, or_right}
-use Rattle.std.proofs.Math.Bool.{and-or_distrib_right, or-false}
+use Rattle.std.proofs.Math.Bool.{and-or_distrib_right}
 use Rattle.regalloc2_index.proofs.Numbers.{nat_eq-self}
 use Rattle.regalloc2_names.specs.declared.OperandPos.{OperandPos}
 use Rattle.regalloc2_names.specs.declared.OperandPos.TheVariants.{Early, Late}
@@ -17,9 +16,10 @@ use Rattle.regalloc2_semantics.specs.Carry.{Undefined}
 use Rattle.regalloc2_semantics.specs.Listing.{defines}
 use Rattle.regalloc2_semantics.proofs.UnwrittenPlaces.{defines_none}
 use Rattle.regalloc2_analysis.specs.Liveness.LiveIn.{IsReadAt, IsRead}
-use Rattle.regalloc2_analysis.specs.Liveness.BlockVRegPairs.{Pair, BlockSets, holds, Gains, Grows}
+use Rattle.regalloc2_analysis_steps.specs.BlockVRegPairs.{Pair, BlockSets, holds, Gains, Grows}
 use Rattle.regalloc2_analysis.specs.Liveness.BlockWalk.{reads, asks_for_vreg}
-use Rattle.regalloc2_analysis.proofs.LivenessLemmas.PairLists.{grows_more}
+use Rattle.regalloc2_analysis_steps.proofs.Tests.{names_is}
+use Rattle.regalloc2_analysis_steps.proofs.PairLists.{grows_more}
 use Rattle.regalloc2_function.specs.FunctionValue.{no_operand, op_at}
 
 -- lists, one element more
@@ -59,57 +59,6 @@ unfolding is_read
 reads_no pos ops i o written b lt is not_so v =
     let here : is_read pos v o ≡ false = rw not_so refl in
     rw (reads_more pos v ops i o lt is, here) (or_no (reads pos v (take i ops)) (not (holds written (b, v))))
-
-defines_is : (v : VirtualRegister) (ops : List OperandValue) → defines v ops ≡ list_any (λ o. is_def o.kind && is_vreg o.vreg v) ops
-unfolding defines
-defines_is v [] = refl
-defines_is v (o ∷ os) = ap (λ x. (is_def o.kind && is_vreg o.vreg v) || x) (defines_is v os)
-
--- without operands no vreg is defined
-pub defines_nothing : (v : VirtualRegister) → defines v [] ≡ false
-unfolding defines
-defines_nothing v = refl
-
-defines_more : (v : VirtualRegister) (ops : List OperandValue) (i : ℕ) (o : OperandValue) → i < length ops → o ≡ get_or ops i o →
-    defines v (take (i + 1) ops) ≡ (defines v (take i ops) || (is_def o.kind && is_vreg o.vreg v))
-defines_more v ops i o lt is =
-    defines_is v (take (i + 1) ops) ∙ list_any_more (λ x. is_def x.kind && is_vreg x.vreg v) ops i o lt
-    ∙ ap (λ x. list_any (λ y. is_def y.kind && is_vreg y.vreg v) (take i ops) || (is_def x.kind && is_vreg x.vreg v)) (sym is)
-    ∙ ap (λ x. x || (is_def o.kind && is_vreg o.vreg v)) (sym (defines_is v (take i ops)))
-
--- one operand more that is a definition defines its vreg too
-pub defines_yes : (ops : List OperandValue) (i : ℕ) (o : OperandValue) → i < length ops → o ≡ get_or ops i o → is_def o.kind ≡ true → (v : VirtualRegister) →
-    defines v (take (i + 1) ops) ≡ (defines v (take i ops) || is_vreg o.vreg v)
-defines_yes ops i o lt is does v = rw (defines_more v ops i o lt is, does) refl
-
--- one operand more that is no definition defines nothing more
-pub defines_no : (ops : List OperandValue) (i : ℕ) (o : OperandValue) → i < length ops → o ≡ get_or ops i o → is_def o.kind ≡ false → (v : VirtualRegister) →
-    defines v (take (i + 1) ops) ≡ defines v (take i ops)
-defines_no ops i o lt is not_so v = rw (defines_more v ops i o lt is, not_so) (or-false (defines v (take i ops)))
-
-names_is : (v : VirtualRegister) (xs : List VirtualRegister) → names v xs ≡ list_any (λ x. is_vreg x v) xs
-unfolding names
-names_is v [] = refl
-names_is v (x ∷ xs) = ap (λ y. is_vreg x v || y) (names_is v xs)
-
--- an empty list names no vreg
-pub names_nothing : (v : VirtualRegister) → names v [] ≡ false
-unfolding names
-names_nothing v = refl
-
--- the first i + 1 vregs of a list name what the first i name, and the one at i
-pub names_more : (xs : List VirtualRegister) (i : ℕ) (x : VirtualRegister) → i < length xs → x ≡ get_or xs i x → (v : VirtualRegister) →
-    names v (take (i + 1) xs) ≡ (names v (take i xs) || is_vreg x v)
-names_more xs i x lt is v =
-    names_is v (take (i + 1) xs) ∙ list_any_more (λ y. is_vreg y v) xs i x lt ∙ ap (λ y. list_any (λ z. is_vreg z v) (take i xs) || is_vreg y v) (sym is)
-    ∙ ap (λ y. y || is_vreg x v) (sym (names_is v (take i xs)))
-
--- the upward-exposed uses among the first i + 1 vregs are those among the first i, and the one at i unless the block wrote it before
-pub names_asked : (xs : List VirtualRegister) (i : ℕ) (x : VirtualRegister) (written : BlockSets) (b : ℕ) → i < length xs → x ≡ get_or xs i x →
-    (v : VirtualRegister) →
-    (names v (take (i + 1) xs) && not (holds written (b, v))) ≡ ((names v (take i xs) && not (holds written (b, v)))
-    || (is_vreg x v && not (holds written (b, v))))
-names_asked xs i x written b lt is v = rw (names_more xs i x lt is v) (and-or_distrib_right (names v (take i xs)) (is_vreg x v) (not (holds written (b, v))))
 
 -- the boolean tests and the definitions that they decide
 reads_found : (pos : OperandPos) (v : VirtualRegister) (ops : List OperandValue) → reads pos v ops ≡ true → IsReadAt pos v ops

@@ -8,7 +8,6 @@ use Rattle.regalloc2_function.specs.WellFormed.{last_of}
 use Rattle.regalloc2_function.specs.FunctionValue.{op_at}
 use Rattle.regalloc2_analysis.specs.BranchDefs.BranchDefs.{DefinesNumber, IsUsedElsewhere, fixed_definition}
 use Rattle.regalloc2_analysis.specs.declared.branch_defs.DefSite.{DefSite}
-use Rattle.regalloc2_analysis.specs.declared.branch_defs.EdgeInto.{EdgeInto}
 
 -- the first operands of a branch are noted by the numbers that they define, and nothing is forgotten
 pub record NotesSites (operands : List OperandValue) (branch count : ℕ) (old new : List (Option DefSite)) : Type 0 where
@@ -65,10 +64,3 @@ pub record ListsStored (used : List Bool) (operands : List OperandValue) (count 
   pub is : new ≡ old ++ added
   pub rising : (i j : ℕ) → i < j → j < length added → slice_index added i < slice_index added j
   pub members : (k : ℕ) → Contains added k ↔ ((k < count) × IsMarkedDefinition used (op_at operands k))
-
--- an edge is noted for the first successors, each with its position
-pub record NotesEdges (succs : List ℕ) (edge : EdgeInto) (count : ℕ) (old new : List (Option EdgeInto)) : Type 0 where
-  pub from : (b : ℕ) (e : EdgeInto) → slice_index_or new b None ≡ Some e → (slice_index_or old b None ≡ Some e) ⊎ ((p : ℕ) × (p < count)
-      × (slice_index succs p ≡ b) × (e ≡ record edge { position = p }))
-  pub kept : (b : ℕ) → slice_index_or new b None ≡ None → slice_index_or old b None ≡ None
-  pub noted : (p : ℕ) → p < count → slice_index_or new (slice_index succs p) None ≡ None → ⊥

@@ -6,7 +6,7 @@ use Rattle.regalloc2_function.specs.FunctionValue.{FunctionValue, block_at, inst
 use Rattle.regalloc2_function.specs.WellFormed.{last_of}
 use Rattle.regalloc2_analysis.specs.BranchDefs.BranchDefs.{IsSite, IsHeld, AreStoredOperands, IsEdgeInto}
 use Rattle.regalloc2_analysis.specs.declared.branch_defs.DefSite.{DefSite}
-use Rattle.regalloc2_analysis.specs.declared.branch_defs.EdgeInto.{EdgeInto}
+use Rattle.regalloc2_analysis_steps.specs.declared.edges.EdgeInto.{EdgeInto}
 use Rattle.regalloc2_analysis.specs.declared.branch_defs.BranchDefs.{BranchDefs}
 
 -- the operand of a branch that the tables give for a number

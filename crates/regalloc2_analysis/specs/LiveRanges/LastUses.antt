@@ -1,14 +1,15 @@
 -- What the backward walk notes of a number's uses, instruction by instruction.
-use Rattle.std.specs.Prelude.{ℕ, ◌≡◌, ◌+◌, ◌<◌, ◌≤◌, List, length, slice_index_or, true, Option, None, Some, nat_eq, if◌then◌else◌}
+use Rattle.std.specs.Prelude.{ℕ, ◌≡◌, ◌<◌, ◌≤◌, List, length, slice_index_or, true, Option, None, Some, nat_eq, if◌then◌else◌}
 use Rattle.regalloc2_names.specs.declared.OperandPos.{OperandPos}
 use Rattle.regalloc2_names.specs.declared.OperandPos.TheVariants.{Early, Late}
 use Rattle.regalloc2_names.specs.Operand.{OperandValue, is_reading}
 use Rattle.regalloc2_names.specs.Register.{VirtualRegister, no_vreg}
-use Rattle.regalloc2_names.specs.Point.{before, after}
+use Rattle.regalloc2_names.specs.Point.{before}
 use Rattle.regalloc2_function.specs.FunctionValue.{FunctionValue, block_at, inst_at}
 use Rattle.regalloc2_function.specs.SourceRun.{arguments_at}
 use Rattle.regalloc2_function.specs.WellFormed.{last_of}
 use Rattle.regalloc2_function.specs.FunctionValue.{op_at}
+use Rattle.regalloc2_analysis_steps.specs.Ends.{read_end}
 use Rattle.regalloc2_analysis.specs.declared.live_ranges.ends.RangeEnd.{RangeEnd}
 
 -- what a table says of a number; nothing past its end
@@ -32,11 +33,6 @@ pub record ReadsNumber (ops : List OperandValue) (n : ℕ) (at : OperandPos) (k 
 pub record ReadsFirst (ops : List OperandValue) (n : ℕ) (at : OperandPos) (k : ℕ) : Type 0 where
   pub reads : ReadsNumber ops n at k
   pub first : (j : ℕ) → j < k → ReadsNumber ops n at j → ⊥
-
--- the point at which a read of an instruction ends
-abbrev pub read_end : OperandPos → ℕ → ℕ
-read_end Early i = after i
-read_end Late i = before (i + 1)
 
 -- the end of a read by the operand at k
 abbrev pub end_of_reader : OperandPos → ℕ → ℕ → RangeEnd

@@ -11,7 +11,7 @@ use Rattle.regalloc2_function.specs.SourceRun.{arguments_at}
 use Rattle.regalloc2_semantics.specs.Blocks.{IsUnwritten, names}
 use Rattle.regalloc2_semantics.specs.Listing.{defines}
 use Rattle.regalloc2_analysis.specs.Liveness.LiveIn.{IsRead, IsNeeded, IsUnwrittenTo}
-use Rattle.regalloc2_analysis.specs.Liveness.BlockVRegPairs.{Pair, lists, BlockSets, holds}
+use Rattle.regalloc2_analysis_steps.specs.BlockVRegPairs.{Pair, lists, BlockSets, holds}
 
 -- whether some operand reads v at a position
 unfoldable pub reads : OperandPos → VirtualRegister → List OperandValue → Bool

@@ -1,14 +1,16 @@
 //! The edges out of blocks whose branches define, and which of those definitions are stored behind them.
 
-ghost use Rattle.std.specs.Prelude.{◌≡◌, ◌<◌, ◌+◌, ◌↔◌, true, ℕ, All, None, length, slice_index_or, IsTrue, IfOk, OnOk};
+ghost use Rattle.std.specs.Prelude.{◌≡◌, ◌<◌, ◌+◌, ◌↔◌, true, ℕ, None, length, slice_index_or, IsTrue, IfOk, OnOk};
 ghost use Rattle.regalloc2_names.specs.Register.{Register};
 ghost use Rattle.regalloc2_names.specs.RegisterSet.{has_register};
 ghost use Rattle.regalloc2_function.specs.FunctionValue.{block_at};
 ghost use Rattle.regalloc2_analysis.specs.BranchDefs.BranchDefs.{DefinesNumber, EndsInDefinitions, HasDefinitions, IsHeld, MayHaveTables};
-ghost use Rattle.regalloc2_analysis.specs.BranchDefs.Notes.{AreUsed, IsMarkedDefinition, ListsStored, NotesEdges};
+ghost use Rattle.regalloc2_analysis.specs.BranchDefs.Notes.{AreUsed, IsMarkedDefinition, ListsStored};
 ghost use Rattle.regalloc2_analysis.specs.BranchDefs.Tables.{AreEdges};
 
-use super::{EdgeInto, fixed_definition};
+use super::fixed_definition;
+use regalloc2_analysis_steps::edges::{EdgeInto, note_positions};
+use regalloc2_analysis_steps::marks::is_marked;
 use regalloc2_function::Function;
 use regalloc2_index::Block;
 use regalloc2_names::{Operand, PRegSet};
@@ -66,8 +68,7 @@ fn held_by(operands: &[Operand]) -> PRegSet
 fn is_stored(used: &[bool], operand: Operand) -> bool
     ensures { IsTrue result ↔ IsMarkedDefinition used.now operand }
 {
-    let number = operand.vreg().vreg();
-    fixed_definition(operand).is_some() && number < used.len() && used[number]
+    fixed_definition(operand).is_some() && is_marked(used, operand.vreg().vreg())
 }
 
 // Lists the operands that are fixed and define what is used, by index.
@@ -84,18 +85,6 @@ fn list_stored<A: Allocator>(
         }
     }
     Ok(())
-}
-
-// Notes an edge for each successor, with its position.
-fn note_positions(edges: &mut [Option<EdgeInto>], succs: &[Block], edge: EdgeInto)
-    requires { All (λ s. s < length edges.old) succs.now }
-    ensures { NotesEdges succs.now edge (length succs.now) edges.old edges.new }
-{
-    for position in 0..succs.len() {
-        let mut here = edge;
-        here.position = position;
-        edges[succs[position].index()] = Some(here);
-    }
 }
 
 // Notes the edges out of a block, if its branch defines.

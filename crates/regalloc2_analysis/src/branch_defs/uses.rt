@@ -13,19 +13,12 @@ ghost use Rattle.regalloc2_analysis.specs.BranchDefs.Tables.{AreDefSites};
 
 use super::DefSite;
 use super::sites::is_site_at;
+use regalloc2_analysis_steps::marks as steps;
+use regalloc2_analysis_steps::marks::mark;
 use regalloc2_function::Function;
 use regalloc2_index::{Block, Inst};
 use regalloc2_names::{Operand, VReg};
 use std::alloc::{AllocError, Allocator};
-
-// Marks a number.
-fn mark(used: &mut [bool], number: usize)
-    ensures { Marks (λ n. number ≡ n) used.old used.new }
-{
-    if number < used.len() {
-        used[number] = true;
-    }
-}
 
 // Marks what an operand reads.
 fn note_read(used: &mut [bool], operand: Operand)
@@ -58,9 +51,7 @@ fn note_all_reads<F: Function>(used: &mut [bool], f: &F)
 fn note_argument(used: &mut [bool], sites: &[Option<DefSite>], argument: VReg, inst: Inst)
     ensures { Marks (λ n. (argument.number ≡ n) × (IsSiteAt sites.now n inst → ⊥)) used.old used.new }
 {
-    if !is_site_at(sites, argument, inst) {
-        mark(used, argument.vreg());
-    }
+    steps::note_argument(used, argument, is_site_at(sites, argument, inst));
 }
 
 // Marks what an instruction passes to one successor and doesn't define.

@@ -4,11 +4,12 @@ ghost use Rattle.std.specs.Prelude.{◌≡◌, ◌≢◌, ◌+◌, ◌<◌, ◌�
 ghost use Rattle.std.specs.Option.{option_or};
 ghost use Rattle.regalloc2_function.specs.FunctionValue.{block_at, inst_at};
 ghost use Rattle.regalloc2_function.specs.WellFormed.{BlocksFollow, last_of};
-ghost use Rattle.regalloc2_analysis.specs.LiveRanges.LastUses.{NotesArguments, NotesPassed, NotesReads, NotesUses, end_at, read_end};
+ghost use Rattle.regalloc2_analysis.specs.LiveRanges.LastUses.{NotesArguments, NotesPassed, NotesReads, NotesUses, end_at};
 ghost use Rattle.regalloc2_analysis.specs.LiveRanges.Slots.{HasSlot, IsApart, spread};
 
 use super::InstOperand;
 use super::slots::{entry, set_entry};
+use regalloc2_analysis_steps::ends::end_of_read;
 use regalloc2_function::Function;
 use regalloc2_index::{Block, Inst};
 use regalloc2_names::{Operand, OperandPos, ProgPoint, VReg};
@@ -30,17 +31,6 @@ fn note_end(ends: &mut [Option<RangeEnd>], slots: &[u32], vreg: VReg, end: Range
     let number = vreg.vreg();
     if entry(ends, slots, number).is_none() {
         set_entry(ends, slots, number, end);
-    }
-}
-
-// The point at which a read of an instruction ends.
-fn end_of_read(inst: Inst, pos: OperandPos) -> ProgPoint
-    requires { inst < 1073741823 }
-    ensures { result ≡ read_end pos inst }
-{
-    match pos {
-        OperandPos::Early => ProgPoint::after(inst),
-        OperandPos::Late => ProgPoint::before(inst.next()),
     }
 }
 

@@ -5,13 +5,14 @@ ghost use Rattle.regalloc2_function.specs.FunctionValue.{FunctionValue, block_at
 ghost use Rattle.regalloc2_function.specs.Path.{first_of};
 ghost use Rattle.regalloc2_function.specs.SourceRun.{arguments_at};
 ghost use Rattle.regalloc2_function.specs.WellFormed.{IsFramed};
-ghost use Rattle.regalloc2_names.specs.Operand.{is_def, reads_at};
+ghost use Rattle.regalloc2_names.specs.Operand.{reads_at};
 ghost use Rattle.regalloc2_names.specs.Register.{VirtualRegister};
 ghost use Rattle.regalloc2_semantics.specs.Blocks.{IsUnwritten};
 ghost use Rattle.regalloc2_analysis.specs.Liveness.LiveIn.{IsNeeded};
 ghost use Rattle.regalloc2_analysis.specs.Liveness.Search.{LeadsBack};
 
-use crate::liveness::chain::is_on;
+use regalloc2_analysis_steps::chain::is_on;
+use regalloc2_analysis_steps::operands::is_defined;
 use regalloc2_function::Function;
 use regalloc2_index::{Block, Inst};
 use regalloc2_names::{Operand, OperandPos, VReg};
@@ -24,13 +25,6 @@ fn reads(operand: Operand, pos: OperandPos, vreg: VReg) -> bool
     operand.reads_at(pos) && operand.vreg() == vreg
 }
 
-/// Whether an operand defines a vreg.
-fn defines(operand: Operand, vreg: VReg) -> bool
-    ensures { IsTrue result ↔ ((is_def operand.kind ≡ true) × (operand.vreg ≡ vreg)) }
-{
-    operand.is_def() && operand.vreg() == vreg
-}
-
 /// Whether some operand reads a vreg at a position.
 fn is_read(operands: &[Operand], pos: OperandPos, vreg: VReg) -> bool
     ensures { result ≡ true → Any (λ o. (reads_at pos o ≡ true) × (o.vreg ≡ vreg)) operands.now }
@@ -41,13 +35,6 @@ fn is_read(operands: &[Operand], pos: OperandPos, vreg: VReg) -> bool
         }
     }
     false
-}
-
-/// Whether some operand defines a vreg.
-fn is_defined(operands: &[Operand], vreg: VReg) -> bool
-    ensures { IsTrue result ↔ Any (λ o. (is_def o.kind ≡ true) × (o.vreg ≡ vreg)) operands.now }
-{
-    operands.iter().any(|operand| defines(*operand, vreg))
 }
 
 /// Whether a list names a vreg.

@@ -8,7 +8,7 @@ use Rattle.regalloc2_function.specs.FunctionValue.{FunctionValue, block_at, inst
 use Rattle.regalloc2_function.specs.WellFormed.{last_of}
 use Rattle.regalloc2_analysis.specs.BranchDefs.BranchDefs.{EndsInDefinitions, IsHeld}
 use Rattle.regalloc2_analysis.specs.BranchDefs.Notes.{ListsStored}
-use Rattle.regalloc2_analysis.specs.declared.branch_defs.EdgeInto.{EdgeInto}
+use Rattle.regalloc2_analysis_steps.specs.declared.edges.EdgeInto.{EdgeInto}
 use Rattle.regalloc2_analysis.proofs.BranchDefsLemmas.BlockEnds.{last_within}
 use Rattle.regalloc2_analysis.proofs.BranchDefsLemmas.EdgeNotes.{IsFrom, edges_more, lists_stored}
 use Rattle.regalloc2_analysis.proofs.branch_defs.edges.note_edges_of.Goals as goal

@@ -1,13 +1,11 @@
-use Rattle.std.proofs.Common.{ℕ, ◌≡◌, ◌≢◌, ◌+◌, ◌-◌, ◌<◌, ◌≤◌, ◌∙◌, List, length, slice_index_or, sym, subst, refl, arith}
-use Rattle.regalloc2_index.proofs.Bools.{not_both}
-use Rattle.regalloc2_function.specs.FunctionValue.{FunctionValue, block_at}
+use Rattle.std.proofs.Common.{ℕ, ◌≡◌, ◌+◌, ◌∙◌, List, length, sym, subst, arith}
+use Rattle.regalloc2_function.specs.FunctionValue.{FunctionValue}
 use Rattle.regalloc2_semantics.proofs.Order.{ends_within}
 use Rattle.regalloc2_shape.specs.TableLength.{HasRoom}
 use Rattle.regalloc2_analysis.specs.LiveRanges.LiveRanges.{IsWanted}
-use Rattle.regalloc2_analysis.specs.LiveRanges.Slots.{HasSlot, spread}
-use Rattle.regalloc2_analysis.specs.LiveRanges.WalkInvariant.{AreEndsFrom, AreNamers, NamesNoAsked}
-use Rattle.regalloc2_analysis.proofs.LiveRangesLemmas.LiveRangeTable.{noted_more, walked_inst, walked_last}
-use Rattle.regalloc2_analysis.proofs.LiveRangesLemmas.Named.{named_below, named_fewer, unnamed_above}
+use Rattle.regalloc2_analysis.specs.LiveRanges.Slots.{spread}
+use Rattle.regalloc2_analysis.specs.LiveRanges.WalkInvariant.{AreEndsFrom}
+use Rattle.regalloc2_analysis.proofs.LiveRangesLemmas.LiveRangeTable.{noted_more, walked_inst}
 use Rattle.regalloc2_analysis.proofs.LiveRangesLemmas.Spread.{spread_length}
 use Rattle.regalloc2_analysis.proofs.live_ranges.walk.walk_inst.Goals as goal
 

@@ -1,10 +1,10 @@
-use Rattle.std.proofs.Common.{ℕ, ◌≡◌, ◌+◌, ◌-◌, ◌<◌, ◌≤◌, inl, inr, List, slice_index_or, sym, ap, subst, arith}
+use Rattle.std.proofs.Common.{ℕ, ◌≡◌, ◌+◌, ◌-◌, inl, inr, List, slice_index_or, sym, subst, arith}
 use Rattle.std.proofs.lemmas.Bool.{cases_lt}
 use Rattle.regalloc2_index.proofs.Bools.{not_both}
 use Rattle.regalloc2_function.specs.FunctionValue.{FunctionValue, block_at}
 use Rattle.regalloc2_analysis.specs.LiveRanges.LiveRanges.{IsWanted}
 use Rattle.regalloc2_analysis.specs.LiveRanges.Slots.{spread}
-use Rattle.regalloc2_analysis.specs.LiveRanges.WalkInvariant.{AreNamers, AreRangesWalked}
+use Rattle.regalloc2_analysis.specs.LiveRanges.WalkInvariant.{AreNamers}
 use Rattle.regalloc2_analysis.proofs.LiveRangesLemmas.Named.{named_fewer, named_to, walked_to}
 use Rattle.regalloc2_analysis.proofs.live_ranges.walk.walk_insts.Goals as goal
 

@@ -1,4 +1,4 @@
-use Rattle.std.proofs.Common.{ℕ, ◌≡◌, [], sym, subst}
+use Rattle.std.proofs.Common.{ℕ, [], sym, subst}
 use Rattle.regalloc2_index.proofs.Bools.{not_both}
 use Rattle.regalloc2_function.specs.FunctionValue.{FunctionValue}
 use Rattle.regalloc2_analysis.specs.LiveRanges.LiveRanges.{IsWanted}

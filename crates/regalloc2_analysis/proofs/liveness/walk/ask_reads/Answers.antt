@@ -3,9 +3,9 @@ use Rattle.std.proofs.lemmas.List.{take_all}
 use Rattle.std.specs.Prelude.{◌&&◌, not}
 use Rattle.regalloc2_names.specs.Register.{is_vreg}
 use Rattle.regalloc2_names.specs.Operand.{OperandValue}
-use Rattle.regalloc2_analysis.specs.Liveness.BlockVRegPairs.{Grows, holds}
+use Rattle.regalloc2_analysis_steps.specs.BlockVRegPairs.{Grows, holds}
 use Rattle.regalloc2_analysis.specs.Liveness.BlockWalk.{reads}
-use Rattle.regalloc2_analysis.proofs.LivenessLemmas.PairLists.{grows_more, grows_none, grows_same}
+use Rattle.regalloc2_analysis_steps.proofs.PairLists.{grows_more, grows_none, grows_same}
 use Rattle.regalloc2_analysis.proofs.LivenessLemmas.WalkSteps.{reads_no, reads_none, reads_yes}
 use Rattle.regalloc2_analysis.proofs.liveness.walk.ask_reads.Goals as goal
 use Rattle.regalloc2_analysis.proofs.liveness.walk.ask_reads.Goals.{then-reads_at+in_ok-ask, else-reads_at}

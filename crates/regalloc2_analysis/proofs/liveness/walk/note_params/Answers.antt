@@ -2,9 +2,9 @@ use Rattle.std.proofs.Common.{◌+◌, [], take, List, length, ◌≤◌, subst,
 use Rattle.std.proofs.lemmas.List.{take_all}
 use Rattle.regalloc2_names.specs.Register.{VirtualRegister, is_vreg}
 use Rattle.regalloc2_semantics.specs.Blocks.{names}
-use Rattle.regalloc2_analysis.specs.Liveness.BlockVRegPairs.{Gains, holds}
-use Rattle.regalloc2_analysis.proofs.LivenessLemmas.PairLists.{gains_more, gains_none}
-use Rattle.regalloc2_analysis.proofs.LivenessLemmas.WalkSteps.{names_more, names_nothing}
+use Rattle.regalloc2_analysis_steps.specs.BlockVRegPairs.{Gains, holds}
+use Rattle.regalloc2_analysis_steps.proofs.PairLists.{gains_more, gains_none}
+use Rattle.regalloc2_analysis_steps.proofs.Tests.{names_more, names_nothing}
 use Rattle.regalloc2_analysis.proofs.liveness.walk.note_params.Goals as goal
 
 pub loop-param-init : goal.loop-param-init

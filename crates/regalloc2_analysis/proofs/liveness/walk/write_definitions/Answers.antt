@@ -3,9 +3,9 @@ use Rattle.std.proofs.lemmas.List.{take_all}
 use Rattle.regalloc2_names.specs.Register.{is_vreg}
 use Rattle.regalloc2_semantics.specs.Listing.{defines}
 use Rattle.regalloc2_names.specs.Operand.{OperandValue}
-use Rattle.regalloc2_analysis.specs.Liveness.BlockVRegPairs.{Gains, holds}
-use Rattle.regalloc2_analysis.proofs.LivenessLemmas.PairLists.{gains_more, gains_none, gains_same}
-use Rattle.regalloc2_analysis.proofs.LivenessLemmas.WalkSteps.{defines_no, defines_nothing, defines_yes}
+use Rattle.regalloc2_analysis_steps.specs.BlockVRegPairs.{Gains, holds}
+use Rattle.regalloc2_analysis_steps.proofs.PairLists.{gains_more, gains_none, gains_same}
+use Rattle.regalloc2_analysis_steps.proofs.Tests.{defines_no, defines_nothing, defines_yes}
 use Rattle.regalloc2_analysis.proofs.liveness.walk.write_definitions.Goals as goal
 use Rattle.regalloc2_analysis.proofs.liveness.walk.write_definitions.Goals.{then-is_def+in_ok-add, else-is_def}
 
