@@ -60,7 +60,8 @@ impl<A: Allocator + Copy> BranchDefs<A> {
     /// The tables of a function.
     ///
     /// Linear in the function's instructions, operands and arguments. The only error is `Memory`;
-    /// if no branch defines, nothing is allocated.
+    /// if no branch defines, nothing is allocated. It isn't inlined, as `State::new` of the walk isn't.
+    #[inline(never)]
     pub fn of<F: Function>(alloc: A, f: &F) -> Result<Self, RegAllocError>
         requires well_formed { MayHaveTables (F.function f.now) }
         ensures ok { IfOk result (λ t. AreBranchDefsOf (F.function f.now) t) }
