@@ -6,37 +6,18 @@ use Rattle.std.proofs.lemmas.List.Elements.{All-head, All-map, All-tail}
 use Rattle.std.proofs.lemmas.Simd.{map-map}
 use Rattle.regalloc2_index.specs.Range.{Span}
 use Rattle.regalloc2_names.specs.RegisterBits.{vreg_of_bits}
-use Rattle.regalloc2_function.specs.FunctionValue.{IsSlotSize, label_of}
+use Rattle.regalloc2_function.specs.FunctionValue.{label_of}
 use Rattle.regalloc2_serialize.specs.Decoded.{stored_range, stored_label}
+use Rattle.regalloc2_serialize.specs.Encoded.{AreListsOf, ArePartsOf}
 use Rattle.regalloc2_serialize.specs.TableFunction.Table.{block_of_table}
 use Rattle.regalloc2_serialize.specs.Tables.{function_of_serializable}
-use Rattle.regalloc2_serialize.specs.Validity.{HasThreeClasses, HasAllOfEachBlock, HasLengths, AreNumbersWithin, NamesAll, KeepsLimits, NamesItsBlocks}
+use Rattle.regalloc2_serialize.specs.Validity.{HasAllOfEachBlock, HasLengths, AreNumbersWithin, NamesAll, KeepsLimits, NamesItsBlocks}
 use Rattle.regalloc2_serialize.specs.Validity.{IsSoundStored}
 use Rattle.regalloc2_serialize.specs.declared.data.StoredFunction.{StoredFunction}
 use Rattle.regalloc2_serialize.specs.declared.table_function.table.TableBlock.{TableBlock}
 use Rattle.regalloc2_serialize.specs.declared.tables.SerializableFunction.{SerializableFunction}
 use Rattle.regalloc2_serialize.proofs.EncodedLists.{map-same}
 use Rattle.regalloc2_serialize.proofs.Lists.{all-under, all-from-map}
-
--- the five lists by block are those of blocks
-pub record AreListsOf {A B : Type 0} (s : StoredFunction A) (bs : List (TableBlock B)) : Type 0 where
-  pub ranges : map stored_range s.blocks.items ≡ map (λ b. (block_of_table b).range) bs
-  pub succs : map (λ l. l.items) s.block_succs.items ≡ map (λ b. (block_of_table b).succs) bs
-  pub preds : map (λ l. l.items) s.block_preds.items ≡ map (λ b. (block_of_table b).preds) bs
-  pub params : map (λ l. map vreg_of_bits l.items) s.block_params_in.items ≡ map (λ b. (block_of_table b).params) bs
-  pub arguments : map (λ l. map (λ k. map vreg_of_bits k.items) l.items) s.block_params_out.items ≡ map (λ b. (block_of_table b).arguments) bs
-
--- what the tests of stored functions read are the parts of a function
-pub record ArePartsOf {A B : Type 0} (s : StoredFunction A) (f : SerializableFunction B) : Type 0 where
-  pub lists : AreListsOf s f.function.blocks.items
-  pub insts : length s.insts.items ≡ length f.function.insts.items
-  pub entry : s.entry_block ≡ f.function.entry
-  pub num_vregs : s.num_vregs ≡ f.function.num_vregs
-  pub labels : map stored_label s.debug_value_labels.items ≡ map label_of f.function.labels.items
-  pub classes : HasThreeClasses s.machine_env
-  pub names : NamesAll s
-  pub sizes : length s.spillslot_size.items ≡ 3
-  pub slot_sizes : All IsSlotSize s.spillslot_size.items
 
 as-long : {X Y Z : Type 0} (f : X → Z) (h : Y → Z) (xs : List X) (ys : List Y) → map f xs ≡ map h ys → length xs ≡ length ys
 as-long f h xs ys same = sym (length-map xs f) ∙ ap length same ∙ length-map ys h

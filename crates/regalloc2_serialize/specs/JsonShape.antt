@@ -1,8 +1,10 @@
 -- The shape of stored functions and outputs in JSON.
-use Rattle.std.specs.Prelude.{ℕ, ◌≡◌, List, map, codes, nat_eq, if◌then◌else◌, Option, None, Some, IsSome, option_and_then}
+use Rattle.std.specs.Prelude.{ℕ, ◌≡◌, ◌⊎◌, Bool, List, map, codes, nat_eq, if◌then◌else◌, Option, None, Some, IsSome, option_and_then}
 use Rattle.std.specs.Cmp.Lexicographic.{pointwise}
 use Rattle.serde_json.specs.Data.{Data}
 use Rattle.serde_json.specs.Find.{as_bool, as_str}
+use Rattle.regalloc2_function.specs.declared.serialize.StoredFault.{StoredFault}
+use Rattle.regalloc2_function.specs.declared.serialize.StoredFault.TheVariants.{Memory, Shape}
 use Rattle.regalloc2_function.specs.declared.serialize.StoredOutput.{StoredOutput}
 use Rattle.regalloc2_serialize.specs.FromJson.{byte, word, long, or_null, list, member, pair, triple, quadruple}
 use Rattle.regalloc2_serialize.specs.declared.data.InstOpcode.{InstOpcode}
@@ -10,6 +12,7 @@ use Rattle.regalloc2_serialize.specs.declared.data.InstOpcode.TheVariants.{Op, R
 use Rattle.regalloc2_serialize.specs.declared.data.StoredInst.{StoredInst}
 use Rattle.regalloc2_serialize.specs.declared.data.StoredMachine.{StoredMachine}
 use Rattle.regalloc2_serialize.specs.declared.data.StoredFunction.{StoredFunction}
+use Rattle.regalloc2_serialize.specs.declared.json_outputs.BlockLists.{BlockLists}
 
 -- an instruction's kind, by its name
 abbrev pub opcode_of : List ℕ → Option InstOpcode
@@ -89,6 +92,41 @@ pub record IsFunctionAt {A : Type 0} (d : Data) (s : StoredFunction A) : Type 0 
   pub spillslot_size : member (codes "spillslot_size") (list long) d ≡ Some s.spillslot_size.items
   pub multi_spillslot_named_by_last_slot : member (codes "multi_spillslot_named_by_last_slot") as_bool d ≡ Some s.multi_spillslot_named_by_last_slot
   pub allow_multiple_vreg_defs : member (codes "allow_multiple_vreg_defs") as_bool d ≡ Some s.allow_multiple_vreg_defs
+
+-- a value has the lists by block of a function, of their shapes
+pub record HasLists (d : Data) : Type 0 where
+  pub blocks : IsSome (member (codes "blocks") (list pair) d)
+  pub preds : IsSome (member (codes "block_preds") (list (list word)) d)
+  pub succs : IsSome (member (codes "block_succs") (list (list word)) d)
+  pub params_in : IsSome (member (codes "block_params_in") (list (list word)) d)
+  pub params_out : IsSome (member (codes "block_params_out") (list (list (list word))) d)
+
+-- these lists are a value's members
+pub record AreListsAt {A : Type 0} (d : Data) (l : BlockLists A) : Type 0 where
+  pub blocks : member (codes "blocks") (list pair) d ≡ Some l.blocks.items
+  pub preds : member (codes "block_preds") (list (list word)) d ≡ Some (map (λ v. v.items) l.preds.items)
+  pub succs : member (codes "block_succs") (list (list word)) d ≡ Some (map (λ v. v.items) l.succs.items)
+  pub params_in : member (codes "block_params_in") (list (list word)) d ≡ Some (map (λ v. v.items) l.params_in.items)
+  pub params_out : member (codes "block_params_out") (list (list (list word))) d ≡ Some (map (λ v. map (λ k. k.items) v.items) l.params_out.items)
+
+-- a value has what a function has once
+pub record HasSettings (d : Data) : Type 0 where
+  pub entry_block : IsSome (member (codes "entry_block") word d)
+  pub num_vregs : IsSome (member (codes "num_vregs") long d)
+  pub by_last_slot : IsSome (member (codes "multi_spillslot_named_by_last_slot") as_bool d)
+  pub multiple_defs : IsSome (member (codes "allow_multiple_vreg_defs") as_bool d)
+
+-- an entry, a count of vregs and two flags are a value's members
+pub record AreSettingsAt (d : Data) (s : ℕ × ℕ × Bool × Bool) : Type 0 where
+  pub entry_block : member (codes "entry_block") word d ≡ Some s.0
+  pub num_vregs : member (codes "num_vregs") long d ≡ Some s.1
+  pub by_last_slot : member (codes "multi_spillslot_named_by_last_slot") as_bool d ≡ Some s.2
+  pub multiple_defs : member (codes "allow_multiple_vreg_defs") as_bool d ≡ Some s.3
+
+-- the error is `Shape`, for that reason, or memory is out
+pub record IsRefusal (e : StoredFault) (reason : Type 0) : Type 0 where
+  pub shape : e ≡ Shape → reason
+  pub faults : (e ≡ Shape) ⊎ (e ≡ Memory)
 
 -- the numbers of an output
 pub record OutputData : Type 0 where

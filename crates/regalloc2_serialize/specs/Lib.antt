@@ -4,6 +4,7 @@
 -- Depends on regalloc2_function, and on the JSON values of serde_json.
 pub mod CopyOfFunction
 pub mod Decoded
+pub mod Encoded
 pub mod Flat
 pub mod FromJson
 pub mod JsonShape

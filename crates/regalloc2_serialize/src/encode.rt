@@ -8,6 +8,7 @@ ghost use Rattle.regalloc2_function.specs.FunctionValue.{FunctionValue, IsSlotSi
 ghost use Rattle.regalloc2_function.specs.Machine.{MachineValue};
 ghost use Rattle.regalloc2_function.specs.Views.{machine_of};
 ghost use Rattle.regalloc2_serialize.specs.Decoded.{HasIndexes, NamesInst, NamesMachine, NamesFunction, stored_range, stored_label, stored_sizes};
+ghost use Rattle.regalloc2_serialize.specs.Encoded.{AreNumbersOf};
 ghost use Rattle.regalloc2_serialize.specs.TableFunction.Table.{inst_of_table, block_of_table, function_of_table};
 ghost use Rattle.regalloc2_serialize.specs.Tables.{function_of_serializable};
 ghost use Rattle.regalloc2_serialize.specs.Validity.{NamesOperands, NamesRegisters, HasThreeClasses, HasLengths, NamesAll, KeepsLimits, NamesItsBlocks, IsSoundStored};
@@ -310,6 +311,41 @@ fn arguments_of<A: Allocator, B: Allocator + Copy>(
     Ok(arguments)
 }
 
+/// The numbers of a function and its machine, made with the function's own allocator.
+fn numbers_of<A: Allocator + Copy>(
+    named: &SerializableFunction<A>,
+) -> Result<StoredFunction<A>, AllocError>
+    ensures { IfOk result (λ s. AreNumbersOf s named.now) }
+{
+    let f = &named.function;
+    let alloc = *f.blocks.allocator();
+    let tables = f.blocks.as_slice();
+    let machine_env = numbers_of_machine(alloc, &named.machine)?;
+    let insts = numbers_of_insts(alloc, f.insts.as_slice())?;
+    let blocks = ranges_of(alloc, tables)?;
+    let block_preds = preds_of(alloc, tables)?;
+    let block_succs = succs_of(alloc, tables)?;
+    let block_params_in = params_of(alloc, tables)?;
+    let block_params_out = arguments_of(alloc, tables)?;
+    let debug_value_labels = numbers_of_labels(alloc, f.labels.as_slice())?;
+    let spillslot_size = numbers_of_sizes(alloc, f)?;
+    Ok(StoredFunction {
+        machine_env,
+        entry_block: f.entry.raw_u32(),
+        insts,
+        blocks,
+        block_preds,
+        block_succs,
+        block_params_in,
+        block_params_out,
+        num_vregs: f.num_vregs as u64,
+        debug_value_labels,
+        spillslot_size,
+        multi_spillslot_named_by_last_slot: f.named_by_last_slot,
+        allow_multiple_vreg_defs: f.allows_multiple_defs,
+    })
+}
+
 impl<A: Allocator + Copy> SerializableFunction<A> {
     /// Returns the numbers of this function and its machine, made with the function's own allocator.
     ///
@@ -329,32 +365,6 @@ impl<A: Allocator + Copy> SerializableFunction<A> {
         ensures passes { IfOk result (λ s. HasLengths s × NamesAll s × KeepsLimits s) }
         ensures memory { IfErr result (λ e. e ≡ RegAllocError.Memory) }
     {
-        let f = &self.function;
-        let alloc = *f.blocks.allocator();
-        let tables = f.blocks.as_slice();
-        let machine_env = numbers_of_machine(alloc, &self.machine)?;
-        let insts = numbers_of_insts(alloc, f.insts.as_slice())?;
-        let blocks = ranges_of(alloc, tables)?;
-        let block_preds = preds_of(alloc, tables)?;
-        let block_succs = succs_of(alloc, tables)?;
-        let block_params_in = params_of(alloc, tables)?;
-        let block_params_out = arguments_of(alloc, tables)?;
-        let debug_value_labels = numbers_of_labels(alloc, f.labels.as_slice())?;
-        let spillslot_size = numbers_of_sizes(alloc, f)?;
-        Ok(StoredFunction {
-            machine_env,
-            entry_block: f.entry.raw_u32(),
-            insts,
-            blocks,
-            block_preds,
-            block_succs,
-            block_params_in,
-            block_params_out,
-            num_vregs: f.num_vregs as u64,
-            debug_value_labels,
-            spillslot_size,
-            multi_spillslot_named_by_last_slot: f.named_by_last_slot,
-            allow_multiple_vreg_defs: f.allows_multiple_defs,
-        })
+        Ok(numbers_of(self)?)
     }
 }

@@ -2,7 +2,7 @@
 
 ghost use Rattle.std.specs.Prelude.{◌≡◌, ◌⊎◌, IfOk, IfErr};
 ghost use Rattle.serde_json.specs.View.{view};
-ghost use Rattle.regalloc2_serialize.specs.JsonShape.{HasJsonShape, IsFunctionAt};
+ghost use Rattle.regalloc2_serialize.specs.JsonShape.{HasJsonShape, HasLists, HasSettings, AreListsAt, AreSettingsAt, IsFunctionAt, IsRefusal};
 
 use super::data::{InstOpcode, StoredFunction, StoredInst, StoredMachine};
 use super::from_json::{FromValue, member_from};
@@ -102,6 +102,55 @@ impl<A: Allocator + Copy> FromValue<A> for StoredOutput<A> {
     }
 }
 
+/// The lists of a function by block.
+#[derive(Drop)]
+pub struct BlockLists<A: Allocator> {
+    /// For each block its first instruction and the one past its last.
+    pub blocks: Vec<(u32, u32), A>,
+    /// For each block those that it may follow.
+    pub preds: Vec<Vec<u32, A>, A>,
+    /// For each block those that may follow.
+    pub succs: Vec<Vec<u32, A>, A>,
+    /// For each block the words of its parameters.
+    pub params_in: Vec<Vec<u32, A>, A>,
+    /// For each block and each of its successors the words of the arguments.
+    pub params_out: Vec<Vec<Vec<u32, A>, A>, A>,
+}
+
+/// Reads the lists of a function by block.
+fn lists_from<A: Allocator + Copy>(alloc: A, value: &Value) -> Result<BlockLists<A>, StoredFault>
+    ensures ok { IfOk result (λ l. AreListsAt (view value.now) l) }
+    ensures refused { IfErr result (λ e. IsRefusal e (HasLists (view value.now) → ⊥)) }
+{
+    let blocks = member_from(alloc, value, "blocks")?;
+    let preds = member_from(alloc, value, "block_preds")?;
+    let succs = member_from(alloc, value, "block_succs")?;
+    let params_in = member_from(alloc, value, "block_params_in")?;
+    let params_out = member_from(alloc, value, "block_params_out")?;
+    Ok(BlockLists {
+        blocks,
+        preds,
+        succs,
+        params_in,
+        params_out,
+    })
+}
+
+/// Reads a function's entry, its count of vregs and its two flags.
+fn settings_from<A: Allocator + Copy>(
+    alloc: A,
+    value: &Value,
+) -> Result<(u32, u64, bool, bool), StoredFault>
+    ensures ok { IfOk result (λ s. AreSettingsAt (view value.now) s) }
+    ensures refused { IfErr result (λ e. IsRefusal e (HasSettings (view value.now) → ⊥)) }
+{
+    let entry_block = member_from(alloc, value, "entry_block")?;
+    let num_vregs = member_from(alloc, value, "num_vregs")?;
+    let by_last_slot = member_from(alloc, value, "multi_spillslot_named_by_last_slot")?;
+    let multiple_defs = member_from(alloc, value, "allow_multiple_vreg_defs")?;
+    Ok((entry_block, num_vregs, by_last_slot, multiple_defs))
+}
+
 impl<A: Allocator + Copy> StoredFunction<A> {
     /// Reads the function that a JSON value holds: an object with a member for each field, by that name. Other members are
     /// ignored. [`SerializableFunction::from_stored`] tests whether the numbers name a function.
@@ -117,28 +166,29 @@ impl<A: Allocator + Copy> StoredFunction<A> {
         ensures faults { IfErr result (λ e. (e ≡ StoredFault.Shape) ⊎ (e ≡ StoredFault.Memory)) }
     {
         // Numbers are read first and the machine last: each error drops what was read before it.
-        let entry_block = member_from(alloc, value, "entry_block")?;
-        let num_vregs = member_from(alloc, value, "num_vregs")?;
-        let by_last_slot = member_from(alloc, value, "multi_spillslot_named_by_last_slot")?;
-        let multiple_defs = member_from(alloc, value, "allow_multiple_vreg_defs")?;
+        let settings = settings_from(alloc, value)?;
         let spillslot_size = member_from(alloc, value, "spillslot_size")?;
         let debug_value_labels = member_from(alloc, value, "debug_value_labels")?;
-        let blocks = member_from(alloc, value, "blocks")?;
-        let block_preds = member_from(alloc, value, "block_preds")?;
-        let block_succs = member_from(alloc, value, "block_succs")?;
-        let block_params_in = member_from(alloc, value, "block_params_in")?;
-        let block_params_out = member_from(alloc, value, "block_params_out")?;
+        let lists = lists_from(alloc, value)?;
         let insts = member_from(alloc, value, "insts")?;
         let machine_env = member_from(alloc, value, "machine_env")?;
+        let (entry_block, num_vregs, by_last_slot, multiple_defs) = settings;
+        let BlockLists {
+            blocks,
+            preds,
+            succs,
+            params_in,
+            params_out,
+        } = lists;
         Ok(StoredFunction {
             machine_env,
             entry_block,
             insts,
             blocks,
-            block_preds,
-            block_succs,
-            block_params_in,
-            block_params_out,
+            block_preds: preds,
+            block_succs: succs,
+            block_params_in: params_in,
+            block_params_out: params_out,
             num_vregs,
             debug_value_labels,
             spillslot_size,

@@ -71,9 +71,13 @@ impl<A: Allocator> StoredFunction<A> {
     fn names_vregs(&self) -> bool
         ensures { IsTrue result ↔ NamesVRegs self.now }
     {
-        are_lists_of_vregs(self.block_params_in.as_slice())
-            && are_arguments(self.block_params_out.as_slice())
-            && are_labels(self.debug_value_labels.as_slice())
+        if !are_lists_of_vregs(self.block_params_in.as_slice()) {
+            return false;
+        }
+        if !are_arguments(self.block_params_out.as_slice()) {
+            return false;
+        }
+        are_labels(self.debug_value_labels.as_slice())
     }
 
     /// Whether each number is that of a name: registers, vregs and operands.
@@ -126,7 +130,12 @@ pub(crate) fn are_blocks(words: &[u32], count: usize) -> bool
 fn are_lists_of_blocks<A: Allocator>(lists: &[Vec<u32, A>], count: usize) -> bool
     ensures { IsTrue result ↔ All (λ l. All (λ b. b < count) l.items) lists.now }
 {
-    lists.iter().all(|list| are_blocks(list.as_slice(), count))
+    for list in lists {
+        if !are_blocks(list.as_slice(), count) {
+            return false;
+        }
+    }
+    true
 }
 
 /// Whether all ranges rise and end within so many instructions.
@@ -160,7 +169,12 @@ fn are_registers(indexes: &[u8]) -> bool
 fn are_lists_of_registers<A: Allocator>(lists: &[Vec<u8, A>]) -> bool
     ensures { IsTrue result ↔ All (λ l. All IsRegisterIndex l.items) lists.now }
 {
-    lists.iter().all(|list| are_registers(list.as_slice()))
+    for list in lists {
+        if !are_registers(list.as_slice()) {
+            return false;
+        }
+    }
+    true
 }
 
 /// Whether a register that may lack is none or has an index.
@@ -219,14 +233,24 @@ pub(crate) fn are_vregs(words: &[u32]) -> bool
 fn are_lists_of_vregs<A: Allocator>(lists: &[Vec<u32, A>]) -> bool
     ensures { IsTrue result ↔ All (λ l. All IsVRegBits l.items) lists.now }
 {
-    lists.iter().all(|list| are_vregs(list.as_slice()))
+    for list in lists {
+        if !are_vregs(list.as_slice()) {
+            return false;
+        }
+    }
+    true
 }
 
 /// Whether all lists of lists are of words of vregs.
 fn are_arguments<A: Allocator>(lists: &[Vec<Vec<u32, A>, A>]) -> bool
     ensures { IsTrue result ↔ All (λ l. All (λ k. All IsVRegBits k.items) l.items) lists.now }
 {
-    lists.iter().all(|list| are_lists_of_vregs(list.as_slice()))
+    for list in lists {
+        if !are_lists_of_vregs(list.as_slice()) {
+            return false;
+        }
+    }
+    true
 }
 
 /// Whether all labels are of vregs.

@@ -29,27 +29,23 @@ impl Written for u32 {
 impl Written for u64 {
     fn write(&self, to: &mut Vec<u32>) -> Result<(), StoredFault> {
         let number = *self;
-        to.push((number % 4_294_967_296) as u32)?;
-        to.push((number / 4_294_967_296) as u32)?;
+        let low = (number % 4_294_967_296) as u32;
+        let high = (number / 4_294_967_296) as u32;
+        to.extend_from_slice(&[low, high])?;
         Ok(())
     }
 }
 
 impl Written for (u32, u32, u32) {
     fn write(&self, to: &mut Vec<u32>) -> Result<(), StoredFault> {
-        to.push(self.0)?;
-        to.push(self.1)?;
-        to.push(self.2)?;
+        to.extend_from_slice(&[self.0, self.1, self.2])?;
         Ok(())
     }
 }
 
 impl Written for (u32, u32, u32, u32) {
     fn write(&self, to: &mut Vec<u32>) -> Result<(), StoredFault> {
-        to.push(self.0)?;
-        to.push(self.1)?;
-        to.push(self.2)?;
-        to.push(self.3)?;
+        to.extend_from_slice(&[self.0, self.1, self.2, self.3])?;
         Ok(())
     }
 }

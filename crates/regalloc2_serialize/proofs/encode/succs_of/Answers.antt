@@ -1,0 +1,21 @@
+use Rattle.std.proofs.Common.{rules, arith, ◌≡◌, ◌∙◌, ◌+◌, ◌++◌, ◌∷◌, [], map, take, subst, sym}
+use Rattle.std.proofs.lemmas.List.{take_all}
+use Rattle.regalloc2_serialize.specs.TableFunction.Table.{block_of_table}
+use Rattle.regalloc2_serialize.proofs.Lists.{map-more}
+use Rattle.regalloc2_serialize.proofs.encode.succs_of.Goals as goal
+
+pub loop-block-preserved : goal.loop-block-preserved
+loop-block-preserved g c =
+    let done = c.loop-block.succs.items in
+    let one = c.in_ok-numbers_of_blocks.field-0 in
+    let i = c.loop-block.block-index in
+    let all = c.args.blocks.now in
+    let e : c.push.new.self.items ≡ done ++ one ∷ [] = search rules in
+    subst (λ zs. map (λ v. v.items) zs ≡ map (λ b. (block_of_table b).succs) (take (i + 1) all)) (sym e)
+    (map-more (λ v. v.items) (λ b. (block_of_table b).succs) done all i one c.block-item.result c.loop-block-test.true c.block-item.is (c.in_ok-numbers_of_blocks.ensures ∙ c.as_slice.ensures.value)
+    c.loop-block.invariant)
+
+pub returns : goal.returns
+returns g c =
+    subst (λ bs. map (λ v. v.items) c.loop-block.succs.items ≡ map (λ b. (block_of_table b).succs) bs)
+    (take_all c.loop-block.block-index c.args.blocks.now (omega (arith, c.loop-block-test.false))) c.loop-block.invariant

@@ -1,0 +1,7 @@
+use Rattle.std.proofs.Common.{take}
+use Rattle.std.specs.Prelude.{All}
+use Rattle.regalloc2_names.specs.Packing.{IsVRegBits}
+use Rattle.regalloc2_serialize.proofs.validate.are_arguments.Given as goal
+
+abbrev pub invariant-loop-list : goal.invariant-loop-list
+invariant-loop-list g l = All (λ v. All (λ k. All IsVRegBits k.items) v.items) (take l.list-index l.lists)
