@@ -4,7 +4,7 @@ ghost use Rattle.std.specs.Prelude.{◌≡◌, ◌⊎◌, ◌<◌, ◌∷◌, �
 ghost use Rattle.regalloc2_names.specs.Operand.{OperandValue};
 ghost use Rattle.regalloc2_names.specs.RegisterBits.{bits_of_vreg};
 ghost use Rattle.regalloc2.specs.Views.{output_of};
-ghost use Rattle.regalloc2_function.specs.OutputValue.{IsInOrder, place_at};
+ghost use Rattle.regalloc2_function.specs.OutputValue.{IsInOrder};
 ghost use Rattle.regalloc2_c_words.specs.Faults.{first_index, is_placed, operand_index, operand_head, fault_head, fault_words, faults_words, cell_fault_words};
 ghost use Rattle.regalloc2_c_words.specs.Faults.{malformed_words, IsFaultsTold, IsPrepareFailure, IsErrorsFailure, IsCellsTold, fault_vregs};
 
@@ -13,6 +13,7 @@ use super::words::{NONE, word_of};
 use regalloc2::checker::CheckerError;
 use regalloc2::{Allocation, Function, Inst, Operand, Output, VReg};
 use regalloc2_checker::CellFault;
+use regalloc2_checker_facts::lookup::place_at;
 use std::alloc::{AllocError, Global};
 
 /// A function and an output of it.
@@ -22,17 +23,6 @@ pub struct Judged<'a, F: Function> {
     pub f: &'a F,
     /// The output.
     pub output: &'a Output,
-}
-
-/// The place of an operand; `none` where the list ends before.
-fn place_at(places: &[Allocation], k: usize) -> Allocation
-    ensures { result ≡ place_at places.now k }
-{
-    if k < places.len() {
-        places[k]
-    } else {
-        Allocation::none()
-    }
 }
 
 /// Whether an operand has that word and is in that place.
