@@ -1,7 +1,7 @@
 -- A walk over a ring's registers from the least to the most recently used.
 use Rattle.std.proofs.Common.{ℕ, zero, suc, ◌≡◌, ◌≢◌, ◌+◌, ◌-◌, ◌<◌, ◌≤◌, ◌∙◌, refl, arith, sym, ap}
 use Rattle.std.proofs.Common.{subst, List, [], ◌∷◌, ◌++◌, Bool, true, false, cond, length, slice_index_or, append_assoc, inl, inr}
-use Rattle.std.specs.Prelude.{All, Contains, ◌⊎◌, MatchOption, IfNone, IfSome, Option, None, Some, find, map, option_map, reverse, slice_get, slice_index}
+use Rattle.std.specs.Prelude.{All, Contains, ◌⊎◌, MatchOption, IfNone, IfSome, IsTrue, Option, None, Some, find, map, reverse, slice_get, slice_index}
 use Rattle.std.specs.Iterator.{YieldsFirst}
 use Rattle.std.specs.List.{AllWithin}
 use Rattle.std.proofs.lemmas.Bool.{cases_eq}
@@ -106,16 +106,16 @@ pub if_found : (test : Register → Bool) (ring : List Register) (res : Option R
 if_found test ring None e = tt
 if_found test ring (Some r) e = (found_last test ring (Some r) e).1
 
+-- and passes the test
+pub if_passes : (test : Register → Bool) (ring : List Register) (res : Option Register) → res ≡ find test (reverse ring) → IfSome res (λ r. IsTrue (test r))
+if_passes test ring None e = tt
+if_passes test ring (Some r) e = (found_last test ring (Some r) e).0
+
 -- where none is found, no register of the ring passes the test
 pub if_none : (test : Register → Bool) (ring : List Register) (res : Option Register) → res ≡ find test (reverse ring) →
     IfNone res (All (λ r. test r ≡ false) ring)
 if_none test ring None e = found_last test ring None e
 if_none test ring (Some r) e = tt
-
--- an option mapped by the identity is itself
-pub same_option : (res : Option Register) → option_map (λ (x : Register). x) res ≡ res
-same_option None = refl
-same_option (Some r) = refl
 
 -- where nothing comes, the ring is empty
 pub none_there : (ring it next : List Register) (res : Option Register) → it ≡ reverse ring → YieldsFirst (λ rest. rest) it res next →

@@ -1,12 +1,12 @@
 -- Lemmas on moves by way of a register.
 use Rattle.std.proofs.Common.{◌≡◌, ◌≢◌, ℕ, List, [], ◌∷◌, ◌++◌, length, get_or, take, ◌+◌, ◌<◌, ◌≤◌, ◌⊎◌, inl, inr, refl, sym, ap, ◌∙◌, subst, ⊎_elim}
-use Rattle.std.specs.Prelude.{Contains, Bool, true, false}
+use Rattle.std.specs.Prelude.{Contains, Bool, true, false, Some, None}
 use Rattle.std.proofs.lemmas.List.Elements.{All-contains, Contains-get_or, Contains-push_cases}
 use Rattle.std.specs.List.{All}
 use Rattle.std.proofs.lemmas.List.{take_more, take_all}
 use Rattle.regalloc2_names.specs.Place.{Place, NoPlace}
-use Rattle.regalloc2_parts.specs.declared.moves.passing.Held.{Held}
-use Rattle.regalloc2_parts.specs.declared.moves.passing.Held.TheVariants.{Free, InRegister, InBoth, InSave}
+use Rattle.regalloc2_parts_steps.specs.declared.borrowed.Held.{Held}
+use Rattle.regalloc2_parts_steps.specs.declared.borrowed.Held.TheVariants.{Free, InRegister, InBoth, InSave}
 use Rattle.regalloc2_parts.specs.AtOnce.{Ends, ends, ends_of, no_move, CellsOf, moved, in_turn}
 use Rattle.regalloc2_parts.specs.Giving.{from_at, to_at}
 use Rattle.regalloc2_parts.specs.Tracking.{Tracks, FreeNeedsNoSave, CanPass, IsUnused, SavesOrRestores, GoesThrough, IsMadeFor, IsMade, stands_where}
@@ -56,6 +56,14 @@ module _ (r s : Place) where
       subst (λ x. Tracks r s InBoth c x) (sym (pushed old new m e d ∙ ap (λ p. moved (in_turn (ends_of old) d) m.1 (in_turn (ends_of old) d p)) from
       ∙ ap (λ p. moved (in_turn (ends_of old) d) p (in_turn (ends_of old) d s)) to))
       (restores c (in_turn (ends_of old) d) had)
+
+  -- where a move brings the value back, it was in the save slot only
+  pub brought_back : (ends : Place × Place) (h : Held) → (h ≡ InSave → Some ends ≡ Some (s, r)) → (h ≢ InSave → Some ends ≡ None) →
+      (h ≡ InSave) × (ends.0 ≡ s) × (ends.1 ≡ r)
+  brought_back ends Free back other = let no : Some ends ≡ None = other (λ e. cc) in absurd cc
+  brought_back ends InRegister back other = let no : Some ends ≡ None = other (λ e. cc) in absurd cc
+  brought_back ends InBoth back other = let no : Some ends ≡ None = other (λ e. cc) in absurd cc
+  brought_back ends InSave back other = let same : ends ≡ (s, r) = let e = back refl in cc in (refl, ap (λ p. p.0) same, ap (λ p. p.1) same)
 
   -- the register is filled with what passes through it
   fills : (h : Held) (c d : CellsOf Place) (v : Place) → CanPass h → Tracks r s h c d → Tracks r s h c (moved d r v)

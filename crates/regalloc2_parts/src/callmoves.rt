@@ -11,25 +11,13 @@ mod fault;
 mod frame;
 
 use crate::moves::{MoveFault, MoveVec, ParallelMoves};
-use regalloc2_names::{Allocation, PReg, PRegSet};
+use frame::scratch_pool;
+use regalloc2_names::Allocation;
+pub use regalloc2_parts_steps::frame::CallFrame;
 use smallvec::SmallVec;
-use std::alloc::{Allocator, Global};
+use std::alloc::Allocator;
 use std::error::Error;
 use std::fmt;
-use std::ops::Range;
-
-/// The scratch resources of a call's moves, beside the places that they name.
-#[derive(Drop)]
-pub struct CallFrame<A: Allocator = Global> {
-    /// Registers whose values are not needed. They are handed out from the front.
-    pub free_regs: Vec<PReg, A>,
-    /// A register that is used if none is free, and restored.
-    pub borrowed: PReg,
-    /// The registers that represent stack places: no scheduled move goes from stack to stack.
-    pub stack_pregs: PRegSet,
-    /// Slots whose values are not needed. They are handed out from the start.
-    pub slots: Range<usize>,
-}
 
 /// Why the moves of a call could not be scheduled: the first of the first three variants that
 /// applies, else one of the last two.
@@ -108,7 +96,7 @@ fn schedule_proper<A: Allocator + Copy, B: Allocator>(
 {
     let parallel = in_parallel(&alloc, moves)?;
     let resolved = parallel.resolve()?;
-    let made = frame.scratch_pool().compute(resolved)?;
+    let made = scratch_pool(frame).compute(resolved)?;
     Ok(SmallVec::from_slice(alloc, made.moves.as_slice())?)
 }
 

@@ -10,6 +10,7 @@ ghost use Rattle.regalloc2_parts.specs.Ring.{AreDistinctOf, IsNewRing, IsOldestA
 
 use nodes::{LruNode, OldestFirst};
 use regalloc2_names::{PReg, PRegSet, RegAllocError, RegClass};
+use regalloc2_parts_steps::walk::first_in;
 use std::alloc::{Allocator, Global};
 use std::fmt;
 use std::marker::Model;
@@ -142,7 +143,7 @@ impl<A: Allocator> Lru<A> {
         ensures none { IfNone result (All (λ r. has_register from r ≡ false) self.now) }
         ensures distinct { IsDistinct is_register self.now }
     {
-        self.oldest_first().find(|r| from.contains(*r))
+        first_in(self.oldest_first(), from)
     }
 
     /// Returns the least recently used member that `f` accepts; `None` if it accepts none. Calls

@@ -3,7 +3,7 @@ use Rattle.std.specs.Prelude.{ℕ, ◌≡◌, ◌≢◌, ◌+◌, ◌<◌, ◌�
 use Rattle.std.specs.List.{All}
 use Rattle.regalloc2_names.specs.declared.sets.PRegSet.{PRegSet}
 use Rattle.regalloc2_names.specs.Place.{Place, NoPlace, InRegister, InSlot, is_memory}
-use Rattle.regalloc2_names.specs.Register.{Register, invalid_register}
+use Rattle.regalloc2_names.specs.Register.{Register}
 use Rattle.regalloc2_names.specs.RegisterSet.{has_register}
 use Rattle.regalloc2_parts.specs.AtOnce.{ends_of, own_names, in_turn}
 use Rattle.regalloc2_parts.specs.declared.moves.MoveFault.{MoveFault}
@@ -11,7 +11,8 @@ use Rattle.regalloc2_parts.specs.declared.moves.MoveFault.TheVariants.{NoSlot as
 use Rattle.regalloc2_parts.specs.declared.scratch_pool.ScratchPool.{ScratchPool}
 use Rattle.regalloc2_parts.specs.declared.callmoves.CallFault.{CallFault}
 use Rattle.regalloc2_parts.specs.declared.callmoves.CallFault.TheVariants.{NoneNamed, TwoSources, InUse, NoSlot, Memory}
-use Rattle.regalloc2_parts.specs.declared.callmoves.CallFrame.{CallFrame}
+use Rattle.regalloc2_parts_steps.specs.declared.frame.CallFrame.{CallFrame}
+use Rattle.regalloc2_parts_steps.specs.Frame.{free_at, IsRegisterAt}
 
 -- the moves of a call: each from a place to a place
 abbrev pub CallMoves : Type 0
@@ -54,9 +55,6 @@ HasOtherSource ms k = (j : ℕ) × (j < k) × (target ms j ≡ target ms k) × (
 -- a move is from the place or to it
 abbrev pub MovesName : CallMoves → Place → Type 0
 MovesName ms p = (k : ℕ) × (k < length ms) × ((source ms k ≡ p) ⊎ (target ms k ≡ p))
-
-abbrev pub free_at : {A : Type 0} → CallFrame A → ℕ → Register
-free_at f k = slice_index_or f.free_regs.items k invalid_register
 
 -- a register that isn't free: a move names it, it occurs earlier in the list, or it represents a stack place
 abbrev pub IsNotFree : {A : Type 0} → CallMoves → CallFrame A → ℕ → Type 0
@@ -131,11 +129,7 @@ IsLent f p =
     ((k : ℕ) × (k < length f.free_regs.items) × (p ≡ InRegister (free_at f k)))
     ⊎ ((n : ℕ) × (f.slots.start ≤ n) × (n < f.slots.«end») × (p ≡ InSlot n))
 
--- the free register of that index, and the slot so many after the start of the range, if they exist
-abbrev pub IsRegisterAt : {A : Type 0} → CallFrame A → ℕ → Option Place → Type 0
-IsRegisterAt f k None = length f.free_regs.items ≤ k
-IsRegisterAt f k (Some p) = (k < length f.free_regs.items) × (p ≡ InRegister (free_at f k))
-
+-- the slot so many after the start of the range, if it exists
 abbrev pub IsSlotAt : {A : Type 0} → CallFrame A → ℕ → Option Place → Type 0
 IsSlotAt f k None = f.slots.«end» ≤ f.slots.start + k
 IsSlotAt f k (Some p) = (f.slots.start + k < f.slots.«end») × (p ≡ InSlot (f.slots.start + k))

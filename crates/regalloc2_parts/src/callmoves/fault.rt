@@ -9,6 +9,7 @@ ghost use Rattle.regalloc2_parts.specs.Callmoves.CallMoves.{IsLower, IsNotFree, 
 
 use super::{CallFault, CallFrame};
 use regalloc2_names::{Allocation, PReg, PRegSet, SpillSlot};
+use regalloc2_parts_steps::frame::free_reg;
 use std::alloc::{AllocError, Allocator};
 use std::collections::HashMap;
 use std::hash::{BuildHasherDefault, FoldHasher};
@@ -160,7 +161,7 @@ fn find_taken<A: Allocator>(
     let mut taken = named_registers(moves);
     taken.union_from(frame.stack_pregs);
     for at in 0..frame.free_regs.len() {
-        let preg = frame.free_reg(at);
+        let preg = free_reg(frame, at);
         if taken.contains(preg) {
             return Some(at);
         }
@@ -176,7 +177,7 @@ fn is_free<A: Allocator>(frame: &CallFrame<A>, preg: PReg) -> bool
 {
     let place = Allocation::reg(preg);
     for at in 0..frame.free_regs.len() {
-        if place.is_same(Allocation::reg(frame.free_reg(at))) {
+        if place.is_same(Allocation::reg(free_reg(frame, at))) {
             return true;
         }
     }
@@ -248,7 +249,7 @@ fn find_in_use<A: Allocator>(
     ensures { IsFirstInUseOrNone moves.now frame.now result }
 {
     if let Some(at) = find_taken(moves, frame) {
-        return Some(Allocation::reg(frame.free_reg(at)));
+        return Some(Allocation::reg(free_reg(frame, at)));
     }
     if is_borrowed_taken(frame) {
         return Some(Allocation::reg(frame.borrowed));

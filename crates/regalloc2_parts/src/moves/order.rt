@@ -27,6 +27,7 @@ ghost use Rattle.regalloc2_parts.specs.declared.moves.order.State.TheVariants.{T
 
 use super::{MoveFault, MoveVec, MoveVecWithScratch};
 use regalloc2_names::Allocation;
+use regalloc2_parts_steps::cycle::opened;
 use smallvec::SmallVec;
 use std::alloc::{AllocError, Allocator};
 
@@ -99,8 +100,7 @@ fn open_ring<'a, T: Copy + Default, A: Allocator + Copy>(
     let Some(last) = chain.pop() else {
         return Ok((moves.len(), moves.len()));
     };
-    let end = moves[last];
-    given.push((Allocation::none(), end.1, end.2))?;
+    given.push(opened(moves[last]))?;
     state[last] = State::Done;
     Ok((last, stop))
 }

@@ -4,31 +4,11 @@ ghost use Rattle.std.specs.Prelude.{◌≡◌, ◌≢◌, ◌⊎◌, Contains, I
 ghost use Rattle.regalloc2_names.specs.Place.{Place};
 ghost use Rattle.regalloc2_parts.specs.AtOnce.{CellsOf, ends_of, in_turn, moved};
 ghost use Rattle.regalloc2_parts.specs.Tracking.{Tracks, CanPass, SavesOrRestores, GoesThrough, IsMadeFor};
-ghost use Rattle.regalloc2_parts.specs.declared.moves.passing.Held.TheVariants.{Free, InRegister, InBoth, InSave};
+ghost use Rattle.regalloc2_parts_steps.specs.declared.borrowed.Held.TheVariants.{InSave};
 
 use regalloc2_names::Allocation;
+use regalloc2_parts_steps::borrowed::{Held, ScratchReg, restoring};
 use std::alloc::{AllocError, Allocator};
-
-/// Where the value is that the moves made so far put into the register.
-#[derive(Clone, Copy, Debug, PartialEq, Eq)]
-pub(super) enum Held {
-    /// The register is free: no move names it, and its value isn't needed.
-    Free,
-    /// In the register only.
-    InRegister,
-    /// In the register and in the save slot.
-    InBoth,
-    /// In the save slot only: the register holds the last value that went through it.
-    InSave,
-}
-
-/// The register that moves go through, and the slot in which its value is saved. For a free
-/// register, both are the register.
-#[derive(Clone, Copy, Debug, PartialEq, Eq)]
-pub(super) struct ScratchReg {
-    pub register: Allocation,
-    pub save: Allocation,
-}
 
 /// Saves the value that the register must hold, unless it is saved.
 fn save_first<T: Copy + Default, A: Allocator + Copy>(
@@ -63,15 +43,11 @@ pub(super) fn restore_first<T: Copy + Default, A: Allocator + Copy>(
     ensures restored { IfOk result (λ after. after ≢ InSave) }
     ensures added { OnOk result ((x : Place × Place × _) → Contains out.new.items x → Contains out.old.items x ⊎ SavesOrRestores via.now.register via.now.save x) }
 {
-    match held {
-        Held::Free => Ok(Held::Free),
-        Held::InRegister => Ok(Held::InRegister),
-        Held::InBoth => Ok(Held::InBoth),
-        Held::InSave => {
-            out.push((via.save, via.register, T::default()))?;
-            Ok(Held::InBoth)
-        }
-    }
+    let Some(ends) = restoring(via, held) else {
+        return Ok(held);
+    };
+    out.push((ends.0, ends.1, T::default()))?;
+    Ok(Held::InBoth)
 }
 
 /// Makes a move by way of the register.

@@ -7,9 +7,9 @@ ghost use Rattle.regalloc2_parts.specs.Tracking.{CanExpandBy, IsExpanded};
 ghost use Rattle.regalloc2_parts.specs.Computed.{CanAsk, Owes, MayBeAskedTwice, IsHanding, IsRefusing, IsVia, IsPlaceChosen};
 ghost use Rattle.regalloc2_parts.specs.Computed.{Computes, AreApartInMemory, AreSeenApart};
 
-use super::passing::{self, Held, ScratchReg};
-use super::{MoveFault, MoveVec, MoveVecWithScratch};
+use super::{MoveFault, MoveVec, MoveVecWithScratch, passing};
 use regalloc2_names::{Allocation, PReg};
+use regalloc2_parts_steps::borrowed::{Held, ScratchReg};
 use smallvec::SmallVec;
 use std::alloc::Allocator;
 
