@@ -19,10 +19,11 @@ use Rattle.regalloc2_function.specs.OutputValue.{MoveValue}
 use Rattle.regalloc2_fastalloc_state.specs.StateParts.{VRegAllocsValue, SpillSlotsValue, alloc_of, vreg_of_preg, SetsAlloc, GetsSpillSlot, slot_name}
 use Rattle.regalloc2_fastalloc_state.specs.StateParts.{needs_scratch_reserve}
 use Rattle.regalloc2_fastalloc_state.specs.Choice.{chosen}
-use Rattle.regalloc2_fastalloc_state.specs.InstRegs.{IsAvailableAt, RemovesAvailable, SameAvailable, positions_of, both_positions, awaited_of, free_count}
+use Rattle.regalloc2_fastalloc_state.specs.InstRegs.{IsAvailableAt, RemovesAvailable, SameAvailable, awaited_of, free_count}
+use Rattle.regalloc2_fastalloc_steps.specs.Positions.{positions_of, both_positions}
 use Rattle.regalloc2_fastalloc_state.specs.InstRegs.{is_free, is_available_at, is_free_throughout}
 use Rattle.regalloc2_fastalloc_state.specs.declared.inst_regs.InstRegs.{InstRegs}
-use Rattle.regalloc2_fastalloc_state.specs.declared.inst_regs.Positions.{Positions}
+use Rattle.regalloc2_fastalloc_steps.specs.declared.positions.Positions.{Positions}
 use Rattle.regalloc2_fastalloc_state.specs.declared.request.Requirement.{Requirement}
 use Rattle.regalloc2_fastalloc_state.specs.declared.request.Requirement.TheVariants.{AnyPlace, AnyReg, InMemory, InPReg}
 use Rattle.regalloc2_fastalloc_state.specs.declared.request.OperandRequest.{OperandRequest}

@@ -1,13 +1,12 @@
--- The registers of one instruction, and the positions at which its operands hold theirs.
+-- The registers of one instruction, free or held at its two positions.
 use Rattle.std.specs.Prelude.{ℕ, ◌≡◌, Bool, true, not, ◌&&◌, ◌||◌, if◌then◌else◌, slice_index}
 use Rattle.regalloc2_names.specs.declared.RegClass.{RegClass}
 use Rattle.regalloc2_names.specs.declared.sets.PRegSet.{PRegSet}
 use Rattle.regalloc2_names.specs.Register.{Register, class_code, is_register}
 use Rattle.regalloc2_names.specs.RegisterSet.{has_register}
-use Rattle.regalloc2_names.specs.Operand.{OperandValue, is_def, is_late}
 use Rattle.regalloc2_function.specs.Fitting.{count_below, register_number}
 use Rattle.regalloc2_fastalloc_state.specs.declared.inst_regs.InstRegs.{InstRegs}
-use Rattle.regalloc2_fastalloc_state.specs.declared.inst_regs.Positions.{Positions}
+use Rattle.regalloc2_fastalloc_steps.specs.declared.positions.Positions.{Positions}
 
 -- a register is free at the positions
 pub record IsAvailableAt (inst_regs : InstRegs) (p : Positions) (r : Register) : Type 0 where
@@ -46,10 +45,3 @@ pub record SameAvailable (old new : InstRegs) : Type 0 where
   pub early : new.early ≡ old.early
   pub late : new.late ≡ old.late
   pub scratch : new.scratch ≡ old.scratch
-
--- the positions at which an operand holds its register: an early use the early one, a late definition the late one, others both
-abbrev pub positions_of : OperandValue → Positions
-positions_of o = record { early = not (is_def o.kind) || not (is_late o.position); late = is_def o.kind || is_late o.position }
-
-abbrev pub both_positions : Positions
-both_positions = record { early = true; late = true }

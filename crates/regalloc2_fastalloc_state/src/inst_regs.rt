@@ -4,44 +4,11 @@
 ghost use Rattle.std.specs.Prelude.{IsTrue, ◌≡◌, ◌+◌, ◌-◌, ◌<◌, ◌&&◌, ◌||◌, ◌∷◌, [], true, None, Some, not, slice_index_or, slice_set, if◌then◌else◌};
 ghost use Rattle.regalloc2_names.specs.Register.{Register, class_code, is_register};
 ghost use Rattle.regalloc2_names.specs.RegisterSet.{has_register};
-ghost use Rattle.regalloc2_fastalloc_state.specs.InstRegs.{RemovesAvailable, IsAvailableAt, SameAvailable, awaited_of, both_positions};
-ghost use Rattle.regalloc2_fastalloc_state.specs.InstRegs.{is_available_at, is_free_throughout, positions_of};
+ghost use Rattle.regalloc2_fastalloc_state.specs.InstRegs.{RemovesAvailable, IsAvailableAt, SameAvailable, awaited_of};
+ghost use Rattle.regalloc2_fastalloc_state.specs.InstRegs.{is_available_at, is_free_throughout};
 
-use regalloc2_names::{Operand, OperandKind, OperandPos, PReg, PRegSet, RegClass};
-
-/// The positions of an instruction at which an operand holds its register, at least.
-#[derive(Clone, Copy)]
-pub struct Positions {
-    /// While early uses are read.
-    pub early: bool,
-    /// While late definitions are written.
-    pub late: bool,
-}
-
-impl Positions {
-    /// Both.
-    pub fn both() -> Positions
-        ensures { result ≡ both_positions }
-    {
-        Positions {
-            early: true,
-            late: true,
-        }
-    }
-
-    /// Those of an operand: an early use is read before late definitions are written, and a late
-    /// definition comes after the early uses; all other operands hold their registers throughout.
-    pub fn of(operand: Operand) -> Positions
-        ensures { result ≡ positions_of operand }
-    {
-        let is_use = operand.kind() == OperandKind::Use;
-        let is_early = operand.pos() == OperandPos::Early;
-        Positions {
-            early: is_use || is_early,
-            late: !(is_use && is_early),
-        }
-    }
-}
+pub use regalloc2_fastalloc_steps::positions::Positions;
+use regalloc2_names::{PReg, PRegSet, RegClass};
 
 /// The registers of one instruction, while its operands are allocated.
 #[derive(Clone, Copy)]

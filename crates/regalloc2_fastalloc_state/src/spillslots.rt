@@ -4,8 +4,10 @@ ghost use Rattle.std.specs.Prelude.{◌≡◌, ℕ, ◌+◌, ◌-◌, ◌<◌, �
 ghost use Rattle.regalloc2_names.specs.Place.{InSlot};
 ghost use Rattle.regalloc2_fastalloc_state.specs.OutOfResources.{IsResourceErrorIn};
 ghost use Rattle.regalloc2_fastalloc_state.specs.StateParts.{SlotsHaveOneOwner, GetsSpillSlot, AddsTempSlots, later_end, later_slot, no_slots, slot_end};
-ghost use Rattle.regalloc2_fastalloc_state.specs.StateParts.{slot_name, most_units};
+ghost use Rattle.regalloc2_fastalloc_state.specs.StateParts.{slot_name};
+ghost use Rattle.regalloc2_fastalloc_steps.specs.Units.{most_units};
 
+use regalloc2_fastalloc_steps::units::Units;
 use regalloc2_names::{Allocation, RegAllocError, RegClass, SpillSlot, VReg};
 use std::alloc::Allocator;
 use std::marker::Model;
@@ -99,14 +101,13 @@ impl<A: Allocator> SpillSlots<A> {
             return Ok(had);
         }
         let size = self.sizes[vreg.class().code()];
-        let start = self.count.next_multiple_of(size);
-        let end = start + size;
-        if end > SpillSlot::MAX + 1 {
+        let units = Units::after(self.count, size);
+        if units.end > SpillSlot::MAX + 1 {
             return Err(RegAllocError::TooManySpillSlots);
         }
-        let slot = Allocation::stack(SpillSlot::new(named_unit(start, size, self.by_last)));
+        let slot = Allocation::stack(SpillSlot::new(named_unit(units.start, size, self.by_last)));
         self.vreg_spillslots[number] = slot;
-        self.count = end;
+        self.count = units.end;
         Ok(slot)
     }
 

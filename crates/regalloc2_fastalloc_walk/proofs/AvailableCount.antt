@@ -9,7 +9,8 @@ use Rattle.regalloc2_names.specs.Register.{Register, is_register}
 use Rattle.regalloc2_names.specs.RegisterSet.{has_register, registers_of}
 use Rattle.regalloc2_function.specs.Fitting.{register_number}
 use Rattle.regalloc2_fastalloc_state.specs.declared.inst_regs.InstRegs.{InstRegs}
-use Rattle.regalloc2_fastalloc_state.specs.InstRegs.{IsAvailableAt, both_positions, free_count, is_free, is_free_throughout}
+use Rattle.regalloc2_fastalloc_state.specs.InstRegs.{IsAvailableAt, free_count, is_free, is_free_throughout}
+use Rattle.regalloc2_fastalloc_steps.specs.Positions.{both_positions}
 use Rattle.regalloc2_fastalloc_state.proofs.CountingLaws.{count_same}
 use Rattle.regalloc2_fastalloc_state.proofs.SetMembers.{members_of_class}
 use Rattle.regalloc2_semantics.proofs.Cells.{is_register-true}

@@ -12,6 +12,7 @@ use crate::error::RewriteError;
 use regalloc2_function::{Function, is_framed};
 use regalloc2_index::Block;
 use regalloc2_names::{PRegSet, VReg};
+use regalloc2_rewrite_steps::edges::{one_of, only_edge};
 use regalloc2_serialize::InstOpcode;
 use regalloc2_serialize::table_function::{BlockDraft, TableFunction, TableInst};
 use std::alloc::{AllocError, Allocator};
@@ -78,15 +79,6 @@ fn has_critical_edge<F: Function>(f: &F, block: Block, k: usize, entries: &[usiz
     entered > 1
 }
 
-/// A list of one item.
-fn one_of<T: Drop, A: Allocator>(alloc: A, item: T) -> Result<Vec<T, A>, AllocError>
-    ensures { IfOk result (λ v. v.items ≡ item ∷ []) }
-{
-    let mut items = Vec::new(alloc);
-    items.push(item)?;
-    Ok(items)
-}
-
 /// A block that jumps to another one with these arguments.
 fn jump_to<A: Allocator + Copy>(
     alloc: A,
@@ -109,11 +101,12 @@ fn jump_to<A: Allocator + Copy>(
             op: InstOpcode::Branch,
         },
     )?;
+    let (succs, arguments) = only_edge(alloc, to, arguments)?;
     Ok(BlockDraft {
         params: Vec::new(alloc),
         insts,
-        succs: one_of(alloc, to)?,
-        arguments: one_of(alloc, arguments)?,
+        succs,
+        arguments,
     })
 }
 

@@ -12,6 +12,7 @@ use crate::copied::{copied_insts, laid_like};
 use crate::error::RewriteError;
 use regalloc2_function::{Function, is_framed};
 use regalloc2_index::Block;
+use regalloc2_rewrite_steps::numbers::renamed_succs;
 use regalloc2_serialize::from_function::copied_arguments;
 use regalloc2_serialize::table_function::{BlockDraft, TableFunction};
 use std::alloc::{AllocError, Allocator};
@@ -51,22 +52,6 @@ fn numbers_in<A: Allocator>(
         return Err(RewriteError::NoOrder);
     }
     Ok(numbers)
-}
-
-/// The numbers of blocks.
-fn renamed_succs<A: Allocator>(
-    alloc: A,
-    succs: &[Block],
-    numbers: &[Block],
-) -> Result<Vec<Block, A>, AllocError>
-    requires { All (λ s. s < length numbers.now) succs.now }
-    ensures { IfOk result (λ named. named.items ≡ map (λ s. slice_index numbers.now s) succs.now) }
-{
-    let mut named = Vec::with_capacity(alloc, succs.len())?;
-    for succ in succs {
-        named.push(numbers[succ.index()])?;
-    }
-    Ok(named)
 }
 
 /// A block under new numbers.

@@ -12,6 +12,7 @@ ghost use Rattle.regalloc2_fastalloc_state.specs.Validate.Constraints.{IsNoReuse
 ghost use Rattle.regalloc2_fastalloc_state.specs.Validate.Constraints.{AreUnlimited, BranchDefinesInPlace, DefinesInPlace, IsFirstFailing, IsFixedFault, IsUnsupported};
 
 use crate::allocatable::allocatable_of;
+use regalloc2_fastalloc_steps::refusal::refuse_unless;
 use regalloc2_function::{Function, MachineEnv};
 use regalloc2_index::Inst;
 use regalloc2_names::{
@@ -260,9 +261,7 @@ fn validate_reuses<F: Function, B: Allocator>(
 {
     for i in 0..f.num_insts() {
         let inst = Inst::new(i);
-        if !passes_reuse_test(f, env, inst) {
-            return Err(RegAllocError::Unsupported(inst));
-        }
+        refuse_unless(passes_reuse_test(f, env, inst), inst)?;
     }
     Ok(())
 }
@@ -275,9 +274,7 @@ fn validate_clobbers<F: Function>(f: &F) -> Result<(), RegAllocError>
 {
     for i in 0..f.num_insts() {
         let inst = Inst::new(i);
-        if !passes_clobber_test(f, inst) {
-            return Err(RegAllocError::Unsupported(inst));
-        }
+        refuse_unless(passes_clobber_test(f, inst), inst)?;
     }
     Ok(())
 }
