@@ -53,13 +53,17 @@ pub fixed_none : (ops : List OperandValue) (t u : InstRegs) → u.early ≡ t.ea
 fixed_none ops t u e l r was now = absurd (let same : is_free_throughout u r ≡ is_free_throughout t r = rw (e, l) refl in let x : true ≡ false = sym was
     ∙ sym same ∙ now in cc)
 
--- where at most a register is taken to which an operand is fixed, only such registers are taken
-pub fixed_one : (ops : List OperandValue) (t u : InstRegs) (q : Register) → IsFixedIn ops q → TakesOnly q t u → TakesFixed ops t u
-fixed_one ops t u q fixed s r was now = elim (cases_Bool (is_register q r)) [
-  | inl e ↦ subst (IsFixedIn ops) (is_register-true q r e) fixed
+-- where at most a register is taken, one that isn't free any more is that
+pub taken_one : (t u : InstRegs) (q : Register) → TakesOnly q t u → (r : Register) → is_free_throughout t r ≡ true → is_free_throughout u r ≡ false → q ≡ r
+taken_one t u q s r was now = elim (cases_Bool (is_register q r)) [
+  | inl e ↦ is_register-true q r e
   | inr e ↦ absurd (let same : is_free_throughout u r ≡ is_free_throughout t r = rw (s.early r e, s.late r e) refl in let x : true ≡ false = sym was ∙ sym same
       ∙ now in cc)
 ]
+
+-- where at most a register is taken to which an operand is fixed, only such registers are taken
+pub fixed_one : (ops : List OperandValue) (t u : InstRegs) (q : Register) → IsFixedIn ops q → TakesOnly q t u → TakesFixed ops t u
+fixed_one ops t u q fixed s r was now = subst (IsFixedIn ops) (taken_one t u q s r was now) fixed
 
 -- where only registers to which operands are fixed are taken in each of two steps, only such are taken over both
 pub fixed_then : (ops : List OperandValue) (t u w : InstRegs) → TakesFixed ops t u → TakesFixed ops u w → TakesFixed ops t w
@@ -272,13 +276,13 @@ reserves_none ops t u old never same counted = record {
 pub grows_none : (c : ReservedRegs) → KeepsReserved c c
 grows_none c = record { early = λ r h. h; late = λ r h. h }
 
--- an operand that claims nothing
-pub reserves_nothing : (ops : List OperandValue) (k : ℕ) (t : InstRegs) (c : ReservedRegs) (old : StateValue) →
-    ((r : Register) (p : Positions) → NeedsFixedReg ops k r p → ⊥) → ReservesRegForOperand ops k t t c c old
-reserves_nothing ops k t c old none = record {
-  shrinks = shrinks_none t;
+-- an operand that claims nothing: no register is taken, or the one that it is fixed to
+pub reserves_nothing : (ops : List OperandValue) (k : ℕ) (t u : InstRegs) (c : ReservedRegs) (old : StateValue) →
+    ((r : Register) (p : Positions) → NeedsFixedReg ops k r p → ⊥) → Shrinks t u → TakesFixed ops t u → ReservesRegForOperand ops k t u c c old
+reserves_nothing ops k t u c old none s taken = record {
+  shrinks = s;
   grows = grows_none c;
-  takes = fixed_none ops t t refl refl;
+  takes = taken;
   claims = claims_none ops k c c refl refl;
   reserved = λ r p h. absurd (none r p h);
 }
@@ -297,15 +301,15 @@ reserves_it {ops} {k} {t} {u} {c} {d} {old} {q} {o} only lt claim s taken g adde
       (subst (λ (x : Positions). IsReserved old q x u c d) (sym e.1) h);
 }
 
--- and more is held
-pub reserves_then : (ops : List OperandValue) (k : ℕ) (t m u : InstRegs) (c d e : ReservedRegs) (old : StateValue) → ReservesRegForOperand ops k t m c d old →
-    Shrinks m u → TakesFixed ops m u → e.early ≡ d.early → e.late ≡ d.late → ReservesRegForOperand ops k t u c e old
-reserves_then ops k t m u c d e old h s taken x y = record {
-  shrinks = shrinks_then t m u h.shrinks s;
-  takes = fixed_then ops t m u h.takes taken;
+-- what is reserved stays so where only a register is used
+pub reserves_then : {ops : List OperandValue} {k : ℕ} {t u : InstRegs} {c d e : ReservedRegs} {old : StateValue} → ReservesRegForOperand ops k t u c d old →
+    e.early ≡ d.early → e.late ≡ d.late → ReservesRegForOperand ops k t u c e old
+reserves_then {ops} {k} {t} {u} {c} {d} {e} {old} h x y = record {
+  shrinks = h.shrinks;
+  takes = h.takes;
   claims = claims_then ops k c d e h.claims x y;
   grows = record { early = λ r a. ap (λ q. has_register q r) x ∙ h.grows.early r a; late = λ r a. ap (λ q. has_register q r) y ∙ h.grows.late r a };
-  reserved = λ r p a. reserved_more old r p m u c d e (h.reserved r p a) s x y;
+  reserved = λ r p a. reserved_more old r p u u c d e (h.reserved r p a) (shrinks_none u) x y;
 }
 
 -- an option that has a register with its positions has no other pair

@@ -141,15 +141,19 @@ fn known_register(operand: Operand, place: Allocation) -> Option<PReg>
     ensures some { IfSome result (λ r. (is_reading operand ≡ true) × ((use_request operand place).requirement ≡ Requirement.InPReg r)) }
     ensures none { IfNone result (is_reading operand ≡ true → (r : Register) → (use_request operand place).requirement ≡ Requirement.InPReg r → ⊥) }
 {
-    if !operand.is_reading() {
+    if operand.is_def() {
         return None;
     }
-    if let Some(preg) = place.as_reg() {
-        return Some(preg);
-    }
-    match operand.constraint() {
-        OperandConstraint::FixedReg(preg) => Some(preg),
-        _ => None,
+    let known = match (place.as_reg(), operand.constraint()) {
+        (Some(preg), _) => preg,
+        (None, OperandConstraint::FixedReg(preg)) => preg,
+        _ => return None,
+    };
+    // tested last: most uses under `Any` have returned by then
+    if operand.is_reading() {
+        Some(known)
+    } else {
+        None
     }
 }
 
@@ -368,19 +372,16 @@ impl<'a, A: Allocator> State<'a, A> {
         let operand = operands[k];
         let place = allocs[k];
         if asks_any_reg(operand, place) {
-            self.process_reg_operand(inst_regs, cx, allocs, k)?;
-            return Ok(());
+            return self.process_reg_operand(inst_regs, cx, allocs, k);
         }
         if let Some(preg) = known_register(operand, place) {
-            self.process_placed_use(inst_regs, cx, allocs, k, preg)?;
-            return Ok(());
+            return self.process_placed_use(inst_regs, cx, allocs, k, preg);
         }
         if let Some(slot) = self.slot_of_any_use(operand) {
             allocs[k] = slot;
             return Ok(());
         }
-        self.process_operand(inst_regs, cx, allocs, k)?;
-        Ok(())
+        self.process_operand(inst_regs, cx, allocs, k)
     }
 
     /// Allocates the operands of one position, in operand order, however many there are.

@@ -3,7 +3,7 @@
 ghost use Rattle.std.specs.Prelude.{ℕ, ◌≡◌, ◌<◌, ◌⊎◌, ◌||◌, ◌↔◌, ◌∷◌, [], length, true, false, IsTrue, OnOk, IfOk, IfSome, IfNone, IfErr, Some, MatchResult};
 ghost use Rattle.regalloc2_names.specs.Register.{Register};
 ghost use Rattle.regalloc2_names.specs.RegisterSet.{has_register, registers_of};
-ghost use Rattle.regalloc2_fastalloc_state.specs.InstRegs.{SameAvailable};
+ghost use Rattle.regalloc2_fastalloc_state.specs.InstRegs.{SameAvailable, is_free_throughout};
 ghost use Rattle.regalloc2_fastalloc_state.specs.StateParts.{AllAtOrAfter};
 ghost use Rattle.regalloc2_fastalloc_state.specs.OutOfResources.{IsResourceErrorIn};
 ghost use Rattle.regalloc2_function.specs.FunctionValue.{op_at};
@@ -149,6 +149,19 @@ fn reserved_by(operands: &[Operand], k: usize) -> Option<(PReg, Positions)>
     }
 }
 
+/// Makes the register unavailable that an operand which claims nothing is fixed to: such an operand reads and defines
+/// nothing, but its register is named.
+fn remove_unclaimed(inst_regs: &mut InstRegs, operand: Operand)
+    ensures shrinks { Shrinks inst_regs.old inst_regs.new }
+    ensures takes { (r : Register) → is_free_throughout inst_regs.old r ≡ true → is_free_throughout inst_regs.new r ≡ false →
+        operand.constraint ≡ OperandConstraint.FixedReg r }
+    ensures awaited { inst_regs.new.awaited ≡ inst_regs.old.awaited }
+{
+    if let Some(preg) = fixed_register(operand) {
+        inst_regs.remove_available(preg, Positions::of(operand));
+    }
+}
+
 /// Whether a set has no register.
 fn has_none(set: PRegSet) -> bool
     ensures { IsTrue result ↔ ((r : Register) → has_register set r ≡ false) }
@@ -157,6 +170,13 @@ fn has_none(set: PRegSet) -> bool
 }
 
 impl<'a, A: Allocator> State<'a, A> {
+    /// Whether a register is one of the machine's, or a fixed stack slot.
+    fn is_of_machine(&self, preg: PReg) -> bool
+        ensures { result ≡ has_register self.now.registers.allocatable preg || has_register self.now.registers.fixed_stack preg }
+    {
+        self.registers.is_allocatable(preg) || self.registers.fixed_stack().contains(preg)
+    }
+
     /// Reserves a register at the positions. Returns an error where it isn't one of the machine's, or an earlier operand claimed it
     /// at one of them.
     fn reserve_preg(
@@ -177,7 +197,7 @@ impl<'a, A: Allocator> State<'a, A> {
             ((has_register self.now.registers.allocatable preg || has_register self.now.registers.fixed_stack preg) ≡ false)
             ⊎ IsReservedAt claims.old preg positions) }
     {
-        if !self.registers.available_regs().contains(preg) {
+        if !self.is_of_machine(preg) {
             return Err(RegAllocError::TooManyLiveRegs);
         }
         claims.reserve(preg, positions)?;
@@ -185,24 +205,38 @@ impl<'a, A: Allocator> State<'a, A> {
         Ok(())
     }
 
-    /// Removes a fixed register from the available ones, and pokes it once, if it may be allocated.
-    fn remove_fixed(
-        &mut self,
+    /// Makes the register of the operand k unavailable: where the operand claims one, that is reserved.
+    fn claim(
+        &self,
         inst_regs: &mut InstRegs,
         claims: &mut ReservedRegs,
-        preg: PReg,
-        positions: Positions,
-    )
-        ensures same { Between SameButOrder self.old self.new }
-        ensures shrinks { Shrinks inst_regs.old inst_regs.new }
-        ensures takes { TakesOnly preg inst_regs.old inst_regs.new }
+        operands: &[Operand],
+        k: usize,
+    ) -> Result<(), RegAllocError>
+        requires { k < length operands.now }
+        ensures outcome { MatchResult result
+            (λ x. ReservesRegForOperand operands.now k inst_regs.old inst_regs.new claims.old claims.new (tables_of self.now))
+            (λ e. e ≡ RegAllocError.TooManyLiveRegs → RegIsNotReserved operands.now k claims.old (tables_of self.now)) }
         ensures awaited { inst_regs.new.awaited ≡ inst_regs.old.awaited }
+        ensures err { IfErr result (IsResourceErrorIn self.now.slots) }
+    {
+        if let Some(claim) = reserved_by(operands, k) {
+            return self.reserve_preg(inst_regs, claims, claim.0, claim.1);
+        }
+        remove_unclaimed(inst_regs, operands[k]);
+        Ok(())
+    }
+
+    /// Pokes the register that an operand is fixed to, if it may be allocated and wasn't poked yet.
+    fn poke_fixed(&mut self, claims: &mut ReservedRegs, operand: Operand)
+        ensures same { Between SameButOrder self.old self.new }
         ensures early { claims.new.early ≡ claims.old.early }
         ensures late { claims.new.late ≡ claims.old.late }
+        ensures unused { ((r : Register) → operand.constraint ≡ OperandConstraint.FixedReg r → ⊥) →
+            self.new.registers.lrus ≡ self.old.registers.lrus }
     {
-        inst_regs.remove_available(preg, positions);
-        if self.registers.is_allocatable(preg) {
-            if !claims.poked.contains(preg) {
+        if let Some(preg) = fixed_register(operand) {
+            if self.registers.is_allocatable(preg) && !claims.poked.contains(preg) {
                 claims.poked.add(preg);
                 self.registers.poke(preg);
             }
@@ -227,13 +261,8 @@ impl<'a, A: Allocator> State<'a, A> {
         ensures unused { OnOk result (((r : Register) → (op_at operands.now k).constraint ≡ OperandConstraint.FixedReg r → ⊥) →
             self.new.registers.lrus ≡ self.old.registers.lrus) }
     {
-        let operand = operands[k];
-        if let Some(claim) = reserved_by(operands, k) {
-            self.reserve_preg(inst_regs, claims, claim.0, claim.1)?;
-        }
-        if let Some(preg) = fixed_register(operand) {
-            self.remove_fixed(inst_regs, claims, preg, Positions::of(operand));
-        }
+        self.claim(inst_regs, claims, operands, k)?;
+        self.poke_fixed(claims, operands[k]);
         Ok(())
     }
 

@@ -10,7 +10,7 @@ returns-clause-ok g c =
     let t = tables_of c.args.self.now in
     reserved_held t r c.args.positions c.args.inst_regs.now c.remove_available.new.self c.args.claims.now c.reserve.new.self
     (known_of (has_register t.allocatable r) (has_register t.fixed_stack r)
-    (sym c.if-not-contains.false ∙ c.contains.ensures.member ∙ c.available_regs.ensures r))
+    (sym c.if-not-is_of_machine.false ∙ c.is_of_machine.ensures))
     c.in_ok-reserve.ensures.ok c.remove_available.ensures.removed
 
 pub returns-clause-shrinks : goal.returns-clause-shrinks
