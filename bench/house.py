@@ -18,6 +18,7 @@ FLOORS = [
         ("regalloc2_names", "vregs, operands, places"),
         ("regalloc2_function", "Function, Output, specs")]),
      ("Moves", [
+         ("regalloc2_parts_steps", "one move, one search"),
          ("regalloc2_parts", "lists, parallel moves")])],
     [("Stored forms", [
         ("regalloc2_serialize", "numbers, JSON, words"),
@@ -35,6 +36,7 @@ FLOORS = [
         ("regalloc2_checker_flow", "instructions, edges"),
         ("regalloc2_checker_sweep", "all blocks, test_cells")])],
     [("Allocator", [
+        ("regalloc2_fastalloc_steps", "one test, one slot"),
         ("regalloc2_fastalloc_state", "tests, tables of the walk"),
         ("regalloc2_fastalloc_proofs", "steps as relations"),
         ("regalloc2_fastalloc_walk", "the walk"),
@@ -59,6 +61,7 @@ FLOORS = [
         ("codegen", "the compiler"),
         ("compile", "program")])],
     [("Rewriting", [
+        ("regalloc2_rewrite_steps", "one edge, one list"),
         ("regalloc2_rewrite", "split edges, renumber")]),
      ("Examples", [
          ("example_call", "program: one call"),
