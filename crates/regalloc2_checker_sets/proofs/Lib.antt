@@ -5,6 +5,7 @@
 pub mod Walked
 pub mod Bits
 mod Rows
+mod SavedChunks
 mod Chunks
 pub mod Listed
 pub mod HomeLaws

@@ -1,5 +1,5 @@
 -- Arrays and saved copies whose kept sets get new numbers.
-use Rattle.std.proofs.Common.{ℕ, ◌≡◌, ◌+◌, ◌-◌, ◌<◌, ◌≤◌, inl, inr, arith, List, length, get_or, set, refl, sym, ap, ◌∙◌, subst}
+use Rattle.std.proofs.Common.{ℕ, ◌≡◌, ◌+◌, ◌*◌, ◌%◌, ◌-◌, ◌<◌, ◌≤◌, inl, inr, arith, List, length, get_or, set, refl, sym, ap, ◌∙◌, subst}
 use Rattle.std.proofs.Common.{Bool, true, false}
 use Rattle.std.specs.Prelude.{◌⊎◌, Contains}
 use Rattle.std.proofs.lemmas.Bool.{cases_eq, cases_lt}
@@ -8,7 +8,8 @@ use Rattle.std.proofs.lemmas.List.Elements.{Contains-get_or}
 use Rattle.regalloc2_index.proofs.Bools.{not_both}
 use Rattle.regalloc2_shape.specs.Numbers.{NumberSet}
 use Rattle.regalloc2_checker_sets.specs.EntrySets.{is_member, IsSetOf}
-use Rattle.regalloc2_checker_sets.specs.SavedNumbers.{NumberCopies, copy_count, saved_number, number_now}
+use Rattle.regalloc2_checker_sets.specs.SavedCopies.{Copies, number_in_cell}
+use Rattle.regalloc2_checker_sets.specs.SavedNumbers.{NumberCopies, copy_count, saved_number, number_now, AreChunksKept}
 use Rattle.regalloc2_checker_sets.specs.Renumbering.{renamed, IsMarked, AreMarkedKept, AppearsIn, AreOfSets, HaveSameMembers}
 use Rattle.regalloc2_checker_sets.proofs.MovedDown.{renamed-few}
 
@@ -36,6 +37,38 @@ appears-renamed e words ws xs cells cs ys numbers n w c wn cn wl cl wr cr (inl a
 appears-renamed e words ws xs cells cs ys numbers n w c wn cn wl cl wr cr (inr a) =
     inr (subst (λ (l : List ℕ). Contains l (renamed numbers n)) (sym cn)
     (contains-renamed cells cs numbers n cl cr (subst (λ (l : List ℕ). Contains l n) c a)))
+
+-- a number of a list is the new one, under other names of the lists
+pub back-renamed : (words w ws xs numbers : List ℕ) (i : ℕ) → words ≡ w → xs ≡ ws → ((i : ℕ) → get_or ws i 0 ≡ renamed numbers (get_or w i 0)) →
+    get_or xs i 0 ≡ renamed numbers (get_or words i 0)
+back-renamed words w ws xs numbers i e d h =
+    ap (λ (l : List ℕ). get_or l i 0) d ∙ h i ∙ ap (λ (l : List ℕ). renamed numbers (get_or l i 0)) (sym e)
+
+-- the chunks of an array are where they were
+pub chunks-renamed : (words w ws xs cells c cs ys numbers : List ℕ) (bases : Copies) → words ≡ w → cells ≡ c → xs ≡ ws → ys ≡ cs → length ws ≡ length w →
+    length cs ≡ length c → ((i : ℕ) → get_or ws i 0 ≡ renamed numbers (get_or w i 0)) → ((i : ℕ) → get_or cs i 0 ≡ renamed numbers (get_or c i 0)) →
+    AreChunksKept words cells bases → AreChunksKept xs ys bases
+chunks-renamed words w ws xs cells c cs ys numbers bases we ce xe ye wl cl wr cr h =
+    let long : length ys ≡ length cells = ap (λ (l : List ℕ). length l) ye ∙ cl ∙ ap (λ (l : List ℕ). length l) (sym ce) in
+    let longs : length xs ≡ length words = ap (λ (l : List ℕ). length l) xe ∙ wl ∙ ap (λ (l : List ℕ). length l) (sym we) in
+    record {
+      whole = subst (λ (n : ℕ). n % 64 ≡ 0) (sym long) h.whole;
+      long = omega (arith, long, h.long);
+      within = λ k j l. (let o = h.within k j l in omega (arith, longs, o));
+      small = h.small;
+      known = λ j l small.
+          let o = h.known j l small in
+          let b = number_in_cell bases j in
+          record {
+            within = omega (arith, longs, o.within);
+            same = λ t lt. ap (λ (l : List ℕ). get_or l (64 * j + t) 0) ye ∙ cr (64 * j + t)
+                ∙ ap (λ (l : List ℕ). renamed numbers (get_or l (64 * j + t) 0)) (sym ce) ∙ ap (renamed numbers) (o.same t lt)
+                ∙ ap (λ (l : List ℕ). renamed numbers (get_or l (b + t) 0)) we ∙ sym (wr (b + t))
+                ∙ ap (λ (l : List ℕ). get_or l (b + t) 0) (sym xe);
+          };
+      past_now = λ j high l. h.past_now j (omega (arith, high, long)) l;
+      past_saved = λ k j high l. h.past_saved k j (omega (arith, high, long)) l;
+    }
 
 -- nothing changed
 pub members-same : (s : List NumberSet) (e : NumberCopies) → AreOfSets s e → IsSetOf s 0 (λ y. false) → HaveSameMembers s e s e

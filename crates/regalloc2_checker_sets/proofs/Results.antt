@@ -20,3 +20,8 @@ on_ok_of_both P Q R (Err e) f h k = tt
 pub on_err_as : {E : Type 0} (P Q : Type 0) (r : Result (Unit {0}) E) → (P → Q) → OnErr r P → OnErr r Q
 on_err_as P Q (Ok x) f h = tt
 on_err_as P Q (Err e) f h = f h
+
+-- what holds anyway holds of each error
+pub on_err_always : {T E : Type 0} (Q : Type 0) (r : Result T E) → Q → OnErr r Q
+on_err_always Q (Ok x) h = tt
+on_err_always Q (Err e) h = h

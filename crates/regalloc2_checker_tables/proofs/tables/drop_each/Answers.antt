@@ -32,3 +32,14 @@ returns-clause-ok g c i y l =
     c.loop-place.invariant.dropped i y l
     ∙ ap (λ b. if b && nat_eq y c.args.bits then false else held c.args.sets.now c.args.entries.now i y)
     (few-ended c.args.home.now c.loop-place.yielded c.loop-place.place-iterator c.loop-place.invariant.all c.in-None.ensures.steps.0 i)
+
+pub drop_at-requires : goal.drop_at-requires
+drop_at-requires g c = c.loop-place.invariant.still.below
+
+pub returns-clause-still : goal.returns-clause-still
+returns-clause-still g c = c.loop-place.invariant.still
+
+pub returns-in_err-drop_at-clause-still : goal.returns-in_err-drop_at-clause-still
+returns-in_err-drop_at-clause-still g c =
+    still-then c.args.sets.now c.loop-place.sets c.drop_at.new.sets c.args.entries.now c.loop-place.entries c.drop_at.new.entries
+    c.loop-place.invariant.still c.in_err-drop_at.ensures.still

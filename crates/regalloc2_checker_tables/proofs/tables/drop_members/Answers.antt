@@ -25,3 +25,14 @@ loop-place-preserved g c =
           c.loop-place.yielded c.in-Some.place c.args.bits (length c.args.entries.now.cells) c.loop-place.invariant.dropped
           (λ i y l. c.in_ok-drop_at.ensures.ok i y (omega arith));
     }
+
+pub drop_at-requires : goal.drop_at-requires
+drop_at-requires g c = c.loop-place.invariant.still.below
+
+pub returns-clause-still : goal.returns-clause-still
+returns-clause-still g c = c.loop-place.invariant.still
+
+pub returns-in_err-drop_at-clause-still : goal.returns-in_err-drop_at-clause-still
+returns-in_err-drop_at-clause-still g c =
+    still-then c.args.sets.now c.loop-place.sets c.drop_at.new.sets c.args.entries.now c.loop-place.entries c.drop_at.new.entries
+    c.loop-place.invariant.still c.in_err-drop_at.ensures.still

@@ -55,3 +55,16 @@ returns-clause-without g c =
     anew-all c.args.marks.now c.loop-copy.copy c.args.self.now c.loop-copy.self c.loop-copy.to
     (let n = ap (λ (o : NumberCopies). length o.base_rows) c.self.view_is in omega (arith, n, c.loop-copy-test.false, c.count-count.ensures))
     c.loop-copy.invariant
+
+pub write_all-requires : goal.write_all-requires
+write_all-requires g c = record { small = omega arith; within = omega (arith, c.deref.ensures.len, c.len.ensures, c.in_ok-to.ensures.long) }
+
+pub keep_copy-requires : goal.keep_copy-requires
+keep_copy-requires g c =
+    let i = c.loop-copy.invariant in
+    let count = ap (λ (o : NumberCopies). length o.base_rows) c.self.view_is in
+    record {
+      copy = omega (arith, count, i.count, c.loop-copy-test.true, c.count-count.ensures);
+      count = i.as_many ∙ sym i.count;
+      same = i.same;
+    }

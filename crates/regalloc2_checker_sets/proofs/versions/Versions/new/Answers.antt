@@ -1,5 +1,6 @@
 use Rattle.std.proofs.Common.{ℕ, ◌≡◌, ◌<◌, ◌≤◌, ◌+◌, ◌*◌, ◌/◌, [], length, get_or, arith, sym, ◌∙◌, refl, subst}
 use Rattle.std.specs.Prelude.{None}
+use Rattle.std.proofs.lemmas.List.{length-map}
 use Rattle.regalloc2_checker_sets.proofs.Rows.{within-as, some-same, zeros}
 use Rattle.regalloc2_checker_sets.specs.SavedCopies.{IsChunkAt}
 use Rattle.regalloc2_checker_sets.proofs.versions.Versions.new.Goals as goal
@@ -31,3 +32,14 @@ pub returns-clause-cells : goal.returns-clause-cells
 returns-clause-cells g c i = zeros c.resize-2.new.self.items (64 * (c.args.size / 64 + 1)) i
     (omega (arith, c.in_ok-resize-2.ensures.len, c.resize-2.new.self.ok.0))
     (λ k l. c.in_ok-resize-2.ensures.by_index.1 k 0 refl (omega (arith, c.new-cells.ensures.len)) l)
+
+pub returns-clause-long : goal.returns-clause-long
+returns-clause-long g c = omega (arith, c.in_ok-resize-2.ensures.len, c.resize-2.new.self.ok.0)
+
+pub returns-clause-count : goal.returns-clause-count
+returns-clause-count g c = length-map c.in_ok-saved.saved.items _ ∙ c.in_ok-saved.ensures.count
+
+pub returns-clause-saved : goal.returns-clause-saved
+returns-clause-saved g c k i =
+    zeros c.resize.new.self.items 64 _ (omega (arith, c.in_ok-resize.ensures.len, c.resize.new.self.ok.0))
+    (λ k l. c.in_ok-resize.ensures.by_index.1 k 0 refl (omega (arith, c.new-words.ensures.len)) l)

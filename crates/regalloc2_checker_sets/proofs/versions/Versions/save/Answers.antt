@@ -7,6 +7,7 @@ use Rattle.std.proofs.lemmas.List.{with_items_is}
 use Rattle.regalloc2_checker_sets.specs.SavedCopies.{Copies, saved_at, number_in_cell, number_in}
 use Rattle.regalloc2_checker_sets.proofs.Rows.{row-is, row-less, row-set_same, row-set_other, within-as}
 use Rattle.regalloc2_checker_sets.proofs.Rows.{clean-as, within-more, number-kept, bases-within, bases-same}
+use Rattle.regalloc2_checker_sets.proofs.Results.{on_err_always}
 use Rattle.regalloc2_checker_sets.proofs.versions.Versions.save.Goals as goal
 
 pub save_all-requires-clause-within : goal.save_all-requires-clause-within
@@ -84,3 +85,20 @@ returns-clause-saved g c i less =
     ∙ bases-same c.save_all.new.words.items c.deref-2.result.now c.in_ok-bases.bases.items (length c.deref_mut.result.now) i
     (omega (arith, d, e, c.self.invariant.long)) c.in_ok-bases.ensures.saved (omega (arith, d, v, less))
     ∙ ap (λ (l : List ℕ). get_or l i 0) c.deref-2.ensures.value ∙ ap (λ (x : Copies). number_in_cell x i) c.self.view_is
+
+pub save_all-requires-clause-long : goal.save_all-requires-clause-long
+save_all-requires-clause-long g c =
+    let d = ap (λ (l : List ℕ). length l) c.deref-2.ensures.value in
+    let e = ap (λ (l : List (Option ℕ)). length l) c.deref_mut.ensures.value in
+    omega (arith, d, e, c.self.invariant.long)
+
+pub returns-in_err-bases-clause-others : goal.returns-in_err-bases-clause-others
+returns-in_err-bases-clause-others g c k i n less =
+    number-kept c.self.inside.words.items c.save_all.new.words.items _ i c.in_err-bases.ensures.words (c.self.invariant.within k)
+    ∙ ap (λ (v : Copies). saved_at v k i) c.self.view_is
+
+pub returns-in_err-bases-clause-err : goal.returns-in_err-bases-clause-err
+returns-in_err-bases-clause-err g c =
+    on_err_always _ c.from_residual.result
+    (λ i less. number-kept c.self.inside.words.items c.save_all.new.words.items _ i c.in_err-bases.ensures.words (c.self.invariant.within c.args.copy)
+    ∙ ap (λ (v : Copies). saved_at v c.args.copy i) c.self.view_is)

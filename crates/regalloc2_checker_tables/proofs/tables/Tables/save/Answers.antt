@@ -1,4 +1,4 @@
-use Rattle.std.proofs.Common.{ℕ, ◌≡◌, ◌<◌, List, length, get_or, ap, ◌∙◌, subst, nat_eq}
+use Rattle.std.proofs.Common.{ℕ, ◌≡◌, ◌<◌, List, length, get_or, ap, sym, ◌∙◌, subst, nat_eq}
 use Rattle.std.specs.Prelude.{if◌then◌else◌}
 use Rattle.regalloc2_checker_sets.specs.EntrySets.{is_member}
 use Rattle.regalloc2_checker_tables.specs.Holding.{Holding, holds_now, holds_in, count_of}
@@ -44,3 +44,6 @@ returns-clause-tables g c =
     (λ ok. subst (λ (o : Holding). (k i y : ℕ) → i < length o.places → holds_in (record old { entries = c.save.new.self }) k i y
     ≡ (if nat_eq k c.args.table then holds_now o i y else holds_in o k i y)) c.self.view_is
     (save-in old c.save.new.self c.args.table c.self.invariant c.save.ensures.others ok)) c.save.ensures.saved
+
+pub save-requires : goal.save-requires
+save-requires g c = subst (λ (o : Holding). c.args.table < count_of o) (sym c.self.view_is) c.requires
