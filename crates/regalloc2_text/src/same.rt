@@ -19,11 +19,15 @@ fn same_inst<A: Allocator>(one: &StoredInst<A>, other: &StoredInst<A>) -> bool {
 
 /// Whether two lists of instructions hold the same.
 fn same_insts<A: Allocator>(one: &[StoredInst<A>], other: &[StoredInst<A>]) -> bool {
-    one.len() == other.len()
-        && one
-            .iter()
-            .zip(other.iter())
-            .all(|(first, second)| same_inst(first, second))
+    if one.len() != other.len() {
+        return false;
+    }
+    for (first, second) in one.iter().zip(other.iter()) {
+        if !same_inst(first, second) {
+            return false;
+        }
+    }
+    true
 }
 
 /// Whether two functions have the same blocks.

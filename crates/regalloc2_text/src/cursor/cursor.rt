@@ -4,7 +4,7 @@ ghost use Rattle.std.specs.Prelude.{◌≡◌, ◌<◌, ◌≤◌, length, IsTru
 ghost use Rattle.regalloc2_text.specs.Cursor.Cursor.{tokens_left};
 
 use super::error::{Expected, Flaw, Found};
-use super::token::{Token, TokenKind};
+use super::token::{Token, TokenKind, are_digits};
 use std::alloc::Allocator;
 
 /// A place among the tokens of a line. What is read is passed, and no method goes back.
@@ -217,11 +217,12 @@ impl<'a, 't> Cursor<'a, 't> {
     pub fn named(&mut self, name: &str, expected: &'static str) -> u32
         ensures { tokens_left self.new ≤ tokens_left self.old }
     {
-        let digits = self.peek().and_then(|text| text.strip_prefix(name));
-        let Some(digits) = digits.filter(|digits| is_numeral(digits)) else {
+        let word = self.peek().unwrap_or("");
+        let digits = word.strip_prefix(name).unwrap_or("");
+        if !is_numeral(digits) {
             self.misfit(expected);
             return 0;
-        };
+        }
         match digits.parse::<u32>() {
             Ok(number) => {
                 self.advance();
@@ -239,7 +240,7 @@ impl<'a, 't> Cursor<'a, 't> {
 pub(crate) fn is_numeral(text: &str) -> bool {
     match text.as_bytes() {
         [b'0'] => true,
-        [b'1'..=b'9', digits @ ..] => digits.iter().all(|byte| byte.is_ascii_digit()),
+        [b'1'..=b'9', digits @ ..] => are_digits(digits),
         _ => false,
     }
 }

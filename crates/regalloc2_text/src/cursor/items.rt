@@ -43,9 +43,9 @@ const NO_VREG: Misnamed = Misnamed {
     too_great: "a virtual register with a number up to 1073741823",
 };
 
-/// The class of that letter.
-fn class_of_letter(letter: char) -> Option<RegClass> {
-    match letter {
+/// The class of that letter, where there is one.
+fn class_of_letter(letter: Option<char>) -> Option<RegClass> {
+    match letter? {
         'i' => Some(RegClass::Int),
         'f' => Some(RegClass::Float),
         'v' => Some(RegClass::Vector),
@@ -114,7 +114,7 @@ fn name_in(word: &str, letter: char, max: usize, misnamed: &Misnamed) -> Result<
     if !is_numeral(digits) {
         return Err(misnamed.other);
     }
-    let Some(class) = last.and_then(class_of_letter) else {
+    let Some(class) = class_of_letter(last) else {
         return Err(misnamed.no_class);
     };
     match digits.parse::<usize>() {
@@ -182,7 +182,7 @@ impl Cursor<'_, '_> {
     {
         self.want("class");
         self.want("=");
-        match self.peek().and_then(class_in_debug) {
+        match class_in_debug(self.peek().unwrap_or("")) {
             Some(class) => {
                 self.advance();
                 class
@@ -295,7 +295,7 @@ impl Cursor<'_, '_> {
             let register = PReg::new(named.number, named.class);
             return Operand::fixed_nonallocatable(register).bits();
         }
-        let Some((kind, pos)) = self.peek().and_then(kind_named) else {
+        let Some((kind, pos)) = kind_named(self.peek().unwrap_or("")) else {
             self.misfit("an operand: `Def`, `Def@Early`, `Use`, `Use@Late` or `Fixed`");
             return 0;
         };

@@ -39,20 +39,29 @@ fn is_word_byte(byte: u8) -> bool {
 fn word_len(bytes: &[u8]) -> usize
     ensures { result ≤ length bytes.now }
 {
-    bytes
-        .iter()
-        .position(|byte| !is_word_byte(*byte))
-        .unwrap_or(bytes.len())
+    for (k, byte) in bytes.iter().enumerate() {
+        if !is_word_byte(*byte) {
+            return k;
+        }
+    }
+    bytes.len()
 }
 
 /// How many digits are at the front.
 fn digits_len(bytes: &[u8]) -> usize
     ensures { result ≤ length bytes.now }
 {
-    bytes
-        .iter()
-        .position(|byte| !byte.is_ascii_digit())
-        .unwrap_or(bytes.len())
+    for (k, byte) in bytes.iter().enumerate() {
+        if !byte.is_ascii_digit() {
+            return k;
+        }
+    }
+    bytes.len()
+}
+
+/// Whether all bytes are digits.
+pub(crate) fn are_digits(bytes: &[u8]) -> bool {
+    digits_len(bytes) == bytes.len()
 }
 
 /// What begins the bytes, and of how many it is made.
@@ -61,17 +70,15 @@ fn measured(bytes: &[u8]) -> Option<(TokenKind, usize)>
 {
     match bytes {
         [b' ' | b'\t', ..] => Some((TokenKind::Blank, 1)),
-        [b'a'..=b'z' | b'A'..=b'Z' | b'_', after @ ..] => Some((
-            TokenKind::Word,
-            1 + word_len(after),
-        )),
-        [b'0'..=b'9', after @ ..] => Some((TokenKind::Number, 1 + digits_len(after))),
+        [first, after @ ..] if first.is_ascii_alphabetic() || *first == b'_' => {
+            Some((TokenKind::Word, 1 + word_len(after)))
+        }
+        [first, after @ ..] if first.is_ascii_digit() => {
+            Some((TokenKind::Number, 1 + digits_len(after)))
+        }
         [b'.', b'.', b'=', ..] => Some((TokenKind::Sign, 3)),
         [b'.', b'.', ..] | [b'-', b'>', ..] => Some((TokenKind::Sign, 2)),
-        [
-            b':' | b';' | b',' | b'=' | b'(' | b')' | b'[' | b']' | b'-',
-            ..
-        ] => { Some((TokenKind::Sign, 1)) }
+        [first, ..] if b":;,=()[]-".contains(first) => Some((TokenKind::Sign, 1)),
         _ => None,
     }
 }
@@ -88,7 +95,10 @@ fn split_token(text: &str) -> Option<(TokenKind, &str, &str)>
 /// A line without its comment and the carriage return at its end.
 fn without_comment(line: &str) -> &str {
     let line = line.strip_suffix('\r').unwrap_or(line);
-    line.split_once('#').map_or(line, |(front, _)| front)
+    match line.split_once('#') {
+        Some((front, _)) => front,
+        None => line,
+    }
 }
 
 /// What stands at the front of a text that is no token.

@@ -5,11 +5,11 @@ use super::function::DraftFunction;
 use super::insts::opcode_named;
 use super::output::DraftOutput;
 use super::stored::StoredLists;
-use crate::cursor::{Cursor, Expected, Flaw, Token};
+use crate::cursor::{Cursor, Expected, Flaw, Token, are_digits};
 use std::alloc::Allocator;
 
 /// What a line leaves to the lines after it.
-#[derive(Clone, Copy, Debug, PartialEq, Eq)]
+#[derive(Clone, Copy, PartialEq, Eq)]
 pub(super) enum LineEffect {
     /// A move without a point, which an instruction is to follow.
     Waits,
@@ -30,7 +30,7 @@ pub(super) struct Draft<A: Allocator> {
 /// Whether a word is made of `name` and digits.
 pub(super) fn is_numbered(word: &str, name: &str) -> bool {
     match word.strip_prefix(name) {
-        Some(digits) => !digits.is_empty() && digits.bytes().all(|byte| byte.is_ascii_digit()),
+        Some(digits) => !digits.is_empty() && are_digits(digits.as_bytes()),
         None => false,
     }
 }

@@ -37,10 +37,10 @@ fn is_remark(line: &str) -> bool {
 fn split_prefix(line: &str) -> (&str, usize)
     ensures { 1 ≤ result.1 }
 {
-    let logged = line
-        .strip_prefix('[')
-        .and_then(|rest| rest.split_once("] "));
-    match logged {
+    let Some(rest) = line.strip_prefix('[') else {
+        return (line, 1);
+    };
+    match rest.split_once("] ") {
         Some((front, after)) if !front.contains('{') => (after, front.len().saturating_add(4)),
         _ => (line, 1),
     }

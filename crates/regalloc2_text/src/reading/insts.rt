@@ -23,7 +23,7 @@ pub(super) fn read_opcode(cursor: &mut Cursor<'_, '_>, next: u32) -> InstOpcode 
     if cursor.begins("inst") && cursor.named("inst", "an instruction") != next {
         cursor.fault_before(Expected::NextInst(next as usize));
     }
-    match cursor.peek().and_then(opcode_named) {
+    match opcode_named(cursor.peek().unwrap_or("")) {
         Some(op) => {
             cursor.advance();
             op
@@ -72,8 +72,9 @@ impl<A: Allocator + Copy> DraftInst<A> {
     /// Reads the operands of an instruction of a dump, each with its place, and the clobbers in brackets.
     pub(super) fn read_dumped(alloc: A, cursor: &mut Cursor<'_, '_>) -> Self {
         let mut inst = DraftInst::new(alloc);
-        if cursor.peek().is_some_and(|text| text != "[") {
-            inst.read_operands(cursor);
+        match cursor.peek() {
+            None | Some("[") => {}
+            Some(_) => inst.read_operands(cursor),
         }
         if cursor.has("[") {
             cursor.want("clobber");

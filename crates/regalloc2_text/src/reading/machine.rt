@@ -167,7 +167,7 @@ impl<A: Allocator + Copy> DraftMachine<A> {
     /// The spans of a line after its first word and the name of a class, where one is there.
     fn read_spans(&mut self, alloc: A, cursor: &mut Cursor<'_, '_>) -> Vec<Span, A> {
         self.is_named = true;
-        let class = cursor.peek().and_then(class_named);
+        let class = class_named(cursor.peek().unwrap_or(""));
         if class.is_some() {
             cursor.advance();
         }

@@ -43,7 +43,7 @@ pub(super) fn first_of_kind(cursor: &mut Cursor<'_, '_>, is_second: bool, word: 
 fn read_size(cursor: &mut Cursor<'_, '_>, sizes: &mut ByClass<u64>)
     ensures { tokens_left cursor.new ≤ tokens_left cursor.old }
 {
-    match cursor.peek().and_then(class_named) {
+    match class_named(cursor.peek().unwrap_or("")) {
         Some(class) => {
             cursor.advance();
             *sizes.of(class) = cursor.number(u64::MAX);

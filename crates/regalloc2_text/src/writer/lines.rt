@@ -109,8 +109,10 @@ fn write_lines<A: Allocator + Copy, W: fmt::Write>(
     let function = shown.function;
     write_machine(&function.machine_env, to);
     write_settings(shown, to);
-    let places = output.map_or(Places::none(), |output| output.places());
-    let mut moves = output.map_or(Moves::new(&[]), |output| output.moves());
+    let (places, mut moves) = match output {
+        Some(output) => (output.places(), output.moves()),
+        None => (Places::none(), Moves::new(&[])),
+    };
     shown.write_body(&places, &mut moves, to);
     write_labels(function.debug_value_labels.as_slice(), to);
     if let Some(output) = output {
@@ -129,7 +131,7 @@ pub fn lay_out<A: Allocator + Copy>(
     output: Option<&StoredOutput<A>>,
 ) -> Result<String<A>, AllocError> {
     let shown = Shown::of(alloc, function)?;
-    let laid = output.map(|output| ShownOutput::of(output, function.insts.len()));
+    let laid = ShownOutput::of(output, function.insts.len());
     let mut text = String::new(alloc);
     let mut page = Page::new(&mut text);
     write_lines(&shown, laid, &mut page);

@@ -1,6 +1,7 @@
 //! The lines of a machine.
 
 use super::registers::{write_class, write_registers};
+use super::shown::have_items;
 use crate::writer::lists::JsonText;
 use crate::writer::page::Page;
 use crate::writer::spell::RegisterText;
@@ -13,12 +14,20 @@ pub(crate) const CLASSES: usize = 3;
 
 /// Whether some list by class has a line of its own.
 fn has_lists<A: Allocator>(lists: &[Vec<u8, A>]) -> bool {
-    lists.len() == CLASSES && lists.iter().any(|registers| !registers.is_empty())
+    lists.len() == CLASSES && have_items(lists)
 }
 
 /// Whether some class has a line for its scratch register.
 fn has_scratch(registers: &[Option<u8>]) -> bool {
-    registers.len() == CLASSES && registers.iter().any(|register| register.is_some())
+    if registers.len() != CLASSES {
+        return false;
+    }
+    for register in registers {
+        if register.is_some() {
+            return true;
+        }
+    }
+    false
 }
 
 /// Whether a machine has a line.

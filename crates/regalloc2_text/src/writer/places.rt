@@ -18,7 +18,7 @@ pub(crate) struct Places<'a> {
 
 /// Whether offsets are one for each instruction, begin at 0, and never fall or pass the places.
 fn are_offsets(offsets: &[u32], insts: usize, places: usize) -> bool {
-    if offsets.len() != insts || offsets.first().is_some_and(|first| *first != 0) {
+    if offsets.len() != insts || offsets.first().copied().unwrap_or(0) != 0 {
         return false;
     }
     let mut before = 0;
@@ -45,7 +45,7 @@ impl<'a> Places<'a> {
         let Some(start) = self.offsets.get(inst) else {
             return &[];
         };
-        let end = match inst.checked_add(1).and_then(|next| self.offsets.get(next)) {
+        let end = match self.offsets.get(inst.saturating_add(1)) {
             Some(next) => *next as usize,
             None => self.places.len(),
         };
@@ -62,14 +62,19 @@ pub(crate) struct ShownOutput<'a, A: Allocator> {
 }
 
 impl<'a, A: Allocator + Copy> ShownOutput<'a, A> {
-    /// What of an output of so many instructions stands beside them: places by offsets in order, moves by points in order.
-    pub(crate) fn of(output: &'a StoredOutput<A>, insts: usize) -> ShownOutput<'a, A> {
+    /// What of an output of so many instructions, where there is one, stands beside them: places by offsets in order,
+    /// moves by points in order.
+    pub(crate) fn of(
+        output: Option<&'a StoredOutput<A>>,
+        insts: usize,
+    ) -> Option<ShownOutput<'a, A>> {
+        let output = output?;
         let offsets = output.inst_alloc_offsets.as_slice();
-        ShownOutput {
+        Some(ShownOutput {
             output,
             has_places: are_offsets(offsets, insts, output.allocs.len()),
             has_moves: run_in_order(output.edits.as_slice(), insts),
-        }
+        })
     }
 
     /// The places that stand beside their instructions.

@@ -27,12 +27,19 @@ pub(crate) fn write_list<T: Copy, D: fmt::Display + Drop, F: Fn(T) -> D + Drop, 
     }
 }
 
+/// Whether all registers are of a class.
+fn are_of_class(registers: &[u8], class: usize) -> bool {
+    for register in registers {
+        if usize::from(*register >> 6) != class {
+            return false;
+        }
+    }
+    true
+}
+
 /// Writes the name of a class and a space, where a register isn't of it.
 pub(crate) fn write_class<W: fmt::Write>(class: usize, registers: &[u8], to: &mut Page<'_, W>) {
-    if registers
-        .iter()
-        .all(|register| usize::from(*register >> 6) == class)
-    {
+    if are_of_class(registers, class) {
         return;
     }
     match class {

@@ -26,10 +26,22 @@ pub(crate) struct Shown<'a, A: Allocator> {
 
 /// Whether each block has as many lists of arguments as successors, so far as both lists go.
 fn agree<A: Allocator>(succs: &[Vec<u32, A>], params_out: &[Vec<Vec<u32, A>, A>]) -> bool {
-    succs
-        .iter()
-        .zip(params_out.iter())
-        .all(|(targets, lists)| targets.len() == lists.len())
+    for (targets, lists) in succs.iter().zip(params_out.iter()) {
+        if targets.len() != lists.len() {
+            return false;
+        }
+    }
+    true
+}
+
+/// Whether some list has items.
+pub(crate) fn have_items<T, A: Allocator>(lists: &[Vec<T, A>]) -> bool {
+    for list in lists {
+        if !list.is_empty() {
+            return true;
+        }
+    }
+    false
 }
 
 /// Whether successors and arguments, of which at least one has an item for each block, can't be shown together.
@@ -39,8 +51,8 @@ pub(crate) fn targets_disagree<A: Allocator>(function: &StoredFunction<A>) -> bo
     let params_out = function.block_params_out.as_slice();
     match (succs.len() == blocks, params_out.len() == blocks) {
         (true, true) => !agree(succs, params_out),
-        (true, false) => succs.iter().any(|targets| !targets.is_empty()),
-        (false, true) => params_out.iter().any(|lists| !lists.is_empty()),
+        (true, false) => have_items(succs),
+        (false, true) => have_items(params_out),
         (false, false) => false,
     }
 }
