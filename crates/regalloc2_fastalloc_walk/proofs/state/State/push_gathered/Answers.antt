@@ -1,11 +1,15 @@
-use Rattle.std.proofs.Common.{◌+◌, ◌≤◌, refl, sym, subst, arith, rules}
+use Rattle.std.proofs.Common.{◌≡◌, ◌+◌, ◌≤◌, ◌∙◌, inl, inr, refl, sym, subst, arith, rules}
 use Rattle.std.proofs.lemmas.Result.{err_from_is_err_and}
-use Rattle.regalloc2_names.specs.declared.RegClass.TheVariants.{Int, Float}
+use Rattle.regalloc2_names.specs.declared.RegClass.{RegClass}
+use Rattle.regalloc2_names.specs.declared.RegClass.TheVariants.{Int, Float, Vector}
+use Rattle.regalloc2_fastalloc_state.specs.ScratchPool.{Moves}
+use Rattle.regalloc2_fastalloc_state.specs.StateParts.{NoneIsFrom}
+use Rattle.regalloc2_fastalloc_proofs.specs.BranchSteps.{LacksMoveReg}
 use Rattle.regalloc2_fastalloc_state.specs.OutOfResources.{SlotsExhaustedWith, IsResourceError}
 use Rattle.regalloc2_fastalloc_proofs.specs.InstSteps.{StateValue}
 use Rattle.regalloc2_fastalloc_walk.specs.StateView.{tables_of}
 use Rattle.regalloc2_fastalloc_proofs.proofs.Branches.ArgMovesAreParallel.{between_more, full_before, lends_same, lends_then, pushes_grow}
-use Rattle.regalloc2_fastalloc_proofs.proofs.Safety.StateKept.{apart_kept}
+use Rattle.regalloc2_fastalloc_proofs.proofs.Safety.StateKept.{apart_kept, none_lends, lends_then as lends_in_all}
 use Rattle.regalloc2_fastalloc_state.proofs.SpillSlotUnits.{lacks_then}
 use Rattle.regalloc2_fastalloc_walk.proofs.state.State.push_gathered.Goals as goal
 
@@ -107,3 +111,44 @@ returns-in_err-push_moves-3-clause-err g c =
     (full_before (0 + 2 + 2) (b.slots.num_temp_slots + 2) 2 old b (lends_then (0 + 2) 2 old (tables_of c.push_moves.new.self)
     (tables_of c.push_moves-2.new.self) (lends_then (0) 2 old (tables_of c.args.self.now) (tables_of c.push_moves.new.self) (lends_same 0 old old refl)
     c.push_moves.ensures.machine) c.push_moves-2.ensures.machine) (omega arith)) _ c.in_err-push_moves-3.ensures.err))
+
+-- temporary slots are added at most
+pub returns-clause-machine : goal.returns-clause-machine
+returns-clause-machine g c = lends_in_all 4 2 6 (tables_of c.args.self.now) (tables_of c.push_moves-2.new.self) (tables_of c.push_moves-3.new.self)
+    (omega arith) (lends_in_all 2 2 4 (tables_of c.args.self.now) (tables_of c.push_moves.new.self) (tables_of c.push_moves-2.new.self) (omega arith)
+    c.push_moves.ensures.machine c.push_moves-2.ensures.machine) c.push_moves-3.ensures.machine
+
+pub returns-in_err-push_moves-clause-machine : goal.returns-in_err-push_moves-clause-machine
+returns-in_err-push_moves-clause-machine g c = lends_in_all 2 0 6 (tables_of c.args.self.now) (tables_of c.push_moves.new.self)
+    (tables_of c.push_moves.new.self) (omega arith) c.push_moves.ensures.machine (none_lends 0 (tables_of c.push_moves.new.self))
+
+pub returns-in_err-push_moves-2-clause-machine : goal.returns-in_err-push_moves-2-clause-machine
+returns-in_err-push_moves-2-clause-machine g c = lends_in_all 2 2 6 (tables_of c.args.self.now) (tables_of c.push_moves.new.self)
+    (tables_of c.push_moves-2.new.self) (omega arith) c.push_moves.ensures.machine c.push_moves-2.ensures.machine
+
+pub returns-in_err-push_moves-3-clause-machine : goal.returns-in_err-push_moves-3-clause-machine
+returns-in_err-push_moves-3-clause-machine g c = lends_in_all 4 2 6 (tables_of c.args.self.now) (tables_of c.push_moves-2.new.self)
+    (tables_of c.push_moves-3.new.self) (omega arith) (lends_in_all 2 2 4 (tables_of c.args.self.now) (tables_of c.push_moves.new.self)
+    (tables_of c.push_moves-2.new.self) (omega arith) c.push_moves.ensures.machine c.push_moves-2.ensures.machine) c.push_moves-3.ensures.machine
+
+-- a register that a later class lacks was lacking before
+lacks_before : (class : RegClass) (ms : Moves) (a b : StateValue) → b.allocatable ≡ a.allocatable → LacksMoveReg class ms b → LacksMoveReg class ms a
+lacks_before class ms a b same h = (h.0, subst (λ set. NoneIsFrom set class 0) same h.1)
+
+pub returns-in_err-push_moves-clause-outcome : goal.returns-in_err-push_moves-clause-outcome
+returns-in_err-push_moves-clause-outcome g c =
+    let p = err_from_is_err_and c.from_residual.result c.from_residual.ensures.1 in
+    rw p.1 (λ lacks. inl (c.in_err-push_moves.ensures.outcome (sym p.2 ∙ lacks)))
+
+pub returns-in_err-push_moves-2-clause-outcome : goal.returns-in_err-push_moves-2-clause-outcome
+returns-in_err-push_moves-2-clause-outcome g c =
+    let p = err_from_is_err_and c.from_residual-in_err-push_moves-2.result c.from_residual-in_err-push_moves-2.ensures.1 in
+    rw p.1 (λ lacks. inr (inl (lacks_before Float c.args.moves.float (tables_of c.args.self.now) (tables_of c.push_moves.new.self)
+    c.push_moves.ensures.machine.allocatable (c.in_err-push_moves-2.ensures.outcome (sym p.2 ∙ lacks)))))
+
+pub returns-in_err-push_moves-3-clause-outcome : goal.returns-in_err-push_moves-3-clause-outcome
+returns-in_err-push_moves-3-clause-outcome g c =
+    let p = err_from_is_err_and c.from_residual-in_err-push_moves-3.result c.from_residual-in_err-push_moves-3.ensures.1 in
+    rw p.1 (λ lacks. inr (inr (lacks_before Vector c.args.moves.vector (tables_of c.args.self.now) (tables_of c.push_moves-2.new.self)
+    (c.push_moves-2.ensures.machine.allocatable ∙ c.push_moves.ensures.machine.allocatable)
+    (c.in_err-push_moves-3.ensures.outcome (sym p.2 ∙ lacks)))))

@@ -1,5 +1,5 @@
-use Rattle.std.proofs.Common.{◌≡◌, Some, ap, ◌∙◌, refl, subst}
-use Rattle.std.specs.Prelude.{Option, IfNone}
+use Rattle.std.proofs.Common.{◌≡◌, Some, ap, ◌∙◌, refl, subst, ⊎_elim}
+use Rattle.std.specs.Prelude.{Option, IfNone, None}
 use Rattle.regalloc2_names.specs.Register.{Register}
 use Rattle.regalloc2_names.specs.Place.{Place, InRegister}
 use Rattle.regalloc2_fastalloc_state.specs.InstRegs.{IsAvailableAt}
@@ -81,3 +81,10 @@ returns-clause-all g c = λ r small of_class held free. (
       (c.available_pregs-free.ensures.throughout r free) (rest r small of_class held) in
       ap (λ (p : Place). Some p) (c.reg.ensures ∙ ap (λ (q : Register). InRegister q) same),
 )
+
+-- none are no two
+pub returns-in_default-clause-scratch_reserve : goal.returns-in_default-clause-scratch_reserve
+returns-in_default-clause-scratch_reserve g c = λ p h. absurd (⊎_elim (λ (e : None ≡ Some p). cc) (λ (e : None ≡ Some p). cc) h)
+
+pub returns-in_default-clause-differ : goal.returns-in_default-clause-differ
+returns-in_default-clause-differ g c = λ p q e f. absurd cc

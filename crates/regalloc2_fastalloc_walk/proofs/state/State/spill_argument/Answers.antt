@@ -1,11 +1,57 @@
-use Rattle.std.proofs.Common.{◌≡◌, refl, sym, ◌∙◌}
-use Rattle.regalloc2_names.specs.Place.{InRegister}
-use Rattle.regalloc2_fastalloc_proofs.specs.BranchSteps.{from_register}
-use Rattle.regalloc2_fastalloc_proofs.specs.InstSteps.{StateValue}
+use Rattle.std.proofs.Common.{◌≡◌, refl, sym, ap, ◌∙◌, arith, rules}
+use Rattle.std.specs.Prelude.{None, Some}
+use Rattle.regalloc2_names.specs.Place.{Place, InRegister, register_of_place}
+use Rattle.regalloc2_fastalloc_proofs.specs.BranchSteps.{from_register, in_slot}
+use Rattle.regalloc2_fastalloc_proofs.specs.InstSteps.{StateValue, SameMachine}
+use Rattle.regalloc2_fastalloc_proofs.proofs.Evictions.PushedAndRemoved.{same_then}
+use Rattle.regalloc2_fastalloc_state.proofs.SlotsAsPlaces.{slot_is_no_register}
 use Rattle.std.proofs.lemmas.Result.{err_from_is_err_and}
 use Rattle.regalloc2_fastalloc_walk.specs.StateView.{tables_of}
 use Rattle.regalloc2_semantics.proofs.Forms.{place_of_register}
+use Rattle.regalloc2_fastalloc_walk.proofs.Steps.{step_then_fails}
 use Rattle.regalloc2_fastalloc_walk.proofs.state.State.spill_argument.Goals as goal
+
+pub get_spillslot-requires : goal.get_spillslot-requires
+get_spillslot-requires g c = omega (arith, c.requires.known, c.args.self.now.same_long)
+
+pub set_alloc-requires-clause-vreg : goal.set_alloc-requires-clause-vreg
+set_alloc-requires-clause-vreg g c = c.requires.known
+
+-- a slot is no register
+pub set_alloc-requires-clause-alone : goal.set_alloc-requires-clause-alone
+set_alloc-requires-clause-alone g c = λ r e. absurd (slot_is_no_register c.args.self.now.slots c.get_spillslot.new.self c.args.argument c.in_ok-slot.slot r
+    c.in_ok-slot.ensures.ok c.get_spillslot.ensures.owned e)
+
+-- the argument was in no register
+pub returns-clause-outcome : goal.returns-clause-outcome
+returns-clause-outcome g c = in_slot
+    (λ r is. absurd (
+    let at : c.current_alloc.result ≡ InRegister r = c.current_alloc.ensures.place ∙ is in
+    let no : None ≡ Some r = sym c.in_default.is ∙ c.as_reg.ensures ∙ ap register_of_place at in cc))
+    c.in_ok-slot.ensures.ok c.set_alloc.ensures.settled refl
+    (record {
+      allocatable = refl;
+      fixed_stack = refl;
+      dedicated_scratch = refl;
+      sizes = c.get_spillslot.ensures.sizes;
+      vregs = c.get_spillslot.ensures.vregs;
+      num_temp_slots = c.get_spillslot.ensures.num_temp_slots;
+    }) refl refl
+
+pub returns-clause-step : goal.returns-clause-step
+returns-clause-step g c = record {
+  machine = record {
+    allocatable = refl;
+    fixed_stack = refl;
+    dedicated_scratch = refl;
+    sizes = c.get_spillslot.ensures.sizes;
+    vregs = c.get_spillslot.ensures.vregs;
+    num_temp_slots = c.get_spillslot.ensures.num_temp_slots;
+  };
+  later = c.requires.later;
+  long = c.set_alloc.ensures.settled.long;
+  err = search rules;
+}
 
 pub returns-in-Some-clause-outcome : goal.returns-in-Some-clause-outcome
 returns-in-Some-clause-outcome g c =
@@ -39,3 +85,21 @@ returns-in_err-evict_preg-clause-outcome g c =
       };
       stops = c.in_err-evict_preg.ensures.outcome (sym e.2 ∙ same);
     })
+
+-- the slot leaves the machine
+pub returns-in-Some-clause-step : goal.returns-in-Some-clause-step
+returns-in-Some-clause-step g c =
+    let made : SameMachine (tables_of c.args.self.now) (record (tables_of c.args.self.now) { slots = c.get_spillslot.new.self }) = record {
+      allocatable = refl;
+      fixed_stack = refl;
+      dedicated_scratch = refl;
+      sizes = c.get_spillslot.ensures.sizes;
+      vregs = c.get_spillslot.ensures.vregs;
+      num_temp_slots = c.get_spillslot.ensures.num_temp_slots;
+    } in
+    record {
+      machine = same_then _ _ _ made c.in_ok-evict_preg.ensures.step.machine;
+      later = c.in_ok-evict_preg.ensures.step.later;
+      long = c.in_ok-evict_preg.ensures.step.long;
+      err = search rules;
+    }
