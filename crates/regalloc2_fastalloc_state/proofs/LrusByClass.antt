@@ -2,7 +2,7 @@
 use Rattle.regalloc2_parts.proofs.RegisterLaws.{class_codes}
 use Rattle.std.proofs.Common.{ℕ, ◌≡◌, ◌≢◌, ◌<◌, Bool, true, false, List, [], length, arith, refl, sym, ap, ◌∙◌, ⊎_elim, subst}
 use Rattle.std.proofs.Common.{slice_index_or, set, get_or-set_same}
-use Rattle.std.specs.Prelude.{Option, None, Some, IfSome, IfNone, IsTrue, Contains, ◌↔◌}
+use Rattle.std.specs.Prelude.{All, Option, None, Some, IfSome, IfNone, IsTrue, Contains, ◌↔◌}
 use Rattle.std.proofs.lemmas.List.{get_or-set_other}
 use Rattle.std.proofs.Math.ListN.{length-set}
 use Rattle.std.proofs.lemmas.Bool.{cases_eq}
@@ -10,7 +10,7 @@ use Rattle.regalloc2_names.specs.declared.RegClass.{RegClass}
 use Rattle.regalloc2_names.specs.declared.sets.PRegSet.{PRegSet}
 use Rattle.regalloc2_names.specs.Register.{Register, class_code}
 use Rattle.regalloc2_names.specs.RegisterSet.{has_register}
-use Rattle.regalloc2_fastalloc_state.specs.StateParts.{AllocatableRegsValue, AreLrus, IsLeastRecentIn, NoneIsFrom, lru_of}
+use Rattle.regalloc2_fastalloc_state.specs.StateParts.{AllocatableRegsValue, AreLrus, IsLeastRecentIn, NoneIsFrom, NoneIsIn, lru_of}
 
 -- a register found in the LRU of its class, which is also in a set of available ones, is allocatable and available
 pub found_in : (t : AllocatableRegsValue) (class : RegClass) (free : PRegSet) (result : Option Register) → AreLrus t.allocatable t.lrus
@@ -42,6 +42,14 @@ none_in t class None lrus none = λ r same low small. by_test (has_register t.al
         let there : Contains (lru_of t r.class) r = lrus.all r small e in
         let here : Contains [] r = subst (λ (l : List Register). Contains l r) (ap (λ (k : RegClass). lru_of t k) same ∙ none) there in
         absurd (omega (arith, here.1))
+
+-- where no member of a class's LRU is in a set, no register of the class that may be allocated is
+pub none_free : (t : AllocatableRegsValue) (class : RegClass) (free : PRegSet) (result : Option Register) → AreLrus t.allocatable t.lrus
+    → IfNone result (All (λ r. has_register free r ≡ false) (lru_of t class)) → IfNone result (NoneIsIn t class free)
+none_free t class free (Some r) lrus none = tt
+none_free t class free None lrus none = λ r small same has.
+    let here : Contains (lru_of t class) r = subst (λ (k : RegClass). Contains (lru_of t k) r) same (lrus.all r small has) in
+    subst (λ (x : Register). has_register free x ≡ false) here.2 (none here.0 r here.1)
 
 -- an LRU list is replaced by one with the same members
 pub rings_kept : (allocatable : PRegSet) (lrus : List (List Register)) (i : ℕ) (ring : List Register) → i < length lrus

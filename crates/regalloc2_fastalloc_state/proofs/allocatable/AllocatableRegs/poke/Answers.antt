@@ -38,3 +38,10 @@ pub returns-clause-others : goal.returns-clause-others
 returns-clause-others g c = λ class other.
     other_ring c.self.inside.lrus.items c.code.result c.poke.new.self c.args.preg.class class (index_is g c) other
     ∙ ap (λ (t : AllocatableRegsValue). lru_of t class) c.self.view_is
+
+pub returns-clause-machine : goal.returns-clause-machine
+returns-clause-machine g c = record {
+  allocatable = ap (λ (t : AllocatableRegsValue). t.allocatable) c.self.view_is;
+  fixed_stack = ap (λ (t : AllocatableRegsValue). t.fixed_stack) c.self.view_is;
+  dedicated_scratch = ap (λ (t : AllocatableRegsValue). t.dedicated_scratch) c.self.view_is;
+}
