@@ -1,6 +1,6 @@
 use Rattle.std.proofs.Common.{◌≡◌, refl, sym, ap, ◌∙◌, arith, rules}
 use Rattle.std.specs.Prelude.{None, Some}
-use Rattle.regalloc2_names.specs.Place.{Place, InRegister, register_of_place}
+use Rattle.regalloc2_names.specs.Place.{InRegister, register_of_place}
 use Rattle.regalloc2_fastalloc_proofs.specs.BranchSteps.{from_register, in_slot}
 use Rattle.regalloc2_fastalloc_proofs.specs.InstSteps.{StateValue, SameMachine}
 use Rattle.regalloc2_fastalloc_proofs.proofs.Evictions.PushedAndRemoved.{same_then}
@@ -8,7 +8,6 @@ use Rattle.regalloc2_fastalloc_state.proofs.SlotsAsPlaces.{slot_is_no_register}
 use Rattle.std.proofs.lemmas.Result.{err_from_is_err_and}
 use Rattle.regalloc2_fastalloc_walk.specs.StateView.{tables_of}
 use Rattle.regalloc2_semantics.proofs.Forms.{place_of_register}
-use Rattle.regalloc2_fastalloc_walk.proofs.Steps.{step_then_fails}
 use Rattle.regalloc2_fastalloc_walk.proofs.state.State.spill_argument.Goals as goal
 
 pub get_spillslot-requires : goal.get_spillslot-requires
