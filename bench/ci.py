@@ -1,0 +1,130 @@
+#!/usr/bin/env python3
+"""Measures what CI costs, and prints a table by crate, or the slowest functions of one.
+
+    python3 bench/ci.py [--lanes N]
+    python3 bench/ci.py --functions CRATE [--most N]
+
+The first form proves `regalloc2_names` by two jobs, runs `rt ci --anew` with N checks side by side (one for each processor, if N isn't given), and
+prints processor seconds for proofs, second proofs (with which mutants begin) and mutants, and the ratio: core-minutes of the run for each second of
+`regalloc2_names`. Run it with nothing beside it: other work costs up to a third more. The status is that of `rt ci`.
+
+The second form proves a crate by `rt check --jobs 1 --progress` in its folder, over what that has kept, and prints the processor seconds between the
+ends of its functions. A file of lemmas, and loading a library's modules, count for the function that comes first to them.
+
+It reads the toolchain's layout (the folder of `rt doc`), which another release may change.
+"""
+import argparse, collections, importlib.machinery, importlib.util, os, stat, subprocess, sys, tempfile, time
+
+KIT = os.path.dirname(subprocess.run(["rt", "doc"], capture_output=True, text=True, check=True).stdout.strip())
+ROOT = os.path.dirname(os.path.dirname(os.path.abspath(__file__)))
+KINDS = ("proof", "second proof", "mutant")
+RATTLE = """#!/usr/bin/python3 -S
+# Runs rattle, and notes the processor seconds at each end of a function, and of the whole: crate, kind, processor seconds, seconds.
+import os, subprocess, sys, time
+words, begun = sys.argv[1:], time.time()
+after = lambda word: words[words.index(word) + 1] if word in words else ""
+kept = after("--incremental")
+kind = "proof"
+if "/rt-edit-" in os.getcwd():
+    kind = "second proof" if kept.endswith("/seed") or not kept else "mutant"
+log = open("{log}", "a", buffering=1)
+child = subprocess.Popen(["{rattle}", *words], stdout=subprocess.PIPE, stderr=subprocess.STDOUT)
+for line in child.stdout:
+    sys.stdout.buffer.write(line)
+    sys.stdout.buffer.flush()
+    if line.startswith(b"checked "):
+        used = open(f"/proc/{{child.pid}}/stat").read().rsplit(")", 1)[1].split()
+        log.write(f"{{line.decode().split(' ')[1].rstrip(',')}}\\t\\t{{sum(map(int, used[11:15])) / os.sysconf('SC_CLK_TCK')}}\\t0\\n")
+_, status, used = os.wait4(child.pid, 0)
+log.write(f"{{after('--crate-name')}}\\t{{kind}}\\t{{used.ru_utime + used.ru_stime}}\\t{{time.time() - begun}}\\n")
+code = os.waitstatus_to_exitcode(status)
+sys.exit(code) if code >= 0 else os.kill(os.getpid(), -code)
+"""
+
+
+def loaded(room):
+    """The command `rt` as a module, which notes its checks in the file `log` of the folder."""
+    loader = importlib.machinery.SourceFileLoader("rt", f"{KIT}/bin/rt")
+    made = importlib.util.module_from_spec(importlib.util.spec_from_loader("rt", loader))
+    sys.dont_write_bytecode = True
+    loader.exec_module(made)
+    made.rtlib.RATTLE = f"{room}/rattle"
+    with open(made.rtlib.RATTLE, "w") as it:
+        it.write(RATTLE.format(rattle=f"{KIT}/bin/rattle", log=f"{room}/log"))
+    os.chmod(made.rtlib.RATTLE, stat.S_IRWXU)
+    return made
+
+
+def noted(room):
+    """What was noted: a crate or a function, a check's kind, processor seconds and seconds."""
+    with open(f"{room}/log") as lines:
+        rows = [line.rstrip("\n").split("\t") for line in lines]
+    return [(name, kind, float(used), float(taken)) for name, kind, used, taken in rows if name]
+
+
+def seconds_of_names(rt, room):
+    """The seconds in which `regalloc2_names` is proved by two jobs, in a copy of the repository."""
+    rt.copy_crates(ROOT, f"{room}/copy")
+    os.mkdir(f"{room}/copy/.git")
+    os.chdir(f"{room}/copy")
+    rt.rtlib.guarded()
+    rt.Crate.cuts_libraries, rt.Crate.allowed = True, rt.handles_of(os.getcwd())
+    crates = {it.name: it for it in rt.crates_of(os.getcwd())}
+    for name in ("regalloc2_index", "regalloc2_names"):
+        if crates[name].ci(["--jobs", "2"], False):
+            sys.exit(f"{name} isn't proved")
+    return noted(room)[-1][3]
+
+
+def table(rows):
+    """Prints processor seconds by crate and kind."""
+    found = collections.defaultdict(collections.Counter)
+    for name, kind, used, _ in rows:
+        if kind:
+            found[name][kind] += used
+            found["all"][kind] += used
+    print("| Crate | " + " | ".join(KINDS) + " |\n|---|" + "---|" * len(KINDS))
+    for name in sorted(found, key=lambda it: -sum(found[it].values())):
+        print(f"| {name} | " + " | ".join(f"{found[name][kind]:,.0f}" for kind in KINDS) + " |")
+
+
+def whole(lanes):
+    """Proves `regalloc2_names` alone, then everything from nothing, and prints the table."""
+    with tempfile.TemporaryDirectory() as room:
+        rt = loaded(room)
+        names = seconds_of_names(rt, room)
+        os.remove(f"{room}/log")
+        os.chdir(ROOT)
+        os.environ["RT_JOBS"] = str(lanes or rt.processors())
+        begun, before = time.time(), sum(os.times()[:4])
+        status = rt.main(["ci", "--anew"])
+        minutes, cores = (time.time() - begun) / 60, (sum(os.times()[:4]) - before) / 60
+        table(noted(room))
+        print(f"{minutes:.0f} minutes, {cores:.0f} core-minutes; regalloc2_names {names:.1f} s: ratio {cores / names:.2f}")
+        return status
+
+
+def functions(crate, most):
+    """Proves a crate, and prints its slowest functions."""
+    with tempfile.TemporaryDirectory() as room:
+        rt = loaded(room)
+        os.chdir(f"{ROOT}/crates/{crate}")
+        status = rt.main(["check", "--jobs", "1", "--progress"])
+        ends = [(used, name) for name, kind, used, _ in noted(room) if not kind]
+        slowest = sorted(((used - before, name) for (before, _), (used, name) in zip([(0, ""), *ends], ends)), reverse=True)
+        for used, name in slowest[:most]:
+            print(f"{used:7.1f} {name}")
+        return status
+
+
+def main():
+    parser = argparse.ArgumentParser(description=__doc__, formatter_class=argparse.RawDescriptionHelpFormatter)
+    parser.add_argument("--lanes", type=int, default=0)
+    parser.add_argument("--functions", metavar="CRATE")
+    parser.add_argument("--most", type=int, default=30)
+    given = parser.parse_args()
+    sys.exit(functions(given.functions, given.most) if given.functions else whole(given.lanes))
+
+
+if __name__ == "__main__":
+    main()
