@@ -58,20 +58,20 @@ fn of_range(function: &StoredFunction, block: usize) -> Option<Cause> {
     None
 }
 
-/// How many of the edges that leave a block lead to another one.
-fn edges_between(function: &StoredFunction, from: usize, to: usize) -> usize {
-    list_of(function.block_succs.as_slice(), from)
-        .iter()
-        .filter(|succ| **succ as usize == to)
-        .count()
+/// How often a block is in a list.
+fn count_in(list: &[u32], block: usize) -> usize {
+    let mut count = 0usize;
+    for listed in list {
+        if *listed as usize == block {
+            count = count.saturating_add(1);
+        }
+    }
+    count
 }
 
-/// How often a block is among the predecessors of another one.
-fn listings_of(function: &StoredFunction, from: usize, to: usize) -> usize {
-    list_of(function.block_preds.as_slice(), to)
-        .iter()
-        .filter(|pred| **pred as usize == from)
-        .count()
+/// How many of the edges that leave a block lead to another one.
+fn edges_between(function: &StoredFunction, from: usize, to: usize) -> usize {
+    count_in(list_of(function.block_succs.as_slice(), from), to)
 }
 
 /// How many edges lead to a block.
@@ -83,17 +83,23 @@ fn edges_into(function: &StoredFunction, block: usize) -> usize {
     leading
 }
 
+/// Returns whether each of a block's predecessors is listed as often as it has an edge to the block.
+fn each_has_edges(function: &StoredFunction, preds: &[u32], block: usize) -> bool {
+    for pred in preds {
+        let from = *pred as usize;
+        if edges_between(function, from, block) != count_in(preds, from) {
+            return false;
+        }
+    }
+    true
+}
+
 /// The cause if a block's predecessors aren't the blocks with an edge to it.
 fn of_preds(function: &StoredFunction, block: usize) -> Option<Cause> {
     let preds = list_of(function.block_preds.as_slice(), block);
     let listed = preds.len();
     let leading = edges_into(function, block);
-    let is_as_listed = listed == leading
-        && preds.iter().all(|pred| {
-            let from = *pred as usize;
-            edges_between(function, from, block) == listings_of(function, from, block)
-        });
-    if is_as_listed {
+    if listed == leading && each_has_edges(function, preds, block) {
         return None;
     }
     Some(Cause::Predecessors {
@@ -192,21 +198,20 @@ pub(crate) fn of_branch(function: &StoredFunction, inst: usize) -> (Cause, Site)
     let Some(block) = block_of(function, inst) else {
         return (Cause::Other, site);
     };
-    let succs = list_of(function.block_succs.as_slice(), block);
-    let Some(succ) = succs
-        .iter()
-        .find(|succ| ways_into(function, **succ as usize) > 1)
-    else {
-        return (Cause::Other, site);
-    };
-    let succ = *succ as usize;
-    let cause = Cause::BranchOperands {
-        inst,
-        operands: operands_at(function, inst).len(),
-        succ,
-        ways: ways_into(function, succ),
-    };
-    (cause, site)
+    for succ in list_of(function.block_succs.as_slice(), block) {
+        let succ = *succ as usize;
+        let ways = ways_into(function, succ);
+        if ways > 1 {
+            let cause = Cause::BranchOperands {
+                inst,
+                operands: operands_at(function, inst).len(),
+                succ,
+                ways,
+            };
+            return (cause, site);
+        }
+    }
+    (Cause::Other, site)
 }
 
 /// The cause of `EntryLivein`.

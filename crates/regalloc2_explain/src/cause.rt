@@ -187,11 +187,8 @@ pub enum Cause {
     Other,
 }
 
-/// The texts of causes in blocks and edges; false if it is another cause.
-fn write_of_blocks<W: fmt::Write>(
-    cause: &Cause,
-    f: &mut fmt::Formatter<W>,
-) -> Result<bool, fmt::Error> {
+/// Writes a cause in blocks and edges, or another one.
+fn write_of_blocks<W: fmt::Write>(cause: &Cause, f: &mut fmt::Formatter<W>) -> fmt::Result {
     match *cause {
         Cause::CriticalEdge {
             from,
@@ -201,8 +198,8 @@ fn write_of_blocks<W: fmt::Write>(
         } => write!(
             f,
             "block{from} has {succs} successors, and one of them, block{to}, is entered in {ways} ways"
-        )?,
-        Cause::Empty { block } => write!(f, "block{block} has no instructions")?,
+        ),
+        Cause::Empty { block } => write!(f, "block{block} has no instructions"),
         Cause::Begins {
             block,
             first,
@@ -210,13 +207,13 @@ fn write_of_blocks<W: fmt::Write>(
         } => write!(
             f,
             "block{block} begins at inst{first}, and inst{wanted} is the first after the blocks before"
-        )?,
+        ),
         Cause::Ends { block, end, insts } => {
             let insts = Counted(insts, "instruction");
             write!(
                 f,
                 "block{block}, the last one, ends before inst{end}, and the function has {insts}"
-            )?;
+            )
         }
         Cause::Predecessors {
             block,
@@ -228,38 +225,34 @@ fn write_of_blocks<W: fmt::Write>(
             write!(
                 f,
                 "block{block} lists {listed}, not those of the {leading} into it"
-            )?;
+            )
         }
-        _ => return Ok(false),
+        _ => write_of_ends(cause, f),
     }
-    Ok(true)
 }
 
-/// The texts of causes in entries, ends of blocks and arguments; false if it is another cause.
-fn write_of_ends<W: fmt::Write>(
-    cause: &Cause,
-    f: &mut fmt::Formatter<W>,
-) -> Result<bool, fmt::Error> {
+/// Writes a cause in entries, ends of blocks and arguments, or one of those after them.
+fn write_of_ends<W: fmt::Write>(cause: &Cause, f: &mut fmt::Formatter<W>) -> fmt::Result {
     match *cause {
         Cause::EntryIsLater { entry } => {
-            write!(f, "the entry is block{entry}; it must be block0")?;
+            write!(f, "the entry is block{entry}; it must be block0")
         }
         Cause::EntryParams { count } => {
             let count = Counted(count, "parameter");
-            write!(f, "the entry has {count}, which nothing passes")?;
+            write!(f, "the entry has {count}, which nothing passes")
         }
         Cause::OpenEnd { block, inst } => write!(
             f,
             "inst{inst}, the last of block{block}, neither branches nor returns"
-        )?,
+        ),
         Cause::ReturnLeads { block, succs } => {
             let succs = Counted(succs, "successor");
-            write!(f, "block{block} ends in a return and has {succs}")?;
+            write!(f, "block{block} ends in a return and has {succs}")
         }
         Cause::EndsWithin { block, inst } => write!(
             f,
             "inst{inst} branches or returns, and isn't the last of block{block}"
-        )?,
+        ),
         Cause::ArgumentCount {
             succ,
             passed,
@@ -267,7 +260,7 @@ fn write_of_ends<W: fmt::Write>(
         } => {
             let passed = Counted(passed, "argument");
             let wanted = Counted(wanted, "parameter");
-            write!(f, "{passed} for block{succ}, which has {wanted}")?;
+            write!(f, "{passed} for block{succ}, which has {wanted}")
         }
         Cause::ArgumentClass {
             succ,
@@ -279,7 +272,7 @@ fn write_of_ends<W: fmt::Write>(
             write!(
                 f,
                 "the argument {passed} for the parameter {wanted} of block{succ} is of another class"
-            )?;
+            )
         }
         Cause::BranchOperands {
             inst,
@@ -291,56 +284,48 @@ fn write_of_ends<W: fmt::Write>(
             write!(
                 f,
                 "inst{inst} has {operands} and leads to block{succ}, which is entered in {ways} ways"
-            )?;
+            )
         }
-        _ => return Ok(false),
+        _ => write_of_vregs(cause, f),
     }
-    Ok(true)
 }
 
-/// The texts of causes in vregs; false if it is another cause.
-fn write_of_vregs<W: fmt::Write>(
-    cause: &Cause,
-    f: &mut fmt::Formatter<W>,
-) -> Result<bool, fmt::Error> {
+/// Writes a cause in vregs, or one of those after them.
+fn write_of_vregs<W: fmt::Write>(cause: &Cause, f: &mut fmt::Formatter<W>) -> fmt::Result {
     match *cause {
         Cause::DefinedTwice { vreg } => {
             let vreg = VRegText(vreg);
-            write!(f, "{vreg} is defined twice")?;
+            write!(f, "{vreg} is defined twice")
         }
         Cause::PastCount { vreg, count } => {
             let vreg = VRegText(vreg);
             write!(
                 f,
                 "{vreg} is defined, and only numbers below {count} may be"
-            )?;
+            )
         }
         Cause::Undefined { vreg } => {
             let vreg = VRegText(vreg);
-            write!(f, "{vreg} is used, and nothing defines it")?;
+            write!(f, "{vreg} is used, and nothing defines it")
         }
         Cause::OtherClass { vreg, defined } => {
             let vreg = VRegText(vreg);
             let defined = VRegText(defined);
-            write!(f, "{vreg} is used, and its number is defined as {defined}")?;
+            write!(f, "{vreg} is used, and its number is defined as {defined}")
         }
         Cause::UsedEarly { vreg } => {
             let vreg = VRegText(vreg);
-            write!(f, "{vreg} is used before its definition")?;
+            write!(f, "{vreg} is used before its definition")
         }
-        _ => return Ok(false),
+        _ => write_of_operands(cause, f),
     }
-    Ok(true)
 }
 
-/// The texts of causes in an instruction's operands; false if it is another cause.
-fn write_of_operands<W: fmt::Write>(
-    cause: &Cause,
-    f: &mut fmt::Formatter<W>,
-) -> Result<bool, fmt::Error> {
+/// Writes a cause in an instruction's operands, or one of those after them.
+fn write_of_operands<W: fmt::Write>(cause: &Cause, f: &mut fmt::Formatter<W>) -> fmt::Result {
     match *cause {
         Cause::ReuseIsNoDef { inst } => {
-            write!(f, "a reuse of inst{inst} is no definition at its end")?;
+            write!(f, "a reuse of inst{inst} is no definition at its end")
         }
         Cause::ReusesNothing {
             inst,
@@ -352,34 +337,33 @@ fn write_of_operands<W: fmt::Write>(
             write!(
                 f,
                 "a reuse of inst{inst} names operand {index}, counted from 0, and there {is} {operands}"
-            )?;
+            )
         }
         Cause::ReusesOther { inst, index } => write!(
             f,
             "operand {index} of inst{inst}, counted from 0, is reused and is no early use of the class in a register that may be allocated"
-        )?,
+        ),
         Cause::ReusedTwice { inst, index } => write!(
             f,
             "two definitions of inst{inst} reuse operand {index}, counted from 0"
-        )?,
+        ),
         Cause::FixedClobbered { inst, register } => write!(
             f,
             "an operand of inst{inst} is fixed to {register}, which the instruction clobbers"
-        )?,
+        ),
         Cause::Limited { inst } => write!(
             f,
             "an operand of inst{inst} is under a limit, which the allocator doesn't support"
-        )?,
+        ),
         Cause::BranchDefines { inst } => write!(
             f,
             "inst{inst} branches and defines in any register or by a reuse: only fixed registers and the stack are possible there"
-        )?,
-        _ => return Ok(false),
+        ),
+        _ => write_of_resources(cause, f),
     }
-    Ok(true)
 }
 
-/// The texts of causes in the machine's registers and slots; false if it is another cause.
+/// Writes a cause in the machine's registers and slots, or that none is found.
 fn write_of_resources<W: fmt::Write>(cause: &Cause, f: &mut fmt::Formatter<W>) -> fmt::Result {
     match *cause {
         Cause::Registers {
@@ -415,13 +399,6 @@ fn write_of_resources<W: fmt::Write>(cause: &Cause, f: &mut fmt::Formatter<W>) -
 /// What is wrong, as `v0i is defined twice`, on one line.
 impl fmt::Display for Cause {
     fn fmt<W: fmt::Write>(&self, f: &mut fmt::Formatter<W>) -> fmt::Result {
-        let is_told = write_of_blocks(self, f)?
-            || write_of_ends(self, f)?
-            || write_of_vregs(self, f)?
-            || write_of_operands(self, f)?;
-        if is_told {
-            return Ok(());
-        }
-        write_of_resources(self, f)
+        write_of_blocks(self, f)
     }
 }

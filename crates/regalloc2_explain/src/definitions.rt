@@ -67,16 +67,23 @@ fn definitions_of(function: &StoredFunction, number: usize) -> Definitions {
     definitions
 }
 
+/// Returns whether the operand of an encoding reads a vreg.
+fn reads(bits: u64, vreg: VReg) -> bool {
+    match operand_of(bits) {
+        Some(operand) => operand.is_reading() && operand.vreg() == vreg,
+        None => false,
+    }
+}
+
 /// The operand of an instruction that reads a vreg, or the instruction.
 fn read_site(function: &StoredFunction, vreg: VReg, inst: Inst) -> Site {
     let number = inst.index();
-    let read = operands_at(function, number).iter().position(|bits| {
-        operand_of(*bits).is_some_and(|operand| operand.is_reading() && operand.vreg() == vreg)
-    });
-    match read {
-        Some(k) => Site::Operand(number, k),
-        None => Site::Inst(number),
+    for (k, bits) in operands_at(function, number).iter().enumerate() {
+        if reads(*bits, vreg) {
+            return Site::Operand(number, k);
+        }
     }
+    Site::Inst(number)
 }
 
 /// The cause of `SSA`, the site, and another definition or the only one.

@@ -2,10 +2,11 @@
 
 use crate::cause::{Cause, Site};
 use crate::pressure::{
-    count_named, is_in_any, names_register, of_registers, register_index, spare,
+    count_in_any, count_named, first_allocated_in, is_in_any, names_allocated, of_registers,
+    register_index, spare,
 };
 use crate::source::Source;
-use crate::stored::{ClassName, class_number, is_allocatable, operand_of, operands_at};
+use crate::stored::{ClassName, class_number, operand_of, operands_at};
 use crate::{blocks, definitions, operands};
 use regalloc2_function::MachineMisfit;
 use regalloc2_names::{PReg, RegAllocError, RegClass, VRegText};
@@ -79,12 +80,7 @@ pub fn misfit_at(function: &StoredFunction, misfit: MachineMisfit) -> Option<Sit
         return None;
     };
     for (inst, data) in function.insts.iter().enumerate() {
-        let found = data.operands.iter().position(|bits| {
-            operand_of(*bits).is_some_and(|operand| {
-                operand.as_fixed_nonallocatable().is_none() && operand.class() == class
-            })
-        });
-        if let Some(k) = found {
+        if let Some(k) = first_allocated_in(data.operands.as_slice(), class_number(class)) {
             return Some(Site::Operand(inst, k));
         }
     }
@@ -129,9 +125,7 @@ impl fmt::Display for Named<'_> {
         for number in 0..64u8 {
             let index = register_index(self.class, number);
             let place = usize::from(index);
-            let is_counted = is_allocatable(&self.function.machine_env, index)
-                && names_register(self.function, self.inst, place);
-            if is_counted && PReg::is_index(place) {
+            if names_allocated(self.function, self.inst, index) && PReg::is_index(place) {
                 let register = PReg::from_index(place);
                 write!(f, "{before}{register}")?;
                 before = ", ";
@@ -155,7 +149,7 @@ fn write_needs<W: Write>(
         operands,
         class: number,
     };
-    if operands.iter().any(|bits| is_in_any(*bits, number)) {
+    if count_in_any(operands, number) > 0 {
         writeln!(to, "  in any register: {in_any}")?;
     }
     let named = Named {
@@ -194,8 +188,10 @@ impl Explanation {
         if let Cause::Registers { inst, class, .. } = cause {
             write_needs(function, inst, class, to)?;
         }
-        if let Some(line) = self.against.and_then(|site| source.find(site)) {
-            writeln!(to, "  defined: {line}")?;
+        if let Some(site) = self.against {
+            if let Some(line) = source.find(site) {
+                writeln!(to, "  defined: {line}")?;
+            }
         }
         Ok(())
     }

@@ -10,7 +10,7 @@ use regalloc2_serialize::StoredFunction;
 /// The block's own line if its list among these has the number, else the line of the block's last
 /// instruction, which has successors and arguments.
 fn of_number(function: &StoredFunction, lists: &[Vec<u32>], block: usize, number: u32) -> Site {
-    if list_of(lists, block).iter().any(|other| *other == number) {
+    if list_of(lists, block).contains(&number) {
         Site::Block(block)
     } else {
         end_of(function, block)

@@ -365,14 +365,24 @@ fn of_classes(function: &StoredFunction) -> Option<StoredCause> {
     None
 }
 
+/// The first number in a list that isn't a block's.
+fn first_past(list: &[u32], blocks: usize) -> Option<u32> {
+    for named in list {
+        if *named as usize >= blocks {
+            return Some(*named);
+        }
+    }
+    None
+}
+
 /// The first number in lists by block that isn't a block's.
 fn of_neighbours(lists: &[Vec<u32>], role: &'static str, blocks: usize) -> Option<StoredCause> {
     for (block, list) in lists.iter().enumerate() {
-        if let Some(named) = list.iter().find(|named| **named as usize >= blocks) {
+        if let Some(named) = first_past(list.as_slice(), blocks) {
             return Some(StoredCause::Neighbour {
                 block,
                 role,
-                named: *named,
+                named,
                 blocks,
             });
         }
@@ -397,14 +407,17 @@ fn of_ranges(ranges: &[(u32, u32)], insts: usize) -> Option<StoredCause> {
 
 /// The first label of a vreg whose number isn't below a count.
 fn of_counted(labels: &[(u32, u32, u32, u32)], count: u64) -> Option<StoredCause> {
-    let label = labels
-        .iter()
-        .position(|label| u64::from(label.0 >> 2) >= count)?;
-    Some(StoredCause::LabelPastCount {
-        label,
-        number: labels.get(label)?.0 >> 2,
-        count,
-    })
+    for (label, (word, _, _, _)) in labels.iter().enumerate() {
+        let number = *word >> 2;
+        if u64::from(number) >= count {
+            return Some(StoredCause::LabelPastCount {
+                label,
+                number,
+                count,
+            });
+        }
+    }
+    None
 }
 
 /// The first number of a block, an instruction or a labelled vreg that is out of range.
@@ -429,27 +442,42 @@ fn of_index(function: &StoredFunction) -> Option<StoredCause> {
     of_counted(function.debug_value_labels.as_slice(), function.num_vregs)
 }
 
+/// The first index that isn't a register's.
+fn first_unnamed(indexes: &[u8]) -> Option<u8> {
+    for index in indexes {
+        if !PReg::is_index(usize::from(*index)) {
+            return Some(*index);
+        }
+    }
+    None
+}
+
 /// The first index in a list that isn't a register's.
 fn of_list(list: &'static str, indexes: &[u8]) -> Option<StoredCause> {
-    let index = indexes
-        .iter()
-        .find(|index| !PReg::is_index(usize::from(**index)))?;
-    Some(StoredCause::Register {
-        list,
-        index: *index,
-    })
+    let index = first_unnamed(indexes)?;
+    Some(StoredCause::Register { list, index })
 }
 
 /// The first index in lists that isn't a register's.
 fn of_lists(list: &'static str, lists: &[Vec<u8>]) -> Option<StoredCause> {
-    lists
-        .iter()
-        .find_map(|indexes| of_list(list, indexes.as_slice()))
+    for indexes in lists {
+        if let Some(index) = first_unnamed(indexes.as_slice()) {
+            return Some(StoredCause::Register { list, index });
+        }
+    }
+    None
 }
 
-/// The index of a scratch register, if there is one and the index isn't a register's.
-fn of_scratch(index: Option<u8>) -> Option<StoredCause> {
-    of_list("scratch_by_class", &[index?])
+/// The first index of a scratch register that isn't a register's.
+fn of_scratch(indexes: &[Option<u8>]) -> Option<StoredCause> {
+    let list = "scratch_by_class";
+    for index in indexes {
+        let Some(index) = *index else { continue };
+        if !PReg::is_index(usize::from(index)) {
+            return Some(StoredCause::Register { list, index });
+        }
+    }
+    None
 }
 
 /// The first index of a machine that isn't a register's.
@@ -462,12 +490,8 @@ fn of_machine(machine: &StoredMachine) -> Option<StoredCause> {
     if let Some(cause) = of_lists("non_preferred_regs_by_class", others) {
         return Some(cause);
     }
-    let scratch = machine
-        .scratch_by_class
-        .iter()
-        .find_map(|index| of_scratch(*index));
-    if scratch.is_some() {
-        return scratch;
+    if let Some(cause) = of_scratch(machine.scratch_by_class.as_slice()) {
+        return Some(cause);
     }
     of_list("fixed_stack_slots", machine.fixed_stack_slots.as_slice())
 }
@@ -483,24 +507,22 @@ fn of_inst(inst: usize, data: &StoredInst) -> Option<StoredCause> {
             });
         }
     }
-    let index = data
-        .clobbers
-        .iter()
-        .find(|index| !PReg::is_index(usize::from(**index)))?;
-    Some(StoredCause::Clobber {
-        inst,
-        index: *index,
-    })
+    let index = first_unnamed(data.clobbers.as_slice())?;
+    Some(StoredCause::Clobber { inst, index })
 }
 
 /// The first encoding of a block's parameters or arguments that isn't a vreg's.
 fn of_vregs(block: usize, role: &'static str, words: &[u32]) -> Option<StoredCause> {
-    let word = words.iter().find(|word| !VReg::is_bits(**word))?;
-    Some(StoredCause::VRegWord {
-        block,
-        role,
-        word: *word,
-    })
+    for word in words {
+        if !VReg::is_bits(*word) {
+            return Some(StoredCause::VRegWord {
+                block,
+                role,
+                word: *word,
+            });
+        }
+    }
+    None
 }
 
 /// The first encoding or index of an instruction that names nothing.
@@ -523,14 +545,21 @@ fn of_params(lists: &[Vec<u32>]) -> Option<StoredCause> {
     None
 }
 
+/// The first encoding of a block's arguments that isn't a vreg's.
+fn of_arguments_of(block: usize, passed: &[Vec<u32>]) -> Option<StoredCause> {
+    for words in passed {
+        if let Some(cause) = of_vregs(block, "an argument", words.as_slice()) {
+            return Some(cause);
+        }
+    }
+    None
+}
+
 /// The first encoding of an argument that isn't a vreg's.
 fn of_passed(lists: &[Vec<Vec<u32>>]) -> Option<StoredCause> {
     for (block, passed) in lists.iter().enumerate() {
-        let cause = passed
-            .iter()
-            .find_map(|words| of_vregs(block, "an argument", words.as_slice()));
-        if cause.is_some() {
-            return cause;
+        if let Some(cause) = of_arguments_of(block, passed.as_slice()) {
+            return Some(cause);
         }
     }
     None
@@ -538,11 +567,12 @@ fn of_passed(lists: &[Vec<Vec<u32>>]) -> Option<StoredCause> {
 
 /// The first label whose encoding isn't a vreg's.
 fn of_labels(labels: &[(u32, u32, u32, u32)]) -> Option<StoredCause> {
-    let label = labels.iter().position(|label| !VReg::is_bits(label.0))?;
-    Some(StoredCause::LabelWord {
-        label,
-        word: labels.get(label)?.0,
-    })
+    for (label, (word, _, _, _)) in labels.iter().enumerate() {
+        if !VReg::is_bits(*word) {
+            return Some(StoredCause::LabelWord { label, word: *word });
+        }
+    }
+    None
 }
 
 /// The first encoding that names nothing.
@@ -564,6 +594,16 @@ fn of_words(function: &StoredFunction) -> Option<StoredCause> {
         return passed;
     }
     of_labels(function.debug_value_labels.as_slice())
+}
+
+/// The first size of a class's slots that isn't a power of two up to 2^24.
+fn of_sizes(sizes: &[u64]) -> Option<StoredCause> {
+    for (class, size) in sizes.iter().enumerate() {
+        if *size > 1 << 24 || !size.is_power_of_two() {
+            return Some(StoredCause::SlotSize { class, size: *size });
+        }
+    }
+    None
 }
 
 /// The first limit that is exceeded.
@@ -588,14 +628,7 @@ fn of_limits(function: &StoredFunction) -> Option<StoredCause> {
             return Some(StoredCause::TooMany { count, what, limit });
         }
     }
-    let sizes = function.spillslot_size.as_slice();
-    let class = sizes
-        .iter()
-        .position(|size| *size > 1 << 24 || !size.is_power_of_two())?;
-    Some(StoredCause::SlotSize {
-        class,
-        size: *sizes.get(class)?,
-    })
+    of_sizes(function.spillslot_size.as_slice())
 }
 
 /// The cause of an error in a stored function. Linear in the function.
@@ -610,30 +643,47 @@ pub fn explain_function(function: &StoredFunction, fault: StoredFault) -> Stored
     found.unwrap_or(StoredCause::Known(fault))
 }
 
+/// The first move with an encoding that names nothing.
+fn of_moves(moves: &[(u32, u32, u32)]) -> Option<StoredCause> {
+    for (index, (point, from, to)) in moves.iter().enumerate() {
+        let are_places = Allocation::is_bits(*from) && Allocation::is_bits(*to);
+        if !ProgPoint::is_index(*point) || !are_places {
+            return Some(StoredCause::Move { index });
+        }
+    }
+    None
+}
+
+/// The first encoding that isn't a place's.
+fn of_places(places: &[u32]) -> Option<StoredCause> {
+    for (index, word) in places.iter().enumerate() {
+        if !Allocation::is_bits(*word) {
+            return Some(StoredCause::Place { index, word: *word });
+        }
+    }
+    None
+}
+
+/// The first debug location with an encoding that names nothing.
+fn of_locations(locations: &[(u32, u32, u32, u32)]) -> Option<StoredCause> {
+    for (index, (_, from, until, place)) in locations.iter().enumerate() {
+        let are_points = ProgPoint::is_index(*from) && ProgPoint::is_index(*until);
+        if !are_points || !Allocation::is_bits(*place) {
+            return Some(StoredCause::Location { index });
+        }
+    }
+    None
+}
+
 /// The first encoding of an output that names nothing.
 fn of_output(output: &StoredOutput) -> Option<StoredCause> {
-    let is_place = |word: u32| Allocation::is_bits(word);
-    let is_move = |edit: (u32, u32, u32)| {
-        ProgPoint::is_index(edit.0) && is_place(edit.1) && is_place(edit.2)
-    };
-    if let Some(index) = output.edits.iter().position(|edit| !is_move(*edit)) {
-        return Some(StoredCause::Move { index });
+    if let Some(cause) = of_moves(output.edits.as_slice()) {
+        return Some(cause);
     }
-    let places = output.allocs.as_slice();
-    if let Some(index) = places.iter().position(|word| !is_place(*word)) {
-        return Some(StoredCause::Place {
-            index,
-            word: *places.get(index)?,
-        });
+    if let Some(cause) = of_places(output.allocs.as_slice()) {
+        return Some(cause);
     }
-    let is_location = |location: (u32, u32, u32, u32)| {
-        ProgPoint::is_index(location.1) && ProgPoint::is_index(location.2) && is_place(location.3)
-    };
-    let index = output
-        .debug_locations
-        .iter()
-        .position(|location| !is_location(*location))?;
-    Some(StoredCause::Location { index })
+    of_locations(output.debug_locations.as_slice())
 }
 
 /// The cause of an error in a stored output. Linear in the output.

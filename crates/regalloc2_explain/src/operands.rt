@@ -35,9 +35,22 @@ fn may_be_reused(function: &StoredFunction, by: Operand, operand: Operand) -> bo
     }
 }
 
+/// Returns whether the operand of an encoding reuses the one at an index.
+fn reuses(bits: u64, index: usize) -> bool {
+    match operand_of(bits) {
+        Some(operand) => reused_index(operand) == Some(index),
+        None => false,
+    }
+}
+
 /// Returns whether another operand before the index `k` reuses the same one.
 fn is_reused_before(operands: &[u64], k: usize, index: usize) -> bool {
-    operands.iter().take(k).any(|bits| operand_of(*bits).and_then(reused_index) == Some(index))
+    for bits in operands.iter().take(k) {
+        if reuses(*bits, index) {
+            return true;
+        }
+    }
+    false
 }
 
 /// Returns whether an operand reuses the one at an index, which is below 32 then.
@@ -59,7 +72,10 @@ fn of_reuse(function: &StoredFunction, inst: usize, k: usize, operand: Operand) 
             operands: operands.len(),
         });
     };
-    let is_sound = operand_of(*bits).is_some_and(|other| may_be_reused(function, operand, other));
+    let is_sound = match operand_of(*bits) {
+        Some(other) => may_be_reused(function, operand, other),
+        None => false,
+    };
     if !is_sound {
         return Some(Cause::ReusesOther { inst, index });
     }
@@ -77,16 +93,13 @@ fn of_clobber(function: &StoredFunction, inst: usize, k: usize, operand: Operand
     if is_early_use(operand) && !is_reused(operands_at(function, inst), k) {
         return None;
     }
-    let index = register.index();
-    let data = function.insts.get(inst)?;
-    if data
-        .clobbers
-        .iter()
-        .any(|clobber| usize::from(*clobber) == index)
-    {
-        return Some(Cause::FixedClobbered { inst, register });
+    let index = register.index() as u8;
+    match function.insts.get(inst) {
+        Some(data) if data.clobbers.as_slice().contains(&index) => {
+            Some(Cause::FixedClobbered { inst, register })
+        }
+        _ => None,
     }
-    None
 }
 
 /// The cause if an operand has a limit constraint.

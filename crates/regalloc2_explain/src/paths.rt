@@ -183,9 +183,7 @@ impl Search {
 
     /// Returns whether a need is one of a block's parameter, which each edge into the block writes.
     fn is_param(function: &StoredFunction, need: Need) -> bool {
-        list_of(function.block_params_in.as_slice(), need.block as usize)
-            .iter()
-            .any(|param| *param == need.vreg)
+        list_of(function.block_params_in.as_slice(), need.block as usize).contains(&need.vreg)
     }
 
     /// Passes needs on until one of the entry is found, and returns its index.
@@ -213,7 +211,8 @@ impl Search {
         let mut path = Vec::new(alloc);
         let mut next = Some(index);
         for _ in 0..self.needs.len() {
-            let Some(need) = next.and_then(|index| self.needs.get(index)) else {
+            let Some(index) = next else { break };
+            let Some(need) = self.needs.get(index) else {
                 break;
             };
             path.push(need.block)?;

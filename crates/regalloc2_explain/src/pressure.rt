@@ -8,7 +8,7 @@ use crate::stored::{
     class_number, class_of_number, is_allocatable, operand_of, operands_at, vreg_of,
 };
 use regalloc2_names::{Operand, OperandConstraint, OperandKind, OperandPos, PReg};
-use regalloc2_serialize::StoredFunction;
+use regalloc2_serialize::{StoredFunction, StoredInst};
 
 /// The register that an operand is fixed to, unless it is one that isn't allocated.
 fn fixed_register(operand: Operand) -> Option<PReg> {
@@ -23,35 +23,64 @@ fn fixed_register(operand: Operand) -> Option<PReg> {
 
 /// Returns whether the operand of an encoding may be in any register of a class.
 pub(crate) fn is_in_any(bits: u64, class: usize) -> bool {
-    operand_of(bits).is_some_and(|operand| {
-        operand.constraint() == OperandConstraint::Reg && class_number(operand.class()) == class
-    })
+    let Some(operand) = operand_of(bits) else {
+        return false;
+    };
+    operand.constraint() == OperandConstraint::Reg && class_number(operand.class()) == class
+}
+
+/// How many operands may be in any register of a class.
+pub(crate) fn count_in_any(operands: &[u64], class: usize) -> usize {
+    let mut count = 0usize;
+    for bits in operands {
+        if is_in_any(*bits, class) {
+            count = count.saturating_add(1);
+        }
+    }
+    count
 }
 
 /// Returns whether the operand of an encoding is fixed to the register of an index.
-fn is_fixed_to(bits: u64, index: usize) -> bool {
-    operand_of(bits).is_some_and(|operand| match operand.constraint() {
-        OperandConstraint::FixedReg(register) => register.index() == index,
+fn is_fixed_to(bits: u64, index: u8) -> bool {
+    let Some(operand) = operand_of(bits) else {
+        return false;
+    };
+    match operand.constraint() {
+        OperandConstraint::FixedReg(register) => register.index() == usize::from(index),
         _ => false,
-    })
+    }
+}
+
+/// Returns whether an operand is fixed to the register of an index.
+fn has_fixed_to(operands: &[u64], index: u8) -> bool {
+    for bits in operands {
+        if is_fixed_to(*bits, index) {
+            return true;
+        }
+    }
+    false
 }
 
 /// Returns whether an instruction names the register of an index, by a fixed operand or a clobber.
-pub(crate) fn names_register(function: &StoredFunction, inst: usize, index: usize) -> bool {
-    let Some(data) = function.insts.get(inst) else {
-        return false;
-    };
-    data.clobbers
-        .iter()
-        .any(|clobber| usize::from(*clobber) == index)
-        || data.operands.iter().any(|bits| is_fixed_to(*bits, index))
+pub(crate) fn names_register(function: &StoredFunction, inst: usize, index: u8) -> bool {
+    match function.insts.get(inst) {
+        Some(data) => {
+            data.clobbers.as_slice().contains(&index)
+                || has_fixed_to(data.operands.as_slice(), index)
+        }
+        None => false,
+    }
 }
 
 /// How many registers of a class are allocated.
 fn available(function: &StoredFunction, class: usize) -> usize {
-    (0..64u8)
-        .filter(|number| is_allocatable(&function.machine_env, register_index(class, *number)))
-        .count()
+    let mut count = 0usize;
+    for number in 0..64u8 {
+        if is_allocatable(&function.machine_env, register_index(class, number)) {
+            count = count.saturating_add(1);
+        }
+    }
+    count
 }
 
 /// The index of the register of a class with a number below 64.
@@ -63,49 +92,97 @@ pub(crate) fn register_index(class: usize, number: u8) -> u8 {
     }
 }
 
+/// Returns whether an instruction names an allocated register.
+pub(crate) fn names_allocated(function: &StoredFunction, inst: usize, index: u8) -> bool {
+    is_allocatable(&function.machine_env, index) && names_register(function, inst, index)
+}
+
 /// How many allocated registers of a class an instruction names.
 pub(crate) fn count_named(function: &StoredFunction, inst: usize, class: usize) -> usize {
-    (0..64u8)
-        .filter(|number| {
-            let index = register_index(class, *number);
-            is_allocatable(&function.machine_env, index)
-                && names_register(function, inst, usize::from(index))
-        })
-        .count()
+    let mut count = 0usize;
+    for number in 0..64u8 {
+        if names_allocated(function, inst, register_index(class, number)) {
+            count = count.saturating_add(1);
+        }
+    }
+    count
+}
+
+/// Returns whether a class has fixed stack slots.
+fn has_slots(slots: &[u8], class: usize) -> bool {
+    for slot in slots {
+        if usize::from(*slot >> 6) == class {
+            return true;
+        }
+    }
+    false
 }
 
 /// How many registers of a class are reserved for moves between stack places: one, if the class has
 /// fixed stack slots and no scratch register.
-/// scratch register.
 pub(crate) fn spare(function: &StoredFunction, class: usize) -> usize {
     let machine = &function.machine_env;
-    let has_slots = machine
-        .fixed_stack_slots
-        .iter()
-        .any(|slot| usize::from(*slot >> 6) == class);
     let has_scratch = match machine.scratch_by_class.get(class) {
         Some(scratch) => scratch.is_some(),
         None => false,
     };
-    usize::from(has_slots && !has_scratch)
+    usize::from(has_slots(machine.fixed_stack_slots.as_slice(), class) && !has_scratch)
 }
 
-/// Returns whether an operand, a parameter or an argument is of a class.
-fn names_class(function: &StoredFunction, class: usize) -> bool {
-    let is_of_class = |bits: &u32| {
-        vreg_of(*bits).is_some_and(|vreg| class_number(vreg.class()) == class)
+/// Returns whether the operand of an encoding is of a class, and not fixed to a register that isn't allocated.
+fn is_allocated_in(bits: u64, class: usize) -> bool {
+    let Some(operand) = operand_of(bits) else {
+        return false;
     };
-    function.insts.iter().any(|inst| {
-        inst.operands.iter().any(|bits| {
-            operand_of(*bits).is_some_and(|operand| {
-                operand.as_fixed_nonallocatable().is_none()
-                    && class_number(operand.class()) == class
-            })
-        })
-    }) || function
-        .block_params_in
-        .iter()
-        .any(|params| params.iter().any(is_of_class))
+    operand.as_fixed_nonallocatable().is_none() && class_number(operand.class()) == class
+}
+
+/// The index of the first operand that is of a class, and not fixed to a register that isn't allocated.
+pub(crate) fn first_allocated_in(operands: &[u64], class: usize) -> Option<usize> {
+    for (k, bits) in operands.iter().enumerate() {
+        if is_allocated_in(*bits, class) {
+            return Some(k);
+        }
+    }
+    None
+}
+
+/// Returns whether a vreg among encodings is of a class.
+fn has_vreg_of(words: &[u32], class: usize) -> bool {
+    for word in words {
+        if let Some(vreg) = vreg_of(*word) {
+            if class_number(vreg.class()) == class {
+                return true;
+            }
+        }
+    }
+    false
+}
+
+/// Returns whether an operand is of a class.
+fn operands_name(insts: &[StoredInst], class: usize) -> bool {
+    for inst in insts {
+        if first_allocated_in(inst.operands.as_slice(), class).is_some() {
+            return true;
+        }
+    }
+    false
+}
+
+/// Returns whether a parameter is of a class.
+fn params_name(lists: &[Vec<u32>], class: usize) -> bool {
+    for params in lists {
+        if has_vreg_of(params.as_slice(), class) {
+            return true;
+        }
+    }
+    false
+}
+
+/// Returns whether an operand or a parameter is of a class.
+fn names_class(function: &StoredFunction, class: usize) -> bool {
+    operands_name(function.insts.as_slice(), class)
+        || params_name(function.block_params_in.as_slice(), class)
 }
 
 /// The registers of a class, counted once for all instructions.
@@ -151,12 +228,7 @@ fn of_class(function: &StoredFunction, inst: usize, supply: Supply) -> Option<Ca
     if at_most <= available {
         return None;
     }
-    let any = data
-        .operands
-        .iter()
-        .filter(|bits| is_in_any(**bits, class))
-        .count();
-    let needed = any
+    let needed = count_in_any(data.operands.as_slice(), class)
         .saturating_add(count_named(function, inst, class))
         .saturating_add(spare);
     if needed <= available {
@@ -223,7 +295,7 @@ fn of_fixed(function: &StoredFunction, inst: usize) -> Option<(Cause, Site)> {
             continue;
         };
         let index = register.index() as u8;
-        let is_slot = machine.fixed_stack_slots.iter().any(|slot| *slot == index);
+        let is_slot = machine.fixed_stack_slots.as_slice().contains(&index);
         if !is_slot && !is_allocatable(machine, index) {
             return Some((
                 Cause::NoSuchRegister { inst, register },

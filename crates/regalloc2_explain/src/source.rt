@@ -51,10 +51,10 @@ fn split(text: &str, at: usize) -> (&str, &str) {
 
 /// A line without a logger's prefix in brackets.
 fn unlogged(line: &str) -> &str {
-    let logged = line
-        .strip_prefix('[')
-        .and_then(|rest| rest.split_once("] "));
-    match logged {
+    let Some(rest) = line.strip_prefix('[') else {
+        return line;
+    };
+    match rest.split_once("] ") {
         Some((front, after)) if !front.contains('{') => after,
         _ => line,
     }
@@ -62,30 +62,52 @@ fn unlogged(line: &str) -> &str {
 
 /// A line without its comment.
 fn without_comment(line: &str) -> &str {
-    line.split_once('#').map_or(line, |(front, _)| front)
+    match line.split_once('#') {
+        Some((front, _)) => front,
+        None => line,
+    }
 }
 
 /// How many blanks a line begins with.
 fn indent_of(line: &str) -> usize {
-    line.bytes()
-        .position(|byte| byte != b' ' && byte != b'\t')
-        .unwrap_or(line.len())
+    for (k, byte) in line.as_bytes().iter().enumerate() {
+        if *byte != b' ' && *byte != b'\t' {
+            return k;
+        }
+    }
+    line.len()
+}
+
+/// How many letters and digits a line begins with.
+fn word_len(line: &str) -> usize {
+    for (k, byte) in line.as_bytes().iter().enumerate() {
+        if !byte.is_ascii_alphanumeric() {
+            return k;
+        }
+    }
+    line.len()
 }
 
 /// The first word of a line.
 fn first_word(line: &str) -> &str {
     let (_, words) = split(line, indent_of(line));
-    let len = words
-        .bytes()
-        .position(|byte| !byte.is_ascii_alphanumeric())
-        .unwrap_or(words.len());
-    split(words, len).0
+    split(words, word_len(words)).0
+}
+
+/// Returns whether a text has only digits.
+fn are_digits(text: &str) -> bool {
+    for byte in text.as_bytes() {
+        if !byte.is_ascii_digit() {
+            return false;
+        }
+    }
+    true
 }
 
 /// Returns whether a word consists of a name and digits.
 fn is_numbered(word: &str, name: &str) -> bool {
     match word.strip_prefix(name) {
-        Some(digits) => !digits.is_empty() && digits.bytes().all(|byte| byte.is_ascii_digit()),
+        Some(digits) => !digits.is_empty() && are_digits(digits),
         None => false,
     }
 }
@@ -109,8 +131,29 @@ fn is_block(line: &str) -> bool {
 /// Returns whether a line is that of a move. A dump's begins with the move's point and a colon.
 fn is_move(line: &str) -> bool {
     let shown = without_comment(line);
-    let words = shown.split_once(':').map_or(shown, |(_, behind)| behind);
-    first_word(words) == "move"
+    match shown.split_once(':') {
+        Some((_, behind)) => first_word(behind) == "move",
+        None => first_word(shown) == "move",
+    }
+}
+
+/// A kind of lines.
+#[derive(Clone, Copy)]
+enum LineKind {
+    Block,
+    Inst,
+    Move,
+}
+
+impl LineKind {
+    /// Returns whether a line is of the kind.
+    fn has(self, line: &str) -> bool {
+        match self {
+            LineKind::Block => is_block(line),
+            LineKind::Inst => is_inst(line),
+            LineKind::Move => is_move(line),
+        }
+    }
 }
 
 /// The length of a line up to its operands: with the first colon or, in a dump, if that follows the
@@ -160,26 +203,23 @@ impl<'t> Source<'t> {
         }
     }
 
-    /// The line of the `k`th block.
-    fn block_line(&self, k: usize) -> Option<SourceLine<'t>> {
-        let (index, line) = self
-            .text
-            .lines()
-            .enumerate()
-            .filter(|(_, line)| is_block(unlogged(line)))
-            .nth(k)?;
-        let number = self.first_line.saturating_add(index);
-        Some(self.part(number, line, indent_of(unlogged(line))))
+    /// The `k`th line of a kind, with its index.
+    fn nth(&self, kind: LineKind, k: usize) -> Option<(usize, &'t str)> {
+        let mut before = 0usize;
+        for (index, line) in self.text.lines().enumerate() {
+            if kind.has(unlogged(line)) {
+                if before == k {
+                    return Some((index, line));
+                }
+                before = before.saturating_add(1);
+            }
+        }
+        None
     }
 
-    /// The line of the `k`th instruction, from one of its operands on if that is named.
-    fn inst_line(&self, k: usize, operand: Option<usize>) -> Option<SourceLine<'t>> {
-        let (index, line) = self
-            .text
-            .lines()
-            .enumerate()
-            .filter(|(_, line)| is_inst(unlogged(line)))
-            .nth(k)?;
+    /// The `k`th line of a kind, from one of its operands on if that is named.
+    fn nth_part(&self, kind: LineKind, k: usize, operand: Option<usize>) -> Option<SourceLine<'t>> {
+        let (index, line) = self.nth(kind, k)?;
         let shown = unlogged(line);
         let start = match operand {
             Some(operand) => operand_start(shown, operand),
@@ -189,26 +229,14 @@ impl<'t> Source<'t> {
         Some(self.part(number, line, start))
     }
 
-    /// The line of the `k`th move.
-    fn move_line(&self, k: usize) -> Option<SourceLine<'t>> {
-        let (index, line) = self
-            .text
-            .lines()
-            .enumerate()
-            .filter(|(_, line)| is_move(unlogged(line)))
-            .nth(k)?;
-        let number = self.first_line.saturating_add(index);
-        Some(self.part(number, line, indent_of(unlogged(line))))
-    }
-
     /// The location of a part of the function in the text, if it has a line. Linear in the text.
     pub fn find(&self, site: Site) -> Option<SourceLine<'t>> {
         match site {
             Site::Function => None,
-            Site::Block(block) => self.block_line(block),
-            Site::Inst(inst) => self.inst_line(inst, None),
-            Site::Operand(inst, operand) => self.inst_line(inst, Some(operand)),
-            Site::Move(index) => self.move_line(index),
+            Site::Block(block) => self.nth_part(LineKind::Block, block, None),
+            Site::Inst(inst) => self.nth_part(LineKind::Inst, inst, None),
+            Site::Operand(inst, operand) => self.nth_part(LineKind::Inst, inst, Some(operand)),
+            Site::Move(index) => self.nth_part(LineKind::Move, index, None),
         }
     }
 }

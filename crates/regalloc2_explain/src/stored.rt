@@ -3,6 +3,7 @@
 ghost use Rattle.std.specs.Prelude.{Some, ◌≡◌};
 ghost use Rattle.regalloc2_explain.specs.FaultText.{class_word, counted_text, numbered_class};
 
+use regalloc2_function::StoredOutput;
 use regalloc2_names::{Operand, RegClass, VReg};
 use regalloc2_serialize::{StoredFunction, StoredMachine};
 use std::fmt;
@@ -59,18 +60,49 @@ pub(crate) fn arguments_of(function: &StoredFunction, block: usize, position: us
 
 /// The block that holds an instruction, if a block does.
 pub(crate) fn block_of(function: &StoredFunction, inst: usize) -> Option<usize> {
-    function.blocks.iter().position(|(first, end)| *first as usize <= inst && inst < *end as usize)
+    for (block, (first, end)) in function.blocks.iter().enumerate() {
+        if *first as usize <= inst && inst < *end as usize {
+            return Some(block);
+        }
+    }
+    None
+}
+
+/// The places of an instruction's operands.
+pub(crate) fn places_of(output: &StoredOutput, inst: usize) -> &[u32] {
+    let offsets = output.inst_alloc_offsets.as_slice();
+    let Some(start) = offsets.get(inst) else {
+        return &[];
+    };
+    let end = match offsets.get(inst.saturating_add(1)) {
+        Some(end) => *end as usize,
+        None => output.allocs.len(),
+    };
+    output
+        .allocs
+        .as_slice()
+        .get(*start as usize..end)
+        .unwrap_or(&[])
+}
+
+/// The moves at a point and after it, of moves that are sorted by points.
+pub(crate) fn moves_from(moves: &[(u32, u32, u32)], point: u64) -> &[(u32, u32, u32)] {
+    let begin = moves.partition_point(|(at, _, _)| u64::from(*at) < point);
+    moves.get(begin..).unwrap_or(&[])
+}
+
+/// Returns whether a register index is in the list of its own class.
+fn is_listed(lists: &[Vec<u8>], index: u8) -> bool {
+    match lists.get(usize::from(index >> 6)) {
+        Some(list) => list.as_slice().contains(&index),
+        None => false,
+    }
 }
 
 /// Returns whether a register index is listed to be allocated for its own class.
 pub(crate) fn is_allocatable(machine: &StoredMachine, index: u8) -> bool {
-    let class = usize::from(index >> 6);
-    let is_in = |lists: &[Vec<u8>]| match lists.get(class) {
-        Some(list) => list.iter().any(|listed| *listed == index),
-        None => false,
-    };
-    is_in(machine.preferred_regs_by_class.as_slice())
-        || is_in(machine.non_preferred_regs_by_class.as_slice())
+    is_listed(machine.preferred_regs_by_class.as_slice(), index)
+        || is_listed(machine.non_preferred_regs_by_class.as_slice(), index)
 }
 
 /// The number of a class, from 0.

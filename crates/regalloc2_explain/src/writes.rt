@@ -1,6 +1,6 @@
 //! The last write of a place by instructions and moves in a block.
 
-use crate::stored::{operand_of, operands_at};
+use crate::stored::{moves_from, operand_of, operands_at, places_of};
 use regalloc2_function::StoredOutput;
 use regalloc2_names::{Allocation, InstPosition, PReg, ProgPoint};
 use regalloc2_serialize::StoredFunction;
@@ -47,22 +47,11 @@ impl LastWrite {
     }
 }
 
-/// The places of an instruction's operands.
-fn places_of(output: &StoredOutput, inst: usize) -> &[u32] {
-    let offsets = output.inst_alloc_offsets.as_slice();
-    let Some(start) = offsets.get(inst) else {
-        return &[];
-    };
-    let end = match offsets.get(inst.saturating_add(1)) {
-        Some(end) => *end as usize,
-        None => output.allocs.len(),
-    };
-    let start = *start as usize;
-    let places = output.allocs.as_slice();
-    if start <= end && end <= places.len() {
-        &places[start..end]
-    } else {
-        &[]
+/// Returns whether the operand of an encoding is a definition.
+fn is_def(bits: u64) -> bool {
+    match operand_of(bits) {
+        Some(operand) => operand.is_def(),
+        None => false,
     }
 }
 
@@ -76,12 +65,17 @@ fn definition_in(
     let places = places_of(output, inst);
     let mut found = None;
     for (k, bits) in operands_at(function, inst).iter().enumerate() {
-        let is_def = operand_of(*bits).is_some_and(|operand| operand.is_def());
-        if is_def && places.get(k) == Some(&place) {
+        if is_def(*bits) && places.get(k) == Some(&place) {
             found = Some(LastWrite::Definition(inst, k));
         }
     }
     found
+}
+
+/// Returns whether a place is the register of an index.
+fn is_register(place: u32, index: u8) -> bool {
+    let index = usize::from(index);
+    PReg::is_index(index) && Allocation::reg(PReg::from_index(index)).bits() == place
 }
 
 /// Returns whether an instruction clobbers a place.
@@ -89,10 +83,12 @@ fn clobbers(function: &StoredFunction, inst: usize, place: u32) -> bool {
     let Some(data) = function.insts.get(inst) else {
         return false;
     };
-    data.clobbers.iter().any(|clobber| {
-        let index = usize::from(*clobber);
-        PReg::is_index(index) && Allocation::reg(PReg::from_index(index)).bits() == place
-    })
+    for clobber in &data.clobbers {
+        if is_register(place, *clobber) {
+            return true;
+        }
+    }
+    false
 }
 
 /// What an instruction writes into a place.
@@ -131,10 +127,8 @@ fn last_by_inst(
 
 /// The last move into a place at the points from `first` until `end`.
 fn last_by_move(output: &StoredOutput, first: u64, end: u64, place: u32) -> Option<LastWrite> {
-    let edits = output.edits.as_slice();
-    let begin = edits.partition_point(|edit| u64::from(edit.0) < first);
     let mut found = None;
-    for (point, source, target) in edits.iter().skip(begin) {
+    for (point, source, target) in moves_from(output.edits.as_slice(), first) {
         if u64::from(*point) >= end {
             break;
         }

@@ -1,6 +1,7 @@
 //! How two allocations of one function differ.
 
-use crate::report::places::{OperandText, PlaceText, PointText, operands_at, places_of};
+use crate::report::places::{OperandText, PlaceText, PointText};
+use crate::stored::{operands_at, places_of};
 use regalloc2_function::StoredOutput;
 use regalloc2_serialize::StoredFunction;
 use std::io::{self, Write};
@@ -11,13 +12,21 @@ const NONE: u32 = 0;
 /// A stored move: a program point, the place that is read, and the place that is written.
 type Move = (u32, u32, u32);
 
+/// How many moves at the beginning of a list are at a point.
+fn count_at(moves: &[Move], point: u32) -> usize {
+    for (k, (at, _, _)) in moves.iter().enumerate() {
+        if *at != point {
+            return k;
+        }
+    }
+    moves.len()
+}
+
 /// The moves at a point, which are the first ones of a list, and the moves after them.
 fn split_point(moves: &[Move], point: u32) -> (&[Move], &[Move]) {
-    let count = moves
-        .iter()
-        .position(|(at, _, _)| *at != point)
-        .unwrap_or(moves.len());
-    moves.split_at_checked(count).unwrap_or((moves, &[]))
+    moves
+        .split_at_checked(count_at(moves, point))
+        .unwrap_or((moves, &[]))
 }
 
 /// The point of the first of two lists of moves, if one has a move.

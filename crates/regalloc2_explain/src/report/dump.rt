@@ -1,35 +1,32 @@
 //! A function with its allocation, in the form in which upstream prints results.
 
-use crate::report::places::{OperandText, PlaceText, RegisterText, operands_at, places_of};
+use crate::report::places::{OperandText, PlaceText, RegisterText};
+use crate::stored::{list_of, moves_from, operands_at, places_of};
 use regalloc2_function::StoredOutput;
 use regalloc2_serialize::{InstOpcode, StoredFunction};
+use std::fmt;
 use std::io::{self, Write};
 
-/// Writes numbers as Rust's `Debug` writes a list.
-fn write_numbers<W: Write>(numbers: &[u32], to: &mut W) -> io::Result<()> {
-    write!(to, "[")?;
-    for (k, number) in numbers.iter().enumerate() {
-        let before = if k == 0 { "" } else { ", " };
-        write!(to, "{before}{number}")?;
-    }
-    write!(to, "]")
-}
+/// Numbers as Rust's `Debug` writes a list, without the brackets.
+#[derive(Clone, Copy)]
+struct Numbers<'a>(&'a [u32]);
 
-/// A block's list in lists by block; empty if there is none.
-fn list_of(lists: &[Vec<u32>], block: usize) -> &[u32] {
-    match lists.get(block) {
-        Some(list) => list.as_slice(),
-        None => &[],
+impl fmt::Display for Numbers<'_> {
+    fn fmt<W: fmt::Write>(&self, f: &mut fmt::Formatter<W>) -> fmt::Result {
+        let mut before = "";
+        for number in self.0 {
+            write!(f, "{before}{number}")?;
+            before = ", ";
+        }
+        Ok(())
     }
 }
 
 /// Writes a block's head: `block1: [succs [2, 3] preds [0]]`.
 fn write_head<W: Write>(function: &StoredFunction, block: usize, to: &mut W) -> io::Result<()> {
-    write!(to, "block{block}: [succs ")?;
-    write_numbers(list_of(function.block_succs.as_slice(), block), to)?;
-    write!(to, " preds ")?;
-    write_numbers(list_of(function.block_preds.as_slice(), block), to)?;
-    writeln!(to, "]")
+    let succs = Numbers(list_of(function.block_succs.as_slice(), block));
+    let preds = Numbers(list_of(function.block_preds.as_slice(), block));
+    writeln!(to, "block{block}: [succs [{succs}] preds [{preds}]]")
 }
 
 /// Upstream's name for an instruction.
@@ -67,11 +64,9 @@ fn write_clobbers<W: Write>(clobbers: &[u8], to: &mut W) -> io::Result<()> {
 
 /// Writes the moves at a point, as upstream's annotations of results.
 fn write_moves<W: Write>(output: &StoredOutput, point: u64, to: &mut W) -> io::Result<()> {
-    let edits = output.edits.as_slice();
-    let begin = edits.partition_point(|edit| u64::from(edit.0) < point);
     let inst = point / 2;
     let ending = if point % 2 == 0 { "pre" } else { "post" };
-    for (at, from, into) in edits.iter().skip(begin) {
+    for (at, from, into) in moves_from(output.edits.as_slice(), point) {
         if u64::from(*at) != point {
             break;
         }

@@ -1,18 +1,9 @@
-//! The places and operands that stored numbers name.
+//! The texts of stored numbers, and which places are stack places.
 
-use regalloc2_function::StoredOutput;
-use regalloc2_names::{Allocation, Operand, PReg, ProgPoint};
-use regalloc2_serialize::{StoredFunction, StoredMachine};
+use crate::stored::operand_of;
+use regalloc2_names::{Allocation, PReg, ProgPoint};
+use regalloc2_serialize::StoredMachine;
 use std::fmt;
-
-/// The operand of an encoding, if it is valid.
-pub(crate) fn operand_of(bits: u64) -> Option<Operand> {
-    if Operand::is_bits(bits) {
-        Some(Operand::from_bits(bits))
-    } else {
-        None
-    }
-}
 
 /// Returns whether the place of an encoding is a stack place: a spill slot, or a register that is a
 /// fixed stack slot.
@@ -23,38 +14,10 @@ pub(crate) fn is_memory(machine: &StoredMachine, bits: u32) -> bool {
     let place = Allocation::from_bits(bits);
     match place.as_reg() {
         Some(register) => {
-            let index = register.index();
-            machine
-                .fixed_stack_slots
-                .iter()
-                .any(|slot| usize::from(*slot) == index)
+            let index = register.index() as u8;
+            machine.fixed_stack_slots.as_slice().contains(&index)
         }
         None => place.is_stack(),
-    }
-}
-
-/// The places of an instruction's operands.
-pub(crate) fn places_of(output: &StoredOutput, inst: usize) -> &[u32] {
-    let offsets = output.inst_alloc_offsets.as_slice();
-    let Some(start) = offsets.get(inst) else {
-        return &[];
-    };
-    let end = match offsets.get(inst.saturating_add(1)) {
-        Some(end) => *end as usize,
-        None => output.allocs.len(),
-    };
-    output
-        .allocs
-        .as_slice()
-        .get(*start as usize..end)
-        .unwrap_or(&[])
-}
-
-/// The encodings of an instruction's operands; none if there is no such instruction.
-pub(crate) fn operands_at(function: &StoredFunction, inst: usize) -> &[u64] {
-    match function.insts.get(inst) {
-        Some(data) => data.operands.as_slice(),
-        None => &[],
     }
 }
 

@@ -1,6 +1,7 @@
 //! Counts of an allocated function.
 
-use crate::report::places::{is_memory, operand_of};
+use crate::report::places::is_memory;
+use crate::stored::operand_of;
 use regalloc2_function::StoredOutput;
 use regalloc2_names::OperandConstraint;
 use regalloc2_serialize::{StoredFunction, StoredMachine};
@@ -101,16 +102,17 @@ impl fmt::Display for Stats {
             stores,
             slots,
         } = self;
-        writeln!(f, "instructions       {insts}")?;
-        writeln!(f, "blocks             {blocks}")?;
-        writeln!(f, "virtual registers  {vregs}")?;
+        write!(
+            f,
+            "instructions       {insts}\nblocks             {blocks}\nvirtual registers  {vregs}\n"
+        )?;
         for (name, count) in CONSTRAINTS.iter().zip(operands.iter()) {
             writeln!(f, "operands {name:<9} {count}")?;
         }
-        writeln!(f, "moves              {register_moves}")?;
-        writeln!(f, "loads              {loads}")?;
-        writeln!(f, "stores             {stores}")?;
-        writeln!(f, "units of slots     {slots}")
+        writeln!(
+            f,
+            "moves              {register_moves}\nloads              {loads}\nstores             {stores}\nunits of slots     {slots}"
+        )
     }
 }
 
