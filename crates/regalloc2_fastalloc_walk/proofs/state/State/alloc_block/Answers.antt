@@ -125,7 +125,7 @@ loop-i-preserved g c =
       begun = λ e. absurd (omega (arith, e, upto));
     }
 
--- a step that fails, since registers, slots or memory are out
+-- a step that fails, as registers, slots or memory are out
 branch_fails : {A T : Type 0} {at more : ℕ} {e d : RegAllocError} (r : Result T RegAllocError) (a b : State A) → r ≡ Err d → d ≡ e
     → AddsTempSlotsAtMost more (tables_of a) (tables_of b) → IsResourceError (SlotsExhaustedWith a.slots (a.slots.num_temp_slots + more)) e
     → IsBranchStepAt at more r a b
