@@ -1,6 +1,8 @@
-use Rattle.std.proofs.Common.{ℕ, ◌≡◌, ◌+◌, ◌-◌, ◌<◌, ◌≤◌, inl, length, refl, sym, ap, ◌∙◌, subst, rules, arith, slice_index}
+use Rattle.std.proofs.Common.{ℕ, ◌≡◌, ◌+◌, ◌-◌, ◌<◌, ◌≤◌, inl, length, refl, sym, ap, ◌∙◌, subst, arith, slice_index}
 use Rattle.std.proofs.lemmas.List.Sums.{sum_by_more}
 use Rattle.std.proofs.lemmas.Result.{err_from_is_err_and}
+use Rattle.std.specs.Prelude.{Result, Err}
+use Rattle.regalloc2_names.specs.declared.RegAllocError.{RegAllocError}
 use Rattle.regalloc2_names.specs.Point.{before}
 use Rattle.regalloc2_index.specs.Range.{Span}
 use Rattle.regalloc2_function.specs.FunctionValue.{FunctionValue, block_at, inst_at, no_inst}
@@ -8,7 +10,8 @@ use Rattle.regalloc2_function.specs.Following.{end_within}
 use Rattle.regalloc2_fastalloc_state.specs.OutOfResources.{IsResourceError, SlotsExhaustedWith}
 use Rattle.regalloc2_fastalloc_state.specs.StateParts.{AllAtOrAfter}
 use Rattle.regalloc2_fastalloc_proofs.specs.InstSteps.{StateValue, no_register}
-use Rattle.regalloc2_fastalloc_walk.specs.StateView.{tables_of}
+use Rattle.regalloc2_fastalloc_walk.specs.StateView.{tables_of, IsBranchStepAt}
+use Rattle.regalloc2_fastalloc_walk.specs.declared.state.State.{State}
 use Rattle.regalloc2_fastalloc_proofs.specs.BranchSteps.{AddsTempSlotsAtMost}
 use Rattle.regalloc2_fastalloc_proofs.specs.BlockSteps.{AllocsInstInBlock, AllocInstInBlock, AllocsBlockInsts, DefinesBelow, at_end, one_in, temp_slots_at}
 use Rattle.regalloc2_fastalloc_proofs.specs.BlockSteps.{offset_of}
@@ -55,7 +58,7 @@ alloc_inst_in_block-requires g c =
     let lt : i < length f.insts = omega (arith, next, c.loop-i.invariant.inside) in
     let start : slice_index c.args.offsets.now i ≡ offset_of f i = c.requires.offsets i lt in
     let upto : offset_of f c.loop-i.i ≡ offset_of f (c.new.result + 1) = ap (offset_of f) (next ∙ omega (arith, at)) in (
-      search rules,
+      omega arith,
       (
         c.requires.block,
         (
@@ -122,6 +125,12 @@ loop-i-preserved g c =
       begun = λ e. absurd (omega (arith, e, upto));
     }
 
+-- a step that fails, as registers, slots or memory are out
+branch_fails : {A T : Type 0} {at more : ℕ} {e d : RegAllocError} (r : Result T RegAllocError) (a b : State A) → r ≡ Err d → d ≡ e
+    → AddsTempSlotsAtMost more (tables_of a) (tables_of b) → IsResourceError (SlotsExhaustedWith a.slots (a.slots.num_temp_slots + more)) e
+    → IsBranchStepAt at more r a b
+branch_fails r a b is same kept lacks = rw is (rw same (record { machine = kept; later = tt; long = tt; err = lacks }))
+
 pub returns-in_err-alloc_inst_in_block-clause-step : goal.returns-in_err-alloc_inst_in_block-clause-step
 returns-in_err-alloc_inst_in_block-clause-step g c =
     let f : FunctionValue = g.F.Function.function c.args.cx.now.f.now in
@@ -136,14 +145,10 @@ returns-in_err-alloc_inst_in_block-clause-step g c =
     c.loop-i.invariant.machine (λ e. c.loop-i.invariant.begun (next ∙ e)) in
     let few : so_far.0 + temp_slots_at f c.new.result ≤ 6 = subst (λ (n : ℕ). so_far.0 + temp_slots_at f n ≤ 6) (sym c.new.ensures) so_far.1 in
     let p = err_from_is_err_and c.from_residual.result c.from_residual.ensures.1 in
-    rw p.1 (record {
-      machine = lends_then so_far.0 (temp_slots_at f (c.loop-i.i - 1)) 6 a m (tables_of c.alloc_inst_in_block.new.self)
-          so_far.1 so_far.2 (subst L c.new.ensures c.alloc_inst_in_block.ensures.step.machine);
-      later = search rules;
-      long = search rules;
-      err = subst (IsResourceError (SlotsExhaustedWith a.slots (a.slots.num_temp_slots + 6))) (sym p.2)
-          (lacks_all so_far.0 (temp_slots_at f c.new.result) 6 a m so_far.2 few _ c.in_err-alloc_inst_in_block.ensures.step.err);
-    })
+    branch_fails c.from_residual.result c.args.self.now c.alloc_inst_in_block.new.self p.1 p.2
+    (lends_then so_far.0 (temp_slots_at f (c.loop-i.i - 1)) 6 a m (tables_of c.alloc_inst_in_block.new.self)
+    so_far.1 so_far.2 (subst L c.new.ensures c.alloc_inst_in_block.ensures.step.machine))
+    (lacks_all so_far.0 (temp_slots_at f c.new.result) 6 a m so_far.2 few _ c.in_err-alloc_inst_in_block.ensures.step.err)
 
 pub returns-clause-outcome : goal.returns-clause-outcome
 returns-clause-outcome g c =
@@ -166,7 +171,7 @@ returns-clause-step g c =
       machine = c.loop-i.invariant.machine;
       later = subst (λ (n : ℕ). AllAtOrAfter (before n) c.loop-i.self.edits) at_first c.loop-i.invariant.later;
       long = c.loop-i.invariant.long;
-      err = search rules;
+      err = tt;
     }
 
 pub returns-in_err-alloc_inst_in_block-clause-outcome : goal.returns-in_err-alloc_inst_in_block-clause-outcome

@@ -1,5 +1,8 @@
-use Rattle.std.proofs.Common.{ℕ, ◌≡◌, ◌+◌, ◌-◌, ◌*◌, ◌<◌, List, length, refl, sym, ap, ◌∙◌, subst, rules, arith}
+use Rattle.std.proofs.Common.{ℕ, ◌≡◌, ◌+◌, ◌-◌, ◌*◌, ◌<◌, List, length, refl, sym, ap, ◌∙◌, subst, arith}
 use Rattle.std.proofs.lemmas.Result.{err_from_is_err_and}
+use Rattle.std.specs.Prelude.{Result, Err, IfErr, MatchResult}
+use Rattle.regalloc2_names.specs.declared.RegAllocError.{RegAllocError}
+use Rattle.regalloc2_names.specs.declared.RegAllocError.TheVariants.{TooManyLiveRegs}
 use Rattle.regalloc2_names.specs.Point.{before}
 use Rattle.regalloc2_function.specs.OutputValue.{MoveValue}
 use Rattle.regalloc2_function.specs.FunctionValue.{FunctionValue, block_at}
@@ -11,6 +14,14 @@ use Rattle.regalloc2_fastalloc_walk.specs.StateView.{tables_of}
 use Rattle.regalloc2_fastalloc_proofs.specs.BlockSteps.{AllocsBlockInsts, AllocsBlocks, BeginsBlock, DefinesBelow, all_left, one_block, offset_of}
 use Rattle.regalloc2_fastalloc_proofs.proofs.Safety.StateKept.{none_lends, same_lends, lends_then, apart_kept, lacks_all, lack_all, joins_at}
 use Rattle.regalloc2_fastalloc_walk.proofs.state.State.alloc_blocks.Goals as goal
+
+-- an error is what was returned
+fails_as : {T : Type 0} {e d : RegAllocError} (S : RegAllocError → Type 0) (r : Result T RegAllocError) → r ≡ Err d → d ≡ e → S e → IfErr r S
+fails_as S r is same h = rw is (subst S (sym same) h)
+
+stops_as : {T : Type 0} {e d : RegAllocError} (P : T → Type 0) (Q : Type 0) (r : Result T RegAllocError) → r ≡ Err d → d ≡ e → (e ≡ TooManyLiveRegs → Q)
+    → MatchResult r P (λ x. x ≡ TooManyLiveRegs → Q)
+stops_as P Q r is same h = rw is (λ lacks. h (sym same ∙ lacks))
 
 pub loop-b-init : goal.loop-b-init
 loop-b-init g c =
@@ -34,7 +45,7 @@ alloc_block-requires g c =
     let lt : c.new-block.result < length f.blocks = omega (arith, same, c.loop-b-test.true, c.loop-b.invariant.within) in
     let some : 0 < c.loop-b.b = omega (arith, c.loop-b-test.true) in
     let Q : ℕ → Type 0 = λ n. AllAtOrAfter (before (block_at f n).range.end) c.loop-b.self.edits in (
-      search rules,
+      omega arith,
       (
         lt,
         (
@@ -73,7 +84,7 @@ begin_block-requires g c =
     let machine = lends_then (6 * (length f.blocks - c.loop-b.b)) 6 (6 * (length f.blocks - c.loop-b.b) + 6) (tables_of c.args.self.now) (tables_of
     c.loop-b.self)
     (tables_of c.alloc_block.new.self) (omega arith) c.loop-b.invariant.machine c.alloc_block.ensures.step.machine in (
-      search rules,
+      omega arith,
       (
         lt,
         (
@@ -144,9 +155,9 @@ returns-in_err-alloc_block-clause-err g c =
     let a : StateValue = tables_of c.args.self.now in
     let most : ℕ = 6 * length f.blocks in
     let p = err_from_is_err_and c.from_residual-in_err-alloc_block.result c.from_residual-in_err-alloc_block.ensures.1 in
-    rw p.1 (subst (IsResourceError (SlotsExhaustedWith a.slots (a.slots.num_temp_slots + most))) (sym p.2)
+    fails_as (IsResourceError (SlotsExhaustedWith a.slots (a.slots.num_temp_slots + most))) c.from_residual-in_err-alloc_block.result p.1 p.2
     (lacks_all (6 * (length f.blocks - c.loop-b.b)) 6 most a (tables_of c.loop-b.self) c.loop-b.invariant.machine
-    (omega (arith, c.loop-b-test.true, c.loop-b.invariant.within)) _ c.in_err-alloc_block.ensures.step.err))
+    (omega (arith, c.loop-b-test.true, c.loop-b.invariant.within)) _ c.in_err-alloc_block.ensures.step.err)
 
 pub returns-in_err-begin_block-clause-err : goal.returns-in_err-begin_block-clause-err
 returns-in_err-begin_block-clause-err g c =
@@ -157,11 +168,11 @@ returns-in_err-begin_block-clause-err g c =
     let w : StateValue = tables_of c.begin_block.new.self in
     let most : ℕ = 6 * length f.blocks in
     let p = err_from_is_err_and c.from_residual-in_err-begin_block.result c.from_residual-in_err-begin_block.ensures.1 in
-    rw p.1 (subst (IsResourceError (SlotsExhaustedWith a.slots (a.slots.num_temp_slots + most))) (sym p.2)
+    fails_as (IsResourceError (SlotsExhaustedWith a.slots (a.slots.num_temp_slots + most))) c.from_residual-in_err-begin_block.result p.1 p.2
     (lack_all most most a w
     (lends_then (6 * (length f.blocks - c.loop-b.b)) 6 most a t w (omega (arith, c.loop-b-test.true, c.loop-b.invariant.within)) c.loop-b.invariant.machine
     (lends_then 6 0 6 t u w (omega arith) c.alloc_block.ensures.step.machine (same_lends 0 u w c.begin_block.ensures.step.machine)))
-    (omega arith) _ c.in_err-begin_block.ensures.step.err))
+    (omega arith) _ c.in_err-begin_block.ensures.step.err)
 
 pub returns-clause-outcome : goal.returns-clause-outcome
 returns-clause-outcome g c =
@@ -185,8 +196,9 @@ returns-in_err-alloc_block-clause-outcome g c =
     let next : c.loop-b.b ≡ b + 1 = omega (arith, c.loop-b-test.true) in
     let P : ℕ → Type 0 = λ n. AllocsBlocks f c.args.allocs.now (tables_of c.args.self.now) n c.loop-b.allocs t in
     let e = err_from_is_err_and c.from_residual-in_err-alloc_block.result c.from_residual-in_err-alloc_block.ensures.1 in
-    rw e.1 (λ lacks. in_block b c.loop-b.allocs t (omega (arith, next, c.loop-b.invariant.within)) (subst P next c.loop-b.invariant.walks)
-    (subst (λ (n : ℕ). AllocBlock f n c.loop-b.allocs t no_register) c.new-block.ensures (c.in_err-alloc_block.ensures.outcome (sym e.2 ∙ lacks))))
+    stops_as _ _ c.from_residual-in_err-alloc_block.result e.1 e.2
+    (λ lacks. in_block b c.loop-b.allocs t (omega (arith, next, c.loop-b.invariant.within)) (subst P next c.loop-b.invariant.walks)
+    (subst (λ (n : ℕ). AllocBlock f n c.loop-b.allocs t no_register) c.new-block.ensures (c.in_err-alloc_block.ensures.outcome lacks)))
 
 pub returns-in_err-begin_block-clause-outcome : goal.returns-in_err-begin_block-clause-outcome
 returns-in_err-begin_block-clause-outcome g c =
@@ -200,10 +212,20 @@ returns-in_err-begin_block-clause-outcome g c =
     let P : ℕ → Type 0 = λ n. AllocsBlocks f c.args.allocs.now (tables_of c.args.self.now) n c.loop-b.allocs t in
     let I : ℕ → Type 0 = λ n. AllocsBlockInsts f n c.loop-b.allocs t (block_at f n).range.first c.alloc_block.new.allocs u in
     let e = err_from_is_err_and c.from_residual-in_err-begin_block.result c.from_residual-in_err-begin_block.ensures.1 in
-    rw e.1 (λ lacks. at_beginning b c.loop-b.allocs c.alloc_block.new.allocs t u lt (subst P next c.loop-b.invariant.walks)
+    stops_as _ _ c.from_residual-in_err-begin_block.result e.1 e.2 (λ lacks. at_beginning b c.loop-b.allocs c.alloc_block.new.allocs t u lt (subst P next c.loop-b.invariant.walks)
     (subst I same c.in_ok-alloc_block.ensures.outcome)
-    (subst (λ (n : ℕ). BeginBlock f n u no_register) same (c.in_err-begin_block.ensures.outcome (sym e.2 ∙ lacks))))
+    (subst (λ (n : ℕ). BeginBlock f n u no_register) same (c.in_err-begin_block.ensures.outcome lacks)))
 
 -- where there is no memory for what branches define
 pub returns-in_err-defs-clause-machine : goal.returns-in_err-defs-clause-machine
 returns-in_err-defs-clause-machine g c = none_lends _ (tables_of c.args.self.now)
+
+pub returns-in_err-defs-clause-err : goal.returns-in_err-defs-clause-err
+returns-in_err-defs-clause-err g c =
+    let p = err_from_is_err_and c.from_residual.result c.from_residual.ensures.1 in
+    rw (p.1 ∙ ap Err (p.2 ∙ c.in_err-defs.ensures.memory)) tt
+
+pub returns-in_err-defs-clause-outcome : goal.returns-in_err-defs-clause-outcome
+returns-in_err-defs-clause-outcome g c =
+    let p = err_from_is_err_and c.from_residual.result c.from_residual.ensures.1 in
+    stops_as _ _ c.from_residual.result p.1 (p.2 ∙ c.in_err-defs.ensures.memory) (λ lacks. absurd cc)

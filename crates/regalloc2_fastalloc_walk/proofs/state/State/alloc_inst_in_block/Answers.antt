@@ -1,16 +1,19 @@
-use Rattle.std.proofs.Common.{ℕ, ◌≡◌, ◌+◌, List, Bool, true, false, length, refl, sym, ap, ◌∙◌, subst, rules, arith}
+use Rattle.std.proofs.Common.{ℕ, ◌≡◌, ◌+◌, List, Bool, true, false, length, refl, sym, ap, ◌∙◌, subst, arith}
 use Rattle.std.proofs.lemmas.List.Sums.{sum_by_more, sum_by_more_le}
 use Rattle.std.proofs.lemmas.Result.{err_from_is_err_and}
+use Rattle.std.specs.Prelude.{Result, Err}
+use Rattle.regalloc2_names.specs.declared.RegAllocError.{RegAllocError}
 use Rattle.regalloc2_names.specs.declared.sets.PRegSet.{PRegSet}
 use Rattle.regalloc2_names.specs.Operand.{OperandValue}
 use Rattle.regalloc2_names.specs.RegisterSet.{has_register}
 use Rattle.regalloc2_function.specs.FunctionValue.{FunctionValue, InstValue, block_at, inst_at, no_inst}
 use Rattle.regalloc2_function.specs.Machine.{MachineValue}
 use Rattle.regalloc2_fastalloc_state.specs.declared.inst_regs.InstRegs.{InstRegs}
-use Rattle.regalloc2_fastalloc_proofs.specs.BranchSteps.{ProcessesBranch, ProcessBranch}
+use Rattle.regalloc2_fastalloc_proofs.specs.BranchSteps.{AddsTempSlotsAtMost, ProcessesBranch, ProcessBranch}
 use Rattle.regalloc2_fastalloc_state.specs.OutOfResources.{IsResourceError, SlotsExhaustedWith}
 use Rattle.regalloc2_fastalloc_proofs.specs.InstSteps.{StateValue, InTables, no_register, ends_block}
-use Rattle.regalloc2_fastalloc_walk.specs.StateView.{tables_of}
+use Rattle.regalloc2_fastalloc_walk.specs.StateView.{tables_of, IsBranchStepAt}
+use Rattle.regalloc2_fastalloc_walk.specs.declared.state.State.{State}
 use Rattle.regalloc2_fastalloc_proofs.specs.BlockSteps.{AllocInstAt, in_inst, in_pass, DefinesBelow, offset_of, temp_slots_at}
 use Rattle.regalloc2_fastalloc_proofs.proofs.Safety.StateKept.{same_lends, lends_then, apart_kept, ends_in_branch, lack_all, lacks_all, lent_six, to_inst}
 use Rattle.regalloc2_fastalloc_proofs.proofs.Walk.UsesReadOwnDefs.{all_in_tables}
@@ -25,7 +28,7 @@ alloc_inst_at-requires g c =
     let few = (g.met.F.Function.limited c.args.cx.now.f.now).insts in
     let within = sum_by_more_le (λ n. length n.operands) f.insts i no_inst c.requires.inst in
     let more : offset_of f (i + 1) ≡ offset_of f i + length (inst_at f i).operands = sum_by_more (λ n. length n.operands) f.insts i no_inst c.requires.inst in (
-      search rules,
+      omega arith,
       (
         omega (arith, few, c.requires.inst),
         (
@@ -89,7 +92,7 @@ process_branch-requires g c =
     ends_in_branch f c.requires.well_formed.1.end c.args.block c.args.at.inst c.requires.block c.requires.first c.requires.end (sym c.is_branch.ensures ∙ on) in
     let few = (g.met.F.Function.limited c.args.cx.now.f.now).insts in
     let env : MachineValue = c.requires.well_formed.0 in (
-      search rules,
+      omega arith,
       (
         c.requires.block,
         (
@@ -126,6 +129,12 @@ process_branch-requires g c =
       ),
     )
 
+-- a step that fails, since registers, slots or memory are out
+branch_fails : {A T : Type 0} {at more : ℕ} {e d : RegAllocError} (r : Result T RegAllocError) (a b : State A) → r ≡ Err d → d ≡ e
+    → AddsTempSlotsAtMost more (tables_of a) (tables_of b) → IsResourceError (SlotsExhaustedWith a.slots (a.slots.num_temp_slots + more)) e
+    → IsBranchStepAt at more r a b
+branch_fails r a b is same kept lacks = rw is (rw same (record { machine = kept; later = tt; long = tt; err = lacks }))
+
 -- the machine stays but for the temporary slots of a branch
 pub returns-in_err-alloc_inst_at-clause-step : goal.returns-in_err-alloc_inst_at-clause-step
 returns-in_err-alloc_inst_at-clause-step g c =
@@ -133,13 +142,8 @@ returns-in_err-alloc_inst_at-clause-step g c =
     let a : StateValue = tables_of c.args.self.now in
     let m : StateValue = tables_of c.alloc_inst_at.new.self in
     let p = err_from_is_err_and c.from_residual.result c.from_residual.ensures.1 in
-    rw p.1 (record {
-      machine = same_lends n a m c.alloc_inst_at.ensures.step.machine;
-      later = search rules;
-      long = search rules;
-      err = subst (IsResourceError (SlotsExhaustedWith a.slots (a.slots.num_temp_slots + n))) (sym p.2)
-          (lack_all 0 n a m (same_lends 0 a m c.alloc_inst_at.ensures.step.machine) (omega arith) _ c.in_err-alloc_inst_at.ensures.step.err);
-    })
+    branch_fails c.from_residual.result c.args.self.now c.alloc_inst_at.new.self p.1 p.2 (same_lends n a m c.alloc_inst_at.ensures.step.machine)
+    (lack_all 0 n a m (same_lends 0 a m c.alloc_inst_at.ensures.step.machine) (omega arith) _ c.in_err-alloc_inst_at.ensures.step.err)
 
 pub returns-in_err-process_branch-clause-step : goal.returns-in_err-process_branch-clause-step
 returns-in_err-process_branch-clause-step g c =
@@ -148,21 +152,17 @@ returns-in_err-process_branch-clause-step g c =
     let a : StateValue = tables_of c.args.self.now in
     let m : StateValue = tables_of c.alloc_inst_at.new.self in
     let p = err_from_is_err_and c.from_residual-in_err-process_branch.result c.from_residual-in_err-process_branch.ensures.1 in
-    rw p.1 (record {
-      machine = lends_then 0 6 n a m (tables_of c.process_branch.new.self) (omega (arith, few))
-          (same_lends 0 a m c.alloc_inst_at.ensures.step.machine) c.process_branch.ensures.step.machine;
-      later = search rules;
-      long = search rules;
-      err = subst (IsResourceError (SlotsExhaustedWith a.slots (a.slots.num_temp_slots + n))) (sym p.2)
-          (lacks_all 0 6 n a m (same_lends 0 a m c.alloc_inst_at.ensures.step.machine) (omega (arith, few)) _ c.in_err-process_branch.ensures.step.err);
-    })
+    branch_fails c.from_residual-in_err-process_branch.result c.args.self.now c.process_branch.new.self p.1 p.2
+    (lends_then 0 6 n a m (tables_of c.process_branch.new.self) (omega (arith, few)) (same_lends 0 a m c.alloc_inst_at.ensures.step.machine)
+    c.process_branch.ensures.step.machine)
+    (lacks_all 0 6 n a m (same_lends 0 a m c.alloc_inst_at.ensures.step.machine) (omega (arith, few)) _ c.in_err-process_branch.ensures.step.err)
 
 pub returns-then-not-is_branch-clause-step : goal.returns-then-not-is_branch-clause-step
 returns-then-not-is_branch-clause-step g c = record {
   machine = same_lends _ (tables_of c.args.self.now) (tables_of c.alloc_inst_at.new.self) c.alloc_inst_at.ensures.step.machine;
   later = c.in_ok-alloc_inst_at.ensures.step.later;
   long = c.in_ok-alloc_inst_at.ensures.step.long;
-  err = search rules;
+  err = tt;
 }
 
 pub returns-clause-step : goal.returns-clause-step
@@ -176,7 +176,7 @@ returns-clause-step g c =
           (same_lends 0 a m c.alloc_inst_at.ensures.step.machine) c.process_branch.ensures.step.machine;
       later = c.in_ok-process_branch.ensures.step.later;
       long = c.in_ok-process_branch.ensures.step.long ∙ c.in_ok-alloc_inst_at.ensures.step.long;
-      err = search rules;
+      err = tt;
     }
 
 -- where it stops
@@ -210,3 +210,6 @@ returns-in_err-process_branch-clause-outcome g c =
     let e = err_from_is_err_and c.from_residual-in_err-process_branch.result c.from_residual-in_err-process_branch.ensures.1 in
     rw e.1 (λ lacks. in_pass c.alloc_inst_at.new.allocs m h.0 (sym c.is_branch.ensures ∙ on)
     (subst (λ (t : InstRegs). ProcessBranch f c.args.block i t m no_register) (sym h.1) (c.in_err-process_branch.ensures.outcome (sym e.2 ∙ lacks))))
+
+pub is_branch-requires : goal.is_branch-requires
+is_branch-requires g c = c.requires.inst
