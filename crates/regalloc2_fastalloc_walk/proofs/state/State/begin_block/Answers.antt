@@ -12,7 +12,7 @@ use Rattle.regalloc2_fastalloc_proofs.specs.BlockSteps.{DefinesBelow, at_reloads
 use Rattle.regalloc2_fastalloc_proofs.specs.InstSteps.{StateValue, no_register}
 use Rattle.regalloc2_fastalloc_proofs.proofs.Safety.StateKept.{same_lends, apart_kept, params_known}
 use Rattle.regalloc2_fastalloc_walk.specs.StateView.{tables_of, IsStepAt}
-use Rattle.regalloc2_fastalloc_walk.proofs.Steps.{step_then}
+use Rattle.regalloc2_fastalloc_walk.proofs.Steps.{step_then, fails_with, step_then_fails}
 use Rattle.regalloc2_fastalloc_walk.proofs.state.State.begin_block.Goals as goal
 
 pub first-first-requires : goal.first-first-requires
@@ -106,3 +106,21 @@ returns-in_err-store_branch_defs-clause-outcome g c =
     (subst (λ (vs : List VirtualRegister). ReloadsAtBegin (before c.first-first.result) vs old m) c.block_params.ensures
     c.in_ok-reload_at_begin.ensures.outcome))
     (c.in_err-store_branch_defs.ensures.outcome (sym e.2 ∙ lacks)))
+
+pub block_insns-requires : goal.block_insns-requires
+block_insns-requires g c = c.requires.block
+
+pub block_params-requires : goal.block_params-requires
+block_params-requires g c = c.requires.block
+
+-- the machine stays, wherever the walk stops
+pub returns-in_err-reload_at_begin-clause-step : goal.returns-in_err-reload_at_begin-clause-step
+returns-in_err-reload_at_begin-clause-step g c =
+    let e = err_from_is_err_and c.from_residual.result c.from_residual.ensures.1 in
+    fails_with c.from_residual.result c.args.self.now c.reload_at_begin.new.self e.1 e.2 c.in_err-reload_at_begin.ensures.step.machine c.in_err-reload_at_begin.ensures.step.err
+
+pub returns-in_err-store_branch_defs-clause-step : goal.returns-in_err-store_branch_defs-clause-step
+returns-in_err-store_branch_defs-clause-step g c =
+    let e = err_from_is_err_and c.from_residual-in_err-store_branch_defs.result c.from_residual-in_err-store_branch_defs.ensures.1 in
+    step_then_fails c.from_residual-in_err-store_branch_defs.result c.args.self.now c.reload_at_begin.new.self c.store_branch_defs.new.self e.1 e.2
+    c.in_ok-reload_at_begin.ensures.step.machine c.in_err-store_branch_defs.ensures.step

@@ -1,5 +1,25 @@
+use Rattle.std.proofs.Common.{◌≡◌, Some, inl, sym, ◌∙◌}
+use Rattle.std.specs.Prelude.{None}
 use Rattle.regalloc2_fastalloc_proofs.proofs.Moves.ParallelMovesOrdered.{found_or}
 use Rattle.regalloc2_fastalloc_walk.proofs.state.State.first_scratch.Goals as goal
 
-pub returns-in-None-clause-found : goal.returns-in-None-clause-found
-returns-in-None-clause-found g c = found_or c.args.self.now.registers c.args.class c.args.free c.choose_register.result c.choose_register.ensures.found
+-- the machine's own register
+pub returns-in-Some : goal.returns-in-Some
+returns-in-Some g c =
+    let own = sym c.in-Some.is ∙ c.dedicated_scratch.ensures in
+    record {
+      found = inl (sym own);
+      own = λ r e. own ∙ e;
+      chosen = λ e. absurd (let no : Some c.in-Some.preg ≡ None = own ∙ e in cc);
+      none = tt;
+    }
+
+pub returns-in-None : goal.returns-in-None
+returns-in-None g c =
+    let lacks = sym c.in-None.is ∙ c.dedicated_scratch.ensures in
+    record {
+      found = found_or c.args.self.now.registers c.args.class c.args.free c.choose_register.result c.choose_register.ensures.found;
+      own = λ r e. absurd (let no : None ≡ Some r = lacks ∙ e in cc);
+      chosen = λ e. c.choose_register.ensures.chosen;
+      none = c.choose_register.ensures.none;
+    }

@@ -17,6 +17,7 @@ use Rattle.regalloc2_fastalloc_walk.specs.OwnDefs.{IsOwnBy}
 use Rattle.regalloc2_fastalloc_walk.specs.StateView.{tables_of}
 use Rattle.regalloc2_fastalloc_proofs.proofs.Branches.ArgMovesAreParallel.{known_still, gathers_edge_moves_at}
 use Rattle.regalloc2_fastalloc_proofs.proofs.Evictions.PushedAndRemoved.{same_then}
+use Rattle.regalloc2_fastalloc_walk.proofs.Steps.{step_then_fails}
 use Rattle.regalloc2_fastalloc_walk.proofs.state.State.gather.Goals as goal
 
 pub loop-k-init : goal.loop-k-init
@@ -158,3 +159,18 @@ returns-in_err-gather_edge-clause-outcome g c =
           (subst (λ (l : List VirtualRegister). F l (arguments_at f c.args.block k)) ps
           (subst (λ (l : List VirtualRegister). F c.block_params-params.result.now l) xs (c.in_err-gather_edge.ensures.outcome x.0 x.1 (sym p.2 ∙ same))));
     })
+
+pub returns-clause-step : goal.returns-clause-step
+returns-clause-step g c = record {
+  machine = c.loop-k.invariant.machine;
+  later = c.loop-k.invariant.later;
+  long = c.loop-k.invariant.long;
+  err = search rules;
+}
+
+-- the machine stays where the walk stops
+pub returns-in_err-gather_edge-clause-step : goal.returns-in_err-gather_edge-clause-step
+returns-in_err-gather_edge-clause-step g c =
+    let e = err_from_is_err_and c.from_residual.result c.from_residual.ensures.1 in
+    step_then_fails c.from_residual.result c.args.self.now c.loop-k.self c.gather_edge.new.self e.1 e.2 c.loop-k.invariant.machine
+    c.in_err-gather_edge.ensures.step

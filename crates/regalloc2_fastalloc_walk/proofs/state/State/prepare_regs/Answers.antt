@@ -121,3 +121,12 @@ returns-in_err-evict_clobbers-clause-outcome g c =
     (subst (λ (p : ℕ). EvictEach p (registers_of c.args.cx.now.clobbers) c.evict_fixed.new.inst_regs
     (tables_of c.evict_fixed.new.self) no_register) at
     (c.in_err-evict_clobbers.ensures.outcome (sym e.2 ∙ lacks))))
+
+pub reserve-requires : goal.reserve-requires
+reserve-requires g c = (search rules, c.requires.fresh.awaited)
+
+pub evict_clobbers-requires : goal.evict_clobbers-requires
+evict_clobbers-requires g c = (search rules, c.in_ok-evict_fixed.ensures.step.later)
+
+pub returns-clause-sorted : goal.returns-clause-sorted
+returns-clause-sorted g c = c.in_ok-sorted.ensures.sorted
