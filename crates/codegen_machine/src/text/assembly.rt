@@ -1,10 +1,11 @@
 //! Code as assembly for x86-64, in the syntax of AT&T.
 
 ghost use Rattle.std.specs.Prelude.{◌≡◌, ◌+◌, ◌++◌, codes, length, nat_eq, Some};
+ghost use Rattle.std.specs.Fmt.{decimal};
 ghost use Rattle.codegen_machine.specs.Text.Assembly.{byte_name, condition_letters, division_name, half_name, letter, name_at, operator_name, register_name, shift_name};
 ghost use Rattle.codegen_machine.specs.Text.Assembly.{guard_text, read_name, read_text, word_name, write_text};
-ghost use Rattle.codegen_machine.specs.Text.Assembly.{assembly_text, call_text, first_arity, function_text, functions_text};
-ghost use Rattle.codegen_machine.specs.Text.Assembly.{instruction_text, is_next, line_text, lines_text, source_text, stub_text, symbol_text, traps_text};
+ghost use Rattle.codegen_machine.specs.Text.Assembly.{argument_text, assembly_text, call_text, first_arity, function_text, functions_text};
+ghost use Rattle.codegen_machine.specs.Text.Assembly.{instruction_text, is_next, line_text, lines_text, slot_text, source_text, stub_text, symbol_text, traps_text, word_text};
 
 use super::frame::{
     ArgumentLoadsText, ArgumentText, EntryText, ExitText, FrameWords, LimitText, SlotText,
@@ -298,6 +299,152 @@ impl fmt::Display for WriteText {
     }
 }
 
+/// A 64-bit number into a register.
+#[derive(Clone, Copy)]
+struct ConstantText(u64, usize);
+
+impl fmt::Display for ConstantText {
+    ghost output = { λ t. Some (codes "movabsq $" ++ decimal t.0 ++ codes ", " ++ register_name t.1) };
+
+    fn fmt<W: fmt::Write>(&self, f: &mut fmt::Formatter<W>) -> fmt::Result {
+        let (to, value) = (register_name(self.1), self.0);
+        write!(f, "movabsq ${value}, {to}")
+    }
+}
+
+/// An argument into a register.
+#[derive(Clone, Copy)]
+struct ArgumentMoveText(FrameWords, usize, usize);
+
+impl fmt::Display for ArgumentMoveText {
+    ghost output = { λ t. Some (codes "movq " ++ argument_text t.0 t.1 ++ codes ", " ++ register_name t.2) };
+
+    fn fmt<W: fmt::Write>(&self, f: &mut fmt::Formatter<W>) -> fmt::Result {
+        let (from, to) = (ArgumentText(self.0, self.1), register_name(self.2));
+        write!(f, "movq {from}, {to}")
+    }
+}
+
+/// A register into a slot of a frame with that many outgoing words.
+#[derive(Clone, Copy)]
+struct StoreText(usize, usize, usize);
+
+impl fmt::Display for StoreText {
+    ghost output = { λ t. Some (codes "movq " ++ register_name t.2 ++ codes ", " ++ slot_text t.0 t.1) };
+
+    fn fmt<W: fmt::Write>(&self, f: &mut fmt::Formatter<W>) -> fmt::Result {
+        let (to, from) = (SlotText(self.0, self.1), register_name(self.2));
+        write!(f, "movq {from}, {to}")
+    }
+}
+
+/// A register into an outgoing word of a frame.
+#[derive(Clone, Copy)]
+struct PassText(usize, usize);
+
+impl fmt::Display for PassText {
+    ghost output = { λ t. Some (codes "movq " ++ register_name t.1 ++ codes ", " ++ word_text (decimal t.0)) };
+
+    fn fmt<W: fmt::Write>(&self, f: &mut fmt::Formatter<W>) -> fmt::Result {
+        let (index, from) = (self.0, register_name(self.1));
+        write!(f, "movq {from}, 8*{index}(%rsp)")
+    }
+}
+
+/// What follows the name of an instruction with a source and a register.
+#[derive(Clone, Copy)]
+struct PairText(SourceText, usize);
+
+impl fmt::Display for PairText {
+    ghost output = { λ t. Some (letter t.0.1 ++ codes " " ++ source_text t.0.0 t.0.1 t.0.2 ++ codes ", " ++ name_at t.0.1 t.1) };
+
+    fn fmt<W: fmt::Write>(&self, f: &mut fmt::Formatter<W>) -> fmt::Result {
+        let (from, letter, to) = (self.0, letter(self.0.1), name_at(self.0.1, self.1));
+        write!(f, "{letter} {from}, {to}")
+    }
+}
+
+/// A shift of a register by another.
+#[derive(Clone, Copy)]
+struct ShiftText(Width, ShiftOperator, usize);
+
+impl fmt::Display for ShiftText {
+    ghost output = { λ t. Some (shift_name t.1 ++ letter t.0 ++ codes " %cl, " ++ name_at t.0 t.2) };
+
+    fn fmt<W: fmt::Write>(&self, f: &mut fmt::Formatter<W>) -> fmt::Result {
+        let (name, letter) = (shift_name(self.1), letter(self.0));
+        let to = name_at(self.0, self.2);
+        write!(f, "{name}{letter} %cl, {to}")
+    }
+}
+
+/// A shift of a register by a constant.
+#[derive(Clone, Copy)]
+struct ShiftByText(Width, ShiftOperator, usize, u8);
+
+impl fmt::Display for ShiftByText {
+    ghost output = { λ t. Some (shift_name t.1 ++ letter t.0 ++ codes " $" ++ decimal t.3 ++ codes ", " ++ name_at t.0 t.2) };
+
+    fn fmt<W: fmt::Write>(&self, f: &mut fmt::Formatter<W>) -> fmt::Result {
+        let (name, letter) = (shift_name(self.1), letter(self.0));
+        let (count, to) = (self.3, name_at(self.0, self.2));
+        write!(f, "{name}{letter} ${count}, {to}")
+    }
+}
+
+/// A division, signed or not, by a source.
+#[derive(Clone, Copy)]
+struct DivideText(bool, SourceText);
+
+impl fmt::Display for DivideText {
+    ghost output = { λ t. Some (division_name t.0 ++ letter t.1.1 ++ codes " " ++ source_text t.1.0 t.1.1 t.1.2) };
+
+    fn fmt<W: fmt::Write>(&self, f: &mut fmt::Formatter<W>) -> fmt::Result {
+        let (name, letter, from) = (division_name(self.0), letter(self.1.1), self.1);
+        write!(f, "{name}{letter} {from}")
+    }
+}
+
+/// A condition as a number in a register.
+#[derive(Clone, Copy)]
+struct SetText(Condition, usize);
+
+impl fmt::Display for SetText {
+    ghost output = { λ t. Some (codes "set" ++ condition_letters t.0 ++ codes " " ++ byte_name t.1 ++ codes "; movzbq " ++ byte_name t.1 ++ codes ", " ++ register_name t.1) };
+
+    fn fmt<W: fmt::Write>(&self, f: &mut fmt::Formatter<W>) -> fmt::Result {
+        let letters = condition_letters(self.0);
+        let (byte, to) = (byte_name(self.1), register_name(self.1));
+        write!(f, "set{letters} {byte}; movzbq {byte}, {to}")
+    }
+}
+
+/// A source into a register under a condition.
+#[derive(Clone, Copy)]
+struct MoveIfText(Condition, SourceText, usize);
+
+impl fmt::Display for MoveIfText {
+    ghost output = { λ t. Some (codes "cmov" ++ condition_letters t.0 ++ codes "q " ++ source_text t.1.0 t.1.1 t.1.2 ++ codes ", " ++ register_name t.2) };
+
+    fn fmt<W: fmt::Write>(&self, f: &mut fmt::Formatter<W>) -> fmt::Result {
+        let (letters, from, to) = (condition_letters(self.0), self.1, register_name(self.2));
+        write!(f, "cmov{letters}q {from}, {to}")
+    }
+}
+
+/// A jump under a condition, in the function with that number.
+#[derive(Clone, Copy)]
+struct JumpIfText(Condition, usize, usize);
+
+impl fmt::Display for JumpIfText {
+    ghost output = { λ t. Some (codes "j" ++ condition_letters t.0 ++ codes " .L" ++ decimal t.1 ++ codes "_" ++ decimal t.2) };
+
+    fn fmt<W: fmt::Write>(&self, f: &mut fmt::Formatter<W>) -> fmt::Result {
+        let (letters, function, target) = (condition_letters(self.0), self.1, self.2);
+        write!(f, "j{letters} .L{function}_{target}")
+    }
+}
+
 /// An instruction of a function as assembly: one machine instruction, but two for `Set` and `Guard`.
 #[derive(Clone, Copy)]
 pub struct InstructionText {
@@ -316,125 +463,97 @@ impl fmt::Display for InstructionText {
         let (function, frame) = (self.function, self.frame);
         let outgoing = frame.outgoing;
         match self.instruction {
-            Instruction::Constant { to, value } => {
-                let to = register_name(to);
-                write!(f, "movabsq ${value}, {to}")
-            }
+            Instruction::Constant { to, value } => fmt::Display::fmt(&ConstantText(value, to), f),
             Instruction::Clear { to } => {
-                let to = register_name(to);
-                write!(f, "xorq {to}, {to}")
+                let pair = PairText(SourceText(outgoing, Width::Full, Source::Register(to)), to);
+                write!(f, "xor{pair}")
             }
-            Instruction::Argument { to, index } => {
-                let (from, to) = (ArgumentText(frame, index as usize), register_name(to));
-                write!(f, "movq {from}, {to}")
-            }
+            Instruction::Argument { to, index } => fmt::Display::fmt(
+                &ArgumentMoveText(frame, index as usize, to),
+                f,
+            ),
             Instruction::Move { to, from } => {
-                let (to, from) = (register_name(to), register_name(from));
-                write!(f, "movq {from}, {to}")
+                let pair = PairText(
+                    SourceText(outgoing, Width::Full, Source::Register(from)),
+                    to,
+                );
+                write!(f, "mov{pair}")
             }
             Instruction::Load { to, slot } => {
-                let (from, to) = (SlotText(outgoing, slot), register_name(to));
-                write!(f, "movq {from}, {to}")
+                let pair = PairText(SourceText(outgoing, Width::Full, Source::Slot(slot)), to);
+                write!(f, "mov{pair}")
             }
-            Instruction::Store { slot, from } => {
-                let (from, to) = (register_name(from), SlotText(outgoing, slot));
-                write!(f, "movq {from}, {to}")
-            }
+            Instruction::Store { slot, from } => fmt::Display::fmt(
+                &StoreText(outgoing, slot, from),
+                f,
+            ),
             Instruction::Compute {
                 width,
                 operator,
                 to,
                 from,
             } => {
-                let (name, letter) = (operator_name(operator), letter(width));
-                let (to, from) = (name_at(width, to), SourceText(outgoing, width, from));
-                write!(f, "{name}{letter} {from}, {to}")
+                let (name, pair) = (
+                    operator_name(operator),
+                    PairText(SourceText(outgoing, width, from), to),
+                );
+                write!(f, "{name}{pair}")
             }
             Instruction::Shift {
                 width,
                 operator,
                 to,
-            } => {
-                let (name, letter, to) = (shift_name(operator), letter(width), name_at(width, to));
-                write!(f, "{name}{letter} %cl, {to}")
-            }
+            } => fmt::Display::fmt(&ShiftText(width, operator, to), f),
             Instruction::ShiftBy {
                 width,
                 operator,
                 to,
                 count,
-            } => {
-                let (name, letter, to) = (shift_name(operator), letter(width), name_at(width, to));
-                write!(f, "{name}{letter} ${count}, {to}")
-            }
-            Instruction::ExtendSign { width } => f.write_str(match width {
-                Width::Full => "cqto",
-                Width::Half => "cltd",
-            }),
+            } => fmt::Display::fmt(&ShiftByText(width, operator, to, count), f),
+            Instruction::ExtendSign { width: Width::Full } => f.write_str("cqto"),
+            Instruction::ExtendSign { width: Width::Half } => f.write_str("cltd"),
             Instruction::Divide {
                 width,
                 is_signed,
                 from,
-            } => {
-                let (name, letter) = (division_name(is_signed), letter(width));
-                let from = SourceText(outgoing, width, from);
-                write!(f, "{name}{letter} {from}")
-            }
+            } => fmt::Display::fmt(&DivideText(is_signed, SourceText(outgoing, width, from)), f),
             Instruction::Compare { width, left, right } => {
-                let (letter, left) = (letter(width), name_at(width, left));
-                let right = SourceText(outgoing, width, right);
-                write!(f, "cmp{letter} {right}, {left}")
+                let pair = PairText(SourceText(outgoing, width, right), left);
+                write!(f, "cmp{pair}")
             }
-            Instruction::Set { to, condition } => {
-                let (byte, to, letters) = (
-                    byte_name(to),
-                    register_name(to),
-                    condition_letters(condition),
-                );
-                write!(f, "set{letters} {byte}; movzbq {byte}, {to}")
-            }
+            Instruction::Set { to, condition } => fmt::Display::fmt(&SetText(condition, to), f),
             Instruction::MoveIf {
                 condition,
                 to,
                 from,
-            } => {
-                let (letters, to, from) = (
-                    condition_letters(condition),
-                    register_name(to),
-                    SourceText(outgoing, Width::Full, from),
-                );
-                write!(f, "cmov{letters}q {from}, {to}")
-            }
+            } => fmt::Display::fmt(
+                &MoveIfText(condition, SourceText(outgoing, Width::Full, from), to),
+                f,
+            ),
             Instruction::Test { from } => {
                 let from = SourceText(outgoing, Width::Full, from);
                 write!(f, "cmpq $0, {from}")
             }
-            Instruction::Guard { address, limit } => {
-                let text = GuardText(address, limit);
-                write!(f, "{text}")
-            }
-            Instruction::Read { bytes, to, address } => {
-                let text = ReadText(bytes, to, address);
-                write!(f, "{text}")
-            }
+            Instruction::Guard { address, limit } => fmt::Display::fmt(
+                &GuardText(address, limit),
+                f,
+            ),
+            Instruction::Read { bytes, to, address } => fmt::Display::fmt(
+                &ReadText(bytes, to, address),
+                f,
+            ),
             Instruction::Write {
                 bytes,
                 address,
                 from,
-            } => {
-                let text = WriteText(bytes, from, address);
-                write!(f, "{text}")
-            }
+            } => fmt::Display::fmt(&WriteText(bytes, from, address), f),
             Instruction::Jump { target } => write!(f, "jmp .L{function}_{target}"),
-            Instruction::JumpIf { condition, target } => {
-                let letters = condition_letters(condition);
-                write!(f, "j{letters} .L{function}_{target}")
-            }
+            Instruction::JumpIf { condition, target } => fmt::Display::fmt(
+                &JumpIfText(condition, function, target),
+                f,
+            ),
             Instruction::Call { function: callee } => write!(f, "call .Lf{callee}"),
-            Instruction::Pass { index, from } => {
-                let from = register_name(from);
-                write!(f, "movq {from}, 8*{index}(%rsp)")
-            }
+            Instruction::Pass { index, from } => fmt::Display::fmt(&PassText(index, from), f),
             Instruction::Return => write!(f, "jmp .L{function}_return"),
         }
     }
