@@ -5,10 +5,12 @@
 
 It needs valgrind, and the program `regalloc2_bench` (docs/BENCH.md says how to build it). `--upstream` is the
 path of a program that reads a stored function and runs upstream's allocator or checker on it: it is called as `PATH bench FILE TIMES`, with
-`--validate` for the task `test`, and as `PATH bench-check FILE TIMES` for the check, and does the work that many times. One time is the difference of two times and one, so that
-start-up and reading don't count. `--heap` gives the bytes that one allocation holds at most beside the function, as `heap.c` counts them, in place
-of instructions; it needs a C compiler. The task `tree` counts nothing: for each function it says whether the dominator tree and one search decide
-whether reads come after writes, and the script's status is 1 if some function is left open or some run fails.
+`--validate` for the task `test`, and as `PATH bench-check FILE TIMES` for the check, and does the work that many times. One time is the
+difference of two times and one, or that of three and two if it is less: so start-up and reading don't count, nor does the one time in which the C
+library's allocator merges the blocks that reading freed. `--heap` gives the bytes that one allocation holds at most beside the function, as
+`heap.c` counts them, in place of instructions; it needs a C compiler. The task `tree` counts nothing: for each function it says whether the
+dominator tree and one search decide whether reads come after writes, and the script's status is 1 if some function is left open or some run
+fails.
 """
 import argparse, json, os, re, subprocess, sys, tempfile
 
@@ -64,8 +66,8 @@ def measure(args, program, upstream, path, insts):
     if args.heap:
         # this port's program allocates once more than it is told, upstream's just as often
         return heap(args.heap, commands(program, upstream, "allocate", path, 1 if upstream else 0), path, args.limit)
-    counts = [collected(commands(program, upstream, args.task, path, n), path, args.limit) for n in (1, 2)]
-    return None if None in counts else round((counts[1] - counts[0]) / insts)
+    counts = [collected(commands(program, upstream, args.task, path, n), path, args.limit) for n in (1, 2, 3)]
+    return None if None in counts else round(min(counts[1] - counts[0], counts[2] - counts[1]) / insts)
 
 
 def main():
