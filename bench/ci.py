@@ -6,7 +6,7 @@
 
 The first form proves `regalloc2_names` by two jobs, runs `rt ci --anew` with N checks side by side (one for each processor, if N isn't given), and
 prints processor seconds for proofs, second proofs (with which mutants begin) and mutants, and the ratio: core-minutes of the run for each second of
-`regalloc2_names`. Run it with nothing beside it: other work costs up to a third more. The status is that of `rt ci`.
+`regalloc2_names`. Run it with nothing beside it: other work makes each check cost more. The status is that of `rt ci`.
 
 The second form proves a crate by `rt check --jobs 1 --progress` in its folder, over what that has kept, and prints the processor seconds between the
 ends of its functions. A file of lemmas, and loading a library's modules, count for the function that comes first to them.
