@@ -1,4 +1,5 @@
 use Rattle.std.proofs.Common.{ℕ, ◌≡◌, ◌∙◌, eqb-true, subst, sym}
+use Rattle.std.specs.Prelude.{Contains}
 use Rattle.std.proofs.lemmas.List.Elements.{All-push}
 use Rattle.regalloc2_index.proofs.Bools.{false_refutes}
 use Rattle.regalloc2_function.specs.FunctionValue.{FunctionValue}
@@ -14,7 +15,7 @@ returns-then-eq-clause-found g c = λ yes.
     subst (λ (b : ℕ). LeadsBack f c.args.vreg b) same
     (leads_item f c.args.block c.args.vreg c.loop-succ.succ-index c.succ-item.result c.block_succs-succ-items.result.now c.requires.framed
     c.requires.unwritten c.requires.here c.block_succs-succ-items.ensures c.loop-succ-test.true c.succ-item.is
-    (rw c.block_params.ensures at (false_refutes c.is_named.result c.if-is_named.false c.is_named.ensures.1)))
+    (rw c.block_params.ensures at (false_refutes {P = Contains c.block_params.result.now c.args.vreg} c.is_named.result c.if-is_named.false c.is_named.ensures.1)))
 
 pub loop-succ-preserved : goal.loop-succ-preserved
 loop-succ-preserved g c =
@@ -22,7 +23,7 @@ loop-succ-preserved g c =
     let back : LeadsBack f c.args.vreg c.succ-item.result =
     leads_item f c.args.block c.args.vreg c.loop-succ.succ-index c.succ-item.result c.block_succs-succ-items.result.now c.requires.framed
     c.requires.unwritten c.requires.here c.block_succs-succ-items.ensures c.loop-succ-test.true c.succ-item.is
-    (rw c.block_params.ensures at (false_refutes c.is_named.result c.if-is_named.false c.is_named.ensures.1)) in
+    (rw c.block_params.ensures at (false_refutes {P = Contains c.block_params.result.now c.args.vreg} c.is_named.result c.if-is_named.false c.is_named.ensures.1)) in
     elim c.if-index.branch [
       | then-index+in_ok-push w ↦ record {
         near = rw (w.near-is, w.in_ok-push.ensures.items) (All-push (LeadsBack f c.args.vreg) c.loop-succ.near.items c.succ-item.result
