@@ -8,18 +8,20 @@ The first form proves `regalloc2_names` by two jobs, runs `rt ci --anew` with N 
 prints processor seconds for proofs, second proofs (with which mutants begin) and mutants, and the ratio: core-minutes of the run for each second of
 `regalloc2_names`. Run it with nothing beside it: other work makes each check cost more. The status is that of `rt ci`.
 
-The second form proves a crate by `rt check --jobs 1 --progress` in its folder, over what that has kept, and prints the processor seconds between the
-ends of its functions. A file of lemmas, and loading a library's modules, count for the function that comes first to them.
+The second form proves a crate by `rt check --jobs 1` in its folder, from nothing unless another checkout on this machine has kept work of it, and
+prints for each function the seconds between the time stamps of its modules, most first: `Lts`, `Tie` and others are the borrow checker's part, which
+grows with compiled steps; `Proof` has the goals without an answer, `Answers` those with one. A file of lemmas, and loading a library's modules, count
+for the function that comes first to them. Run it with nothing beside it, since these are seconds by the clock.
 
 It reads the toolchain's layout (the folder of `rt doc`), which another release may change.
 """
-import argparse, collections, importlib.machinery, importlib.util, os, stat, subprocess, sys, tempfile, time
+import argparse, collections, glob, importlib.machinery, importlib.util, os, re, shutil, stat, subprocess, sys, tempfile, time
 
 KIT = os.path.dirname(subprocess.run(["rt", "doc"], capture_output=True, text=True, check=True).stdout.strip())
 ROOT = os.path.dirname(os.path.dirname(os.path.abspath(__file__)))
 KINDS = ("proof", "second proof", "mutant")
 RATTLE = """#!/usr/bin/python3 -S
-# Runs rattle, and notes the processor seconds at each end of a function, and of the whole: crate, kind, processor seconds, seconds.
+# Runs rattle, and notes the crate, the kind of check, its processor seconds and its seconds.
 import os, subprocess, sys, time
 words, begun = sys.argv[1:], time.time()
 after = lambda word: words[words.index(word) + 1] if word in words else ""
@@ -27,16 +29,10 @@ kept = after("--incremental")
 kind = "proof"
 if "/rt-edit-" in os.getcwd():
     kind = "second proof" if kept.endswith("/seed") or not kept else "mutant"
-log = open("{log}", "a", buffering=1)
-child = subprocess.Popen(["{rattle}", *words], stdout=subprocess.PIPE, stderr=subprocess.STDOUT)
-for line in child.stdout:
-    sys.stdout.buffer.write(line)
-    sys.stdout.buffer.flush()
-    if line.startswith(b"checked "):
-        used = open(f"/proc/{{child.pid}}/stat").read().rsplit(")", 1)[1].split()
-        log.write(f"{{line.decode().split(' ')[1].rstrip(',')}}\\t\\t{{sum(map(int, used[11:15])) / os.sysconf('SC_CLK_TCK')}}\\t0\\n")
+child = subprocess.Popen(["{rattle}", *words])
 _, status, used = os.wait4(child.pid, 0)
-log.write(f"{{after('--crate-name')}}\\t{{kind}}\\t{{used.ru_utime + used.ru_stime}}\\t{{time.time() - begun}}\\n")
+with open("{log}", "a") as log:
+    log.write(f"{{after('--crate-name')}}\\t{{kind}}\\t{{used.ru_utime + used.ru_stime}}\\t{{time.time() - begun}}\\n")
 code = os.waitstatus_to_exitcode(status)
 sys.exit(code) if code >= 0 else os.kill(os.getpid(), -code)
 """
@@ -56,7 +52,7 @@ def loaded(room):
 
 
 def noted(room):
-    """What was noted: a crate or a function, a check's kind, processor seconds and seconds."""
+    """What was noted: a crate, a check's kind, processor seconds and seconds."""
     with open(f"{room}/log") as lines:
         rows = [line.rstrip("\n").split("\t") for line in lines]
     return [(name, kind, float(used), float(taken)) for name, kind, used, taken in rows if name]
@@ -80,9 +76,8 @@ def table(rows):
     """Prints processor seconds by crate and kind."""
     found = collections.defaultdict(collections.Counter)
     for name, kind, used, _ in rows:
-        if kind:
-            found[name][kind] += used
-            found["all"][kind] += used
+        found[name][kind] += used
+        found["all"][kind] += used
     print("| Crate | " + " | ".join(KINDS) + " |\n|---|" + "---|" * len(KINDS))
     for name in sorted(found, key=lambda it: -sum(found[it].values())):
         print(f"| {name} | " + " | ".join(f"{found[name][kind]:,.0f}" for kind in KINDS) + " |")
@@ -104,17 +99,28 @@ def whole(lanes):
         return status
 
 
+def module(path):
+    """The function that a kept file is of, and the kind of module."""
+    name = os.path.basename(path).removesuffix(".oantt").removesuffix(".decls")
+    function, _, kind = re.sub(r"^Rattle-\w+-proofs\.", "", name).rpartition(".")
+    inner = function.rpartition(".")
+    return (inner[0], inner[2]) if inner[2] in ("Lts", "Code") else (function, kind)
+
+
 def functions(crate, most):
     """Proves a crate, and prints its slowest functions."""
-    with tempfile.TemporaryDirectory() as room:
-        rt = loaded(room)
-        os.chdir(f"{ROOT}/crates/{crate}")
-        status = rt.main(["check", "--jobs", "1", "--progress"])
-        ends = [(used, name) for name, kind, used, _ in noted(room) if not kind]
-        slowest = sorted(((used - before, name) for (before, _), (used, name) in zip([(0, ""), *ends], ends)), reverse=True)
-        for used, name in slowest[:most]:
-            print(f"{used:7.1f} {name}")
-        return status
+    folder = f"{ROOT}/crates/{crate}"
+    shutil.rmtree(f"{folder}/out/incremental", ignore_errors=True)
+    status = subprocess.run(["rt", "check", "--jobs", "1"], cwd=folder).returncode
+    files = glob.glob(f"{glob.escape(folder)}/out/incremental/**/*.oantt", recursive=True)
+    stamps = sorted((os.stat(path).st_mtime, path) for path in files)
+    found = collections.defaultdict(collections.Counter)
+    for (before, _), (after, path) in zip(stamps, stamps[1:]):
+        function, kind = module(path)
+        found[function][kind] += after - before
+    for name, kinds in sorted(found.items(), key=lambda it: -sum(it[1].values()))[:most]:
+        print(f"{sum(kinds.values()):7.1f} {name}: " + ", ".join(f"{kind} {used:.1f}" for kind, used in kinds.most_common(4)))
+    return status
 
 
 def main():

@@ -6,7 +6,7 @@ use regalloc2_names::{Allocation, PReg, RegClass, SpillSlot};
 use std::fmt;
 
 /// The names of the general registers, by their numbers in machine code.
-const INT_NAMES: [&str; 16] = [
+static INT_NAMES: [&str; 16] = [
     "rax", "rcx", "rdx", "rbx", "rsp", "rbp", "rsi", "rdi", "r8", "r9", "r10", "r11", "r12", "r13",
     "r14", "r15",
 ];

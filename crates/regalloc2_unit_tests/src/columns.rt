@@ -9,7 +9,7 @@ use regalloc2_test_alloc::Refusing;
 use std::alloc::{AllocError, Global};
 
 /// A function of two blocks: the first defines v0 and passes it to the parameter v1 of the second, which returns it.
-const LINES: [(&str, &str); 10] = [
+static LINES: [(&str, &str); 10] = [
     ("header", "2 0 3 2 2 1 1 1 1 1 2 1 1 2 65536"),
     ("preferred", "3 0 0 0 0 0 0 0 1 0 0 0 0 0 0 0 0 0"),
     ("others", "4 0 0 0 0 0 0 0 0 0 0 0 0 0 0 0 0 2147483648"),
@@ -23,7 +23,7 @@ const LINES: [(&str, &str); 10] = [
 ];
 
 /// Which word is replaced by what.
-const CHANGES: [(&str, usize, u32); 18] = [
+static CHANGES: [(&str, usize, u32); 18] = [
     ("another layout", 0, 1),
     ("too many operands", 4, 2_147_483_648),
     ("flags", 13, 4),
@@ -56,7 +56,7 @@ fn push_line(words: &mut Vec<u32>, line: &str, at: usize, word: u32) -> Result<(
 /// The words of the function, with one replaced.
 fn words_with(alloc: Global, at: usize, word: u32) -> Result<Vec<u32>, AllocError> {
     let mut words = Vec::new(alloc);
-    for (_, line) in LINES {
+    for (_, line) in &LINES {
         push_line(&mut words, line, at, word)?;
     }
     Ok(words)
@@ -72,8 +72,8 @@ pub fn write_all(alloc: Global, out: &mut Report) -> Result<(), AllocError> {
         }
         Err(fault) => out.row("refused", &fault),
     }
-    for (name, at, word) in CHANGES {
-        let changed = words_with(alloc, at, word)?;
+    for (name, at, word) in &CHANGES {
+        let changed = words_with(alloc, *at, *word)?;
         write_fault(alloc, name, &changed, out);
     }
     if let Some((_, less)) = words.as_slice().split_last() {
@@ -117,8 +117,11 @@ pub fn write_function<F: Function>(f: &F, out: &mut Report) {
         out.row("clobbers", &f.inst_clobbers(inst));
     }
     out.row("labels", &f.debug_value_labels());
-    let sizes = [RegClass::Int, RegClass::Float, RegClass::Vector];
-    out.row("sizes", &sizes.map(|class| f.spillslot_size(class)));
+    let (int, float) = (
+        f.spillslot_size(RegClass::Int),
+        f.spillslot_size(RegClass::Float),
+    );
+    out.row("sizes", &[int, float, f.spillslot_size(RegClass::Vector)]);
     out.row("last", &f.multi_spillslot_named_by_last_slot());
     out.row("defs", &f.allow_multiple_vreg_defs());
 }

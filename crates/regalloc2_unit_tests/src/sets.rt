@@ -7,7 +7,7 @@ use regalloc2_test_alloc::Refusing;
 use std::alloc::{AllocError, Allocator, Global};
 
 /// The classes.
-const CLASSES: [RegClass; 3] = [RegClass::Int, RegClass::Float, RegClass::Vector];
+static CLASSES: [RegClass; 3] = [RegClass::Int, RegClass::Float, RegClass::Vector];
 
 /// Writes what sets return.
 pub fn write_all(alloc: Global, out: &mut Report) -> Result<(), AllocError> {
@@ -25,7 +25,8 @@ pub fn write_all(alloc: Global, out: &mut Report) -> Result<(), AllocError> {
 fn write_sets(out: &mut Report, sets: &[(&str, PRegSet)]) {
     for (name, set) in sets {
         out.put(&format_args!("{name}: {set}\n"));
-        let [int, float, vector] = CLASSES.map(|class| set.is_empty(class));
+        let (int, float) = (set.is_empty(RegClass::Int), set.is_empty(RegClass::Float));
+        let vector = set.is_empty(RegClass::Vector);
         out.row("is", &(set.len(), set.max_preg(), int, float, vector));
     }
 }
@@ -77,7 +78,8 @@ fn write_counts(out: &mut Report) {
 
 /// Writes, for each class, of how many registers' ranges the first register, the one before and the register itself is.
 fn write_ranges(out: &mut Report) {
-    for class in CLASSES {
+    for class in &CLASSES {
+        let class = *class;
         let (mut first, mut before, mut own) = (0u32, 0u32, 0u32);
         for number in 0..64usize {
             let p = PReg::new(number, class);

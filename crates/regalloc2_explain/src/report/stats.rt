@@ -29,7 +29,7 @@ pub struct Stats {
 }
 
 /// The names of constraints, in the order of [`Stats::operands`].
-const CONSTRAINTS: [&str; 6] = ["any", "reg", "stack", "fixed", "reuse", "limit"];
+static CONSTRAINTS: [&str; 6] = ["any", "reg", "stack", "fixed", "reuse", "limit"];
 
 /// The index of a constraint's count.
 fn index_of(constraint: OperandConstraint) -> usize {

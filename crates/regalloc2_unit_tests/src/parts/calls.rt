@@ -6,8 +6,9 @@ use super::listed::{Pairs, SLOT, place, write_moves};
 use crate::report::Report;
 use regalloc2_names::{Allocation, PReg, PRegSet, RegClass};
 use regalloc2_parts::callmoves::{CallFault, CallFrame, schedule};
+use regalloc2_parts::moves::MoveVec;
 use regalloc2_test_alloc::Refusing;
-use std::alloc::{AllocError, Global};
+use std::alloc::{AllocError, Allocator, Global};
 
 /// A number that stands for no place.
 const NONE: usize = 512;
@@ -25,7 +26,7 @@ const MIXED: Pairs = &[(SLOT, SLOT + 1), (0, 2), (SLOT + 3, 0)];
 const CALL: Pairs = &[(0, 1), (1, 0), (SLOT, SLOT + 1)];
 
 /// Moves, the free registers, the borrowed one, the first slot of the range and how many it has.
-const CASES: [(Pairs, &[usize], usize, u8, u8); 19] = [
+static CASES: [(Pairs, &[usize], usize, u8, u8); 19] = [
     (SLOTS, &[], 0, 2, 2),
     (MIXED, &[], 0, 4, 2),
     (MIXED, &[], 0, 4, 0),
@@ -73,7 +74,9 @@ fn frame_of(
     ensures small { IfOk result (λ f. f.slots.«end» ≤ 16777216) }
 {
     let mut free_regs = Vec::new(alloc);
-    free_regs.extend(free.iter().map(|number| register(*number)))?;
+    for number in free {
+        free_regs.push(register(*number))?;
+    }
     let start = usize::from(start);
     Ok(CallFrame {
         free_regs,
@@ -85,19 +88,26 @@ fn frame_of(
 
 /// Writes what is made of each case.
 pub fn write_scheduled(alloc: Global, out: &mut Report) -> Result<(), AllocError> {
-    for (pairs, free, borrowed, start, slots) in CASES {
+    for (pairs, free, borrowed, start, slots) in &CASES {
         let mut moves = Vec::new(alloc);
-        let places = pairs
-            .iter()
-            .map(|pair| (any_place(pair.0), any_place(pair.1)));
-        moves.extend(places)?;
-        let frame = frame_of(alloc, free, borrowed, start, slots)?;
+        for (from, to) in *pairs {
+            moves.push((any_place(*from), any_place(*to)))?;
+        }
+        let frame = frame_of(alloc, *free, *borrowed, *start, *slots)?;
         match schedule(alloc, moves.as_slice(), &frame) {
             Ok(made) => write_moves(out, "schedule", made.as_slice()),
             Err(fault) => out.row("schedule", &fault),
         }
     }
     Ok(())
+}
+
+/// How many moves a call makes, or why none.
+fn count_of<A: Allocator>(made: &Result<MoveVec<(), A>, CallFault>) -> Result<usize, CallFault> {
+    match made {
+        Ok(moves) => Ok(moves.len()),
+        Err(fault) => Err(*fault),
+    }
 }
 
 /// Writes how many moves come of a chain of 50,000 and a cycle of 50,001.
@@ -110,7 +120,7 @@ pub fn write_long(alloc: Global, out: &mut Report) -> Result<(), AllocError> {
     }
     let frame = frame_of(alloc, &[], 3, 20, 2)?;
     let made = schedule(alloc, moves.as_slice(), &frame);
-    out.row("long", &made.map(|moves| moves.len()));
+    out.row("long", &count_of(&made));
     Ok(())
 }
 
@@ -128,7 +138,7 @@ fn answers_refused(
     let mut seen = (false, false, false);
     for nth in 1..1000u64 {
         let alloc = Refusing::new(global, nth);
-        let answer = schedule(&alloc, moves, frame).map(|moves| moves.len());
+        let answer = count_of(&schedule(&alloc, moves, frame));
         if !alloc.has_refused() {
             seen.2 = seen.2 || answer != *wanted;
             return seen;
@@ -157,7 +167,7 @@ pub fn write_refused(global: Global, out: &mut Report) -> Result<(), AllocError>
     for (first, free) in [((0, 1), 5), ((0, SLOT + 2), 5), ((0, 1), 0)] {
         let moves = cycle_after(global, first)?;
         let frame = frame_of(global, &[free], 2, 20, 2)?;
-        let wanted = schedule(global, moves.as_slice(), &frame).map(|moves| moves.len());
+        let wanted = count_of(&schedule(global, moves.as_slice(), &frame));
         let seen = answers_refused(global, moves.as_slice(), &frame, &wanted);
         out.row("scheduled", &wanted);
         out.row("refused: the same, Memory, another", &seen);

@@ -24,7 +24,7 @@ pub type Pairs = &'static [(usize, usize)];
 
 /// Moves as they are added: a swap, a move of a place to itself, a repeat, a cycle with a branch, two cycles and a chain, and cycles
 /// of registers and slots side by side.
-const RESOLVED: [Pairs; 6] = [
+static RESOLVED: [Pairs; 6] = [
     &[(0, 1), (1, 0)],
     &[(0, 0)],
     &[(0, 1), (0, 1), (2, 3)],
@@ -106,8 +106,8 @@ pub fn write_moves<T>(out: &mut Report, name: &str, moves: &[(Allocation, Alloca
 
 /// Writes what each row resolves to.
 pub fn write_resolved(alloc: Global, out: &mut Report) {
-    for pairs in RESOLVED {
-        match resolved(alloc, &alloc, pairs) {
+    for pairs in &RESOLVED {
+        match resolved(alloc, &alloc, *pairs) {
             Ok(Some(NoScratch(m))) => write_moves(out, "resolve", m.as_slice()),
             Ok(Some(Scratch(m))) => write_moves(out, "with scratch", m.as_slice()),
             _ => out.row("resolve", &"nothing"),

@@ -27,7 +27,7 @@ impl Call for Made<'_> {
         let answer = match *self {
             Made::Parts(global) => make_parts(global, alloc),
             Made::Sets => make_sets(alloc),
-            Made::Stored(global, texts) => stored(global, alloc, texts).map(|_| ()),
+            Made::Stored(global, texts) => make_stored(global, alloc, texts),
         };
         match answer {
             Ok(()) => Ok(true),
@@ -64,12 +64,30 @@ fn make_sets(alloc: &Refusing<Global>) -> Result<(), RegAllocError> {
     Ok(())
 }
 
-/// Out of memory, or another error, as other calls name them.
-fn fault_of(fault: StoredFault) -> RegAllocError {
-    if fault == StoredFault::Memory {
-        RegAllocError::Memory
-    } else {
-        RegAllocError::EntryLivein
+/// Reads a function and an output.
+fn make_stored(
+    global: Global,
+    alloc: &Refusing<Global>,
+    texts: (&str, &str),
+) -> Result<(), RegAllocError> {
+    let _numbers = stored(global, alloc, texts)?;
+    Ok(())
+}
+
+/// What a call returns, with its error as other calls name it: out of memory, or another one.
+fn named<T: Drop>(answer: Result<T, StoredFault>) -> Result<T, RegAllocError> {
+    match answer {
+        Ok(made) => Ok(made),
+        Err(StoredFault::Memory) => Err(RegAllocError::Memory),
+        Err(_) => Err(RegAllocError::EntryLivein),
+    }
+}
+
+/// The value of a JSON text.
+fn value_of(global: Global, text: &str) -> Result<Value, RegAllocError> {
+    match Value::from_str(global, text) {
+        Ok(value) => Ok(value),
+        Err(_) => Err(RegAllocError::EntryLivein),
     }
 }
 
@@ -96,9 +114,9 @@ fn stored_function<A: Allocator + Copy>(
     alloc: A,
     text: &str,
 ) -> Result<StoredFunction<A>, RegAllocError> {
-    let value = Value::from_str(global, text).map_err(|_| RegAllocError::EntryLivein)?;
-    let stored = StoredFunction::from_value(alloc, &value).map_err(|fault| fault_of(fault))?;
-    let f = SerializableFunction::from_stored(alloc, &stored).map_err(|fault| fault_of(fault))?;
+    let value = value_of(global, text)?;
+    let stored = named(StoredFunction::from_value(alloc, &value))?;
+    let f = named(SerializableFunction::from_stored(alloc, &stored))?;
     Ok(copied(alloc, &f)?.stored()?)
 }
 
@@ -108,9 +126,9 @@ fn stored_output<A: Allocator + Copy>(
     alloc: A,
     text: &str,
 ) -> Result<StoredOutput<A>, RegAllocError> {
-    let value = Value::from_str(global, text).map_err(|_| RegAllocError::EntryLivein)?;
-    let read = StoredOutput::from_value(alloc, &value).map_err(|fault| fault_of(fault))?;
-    let output = Output::from_stored(alloc, &read).map_err(|fault| fault_of(fault))?;
+    let value = value_of(global, text)?;
+    let read = named(StoredOutput::from_value(alloc, &value))?;
+    let output = named(Output::from_stored(alloc, &read))?;
     Ok(output.stored()?)
 }
 

@@ -19,7 +19,7 @@ use std::alloc::Global;
 const SPARE: usize = SLOT + 9;
 
 /// Moves, and the numbers of the register and of the slot that are free, if they are.
-const CASES: [(Pairs, Option<usize>, Option<usize>); 7] = [
+static CASES: [(Pairs, Option<usize>, Option<usize>); 7] = [
     (&[(0, 1), (SLOT, 2)], Some(50), Some(SPARE)),
     (&[(0, 1), (1, 0)], Some(50), Some(SPARE)),
     (&[(0, 1), (1, 0)], None, Some(SPARE)),
@@ -103,6 +103,14 @@ where
     Some((made, Some(left)))
 }
 
+/// The place of a number, where there is one.
+fn place_of(number: Option<usize>) -> Option<Allocation> {
+    match number {
+        Some(number) => Some(place(number)),
+        None => None,
+    }
+}
+
 /// Writes what the resolver makes of a case's moves, or how many, with what it has left.
 fn write_case(
     alloc: Global,
@@ -113,7 +121,7 @@ fn write_case(
     let Ok(Some(moves)) = resolved(alloc, &alloc, case.0) else {
         return;
     };
-    let free = (case.1.map(|n| place(n)), case.2.map(|n| place(n)));
+    let free = (place_of(case.1), place_of(case.2));
     let (mut registers, mut slots) = free;
     let resolver = MoveAndScratchResolver {
         find_free_reg: move || registers.take(),
@@ -127,7 +135,11 @@ fn write_case(
         return;
     };
     if let Some(left) = left {
-        out.row("by reference", &(made.map(|m| m.len()), left));
+        let count = match made {
+            Ok(m) => Ok(m.len()),
+            Err(fault) => Err(fault),
+        };
+        out.row("by reference", &(count, left));
         return;
     }
     match made {
@@ -138,13 +150,16 @@ fn write_case(
 
 /// Writes of each case whether its moves need a scratch place, how many there are if not, and what the resolver makes of them.
 pub fn write_computed(alloc: Global, out: &mut Report) {
-    for case in CASES {
+    for case in &CASES {
         if let Ok(Some(moves)) = resolved(alloc, &alloc, case.0) {
             let needs_scratch = moves.needs_scratch();
-            let row = (needs_scratch, moves.without_scratch().map(|m| m.len()));
-            out.row("needs scratch", &row);
+            let count = match moves.without_scratch() {
+                Some(m) => Some(m.len()),
+                None => None,
+            };
+            out.row("needs scratch", &(needs_scratch, count));
         }
-        write_case(alloc, out, case, false);
-        write_case(alloc, out, case, true);
+        write_case(alloc, out, *case, false);
+        write_case(alloc, out, *case, true);
     }
 }
