@@ -52,9 +52,9 @@ pub enum Refusal {
 impl fmt::Display for Refusal {
     fn fmt<W: fmt::Write>(&self, f: &mut fmt::Formatter<W>) -> fmt::Result {
         match self {
-            Refusal::NoFunction => write!(f, "there is no function"),
-            Refusal::MemorySize => write!(f, "a function has a memory of another size"),
-            Refusal::ManyArguments => write!(f, "the first function has more than six arguments"),
+            Refusal::NoFunction => f.write_str("there is no function"),
+            Refusal::MemorySize => f.write_str("a function has a memory of another size"),
+            Refusal::ManyArguments => f.write_str("the first function has more than six arguments"),
             Refusal::UnknownArgument => {
                 write!(f, "a line reads an argument that its function doesn't have")
             }

@@ -64,16 +64,16 @@ pub enum Malformed {
 impl fmt::Display for Malformed {
     fn fmt<W: fmt::Write>(&self, f: &mut fmt::Formatter<W>) -> fmt::Result {
         match self {
-            Malformed::TooLarge => write!(f, "the function is too large"),
-            Malformed::MissingSuccessor => write!(f, "a block has too few successors"),
+            Malformed::TooLarge => f.write_str("the function is too large"),
+            Malformed::MissingSuccessor => f.write_str("a block has too few successors"),
             Malformed::UnknownRegister => {
                 write!(
                     f,
                     "a line names a virtual register that the function doesn't have"
                 )
             }
-            Malformed::LargeNumber => write!(f, "a line has a number of 2^31 or more"),
-            Malformed::LargeMemory => write!(f, "the memory has 2^31 bytes or more"),
+            Malformed::LargeNumber => f.write_str("a line has a number of 2^31 or more"),
+            Malformed::LargeMemory => f.write_str("the memory has 2^31 bytes or more"),
         }
     }
 }

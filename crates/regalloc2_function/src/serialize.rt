@@ -37,14 +37,14 @@ impl fmt::Display for StoredFault {
     ghost output = { λ e. Some (fault_reason e) };
 
     fn fmt<W: fmt::Write>(&self, f: &mut fmt::Formatter<W>) -> fmt::Result {
-        match self {
-            Self::Lengths => write!(f, "lists by block or by class have different lengths"),
-            Self::Index => write!(f, "a block, a range or a label is out of range"),
-            Self::Bits => write!(f, "a word names nothing"),
-            Self::Limit => write!(f, "a limit is passed"),
-            Self::Memory => write!(f, "out of memory"),
-            Self::Shape => write!(f, "a value has another shape"),
-        }
+        f.write_str(match self {
+            Self::Lengths => "lists by block or by class have different lengths",
+            Self::Index => "a block, a range or a label is out of range",
+            Self::Bits => "a word names nothing",
+            Self::Limit => "a limit is passed",
+            Self::Memory => "out of memory",
+            Self::Shape => "a value has another shape",
+        })
     }
 }
 

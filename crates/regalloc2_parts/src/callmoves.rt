@@ -44,8 +44,8 @@ impl fmt::Display for CallFault {
             Self::NoneNamed(index) => write!(f, "move {index} names no place"),
             Self::TwoSources(place) => write!(f, "two moves to {place} have different sources"),
             Self::InUse(place) => write!(f, "{place} is to be free, and is in use"),
-            Self::NoSlot => write!(f, "a move needs a slot, and the frame has none left"),
-            Self::Memory => write!(f, "out of memory"),
+            Self::NoSlot => f.write_str("a move needs a slot, and the frame has none left"),
+            Self::Memory => f.write_str("out of memory"),
         }
     }
 }

@@ -38,8 +38,8 @@ pub enum MoveFault {
 impl fmt::Display for MoveFault {
     fn fmt<W: fmt::Write>(&self, f: &mut fmt::Formatter<W>) -> fmt::Result {
         match self {
-            Self::NoSlot => write!(f, "a move needs a spill slot, and there is none"),
-            Self::Memory => write!(f, "out of memory"),
+            Self::NoSlot => f.write_str("a move needs a spill slot, and there is none"),
+            Self::Memory => f.write_str("out of memory"),
         }
     }
 }

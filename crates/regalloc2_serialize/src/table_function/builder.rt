@@ -39,11 +39,11 @@ pub enum BuildError {
 impl fmt::Display for BuildError {
     fn fmt<W: fmt::Write>(&self, f: &mut fmt::Formatter<W>) -> fmt::Result {
         match *self {
-            Self::Memory => write!(f, "out of memory"),
+            Self::Memory => f.write_str("out of memory"),
             Self::NoBlock(block) => write!(f, "block{} isn't declared", block.index()),
-            Self::TooManyBlocks => write!(f, "there are 2^32 - 1 blocks or more"),
-            Self::TooManyInsts => write!(f, "there are 2^30 instructions or more"),
-            Self::TooManyVRegs => write!(f, "there are 2^30 virtual registers or more"),
+            Self::TooManyBlocks => f.write_str("there are 2^32 - 1 blocks or more"),
+            Self::TooManyInsts => f.write_str("there are 2^30 instructions or more"),
+            Self::TooManyVRegs => f.write_str("there are 2^30 virtual registers or more"),
         }
     }
 }
