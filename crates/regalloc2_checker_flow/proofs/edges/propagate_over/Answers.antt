@@ -1,8 +1,9 @@
-use Rattle.std.proofs.Common.{◌≡◌, ◌<◌, List, Bool, length, slice_index, ◌∙◌, ap, sym, subst, refl, arith, true, false}
+use Rattle.std.proofs.Common.{ℕ, ◌≡◌, ◌<◌, List, Bool, length, slice_index, ◌∙◌, ap, sym, subst, refl, arith, true, false}
 use Rattle.std.proofs.lemmas.List.{length-set}
 use Rattle.std.specs.BinaryHeap.{heap_items, heap_len}
 use Rattle.regalloc2_function.specs.FunctionValue.{FunctionValue, block_at}
-use Rattle.regalloc2_checker_facts.specs.Propagation.{AreReached}
+use Rattle.regalloc2_checker_facts.specs.Facts.{Facts}
+use Rattle.regalloc2_checker_facts.specs.Propagation.{AreReached, over}
 use Rattle.regalloc2_checker_facts.specs.Swept.{laid, done_at}
 use Rattle.regalloc2_checker_facts.specs.TableFacts.{facts_now}
 use Rattle.regalloc2_checker_facts.specs.Tables.{BlockView, views, IsMeet}
@@ -12,9 +13,16 @@ use Rattle.regalloc2_checker_facts.proofs.Queues.{views-kept, alike-after, over-
 use Rattle.regalloc2_checker_facts.proofs.TableSteps.{table-kept}
 use Rattle.regalloc2_checker_flow.proofs.edges.propagate_over.Goals as goal
 
+-- facts passed over an edge, by its position
+passed-at : (f : FunctionValue) (b k n : ℕ) (F M : Facts) → M ≡ over f b n F → n ≡ k → M ≡ over f b k F
+passed-at f b k n F M e same = subst (λ (i : ℕ). M ≡ over f b i F) same e
+
 pub returns-then-not-changed : goal.returns-then-not-changed
 returns-then-not-changed g c =
     let f : FunctionValue = g.F.Function.function c.args.f.now in
+    let passed : facts_now c.transfer_edge.new.values ≡ over f c.args.block c.args.position (facts_now c.args.state.now.values) =
+    passed-at f c.args.block c.args.position _ (facts_now c.args.state.now.values) (facts_now c.transfer_edge.new.values)
+    c.in_ok-transfer_edge.ensures.now refl in
     let kept = c.in_ok-transfer_edge.ensures.kept in
     let u = c.in_ok-changed.ensures in
     let less : c.args.position < length c.block_succs.result.now = rw c.block_succs.ensures c.requires.position in
@@ -41,7 +49,7 @@ returns-then-not-changed g c =
         changed = false;
         over = over-is f c.args.block c.args.position (facts_now c.args.state.now.values) (facts_now c.transfer_edge.new.values) (laid done vs old)
             (laid done vs mid) (laid done vs new) c.args.state.now.queue.is_queued.items c.args.state.now.queue.is_queued.items c.index-target.result false
-            (record { aimed = target; tables = ap (laid done vs) same; facts = c.in_ok-transfer_edge.ensures.now })
+            (record { aimed = target; tables = ap (laid done vs) same; facts = passed })
             (laid-meet done vs mid new c.index-target.result (facts_now c.transfer_edge.new.values) false
             (ap (λ n. done_at done n) target ∙ h) met) refl;
         reached = subst (λ (t : List BlockView). AreReached t (heap_items c.args.state.now.queue.heap))
@@ -54,6 +62,9 @@ returns-then-not-changed g c =
 pub returns : goal.returns
 returns g c =
     let f : FunctionValue = g.F.Function.function c.args.f.now in
+    let passed : facts_now c.transfer_edge.new.values ≡ over f c.args.block c.args.position (facts_now c.args.state.now.values) =
+    passed-at f c.args.block c.args.position _ (facts_now c.args.state.now.values) (facts_now c.transfer_edge.new.values)
+    c.in_ok-transfer_edge.ensures.now refl in
     let kept = c.in_ok-transfer_edge.ensures.kept in
     let u = c.in_ok-changed.ensures in
     let less : c.args.position < length c.block_succs.result.now = rw c.block_succs.ensures c.requires.position in
@@ -84,7 +95,7 @@ returns g c =
             changed = true;
             over = over-is f c.args.block c.args.position (facts_now c.args.state.now.values) (facts_now c.transfer_edge.new.values) (laid done vs old)
                 (laid done vs mid) (laid done vs new) marks c.push.new.self.is_queued.items c.index-target.result true
-                (record { aimed = target; tables = ap (laid done vs) same; facts = c.in_ok-transfer_edge.ensures.now }) m c.in_ok-push.ensures.marks;
+                (record { aimed = target; tables = ap (laid done vs) same; facts = passed }) m c.in_ok-push.ensures.marks;
             reached = λ r. reached-either (laid done vs mid) (laid done vs new) c.index-target.result (facts_now c.transfer_edge.new.values)
                 (heap_items c.args.state.now.queue.heap) (heap_items c.push.new.self.heap) (m.updated refl)
                 (subst (λ (t : List BlockView). AreReached t (heap_items c.args.state.now.queue.heap)) (sym (ap (laid done vs) same)) r)

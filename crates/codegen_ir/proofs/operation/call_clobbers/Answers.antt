@@ -1,0 +1,5 @@
+use Rattle.std.proofs.Common.{rules}
+use Rattle.codegen_ir.proofs.operation.call_clobbers.Goals as goal
+
+pub returns : goal.returns
+returns c = search rules
