@@ -102,3 +102,6 @@ returns-in-Some-clause-step g c =
       long = c.in_ok-evict_preg.ensures.step.long;
       err = search rules;
     }
+
+pub evict_preg-requires : goal.evict_preg-requires
+evict_preg-requires g c = (search rules, c.requires.later)

@@ -119,6 +119,9 @@ push_stores-requires g c =
           (sym (ap (λ (t : StateValue). t.edits) c.store_moves.ensures.step.tables)) c.requires.later),
     )
 
+pub push_stores-requires-2 : goal.push_stores-requires-2
+push_stores-requires-2 g c = (search rules, c.in_ok-push_stores.ensures.step.later)
+
 -- a lack of registers in later tables, for moves that are the same
 lack_before : (t u : StateValue) → SameMachine t u → (ms ns : List PlaceMove) → ns ≡ ms → LacksStoreReg u ns → LacksStoreReg t ms
 lack_before t u same ms ns is h = (
