@@ -32,7 +32,10 @@ pub fn run_with_ctx_fitting<A: Allocator + Copy, F: Function, B: Allocator>(
     ctx: &mut Ctx<A>,
 ) -> Option<Result<usize, RegAllocError>> {
     if machine_fits(f, env) {
-        Some(run_with_ctx(f, env, &OPTIONS, ctx).map(|out| out.num_spillslots))
+        match run_with_ctx(f, env, &OPTIONS, ctx) {
+            Ok(out) => Some(Ok(out.num_spillslots)),
+            Err(fault) => Some(Err(fault)),
+        }
     } else {
         None
     }

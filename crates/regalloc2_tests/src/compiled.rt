@@ -7,7 +7,7 @@ use std::str;
 
 /// A function that returns its argument; one whose second line isn't whole; one that reads a value that nothing defines; and bytes that
 /// are no text.
-const TEXTS: [&[u8]; 4] = [
+static TEXTS: [&[u8]; 4] = [
     b"block0:\n  v0 = argument 0\n  return v0\n",
     b"block0:\n  v0 = argument\n",
     b"block0:\n  return v0\n",
@@ -29,7 +29,7 @@ fn show<W: Write>(alloc: Global, text: &[u8], to: &mut W) -> io::Result<()> {
 }
 
 /// Functions of two arguments with a memory of 16 bytes, which are run.
-const RUNS: [(&str, u64, u64); 40] = [
+static RUNS: [(&str, u64, u64); 40] = [
     ("v2 = and v0, v1", 12, 10),
     ("v2 = or v0, 10", 12, 0),
     ("v2 = xor v0, v1", 12, 10),
@@ -73,7 +73,7 @@ const RUNS: [(&str, u64, u64); 40] = [
 ];
 
 /// Functions that write to memory and return the number at address 2.
-const STORES: [(&str, u64, u64); 8] = [
+static STORES: [(&str, u64, u64); 8] = [
     ("store v0, v1", 2, MINUS_ONE - 1),
     ("store8 v0, v1", 2, 0x1234),
     ("store16 v0, v1", 3, 0x1_2345),
@@ -136,14 +136,14 @@ fn show_run<W: Write>(
 /// Writes what is returned for each of the texts, when assembly is requested, and what the
 /// functions return that are run.
 pub fn show_all<W: Write>(alloc: Global, to: &mut W) -> io::Result<()> {
-    for text in TEXTS {
-        show(alloc, text, to)?;
+    for text in &TEXTS {
+        show(alloc, *text, to)?;
     }
-    for run in RUNS {
-        show_run(alloc, run, "", to)?;
+    for run in &RUNS {
+        show_run(alloc, *run, "", to)?;
     }
-    for run in STORES {
-        show_run(alloc, run, READ_AT_TWO, to)?;
+    for run in &STORES {
+        show_run(alloc, *run, READ_AT_TWO, to)?;
     }
     Ok(())
 }

@@ -23,8 +23,10 @@ const COPIES: u32 = 300;
 
 /// The text that a line gives: it may say which part of another one to replace.
 fn text_of(alloc: Global, whole: &str, text: &str) -> Result<String, AllocError> {
-    let replaced = text.strip_prefix('~').and_then(|rest| rest.split_once('~'));
-    let Some((old, new)) = replaced else {
+    let Some(change) = text.strip_prefix('~') else {
+        return String::from_str(alloc, text);
+    };
+    let Some((old, new)) = change.split_once('~') else {
         return String::from_str(alloc, text);
     };
     match whole.split_once(old) {
@@ -118,18 +120,41 @@ fn place_of(answer: Option<Answer>) -> usize
 /// Counts the results for changed copies of a text.
 fn count(alloc: Global, random: &mut Random, words: &str, text: &str, counts: &mut Counts) {
     for _ in 0..COPIES {
-        let text = changed(alloc, random, text.as_bytes());
-        let place = place_of(text.and_then(|text| ask(alloc, alloc, words, text.as_slice())));
+        let answer = match changed(alloc, random, text.as_bytes()) {
+            Some(text) => ask(alloc, alloc, words, text.as_slice()),
+            None => None,
+        };
+        let place = place_of(answer);
         counts[place] = counts[place].saturating_add(1);
     }
+}
+
+/// The words and the text of a line, if it has a whole text.
+fn whole_text(line: &str) -> Option<(&str, &str)> {
+    let (words, text) = line.split_once(' ')?;
+    if text.starts_with('{') || text.starts_with("[{") {
+        Some((words, text))
+    } else {
+        None
+    }
+}
+
+/// The text of the first line that is run.
+fn first_function(lines: &str) -> &str {
+    for line in lines.lines() {
+        if let Some(text) = line.strip_prefix("run ") {
+            return text;
+        }
+    }
+    ""
 }
 
 /// Counts the results for changed copies of all whole texts.
 fn fuzz(alloc: Global, lines: &str) -> Counts {
     let mut counts = [0u32; 4];
     let mut random = Random::new(2026);
-    for (words, text) in lines.lines().filter_map(|line| line.split_once(' ')) {
-        if text.starts_with('{') || text.starts_with("[{") {
+    for line in lines.lines() {
+        if let Some((words, text)) = whole_text(line) {
             count(alloc, &mut random, words, text, &mut counts);
         }
     }
@@ -140,11 +165,7 @@ fn fuzz(alloc: Global, lines: &str) -> Counts {
 /// ones, and for failed allocations.
 pub fn show_fuzz<W: Write>(alloc: Global, lines: &str, out: &mut W) -> io::Result<()> {
     show_all(alloc, lines, out)?;
-    let function = lines
-        .lines()
-        .find_map(|line| line.strip_prefix("run "))
-        .unwrap_or("");
-    show_all_large(alloc, function, out)?;
+    show_all_large(alloc, first_function(lines), out)?;
     let [done, refused, unusable, broken] = fuzz(alloc, lines);
     let ran = done
         .saturating_add(refused)

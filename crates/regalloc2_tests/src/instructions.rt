@@ -13,7 +13,7 @@ use regalloc2_serialize::table_function::TableInst;
 use std::alloc::Global;
 
 /// The numbers of registers, which not every machine has, and of fixed stack slots.
-const NUMBERS: [usize; 8] = [0, 1, 2, 3, 4, 5, FIRST_SLOT, FIRST_SLOT + 1];
+static NUMBERS: [usize; 8] = [0, 1, 2, 3, 4, 5, FIRST_SLOT, FIRST_SLOT + 1];
 
 /// A register or a fixed stack slot of the class.
 fn any_register(random: &mut Random, class: RegClass) -> PReg

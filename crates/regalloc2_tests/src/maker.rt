@@ -129,10 +129,13 @@ impl Maker {
 
     /// Adds an instruction that defines the first vreg of each class.
     fn add_bases(&mut self, f: &mut TableBuilder) -> Option<()> {
-        let bases = CLASSES.map(|class| self.fresh(class));
-        self.known.extend_from_slice(&bases).ok()?;
-        f.op(Block(0), &bases.map(|vreg| Operand::any_def(vreg)))
-            .ok()
+        let mut defs = [Operand::any_def(VReg::new(0, RegClass::Int)); 3];
+        for at in 0..3 {
+            let vreg = self.fresh(CLASSES[at]);
+            self.known.push(vreg).ok()?;
+            defs[at] = Operand::any_def(vreg);
+        }
+        f.op(Block(0), &defs).ok()
     }
 
     /// Names up to three parameters of each block but the entry.

@@ -6,7 +6,7 @@ use std::io::{self, Write};
 use std::str;
 
 /// Texts of modules that can't be read, or are read as no functions that the allocator accepts.
-const WRONG: [&str; 19] = [
+static WRONG: [&str; 19] = [
     "function f(1):\nblock0:\n  v0 = argument 0\n  v1 = call g(v0)\n  return v1\n",
     "function f(1):\nblock0:\n  v0 = argument 0\n  v1 = call f()\n  return v1\n",
     "function f(1):\nblock0:\n  v0 = argument 0\n  v1 = call f(v0, v0)\n  return v1\n",
@@ -243,7 +243,7 @@ impl Case {
 }
 
 /// Runs: a module, the room in words, and arguments.
-const RUNS: [(Case, u64, [u64; 2]); 14] = [
+static RUNS: [(Case, u64, [u64; 2]); 14] = [
     (Case::Factorial, 1000, [20, 0]),
     (Case::Factorial, 1000, [0, 0]),
     (Case::Factorial, 0, [0, 0]),
@@ -317,21 +317,29 @@ fn show_run<W: Write>(
     show(alloc, text, Action::Run(options), to)
 }
 
+/// Whether the code of a module returns with so much room.
+fn has_room(alloc: Global, text: &str, argument: u64, room: u64) -> bool {
+    let Ok(arguments) = [argument].to_vec(alloc) else {
+        return false;
+    };
+    let action = Action::Run(RunOptions {
+        arguments,
+        room,
+        shows_memory: false,
+    });
+    let task = Task::Read("text", action);
+    let (mut out, mut err) = (Vec::new(alloc), Vec::new(alloc));
+    answer(alloc, &task, text.as_bytes(), &mut out, &mut err) == 0
+}
+
 /// The least room in words in which the code of a module returns, below a bound.
 fn least_room(alloc: Global, text: &str, argument: u64, most: u64) -> Option<u64> {
-    (0..most).find(|room| {
-        let Ok(arguments) = [argument].to_vec(alloc) else {
-            return false;
-        };
-        let action = Action::Run(RunOptions {
-            arguments,
-            room: *room,
-            shows_memory: false,
-        });
-        let task = Task::Read("text", action);
-        let (mut out, mut err) = (Vec::new(alloc), Vec::new(alloc));
-        answer(alloc, &task, text.as_bytes(), &mut out, &mut err) == 0
-    })
+    for room in 0..most {
+        if has_room(alloc, text, argument, room) {
+            return Some(room);
+        }
+    }
+    None
 }
 
 /// Writes how a module runs with two arguments.
@@ -350,13 +358,13 @@ fn show_case<W: Write>(
 
 /// Writes what is said of wrong modules, how modules run, and a header.
 pub fn show_all<W: Write>(alloc: Global, to: &mut W) -> io::Result<()> {
-    for text in WRONG {
-        show(alloc, text, Action::Write, to)?;
+    for text in &WRONG {
+        show(alloc, *text, Action::Write, to)?;
     }
     let live = live_text(alloc)?;
-    for (case, room, arguments) in RUNS {
+    for (case, room, arguments) in &RUNS {
         let text = case.text(live.as_str());
-        show_case(alloc, case.name(), text, room, arguments, to)?;
+        show_case(alloc, case.name(), text, *room, *arguments, to)?;
     }
     for depth in 0..3u64 {
         let room = least_room(alloc, FACTORIAL, depth, 200).unwrap_or(0);

@@ -191,13 +191,21 @@ fn fatal_writes(alloc: Global, capacity: usize) -> io::Result<Option<u32>> {
     Ok(None)
 }
 
+/// A number up to five.
+fn up_to_five(count: Option<u32>) -> Option<u32> {
+    match count {
+        Some(count) => Some(count.min(5)),
+        None => None,
+    }
+}
+
 /// How many writes there are without a buffer, over 16 bytes, and over 8192, where each of them ends the program if it fails. Five
 /// stand for five and more.
 pub fn writes_up_to_five(alloc: Global) -> io::Result<[Option<u32>; 3]> {
     let unbuffered = fatal_writes(alloc, 0)?;
     let short = fatal_writes(alloc, 16)?;
     let whole = fatal_writes(alloc, 8192)?;
-    Ok([unbuffered, short, whole].map(|count| count.map(|count| count.min(5))))
+    Ok([up_to_five(unbuffered), up_to_five(short), up_to_five(whole)])
 }
 
 /// The status where the flush fails; whether the listing was written, and no line on the standard error.

@@ -7,7 +7,7 @@ use regalloc2::{MachineEnv, PReg, PRegSet, RegClass};
 use std::alloc::Global;
 
 /// The classes.
-pub const CLASSES: [RegClass; 3] = [RegClass::Int, RegClass::Float, RegClass::Vector];
+pub static CLASSES: [RegClass; 3] = [RegClass::Int, RegClass::Float, RegClass::Vector];
 
 /// The first fixed stack slot of each class; the registers that are allocated have lower numbers.
 pub const FIRST_SLOT: usize = 40;
@@ -57,7 +57,8 @@ pub fn integer_machine(alloc: Global, count: usize) -> MachineEnv {
 pub fn any_machine(alloc: Global, random: &mut Random) -> Option<(MachineEnv, [usize; 3])> {
     let mut env = integer_machine(alloc, 0);
     let mut most = [0usize; 3];
-    for class in CLASSES {
+    for class in &CLASSES {
+        let class = *class;
         let at = class as usize;
         let has_slots = random.once_in(2);
         let has_scratch = random.once_in(2);

@@ -42,10 +42,10 @@ fn show<W: Write>(global: Global, text: &str, to: &mut W) -> io::Result<()> {
     let out = output_of(global, &f);
     let mut without_moves = output_of(global, &f);
     without_moves.edits.clear();
-    for name in NAMES {
+    for name in &NAMES {
         let mut given = Given {
             global,
-            name,
+            name: *name,
             f: &f,
             out: &out,
             without_moves: &without_moves,

@@ -4,7 +4,7 @@ use super::super::random::Random;
 use std::alloc::Global;
 
 /// What changed bytes become, and what is put in.
-const BYTES: [u8; 16] = [
+static BYTES: [u8; 16] = [
     b'[', b']', b'{', b'}', b',', b':', b'"', b'0', b'1', b'9', b'-', b'.', b'e', b' ', b'n', b'\\',
 ];
 
@@ -17,10 +17,17 @@ fn replaced(alloc: Global, text: &[u8], from: usize, to: usize, piece: &[u8]) ->
     Some(made)
 }
 
+/// Whether a digit stands at a position.
+fn is_digit(text: &[u8], at: usize) -> bool {
+    match text.get(at) {
+        Some(byte) => byte.is_ascii_digit(),
+        None => false,
+    }
+}
+
 /// Whether a number ends at a position.
 fn ends_number(text: &[u8], at: usize) -> bool {
-    let is_digit = |place: usize| text.get(place).is_some_and(|byte| byte.is_ascii_digit());
-    is_digit(at) && !is_digit(at.saturating_add(1))
+    is_digit(text, at) && !is_digit(text, at.saturating_add(1))
 }
 
 /// The text with another last digit of the first number from a position on.

@@ -5,6 +5,7 @@
 //! those of the allocator and the checker.
 
 use super::asked::{LACKS, ask};
+use super::whole_text;
 use regalloc2_test_alloc::Refusing;
 use std::alloc::Global;
 use std::io::{self, Write};
@@ -31,10 +32,10 @@ fn is_each_told(global: Global, words: &str, text: &[u8], met: &mut [bool; 5]) -
 /// and of each line whether it is met.
 pub fn show_refused<W: Write>(global: Global, lines: &str, out: &mut W) -> io::Result<()> {
     let (mut told, mut untold, mut met) = (0u32, 0u32, [false; 5]);
-    for (words, text) in lines.lines().filter_map(|line| line.split_once(' ')) {
-        if !text.starts_with('{') && !text.starts_with("[{") {
+    for line in lines.lines() {
+        let Some((words, text)) = whole_text(line) else {
             continue;
-        }
+        };
         match is_each_told(global, words, text.as_bytes(), &mut met) {
             Some(true) => told = told.saturating_add(1),
             _ => untold = untold.saturating_add(1),

@@ -29,7 +29,7 @@ pub enum Name {
 }
 
 /// All of them.
-pub const NAMES: [Name; 10] = [
+pub static NAMES: [Name; 10] = [
     Name::Run,
     Name::RunWithCtx,
     Name::RunTested,
