@@ -4,9 +4,10 @@
     python3 bench/ci.py [--lanes N]
     python3 bench/ci.py --functions CRATE [--most N]
 
-The first form proves `regalloc2_names` by two jobs, runs `rt ci --anew` with N checks side by side (one for each processor, if N isn't given), and
-prints processor seconds for proofs, second proofs (with which mutants begin) and mutants, and the ratio: core-minutes of the run for each second of
-`regalloc2_names`. Run it with nothing beside it: other work makes each check cost more. The status is that of `rt ci`.
+The first form runs `rt ci --anew` with N checks side by side (one for each processor, if N isn't given), and before and after it proves
+`regalloc2_names` by two jobs, since a virtual machine may become half as fast within an hour. It prints processor seconds for proofs, second proofs
+(with which mutants begin) and mutants, and the ratio: core-minutes of the run for each second of `regalloc2_names`, the mean of both. Run it with
+nothing beside it: other work makes each check cost more. The status is that of `rt ci`.
 
 The second form proves a crate by `rt check --jobs 1` in its folder, from nothing unless another checkout on this machine has kept work of it, and
 prints for each function the seconds between the time stamps of its modules, most first: `Lts`, `Tie` and others are the borrow checker's part, which
@@ -58,18 +59,29 @@ def noted(room):
     return [(name, kind, float(used), float(taken)) for name, kind, used, taken in rows if name]
 
 
-def seconds_of_names(rt, room):
-    """The seconds in which `regalloc2_names` is proved by two jobs, in a copy of the repository."""
-    rt.copy_crates(ROOT, f"{room}/copy")
-    os.mkdir(f"{room}/copy/.git")
-    os.chdir(f"{room}/copy")
-    rt.rtlib.guarded()
-    rt.Crate.cuts_libraries, rt.Crate.allowed = True, rt.handles_of(os.getcwd())
-    crates = {it.name: it for it in rt.crates_of(os.getcwd())}
-    for name in ("regalloc2_index", "regalloc2_names"):
-        if crates[name].ci(["--jobs", "2"], False):
-            sys.exit(f"{name} isn't proved")
-    return noted(room)[-1][3]
+def prove_names():
+    """Proves `regalloc2_names` by two jobs, in a copy of the repository, and prints the seconds."""
+    with tempfile.TemporaryDirectory() as room:
+        rt = loaded(room)
+        rt.copy_crates(ROOT, f"{room}/copy")
+        os.mkdir(f"{room}/copy/.git")
+        os.chdir(f"{room}/copy")
+        rt.rtlib.guarded()
+        rt.Crate.cuts_libraries, rt.Crate.allowed = True, rt.handles_of(os.getcwd())
+        crates = {it.name: it for it in rt.crates_of(os.getcwd())}
+        for name in ("regalloc2_index", "regalloc2_names"):
+            if crates[name].ci(["--jobs", "2"], False):
+                return 1
+        print(noted(room)[-1][3])
+        return 0
+
+
+def seconds_of_names():
+    """What a process of its own prints."""
+    done = subprocess.run([sys.executable, os.path.abspath(__file__), "--names"], stdout=subprocess.PIPE, text=True)
+    if done.returncode:
+        sys.exit("regalloc2_names isn't proved")
+    return float(done.stdout.split()[-1])
 
 
 def table(rows):
@@ -84,18 +96,18 @@ def table(rows):
 
 
 def whole(lanes):
-    """Proves `regalloc2_names` alone, then everything from nothing, and prints the table."""
+    """Proves everything from nothing, and `regalloc2_names` alone before and after, and prints the table."""
     with tempfile.TemporaryDirectory() as room:
-        rt = loaded(room)
-        names = seconds_of_names(rt, room)
-        os.remove(f"{room}/log")
+        rt, first = loaded(room), seconds_of_names()
         os.chdir(ROOT)
         os.environ["RT_JOBS"] = str(lanes or rt.processors())
         begun, before = time.time(), sum(os.times()[:4])
         status = rt.main(["ci", "--anew"])
         minutes, cores = (time.time() - begun) / 60, (sum(os.times()[:4]) - before) / 60
         table(noted(room))
-        print(f"{minutes:.0f} minutes, {cores:.0f} core-minutes; regalloc2_names {names:.1f} s: ratio {cores / names:.2f}")
+        last = seconds_of_names()
+        ratio = 2 * cores / (first + last)
+        print(f"{minutes:.0f} minutes, {cores:.0f} core-minutes; regalloc2_names {first:.1f} and {last:.1f} s: ratio {ratio:.2f}")
         return status
 
 
@@ -127,8 +139,11 @@ def main():
     parser = argparse.ArgumentParser(description=__doc__, formatter_class=argparse.RawDescriptionHelpFormatter)
     parser.add_argument("--lanes", type=int, default=0)
     parser.add_argument("--functions", metavar="CRATE")
+    parser.add_argument("--names", action="store_true", help="prove regalloc2_names alone")
     parser.add_argument("--most", type=int, default=30)
     given = parser.parse_args()
+    if given.names:
+        sys.exit(prove_names())
     sys.exit(functions(given.functions, given.most) if given.functions else whole(given.lanes))
 
 
