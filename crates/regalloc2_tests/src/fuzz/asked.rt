@@ -6,7 +6,7 @@ use std::io::BufWriter;
 use std::{fmt, str};
 
 /// The lines that say that memory ran out: those of status 2, on the standard error, then those of status 1.
-pub static LACKS: [&str; 5] = [
+pub const LACKS: [&str; 5] = [
     "ra2: input unreadable\n",
     "ra2: bad function 5\n",
     "ra2: bad output 5\n",
@@ -87,13 +87,9 @@ impl Answer {
             1 if err.is_empty() => out,
             _ => return None,
         };
-        for at in 0..LACKS.len() {
-            if let Some(before) = said.strip_suffix(LACKS[at]) {
-                if text_of(&ample.out).starts_with(before) {
-                    return Some(at);
-                }
-            }
-        }
-        None
+        LACKS.iter().position(|line| {
+            let before = said.strip_suffix(*line);
+            before.is_some_and(|before| text_of(&ample.out).starts_with(before))
+        })
     }
 }
