@@ -16,7 +16,7 @@ pub mod text;
 pub const NO_REGISTER: usize = 16;
 
 /// The source of a number: a register or a slot of the frame, by its number, or an immediate.
-#[derive(Clone, Copy, Debug, PartialEq, Eq)]
+#[derive(Clone, Copy)]
 pub enum Source {
     /// A register.
     Register(usize),
@@ -29,7 +29,7 @@ pub enum Source {
 
 /// An instruction. Registers and slots are given by number; a target is the number of an
 /// instruction.
-#[derive(Clone, Copy, Debug, PartialEq, Eq)]
+#[derive(Clone, Copy)]
 pub enum Instruction {
     /// Puts a number into a register.
     Constant {
@@ -206,7 +206,7 @@ pub enum Instruction {
 }
 
 /// A function's code, its name, and the number of its arguments.
-#[derive(Debug, Drop)]
+#[derive(Drop)]
 pub struct NamedCode {
     /// The name.
     pub name: String,
@@ -217,14 +217,14 @@ pub struct NamedCode {
 }
 
 /// The code of a module: its functions by number. A run starts at function 0.
-#[derive(Debug, Drop)]
+#[derive(Drop)]
 pub struct ModuleCode {
     /// The functions.
     pub functions: Vec<NamedCode>,
 }
 
 /// Code: its instructions by number. It starts at instruction 0.
-#[derive(Debug, Drop)]
+#[derive(Drop)]
 pub struct Code {
     /// The instructions.
     pub instructions: Vec<Instruction>,

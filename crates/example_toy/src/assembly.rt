@@ -11,7 +11,7 @@ use std::fmt;
 use std::io::{self, Write};
 
 /// The names of the registers by number.
-const NAMES: [&str; 16] = [
+static NAMES: [&str; 16] = [
     "rax", "rcx", "rdx", "rbx", "rsp", "rbp", "rsi", "rdi", "r8", "r9", "r10", "r11", "r12", "r13",
     "r14", "r15",
 ];

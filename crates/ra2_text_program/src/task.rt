@@ -6,7 +6,7 @@ use regalloc2_tool::calls::call::Call;
 use std::alloc::Global;
 
 /// The subcommands, with what their help says.
-const SUBCOMMANDS: [(&str, &str); 10] = [
+static SUBCOMMANDS: [(&str, &str); 10] = [
     (
         "run",
         "Allocate registers, and write the function with its machine and output as a text",
@@ -140,8 +140,8 @@ fn command<'a>(alloc: Global) -> Result<Command<'a>, Error> {
         .after_help(STATUSES)
         .subcommand_required(true)
         .arg_required_else_help(true);
-    for (name, about) in SUBCOMMANDS {
-        command = command.subcommand(subcommand(alloc, name, about)?)?;
+    for (name, about) in &SUBCOMMANDS {
+        command = command.subcommand(subcommand(alloc, *name, *about)?)?;
     }
     Ok(command)
 }

@@ -9,6 +9,7 @@ ghost use Rattle.regalloc2_checker_facts.specs.Listing.{IsListing};
 ghost use Rattle.regalloc2_checker_facts.specs.Propagation.{IsBlockEnd, IsQueue, IsReady, IsUnderWay, AreSized};
 ghost use Rattle.regalloc2_checker_facts.specs.Swept.{laid, LeadsToNoneDone};
 ghost use Rattle.regalloc2_checker_facts.specs.TableFacts.{facts_now, AreNamed};
+ghost use Rattle.regalloc2_checker_sweep.specs.Beginning.{IsEntryQueued};
 ghost use Rattle.regalloc2_checker_facts.specs.Tables.{BlockView, facts_at, weight, ListTheSame, IsSolved, views};
 
 use crate::transfer_block::transfer_block;
@@ -120,6 +121,26 @@ fn one_mark<A: Allocator>(alloc: A, count: usize, at: usize) -> Result<Vec<bool,
     Ok(marks)
 }
 
+/// The marks of the blocks that a path is known to reach, and the queue, before anything is passed on: the entry is marked and
+/// queued.
+fn first_marks<F: Function, A: Allocator + Copy>(
+    alloc: A,
+    f: &F,
+) -> Result<(Vec<bool, A>, Queue<A>), AllocError>
+    requires { IsFramed (F.function f.now) }
+    ensures { IfOk result (λ r. IsEntryQueued (F.function f.now) r.0.items r.1.is_queued.items (heap_items r.1.heap)) }
+{
+    let entry = f.entry_block().index();
+    let reached = one_mark(alloc, f.num_blocks(), entry)?;
+    let mut queue = Queue {
+        ranks: ranks(alloc, f)?,
+        is_queued: no_marks(alloc, f.num_blocks())?,
+        heap: BinaryHeap::new(alloc),
+    };
+    queue.push(entry)?;
+    Ok((reached, queue))
+}
+
 /// What is known before anything is passed on: a path reaches the entry, and nothing holds there.
 pub fn start<F: Function, A: Allocator + Copy>(
     alloc: A,
@@ -134,14 +155,7 @@ pub fn start<F: Function, A: Allocator + Copy>(
     ensures on_way { IfOk result (λ s. (o : OutputValue) → IsUnderWay (F.function f.now) o (views s.values s.reached.items) s.queue.is_queued.items
         (heap_items s.queue.heap)) }
 {
-    let entry = f.entry_block().index();
-    let reached = one_mark(alloc, f.num_blocks(), entry)?;
-    let mut queue = Queue {
-        ranks: ranks(alloc, f)?,
-        is_queued: no_marks(alloc, f.num_blocks())?,
-        heap: BinaryHeap::new(alloc),
-    };
-    queue.push(entry)?;
+    let (reached, queue) = first_marks(alloc, f)?;
     Ok(Analysis {
         values,
         reached,

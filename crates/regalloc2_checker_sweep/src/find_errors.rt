@@ -135,6 +135,5 @@ pub fn find_errors<F: Function, A: Allocator + Copy, B: Allocator, C: Allocator>
     }
     let new_tables = tables_of(alloc, f, out)?;
     let mut state = analyze(alloc, f, &listing, new_tables)?;
-    let errors = check_all(alloc, f, slots, &listing, &state.reached, &mut state.values)?;
-    Ok(errors)
+    check_all(alloc, f, slots, &listing, &state.reached, &mut state.values)
 }

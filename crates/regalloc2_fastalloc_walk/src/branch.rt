@@ -17,6 +17,7 @@ ghost use Rattle.regalloc2_parts.specs.ScratchPool.{DoDiffer, IsOfScratchPair};
 ghost use Rattle.regalloc2_fastalloc_proofs.specs.InstSteps.{a_move, next, no_register};
 ghost use Rattle.regalloc2_analysis.specs.BranchDefs.Tables.{AreBranchDefsOf};
 ghost use Rattle.regalloc2_fastalloc_proofs.specs.BlockSteps.{MayBeAllocated};
+ghost use Rattle.regalloc2_fastalloc_walk.specs.BeforeSteps.{IsBeforeGathering, IsBeforePassing};
 ghost use Rattle.regalloc2_fastalloc_walk.specs.OwnDefs.{IsOwnBy, GatherArgument};
 ghost use Rattle.regalloc2_fastalloc_walk.specs.StateView.{Between, IsBranchStepAt, IsStepAt, SameTables, tables_of, ComesTo, ComesToOne};
 ghost use Rattle.regalloc2_names.specs.RegisterSet.{has_register};
@@ -401,15 +402,7 @@ impl<'a, A: Allocator> State<'a, A> {
         block: Block,
         inst: Inst,
     ) -> Result<MovesByClass<'b, B>, RegAllocError>
-        requires block { block < length (F.function cx.now.f.now).blocks }
-        requires last { inst + 1 ≡ (block_at (F.function cx.now.f.now) block).range.end }
-        requires nonempty { (block_at (F.function cx.now.f.now) block).range.first ≤ inst }
-        requires inst { inst < inst_limit }
-        requires well_formed { MayBeAllocated (F.function cx.now.f.now) }
-        requires branch { (inst_at (F.function cx.now.f.now) inst).is_branch ≡ true }
-        requires defs { AreBranchDefsOf (F.function cx.now.f.now) cx.now.defs.now }
-        requires later { AllAtOrAfter (before inst) self.old.edits }
-        requires may_pass { MayBranch (F.function cx.now.f.now) block (tables_of self.old) }
+        requires { IsBeforeGathering (F.function cx.now.f.now) cx.now.defs.now block inst self.old }
         ensures outcome { MatchResult result (λ m. (given : List ClassMove) × AreOf m.int m.float m.vector given
             × GatherMoves (F.function cx.now.f.now) block (before inst) inst_regs.old (tables_of self.old) (next (inst_regs.new, given) (tables_of self.new)))
             (λ e. e ≡ RegAllocError.TooManyLiveRegs → GatherMoves (F.function cx.now.f.now) block (before inst) inst_regs.old (tables_of self.old)
@@ -465,17 +458,7 @@ impl<'a, A: Allocator> State<'a, A> {
         block: Block,
         inst: Inst,
     ) -> Result<(), RegAllocError>
-        requires block { block < length (F.function cx.now.f.now).blocks }
-        requires last { inst + 1 ≡ (block_at (F.function cx.now.f.now) block).range.end }
-        requires nonempty { (block_at (F.function cx.now.f.now) block).range.first ≤ inst }
-        requires inst { inst < inst_limit }
-        requires well_formed { MayBeAllocated (F.function cx.now.f.now) }
-        requires branch { (inst_at (F.function cx.now.f.now) inst).is_branch ≡ true }
-        requires defs { AreBranchDefsOf (F.function cx.now.f.now) cx.now.defs.now }
-        requires later { AllAtOrAfter (before inst) self.old.edits }
-        requires may_pass { MayBranch (F.function cx.now.f.now) block (tables_of self.old) }
-        requires differ { ParametersDiffer (F.function cx.now.f.now) block }
-        requires apart { RegsAvoidStack (tables_of self.old) }
+        requires { IsBeforePassing (F.function cx.now.f.now) cx.now.defs.now block inst self.old }
         ensures outcome { ComesTo (ProcessBranch (F.function cx.now.f.now) block inst inst_regs.old) inst_regs.new result self.old self.new }
         ensures step { IsBranchStepAt (before inst) 6 result self.old self.new }
     {

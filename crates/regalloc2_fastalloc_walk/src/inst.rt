@@ -17,6 +17,7 @@ ghost use Rattle.regalloc2_fastalloc_proofs.specs.InstSteps.{IsFresh, reuse_requ
 ghost use Rattle.regalloc2_fastalloc_proofs.specs.InstSteps.{use_request, InTables, ProcessOperandsAt, MoveUse, MoveUses, PrepareRegs, AllocInst};
 ghost use Rattle.regalloc2_fastalloc_walk.specs.ReserveSteps.{AreSorted};
 ghost use Rattle.regalloc2_fastalloc_walk.specs.PlaceSteps.{PlaceOperands};
+ghost use Rattle.regalloc2_fastalloc_walk.specs.BeforeSteps.{IsBeforeOperands};
 ghost use Rattle.regalloc2_fastalloc_walk.specs.StateView.{IsStepAt, tables_of, ComesTo};
 ghost use Rattle.regalloc2_fastalloc_proofs.specs.BlockSteps.{AllocInstAt};
 
@@ -601,12 +602,7 @@ impl<'a, A: Allocator> State<'a, A> {
         start: usize,
         allocs: &mut [Allocation],
     ) -> Result<(), RegAllocError>
-        requires inst { cx.now.inst < inst_limit }
-        requires later { AllAtOrAfter (after cx.now.inst) self.old.edits }
-        requires in_tables { InTables cx.now.operands.now (tables_of self.old) }
-        requires room { start + length cx.now.operands.now ≤ length allocs.old }
-        requires no_places { (k : ℕ) → k < start + length cx.now.operands.now → slice_index_or allocs.old k NoPlace ≡ NoPlace }
-        requires fresh { IsFresh inst_regs.old (tables_of self.old) }
+        requires { IsBeforeOperands cx.now.inst cx.now.operands.now start inst_regs.old allocs.old self.old }
         ensures outcome { ComesTo (AllocInstAt cx.now.inst cx.now.operands.now cx.now.clobbers cx.now.ends_block start allocs.old inst_regs.old)
             (allocs.new, inst_regs.new) result self.old self.new }
         ensures step { IsStepAt (before cx.now.inst) result self.old self.new }

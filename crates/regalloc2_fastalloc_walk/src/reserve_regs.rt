@@ -3,7 +3,8 @@
 ghost use Rattle.std.specs.Prelude.{ℕ, ◌≡◌, ◌<◌, ◌⊎◌, ◌||◌, ◌↔◌, ◌∷◌, [], length, true, false, IsTrue, OnOk, IfOk, IfSome, IfNone, IfErr, Some, MatchResult};
 ghost use Rattle.regalloc2_names.specs.Register.{Register};
 ghost use Rattle.regalloc2_names.specs.RegisterSet.{has_register, registers_of};
-ghost use Rattle.regalloc2_fastalloc_state.specs.InstRegs.{SameAvailable, is_free_throughout};
+ghost use Rattle.regalloc2_fastalloc_steps.specs.Positions.{positions_of};
+ghost use Rattle.regalloc2_fastalloc_state.specs.InstRegs.{SameAvailable, RemovesAvailable, is_free_throughout};
 ghost use Rattle.regalloc2_fastalloc_state.specs.StateParts.{AllAtOrAfter};
 ghost use Rattle.regalloc2_fastalloc_state.specs.OutOfResources.{IsResourceErrorIn};
 ghost use Rattle.regalloc2_function.specs.FunctionValue.{op_at};
@@ -155,6 +156,8 @@ fn remove_unclaimed(inst_regs: &mut InstRegs, operand: Operand)
     ensures shrinks { Shrinks inst_regs.old inst_regs.new }
     ensures takes { (r : Register) → is_free_throughout inst_regs.old r ≡ true → is_free_throughout inst_regs.new r ≡ false →
         operand.constraint ≡ OperandConstraint.FixedReg r }
+    ensures removed { (r : Register) → operand.constraint ≡ OperandConstraint.FixedReg r →
+        RemovesAvailable inst_regs.old inst_regs.new r (positions_of operand) }
     ensures awaited { inst_regs.new.awaited ≡ inst_regs.old.awaited }
 {
     if let Some(preg) = fixed_register(operand) {

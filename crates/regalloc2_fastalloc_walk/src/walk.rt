@@ -19,6 +19,7 @@ ghost use Rattle.regalloc2_fastalloc_proofs.specs.BranchSteps.{RegsAvoidStack, A
 ghost use Rattle.regalloc2_fastalloc_state.specs.OutOfResources.{SlotsExhaustedWith, IsResourceError};
 ghost use Rattle.regalloc2_analysis.specs.BranchDefs.BranchDefs.{IsEdgeInto};
 ghost use Rattle.regalloc2_fastalloc_proofs.specs.StoreSteps.{IsStoredFor};
+ghost use Rattle.regalloc2_fastalloc_walk.specs.BeforeSteps.{IsBeforeInst, IsBeforeBlock, IsBeforeBeginning};
 ghost use Rattle.regalloc2_fastalloc_walk.specs.StateView.{Between, IsBranchStepAt, IsStepAt, SameTables, tables_of, ComesTo};
 ghost use Rattle.regalloc2_fastalloc_proofs.specs.BlockSteps.{MayBeAllocated, temp_slots_at, AllocInstInBlock, AllocBlock, BeginBlock, AllocBlocks};
 ghost use Rattle.regalloc2_fastalloc_proofs.specs.BlockSteps.{DefinesBelow, offset_of};
@@ -64,18 +65,7 @@ impl<'a, A: Allocator> State<'a, A> {
         at: InstAt,
         allocs: &mut [Allocation],
     ) -> Result<(), RegAllocError>
-        requires block { block < length (F.function cx.now.f.now).blocks }
-        requires inst { at.inst < length (F.function cx.now.f.now).insts }
-        requires first { (block_at (F.function cx.now.f.now) block).range.first ≤ at.inst }
-        requires end { at.inst < (block_at (F.function cx.now.f.now) block).range.end }
-        requires well_formed { MayBeAllocated (F.function cx.now.f.now) }
-        requires defs { AreBranchDefsOf (F.function cx.now.f.now) cx.now.defs.now }
-        requires room { DefinesBelow (F.function cx.now.f.now) (length self.old.places.vreg_allocs) }
-        requires apart { RegsAvoidStack (tables_of self.old) }
-        requires later { AllAtOrAfter (after at.inst) self.old.edits }
-        requires start { at.start ≡ offset_of (F.function cx.now.f.now) at.inst }
-        requires allocs_long { length allocs.old ≡ operand_count (F.function cx.now.f.now) }
-        requires no_places { (k : ℕ) → k < offset_of (F.function cx.now.f.now) (at.inst + 1) → slice_index_or allocs.old k NoPlace ≡ NoPlace }
+        requires { IsBeforeInst (F.function cx.now.f.now) cx.now.defs.now block at.inst at.start allocs.old self.old }
         ensures outcome { ComesTo (AllocInstInBlock (F.function cx.now.f.now) block at.inst allocs.old) allocs.new result self.old self.new }
         ensures step { IsBranchStepAt (before at.inst) (temp_slots_at (F.function cx.now.f.now) at.inst) result self.old self.new }
     {
@@ -107,17 +97,7 @@ impl<'a, A: Allocator> State<'a, A> {
         offsets: &[u32],
         allocs: &mut [Allocation],
     ) -> Result<(), RegAllocError>
-        requires block { block < length (F.function cx.now.f.now).blocks }
-        requires well_formed { MayBeAllocated (F.function cx.now.f.now) }
-        requires defs { AreBranchDefsOf (F.function cx.now.f.now) cx.now.defs.now }
-        requires room { DefinesBelow (F.function cx.now.f.now) (length self.old.places.vreg_allocs) }
-        requires apart { RegsAvoidStack (tables_of self.old) }
-        requires later { AllAtOrAfter (before (block_at (F.function cx.now.f.now) block).range.end) self.old.edits }
-        requires offsets_long { length offsets.now ≡ length (F.function cx.now.f.now).insts }
-        requires offsets { (i : ℕ) → i < length (F.function cx.now.f.now).insts → slice_index offsets.now i ≡ offset_of (F.function cx.now.f.now) i }
-        requires allocs_long { length allocs.old ≡ operand_count (F.function cx.now.f.now) }
-        requires no_places { (k : ℕ) → k < offset_of (F.function cx.now.f.now) (block_at (F.function cx.now.f.now) block).range.end →
-            slice_index_or allocs.old k NoPlace ≡ NoPlace }
+        requires { IsBeforeBlock (F.function cx.now.f.now) cx.now.defs.now block offsets.now allocs.old self.old }
         ensures outcome { ComesTo (AllocBlock (F.function cx.now.f.now) block allocs.old) allocs.new result self.old self.new }
         ensures no_places { OnOk result ((k : ℕ) → k < offset_of (F.function cx.now.f.now) (block_at (F.function cx.now.f.now) block).range.first →
             slice_index_or allocs.new k NoPlace ≡ NoPlace) }
@@ -145,12 +125,7 @@ impl<'a, A: Allocator> State<'a, A> {
         cx: &FunctionCx<'_, F, C>,
         block: Block,
     ) -> Result<(), RegAllocError>
-        requires block { block < length (F.function cx.now.f.now).blocks }
-        requires well_formed { MayBeAllocated (F.function cx.now.f.now) }
-        requires defs { AreBranchDefsOf (F.function cx.now.f.now) cx.now.defs.now }
-        requires room { DefinesBelow (F.function cx.now.f.now) (length self.old.places.vreg_allocs) }
-        requires apart { RegsAvoidStack (tables_of self.old) }
-        requires later { AllAtOrAfter (before (block_at (F.function cx.now.f.now) block).range.first) self.old.edits }
+        requires { IsBeforeBeginning (F.function cx.now.f.now) cx.now.defs.now block self.old }
         ensures outcome { ComesTo (BeginBlock (F.function cx.now.f.now) block) tt result self.old self.new }
         ensures step { IsStepAt (before (block_at (F.function cx.now.f.now) block).range.first) result self.old self.new }
     {

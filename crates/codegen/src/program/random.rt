@@ -6,7 +6,7 @@ use super::numbers::Random;
 use std::alloc::{AllocError, Global};
 
 /// The operations of two numbers, additions more often than others.
-const OPERATIONS: [&str; 18] = [
+static OPERATIONS: [&str; 18] = [
     "add",
     "add",
     "add",
@@ -28,13 +28,13 @@ const OPERATIONS: [&str; 18] = [
 ];
 
 /// The shifts.
-const SHIFTS: [&str; 3] = ["shift_left", "shift_right", "signed_shift_right"];
+static SHIFTS: [&str; 3] = ["shift_left", "shift_right", "signed_shift_right"];
 
 /// The divisions.
-const DIVISIONS: [&str; 4] = ["div", "rem", "signed_div", "signed_rem"];
+static DIVISIONS: [&str; 4] = ["div", "rem", "signed_div", "signed_rem"];
 
 /// The ends of the names of accesses to memory.
-const ACCESSES: [&str; 4] = ["", "32", "16", "8"];
+static ACCESSES: [&str; 4] = ["", "32", "16", "8"];
 
 /// The greatest address of most accesses. All lower ones are used too, so it has zeros in no bit.
 const LAST_ADDRESS: u32 = 63;

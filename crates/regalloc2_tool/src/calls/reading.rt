@@ -5,7 +5,7 @@ use std::alloc::{AllocError, Global};
 use strsim::osa_distance;
 
 /// The words that begin a line, `block` and `inst` without their numbers.
-const FIRST_WORDS: [&str; 18] = [
+static FIRST_WORDS: [&str; 18] = [
     "regs", "others", "scratch", "stack", "sizes", "flags", "entry", "vregs", "block", "op",
     "branch", "ret", "inst", "move", "slots", "debug", "label", "stored",
 ];
@@ -15,10 +15,10 @@ const FIRST_WORDS: [&str; 18] = [
 fn nearest_word(alloc: Global, word: &str) -> Result<Option<&'static str>, AllocError> {
     let mut nearest = None;
     let mut bound = 3;
-    for known in FIRST_WORDS {
-        let distance = osa_distance(alloc, word, known)?;
+    for known in &FIRST_WORDS {
+        let distance = osa_distance(alloc, word, *known)?;
         if distance < bound {
-            nearest = Some(known);
+            nearest = Some(*known);
             bound = distance;
         }
     }

@@ -76,4 +76,4 @@ check_all-requires g c κs within =
     )
 
 pub returns : goal.returns
-returns g c = c.in_ok-errors.ensures (machine_of c.args.env.now) c.stack_slots-slots.ensures
+returns g c = c.check_all.ensures (machine_of c.args.env.now) c.stack_slots-slots.ensures

@@ -59,37 +59,20 @@ alloc_inst_in_block-requires g c =
     let start : slice_index c.args.offsets.now i ≡ offset_of f i = c.requires.offsets i lt in
     let upto : offset_of f c.loop-i.i ≡ offset_of f (c.new.result + 1) = ap (offset_of f) (next ∙ omega (arith, at)) in (
       omega arith,
-      (
-        c.requires.block,
-        (
-          omega (arith, at, lt),
-          (
-            omega (arith, at, c.loop-i.invariant.first, c.loop-i-test.true),
-            (
-              omega (arith, at, next, c.loop-i.invariant.within),
-              (
-                c.requires.well_formed,
-                (
-                  c.requires.defs,
-                  (
-                    subst (DefinesBelow f) (sym c.loop-i.invariant.long) c.requires.room,
-                    (
-                      apart_kept 6 (tables_of c.args.self.now) (tables_of c.loop-i.self) c.loop-i.invariant.machine c.requires.apart,
-                      (
-                        λ k d less. omega (arith, c.loop-i.invariant.later k d less, at, next),
-                        (
-                          start ∙ sym (ap (offset_of f) at),
-                          (c.loop-i.auto.allocs ∙ c.requires.allocs_long, λ k less. c.loop-i.invariant.blank k (omega (arith, less, upto))),
-                        ),
-                      ),
-                    ),
-                  ),
-                ),
-              ),
-            ),
-          ),
-        ),
-      ),
+      record {
+        block = c.requires.block;
+        inst = omega (arith, at, lt);
+        first = omega (arith, at, c.loop-i.invariant.first, c.loop-i-test.true);
+        end = omega (arith, at, next, c.loop-i.invariant.within);
+        well_formed = c.requires.well_formed;
+        defs = c.requires.defs;
+        room = subst (DefinesBelow f) (sym c.loop-i.invariant.long) c.requires.room;
+        apart = apart_kept 6 (tables_of c.args.self.now) (tables_of c.loop-i.self) c.loop-i.invariant.machine c.requires.apart;
+        later = λ k d less. omega (arith, c.loop-i.invariant.later k d less, at, next);
+        start = start ∙ sym (ap (offset_of f) at);
+        allocs_long = c.loop-i.auto.allocs ∙ c.requires.allocs_long;
+        no_places = λ k less. c.loop-i.invariant.blank k (omega (arith, less, upto));
+      },
     )
 
 pub loop-i-preserved : goal.loop-i-preserved

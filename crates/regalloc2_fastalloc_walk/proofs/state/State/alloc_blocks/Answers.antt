@@ -46,34 +46,18 @@ alloc_block-requires g c =
     let some : 0 < c.loop-b.b = omega (arith, c.loop-b-test.true) in
     let Q : ℕ → Type 0 = λ n. AllAtOrAfter (before (block_at f n).range.end) c.loop-b.self.edits in (
       omega arith,
-      (
-        lt,
-        (
-          c.requires.well_formed,
-          (
-            c.in_ok-defs.ensures.ok,
-            (
-              subst (DefinesBelow f) (sym c.loop-b.invariant.long) c.requires.room,
-              (
-                apart_kept _ (tables_of c.args.self.now) (tables_of c.loop-b.self) c.loop-b.invariant.machine c.requires.apart,
-                (
-                  subst Q (sym same) (c.loop-b.invariant.later some),
-                  (
-                    c.requires.offsets_long,
-                    (
-                      c.requires.offsets,
-                      (
-                        c.loop-b.auto.allocs ∙ c.requires.allocs_long,
-                        λ k less. c.loop-b.invariant.blank some k (let e = ap (λ (n : ℕ). offset_of f (block_at f n).range.end) same in omega (arith, less, e)),
-                      ),
-                    ),
-                  ),
-                ),
-              ),
-            ),
-          ),
-        ),
-      ),
+      record {
+        block = lt;
+        well_formed = c.requires.well_formed;
+        defs = c.in_ok-defs.ensures.ok;
+        room = subst (DefinesBelow f) (sym c.loop-b.invariant.long) c.requires.room;
+        apart = apart_kept _ (tables_of c.args.self.now) (tables_of c.loop-b.self) c.loop-b.invariant.machine c.requires.apart;
+        later = subst Q (sym same) (c.loop-b.invariant.later some);
+        offsets_long = c.requires.offsets_long;
+        offsets = c.requires.offsets;
+        allocs_long = c.loop-b.auto.allocs ∙ c.requires.allocs_long;
+        no_places = λ k less. c.loop-b.invariant.blank some k (let e = ap (λ (n : ℕ). offset_of f (block_at f n).range.end) same in omega (arith, less, e));
+      },
     )
 
 pub begin_block-requires : goal.begin_block-requires
@@ -85,22 +69,14 @@ begin_block-requires g c =
     c.loop-b.self)
     (tables_of c.alloc_block.new.self) (omega arith) c.loop-b.invariant.machine c.alloc_block.ensures.step.machine in (
       omega arith,
-      (
-        lt,
-        (
-          c.requires.well_formed,
-          (
-            c.in_ok-defs.ensures.ok,
-            (
-              subst (DefinesBelow f) (sym (c.in_ok-alloc_block.ensures.step.long ∙ c.loop-b.invariant.long)) c.requires.room,
-              (
-                apart_kept _ (tables_of c.args.self.now) (tables_of c.alloc_block.new.self) machine c.requires.apart,
-                c.in_ok-alloc_block.ensures.step.later,
-              ),
-            ),
-          ),
-        ),
-      ),
+      record {
+        block = lt;
+        well_formed = c.requires.well_formed;
+        defs = c.in_ok-defs.ensures.ok;
+        room = subst (DefinesBelow f) (sym (c.in_ok-alloc_block.ensures.step.long ∙ c.loop-b.invariant.long)) c.requires.room;
+        apart = apart_kept _ (tables_of c.args.self.now) (tables_of c.alloc_block.new.self) machine c.requires.apart;
+        later = c.in_ok-alloc_block.ensures.step.later;
+      },
     )
 
 pub loop-b-preserved : goal.loop-b-preserved

@@ -29,29 +29,21 @@ alloc_inst_at-requires g c =
     let within = sum_by_more_le (λ n. length n.operands) f.insts i no_inst c.requires.inst in
     let more : offset_of f (i + 1) ≡ offset_of f i + length (inst_at f i).operands = sum_by_more (λ n. length n.operands) f.insts i no_inst c.requires.inst in (
       omega arith,
-      (
-        omega (arith, few, c.requires.inst),
-        (
-          c.requires.later,
-          (
-            subst (λ (o : List OperandValue). InTables o (tables_of c.args.self.now)) (sym ops)
-                (all_in_tables c.requires.well_formed.0 f (g.met.F.Function.limited c.args.cx.now.f.now) c.requires.well_formed.1 (tables_of c.args.self.now)
-                c.requires.room i c.requires.inst),
-            (
-              omega (arith, within, more, c.requires.start, ap length ops, c.requires.allocs_long),
-              (
-                λ k less. c.requires.no_places k (omega (arith, less, more, c.requires.start, ap length ops)),
-                record {
-                  early = λ r. ap (λ (s : PRegSet). has_register s r) c.new-inst_regs.ensures.early ∙ c.available_regs.ensures r;
-                  late = λ r. ap (λ (s : PRegSet). has_register s r) c.new-inst_regs.ensures.late ∙ c.available_regs.ensures r;
-                  scratch = c.new-inst_regs.ensures.scratch;
-                  awaited = c.new-inst_regs.ensures.awaited;
-                },
-              ),
-            ),
-          ),
-        ),
-      ),
+      record {
+        inst = omega (arith, few, c.requires.inst);
+        later = c.requires.later;
+        in_tables = subst (λ (o : List OperandValue). InTables o (tables_of c.args.self.now)) (sym ops)
+            (all_in_tables c.requires.well_formed.0 f (g.met.F.Function.limited c.args.cx.now.f.now) c.requires.well_formed.1 (tables_of c.args.self.now)
+            c.requires.room i c.requires.inst);
+        room = omega (arith, within, more, c.requires.start, ap length ops, c.requires.allocs_long);
+        no_places = λ k less. c.requires.no_places k (omega (arith, less, more, c.requires.start, ap length ops));
+        fresh = record {
+          early = λ r. ap (λ (s : PRegSet). has_register s r) c.new-inst_regs.ensures.early ∙ c.available_regs.ensures r;
+          late = λ r. ap (λ (s : PRegSet). has_register s r) c.new-inst_regs.ensures.late ∙ c.available_regs.ensures r;
+          scratch = c.new-inst_regs.ensures.scratch;
+          awaited = c.new-inst_regs.ensures.awaited;
+        };
+      },
     )
 
 pub returns-then-not-is_branch-clause-outcome : goal.returns-then-not-is_branch-clause-outcome
@@ -93,40 +85,23 @@ process_branch-requires g c =
     let few = (g.met.F.Function.limited c.args.cx.now.f.now).insts in
     let env : MachineValue = c.requires.well_formed.0 in (
       omega arith,
-      (
-        c.requires.block,
-        (
-          last,
-          (
-            c.requires.first,
-            (
-              omega (arith, few, c.requires.inst),
-              (
-                c.requires.well_formed,
-                (
-                  sym c.is_branch.ensures ∙ on,
-                  (
-                    c.requires.defs,
-                    (
-                      c.in_ok-alloc_inst_at.ensures.step.later,
-                      (
-                        may_pass env f c.requires.well_formed.1 c.args.block c.requires.block (tables_of c.alloc_inst_at.new.self)
-                            (subst (DefinesBelow f) (sym c.in_ok-alloc_inst_at.ensures.step.long) c.requires.room),
-                        (
-                          parameters_differ env f c.requires.well_formed.1 c.args.block c.requires.block,
-                          apart_kept 0 (tables_of c.args.self.now) (tables_of c.alloc_inst_at.new.self)
-                              (same_lends 0 (tables_of c.args.self.now) (tables_of c.alloc_inst_at.new.self) c.alloc_inst_at.ensures.step.machine)
-                              c.requires.apart,
-                        ),
-                      ),
-                    ),
-                  ),
-                ),
-              ),
-            ),
-          ),
-        ),
-      ),
+      record {
+        gathering = record {
+          block = c.requires.block;
+          last = last;
+          nonempty = c.requires.first;
+          inst = omega (arith, few, c.requires.inst);
+          well_formed = c.requires.well_formed;
+          branch = sym c.is_branch.ensures ∙ on;
+          defs = c.requires.defs;
+          later = c.in_ok-alloc_inst_at.ensures.step.later;
+          may_pass = may_pass env f c.requires.well_formed.1 c.args.block c.requires.block (tables_of c.alloc_inst_at.new.self)
+              (subst (DefinesBelow f) (sym c.in_ok-alloc_inst_at.ensures.step.long) c.requires.room);
+        };
+        differ = parameters_differ env f c.requires.well_formed.1 c.args.block c.requires.block;
+        apart = apart_kept 0 (tables_of c.args.self.now) (tables_of c.alloc_inst_at.new.self)
+            (same_lends 0 (tables_of c.args.self.now) (tables_of c.alloc_inst_at.new.self) c.alloc_inst_at.ensures.step.machine) c.requires.apart;
+      },
     )
 
 -- a step that fails, since registers, slots or memory are out

@@ -25,7 +25,7 @@ returns-then-passes_nothing-clause-outcome g c =
 pub returns-then-passes_nothing-clause-step : goal.returns-then-passes_nothing-clause-step
 returns-then-passes_nothing-clause-step g c = record {
   machine = none_lends 6 (tables_of c.args.self.now);
-  later = c.requires.later;
+  later = c.requires.gathering.later;
   long = refl;
   err = search rules;
 }
@@ -33,7 +33,7 @@ returns-then-passes_nothing-clause-step g c = record {
 pub push_gathered-requires : goal.push_gathered-requires
 push_gathered-requires g c =
     let f = g.F.Function.function c.args.cx.now.f.now in
-    let at : c.before-point.result ≡ before c.args.inst = c.before-point.ensures.point (λ e. omega (arith, c.requires.inst)) in
+    let at : c.before-point.result ≡ before c.args.inst = c.before-point.ensures.point (λ e. omega (arith, c.requires.gathering.inst)) in
     let old : StateValue = tables_of c.args.self.now in
     let m : StateValue = tables_of c.gather.new.self in
     let x = c.in_ok-moves.ensures.outcome in
@@ -62,7 +62,7 @@ push_gathered-requires g c =
 
 pub returns-clause-outcome : goal.returns-clause-outcome
 returns-clause-outcome g c =
-    let at : c.before-point.result ≡ before c.args.inst = c.before-point.ensures.point (λ e. omega (arith, c.requires.inst)) in
+    let at : c.before-point.result ≡ before c.args.inst = c.before-point.ensures.point (λ e. omega (arith, c.requires.gathering.inst)) in
     let m : StateValue = tables_of c.gather.new.self in
     let x = c.in_ok-moves.ensures.outcome in
     let u = c.gather.new.inst_regs in
@@ -82,7 +82,7 @@ returns-clause-outcome g c =
 
 pub returns-clause-step : goal.returns-clause-step
 returns-clause-step g c =
-    let at : c.before-point.result ≡ before c.args.inst = c.before-point.ensures.point (λ e. omega (arith, c.requires.inst)) in
+    let at : c.before-point.result ≡ before c.args.inst = c.before-point.ensures.point (λ e. omega (arith, c.requires.gathering.inst)) in
     let old : StateValue = tables_of c.args.self.now in
     let b : StateValue = tables_of c.gather.new.self in
     let u = c.gather.new.inst_regs in
