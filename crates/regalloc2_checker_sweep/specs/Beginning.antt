@@ -5,10 +5,10 @@ use Rattle.regalloc2_function.specs.FunctionValue.{FunctionValue}
 use Rattle.regalloc2_checker_facts.specs.Propagation.{IsQueue, queued_block}
 
 -- the entry alone is marked as reached and as queued, and at most its entry is in the queue
-pub record IsEntryQueued (f : FunctionValue) (reached marks : List Bool) (entries : List (Reverse (ℕ × ℕ))) : Type 0 where
+pub record IsEntryQueued (f : FunctionValue) (reached marks : List Bool) (queued : List (Reverse (ℕ × ℕ))) : Type 0 where
   pub long : length reached ≡ length f.blocks
   pub one : (b : ℕ) (d : Bool) → b < length reached → get_or reached b d ≡ nat_eq b f.entry
   pub size : length marks ≡ length f.blocks
   pub marked : (b : ℕ) (d : Bool) → b < length marks → get_or marks b d ≡ nat_eq b f.entry
-  pub queue : IsQueue marks entries
-  pub entries : (entries ≡ []) ⊎ ((x : Reverse (ℕ × ℕ)) × (queued_block x ≡ f.entry) × IsPermutation (x ∷ []) entries)
+  pub queue : IsQueue marks queued
+  pub entries : (queued ≡ []) ⊎ ((x : Reverse (ℕ × ℕ)) × (queued_block x ≡ f.entry) × IsPermutation (x ∷ []) queued)

@@ -2,6 +2,7 @@
 use Rattle.std.specs.Prelude.{ℕ, ◌≡◌, ◌+◌, ◌<◌, ◌≤◌, true, List, length, slice_index, slice_index_or}
 use Rattle.regalloc2_names.specs.Place.{Place, NoPlace}
 use Rattle.regalloc2_names.specs.Operand.{OperandValue}
+use Rattle.regalloc2_names.specs.Register.{VirtualRegister}
 use Rattle.regalloc2_names.specs.Point.{before, after, inst_limit}
 use Rattle.regalloc2_function.specs.FunctionValue.{FunctionValue, block_at, inst_at, operand_count}
 use Rattle.regalloc2_analysis.specs.declared.branch_defs.BranchDefs.{BranchDefs}
@@ -9,7 +10,8 @@ use Rattle.regalloc2_analysis.specs.BranchDefs.Tables.{AreBranchDefsOf}
 use Rattle.regalloc2_fastalloc_state.specs.StateParts.{AllAtOrAfter}
 use Rattle.regalloc2_fastalloc_state.specs.declared.inst_regs.InstRegs.{InstRegs}
 use Rattle.regalloc2_fastalloc_proofs.specs.InstSteps.{InTables, IsFresh}
-use Rattle.regalloc2_fastalloc_proofs.specs.BranchSteps.{RegsAvoidStack, MayBranch, ParametersDiffer}
+use Rattle.regalloc2_fastalloc_proofs.specs.BranchSteps.{RegsAvoidStack, AreVRegsInTables, MayBeParallel, MayBranch, ParametersDiffer}
+use Rattle.regalloc2_fastalloc_state.specs.ScratchPool.{Moves}
 use Rattle.regalloc2_fastalloc_proofs.specs.BlockSteps.{MayBeAllocated, DefinesBelow, offset_of}
 use Rattle.regalloc2_fastalloc_walk.specs.declared.state.State.{State}
 use Rattle.regalloc2_fastalloc_walk.specs.StateView.{tables_of}
@@ -36,7 +38,29 @@ pub record IsBeforeGathering {A C : Type 0} (f : FunctionValue) (d : BranchDefs 
   pub later : AllAtOrAfter (before i) s.edits
   pub may_pass : MayBranch f b (tables_of s)
 
--- and to push the moves
+-- the arguments of an edge are next, in the vregs of its parameters
+pub record IsBeforeEdge {A : Type 0} (i : ℕ) (ps vs : List VirtualRegister) (s : State A) : Type 0 where
+  pub inst : i < inst_limit
+  pub later : AllAtOrAfter (before i) s.edits
+  pub counted : length vs ≡ length ps
+  pub parameters : AreVRegsInTables ps (tables_of s)
+  pub arguments : AreVRegsInTables vs (tables_of s)
+
+-- the parallel moves of a class are next to be pushed at a point
+pub record IsBeforeMoves {A : Type 0} (point : ℕ) (ms : Moves) (s : State A) : Type 0 where
+  pub parallel : MayBeParallel s.slots.count ms
+  pub apart : RegsAvoidStack (tables_of s)
+  pub later : AllAtOrAfter point s.edits
+
+-- those of all classes are
+pub record IsBeforeAllMoves {A : Type 0} (point : ℕ) (is fs vs : Moves) (s : State A) : Type 0 where
+  pub ints : MayBeParallel s.slots.count is
+  pub floats : MayBeParallel s.slots.count fs
+  pub vectors : MayBeParallel s.slots.count vs
+  pub apart : RegsAvoidStack (tables_of s)
+  pub later : AllAtOrAfter point s.edits
+
+-- a branch that has gathered its moves may push them, too
 pub record IsBeforePassing {A C : Type 0} (f : FunctionValue) (d : BranchDefs C) (b i : ℕ) (s : State A) : Type 0 where
   pub gathering : IsBeforeGathering f d b i s
   pub differ : ParametersDiffer f b
@@ -77,5 +101,14 @@ pub record IsBeforeBeginning {A C : Type 0} (f : FunctionValue) (d : BranchDefs 
   pub well_formed : MayBeAllocated f
   pub defs : AreBranchDefsOf f d
   pub room : DefinesBelow f (length s.places.vreg_allocs)
+  pub apart : RegsAvoidStack (tables_of s)
+  pub later : AllAtOrAfter (before (block_at f b).range.first) s.edits
+
+-- what the branch into the block b defines is next to be stored there
+pub record IsBeforeStores {A C : Type 0} (f : FunctionValue) (d : BranchDefs C) (b : ℕ) (s : State A) : Type 0 where
+  pub block : b < length f.blocks
+  pub well_formed : MayBeAllocated f
+  pub defs : AreBranchDefsOf f d
+  pub room : DefinesBelow f (length s.slots.vreg_spillslots)
   pub apart : RegsAvoidStack (tables_of s)
   pub later : AllAtOrAfter (before (block_at f b).range.first) s.edits

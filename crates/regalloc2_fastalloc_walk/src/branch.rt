@@ -17,7 +17,7 @@ ghost use Rattle.regalloc2_parts.specs.ScratchPool.{DoDiffer, IsOfScratchPair};
 ghost use Rattle.regalloc2_fastalloc_proofs.specs.InstSteps.{a_move, next, no_register};
 ghost use Rattle.regalloc2_analysis.specs.BranchDefs.Tables.{AreBranchDefsOf};
 ghost use Rattle.regalloc2_fastalloc_proofs.specs.BlockSteps.{MayBeAllocated};
-ghost use Rattle.regalloc2_fastalloc_walk.specs.BeforeSteps.{IsBeforeGathering, IsBeforePassing};
+ghost use Rattle.regalloc2_fastalloc_walk.specs.BeforeSteps.{IsBeforeAllMoves, IsBeforeEdge, IsBeforeGathering, IsBeforeMoves, IsBeforePassing};
 ghost use Rattle.regalloc2_fastalloc_walk.specs.OwnDefs.{IsOwnBy, GatherArgument};
 ghost use Rattle.regalloc2_fastalloc_walk.specs.StateView.{Between, IsBranchStepAt, IsStepAt, SameTables, tables_of, ComesTo, ComesToOne};
 ghost use Rattle.regalloc2_names.specs.RegisterSet.{has_register};
@@ -240,10 +240,7 @@ impl<'a, A: Allocator> State<'a, A> {
         class: RegClass,
         moves: ParallelMoves<(), &'b B>,
     ) -> Result<(), RegAllocError>
-        requires ends { AreBetweenSlots self.old.slots.count moves }
-        requires one_source { HasOneSourceEach (ends_of moves) }
-        requires apart { RegsAvoidStack (tables_of self.old) }
-        requires later { AllAtOrAfter point self.old.edits }
+        requires { IsBeforeMoves point moves self.old }
         ensures outcome { ComesTo (PushMoves point inst_regs.now class moves.entry) tt result self.old self.new }
         ensures later { OnOk result (AllAtOrAfter point self.new.edits) }
         ensures machine { Between (AddsTempSlotsAtMost 2) self.old self.new }
@@ -287,10 +284,7 @@ impl<'a, A: Allocator> State<'a, A> {
         class: RegClass,
         moves: ParallelMoves<(), &'b B>,
     ) -> Result<(), RegAllocError>
-        requires ends { AreBetweenSlots self.old.slots.count moves }
-        requires one_source { HasOneSourceEach (ends_of moves) }
-        requires apart { RegsAvoidStack (tables_of self.old) }
-        requires later { AllAtOrAfter point self.old.edits }
+        requires { IsBeforeMoves point moves self.old }
         ensures outcome { ComesTo (PushMoves point inst_regs.now class moves.entry) tt result self.old self.new }
         ensures later { OnOk result (AllAtOrAfter point self.new.edits) }
         ensures machine { Between (AddsTempSlotsAtMost 2) self.old self.new }
@@ -370,11 +364,7 @@ impl<'a, A: Allocator> State<'a, A> {
         arguments: &[VReg],
         moves: &mut MovesByClass<'b, B>,
     ) -> Result<(), RegAllocError>
-        requires inst { own.now.branch < inst_limit }
-        requires later { AllAtOrAfter (before own.now.branch) self.old.edits }
-        requires counted { length arguments.now ≡ length params.now }
-        requires parameters { AreVRegsInTables params.now (tables_of self.old) }
-        requires arguments { AreVRegsInTables arguments.now (tables_of self.old) }
+        requires { IsBeforeEdge own.now.branch params.now arguments.now self.old }
         ensures outcome { (given : List ClassMove) → AreOf moves.old.int moves.old.float moves.old.vector given → MatchResult result
             (λ x. (more : List ClassMove) × AreOf moves.new.int moves.new.float moves.new.vector more
             × GatherEdge (IsOwnBy own.now.defs.now own.now.branch) (before own.now.branch) params.now arguments.now inst_regs.old (tables_of self.old)
@@ -430,11 +420,7 @@ impl<'a, A: Allocator> State<'a, A> {
         point: ProgPoint,
         moves: MovesByClass<'b, B>,
     ) -> Result<(), RegAllocError>
-        requires ints { MayBeParallel self.old.slots.count moves.int }
-        requires floats { MayBeParallel self.old.slots.count moves.float }
-        requires vectors { MayBeParallel self.old.slots.count moves.vector }
-        requires apart { RegsAvoidStack (tables_of self.old) }
-        requires later { AllAtOrAfter point self.old.edits }
+        requires { IsBeforeAllMoves point moves.int moves.float moves.vector self.old }
         ensures outcome { ComesTo (PushAllClasses point inst_regs.now moves.entry.int moves.entry.float moves.entry.vector) tt result self.old self.new }
         ensures later { OnOk result (AllAtOrAfter point self.new.edits) }
         ensures machine { Between (AddsTempSlotsAtMost 6) self.old self.new }

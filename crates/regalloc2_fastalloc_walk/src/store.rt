@@ -15,6 +15,7 @@ ghost use Rattle.regalloc2_fastalloc_proofs.specs.BranchSteps.{RegsAvoidStack};
 ghost use Rattle.regalloc2_fastalloc_proofs.specs.StoreSteps.{IsStoredFor, StoreBranchDefs};
 ghost use Rattle.regalloc2_fastalloc_walk.specs.BranchStores.{FindsDefined, FindsStore, FindsStores, ListsGiven, ListsParams, PushStore, PushStores};
 ghost use Rattle.regalloc2_fastalloc_walk.specs.BranchStores.{ListsStores, own_store};
+ghost use Rattle.regalloc2_fastalloc_walk.specs.BeforeSteps.{IsBeforeStores};
 ghost use Rattle.regalloc2_fastalloc_walk.specs.StateView.{IsStepAt, MakesSlots, SameTables, tables_of, ComesTo};
 
 use super::operand::PlaceMove;
@@ -253,12 +254,7 @@ impl<'a, A: Allocator> State<'a, A> {
         defs: &BranchDefs<C>,
         block: Block,
     ) -> Result<(), RegAllocError>
-        requires block { block < length (F.function f.now).blocks }
-        requires well_formed { MayBeAllocated (F.function f.now) }
-        requires defs { AreBranchDefsOf (F.function f.now) defs.now }
-        requires room { DefinesBelow (F.function f.now) (length self.old.slots.vreg_spillslots) }
-        requires apart { RegsAvoidStack (tables_of self.old) }
-        requires later { AllAtOrAfter (before (block_at (F.function f.now) block).range.first) self.old.edits }
+        requires { IsBeforeStores (F.function f.now) defs.now block self.old }
         ensures outcome { ComesTo (StoreBranchDefs (F.function f.now) block) tt result self.old self.new }
         ensures step { IsStepAt (before (block_at (F.function f.now) block).range.first) result self.old self.new }
     {

@@ -10,10 +10,10 @@ use Rattle.regalloc2_checker_sweep.proofs.analyze.start.Goals as goal
 pub returns : goal.returns
 returns g c =
     let f : FunctionValue = g.F.Function.function c.args.f.now in
-    let h = c.in_ok-first_marks.ensures in
-    let rs : List Bool = c.in_ok-first_marks.field-0.0.items in
-    let marks : List Bool = c.in_ok-first_marks.field-0.1.is_queued.items in
-    let entries : List (Reverse (ℕ × ℕ)) = heap_items c.in_ok-first_marks.field-0.1.heap in
+    let h = c.in_ok-reached.ensures in
+    let rs : List Bool = c.in_ok-reached.reached.items in
+    let marks : List Bool = c.in_ok-reached.queue.is_queued.items in
+    let entries : List (Reverse (ℕ × ℕ)) = heap_items c.in_ok-reached.queue.heap in
     let there : f.entry < length f.blocks = c.requires.framed.successors.0 in
     record {
       values = refl;

@@ -1,5 +1,6 @@
 use Rattle.std.proofs.Common.{◌∙◌, subst, rules}
 use Rattle.std.proofs.lemmas.Bool.{OnTrue_at}
+use Rattle.std.proofs.lemmas.Result.{IfOk-weaker}
 use Rattle.regalloc2_function.specs.FunctionValue.{FunctionValue}
 use Rattle.regalloc2_function.specs.OutputValue.{OutputValue}
 use Rattle.regalloc2_function.specs.Views.{machine_of}
@@ -76,4 +77,4 @@ check_all-requires g c κs within =
     )
 
 pub returns : goal.returns
-returns g c = c.check_all.ensures (machine_of c.args.env.now) c.stack_slots-slots.ensures
+returns g c = IfOk-weaker c.check_all.result _ _ (λ r judged. judged (machine_of c.args.env.now) c.stack_slots-slots.ensures) c.check_all.ensures

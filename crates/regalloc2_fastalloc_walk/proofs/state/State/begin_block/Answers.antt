@@ -44,23 +44,15 @@ store_branch_defs-requires g c =
     let f : FunctionValue = g.F.Function.function c.args.cx.now.f.now in
     let first : c.first-first.result ≡ (block_at f c.args.block).range.first = c.first-first.ensures ∙ ap (λ (r : Span). r.first) c.block_insns.ensures in (
       search rules,
-      (
-        c.requires.block,
-        (
-          c.requires.well_formed,
-          (
-            c.requires.defs,
-            (
-              subst (DefinesBelow f) (sym (c.reload_at_begin.new.self.same_long ∙ c.in_ok-reload_at_begin.ensures.step.long)) c.requires.room,
-              (
-                apart_kept 0 (tables_of c.args.self.now) (tables_of c.reload_at_begin.new.self)
-                    (same_lends 0 (tables_of c.args.self.now) (tables_of c.reload_at_begin.new.self) c.reload_at_begin.ensures.step.machine) c.requires.apart,
-                subst (λ (n : ℕ). AllAtOrAfter (before n) c.reload_at_begin.new.self.edits) first c.in_ok-reload_at_begin.ensures.step.later,
-              ),
-            ),
-          ),
-        ),
-      ),
+      record {
+        block = c.requires.block;
+        well_formed = c.requires.well_formed;
+        defs = c.requires.defs;
+        room = subst (DefinesBelow f) (sym (c.reload_at_begin.new.self.same_long ∙ c.in_ok-reload_at_begin.ensures.step.long)) c.requires.room;
+        apart = apart_kept 0 (tables_of c.args.self.now) (tables_of c.reload_at_begin.new.self)
+            (same_lends 0 (tables_of c.args.self.now) (tables_of c.reload_at_begin.new.self) c.reload_at_begin.ensures.step.machine) c.requires.apart;
+        later = subst (λ (n : ℕ). AllAtOrAfter (before n) c.reload_at_begin.new.self.edits) first c.in_ok-reload_at_begin.ensures.step.later;
+      },
     )
 
 pub returns-clause-outcome : goal.returns-clause-outcome

@@ -50,22 +50,15 @@ gather_edge-requires g c =
     ∙ ap (λ (n : ℕ). (block_at f n).params) read in
     let xs : c.branch_blockparams-arguments.result.now ≡ arguments_at f c.args.block k = c.branch_blockparams-arguments.ensures in (
       search rules,
-      (
-        c.requires.inst,
-        (
-          c.loop-k.invariant.later,
-          (
-            ap (λ (l : List VirtualRegister). length l) xs ∙ c.requires.may_pass.counted k lt ∙ ap (λ (l : List VirtualRegister). length l) (sym ps),
-            (
-              known_still (block_at f (target_at f c.args.block k)).params c.block_params-params.result.now (tables_of c.args.self.now) (tables_of
-                  c.loop-k.self)
-                  ps c.loop-k.invariant.long (c.requires.may_pass.parameters k lt),
-              known_still (arguments_at f c.args.block k) c.branch_blockparams-arguments.result.now (tables_of c.args.self.now) (tables_of c.loop-k.self) xs
-                  c.loop-k.invariant.long (c.requires.may_pass.arguments k lt),
-            ),
-          ),
-        ),
-      ),
+      record {
+        inst = c.requires.inst;
+        later = c.loop-k.invariant.later;
+        counted = ap (λ (l : List VirtualRegister). length l) xs ∙ c.requires.may_pass.counted k lt ∙ ap (λ (l : List VirtualRegister). length l) (sym ps);
+        parameters = known_still (block_at f (target_at f c.args.block k)).params c.block_params-params.result.now (tables_of c.args.self.now) (tables_of
+            c.loop-k.self) ps c.loop-k.invariant.long (c.requires.may_pass.parameters k lt);
+        arguments = known_still (arguments_at f c.args.block k) c.branch_blockparams-arguments.result.now (tables_of c.args.self.now) (tables_of c.loop-k.self) xs
+            c.loop-k.invariant.long (c.requires.may_pass.arguments k lt);
+      },
     )
 
 -- what the tables say that the branch defines is its own

@@ -45,19 +45,13 @@ push_gathered-requires g c =
           c.requires.differ c.num_units-count.ensures.owned;
     } in (
       search rules,
-      (
-        each Int c.in_ok-moves.moves.int x.1.int,
-        (
-          each Float c.in_ok-moves.moves.float x.1.float,
-          (
-            each Vector c.in_ok-moves.moves.vector x.1.vector,
-            (
-              apart_kept 0 old m (lends_none old m c.gather.ensures.step.machine) c.requires.apart,
-              subst (λ (p : ℕ). AllAtOrAfter p c.gather.new.self.edits) (sym at) c.in_ok-moves.ensures.step.later,
-            ),
-          ),
-        ),
-      ),
+      record {
+        ints = each Int c.in_ok-moves.moves.int x.1.int;
+        floats = each Float c.in_ok-moves.moves.float x.1.float;
+        vectors = each Vector c.in_ok-moves.moves.vector x.1.vector;
+        apart = apart_kept 0 old m (lends_none old m c.gather.ensures.step.machine) c.requires.apart;
+        later = subst (λ (p : ℕ). AllAtOrAfter p c.gather.new.self.edits) (sym at) c.in_ok-moves.ensures.step.later;
+      },
     )
 
 pub returns-clause-outcome : goal.returns-clause-outcome

@@ -16,7 +16,7 @@ use Rattle.regalloc2_fastalloc_walk.proofs.state.State.push_gathered.Goals as go
 pub push_moves-requires : goal.push_moves-requires
 push_moves-requires g c =
     let old : StateValue = tables_of c.args.self.now in
-    (search rules, (search rules, (c.requires.ints.ends, (c.requires.ints.one_source, (c.requires.apart, c.requires.later)))))
+    (search rules, (search rules, record { parallel = c.requires.ints; apart = c.requires.apart; later = c.requires.later }))
 
 pub push_moves-requires-2 : goal.push_moves-requires-2
 push_moves-requires-2 g c =
@@ -27,18 +27,16 @@ push_moves-requires-2 g c =
       search rules,
       (
         search rules,
-        (
-          between_more old.slots.count c.push_moves.new.self.slots.count c.args.moves.float le c.requires.floats.ends,
-          (
-            c.requires.floats.one_source,
-            (
-              apart_kept (0 + 2) old (tables_of c.push_moves.new.self)
-                  (lends_then (0) 2 old (tables_of c.args.self.now) (tables_of c.push_moves.new.self) (lends_same 0 old old refl) c.push_moves.ensures.machine)
-                  c.requires.apart,
-              c.in_ok-push_moves.ensures.later,
-            ),
-          ),
-        ),
+        record {
+          parallel = record {
+            ends = between_more old.slots.count c.push_moves.new.self.slots.count c.args.moves.float le c.requires.floats.ends;
+            one_source = c.requires.floats.one_source;
+          };
+          apart = apart_kept (0 + 2) old (tables_of c.push_moves.new.self)
+              (lends_then (0) 2 old (tables_of c.args.self.now) (tables_of c.push_moves.new.self) (lends_same 0 old old refl) c.push_moves.ensures.machine)
+              c.requires.apart;
+          later = c.in_ok-push_moves.ensures.later;
+        },
       ),
     )
 
@@ -53,19 +51,17 @@ push_moves-requires-3 g c =
       search rules,
       (
         search rules,
-        (
-          between_more old.slots.count c.push_moves-2.new.self.slots.count c.args.moves.vector le c.requires.vectors.ends,
-          (
-            c.requires.vectors.one_source,
-            (
-              apart_kept (0 + 2 + 2) old (tables_of c.push_moves-2.new.self)
-                  (lends_then (0 + 2) 2 old (tables_of c.push_moves.new.self) (tables_of c.push_moves-2.new.self)
-                  (lends_then (0) 2 old (tables_of c.args.self.now) (tables_of c.push_moves.new.self) (lends_same 0 old old refl) c.push_moves.ensures.machine)
-                  c.push_moves-2.ensures.machine) c.requires.apart,
-              c.in_ok-push_moves-2.ensures.later,
-            ),
-          ),
-        ),
+        record {
+          parallel = record {
+            ends = between_more old.slots.count c.push_moves-2.new.self.slots.count c.args.moves.vector le c.requires.vectors.ends;
+            one_source = c.requires.vectors.one_source;
+          };
+          apart = apart_kept (0 + 2 + 2) old (tables_of c.push_moves-2.new.self)
+              (lends_then (0 + 2) 2 old (tables_of c.push_moves.new.self) (tables_of c.push_moves-2.new.self)
+              (lends_then (0) 2 old (tables_of c.args.self.now) (tables_of c.push_moves.new.self) (lends_same 0 old old refl) c.push_moves.ensures.machine)
+              c.push_moves-2.ensures.machine) c.requires.apart;
+          later = c.in_ok-push_moves-2.ensures.later;
+        },
       ),
     )
 

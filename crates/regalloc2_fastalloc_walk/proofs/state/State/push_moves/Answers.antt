@@ -37,6 +37,6 @@ returns-in-Some-first_scratch-clause-outcome g c =
     ))
     c.in-Some-first_scratch.ensures.found in
     outcome_of c.push_one.result c.push_one.ensures.ok c.push_one.ensures.err
-    (pushes_one c.args.inst_regs.now c.args.class t (tables_of c.push_one.new.self) c.args.moves _ _ by c.args.point c.in-Some.ensures.one.1 c.requires.ends
+    (pushes_one c.args.inst_regs.now c.args.class t (tables_of c.push_one.new.self) c.args.moves _ _ by c.args.point c.in-Some.ensures.one.1 c.requires.parallel.ends
     c.requires.apart scratch c.push_one.ensures.rest)
     (λ e memory lacks. absurd (let no_memory : Memory ≡ TooManyLiveRegs = sym memory ∙ lacks in cc))

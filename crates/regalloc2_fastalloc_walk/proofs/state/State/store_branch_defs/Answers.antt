@@ -239,3 +239,15 @@ returns-clause-step g c =
     } in
     subst (λ (n : ℕ). IsStepAt n (Ok tt) c.args.self.now c.push_stores-2.new.self) at
     (step_then c.args.self.now c.push_stores.new.self c.push_stores-2.new.self begun c.in_ok-push_stores-2.ensures.step)
+
+pub list_stores-requires : goal.list_stores-requires
+list_stores-requires g c = (
+  omega arith,
+  (
+    c.requires.well_formed,
+    (
+      c.requires.defs,
+      ((c.args.block, c.requires.defs.edge c.args.block c.in-Some.edge (sym c.edge_into.ensures ∙ c.in-Some.is)), c.requires.room),
+    ),
+  ),
+)
