@@ -1,5 +1,5 @@
 -- What the steps of the walk require of the state that they begin with.
-use Rattle.std.specs.Prelude.{ℕ, ◌≡◌, ◌+◌, ◌<◌, ◌≤◌, true, List, length, slice_index, slice_index_or}
+use Rattle.std.specs.Prelude.{ℕ, ◌≡◌, ◌+◌, ◌<◌, ◌≤◌, true, [], List, length, slice_index, slice_index_or}
 use Rattle.regalloc2_names.specs.Place.{Place, NoPlace}
 use Rattle.regalloc2_names.specs.Operand.{OperandValue}
 use Rattle.regalloc2_names.specs.Register.{VirtualRegister}
@@ -112,3 +112,14 @@ pub record IsBeforeStores {A C : Type 0} (f : FunctionValue) (d : BranchDefs C) 
   pub room : DefinesBelow f (length s.slots.vreg_spillslots)
   pub apart : RegsAvoidStack (tables_of s)
   pub later : AllAtOrAfter (before (block_at f b).range.first) s.edits
+
+-- the last block is next, from a fresh state
+pub record IsBeforeWalk {A : Type 0} (f : FunctionValue) (starts : List ℕ) (places : List Place) (s : State A) : Type 0 where
+  pub fresh : s.edits ≡ []
+  pub well_formed : MayBeAllocated f
+  pub room : DefinesBelow f (length s.places.vreg_allocs)
+  pub apart : RegsAvoidStack (tables_of s)
+  pub offsets_long : length starts ≡ length f.insts
+  pub offsets : (i : ℕ) → i < length f.insts → slice_index starts i ≡ offset_of f i
+  pub allocs_long : length places ≡ operand_count f
+  pub no_places : (k : ℕ) → slice_index_or places k NoPlace ≡ NoPlace

@@ -19,7 +19,7 @@ ghost use Rattle.regalloc2_fastalloc_proofs.specs.BranchSteps.{RegsAvoidStack, A
 ghost use Rattle.regalloc2_fastalloc_state.specs.OutOfResources.{SlotsExhaustedWith, IsResourceError};
 ghost use Rattle.regalloc2_analysis.specs.BranchDefs.BranchDefs.{IsEdgeInto};
 ghost use Rattle.regalloc2_fastalloc_proofs.specs.StoreSteps.{IsStoredFor};
-ghost use Rattle.regalloc2_fastalloc_walk.specs.BeforeSteps.{IsBeforeInst, IsBeforeBlock, IsBeforeBeginning};
+ghost use Rattle.regalloc2_fastalloc_walk.specs.BeforeSteps.{IsBeforeInst, IsBeforeBlock, IsBeforeBeginning, IsBeforeWalk};
 ghost use Rattle.regalloc2_fastalloc_walk.specs.StateView.{Between, IsBranchStepAt, IsStepAt, SameTables, tables_of, ComesTo};
 ghost use Rattle.regalloc2_fastalloc_proofs.specs.BlockSteps.{MayBeAllocated, temp_slots_at, AllocInstInBlock, AllocBlock, BeginBlock, AllocBlocks};
 ghost use Rattle.regalloc2_fastalloc_proofs.specs.BlockSteps.{DefinesBelow, offset_of};
@@ -144,14 +144,7 @@ impl<'a, A: Allocator> State<'a, A> {
         offsets: &[u32],
         allocs: &mut [Allocation],
     ) -> Result<(), RegAllocError>
-        requires fresh { self.old.edits ≡ [] }
-        requires well_formed { MayBeAllocated (F.function f.now) }
-        requires room { DefinesBelow (F.function f.now) (length self.old.places.vreg_allocs) }
-        requires apart { RegsAvoidStack (tables_of self.old) }
-        requires offsets_long { length offsets.now ≡ length (F.function f.now).insts }
-        requires offsets { (i : ℕ) → i < length (F.function f.now).insts → slice_index offsets.now i ≡ offset_of (F.function f.now) i }
-        requires allocs_long { length allocs.old ≡ operand_count (F.function f.now) }
-        requires no_places { (k : ℕ) → slice_index_or allocs.old k NoPlace ≡ NoPlace }
+        requires { IsBeforeWalk (F.function f.now) offsets.now allocs.old self.old }
         ensures outcome { ComesTo (AllocBlocks (F.function f.now) allocs.old) allocs.new result self.old self.new }
         ensures machine { Between (AddsTempSlotsAtMost (6 * length (F.function f.now).blocks)) self.old self.new }
         ensures err { IfErr result (IsResourceError

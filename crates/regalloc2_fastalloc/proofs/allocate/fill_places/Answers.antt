@@ -70,22 +70,16 @@ alloc_blocks-requires g c =
     let n : ℕ = c.table_length-vregs.result in
     let long : length t.places.vreg_allocs ≡ n = ap (λ (p : VRegAllocsValue). length p.vreg_allocs) e.places ∙ length-replicate n NoPlace in (
       search rules,
-      (
-        e.edits,
-        (
-          (env, c.requires.well_formed),
-          (
-            subst (DefinesBelow f) (sym long) (has_room f c.requires.well_formed.defined_once n c.table_length-vregs.ensures.room),
-            (
-              fit_apart t (fresh_fit f env t c.requires.machine machine e.small),
-              (
-                c.requires.offsets_long,
-                (c.requires.offsets, (c.requires.allocs_long, c.requires.no_places)),
-              ),
-            ),
-          ),
-        ),
-      ),
+      record {
+        fresh = e.edits;
+        well_formed = (env, c.requires.well_formed);
+        room = subst (DefinesBelow f) (sym long) (has_room f c.requires.well_formed.defined_once n c.table_length-vregs.ensures.room);
+        apart = fit_apart t (fresh_fit f env t c.requires.machine machine e.small);
+        offsets_long = c.requires.offsets_long;
+        offsets = c.requires.offsets;
+        allocs_long = c.requires.allocs_long;
+        no_places = c.requires.no_places;
+      },
     )
 
 -- the slots that the walk leaves have the sizes that the function asks for, and as many entries as they had
