@@ -1,0 +1,8 @@
+use Rattle.regalloc2_names.specs.Packing.{register_of_bits}
+use Rattle.regalloc2_serialize.proofs.Lists.{more-of-image}
+use Rattle.regalloc2_serialize.proofs.decode.registers_from.Goals as goal
+
+pub loop-index-preserved : goal.loop-index-preserved
+loop-index-preserved g c =
+    rw c.in_ok-push.ensures.items (more-of-image register_of_bits c.args.indexes.now c.loop-index.registers.items c.loop-index.index-index 0 c.from_index.result
+    c.loop-index-test.true (rw c.from.ensures at c.from_index.ensures.register) c.loop-index.invariant)
