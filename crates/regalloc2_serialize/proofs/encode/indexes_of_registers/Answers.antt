@@ -1,3 +1,5 @@
+use Rattle.std.proofs.Common.{arith}
+use Rattle.std.proofs.lemmas.List.{take_all}
 use Rattle.std.proofs.Common.{rules, ◌≡◌, ◌∷◌, [], ◌++◌, ◌+◌, sym, subst, take, map}
 use Rattle.std.specs.Prelude.{All}
 use Rattle.std.proofs.lemmas.List.Elements.{All-push}
@@ -17,3 +19,10 @@ loop-reg-preserved g c =
       names = subst (λ zs. All IsRegisterIndex zs) (sym e)
           (All-push IsRegisterIndex done one c.loop-reg.invariant.names (search rules));
     }
+
+pub returns-clause-registers : goal.returns-clause-registers
+returns-clause-registers g c =
+    rw (take_all c.loop-reg.reg-index c.args.registers.now (omega (arith, c.loop-reg-test.false))) at c.loop-reg.invariant.same
+
+pub returns-clause-names : goal.returns-clause-names
+returns-clause-names g c = c.loop-reg.invariant.names
