@@ -22,7 +22,7 @@ loop-reg-preserved g c =
     let three : length c.args.scratch.now ≡ 3 = search rules in
     record {
       same = rw c.in_ok-push.ensures.items (image-more (option_map register_of_bits) done c.args.scratch.now c.loop-reg.reg-index one c.reg-item.result
-          (omega (arith, three, c.loop-reg-test.true)) c.reg-item.is c.index_of.ensures.register c.loop-reg.invariant.same);
+          (omega (arith, three, c.loop-reg-test.true)) c.reg-item.is (c.index_of.ensures.register ∙ sym c.reg-item.is) c.loop-reg.invariant.same);
       names = rw c.in_ok-push.ensures.items (All-push (λ o. IfSome o IsRegisterIndex) done one c.loop-reg.invariant.names c.index_of.ensures.name);
     }
 

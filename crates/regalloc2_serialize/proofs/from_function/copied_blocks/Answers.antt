@@ -25,3 +25,9 @@ returns-clause-blocks g c =
     let shown : ℕ → BlockValue = λ i. shown_block (block_at f i) in
     let n : c.loop-block.block ≡ length f.blocks = search rules in
     c.loop-block.invariant.blocks ∙ ap (λ k. map shown (range_with_len 0 k)) n ∙ all-numbers shown_block f.blocks no_block
+
+pub returns-clause-count : goal.returns-clause-count
+returns-clause-count g c =
+    let f : FunctionValue = g.F.Function.function c.args.f.now in
+    let n : c.loop-block.block ≡ length f.blocks = search rules in
+    c.loop-block.invariant.count ∙ n
