@@ -51,6 +51,20 @@ pub map-more : {X Y Z : Type 0} (f : X → Z) (h : Y → Z) (xs : List X) (ys : 
 map-more f h xs ys i x y less is here before =
     rw (map-append f xs (x ∷ []), take_more ys i y less, ← is, map-append h (take i ys) (y ∷ []), before, here) refl
 
+-- a list whose image is the beginning of another has it with one more item of each
+pub image-more : {X Y : Type 0} (f : X → Y) (xs : List X) (ys : List Y) (i : ℕ) (x : X) (y : Y) →
+    i < length ys → y ≡ get_or ys i y → f x ≡ y → map f xs ≡ take i ys → map f (xs ++ x ∷ []) ≡ take (i + 1) ys
+image-more f xs ys i x y less is here before = rw (map-append f xs (x ∷ []), take_more ys i y less, ← is, before, here) refl
+
+-- a list that is the image of another's beginning is so with one more item of each
+pub more-of-image : {X Y : Type 0} (f : X → Y) (xs : List X) (ys : List Y) (i : ℕ) (d : X) (y : Y) →
+    i < length xs → y ≡ f (get_or xs i d) → ys ≡ map f (take i xs) → ys ++ y ∷ [] ≡ map f (take (i + 1) xs)
+more-of-image f xs ys i d y less here before = rw (take_more xs i d less, map-append f (take i xs) (get_or xs i d ∷ []), before, here) refl
+
+-- a copy of a list's beginning with one more item
+pub copy-more : {X : Type 0} (xs ys : List X) (i : ℕ) (x y : X) → i < length ys → y ≡ get_or ys i y → x ≡ y → xs ≡ take i ys → xs ++ x ∷ [] ≡ take (i + 1) ys
+copy-more xs ys i x y less is here before = rw (take_more ys i y less, ← is, before, here) refl
+
 -- what each member of a mapped list has, each member has under the map
 pub all-from-map : {X Y : Type 0} (P : Y → Type 0) (f : X → Y) (xs : List X) → All P (map f xs) → All (λ x. P (f x)) xs
 all-from-map P f xs all k d less = subst P (get_or-map f xs k d (f d) less) (all k (f d) (rw length-map less))

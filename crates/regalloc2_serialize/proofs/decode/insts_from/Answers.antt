@@ -1,4 +1,5 @@
-use Rattle.std.proofs.Common.{rules, refl, ◌+◌, ◌≡◌, ◌∷◌, [], ◌++◌, subst, sym, map, take}
+use Rattle.std.proofs.Common.{rules, refl, ◌+◌, ◌≡◌, ◌∷◌, [], ◌++◌, subst, sym, map, take, arith}
+use Rattle.std.proofs.lemmas.List.{take_all}
 use Rattle.std.proofs.lemmas.List.{length-append}
 use Rattle.std.specs.List.{AllZip}
 use Rattle.regalloc2_serialize.specs.Validity.{NamesOperands}
@@ -20,3 +21,6 @@ loop-inst-preserved g c =
           c.loop-inst-test.true c.inst-item.is c.loop-inst.invariant.pairs c.in_ok-inst_from.ensures);
       count = rw (e, length-append, c.loop-inst.invariant.count) refl;
     }
+
+pub returns-clause-insts : goal.returns-clause-insts
+returns-clause-insts g c = rw (take_all c.loop-inst.inst-index c.args.stored.now (omega (arith, c.loop-inst-test.false))) at c.loop-inst.invariant.pairs

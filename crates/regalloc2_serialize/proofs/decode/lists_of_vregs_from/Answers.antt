@@ -20,3 +20,6 @@ loop-list-preserved g c =
     subst (λ zs. map (λ v. v.items) zs ≡ map (λ v. map vreg_of_bits v.items) (take (i + 1) all)) (sym e)
     (map-more (λ v. v.items) (λ v. map vreg_of_bits v.items) done all i one c.list-item.result c.loop-list-test.true c.list-item.is
     (c.in_ok-vregs_from.ensures ∙ ap (map vreg_of_bits) c.as_slice.ensures.value) c.loop-list.invariant)
+
+pub returns : goal.returns
+returns g c = rw (take_all c.loop-list.list-index c.args.lists.now (omega (arith, c.loop-list-test.false))) at c.loop-list.invariant

@@ -1,4 +1,5 @@
-use Rattle.std.proofs.Common.{rules, ◌≡◌, ◌∙◌, ◌∷◌, [], ◌++◌, ◌+◌, ap, sym, subst, take, map}
+use Rattle.std.proofs.Common.{rules, ◌≡◌, ◌∙◌, ◌∷◌, [], ◌++◌, ◌+◌, ap, sym, subst, take, map, arith}
+use Rattle.std.proofs.lemmas.List.{take_all}
 use Rattle.std.specs.Prelude.{All}
 use Rattle.std.proofs.lemmas.List.Elements.{All-push}
 use Rattle.regalloc2_names.specs.Packing.{IsVRegBits, vreg_of_bits}
@@ -21,3 +22,10 @@ loop-block-preserved g c =
       names = subst (λ zs. All (λ v. All (λ k. All IsVRegBits k.items) v.items) zs) (sym e)
           (All-push (λ v. All (λ k. All IsVRegBits k.items) v.items) done one c.loop-block.invariant.names c.in_ok-words_of_lists.ensures.names);
     }
+
+pub returns-clause-arguments : goal.returns-clause-arguments
+returns-clause-arguments g c =
+    rw (take_all c.loop-block.block-index c.args.blocks.now (omega (arith, c.loop-block-test.false))) at c.loop-block.invariant.same
+
+pub returns-clause-names : goal.returns-clause-names
+returns-clause-names g c = c.loop-block.invariant.names

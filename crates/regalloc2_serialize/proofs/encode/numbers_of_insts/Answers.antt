@@ -1,4 +1,5 @@
-use Rattle.std.proofs.Common.{rules, ◌≡◌, ◌∷◌, [], ◌++◌, ◌+◌, true, sym, subst, take, map}
+use Rattle.std.proofs.Common.{rules, ◌≡◌, ◌∷◌, [], ◌++◌, ◌+◌, sym, subst, take, map, arith}
+use Rattle.std.proofs.lemmas.List.{length-map, take_all}
 use Rattle.std.specs.List.{AllZip}
 use Rattle.std.specs.Prelude.{All}
 use Rattle.std.proofs.lemmas.List.Elements.{All-push}
@@ -20,3 +21,11 @@ loop-inst-preserved g c =
           (All-push (λ x. NamesOperands x) c.loop-inst.numbers.items c.in_ok-numbers_of_inst.field-0 c.loop-inst.invariant.names
           c.in_ok-numbers_of_inst.ensures.names);
     }
+
+pub returns-clause-insts : goal.returns-clause-insts
+returns-clause-insts g c =
+    rw (take_all c.loop-inst.inst-index (map inst_of_table c.args.insts.now) (rw length-map (omega (arith, c.loop-inst-test.false)))) at
+    c.loop-inst.invariant.same
+
+pub returns-clause-names : goal.returns-clause-names
+returns-clause-names g c = c.loop-inst.invariant.names

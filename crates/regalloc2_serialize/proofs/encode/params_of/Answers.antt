@@ -1,4 +1,5 @@
-use Rattle.std.proofs.Common.{rules, ◌≡◌, ◌∙◌, ◌∷◌, [], ◌++◌, ◌+◌, sym, subst, take, map}
+use Rattle.std.proofs.Common.{rules, ◌≡◌, ◌∙◌, ◌∷◌, [], ◌++◌, ◌+◌, sym, subst, take, map, arith}
+use Rattle.std.proofs.lemmas.List.{take_all}
 use Rattle.std.specs.Prelude.{All}
 use Rattle.std.proofs.lemmas.List.Elements.{All-push}
 use Rattle.regalloc2_names.specs.Packing.{IsVRegBits, vreg_of_bits}
@@ -20,3 +21,10 @@ loop-block-preserved g c =
       names = subst (λ zs. All (λ v. All IsVRegBits v.items) zs) (sym e)
           (All-push (λ v. All IsVRegBits v.items) done one c.loop-block.invariant.names c.in_ok-words_of_vregs.ensures.names);
     }
+
+pub returns-clause-params : goal.returns-clause-params
+returns-clause-params g c =
+    rw (take_all c.loop-block.block-index c.args.blocks.now (omega (arith, c.loop-block-test.false))) at c.loop-block.invariant.same
+
+pub returns-clause-names : goal.returns-clause-names
+returns-clause-names g c = c.loop-block.invariant.names

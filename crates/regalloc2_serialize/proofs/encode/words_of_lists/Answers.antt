@@ -1,4 +1,5 @@
-use Rattle.std.proofs.Common.{rules, ◌≡◌, ◌∙◌, ◌∷◌, [], ◌++◌, ◌+◌, sym, subst, take, map}
+use Rattle.std.proofs.Common.{rules, ◌≡◌, ◌∙◌, ◌∷◌, [], ◌++◌, ◌+◌, sym, subst, take, map, arith}
+use Rattle.std.proofs.lemmas.List.{take_all}
 use Rattle.std.specs.Prelude.{All}
 use Rattle.std.proofs.lemmas.List.Elements.{All-push}
 use Rattle.regalloc2_names.specs.Packing.{IsVRegBits, vreg_of_bits}
@@ -19,3 +20,10 @@ loop-list-preserved g c =
       names = subst (λ zs. All (λ v. All IsVRegBits v.items) zs) (sym e)
           (All-push (λ v. All IsVRegBits v.items) done one c.loop-list.invariant.names c.in_ok-words_of_vregs.ensures.names);
     }
+
+pub returns-clause-vregs : goal.returns-clause-vregs
+returns-clause-vregs g c =
+    rw (take_all c.loop-list.list-index c.args.lists.now (omega (arith, c.loop-list-test.false))) at c.loop-list.invariant.same
+
+pub returns-clause-names : goal.returns-clause-names
+returns-clause-names g c = c.loop-list.invariant.names

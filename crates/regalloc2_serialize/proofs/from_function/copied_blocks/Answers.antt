@@ -1,4 +1,4 @@
-use Rattle.std.proofs.Common.{rules, refl, ◌≡◌, ◌∙◌, ◌∷◌, [], ◌++◌, ◌+◌, ℕ, length, ap, sym, subst, map}
+use Rattle.std.proofs.Common.{rules, refl, ◌≡◌, ◌∙◌, ◌∷◌, [], ◌++◌, ◌+◌, ℕ, ◌<◌, length, ap, sym, subst, map}
 use Rattle.std.specs.List.{range_with_len}
 use Rattle.std.proofs.lemmas.List.{length-append}
 use Rattle.regalloc2_function.specs.FunctionValue.{FunctionValue, BlockValue, block_at, no_block}
@@ -25,3 +25,15 @@ returns-clause-blocks g c =
     let shown : ℕ → BlockValue = λ i. shown_block (block_at f i) in
     let n : c.loop-block.block ≡ length f.blocks = search rules in
     c.loop-block.invariant.blocks ∙ ap (λ k. map shown (range_with_len 0 k)) n ∙ all-numbers shown_block f.blocks no_block
+
+pub returns-clause-count : goal.returns-clause-count
+returns-clause-count g c =
+    let f : FunctionValue = g.F.Function.function c.args.f.now in
+    let n : c.loop-block.block ≡ length f.blocks = search rules in
+    c.loop-block.invariant.count ∙ n
+
+pub copied_block-requires-clause-nonempty : goal.copied_block-requires-clause-nonempty
+copied_block-requires-clause-nonempty g c =
+    let f : FunctionValue = g.F.Function.function c.args.f.now in
+    let less : c.loop-block.block < length f.blocks = search rules in
+    rw c.new.ensures (c.requires c.loop-block.block less).0

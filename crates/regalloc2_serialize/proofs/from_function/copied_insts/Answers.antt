@@ -25,3 +25,9 @@ returns-clause-insts g c =
     let shown : ℕ → InstValue = λ i. shown_inst (inst_at f i) in
     let n : c.loop-inst.inst ≡ length f.insts = search rules in
     c.loop-inst.invariant.insts ∙ ap (λ k. map shown (range_with_len 0 k)) n ∙ all-numbers shown_inst f.insts no_inst
+
+pub returns-clause-count : goal.returns-clause-count
+returns-clause-count g c =
+    let f : FunctionValue = g.F.Function.function c.args.f.now in
+    let n : c.loop-inst.inst ≡ length f.insts = search rules in
+    c.loop-inst.invariant.count ∙ n

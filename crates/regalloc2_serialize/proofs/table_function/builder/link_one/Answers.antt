@@ -1,4 +1,6 @@
-use Rattle.std.proofs.Common.{◌+◌, ◌<◌, length, map, take, ap, arith}
+use Rattle.std.proofs.Common.{◌+◌, ◌<◌, length, map, take, ap, sym, refl, arith}
+use Rattle.std.proofs.lemmas.List.{append-nil, take_all}
+use Rattle.std.proofs.lemmas.List.Elements.{All-nil}
 use Rattle.std.proofs.lemmas.Result.{err_from_is_err_and}
 use Rattle.regalloc2_serialize.specs.TableFunction.Table.{block_of_table}
 use Rattle.regalloc2_serialize.specs.TableFunction.Built.{edges_to}
@@ -36,4 +38,30 @@ loop-k-preserved g c =
       within = within_more succs (length c.args.blocks.now.items) c.loop-k.k c.index-to.result.now less is (omega (arith, next, long))
           c.loop-k.invariant.within;
       all = c.loop-k.invariant.all;
+    }
+
+pub returns-in_err-add_pred-clause-ok : goal.returns-in_err-add_pred-clause-ok
+returns-in_err-add_pred-clause-ok g c = rw (err_from_is_err_and c.from_residual.result c.from_residual.ensures.1).1 tt
+
+pub returns-in_err-add_pred-clause-within : goal.returns-in_err-add_pred-clause-within
+returns-in_err-add_pred-clause-within g c = rw (err_from_is_err_and c.from_residual.result c.from_residual.ensures.1).1 tt
+
+pub returns-clause-ok : goal.returns-clause-ok
+returns-clause-ok g c =
+    let succs = succs_at (map block_of_table c.args.blocks.now.items) c.args.pred in
+    rw (take_all c.loop-k.k succs (omega (arith, c.loop-k.invariant.all))) at c.loop-k.invariant.linked
+
+pub returns-clause-within : goal.returns-clause-within
+returns-clause-within g c =
+    let succs = succs_at (map block_of_table c.args.blocks.now.items) c.args.pred in
+    rw (take_all c.loop-k.k succs (omega (arith, c.loop-k.invariant.all))) at c.loop-k.invariant.within
+
+pub loop-k-init : goal.loop-k-init
+loop-k-init g c =
+    let here = succs_then c.args.blocks.now.items c.args.blocks.now.items c.args.pred c.index-2.result.now refl (omega arith)
+    (rw c.index.ensures at c.index-2.ensures) in
+    record {
+      linked = record { others = refl; preds = λ b l. sym (append-nil _) };
+      within = All-nil (λ s. s < length c.args.blocks.now.items);
+      all = omega (arith, ap length here, c.len-k-end.ensures, c.index-2.result.now.succs.ok.0);
     }
