@@ -11,4 +11,5 @@ pushed t n x old new lt so_far is at = is ∙ ap (λ xs. xs ++ x ∷ []) so_far 
 
 pub loop-number-preserved : goal.loop-number-preserved
 loop-number-preserved g c = pushed _ c.loop-number.number c.entry.result c.loop-number.ranges.items c.push.new.self.items
-    (omega (arith, spread_length c.args.slots.now c.args.entries.now, c.loop-number-test.true)) c.loop-number.invariant c.in_ok-push.ensures.items c.entry.ensures
+    (omega (arith, spread_length c.args.slots.now c.args.entries.now, c.loop-number-test.true)) c.loop-number.invariant
+    c.in_ok-push.ensures.items c.entry.ensures
