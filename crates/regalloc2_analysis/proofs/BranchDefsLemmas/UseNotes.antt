@@ -18,7 +18,7 @@ use Rattle.regalloc2_semantics.proofs.Order.{passed_made}
 use Rattle.regalloc2_shape.specs.TableLength.{HasRoom}
 use Rattle.regalloc2_shape.specs.MarkedNumbers.{Marks}
 use Rattle.regalloc2_analysis.specs.BranchDefs.BranchDefs.{DefinesNumber, IsSite, IsUsedElsewhere, MayHaveTables}
-use Rattle.regalloc2_analysis.specs.BranchDefs.Notes.{AreUsed, IsSiteAt, PassesAmong, PassesIn, PassesOut, ReadsIn}
+use Rattle.regalloc2_analysis.specs.BranchDefs.Notes.{AreUsed, IsSiteAt, PassesAmong, PassesIn, PassesOut, ReadsAmong, ReadsIn}
 use Rattle.regalloc2_analysis.specs.BranchDefs.Tables.{AreDefSites}
 use Rattle.regalloc2_analysis.specs.declared.branch_defs.DefSite.{DefSite}
 use Rattle.regalloc2_analysis.proofs.BranchDefsLemmas.BlockEnds.{goes_on_by_branch, site_defines}
@@ -71,6 +71,16 @@ blocks_more f sites b old mid new long a m =
     (λ n. (
       λ r. last_or_before (λ (x : ℕ). PassesOut f sites x (length (block_at f x).succs) n) b r,
       λ e. elim e [ inl p ↦ (let lt = p.1 in (p.0, omega (arith, lt), p.2)) | inr q ↦ (b, omega arith, q) ],
+    ))
+
+-- one instruction more
+pub insts_more : (f : FunctionValue) (i : ℕ) (old mid new : List Bool) → length mid ≡ length old → Marks (ReadsIn f i) old mid →
+    Marks (ReadsAmong (inst_at f i).operands (length (inst_at f i).operands)) mid new → Marks (ReadsIn f (i + 1)) old new
+insts_more f i old mid new long a m =
+    marks_then (ReadsIn f i) (ReadsAmong (inst_at f i).operands (length (inst_at f i).operands)) (ReadsIn f (i + 1)) old mid new long a m
+    (λ n. (
+      λ r. last_or_before (λ (x : ℕ). ReadsAmong (inst_at f x).operands (length (inst_at f x).operands) n) i r,
+      λ e. elim e [ inl p ↦ (let lt = p.1 in (p.0, omega (arith, lt), p.2)) | inr q ↦ (i, omega arith, q) ],
     ))
 
 -- by its position

@@ -1,4 +1,4 @@
-use Rattle.std.proofs.Common.{ℕ, ◌≡◌, ◌-◌, List, Bool, true, length, ap, ◌∙◌, subst, refl, arith}
+use Rattle.std.proofs.Common.{ℕ, ◌≡◌, ◌-◌, ◌<◌, List, Bool, true, length, ap, ◌∙◌, sym, subst, refl, arith}
 use Rattle.std.specs.Prelude.{◌↔◌}
 use Rattle.regalloc2_index.specs.Range.{Span}
 use Rattle.regalloc2_names.specs.Operand.{OperandValue}
@@ -9,7 +9,7 @@ use Rattle.regalloc2_function.specs.WellFormed.{last_of}
 use Rattle.regalloc2_analysis.specs.BranchDefs.BranchDefs.{EndsInDefinitions, IsHeld}
 use Rattle.regalloc2_analysis.specs.BranchDefs.Notes.{ListsStored}
 use Rattle.regalloc2_analysis_steps.specs.declared.edges.EdgeInto.{EdgeInto}
-use Rattle.regalloc2_analysis.proofs.BranchDefsLemmas.BlockEnds.{last_within}
+use Rattle.regalloc2_analysis.proofs.BranchDefsLemmas.BlockEnds.{last_within, within_function}
 use Rattle.regalloc2_analysis.proofs.BranchDefsLemmas.EdgeNotes.{IsFrom, edges_more, lists_stored}
 use Rattle.regalloc2_analysis.proofs.branch_defs.edges.note_edges_of.Goals as goal
 
@@ -47,3 +47,14 @@ returns g c =
     } in
     edges_more f b c.block_succs.result.now edge c.args.edges.now c.note_positions.new.edges old lists.added new c.block_succs.ensures
     c.note_positions.auto.edges lists.is from c.requires.so_far c.note_positions.ensures
+
+pub last-branch-requires : goal.last-branch-requires
+last-branch-requires g c =
+    let f : FunctionValue = g.F.Function.function c.args.f.now in
+    subst (λ (r : Span). r.first < r.end) (sym c.block_insns.ensures) (within_function f c.requires.well_formed c.args.from c.requires.block).0
+
+pub inst_operands-operands-requires : goal.inst_operands-operands-requires
+inst_operands-operands-requires g c =
+    let f : FunctionValue = g.F.Function.function c.args.f.now in
+    let last : c.last-branch.result ≡ last_of (block_at f c.args.from) = c.last-branch.ensures ∙ ap (λ (r : Span). r.end - 1) c.block_insns.ensures in
+    omega (arith, last, last_within f c.requires.well_formed c.args.from c.requires.block)

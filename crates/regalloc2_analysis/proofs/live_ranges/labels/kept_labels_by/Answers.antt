@@ -1,4 +1,4 @@
-use Rattle.std.proofs.Common.{ℕ, ◌≡◌, ◌<◌, List, length, ◌∙◌, [], sym, subst}
+use Rattle.std.proofs.Common.{ℕ, ◌≡◌, ◌<◌, List, length, ◌∙◌, [], sym, ap, subst, arith}
 use Rattle.std.specs.Prelude.{Option}
 use Rattle.regalloc2_function.specs.FunctionValue.{FunctionValue, Label, label_of}
 use Rattle.regalloc2_analysis.specs.declared.live_ranges.LiveRange.{LiveRange}
@@ -28,3 +28,32 @@ keep_labels-requires-clause-ranges g c =
     (subst (λ (ls : List Label). 0 < length ls) c.debug_value_labels.ensures
     (some_given c.debug_value_labels.result.now (sym c.is_empty.ensures ∙ c.if-is_empty.false))))
     c.requires.marked.marks c.in_ok-few.ensures.ok))
+
+pub few_ranges-requires-clause-ssa : goal.few_ranges-requires-clause-ssa
+few_ranges-requires-clause-ssa g c = c.requires.ssa
+
+pub few_ranges-requires-clause-named : goal.few_ranges-requires-clause-named
+few_ranges-requires-clause-named g c = c.requires.named
+
+pub keep_labels-requires-clause-ssa : goal.keep_labels-requires-clause-ssa
+keep_labels-requires-clause-ssa g c = c.requires.ssa
+
+pub returns-in_err-few-clause-none : goal.returns-in_err-few-clause-none
+returns-in_err-few-clause-none g c = λ empty.
+    let some : 0 < length (g.F.Function.function c.args.f.now).labels = subst (λ (ls : List Label). 0 < length ls) c.debug_value_labels.ensures
+    (some_given c.debug_value_labels.result.now (sym c.is_empty.ensures ∙ c.if-is_empty.false)) in
+    let no = ap (λ (ls : List Label). length ls) empty in
+    absurd (omega (arith, some, no))
+
+pub returns-clause-ok : goal.returns-clause-ok
+returns-clause-ok g c = c.keep_labels.ensures.ok
+
+pub returns-clause-err : goal.returns-clause-err
+returns-clause-err g c = c.keep_labels.ensures.err
+
+pub returns-clause-none : goal.returns-clause-none
+returns-clause-none g c = λ empty.
+    let some : 0 < length (g.F.Function.function c.args.f.now).labels = subst (λ (ls : List Label). 0 < length ls) c.debug_value_labels.ensures
+    (some_given c.debug_value_labels.result.now (sym c.is_empty.ensures ∙ c.if-is_empty.false)) in
+    let no = ap (λ (ls : List Label). length ls) empty in
+    absurd (omega (arith, some, no))

@@ -1,5 +1,10 @@
-use Rattle.std.proofs.Common.{List, ℕ, ◌≡◌, ◌∙◌, length, sym, ap, subst}
+use Rattle.std.proofs.Common.{List, Option, ℕ, ◌≡◌, ◌∙◌, length, sym, ap, subst, arith}
+use Rattle.std.proofs.lemmas.List.{with_items_is}
+use Rattle.regalloc2_function.specs.FunctionValue.{FunctionValue}
 use Rattle.regalloc2_shape.specs.TableLength.{HasRoom}
+use Rattle.regalloc2_analysis.specs.declared.live_ranges.LiveRange.{LiveRange}
+use Rattle.regalloc2_analysis.specs.LiveRanges.LiveRanges.{AreLiveRanges, IsWanted}
+use Rattle.regalloc2_analysis.specs.LiveRanges.Slots.{AreSlots, spread}
 use Rattle.regalloc2_analysis.proofs.live_ranges.walk.few_ranges.Goals as goal
 
 pub walk_blocks-requires-clause-room : goal.walk_blocks-requires-clause-room
@@ -7,3 +12,29 @@ walk_blocks-requires-clause-room g c =
     let long : length c.as_slice.result.now ≡ c.table_length.result = ap (λ (ss : List ℕ). length ss) c.as_slice.ensures.value
     ∙ c.in_ok-slots.ensures.len in
     subst (HasRoom (g.F.Function.function c.args.f.now)) (sym long) c.table_length.ensures.room
+
+pub slots_of-requires : goal.slots_of-requires
+slots_of-requires g c = let limit = (g.met.F.Function.limited c.args.f.now).vregs in omega (arith, limit, c.table_length.ensures.few)
+
+pub walk_blocks-requires-clause-ssa : goal.walk_blocks-requires-clause-ssa
+walk_blocks-requires-clause-ssa g c = c.requires.ssa
+
+pub walk_blocks-requires-clause-slots : goal.walk_blocks-requires-clause-slots
+walk_blocks-requires-clause-slots g c =
+    let long : length c.as_mut_slice.result.now ≡ c.in_ok-slots.count = omega (arith, c.as_mut_slice.ensures.len, c.in_ok-resize.ensures.len) in
+    subst (AreSlots c.args.wanted.now c.as_slice.result.now) (sym long)
+    (subst (λ (ss : List ℕ). AreSlots c.args.wanted.now ss c.in_ok-slots.count) (sym c.as_slice.ensures.value) c.in_ok-slots.ensures.slots)
+
+pub walk_blocks-requires-clause-named : goal.walk_blocks-requires-clause-named
+walk_blocks-requires-clause-named g c = c.requires.named
+
+pub returns-clause-ok : goal.returns-clause-ok
+returns-clause-ok g c =
+    let f : FunctionValue = g.F.Function.function c.args.f.now in
+    let W : ℕ → Type 0 = IsWanted c.args.wanted.now in
+    subst (λ (t : List (Option LiveRange)). AreLiveRanges f W (spread c.in_ok-slots.slots.items t))
+    (sym (with_items_is c.resize-2.new.self c.walk_blocks.new.ranges (c.walk_blocks.auto.ranges ∙ c.as_mut_slice-2.ensures.len)))
+    (subst (λ (ss : List ℕ). AreLiveRanges f W (spread ss c.walk_blocks.new.ranges)) c.as_slice.ensures.value c.walk_blocks.ensures)
+
+pub returns-clause-few : goal.returns-clause-few
+returns-clause-few g c = omega (arith, c.in_ok-slots.ensures.len, c.table_length.ensures.few)

@@ -1,10 +1,11 @@
 use Rattle.std.proofs.Common.{ℕ, ◌≡◌, ◌+◌, ◌-◌, ◌<◌, ◌∙◌, List, length, replicate, refl, sym, ap, subst, arith}
 use Rattle.std.specs.Prelude.{None, Option}
+use Rattle.std.proofs.lemmas.List.{length-replicate}
 use Rattle.regalloc2_function.specs.FunctionValue.{FunctionValue, block_at}
 use Rattle.regalloc2_analysis.specs.declared.live_ranges.LiveRange.{LiveRange}
 use Rattle.regalloc2_analysis.specs.declared.live_ranges.ends.RangeEnd.{RangeEnd}
 use Rattle.regalloc2_analysis.specs.LiveRanges.LiveRanges.{IsWanted}
-use Rattle.regalloc2_analysis.specs.LiveRanges.Slots.{spread}
+use Rattle.regalloc2_analysis.specs.LiveRanges.Slots.{AreSlots, spread}
 use Rattle.regalloc2_analysis.specs.LiveRanges.WalkInvariant.{AreNamers, AreRangesWalked, begin_of}
 use Rattle.regalloc2_analysis.proofs.LiveRangesLemmas.LiveRangeTable.{begins_at, begins_next, begins_past, walked_all, walked_block, walked_none}
 use Rattle.regalloc2_analysis.proofs.LiveRangesLemmas.Spread.{spread_length}
@@ -84,3 +85,39 @@ returns g c =
     c.loop-b.invariant.walked in
     walked_all f c.requires.ssa W (spread slots c.loop-b.ends) (spread slots c.loop-b.ranges)
     (subst (λ (n : ℕ). AreRangesWalked f W n 0 (spread slots c.loop-b.ends) (spread slots c.loop-b.ranges)) first all)
+
+pub walk_insts-many-requires-clause-ssa : goal.walk_insts-many-requires-clause-ssa
+walk_insts-many-requires-clause-ssa g c = c.requires.ssa
+
+pub walk_insts-many-requires-clause-block : goal.walk_insts-many-requires-clause-block
+walk_insts-many-requires-clause-block g c = omega (arith, c.new-block.ensures, c.loop-b-test.true, c.loop-b.invariant.within)
+
+pub walk_insts-many-requires-clause-ends_slots : goal.walk_insts-many-requires-clause-ends_slots
+walk_insts-many-requires-clause-ends_slots g c = subst (AreSlots c.args.wanted.now c.args.slots.now) (sym c.loop-b.auto.ends) c.requires.slots
+
+pub walk_insts-many-requires-clause-ranges_slots : goal.walk_insts-many-requires-clause-ranges_slots
+walk_insts-many-requires-clause-ranges_slots g c =
+    let same : length c.loop-b.ranges ≡ length c.args.ends.now = c.loop-b.auto.ranges ∙ ap (λ (t : List (Option LiveRange)). length t) c.requires.no_ranges
+    ∙ length-replicate (length c.args.ends.now) None in
+    subst (AreSlots c.args.wanted.now c.args.slots.now) (sym same) c.requires.slots
+
+pub begin_at_params-requires-clause-ssa : goal.begin_at_params-requires-clause-ssa
+begin_at_params-requires-clause-ssa g c = c.requires.ssa
+
+pub begin_at_params-requires-clause-block : goal.begin_at_params-requires-clause-block
+begin_at_params-requires-clause-block g c = omega (arith, c.new-block.ensures, c.loop-b-test.true, c.loop-b.invariant.within)
+
+pub begin_at_params-requires-clause-room : goal.begin_at_params-requires-clause-room
+begin_at_params-requires-clause-room g c = c.requires.room
+
+pub begin_at_params-requires-clause-ends : goal.begin_at_params-requires-clause-ends
+begin_at_params-requires-clause-ends g c = c.walk_insts-many.ensures.walked.noted
+
+pub begin_at_params-requires-clause-slots : goal.begin_at_params-requires-clause-slots
+begin_at_params-requires-clause-slots g c =
+    let same : length c.walk_insts-many.new.ranges ≡ length c.args.ends.now = c.walk_insts-many.auto.ranges ∙ c.loop-b.auto.ranges
+    ∙ ap (λ (t : List (Option LiveRange)). length t) c.requires.no_ranges ∙ length-replicate (length c.args.ends.now) None in
+    subst (AreSlots c.args.wanted.now c.args.slots.now) (sym same) c.requires.slots
+
+pub begin_at_params-requires-clause-right : goal.begin_at_params-requires-clause-right
+begin_at_params-requires-clause-right g c = c.walk_insts-many.ensures.walked.right

@@ -1,12 +1,128 @@
-use Rattle.std.proofs.Common.{ℕ, ◌≡◌, ◌+◌, ◌-◌, inl, inr, List, slice_index_or, sym, subst, arith}
+use Rattle.std.proofs.Common.{ℕ, ◌≡◌, ◌+◌, ◌-◌, ◌<◌, ◌∙◌, inl, inr, List, slice_index_or, sym, ap, subst, arith}
 use Rattle.std.proofs.lemmas.Bool.{cases_lt}
 use Rattle.regalloc2_index.proofs.Bools.{not_both}
+use Rattle.regalloc2_index.specs.Range.{Span}
 use Rattle.regalloc2_function.specs.FunctionValue.{FunctionValue, block_at}
+use Rattle.regalloc2_semantics.proofs.Order.{ends_within}
 use Rattle.regalloc2_analysis.specs.LiveRanges.LiveRanges.{IsWanted}
-use Rattle.regalloc2_analysis.specs.LiveRanges.Slots.{spread}
-use Rattle.regalloc2_analysis.specs.LiveRanges.WalkInvariant.{AreNamers}
+use Rattle.regalloc2_analysis.specs.LiveRanges.Slots.{AreSlots, spread}
+use Rattle.regalloc2_analysis.specs.LiveRanges.WalkInvariant.{AreNamers, AreRangesWalked}
 use Rattle.regalloc2_analysis.proofs.LiveRangesLemmas.Named.{named_fewer, named_to, walked_to}
 use Rattle.regalloc2_analysis.proofs.live_ranges.walk.walk_insts.Goals as goal
+
+pub block_insns-range-requires : goal.block_insns-range-requires
+block_insns-range-requires g c = c.requires.block
+
+pub first-first-requires : goal.first-first-requires
+first-first-requires g c =
+    let some = (c.requires.ssa.follow c.args.block c.requires.block).0 in
+    subst (λ (r : Span). r.first < r.end) (sym c.block_insns-range.ensures) some
+
+pub overflow_sub-index : goal.overflow_sub-index
+overflow_sub-index g c =
+    let some = (c.requires.ssa.follow c.args.block c.requires.block).0 in
+    let end = c.index.ensures ∙ c.end.ensures ∙ ap (λ (r : Span). r.end) c.block_insns-range.ensures in
+    omega (arith, some, end)
+
+pub new-last-requires : goal.new-last-requires
+new-last-requires g c =
+    let within = ends_within (g.F.Function.function c.args.f.now) c.requires.ssa.follow c.args.block c.requires.block in
+    let limit = (g.met.F.Function.limited c.args.f.now).insts in
+    let end = c.index.ensures ∙ c.end.ensures ∙ ap (λ (r : Span). r.end) c.block_insns-range.ensures in
+    omega (arith, within, limit, end)
+
+pub walk_last-left-requires-clause-last : goal.walk_last-left-requires-clause-last
+walk_last-left-requires-clause-last g c =
+    let some = (c.requires.ssa.follow c.args.block c.requires.block).0 in
+    let end = c.index.ensures ∙ c.end.ensures ∙ ap (λ (r : Span). r.end) c.block_insns-range.ensures in
+    omega (arith, some, end, c.new-last.ensures)
+
+pub walk_last-left-requires-clause-ssa : goal.walk_last-left-requires-clause-ssa
+walk_last-left-requires-clause-ssa g c = c.requires.ssa
+
+pub walk_last-left-requires-clause-block : goal.walk_last-left-requires-clause-block
+walk_last-left-requires-clause-block g c = c.requires.block
+
+pub walk_last-left-requires-clause-ends_slots : goal.walk_last-left-requires-clause-ends_slots
+walk_last-left-requires-clause-ends_slots g c = c.requires.ends_slots
+
+pub walk_last-left-requires-clause-ranges_slots : goal.walk_last-left-requires-clause-ranges_slots
+walk_last-left-requires-clause-ranges_slots g c = c.requires.ranges_slots
+
+pub walk_last-left-requires-clause-named : goal.walk_last-left-requires-clause-named
+walk_last-left-requires-clause-named g c =
+    let f : FunctionValue = g.F.Function.function c.args.f.now in
+    let some = (c.requires.ssa.follow c.args.block c.requires.block).0 in
+    let end = c.index.ensures ∙ c.end.ensures ∙ ap (λ (r : Span). r.end) c.block_insns-range.ensures in
+    let last : (block_at f c.args.block).range.end ≡ c.new-last.result + 1 = omega (arith, some, end, c.new-last.ensures) in
+    subst (AreNamers f (IsWanted c.args.wanted.now) c.args.named.now c.args.many) last c.requires.named
+
+pub walk_last-left-requires-clause-walked : goal.walk_last-left-requires-clause-walked
+walk_last-left-requires-clause-walked g c =
+    let f : FunctionValue = g.F.Function.function c.args.f.now in
+    let slots : List ℕ = c.args.slots.now in
+    let some = (c.requires.ssa.follow c.args.block c.requires.block).0 in
+    let end = c.index.ensures ∙ c.end.ensures ∙ ap (λ (r : Span). r.end) c.block_insns-range.ensures in
+    let last : (block_at f c.args.block).range.end ≡ c.new-last.result + 1 = omega (arith, some, end, c.new-last.ensures) in
+    subst (λ (n : ℕ). AreRangesWalked f (IsWanted c.args.wanted.now) n (c.args.block + 1) (spread slots c.args.ends.now) (spread slots c.args.ranges.now)) last
+    c.requires.walked
+
+pub loop-block-init : goal.loop-block-init
+loop-block-init g c =
+    let some = (c.requires.ssa.follow c.args.block c.requires.block).0 in
+    let end = c.index.ensures ∙ c.end.ensures ∙ ap (λ (r : Span). r.end) c.block_insns-range.ensures in
+    let first = c.first-first.ensures ∙ ap (λ (r : Span). r.first) c.block_insns-range.ensures in
+    record {
+      first = first;
+      walked = (
+        c.new-last.result,
+        omega (arith, some, first, end, c.new-last.ensures),
+        omega (arith, some, end, c.new-last.ensures),
+        c.walk_last-left.ensures.named,
+        c.walk_last-left.ensures.walked,
+      );
+    }
+
+pub is_left-requires : goal.is_left-requires
+is_left-requires g c = c.loop-block.invariant.walked.3.within
+
+pub overflow_sub-left : goal.overflow_sub-left
+overflow_sub-left g c = let some = (c.is_left.ensures.0 c.loop-block-test.true).0 in omega (arith, some)
+
+pub bounds-named-left : goal.bounds-named-left
+bounds-named-left g c =
+    let some = (c.is_left.ensures.0 c.loop-block-test.true).0 in
+    omega (arith, some, c.loop-block.invariant.walked.3.within)
+
+pub loop-block-smaller : goal.loop-block-smaller
+loop-block-smaller g c = let some = (c.is_left.ensures.0 c.loop-block-test.true).0 in omega (arith, some)
+
+pub walk_inst-requires-clause-ssa : goal.walk_inst-requires-clause-ssa
+walk_inst-requires-clause-ssa g c = c.requires.ssa
+
+pub walk_inst-requires-clause-block : goal.walk_inst-requires-clause-block
+walk_inst-requires-clause-block g c = c.requires.block
+
+pub walk_inst-requires-clause-first : goal.walk_inst-requires-clause-first
+walk_inst-requires-clause-first g c =
+    let from = (c.is_left.ensures.0 c.loop-block-test.true).1 in
+    omega (arith, from, c.new-inst.ensures, c.loop-block.invariant.first)
+
+pub walk_inst-requires-clause-end : goal.walk_inst-requires-clause-end
+walk_inst-requires-clause-end g c =
+    let some = (c.is_left.ensures.0 c.loop-block-test.true).0 in
+    let state = c.loop-block.invariant.walked in
+    let upto = state.2 in
+    let below = state.3.below (c.loop-block.left - 1) (omega (arith, some)) in
+    omega (arith, below, upto, c.new-inst.ensures)
+
+pub walk_inst-requires-clause-ends_slots : goal.walk_inst-requires-clause-ends_slots
+walk_inst-requires-clause-ends_slots g c =
+    subst (AreSlots c.args.wanted.now c.args.slots.now) (sym (c.loop-block.auto.ends ∙ c.walk_last-left.auto.ends)) c.requires.ends_slots
+
+pub walk_inst-requires-clause-ranges_slots : goal.walk_inst-requires-clause-ranges_slots
+walk_inst-requires-clause-ranges_slots g c =
+    subst (AreSlots c.args.wanted.now c.args.slots.now) (sym (c.loop-block.auto.ranges ∙ c.walk_last-left.auto.ranges)) c.requires.ranges_slots
 
 -- the walk goes on at the last one that is left
 pub walk_inst-requires-clause-walked : goal.walk_inst-requires-clause-walked

@@ -1,0 +1,23 @@
+use Rattle.std.proofs.Common.{◌≡◌, ◌<◌, ◌-◌, ◌∙◌, ap, sym, subst, arith}
+use Rattle.regalloc2_index.specs.Range.{Span}
+use Rattle.regalloc2_function.specs.FunctionValue.{FunctionValue, block_at}
+use Rattle.regalloc2_function.specs.WellFormed.{last_of}
+use Rattle.regalloc2_analysis.proofs.BranchDefsLemmas.BlockEnds.{last_within, within_function}
+use Rattle.regalloc2_analysis.proofs.branch_defs.edges.ends_in_definitions.Goals as goal
+
+pub last-last-requires : goal.last-last-requires
+last-last-requires g c =
+    let f : FunctionValue = g.F.Function.function c.args.f.now in
+    subst (λ (r : Span). r.first < r.end) (sym c.block_insns.ensures) (within_function f c.requires.well_formed c.args.block c.requires.block).0
+
+pub is_branch-requires : goal.is_branch-requires
+is_branch-requires g c =
+    let f : FunctionValue = g.F.Function.function c.args.f.now in
+    let last : c.last-last.result ≡ last_of (block_at f c.args.block) = c.last-last.ensures ∙ ap (λ (r : Span). r.end - 1) c.block_insns.ensures in
+    omega (arith, last, last_within f c.requires.well_formed c.args.block c.requires.block)
+
+pub inst_operands-requires : goal.inst_operands-requires
+inst_operands-requires g c =
+    let f : FunctionValue = g.F.Function.function c.args.f.now in
+    let last : c.last-last.result ≡ last_of (block_at f c.args.block) = c.last-last.ensures ∙ ap (λ (r : Span). r.end - 1) c.block_insns.ensures in
+    omega (arith, last, last_within f c.requires.well_formed c.args.block c.requires.block)
