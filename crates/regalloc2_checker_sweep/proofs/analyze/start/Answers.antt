@@ -1,4 +1,4 @@
-use Rattle.std.proofs.Common.{◌≡◌, ◌<◌, ℕ, List, Bool, [], length, refl}
+use Rattle.std.proofs.Common.{◌<◌, ℕ, List, Bool, [], length, refl}
 use Rattle.std.specs.BinaryHeap.{heap_items}
 use Rattle.std.specs.declared.cmp.Reverse.{Reverse}
 use Rattle.regalloc2_function.specs.FunctionValue.{FunctionValue}
