@@ -62,31 +62,20 @@ fn words_with(alloc: Global, at: usize, word: u32) -> Result<Vec<u32>, AllocErro
     Ok(words)
 }
 
-/// Writes what is read of words.
-fn write_read(alloc: Global, words: &[u32], out: &mut Report) {
-    match FlatFunction::read(alloc, words) {
+/// Writes what is read of words, and why changed ones are refused.
+pub fn write_all(alloc: Global, out: &mut Report) -> Result<(), AllocError> {
+    let words = words_with(alloc, 0, 2)?;
+    match FlatFunction::read(alloc, &words) {
         Ok(f) => {
             out.row("machine", f.machine_env());
             write_function(&f, out);
         }
         Err(fault) => out.row("refused", &fault),
     }
-}
-
-/// Writes why words with one replaced are refused.
-fn write_changed(alloc: Global, out: &mut Report) -> Result<(), AllocError> {
     for (name, at, word) in &CHANGES {
         let changed = words_with(alloc, *at, *word)?;
         write_fault(alloc, name, &changed, out);
     }
-    Ok(())
-}
-
-/// Writes what is read of words, and why changed ones are refused.
-pub fn write_all(alloc: Global, out: &mut Report) -> Result<(), AllocError> {
-    let words = words_with(alloc, 0, 2)?;
-    write_read(alloc, &words, out);
-    write_changed(alloc, out)?;
     if let Some((_, less)) = words.as_slice().split_last() {
         write_fault(alloc, "one word less", less, out);
     }
@@ -112,31 +101,21 @@ fn write_refusals(alloc: Global, words: &[u32], out: &mut Report) {
     }
 }
 
-/// Writes what the calls give of each block.
-fn write_blocks<F: Function>(f: &F, out: &mut Report) {
+/// Writes what all calls give.
+pub fn write_function<F: Function>(f: &F, out: &mut Report) {
+    out.row("counts", &(f.num_insts(), f.num_blocks(), f.num_vregs()));
+    out.row("entry", &f.entry_block());
     for b in 0..f.num_blocks() {
         let block = Block::new(b);
         out.row("block", &(f.block_insns(block), f.block_preds(block)));
         out.row("succs", &(f.block_succs(block), f.block_params(block)));
     }
-}
-
-/// Writes what the calls give of each instruction.
-fn write_insts<F: Function>(f: &F, out: &mut Report) {
     for i in 0..f.num_insts() {
         let inst = Inst::new(i);
         out.row("inst", &(f.is_ret(inst), f.is_branch(inst)));
         out.row("operands", &f.inst_operands(inst));
         out.row("clobbers", &f.inst_clobbers(inst));
     }
-}
-
-/// Writes what all calls give.
-pub fn write_function<F: Function>(f: &F, out: &mut Report) {
-    out.row("counts", &(f.num_insts(), f.num_blocks(), f.num_vregs()));
-    out.row("entry", &f.entry_block());
-    write_blocks(f, out);
-    write_insts(f, out);
     out.row("labels", &f.debug_value_labels());
     let (int, float) = (
         f.spillslot_size(RegClass::Int),

@@ -1,7 +1,5 @@
 //! Sets of registers, and sparse sets of numbers.
 
-ghost use Rattle.std.specs.Prelude.{◌≤◌};
-
 use crate::report::Report;
 use regalloc2_names::{PReg, PRegSet, RegClass};
 use regalloc2_shape::indexset::{IndexSet, SetBitsIter};
@@ -107,60 +105,24 @@ pub fn count_and_sum<A: Allocator + Copy>(set: &IndexSet<A>) -> (usize, usize) {
     (count, sum)
 }
 
-/// Adds the first number of each of so many words.
-fn fill_words<A: Allocator + Copy>(set: &mut IndexSet<A>, count: usize) -> Result<(), AllocError>
-    requires { count ≤ 1000 }
-{
-    for word in 0..count {
-        set.set(64 * word, true)?;
-    }
-    Ok(())
-}
-
-/// Fills twelve words, one of them after another was emptied.
-fn fill_twelve(set: &mut IndexSet<&Refusing<Global>>) -> Result<(), AllocError> {
-    fill_words(set, 12)?;
-    set.set(64 * 5, false)?;
-    set.set(64 * 100, true)
-}
-
-/// Writes a set of twelve words to which a thirteenth is added, twice.
-fn write_thirteenth(
-    set: &mut IndexSet<&Refusing<Global>>,
-    out: &mut Report,
-) -> Result<(), AllocError> {
-    let is_refused = set.set(64 * 200, true).is_err();
-    out.row("the thirteenth refused", &(is_refused, count_and_sum(set)));
-    set.set(64 * 200, true)?;
-    out.row("thirteen", &(count_and_sum(set), set.get(64 * 200)));
-    Ok(())
-}
-
 /// Writes a set that stays within its twelve words, where the first allocation fails, and then goes
 /// past them.
 fn write_inline(global: Global, out: &mut Report) -> Result<(), AllocError> {
     let alloc = Refusing::new(global, 1);
     let mut set = IndexSet::new(&alloc);
-    fill_twelve(&mut set)?;
+    for word in 0..12usize {
+        set.set(64 * word, true)?;
+    }
+    set.set(64 * 5, false)?;
+    set.set(64 * 100, true)?;
     let row = (count_and_sum(&set), alloc.has_refused());
     out.row("twelve words", &row);
-    write_thirteenth(&mut set, out)
-}
-
-/// Whether an allocation fails as a set is assigned to one of one member, or added to it; then what is left.
-fn left<'a>(
-    other: &IndexSet<&'a Refusing<Global>>,
-    short: &'a Refusing<Global>,
-    assigns: bool,
-) -> Result<(bool, (usize, usize)), AllocError> {
-    let mut set = IndexSet::new(short);
-    set.set(7, true)?;
-    let is_refused = if assigns {
-        set.assign(other).is_err()
-    } else {
-        set.union_with(other).is_err()
-    };
-    Ok((is_refused, count_and_sum(&set)))
+    let is_refused = set.set(64 * 200, true).is_err();
+    let row = (is_refused, count_and_sum(&set));
+    out.row("the thirteenth refused", &row);
+    set.set(64 * 200, true)?;
+    out.row("thirteen", &(count_and_sum(&set), set.get(64 * 200)));
+    Ok(())
 }
 
 /// Writes what is left of a set of one member, to which a set of 40 words is assigned or added, if
@@ -172,35 +134,32 @@ fn write_left<'a>(
     assigns: bool,
 ) -> Result<(), AllocError> {
     let mut other = IndexSet::new(ample);
-    fill_words(&mut other, 40)?;
-    out.row("left", &left(&other, short, assigns)?);
-    Ok(())
-}
-
-/// Adds the first multiples of 17.
-fn fill_multiples(set: &mut IndexSet) -> Result<(), AllocError> {
-    for multiple in 0..61usize {
-        set.set(17 * multiple, true)?;
+    for word in 0..40usize {
+        other.set(64 * word, true)?;
     }
-    Ok(())
-}
-
-/// Writes a set of one member to which another one is added twice.
-fn write_added(alloc: Global, set: &IndexSet, out: &mut Report) -> Result<(), AllocError> {
-    let mut small = IndexSet::new(alloc);
-    small.set(17, true)?;
-    let added = (small.union_with(set).ok(), small.union_with(set).ok());
-    out.row("added", &(added, count_and_sum(&small)));
+    let mut set = IndexSet::new(short);
+    set.set(7, true)?;
+    let is_refused = if assigns {
+        set.assign(&other).is_err()
+    } else {
+        set.union_with(&other).is_err()
+    };
+    out.row("left", &(is_refused, count_and_sum(&set)));
     Ok(())
 }
 
 /// Writes the multiples of 17, a union, and the bits of a word.
 fn write_members(alloc: Global, out: &mut Report) -> Result<(), AllocError> {
     let mut set = IndexSet::new(alloc);
-    fill_multiples(&mut set)?;
+    for multiple in 0..61usize {
+        set.set(17 * multiple, true)?;
+    }
     let row = (count_and_sum(&set), set.get(17), set.get(18));
     out.row("multiples of 17", &row);
-    write_added(alloc, &set, out)?;
+    let mut small = IndexSet::new(alloc);
+    small.set(17, true)?;
+    let added = (small.union_with(&set).ok(), small.union_with(&set).ok());
+    out.row("added", &(added, count_and_sum(&small)));
     for bit in SetBitsIter::new(1 << 63 | 0b101) {
         out.row("bit", &bit);
     }

@@ -57,38 +57,15 @@ fn make_parts(global: Global, alloc: &Refusing<Global>) -> Result<(), RegAllocEr
     resolve_cycle(global, alloc)
 }
 
-/// Fills a set past its twelve words.
-fn fill(set: &mut IndexSet<&Refusing<Global>>) -> Result<(), AllocError> {
-    for word in 0..40usize {
-        set.set(64 * word, true)?;
-    }
-    Ok(())
-}
-
-/// Assigns a set.
-fn assign<'a>(
-    alloc: &'a Refusing<Global>,
-    set: &IndexSet<&'a Refusing<Global>>,
-) -> Result<(), AllocError> {
-    let mut assigned = IndexSet::new(alloc);
-    assigned.assign(set)
-}
-
-/// Adds a set to another one, and returns whether that changes it.
-fn add<'a>(
-    alloc: &'a Refusing<Global>,
-    set: &IndexSet<&'a Refusing<Global>>,
-) -> Result<bool, AllocError> {
-    let mut added = IndexSet::new(alloc);
-    added.union_with(set)
-}
-
 /// Fills a set past its twelve words, assigns it and adds it to another one.
 fn make_sets(alloc: &Refusing<Global>) -> Result<(), RegAllocError> {
     let mut set = IndexSet::new(alloc);
-    fill(&mut set)?;
-    assign(alloc, &set)?;
-    add(alloc, &set)?;
+    for word in 0..40usize {
+        set.set(64 * word, true)?;
+    }
+    let (mut assigned, mut added) = (IndexSet::new(alloc), IndexSet::new(alloc));
+    assigned.assign(&set)?;
+    added.union_with(&set)?;
     Ok(())
 }
 
