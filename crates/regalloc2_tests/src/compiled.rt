@@ -99,6 +99,40 @@ const HIGH: u64 = 1 << 32;
 /// -2^31 modulo 2^32.
 const HALF_LEAST: u64 = 1 << 31;
 
+/// The text of a function that has this line and then those lines.
+fn run_text(alloc: Global, line: &str, rest: &str) -> Option<String> {
+    let mut text = String::new(alloc);
+    let written = write!(
+        text,
+        "memory 16\nblock0:\n  v0 = argument 0\n  v1 = argument 1\n  {line}\n{rest}  return v2\n"
+    );
+    if written.is_ok() { Some(text) } else { None }
+}
+
+/// The task to run a function.
+fn run_task(alloc: Global, argument: u64, other: u64) -> Option<Task<'static>> {
+    let arguments = [argument, other].to_vec(alloc).ok()?;
+    let options = RunOptions {
+        arguments,
+        room: ROOM,
+        shows_memory: false,
+    };
+    Some(Task::Read("text", Action::Run(options)))
+}
+
+/// The status of a run of a function, which has this line and then those lines. What it returns is written to a list.
+fn ran(
+    alloc: Global,
+    (line, left, right): (&str, u64, u64),
+    rest: &str,
+    out: &mut Vec<u8>,
+) -> Option<u8> {
+    let text = run_text(alloc, line, rest)?;
+    let task = run_task(alloc, left, right)?;
+    let mut err = Vec::new(alloc);
+    Some(answer(alloc, &task, text.as_bytes(), out, &mut err))
+}
+
 /// Writes what a function returns that has this line and then those lines, and what its code does.
 fn show_run<W: Write>(
     alloc: Global,
@@ -106,31 +140,28 @@ fn show_run<W: Write>(
     rest: &str,
     to: &mut W,
 ) -> io::Result<()> {
-    let mut text = String::new(alloc);
-    let written = write!(
-        text,
-        "memory 16\nblock0:\n  v0 = argument 0\n  v1 = argument 1\n  {line}\n{rest}  return v2\n"
-    );
-    if written.is_err() {
+    let mut out = Vec::new(alloc);
+    let Some(status) = ran(alloc, (line, left, right), rest, &mut out) else {
         return Ok(());
-    }
-    let mut arguments = Vec::new(alloc);
-    if arguments.push(left).is_err() || arguments.push(right).is_err() {
-        return Ok(());
-    }
-    let options = RunOptions {
-        arguments,
-        room: ROOM,
-        shows_memory: false,
     };
-    let task = Task::Read("text", Action::Run(options));
-    let (mut out, mut err) = (Vec::new(alloc), Vec::new(alloc));
-    let status = answer(alloc, &task, text.as_bytes(), &mut out, &mut err);
     let told = str::from_utf8(&out).unwrap_or("no text");
     writeln!(
         to,
         "{line}, of {left} and {right}: status {status}, {told:?}"
     )
+}
+
+/// Writes what the functions return that are run.
+fn show_runs<W: Write>(
+    alloc: Global,
+    runs: &[(&str, u64, u64)],
+    rest: &str,
+    to: &mut W,
+) -> io::Result<()> {
+    for run in runs {
+        show_run(alloc, *run, rest, to)?;
+    }
+    Ok(())
 }
 
 /// Writes what is returned for each of the texts, when assembly is requested, and what the
@@ -139,11 +170,6 @@ pub fn show_all<W: Write>(alloc: Global, to: &mut W) -> io::Result<()> {
     for text in &TEXTS {
         show(alloc, *text, to)?;
     }
-    for run in &RUNS {
-        show_run(alloc, *run, "", to)?;
-    }
-    for run in &STORES {
-        show_run(alloc, *run, READ_AT_TWO, to)?;
-    }
-    Ok(())
+    show_runs(alloc, &RUNS, "", to)?;
+    show_runs(alloc, &STORES, READ_AT_TWO, to)
 }

@@ -43,23 +43,48 @@ fn show<W: Write>(alloc: Global, words: &str, text: &str, out: &mut W) -> io::Re
     }
 }
 
+/// The last whole text up to a line.
+fn whole_after<'a>(line: &'a str, before: &'a str) -> &'a str {
+    match line.split_once(' ') {
+        Some((words, text)) if words != "#" && !text.starts_with('~') => text,
+        _ => before,
+    }
+}
+
+/// Writes a title, or the result for a line's text.
+fn show_line<W: Write>(alloc: Global, whole: &str, line: &str, out: &mut W) -> io::Result<()> {
+    let Some((words, text)) = line.split_once(' ') else {
+        return Ok(());
+    };
+    if words == "#" {
+        return writeln!(out, "{line}");
+    }
+    show(alloc, words, &text_of(alloc, whole, text)?, out)
+}
+
 /// Writes the result for each line's text.
 fn show_all<W: Write>(alloc: Global, lines: &str, out: &mut W) -> io::Result<()> {
     let mut whole = "";
     for line in lines.lines() {
-        let Some((words, text)) = line.split_once(' ') else {
-            continue;
-        };
-        if words == "#" {
-            writeln!(out, "{line}")?;
-            continue;
-        }
-        if !text.starts_with('~') {
-            whole = text;
-        }
-        show(alloc, words, &text_of(alloc, whole, text)?, out)?;
+        whole = whole_after(line, whole);
+        show_line(alloc, whole, line, out)?;
     }
     Ok(())
+}
+
+/// A part that is repeated, between two other texts.
+fn large_text(
+    alloc: Global,
+    part: &str,
+    count: u32,
+    around: (&str, &str),
+) -> Result<String, AllocError> {
+    let mut text = String::from_str(alloc, around.0)?;
+    for _ in 0..count {
+        text.push_str(part)?;
+    }
+    text.push_str(around.1)?;
+    Ok(text)
 }
 
 /// Writes the result for a text with a part that is repeated, between two others.
@@ -70,38 +95,34 @@ fn show_large<W: Write>(
     around: (&str, &str),
     out: &mut W,
 ) -> io::Result<()> {
-    let mut text = String::from_str(alloc, around.0)?;
-    for _ in 0..count {
-        text.push_str(part)?;
-    }
-    text.push_str(around.1)?;
     writeln!(out, "# {count} times {part}")?;
-    show(alloc, "run", &text, out)
+    show(alloc, "run", &large_text(alloc, part, count, around)?, out)
+}
+
+/// Writes the result for a function behind a member that isn't read, which ends in these bytes.
+fn show_behind<W: Write>(
+    alloc: Global,
+    part: &str,
+    count: u32,
+    around: (&str, &str),
+    members: &str,
+    out: &mut W,
+) -> io::Result<()> {
+    let after = format!(in alloc; "{},{members}", around.1)?;
+    show_large(alloc, part, count, (around.0, &after), out)
 }
 
 /// Writes the results for texts that are deep or large. The last three have a function, in two of
 /// them behind a member that isn't read.
 fn show_all_large<W: Write>(alloc: Global, function: &str, out: &mut W) -> io::Result<()> {
     let members = function.strip_prefix('{').unwrap_or("");
-    let after_list = format!(in alloc; "0],{members}")?;
-    let after_word = format!(in alloc; "\",{members}")?;
+    let list = ("{\"a\":[", "0]");
+    let word = ("{\"a\":\"", "\"");
     show_large(alloc, "[", 100_000, ("", ""), out)?;
     show_large(alloc, "{\"a\":", 100_000, ("", ""), out)?;
     show_large(alloc, "          ", 3_000_000, ("", function), out)?;
-    show_large(
-        alloc,
-        "0,0,0,0,0,",
-        1_000_000,
-        ("{\"a\":[", &after_list),
-        out,
-    )?;
-    show_large(
-        alloc,
-        "aaaaaaaaaa",
-        3_000_000,
-        ("{\"a\":\"", &after_word),
-        out,
-    )
+    show_behind(alloc, "0,0,0,0,0,", 1_000_000, list, members, out)?;
+    show_behind(alloc, "aaaaaaaaaa", 3_000_000, word, members, out)
 }
 
 /// How many results had each status, and how many broke a rule or had no memory.

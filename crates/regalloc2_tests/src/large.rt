@@ -8,13 +8,23 @@ use regalloc2_serialize::table_function::{BuildError, TableBuilder, TableFunctio
 use std::alloc::Global;
 
 /// How many places and slots a function gets on so many registers.
+fn size_of(alloc: Global, f: &TableFunction, registers: usize) -> Option<(usize, usize)> {
+    match run_fitting(alloc, f, &integer_machine(alloc, registers)) {
+        Some(Ok(out)) => Some((out.allocs.len(), out.num_spillslots)),
+        _ => None,
+    }
+}
+
+/// How many places and slots a function gets on so many registers, if it could be built.
 fn size(
     alloc: Global,
     f: Result<TableFunction, BuildError>,
     registers: usize,
 ) -> Option<(usize, usize)> {
-    let out = run_fitting(alloc, &f.ok()?, &integer_machine(alloc, registers))?.ok()?;
-    Some((out.allocs.len(), out.num_spillslots))
+    match f {
+        Ok(f) => size_of(alloc, &f, registers),
+        Err(_) => None,
+    }
 }
 
 /// How many places and slots each large function gets.
@@ -41,18 +51,33 @@ fn many_live(alloc: Global) -> Result<TableFunction, BuildError> {
     f.finish(50_000)
 }
 
-/// Instructions of 10,000 operands each.
-fn wide_instructions(alloc: Global) -> Result<TableFunction, BuildError> {
-    let (mut defs, mut uses) = (Vec::new(alloc), Vec::new(alloc));
-    for number in 0..10_000 {
+/// Adds so many operands to definitions and uses.
+fn add_operands(
+    count: usize,
+    defs: &mut Vec<Operand>,
+    uses: &mut Vec<Operand>,
+) -> Result<(), BuildError> {
+    for number in 0..count {
         defs.push(Operand::any_def(vreg(number)))?;
         uses.push(Operand::any_use(vreg(number)))?;
     }
-    let mut f = TableBuilder::new(alloc);
+    Ok(())
+}
+
+/// Adds a block of one instruction with the definitions and two with the uses.
+fn add_wide(f: &mut TableBuilder, defs: &[Operand], uses: &[Operand]) -> Result<(), BuildError> {
     let block = f.block(&[])?;
-    f.op(block, &defs)?;
-    f.op(block, &uses)?;
-    f.ret(block, &uses)?;
+    f.op(block, defs)?;
+    f.op(block, uses)?;
+    f.ret(block, uses)
+}
+
+/// Instructions of 10,000 operands each.
+fn wide_instructions(alloc: Global) -> Result<TableFunction, BuildError> {
+    let (mut defs, mut uses) = (Vec::new(alloc), Vec::new(alloc));
+    add_operands(10_000, &mut defs, &mut uses)?;
+    let mut f = TableBuilder::new(alloc);
+    add_wide(&mut f, &defs, &uses)?;
     f.finish(10_000)
 }
 

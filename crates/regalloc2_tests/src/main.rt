@@ -24,8 +24,9 @@ mod rows;
 
 use codegen::program::agrees_at_random;
 use maker::Maker;
-use regalloc2::{allocate, is_framed, run_tested};
+use regalloc2::{MachineEnv, allocate, is_framed, run_tested};
 use regalloc2_analysis::liveness::decided_by_tree;
+use regalloc2_serialize::table_function::TableFunction;
 use std::alloc::Global;
 use std::fmt::Debug;
 use std::io::{self, BufWriter, Write};
@@ -35,14 +36,29 @@ fn show<W: Write, T: Debug + Drop>(out: &mut W, name: &str, value: T) -> io::Res
     writeln!(out, "{name}: {value:?}")
 }
 
+/// Whether what is allocated to a function is accepted by the checker.
+fn is_accepted(alloc: Global, f: &TableFunction, env: &MachineEnv) -> bool {
+    allocate(alloc, f, env).is_ok()
+}
+
+/// Whether a function reads nothing unwritten, by the dominator tree.
+fn is_by_tree(alloc: Global, f: &TableFunction) -> bool {
+    is_framed(f) && matches!(decided_by_tree(alloc, f), Ok(Some(true)))
+}
+
+/// Whether a function passes all tests and is allocated.
+fn is_tested(alloc: Global, f: &TableFunction, env: &MachineEnv) -> bool {
+    run_tested(alloc, f, env).is_ok()
+}
+
 /// Whether the function of a seed is allocated, reads nothing unwritten, by the dominator tree, and what comes out is accepted by the
 /// checker.
 fn is_right(alloc: Global, seed: u64) -> Option<bool> {
     let mut maker = Maker::new(alloc, seed)?;
     let f = maker.function()?;
-    let is_accepted = allocate(alloc, &f, &maker.env).is_ok();
-    let is_by_tree = is_framed(&f) && matches!(decided_by_tree(alloc, &f), Ok(Some(true)));
-    Some(is_accepted && is_by_tree && run_tested(alloc, &f, &maker.env).is_ok())
+    let is_accepted = is_accepted(alloc, &f, &maker.env);
+    let is_by_tree = is_by_tree(alloc, &f);
+    Some(is_accepted && is_by_tree && is_tested(alloc, &f, &maker.env))
 }
 
 /// How many of so many randomly generated functions fail.

@@ -263,9 +263,10 @@ static RUNS: [(Case, u64, [u64; 2]); 14] = [
 /// How many numbers are live around the call in the loop of `live`.
 const LIVE: usize = 20;
 
-/// A text in which so many numbers are live around a call in a loop, whose results are summed.
-fn live_text(alloc: Global) -> Result<String, AllocError> {
-    let mut text = format!(in alloc;
+/// Writes the head of `main` in `live`: what is live, and the loop.
+fn write_loop(text: &mut String) -> Result<(), AllocError> {
+    write!(
+        text,
         "function main(2):\nblock0:\n  v0 = argument 0\n  v1 = argument 1\n"
     )?;
     for at in 2..LIVE {
@@ -274,7 +275,11 @@ fn live_text(alloc: Global) -> Result<String, AllocError> {
     write!(
         text,
         "  v100 = constant 0\n  jump block1(v0, v100)\nblock1(v101, v102):\n  branch_if v101 block2(), block3()\nblock2:\n  v103 = call square(v101)\n  v104 = add v102, v103\n  v105 = sub v101, 1\n  jump block1(v105, v104)\nblock3:\n  v200 = mul v102, 31\n"
-    )?;
+    )
+}
+
+/// Writes the rest of `live`: the sum of what is live, and the callee.
+fn write_sum(text: &mut String) -> Result<(), AllocError> {
     for at in 0..LIVE {
         let (sum, next) = (2 * at + 200, 2 * at + 201);
         let after = 2 * at + 202;
@@ -287,7 +292,14 @@ fn live_text(alloc: Global) -> Result<String, AllocError> {
     writeln!(
         text,
         "  return v{last}\nfunction square(1):\nblock0:\n  v0 = argument 0\n  v1 = mul v0, v0\n  return v1"
-    )?;
+    )
+}
+
+/// A text in which so many numbers are live around a call in a loop, whose results are summed.
+fn live_text(alloc: Global) -> Result<String, AllocError> {
+    let mut text = String::new(alloc);
+    write_loop(&mut text)?;
+    write_sum(&mut text)?;
     Ok(text)
 }
 
@@ -356,20 +368,31 @@ fn show_case<W: Write>(
     show_run(alloc, text, room, &[first, second], to)
 }
 
-/// Writes what is said of wrong modules, how modules run, and a header.
-pub fn show_all<W: Write>(alloc: Global, to: &mut W) -> io::Result<()> {
-    for text in &WRONG {
-        show(alloc, *text, Action::Write, to)?;
-    }
-    let live = live_text(alloc)?;
+/// Writes how the modules run, with the text of `live`.
+fn show_cases<W: Write>(alloc: Global, live: &str, to: &mut W) -> io::Result<()> {
     for (case, room, arguments) in &RUNS {
-        let text = case.text(live.as_str());
+        let text = case.text(live);
         show_case(alloc, case.name(), text, *room, *arguments, to)?;
     }
+    Ok(())
+}
+
+/// Writes with how much room the factorials of small numbers return.
+fn show_rooms<W: Write>(alloc: Global, to: &mut W) -> io::Result<()> {
     for depth in 0..3u64 {
         let room = least_room(alloc, FACTORIAL, depth, 200).unwrap_or(0);
         write!(to, "factorial of {depth} returns with {room} words: ")?;
         show_run(alloc, FACTORIAL, room, &[depth], to)?;
     }
+    Ok(())
+}
+
+/// Writes what is said of wrong modules, how modules run, and a header.
+pub fn show_all<W: Write>(alloc: Global, to: &mut W) -> io::Result<()> {
+    for text in &WRONG {
+        show(alloc, *text, Action::Write, to)?;
+    }
+    show_cases(alloc, &live_text(alloc)?, to)?;
+    show_rooms(alloc, to)?;
     show(alloc, PARITY, Action::Header, to)
 }

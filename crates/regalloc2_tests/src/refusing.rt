@@ -7,7 +7,7 @@
 
 mod calls;
 
-use calls::{Given, NAMES};
+use calls::{Given, NAMES, Name};
 use regalloc2::serialize::{FromValue, SerializableFunction, StoredFunction};
 use regalloc2::{Output, allocate_without_checker};
 use regalloc2_test_alloc::is_each_told;
@@ -34,7 +34,45 @@ fn is_told(global: Global, given: &mut Given) -> Option<bool> {
     Some(is_each_told(global, given))
 }
 
+/// The result of a call of that name.
+fn answer_of(
+    global: Global,
+    name: Name,
+    f: &SerializableFunction,
+    out: &Output,
+    without_moves: &Output,
+) -> &'static str {
+    let mut given = Given {
+        global,
+        name,
+        f,
+        out,
+        without_moves,
+        wanted: String::new(global),
+    };
+    match is_told(global, &mut given) {
+        Some(true) => "told",
+        Some(false) => "NOT TOLD",
+        None => "no memory",
+    }
+}
+
 /// Writes of which calls each failed allocation is reported, and of which it isn't.
+fn show_answers<W: Write>(
+    global: Global,
+    f: &SerializableFunction,
+    out: &Output,
+    without_moves: &Output,
+    to: &mut W,
+) -> io::Result<()> {
+    for name in &NAMES {
+        let answer = answer_of(global, *name, f, out, without_moves);
+        writeln!(to, "  {name:?}: {answer}")?;
+    }
+    Ok(())
+}
+
+/// Writes of which calls with a function each failed allocation is reported, and of which it isn't.
 fn show<W: Write>(global: Global, text: &str, to: &mut W) -> io::Result<()> {
     let Some(f) = function_of(global, text) else {
         return writeln!(to, " no function");
@@ -42,23 +80,7 @@ fn show<W: Write>(global: Global, text: &str, to: &mut W) -> io::Result<()> {
     let out = output_of(global, &f);
     let mut without_moves = output_of(global, &f);
     without_moves.edits.clear();
-    for name in &NAMES {
-        let mut given = Given {
-            global,
-            name: *name,
-            f: &f,
-            out: &out,
-            without_moves: &without_moves,
-            wanted: String::new(global),
-        };
-        let answer = match is_told(global, &mut given) {
-            Some(true) => "told",
-            Some(false) => "NOT TOLD",
-            None => "no memory",
-        };
-        writeln!(to, "  {name:?}: {answer}")?;
-    }
-    Ok(())
+    show_answers(global, &f, &out, &without_moves, to)
 }
 
 /// Writes the titles, which begin with `#`, and after each function, a JSON text, of which calls

@@ -68,12 +68,75 @@ pub fn allocated(alloc: Global, f: &TableFunction) -> Option<Output> {
     run_fitting(alloc, f, &integer_machine(alloc, 10))?.ok()
 }
 
+/// The tables of the loop, if it passes the tests.
+fn tables_of_loop(alloc: Global) -> Option<CFGInfo> {
+    let f = turning_loop(alloc).ok()?;
+    let info = CFGInfo::new(alloc, &f).ok()?;
+    if validate_ssa(alloc, &f, &info).is_ok() {
+        Some(info)
+    } else {
+        None
+    }
+}
+
+/// The tables of the fork.
+fn tables_of_fork(alloc: Global) -> Option<CFGInfo> {
+    let f = fork(alloc).ok()?;
+    CFGInfo::new(alloc, &f).ok()
+}
+
 /// The tables of the loop, which passes the tests, and of the fork.
 pub fn tables(alloc: Global) -> Option<(CFGInfo, CFGInfo)> {
-    let (f, fork) = (turning_loop(alloc).ok()?, fork(alloc).ok()?);
-    let info = CFGInfo::new(alloc, &f).ok()?;
-    validate_ssa(alloc, &f, &info).ok()?;
-    Some((info, CFGInfo::new(alloc, &fork).ok()?))
+    let info = tables_of_loop(alloc)?;
+    Some((info, tables_of_fork(alloc)?))
+}
+
+/// How many slots `run` gives a function.
+fn own_slots(alloc: Global, f: &TableFunction) -> Option<usize> {
+    match allocated(alloc, f) {
+        Some(out) => Some(out.num_spillslots),
+        None => None,
+    }
+}
+
+/// How many slots `run_with_ctx` gives a function on so many registers, or how it is rejected.
+fn lent_slots(
+    alloc: Global,
+    f: &TableFunction,
+    registers: usize,
+    ctx: &mut Ctx,
+) -> Option<Result<usize, RegAllocError>> {
+    run_with_ctx_fitting(f, &integer_machine(alloc, registers), ctx)
+}
+
+/// How many slots each call gives a function.
+fn slots(alloc: Global, f: &TableFunction, ctx: &mut Ctx) -> Option<[usize; 2]> {
+    let lent = lent_slots(alloc, f, 10, ctx)?.ok()?;
+    Some([own_slots(alloc, f)?, lent])
+}
+
+/// Lets the second block of the loop go on to no block.
+fn lead_nowhere(f: &mut TableFunction) -> Option<()> {
+    *f.blocks.get_mut(2)?.succs.get_mut(0)? = Block(8);
+    Some(())
+}
+
+/// What `slots_and_refusals` says of the loop, which it changes.
+fn slots_and_refusals_of(
+    alloc: Global,
+    f: &mut TableFunction,
+    ctx: &mut Ctx,
+) -> Option<([usize; 2], [Option<RegAllocError>; 3], [bool; 2], usize)> {
+    let slots = slots(alloc, f, ctx)?;
+    let lacks = lent_slots(alloc, f, 1, ctx)?.err();
+    lead_nowhere(f)?;
+    let leads_nowhere = lent_slots(alloc, f, 10, ctx)?.err();
+    let is_framed_so = is_framed(f);
+    f.entry = Block(9);
+    let starts_nowhere = lent_slots(alloc, f, 10, ctx)?.err();
+    let answers = [lacks, leads_nowhere, starts_nowhere];
+    let framed = [is_framed_so, is_framed(f)];
+    Some((slots, answers, framed, ctx.output.num_spillslots))
 }
 
 /// The slots that each call gives the loop. Then how it is rejected where it has too few registers,
@@ -83,37 +146,72 @@ pub fn slots_and_refusals(
     alloc: Global,
 ) -> Option<([usize; 2], [Option<RegAllocError>; 3], [bool; 2], usize)> {
     let mut f = turning_loop(alloc).ok()?;
-    let (env, few) = (integer_machine(alloc, 10), integer_machine(alloc, 1));
-    let mut ctx = Ctx::new(alloc);
-    let lent = run_with_ctx_fitting(&f, &env, &mut ctx)?.ok()?;
-    let slots = [allocated(alloc, &f)?.num_spillslots, lent];
-    let lacks = run_with_ctx_fitting(&f, &few, &mut ctx)?.err();
-    *f.blocks.get_mut(2)?.succs.get_mut(0)? = Block(8);
-    let leads_nowhere = run_with_ctx_fitting(&f, &env, &mut ctx)?.err();
-    let is_framed_so = is_framed(&f);
-    f.entry = Block(9);
-    let starts_nowhere = run_with_ctx_fitting(&f, &env, &mut ctx)?.err();
-    let answers = [lacks, leads_nowhere, starts_nowhere];
-    let framed = [is_framed_so, is_framed(&f)];
-    Some((slots, answers, framed, ctx.output.num_spillslots))
+    slots_and_refusals_of(alloc, &mut f, &mut Ctx::new(alloc))
+}
+
+/// Whether a checker takes just the outputs that it should, one after another.
+fn takes(checker: &mut Checker<'_, TableFunction>, given: &[(&Output, bool)]) -> bool {
+    for (out, is_right) in given {
+        if checker.prepare(*out).is_ok() != *is_right {
+            return false;
+        }
+    }
+    true
+}
+
+/// What a checker reports, if it takes just the outputs that it should.
+fn report(
+    mut checker: Checker<'_, TableFunction>,
+    given: &[(&Output, bool)],
+) -> Option<Result<(), CheckerErrors>> {
+    if takes(&mut checker, given) {
+        Some(checker.run())
+    } else {
+        None
+    }
+}
+
+/// What a new checker of a function reports, if it takes just the outputs that it should.
+fn verdict(
+    alloc: Global,
+    f: &TableFunction,
+    given: &[(&Output, bool)],
+) -> Option<Result<(), CheckerErrors>> {
+    if !is_framed(f) {
+        return None;
+    }
+    match Checker::new(alloc, f, &integer_machine(alloc, 10)) {
+        Ok(checker) => report(checker, given),
+        Err(_) => None,
+    }
+}
+
+/// The verdicts on a right output and a wrong one.
+fn verdicts_on(
+    alloc: Global,
+    f: &TableFunction,
+    right: &Output,
+    wrong: &Output,
+) -> Option<[Result<(), CheckerErrors>; 3]> {
+    let (right, wrong) = ((right, true), (wrong, false));
+    let unprepared = verdict(alloc, f, &[])?;
+    let given_both = verdict(alloc, f, &[right, wrong])?;
+    Some([unprepared, given_both, verdict(alloc, f, &[wrong, right])?])
+}
+
+/// The verdicts on the output of a function and one which isn't well-ordered.
+fn verdicts_of(alloc: Global, f: &TableFunction) -> Option<[Result<(), CheckerErrors>; 3]> {
+    let out = allocated(alloc, f)?;
+    let mut bad = allocated(alloc, f)?;
+    bad.inst_alloc_offsets.clear();
+    verdicts_on(alloc, f, &out, &bad)
 }
 
 /// What a checker reports that has no output; that was given one which isn't well-ordered, after a
 /// right one; and that was given the right one last.
 pub fn verdicts(alloc: Global) -> Option<[Result<(), CheckerErrors>; 3]> {
-    let f = turning_loop(alloc).ok()?;
-    let (out, mut bad) = (allocated(alloc, &f)?, allocated(alloc, &f)?);
-    let env = integer_machine(alloc, 10);
-    bad.inst_alloc_offsets.clear();
-    if !is_framed(&f) {
-        return None;
+    match turning_loop(alloc) {
+        Ok(f) => verdicts_of(alloc, &f),
+        Err(_) => None,
     }
-    let mut given_both = Checker::new(alloc, &f, &env).ok()?;
-    given_both.prepare(&out).ok()?;
-    given_both.prepare(&bad).err()?;
-    let mut given_right = Checker::new(alloc, &f, &env).ok()?;
-    given_right.prepare(&bad).err()?;
-    given_right.prepare(&out).ok()?;
-    let unprepared = Checker::new(alloc, &f, &env).ok()?;
-    Some([unprepared.run(), given_both.run(), given_right.run()])
 }

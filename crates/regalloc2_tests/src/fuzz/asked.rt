@@ -6,7 +6,7 @@ use std::io::BufWriter;
 use std::{fmt, str};
 
 /// The lines that say that memory ran out: those of status 2, on the standard error, then those of status 1.
-pub const LACKS: [&str; 5] = [
+pub static LACKS: [&str; 5] = [
     "ra2: input unreadable\n",
     "ra2: bad function 5\n",
     "ra2: bad output 5\n",
@@ -22,6 +22,15 @@ pub struct Answer {
     err: Vec<u8>,
 }
 
+/// The arguments between `+`.
+fn words_of(global: Global, line: &str) -> Option<Vec<String>> {
+    let mut words = Vec::new(global);
+    for word in line.split('+') {
+        words.push(String::from_str(global, word).ok()?).ok()?;
+    }
+    Some(words)
+}
+
 /// Calls the function that `main` calls, with the arguments between `+`, over an allocator.
 pub fn ask<A: Allocator + Copy>(
     global: Global,
@@ -29,10 +38,7 @@ pub fn ask<A: Allocator + Copy>(
     line: &str,
     text: &[u8],
 ) -> Option<Answer> {
-    let mut words = Vec::new(global);
-    for word in line.split('+') {
-        words.push(String::from_str(global, word).ok()?).ok()?;
-    }
+    let words = words_of(global, line)?;
     let out = BufWriter::new(global, Vec::new(global)).ok()?;
     let mut err = Vec::new(global);
     let (status, out) = answer(global, alloc, words.as_slice(), text, out, &mut err);

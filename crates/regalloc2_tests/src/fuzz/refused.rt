@@ -28,26 +28,38 @@ fn is_each_told(global: Global, words: &str, text: &[u8], met: &mut [bool; 5]) -
     None
 }
 
-/// Writes for how many whole texts each failed allocation is reported, and for how many it isn't;
-/// and of each line whether it is met.
-pub fn show_refused<W: Write>(global: Global, lines: &str, out: &mut W) -> io::Result<()> {
-    let (mut told, mut untold, mut met) = (0u32, 0u32, [false; 5]);
+/// For how many whole texts each failed allocation is reported, and for how many it isn't; the lines that say so are marked.
+fn told_and_untold(global: Global, lines: &str, met: &mut [bool; 5]) -> (u32, u32) {
+    let (mut told, mut untold) = (0u32, 0u32);
     for line in lines.lines() {
         let Some((words, text)) = whole_text(line) else {
             continue;
         };
-        match is_each_told(global, words, text.as_bytes(), &mut met) {
+        match is_each_told(global, words, text.as_bytes(), met) {
             Some(true) => told = told.saturating_add(1),
             _ => untold = untold.saturating_add(1),
         }
     }
+    (told, untold)
+}
+
+/// Writes of each line whether it is met.
+fn show_met<W: Write>(met: [bool; 5], out: &mut W) -> io::Result<()> {
+    for at in 0..met.len() {
+        let word = if met[at] { "met" } else { "NOT MET" };
+        write!(out, "{word}: {}", LACKS[at])?;
+    }
+    Ok(())
+}
+
+/// Writes for how many whole texts each failed allocation is reported, and for how many it isn't;
+/// and of each line whether it is met.
+pub fn show_refused<W: Write>(global: Global, lines: &str, out: &mut W) -> io::Result<()> {
+    let mut met = [false; 5];
+    let (told, untold) = told_and_untold(global, lines, &mut met);
     writeln!(
         out,
         "each refused request is told for {told} texts, and isn't for {untold}"
     )?;
-    for (line, is_met) in LACKS.iter().zip(met) {
-        let word = if is_met { "met" } else { "NOT MET" };
-        write!(out, "{word}: {line}")?;
-    }
-    Ok(())
+    show_met(met, out)
 }

@@ -2,7 +2,7 @@
 
 use crate::calls::{run_fitting, run_with_ctx_fitting};
 use regalloc2::cfg::{CFGInfo, CFGInfoCtx};
-use regalloc2::checker::{Checker, CheckerError};
+use regalloc2::checker::{Checker, CheckerError, CheckerErrors};
 use regalloc2::postorder::calculate;
 use regalloc2::serialize::SerializableFunction;
 use regalloc2::ssa::{reads_written, validate_ssa};
@@ -184,14 +184,12 @@ impl Given<'_> {
     /// If memory runs out, the tables are empty.
     fn tables<A: Allocator + Copy>(&self, alloc: A) -> Result<String, AllocError> {
         let mut info = CFGInfo::empty(alloc);
-        let answer = info.init(self.f, &mut CFGInfoCtx::new(alloc));
-        let (blocks, insts) = (info.postorder.as_slice(), info.insn_block.as_slice());
-        let (first, last) = (info.block_entry.as_slice(), info.block_exit.as_slice());
-        match answer {
-            Ok(()) => format!(in self.global; "{blocks:?} {insts:?} {first:?} {last:?}"),
-            Err(_) if !blocks.is_empty() || !insts.is_empty() => self.words("a table is left"),
-            Err(_) if !first.is_empty() || !last.is_empty() => self.words("points are left"),
-            Err(error) => told(self.global, error),
+        match info.init(self.f, &mut CFGInfoCtx::new(alloc)) {
+            Ok(()) => tables_text(self.global, &info),
+            Err(error) => match left_in(&info) {
+                Some(words) => self.words(words),
+                None => told(self.global, error),
+            },
         }
     }
 
@@ -229,17 +227,32 @@ impl Given<'_> {
         if !is_framed(self.f) {
             return self.words("not framed");
         }
-        let mut checker = match Checker::new(alloc, self.f, self.f.machine_env()) {
-            Ok(checker) => checker,
-            Err(CheckerError::Memory) => return Err(AllocError),
-            Err(error) => return format!(in self.global; "{error}"),
-        };
-        let prepared = checker.prepare(out);
-        let is_refused = matches!(prepared, Err(CheckerError::Memory));
-        if is_refused && checker.prepare(out).is_err() {
-            return self.words("the checker serves no more");
+        match Checker::new(alloc, self.f, self.f.machine_env()) {
+            Ok(checker) => self.check_by(checker, out),
+            Err(CheckerError::Memory) => Err(AllocError),
+            Err(error) => format!(in self.global; "{error}"),
         }
-        let text = match checker.run() {
+    }
+
+    /// The result of a check by a new checker.
+    fn check_by<A: Allocator + Copy>(
+        &self,
+        mut checker: Checker<'_, SerializableFunction, A>,
+        out: &Output,
+    ) -> Result<String, AllocError> {
+        match lacks_memory(&mut checker, out) {
+            Some(is_refused) => self.verdict(checker.run(), is_refused),
+            None => self.words("the checker serves no more"),
+        }
+    }
+
+    /// The text of a checker's report. If memory ran out before it, the report has to be the usual one.
+    fn verdict<A: Allocator>(
+        &self,
+        report: Result<(), CheckerErrors<A>>,
+        is_refused: bool,
+    ) -> Result<String, AllocError> {
+        let text = match report {
             Ok(()) => self.words("checked")?,
             Err(errors) => faults(self.global, errors.errors())?,
         };
@@ -247,6 +260,38 @@ impl Given<'_> {
             return Err(AllocError);
         }
         Ok(text)
+    }
+}
+
+/// Whether memory runs out as a checker prepares an output; nothing if it then serves no more.
+fn lacks_memory<A: Allocator + Copy>(
+    checker: &mut Checker<'_, SerializableFunction, A>,
+    out: &Output,
+) -> Option<bool> {
+    match checker.prepare(out) {
+        Err(CheckerError::Memory) => match checker.prepare(out) {
+            Ok(()) => Some(true),
+            Err(_) => None,
+        },
+        _ => Some(false),
+    }
+}
+
+/// The text of tables.
+fn tables_text<A: Allocator>(global: Global, info: &CFGInfo<A>) -> Result<String, AllocError> {
+    let (blocks, insts) = (info.postorder.as_slice(), info.insn_block.as_slice());
+    let (first, last) = (info.block_entry.as_slice(), info.block_exit.as_slice());
+    format!(in global; "{blocks:?} {insts:?} {first:?} {last:?}")
+}
+
+/// What is said of tables that should be empty, if they aren't.
+fn left_in<A: Allocator>(info: &CFGInfo<A>) -> Option<&'static str> {
+    if !info.postorder.is_empty() || !info.insn_block.is_empty() {
+        Some("a table is left")
+    } else if !info.block_entry.is_empty() || !info.block_exit.is_empty() {
+        Some("points are left")
+    } else {
+        None
     }
 }
 

@@ -37,19 +37,24 @@ impl Call for Made<'_> {
     }
 }
 
-/// Makes rings and a list, and resolves a cycle of 17 slots. If one of them is left out, the others need no scratch place.
-fn make_parts(global: Global, alloc: &Refusing<Global>) -> Result<(), RegAllocError> {
-    let _rings = three_rings(alloc)?;
-    let _list = VRegSet::with_capacity(alloc, 3)?;
-    let mut cycle = Vec::new(global);
-    for at in 0..17usize {
-        cycle.push((SLOT + at, SLOT + (at + 1) % 17))?;
+/// Resolves a cycle of 17 slots. If one of them is left out, the others need no scratch place.
+fn resolve_cycle(global: Global, alloc: &Refusing<Global>) -> Result<(), RegAllocError> {
+    let mut cycle = [(0, 0); 17];
+    for at in 0..cycle.len() {
+        cycle[at] = (SLOT + at, SLOT + (at + 1) % 17);
     }
-    match resolved(global, alloc, cycle.as_slice()) {
+    match resolved(global, alloc, &cycle) {
         Ok(Some(Scratch(_))) => Ok(()),
         Ok(Some(NoScratch(_))) | Err(MoveFault::Memory) => Err(RegAllocError::Memory),
         _ => Err(RegAllocError::TooManySpillSlots),
     }
+}
+
+/// Makes rings and a list, and resolves a cycle.
+fn make_parts(global: Global, alloc: &Refusing<Global>) -> Result<(), RegAllocError> {
+    let _rings = three_rings(alloc)?;
+    let _list = VRegSet::with_capacity(alloc, 3)?;
+    resolve_cycle(global, alloc)
 }
 
 /// Fills a set past its twelve words, assigns it and adds it to another one.
@@ -108,6 +113,23 @@ fn copied<A: Allocator + Copy>(
     SerializableFunction::new(alloc, f, env)
 }
 
+/// The function that a JSON value gives.
+fn function_of<A: Allocator + Copy>(
+    alloc: A,
+    value: &Value,
+) -> Result<SerializableFunction<A>, RegAllocError> {
+    let stored = named(StoredFunction::from_value(alloc, value))?;
+    named(SerializableFunction::from_stored(alloc, &stored))
+}
+
+/// The stored numbers of a function, copied with a machine without registers.
+fn copied_numbers<A: Allocator + Copy>(
+    alloc: A,
+    f: &SerializableFunction<A>,
+) -> Result<StoredFunction<A>, RegAllocError> {
+    Ok(copied(alloc, f)?.stored()?)
+}
+
 /// The stored numbers of a function that a JSON text gives, copied with a machine without registers.
 fn stored_function<A: Allocator + Copy>(
     global: Global,
@@ -115,9 +137,14 @@ fn stored_function<A: Allocator + Copy>(
     text: &str,
 ) -> Result<StoredFunction<A>, RegAllocError> {
     let value = value_of(global, text)?;
-    let stored = named(StoredFunction::from_value(alloc, &value))?;
-    let f = named(SerializableFunction::from_stored(alloc, &stored))?;
-    Ok(copied(alloc, &f)?.stored()?)
+    let f = function_of(alloc, &value)?;
+    copied_numbers(alloc, &f)
+}
+
+/// The output that a JSON value gives.
+fn output_of<A: Allocator + Copy>(alloc: A, value: &Value) -> Result<Output<A>, RegAllocError> {
+    let read = named(StoredOutput::from_value(alloc, value))?;
+    named(Output::from_stored(alloc, &read))
 }
 
 /// The stored numbers of an output that a JSON text gives.
@@ -127,9 +154,7 @@ fn stored_output<A: Allocator + Copy>(
     text: &str,
 ) -> Result<StoredOutput<A>, RegAllocError> {
     let value = value_of(global, text)?;
-    let read = named(StoredOutput::from_value(alloc, &value))?;
-    let output = named(Output::from_stored(alloc, &read))?;
-    Ok(output.stored()?)
+    Ok(output_of(alloc, &value)?.stored()?)
 }
 
 /// The stored numbers of a function and of an output that JSON texts give.
