@@ -21,14 +21,14 @@ returns-then-are_ranges g c =
     let count : c.len-count.result ≡ n = omega (arith, c.len-count.ensures, s.blocks.ok.0) in
     let one : IsTrue c.if-self-count.value ↔ ((s.entry_block < n) × All (λ l. All (λ b. b < n) l.items) s.block_preds.items) =
     elim c.if-self-count.branch [
-      then-self-count w ↦ both _ _ (omega (arith, count, w.if-self-count.true)) w.value-is
+      | then-self-count w ↦ both _ _ (omega (arith, count, w.if-self-count.true)) w.value-is
           (rw (w.as_slice.ensures.value, count) at w.are_lists_of_blocks.ensures)
       | else-self-count w ↦ neither _ (λ h. absurd (omega (arith, count, h, w.if-self-count.false)))
           (λ h. absurd (omega (arith, (Decides-ltb s.entry_block c.len-count.result).0 (sym w.value-is ∙ h), w.if-self-count.false)))
     ] in
     let two : IsTrue c.if-are_lists_of_blocks.value ↔ (((s.entry_block < n) × All (λ l. All (λ b. b < n) l.items) s.block_preds.items)
     × All (λ l. All (λ b. b < n) l.items) s.block_succs.items) = elim c.if-are_lists_of_blocks.branch [
-      then-are_lists_of_blocks w ↦ both _ _ (one.0 w.if-are_lists_of_blocks.true) w.value-is
+      | then-are_lists_of_blocks w ↦ both _ _ (one.0 w.if-are_lists_of_blocks.true) w.value-is
           (rw (w.as_slice-then-are_lists_of_blocks.ensures.value, count) at w.are_lists_of_blocks-then-are_lists_of_blocks.ensures)
       | else-are_lists_of_blocks w ↦ neither _ (λ h. absurd (false≢true (sym w.if-are_lists_of_blocks.false ∙ one.1 h)))
           (λ h. absurd (false≢true (sym (w.value-is ∙ w.if-are_lists_of_blocks.false) ∙ h)))
@@ -36,7 +36,7 @@ returns-then-are_ranges g c =
     let three : IsTrue c.if-are_lists_of_blocks-2.value ↔ ((((s.entry_block < n) × All (λ l. All (λ b. b < n) l.items) s.block_preds.items)
     × All (λ l. All (λ b. b < n) l.items) s.block_succs.items) × All (IsRangeWithin (length s.insts.items)) s.blocks.items) =
     elim c.if-are_lists_of_blocks-2.branch [
-      then-are_lists_of_blocks-2 w ↦
+      | then-are_lists_of_blocks-2 w ↦
           let insts : w.len.result ≡ length s.insts.items = omega (arith, w.len.ensures, s.insts.ok.0) in
           both _ _ (two.0 w.if-are_lists_of_blocks-2.true) w.value-is
           (rw (w.as_slice-then-are_lists_of_blocks-2.ensures.value, insts) at w.are_ranges.ensures)
@@ -56,14 +56,14 @@ returns-else-are_ranges g c =
     let count : c.len-count.result ≡ n = omega (arith, c.len-count.ensures, s.blocks.ok.0) in
     let one : IsTrue c.if-self-count.value ↔ ((s.entry_block < n) × All (λ l. All (λ b. b < n) l.items) s.block_preds.items) =
     elim c.if-self-count.branch [
-      then-self-count w ↦ both _ _ (omega (arith, count, w.if-self-count.true)) w.value-is
+      | then-self-count w ↦ both _ _ (omega (arith, count, w.if-self-count.true)) w.value-is
           (rw (w.as_slice.ensures.value, count) at w.are_lists_of_blocks.ensures)
       | else-self-count w ↦ neither _ (λ h. absurd (omega (arith, count, h, w.if-self-count.false)))
           (λ h. absurd (omega (arith, (Decides-ltb s.entry_block c.len-count.result).0 (sym w.value-is ∙ h), w.if-self-count.false)))
     ] in
     let two : IsTrue c.if-are_lists_of_blocks.value ↔ (((s.entry_block < n) × All (λ l. All (λ b. b < n) l.items) s.block_preds.items)
     × All (λ l. All (λ b. b < n) l.items) s.block_succs.items) = elim c.if-are_lists_of_blocks.branch [
-      then-are_lists_of_blocks w ↦ both _ _ (one.0 w.if-are_lists_of_blocks.true) w.value-is
+      | then-are_lists_of_blocks w ↦ both _ _ (one.0 w.if-are_lists_of_blocks.true) w.value-is
           (rw (w.as_slice-then-are_lists_of_blocks.ensures.value, count) at w.are_lists_of_blocks-then-are_lists_of_blocks.ensures)
       | else-are_lists_of_blocks w ↦ neither _ (λ h. absurd (false≢true (sym w.if-are_lists_of_blocks.false ∙ one.1 h)))
           (λ h. absurd (false≢true (sym (w.value-is ∙ w.if-are_lists_of_blocks.false) ∙ h)))
@@ -71,14 +71,13 @@ returns-else-are_ranges g c =
     let three : IsTrue c.if-are_lists_of_blocks-2.value ↔ ((((s.entry_block < n) × All (λ l. All (λ b. b < n) l.items) s.block_preds.items)
     × All (λ l. All (λ b. b < n) l.items) s.block_succs.items) × All (IsRangeWithin (length s.insts.items)) s.blocks.items) =
     elim c.if-are_lists_of_blocks-2.branch [
-      then-are_lists_of_blocks-2 w ↦
+      | then-are_lists_of_blocks-2 w ↦
           let insts : w.len.result ≡ length s.insts.items = omega (arith, w.len.ensures, s.insts.ok.0) in
           both _ _ (two.0 w.if-are_lists_of_blocks-2.true) w.value-is
           (rw (w.as_slice-then-are_lists_of_blocks-2.ensures.value, insts) at w.are_ranges.ensures)
       | else-are_lists_of_blocks-2 w ↦ neither _ (λ h. absurd (false≢true (sym w.if-are_lists_of_blocks-2.false ∙ two.1 h)))
           (λ h. absurd (false≢true (sym (w.value-is ∙ w.if-are_lists_of_blocks-2.false) ∙ h)))
-    ] in
-    (
+    ] in (
       λ h. absurd (false≢true (sym c.if-are_ranges.false ∙ h)),
       λ m. three.1 (((m.entry, m.preds), m.succs), m.ranges),
     )
