@@ -6,7 +6,8 @@ use Rattle.regalloc2_names.specs.Register.{VirtualRegister}
 use Rattle.regalloc2_names.specs.Point.{before, after, inst_limit}
 use Rattle.regalloc2_function.specs.FunctionValue.{FunctionValue, block_at, inst_at, operand_count}
 use Rattle.regalloc2_analysis.specs.declared.branch_defs.BranchDefs.{BranchDefs}
-use Rattle.regalloc2_analysis.specs.BranchDefs.Tables.{AreBranchDefsOf}
+use Rattle.regalloc2_analysis.specs.declared.branch_defs.EdgeInto.{EdgeInto}
+use Rattle.regalloc2_analysis.specs.BranchDefs.Tables.{AreBranchDefsOf, IsEdgeOf}
 use Rattle.regalloc2_fastalloc_state.specs.StateParts.{AllAtOrAfter}
 use Rattle.regalloc2_fastalloc_state.specs.declared.inst_regs.InstRegs.{InstRegs}
 use Rattle.regalloc2_fastalloc_proofs.specs.InstSteps.{InTables, IsFresh}
@@ -112,6 +113,13 @@ pub record IsBeforeStores {A C : Type 0} (f : FunctionValue) (d : BranchDefs C) 
   pub room : DefinesBelow f (length s.slots.vreg_spillslots)
   pub apart : RegsAvoidStack (tables_of s)
   pub later : AllAtOrAfter (before (block_at f b).range.first) s.edits
+
+-- what the branch of the edge e defines is next to be listed, for slots of the vregs below n
+pub record IsBeforeListing {C : Type 0} (f : FunctionValue) (d : BranchDefs C) (e : EdgeInto) (n : ℕ) : Type 0 where
+  pub well_formed : MayBeAllocated f
+  pub defs : AreBranchDefsOf f d
+  pub edge : (b : ℕ) × IsEdgeOf f b d.stored.items e
+  pub room : DefinesBelow f n
 
 -- the last block is next, from a fresh state
 pub record IsBeforeWalk {A : Type 0} (f : FunctionValue) (starts : List ℕ) (places : List Place) (s : State A) : Type 0 where

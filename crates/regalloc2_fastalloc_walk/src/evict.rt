@@ -1,6 +1,6 @@
 //! Moves, by way of a register if stack-to-stack, and evictions.
 
-ghost use Rattle.std.specs.Prelude.{◌≡◌, ◌<◌, OnOk, IfErr, None, Some};
+ghost use Rattle.std.specs.Prelude.{◌≡◌, ◌<◌, OnOk, None, Some};
 ghost use Rattle.regalloc2_names.specs.Place.{NoPlace};
 ghost use Rattle.regalloc2_fastalloc_state.specs.StateParts.{AllAtOrAfter, IsInverse, vreg_of_preg, alloc_of};
 ghost use Rattle.regalloc2_fastalloc_proofs.specs.InstSteps.{is_stack_in, AllocScratchReg, AddMove, EvictPReg, EvictOtherVRegs, EvictVReg};

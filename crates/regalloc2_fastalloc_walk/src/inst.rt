@@ -1,12 +1,10 @@
 //! The operands of one instruction, of every kind but `Limit`.
 
-ghost use Rattle.std.specs.Prelude.{Bool};
-ghost use Rattle.regalloc2_names.specs.RegisterSet.{has_register};
-ghost use Rattle.regalloc2_names.specs.Register.{Register, VirtualRegister};
-ghost use Rattle.std.specs.Prelude.{◌≡◌, ◌<◌, ◌≤◌, ◌+◌, ◌↔◌, [], length, not, false, true, slice_set, slice_index_or, ℕ, OnOk, IfSome, IfNone, IfOk};
-ghost use Rattle.std.specs.Prelude.{IsNone, IsTrue, List};
+ghost use Rattle.regalloc2_names.specs.Register.{Register};
+ghost use Rattle.std.specs.Prelude.{◌≡◌, ◌<◌, ◌≤◌, ◌+◌, ◌↔◌, length, not, false, true, slice_set, slice_index_or, ℕ, IfSome, IfNone, IfOk};
+ghost use Rattle.std.specs.Prelude.{IsNone, IsTrue};
 ghost use Rattle.regalloc2_names.specs.Point.{after, before, inst_limit};
-ghost use Rattle.regalloc2_names.specs.Place.{Place, NoPlace, is_place, is_in_slot};
+ghost use Rattle.regalloc2_names.specs.Place.{NoPlace, is_place, is_in_slot};
 ghost use Rattle.regalloc2_names.specs.Operand.{is_def, is_late, is_reading};
 ghost use Rattle.regalloc2_parts.specs.Picked.{picked};
 ghost use Rattle.regalloc2_fastalloc_walk.specs.OperandsAt.{is_at};

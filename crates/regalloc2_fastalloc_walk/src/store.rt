@@ -1,22 +1,17 @@
 //! A branch's definitions, stored at the beginning of the block that it leads to.
 
-ghost use Rattle.std.specs.Prelude.{ℕ, ◌≡◌, ◌≢◌, ◌+◌, ◌<◌, ◌≤◌, ◌⊎◌, ◌++◌, ◌∷◌, [], All, Contains, length, map, None, Some, OnOk, IfOk, IfErr, slice_index_or};
-ghost use Rattle.regalloc2_names.specs.Register.{VirtualRegister, class_code};
+ghost use Rattle.std.specs.Prelude.{◌≡◌, ◌+◌, ◌<◌, ◌⊎◌, All, length, map, None, Some, OnOk, IfOk, IfErr, slice_index_or};
+ghost use Rattle.regalloc2_names.specs.Register.{class_code};
 ghost use Rattle.regalloc2_names.specs.Point.{before};
 ghost use Rattle.regalloc2_function.specs.FunctionValue.{block_at};
 ghost use Rattle.regalloc2_function.specs.FunctionValue.{op_at};
-ghost use Rattle.regalloc2_semantics.specs.Stores.{Store, moves_by};
-ghost use Rattle.regalloc2_analysis.specs.BranchDefs.BranchDefs.{IsEdgeInto};
-ghost use Rattle.regalloc2_analysis.specs.BranchDefs.Tables.{AreBranchDefsOf, IsEdgeOf};
 ghost use Rattle.regalloc2_fastalloc_state.specs.StateParts.{AllAtOrAfter, NoneIsFrom};
 ghost use Rattle.regalloc2_fastalloc_proofs.specs.InstSteps.{MayHold};
-ghost use Rattle.regalloc2_fastalloc_proofs.specs.BlockSteps.{DefinesBelow, MayBeAllocated};
-ghost use Rattle.regalloc2_fastalloc_proofs.specs.BranchSteps.{RegsAvoidStack};
-ghost use Rattle.regalloc2_fastalloc_proofs.specs.StoreSteps.{IsStoredFor, StoreBranchDefs};
+ghost use Rattle.regalloc2_fastalloc_proofs.specs.StoreSteps.{StoreBranchDefs};
 ghost use Rattle.regalloc2_fastalloc_walk.specs.BranchStores.{FindsDefined, FindsStore, FindsStores, ListsGiven, ListsParams, PushStore, PushStores};
 ghost use Rattle.regalloc2_fastalloc_walk.specs.BranchStores.{ListsStores, own_store};
-ghost use Rattle.regalloc2_fastalloc_walk.specs.BeforeSteps.{IsBeforeStores};
-ghost use Rattle.regalloc2_fastalloc_walk.specs.StateView.{IsStepAt, MakesSlots, SameTables, tables_of, ComesTo};
+ghost use Rattle.regalloc2_fastalloc_walk.specs.BeforeSteps.{IsBeforeListing, IsBeforeStores};
+ghost use Rattle.regalloc2_fastalloc_walk.specs.StateView.{IsStepAt, MakesSlots, tables_of, ComesTo};
 
 use super::operand::PlaceMove;
 use super::state::State;
@@ -112,10 +107,7 @@ impl<'a, A: Allocator> State<'a, A> {
         defs: &BranchDefs<C>,
         edge: &EdgeInto,
     ) -> Result<Vec<StoredDef, &'b B>, RegAllocError>
-        requires well_formed { MayBeAllocated (F.function f.now) }
-        requires defs { AreBranchDefsOf (F.function f.now) defs.now }
-        requires edge { (b : ℕ) × IsEdgeOf (F.function f.now) b defs.now.stored.items edge.now }
-        requires room { DefinesBelow (F.function f.now) (length self.now.slots.vreg_spillslots) }
+        requires { IsBeforeListing (F.function f.now) defs.now edge.now (length self.now.slots.vreg_spillslots) }
         ensures ok { IfOk result (λ v. ListsStores (F.function f.now) edge.now.from edge.now.position self.now.slots v.items) }
         ensures err { IfErr result (λ e. e ≡ RegAllocError.Memory) }
     {

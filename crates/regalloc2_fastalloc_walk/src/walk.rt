@@ -6,23 +6,17 @@
 //! and the definition, which the walk meets last, brings the value there. So liveness needs no
 //! analysis of its own, and no instruction is visited twice.
 
-ghost use Rattle.std.specs.Prelude.{List};
-ghost use Rattle.regalloc2_names.specs.Register.{VirtualRegister};
-ghost use Rattle.std.specs.Prelude.{◌≡◌, ◌<◌, ◌≤◌, ◌+◌, ◌*◌, [], length, slice_index, slice_index_or, ℕ, OnOk, IfErr};
-ghost use Rattle.regalloc2_names.specs.Point.{before, after};
+ghost use Rattle.std.specs.Prelude.{◌≡◌, ◌<◌, ◌+◌, ◌*◌, length, slice_index_or, ℕ, OnOk, IfErr};
+ghost use Rattle.regalloc2_names.specs.Point.{before};
 ghost use Rattle.regalloc2_names.specs.Place.{NoPlace};
-ghost use Rattle.regalloc2_function.specs.FunctionValue.{block_at, inst_at, operand_count};
-ghost use Rattle.regalloc2_analysis.specs.BranchDefs.Tables.{AreBranchDefsOf};
-ghost use Rattle.regalloc2_fastalloc_state.specs.StateParts.{AllAtOrAfter, SpillSlotsValue, alloc_of};
+ghost use Rattle.regalloc2_function.specs.FunctionValue.{block_at, inst_at};
 ghost use Rattle.regalloc2_fastalloc_proofs.specs.InstSteps.{ends_block};
-ghost use Rattle.regalloc2_fastalloc_proofs.specs.BranchSteps.{RegsAvoidStack, AddsTempSlotsAtMost};
+ghost use Rattle.regalloc2_fastalloc_proofs.specs.BranchSteps.{AddsTempSlotsAtMost};
 ghost use Rattle.regalloc2_fastalloc_state.specs.OutOfResources.{SlotsExhaustedWith, IsResourceError};
-ghost use Rattle.regalloc2_analysis.specs.BranchDefs.BranchDefs.{IsEdgeInto};
-ghost use Rattle.regalloc2_fastalloc_proofs.specs.StoreSteps.{IsStoredFor};
 ghost use Rattle.regalloc2_fastalloc_walk.specs.BeforeSteps.{IsBeforeInst, IsBeforeBlock, IsBeforeBeginning, IsBeforeWalk};
-ghost use Rattle.regalloc2_fastalloc_walk.specs.StateView.{Between, IsBranchStepAt, IsStepAt, SameTables, tables_of, ComesTo};
-ghost use Rattle.regalloc2_fastalloc_proofs.specs.BlockSteps.{MayBeAllocated, temp_slots_at, AllocInstInBlock, AllocBlock, BeginBlock, AllocBlocks};
-ghost use Rattle.regalloc2_fastalloc_proofs.specs.BlockSteps.{DefinesBelow, offset_of};
+ghost use Rattle.regalloc2_fastalloc_walk.specs.StateView.{Between, IsBranchStepAt, IsStepAt, ComesTo};
+ghost use Rattle.regalloc2_fastalloc_proofs.specs.BlockSteps.{temp_slots_at, AllocInstInBlock, AllocBlock, BeginBlock, AllocBlocks};
+ghost use Rattle.regalloc2_fastalloc_proofs.specs.BlockSteps.{offset_of};
 
 use super::inst::InstCx;
 use super::state::State;

@@ -1,7 +1,8 @@
-use Rattle.std.proofs.Common.{ℕ, ◌≡◌, ◌<◌, List, length, map, sym, ap, ◌∙◌, subst, rules, slice_index, slice_index_or}
-use Rattle.std.specs.Prelude.{All, Contains}
+use Rattle.std.proofs.Common.{ℕ, ◌≡◌, ◌<◌, List, length, map, refl, sym, ap, ◌∙◌, subst, rules, slice_index, slice_index_or}
+use Rattle.std.specs.Prelude.{All, Contains, Err}
 use Rattle.std.proofs.lemmas.List.{get_or_read}
 use Rattle.std.proofs.lemmas.List.Elements.{Contains-get_or}
+use Rattle.std.proofs.lemmas.Result.{err_from_is_err_and}
 use Rattle.regalloc2_names.specs.Operand.{OperandValue}
 use Rattle.regalloc2_names.specs.Register.{VirtualRegister}
 use Rattle.regalloc2_function.specs.FunctionValue.{FunctionValue, block_at, inst_at}
@@ -74,3 +75,20 @@ returns-clause-ok g c =
     lists_permuted f e k c.args.self.now.slots all c.sort_by_key.new.self.items c.in_ok-sort_by_key.ensures.permutation
     (lists_stores f c.requires.well_formed c.requires.edge.0 e k ie.edge c.args.self.now.slots ks stored c.args.defs.now c.requires.defs c.args.edge.now.branch
     ie.branch all listed)
+
+pub stored_on-requires : goal.stored_on-requires
+stored_on-requires g c = record { within = c.requires.edge.1.within }
+
+pub returns-in_err-stores-clause-err : goal.returns-in_err-stores-clause-err
+returns-in_err-stores-clause-err g c =
+    let p = err_from_is_err_and c.from_residual.result c.from_residual.ensures.1 in
+    rw (p.1 ∙ ap Err (p.2 ∙ c.in_err-stores.ensures.err)) refl
+
+pub returns-in_err-list_params-clause-ok : goal.returns-in_err-list_params-clause-ok
+returns-in_err-list_params-clause-ok g c =
+    let p = err_from_is_err_and c.from_residual-in_err-list_params.result c.from_residual-in_err-list_params.ensures.1 in rw p.1 tt
+
+pub returns-in_err-list_params-clause-err : goal.returns-in_err-list_params-clause-err
+returns-in_err-list_params-clause-err g c =
+    let p = err_from_is_err_and c.from_residual-in_err-list_params.result c.from_residual-in_err-list_params.ensures.1 in
+    rw (p.1 ∙ ap Err (p.2 ∙ c.in_err-list_params.ensures.err)) refl

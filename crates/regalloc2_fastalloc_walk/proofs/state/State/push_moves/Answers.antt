@@ -40,3 +40,16 @@ returns-in-Some-first_scratch-clause-outcome g c =
     (pushes_one c.args.inst_regs.now c.args.class t (tables_of c.push_one.new.self) c.args.moves _ _ by c.args.point c.in-Some.ensures.one.1 c.requires.parallel.ends
     c.requires.apart scratch c.push_one.ensures.rest)
     (λ e memory lacks. absurd (let no_memory : Memory ≡ TooManyLiveRegs = sym memory ∙ lacks in cc))
+
+-- several moves, or no scratch register
+pub returns-clause-outcome : goal.returns-clause-outcome
+returns-clause-outcome g c = c.push_some.ensures.outcome
+
+pub returns-clause-later : goal.returns-clause-later
+returns-clause-later g c = c.push_some.ensures.later
+
+pub returns-clause-machine : goal.returns-clause-machine
+returns-clause-machine g c = c.push_some.ensures.machine
+
+pub returns-clause-err : goal.returns-clause-err
+returns-clause-err g c = c.push_some.ensures.err

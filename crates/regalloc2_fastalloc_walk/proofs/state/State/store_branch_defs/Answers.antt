@@ -243,11 +243,10 @@ returns-clause-step g c =
 pub list_stores-requires : goal.list_stores-requires
 list_stores-requires g c = (
   omega arith,
-  (
-    c.requires.well_formed,
-    (
-      c.requires.defs,
-      ((c.args.block, c.requires.defs.edge c.args.block c.in-Some.edge (sym c.edge_into.ensures ∙ c.in-Some.is)), c.requires.room),
-    ),
-  ),
+  record {
+    well_formed = c.requires.well_formed;
+    defs = c.requires.defs;
+    edge = (c.args.block, c.requires.defs.edge c.args.block c.in-Some.edge (sym c.edge_into.ensures ∙ c.in-Some.is));
+    room = c.requires.room;
+  },
 )
