@@ -13,7 +13,7 @@ use Rattle.regalloc2_parts_steps.specs.declared.borrowed.ScratchReg.{ScratchReg}
 use Rattle.regalloc2_parts.specs.declared.moves.scratch.MoveAndScratchResolver.{MoveAndScratchResolver}
 use Rattle.regalloc2_parts.specs.declared.moves.resolved.MoveVecWithScratch.{MoveVecWithScratch}
 use Rattle.regalloc2_parts.specs.AtOnce.{ends_of, own_names, in_turn}
-use Rattle.regalloc2_parts.specs.Resolved.{moves_listed, has_scratch, IsUnnamed}
+use Rattle.regalloc2_parts.specs.Resolved.{moves_listed, has_scratch, IsRunnable, IsUnnamed}
 
 module _ {G : Type 0} (step : G → Option Place → G → Type 0) where
   -- what a closure returned as it went from the state old to the state new, in at most two calls
@@ -49,6 +49,17 @@ pub record Owes {F G T : Type 0} (registers : F → Option Place → F → Type 
   -- no register represents a stack place
   pub no_memory : (p : Place) → MayAnswer registers f p → stack p true → ⊥
   pub borrowed_no_memory : stack borrowed true → ⊥
+
+-- What a resolver requires: its closures may be called, those that hand out places twice each, and serve the moves, and the moves can be made.
+pub record CanCompute {F G H T A : Type 0} (register_step : F → Option Place → F → Type 0) (register_pre : F → Type 0)
+    (slot_step : G → Option Place → G → Type 0) (slot_pre : G → Type 0) (stack_post : H → Place → Bool → Type 0) (is_callable : H → Type 0)
+    (resolver : MoveAndScratchResolver F G H) (moves : MoveVecWithScratch T A) : Type 0 where
+  pub registers : MayBeAskedTwice register_step register_pre resolver.find_free_reg
+  pub slots : MayBeAskedTwice slot_step slot_pre resolver.get_stackslot
+  pub stack : is_callable resolver.is_stack_alloc
+  pub runnable : IsRunnable moves
+  pub owes : Owes register_step slot_step (stack_post resolver.is_stack_alloc) (InRegister resolver.borrowed_scratch_reg) (moves_listed moves)
+      resolver.find_free_reg resolver.get_stackslot
 
 -- both closures may be called
 pub record CanAsk (register slot : Type 0) : Type 0 where

@@ -4,7 +4,7 @@ ghost use Rattle.std.specs.Prelude.{◌≡◌, ◌<◌, ◌≤◌, ◌^◌, ◌�
 ghost use Rattle.regalloc2_function.specs.Reasons.{IsFirstIn};
 ghost use Rattle.regalloc2_function.specs.WellFormed.{SuccessorsAreBlocks};
 ghost use Rattle.regalloc2_shape.specs.Leaves.{Leaves, ListsOnce, Reaches, met, succs_in};
-ghost use Rattle.regalloc2_shape.specs.Listed.{AreBlocks, AreSuccessors, named_blocks};
+ghost use Rattle.regalloc2_shape.specs.Listed.{AreBlocks, AreSuccessors, CanWalk, named_blocks};
 
 use super::blocks::first_outside;
 use regalloc2_function::Function;
@@ -59,10 +59,7 @@ fn walk<'a, A: Allocator + Copy, F: Fn(Block) -> &'a [Block]>(
     out: &mut Vec<Block, A>,
     succ_blocks: &F,
 ) -> Result<(), AllocError>
-    requires callable { (b : ℕ) → b < length visited.old → F.pre succ_blocks.now b }
-    requires same { (succs : ℕ → List ℕ) × AreSuccessors (F.post succ_blocks.now) (length visited.old) succs × AreBlocks succs (length visited.old) entry }
-    requires unvisited { visited.old ≡ replicate (length visited.old) false }
-    requires empty { out.old.items ≡ [] }
+    requires { CanWalk (λ b. F.pre succ_blocks.now b) (F.post succ_blocks.now) entry visited.old out.old.items }
     ensures { (succs : ℕ → List ℕ) → AreSuccessors (F.post succ_blocks.now) (length visited.old) succs → AreBlocks succs (length visited.old) entry →
         OnOk result (Leaves succs [] (entry ∷ []) out.new.items) }
 {

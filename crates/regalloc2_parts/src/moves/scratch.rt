@@ -2,9 +2,9 @@
 
 ghost use Rattle.std.specs.Prelude.{◌≡◌, ◌⊎◌, true, false, IfOk, IfErr, MatchResult};
 ghost use Rattle.regalloc2_names.specs.Place.{InRegister};
-ghost use Rattle.regalloc2_parts.specs.Resolved.{moves_listed, IsRunnable};
+ghost use Rattle.regalloc2_parts.specs.Resolved.{moves_listed};
 ghost use Rattle.regalloc2_parts.specs.Tracking.{CanExpandBy, IsExpanded};
-ghost use Rattle.regalloc2_parts.specs.Computed.{CanAsk, Owes, MayBeAskedTwice, IsHanding, IsRefusing, IsVia, IsPlaceChosen};
+ghost use Rattle.regalloc2_parts.specs.Computed.{CanAsk, CanCompute, IsHanding, IsRefusing, IsVia, IsPlaceChosen};
 ghost use Rattle.regalloc2_parts.specs.Computed.{Computes, AreApartInMemory, AreSeenApart};
 
 use super::{MoveFault, MoveVec, MoveVecWithScratch, passing};
@@ -77,8 +77,7 @@ where
 {
     /// A free register, or a slot if none is free.
     fn hand_out(&mut self) -> Result<Handed, MoveFault>
-        requires registers { GetReg.pre self.old.find_free_reg }
-        requires slots { GetStackSlot.pre self.old.get_stackslot }
+        requires { CanAsk (GetReg.pre self.old.find_free_reg) (GetStackSlot.pre self.old.get_stackslot) }
         ensures stack { self.new.is_stack_alloc ≡ self.old.is_stack_alloc }
         ensures borrowed { self.new.borrowed_scratch_reg ≡ self.old.borrowed_scratch_reg }
         ensures handed { IfOk result (λ h. IsHanding (λ s a t. GetReg.step s a t) (λ s a t. GetStackSlot.step s a t) self.old.find_free_reg
@@ -165,12 +164,8 @@ where
         &mut self,
         moves: MoveVecWithScratch<T, A>,
     ) -> Result<MoveVec<T, A>, MoveFault>
-        requires registers { MayBeAskedTwice (λ s a t. GetReg.step s a t) (λ s. GetReg.pre s) self.old.find_free_reg }
-        requires slots { MayBeAskedTwice (λ s a t. GetStackSlot.step s a t) (λ s. GetStackSlot.pre s) self.old.get_stackslot }
-        requires stack { IsStackAlloc.IsAlwaysCallable self.old.is_stack_alloc }
-        requires runnable { IsRunnable moves }
-        requires owes { Owes (λ s a t. GetReg.step s a t) (λ s a t. GetStackSlot.step s a t) (λ p b. IsStackAlloc.post self.old.is_stack_alloc p b)
-            (InRegister self.old.borrowed_scratch_reg) (moves_listed moves) self.old.find_free_reg self.old.get_stackslot }
+        requires { CanCompute (λ s a t. GetReg.step s a t) (λ s. GetReg.pre s) (λ s a t. GetStackSlot.step s a t) (λ s. GetStackSlot.pre s)
+            (λ s p b. IsStackAlloc.post s p b) (λ s. IsStackAlloc.IsAlwaysCallable s) self.old moves }
         ensures computed { Computes (λ s a t. GetReg.step s a t) (λ s a t. GetStackSlot.step s a t) (λ p b. IsStackAlloc.post self.old.is_stack_alloc p b)
             self.old self.new moves result }
     {
@@ -204,12 +199,8 @@ where
         mut self,
         moves: MoveVecWithScratch<T, A>,
     ) -> Result<MoveVec<T, A>, MoveFault>
-        requires registers { MayBeAskedTwice (λ s a t. GetReg.step s a t) (λ s. GetReg.pre s) self.find_free_reg }
-        requires slots { MayBeAskedTwice (λ s a t. GetStackSlot.step s a t) (λ s. GetStackSlot.pre s) self.get_stackslot }
-        requires stack { IsStackAlloc.IsAlwaysCallable self.is_stack_alloc }
-        requires runnable { IsRunnable moves }
-        requires owes { Owes (λ s a t. GetReg.step s a t) (λ s a t. GetStackSlot.step s a t) (λ p b. IsStackAlloc.post self.is_stack_alloc p b)
-            (InRegister self.borrowed_scratch_reg) (moves_listed moves) self.find_free_reg self.get_stackslot }
+        requires { CanCompute (λ s a t. GetReg.step s a t) (λ s. GetReg.pre s) (λ s a t. GetStackSlot.step s a t) (λ s. GetStackSlot.pre s)
+            (λ s p b. IsStackAlloc.post s p b) (λ s. IsStackAlloc.IsAlwaysCallable s) self moves }
         ensures computed { (after : MoveAndScratchResolver GetReg GetStackSlot IsStackAlloc)
             × Computes (λ s a t. GetReg.step s a t) (λ s a t. GetStackSlot.step s a t) (λ p b. IsStackAlloc.post self.is_stack_alloc p b) self after moves
             result }

@@ -15,19 +15,13 @@ compute_by_ref-requires g c =
       search rules,
       (
         search rules,
-        (
-          (c.requires.registers _, (λ a t k. c.requires.registers t)),
-          (
-            (c.requires.slots _, (λ a t k. c.requires.slots t)),
-            (
-              c.requires.stack,
-              (
-                c.requires.runnable,
-                owes_lent lend c.args.resolver.now.borrowed_scratch_reg c.requires.borrowed,
-              ),
-            ),
-          ),
-        ),
+        record {
+          registers = (c.requires.registers _, (λ a t k. c.requires.registers t));
+          slots = (c.requires.slots _, (λ a t k. c.requires.slots t));
+          stack = c.requires.stack;
+          runnable = c.requires.runnable;
+          owes = owes_lent lend c.args.resolver.now.borrowed_scratch_reg c.requires.borrowed;
+        },
       ),
     )
 

@@ -23,18 +23,16 @@ walk-requires g c =
     ) in
     λ k. (
       (refl, tt),
-      (
-        λ b less. (let here : b < length f.blocks = omega (arith, less, long) in search rules),
-        (
-          (
-            succs_in f,
-            λ b r less post. search rules,
-            blocks_of f (length c.as_mut_slice.result.now) c.entry_block-entry.result long c.entry_block-entry.ensures
-                c.requires,
-          ),
-          search rules,
-        ),
-      ),
+      record {
+        callable = λ b less. let here : b < length f.blocks = omega (arith, less, long) in search rules;
+        same = (
+          succs_in f,
+          (λ b r less post. search rules),
+          blocks_of f (length c.as_mut_slice.result.now) c.entry_block-entry.result long c.entry_block-entry.ensures c.requires,
+        );
+        unvisited = search rules;
+        empty = search rules;
+      },
     )
 
 pub returns-in-Ok-clause-order : goal.returns-in-Ok-clause-order

@@ -1,11 +1,21 @@
-use Rattle.std.proofs.Common.{ℕ, ◌≡◌, ◌<◌, List, [], ◌∷◌, length, sym, ap, ◌∙◌, subst, arith, slice_index_or}
+use Rattle.std.proofs.Common.{ℕ, ◌≡◌, ◌<◌, true, List, [], ◌∷◌, length, sym, ap, ◌∙◌, subst, arith, slice_index_or, rules}
 use Rattle.std.specs.Prelude.{Contains, ◌↔◌, filter, not}
 use Rattle.std.proofs.lemmas.List.{get_or_read}
 use Rattle.regalloc2_names.specs.Register.{Register, class_code, is_register}
+use Rattle.regalloc2_names.specs.RegisterSet.{has_register}
 use Rattle.regalloc2_fastalloc_state.specs.StateParts.{AllocatableRegsValue, lru_of}
 use Rattle.regalloc2_fastalloc_state.proofs.LrusByClass.{rings_kept, ring_replaced, other_ring}
 use Rattle.regalloc2_fastalloc_state.proofs.allocatable.AllocatableRegs.poke.Given.{Over}
 use Rattle.regalloc2_fastalloc_state.proofs.allocatable.AllocatableRegs.poke.Goals as goal
+
+pub poke-requires : goal.poke-requires
+poke-requires g c =
+    let lrus : List (List Register) = c.self.inside.lrus.items in
+    let lt : c.code.result < length lrus = omega (arith, c.self.invariant.0.three, c.code.ensures.small) in
+    let ring : c.index-self-code.result ≡ slice_index_or lrus (class_code c.args.preg.class) [] = get_or_read lrus _ _ lt c.index-self-code.is []
+    ∙ ap (λ (k : ℕ). slice_index_or lrus k []) (c.code.ensures.code ∙ ap class_code c.class.ensures) in
+    let member = subst (λ (t : AllocatableRegsValue). has_register t.allocatable c.args.preg ≡ true) (sym c.self.view_is) c.requires.member in
+    subst (λ (l : List Register). Contains l c.args.preg) (sym (sym c.index-self-code.is ∙ ring)) (c.self.invariant.0.all c.args.preg (search rules) member)
 
 pub invariant_of-self : goal.invariant_of-self
 invariant_of-self g c =

@@ -15,8 +15,5 @@ returns-in-Slot-clause-chosen g c =
     c.hand_out.new.self.find_free_reg c.args.self.now.get_stackslot c.hand_out.new.self.get_stackslot h) c.in-Slot.is c.in_ok-register.ensures.handed in
     inr (Slot c.in-Slot.slot, c.if-not-is_needed.false, handed, refl)
 
-pub hand_out-requires-clause-registers : goal.hand_out-requires-clause-registers
-hand_out-requires-clause-registers g c = c.requires.registers
-
-pub hand_out-requires-clause-slots : goal.hand_out-requires-clause-slots
-hand_out-requires-clause-slots g c = c.requires.slots
+pub hand_out-requires : goal.hand_out-requires
+hand_out-requires g c = c.requires
