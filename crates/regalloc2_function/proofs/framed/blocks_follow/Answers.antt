@@ -1,4 +1,4 @@
-use Rattle.std.proofs.Common.{◌<◌, length, arith, below_more}
+use Rattle.std.proofs.Common.{◌<◌, length, refl, arith, below_more}
 use Rattle.regalloc2_function.specs.FunctionValue.{FunctionValue, block_at}
 use Rattle.regalloc2_function.specs.WellFormed.{FollowsAt}
 use Rattle.regalloc2_function.proofs.framed.blocks_follow.Goals as goal
@@ -16,3 +16,9 @@ loop-b-preserved g c =
       within = c.loop-b.invariant.within;
       so_far = below_more (λ n. FollowsAt f n (block_at f n)) _ c.loop-b.invariant.so_far (rw c.new.ensures at (c.follows.ensures.0 c.if-not-follows.false));
     }
+
+pub follows-requires : goal.follows-requires
+follows-requires g c = omega (arith, c.loop-b.invariant.within, c.new.ensures)
+
+pub returns : goal.returns
+returns g c = (λ h n less. c.loop-b.invariant.so_far n (omega (arith, c.loop-b.invariant.within)), λ h. refl)

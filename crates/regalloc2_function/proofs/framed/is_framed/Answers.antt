@@ -14,3 +14,18 @@ returns-in-Ok g c = (
   },
   λ framed. c.arguments_counted.ensures.1 framed.counted,
 )
+
+pub returns-then-not-successors_are_blocks : goal.returns-then-not-successors_are_blocks
+returns-then-not-successors_are_blocks g c = (λ h. absurd cc, λ framed. let yes = c.successors_are_blocks.ensures.1 framed.successors in absurd cc)
+
+pub returns-then-not-blocks_follow : goal.returns-then-not-blocks_follow
+returns-then-not-blocks_follow g c = (λ h. absurd cc, λ framed. let yes = c.blocks_follow.ensures.1 framed.follow in absurd cc)
+
+pub arguments_counted-requires-clause-blocks : goal.arguments_counted-requires-clause-blocks
+arguments_counted-requires-clause-blocks g c = c.successors_are_blocks.ensures.0 c.if-not-successors_are_blocks.false
+
+pub arguments_counted-requires-clause-follow : goal.arguments_counted-requires-clause-follow
+arguments_counted-requires-clause-follow g c = c.blocks_follow.ensures.0 c.if-not-blocks_follow.false
+
+pub returns-in-Err : goal.returns-in-Err
+returns-in-Err g c = (λ h. absurd cc, λ framed. let yes = c.in-Err.ensures.ok.1 framed.end in absurd cc)

@@ -30,3 +30,9 @@ loop-b-preserved g c =
       so_far = below_more (λ n. FollowsAt f n (block_at f n)) _ c.loop-b.invariant.so_far
           (rw c.new-block.ensures at (c.follows.ensures.0 c.if-not-follows.false));
     }
+
+pub follows-requires : goal.follows-requires
+follows-requires g c = omega (arith, c.loop-b.invariant.within, c.new-block.ensures)
+
+pub returns-clause-ok : goal.returns-clause-ok
+returns-clause-ok g c = (λ h n less. c.loop-b.invariant.so_far n (omega (arith, c.loop-b.invariant.within)), λ h. refl)

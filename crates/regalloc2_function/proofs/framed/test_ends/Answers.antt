@@ -26,3 +26,18 @@ loop-b-preserved g c =
 
 pub returns-clause-ok : goal.returns-clause-ok
 returns-clause-ok g c = (λ h n less. c.loop-b.invariant.so_far n (omega (arith, c.loop-b.invariant.within)), λ h. refl)
+
+pub ends-requires-clause-block : goal.ends-requires-clause-block
+ends-requires-clause-block g c = omega (arith, c.loop-b.invariant.within, c.new-open.ensures)
+
+pub ends-requires-clause-nonempty : goal.ends-requires-clause-nonempty
+ends-requires-clause-nonempty g c =
+    let f : FunctionValue = g.F.Function.function c.args.f.now in
+    let less : c.new-open.result < length f.blocks = omega (arith, c.loop-b.invariant.within, c.new-open.ensures) in
+    (c.requires c.new-open.result less).0
+
+pub returns-then-not-ends-clause-ok : goal.returns-then-not-ends-clause-ok
+returns-then-not-ends-clause-ok g c =
+    let f : FunctionValue = g.F.Function.function c.args.f.now in
+    let less : c.loop-b.b < length f.blocks = omega (arith, c.loop-b.invariant.within) in
+    (λ h. absurd cc, λ all. let yes' = c.ends.ensures.1 (rw c.new-open.ensures (all c.loop-b.b less)) in absurd cc)
