@@ -1,4 +1,5 @@
-use Rattle.std.proofs.Common.{◌<◌, length, refl, ap, sym, subst, arith, below_more}
+use Rattle.std.proofs.Common.{◌<◌, length, refl, ap, sym, subst, arith, below_more, ◌∙◌}
+use Rattle.std.proofs.lemmas.Bool.{false≢true}
 use Rattle.regalloc2_index.specs.Range.{Span}
 use Rattle.regalloc2_function.specs.FunctionValue.{FunctionValue, block_at}
 use Rattle.regalloc2_function.specs.WellFormed.{CountedAt}
@@ -40,8 +41,10 @@ counts_arguments-requires-clause-nonempty g c =
 pub returns-then-not-counts_arguments : goal.returns-then-not-counts_arguments
 returns-then-not-counts_arguments g c =
     let f : FunctionValue = g.F.Function.function c.args.f.now in
-    let less : c.loop-b.b < length f.blocks = omega (arith, c.loop-b.invariant.within) in
-    (λ h. absurd cc, λ all. let yes = c.counts_arguments.ensures.1 (rw c.new-block.ensures (all c.loop-b.b less)) in absurd cc)
+    let less : c.loop-b.b < length f.blocks = omega (arith, c.loop-b.invariant.within) in (
+      λ h. absurd (false≢true h),
+      λ all. absurd (false≢true (sym c.if-not-counts_arguments.true ∙ c.counts_arguments.ensures.1 (rw c.new-block.ensures (all c.loop-b.b less)))),
+    )
 
 pub returns : goal.returns
 returns g c = (λ h n less. c.loop-b.invariant.so_far n (omega (arith, c.loop-b.invariant.within)), λ h. refl)
