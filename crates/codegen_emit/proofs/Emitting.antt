@@ -1,9 +1,11 @@
 -- Code that grows with each emitted item.
-use Rattle.std.proofs.Common.{ℕ, suc, ◌≡◌, ◌+◌, ◌<◌, ◌≤◌, max, List, [], ◌∷◌, ◌++◌, length, refl, sym, ap, subst, ◌∙◌, arith}
+use Rattle.std.proofs.Common.{ℕ, suc, ◌≡◌, ◌+◌, ◌<◌, ◌≤◌, max, Bool, true, false, List, [], ◌∷◌, ◌++◌, length, refl, sym, ap, subst, ◌∙◌, arith}
 use Rattle.std.proofs.Common.{append_assoc, append-nil, add-one, below_more, get_or, take}
-use Rattle.std.specs.Prelude.{slice_index, All}
+use Rattle.std.specs.Prelude.{slice_index, All, map, nat_lt, if◌then◌else◌}
+use Rattle.std.proofs.Math.Path.{fun_ext}
 use Rattle.std.proofs.Math.ListN.{get_or-map}
-use Rattle.std.proofs.lemmas.List.{length-map, take_more}
+use Rattle.std.proofs.lemmas.Bool.{ltb-true, ltb-false}
+use Rattle.std.proofs.lemmas.List.{get_or_past, length-map, take_more}
 use Rattle.std.proofs.lemmas.List.Recursion.{max_push}
 use Rattle.std.proofs.lemmas.Grind.{common_steps}
 use Rattle.regalloc2_function.specs.FunctionValue.{FunctionValue}
@@ -16,6 +18,7 @@ use Rattle.codegen_ir.specs.declared.operation.Line.{Line}
 use Rattle.codegen_ir.specs.declared.operation.Operation.{Operation}
 use Rattle.codegen_machine.specs.declared.Instruction.{Instruction}
 use Rattle.codegen_emit.specs.Emitted.{item_code, items_code, block_code, blocks_code, block_start, pass_code, passes_code, stack_arguments, outgoing_words}
+use Rattle.codegen_emit.specs.Emitted.{block_label, emitted, resolved}
 
 -- the numbers within a block are within the function
 wider : (first end n : ℕ) (x : Listed) → end ≤ n → IsListedWithin first end x → IsListedWithin 0 n x
@@ -115,3 +118,18 @@ module _ (operations : Operations) (out : OutputValue) where
 
       at_each : (k : ℕ) → k < b + 1 → slice_index more k ≡ block_start operations out f k
       at_each = below_more _ b before at_last
+
+  -- once all blocks are emitted, their first instructions are what jumps are resolved to
+  labels_are : (f : FunctionValue) (starts : List ℕ) → AreStarts f starts (length f.blocks) → (λ b. slice_index starts b) ≡ block_label operations out f
+  labels_are f starts s = fun_ext λ b. at b (nat_lt b (length f.blocks)) refl
+    where
+      at : (b : ℕ) (below : Bool) → nat_lt b (length f.blocks) ≡ below → slice_index starts b ≡ (if below then block_start operations out f b else 0)
+      at b true is = s.starts_at b (ltb-true b (length f.blocks) is)
+      at b false is = get_or_past starts b 0 (omega (arith, s.long, ltb-false b (length f.blocks) is))
+
+  -- the instructions of all blocks, with jumps resolved
+  pub all_resolved : (f : FunctionValue) (b : ℕ) (starts : List ℕ) (code made : List Instruction) → b ≡ length f.blocks → code ≡ blocks_code operations out f b →
+      AreStarts f starts b → made ≡ map (resolved (λ b. slice_index starts b)) code → made ≡ (emitted operations f out).instructions
+  all_resolved f b starts code made all is s resolves =
+      let every : AreStarts f starts (length f.blocks) = subst (λ (n : ℕ). AreStarts f starts n) all s in
+      rw (resolves, is, all, labels_are f starts every) refl

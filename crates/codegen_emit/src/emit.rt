@@ -17,7 +17,7 @@ ghost use Rattle.codegen_emit.specs.Emitted.{block_code, emitted};
 
 use super::placement::{MachinePlace, frame_slots, machine_place};
 use codegen_ir::{
-    Bytes, Condition, Count, Line, Operation, Procedure, Right, ShiftOperator, Width,
+    Bytes, Condition, Count, Line, Operation, Operator, Procedure, Right, ShiftOperator, Width,
 };
 use codegen_machine::{Code, Instruction, Source};
 use regalloc2_function::{Function, InstOrEdit, Output};
@@ -125,6 +125,30 @@ fn put(code: &mut Vec<Instruction>, instruction: Instruction) -> Result<(), Allo
 {
     code.push(instruction)?;
     Ok(())
+}
+
+/// A computation: the register holds the first number, and receives the result.
+fn emit_compute(
+    code: &mut Vec<Instruction>,
+    width: Width,
+    operator: Operator,
+    right: Right,
+    places: &[Allocation],
+) -> Result<(), AllocError>
+    ensures { OnOk result (code.new.items ≡ code.old.items
+        ++ Instruction.Compute width operator (register_of (place_at places.now 0)) (right_source right (place_at places.now 2)) ∷ []) }
+{
+    let to = register(place(places, 0));
+    let from = right_source(right, place(places, 2));
+    put(
+        code,
+        Instruction::Compute {
+            width,
+            operator,
+            to,
+            from,
+        },
+    )
 }
 
 /// A shift, by the count in register 1, or by a constant.
@@ -425,18 +449,7 @@ fn emit_operation(
             operator,
             right,
             ..
-        } => {
-            let from = right_source(right, place(places, 2));
-            put(
-                code,
-                Instruction::Compute {
-                    width,
-                    operator,
-                    to,
-                    from,
-                },
-            )
-        }
+        } => emit_compute(code, width, operator, right, places),
         Operation::Shift {
             width,
             operator,

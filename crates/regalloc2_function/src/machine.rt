@@ -62,11 +62,11 @@ fn of_other_class(set: PRegSet, class: RegClass) -> Option<PReg>
     None
 }
 
-/// Whether the registers differ.
-fn is_other(a: PReg, b: PReg) -> bool
-    ensures { IsTrue result ↔ (a ≢ b) }
+/// Whether the registers are equal.
+fn is_same(a: PReg, b: PReg) -> bool
+    ensures { IsTrue result ↔ (a ≡ b) }
 {
-    !PRegSet::empty().with(a).contains(b)
+    PRegSet::empty().with(a).contains(b)
 }
 
 impl<A: Allocator> MachineEnv<A> {
@@ -104,12 +104,19 @@ impl<A: Allocator> MachineEnv<A> {
         Ok(())
     }
 
+    /// The dedicated scratch register of a class, if there is one.
+    fn scratch(&self, class: RegClass) -> Option<PReg>
+        ensures { result ≡ scratch_of (machine_of self.now) class }
+    {
+        self.scratch_by_class[class as usize]
+    }
+
     /// Tests the dedicated scratch register of a class, if there is one.
     fn test_scratch(&self, class: RegClass) -> Result<(), MachineMisfit>
         ensures ok { OnOk result (IsScratchSound (machine_of self.now) class) }
         ensures misfit { IfErr result (λ m. (f : FunctionValue) → PassesRegisters f (machine_of self.now) class → IsMisfit f (machine_of self.now) m) }
     {
-        let Some(scratch) = self.scratch_by_class[class as usize] else {
+        let Some(scratch) = self.scratch(class) else {
             return Ok(());
         };
         if !is_class(scratch.class(), class) {
@@ -136,8 +143,8 @@ impl<A: Allocator> MachineEnv<A> {
     fn is_scratch(&self, class: RegClass, reg: PReg) -> bool
         ensures { IsTrue result ↔ (scratch_of (machine_of self.now) class ≡ Some reg) }
     {
-        match self.scratch_by_class[class as usize] {
-            Some(scratch) => !is_other(scratch, reg),
+        match self.scratch(class) {
+            Some(scratch) => is_same(scratch, reg),
             None => false,
         }
     }

@@ -1,12 +1,12 @@
 //! The interpreter of a function, step by step.
 
-ghost use Rattle.std.specs.Prelude.{◌≡◌, ◌<◌, ◌^◌, ◌+◌, IfOk, OnOk, if◌then◌else◌, length, map};
+ghost use Rattle.std.specs.Prelude.{◌≡◌, ◌<◌, ◌^◌, ◌+◌, IfOk, OnOk, Some, if◌then◌else◌, length, map};
 ghost use Rattle.regalloc2_semantics.specs.Values.Interpreters.{number_set, passed_on};
 ghost use Rattle.regalloc2_function.specs.FunctionValue.{block_at};
 ghost use Rattle.regalloc2_function.specs.Path.{first_of};
 ghost use Rattle.regalloc2_function.specs.SourceRun.{arguments_at};
 ghost use Rattle.codegen_ir.specs.Numbers.{condition_holds, divided_at, division_traps, is_within, number_at, widened, with_number, Trapped};
-ghost use Rattle.codegen_ir.specs.Meaning.{along, count_number, onward, right_number, stored, procedure_run, procedure_step};
+ghost use Rattle.codegen_ir.specs.Meaning.{along, count_number, done, onward, right_number, stored, procedure_run, procedure_step};
 ghost use Rattle.codegen_ir.specs.Seen.{function_of_procedure, operations};
 ghost use Rattle.codegen_machine.specs.Run.Runs.{arguments_of, first_state, IsProcedureRun};
 ghost use Rattle.codegen_machine.specs.Run.States.{numbers_by_vreg, procedure_outcome, state_of};
@@ -254,20 +254,19 @@ impl State {
         Ok(Standing::Running)
     }
 
-    /// Makes a step.
-    pub fn step(
+    /// Makes the step of an operation.
+    fn perform(
         &mut self,
         alloc: Global,
         procedure: &Procedure,
+        operation: &Operation,
         arguments: &[u64],
     ) -> Result<Standing, AllocError>
-        ensures { IfOk result (λ r. procedure_step (function_of_procedure procedure.now) (operations procedure.now) (arguments_of arguments.now) (state_of self.old)
+        requires room { self.old.inst + 1 < 2 ^ 64 }
+        ensures { IfOk result (λ r. done (function_of_procedure procedure.now) (arguments_of arguments.now) (Some operation.now) (state_of self.old)
             ≡ procedure_outcome r self.new) }
     {
-        let Some(line) = procedure.lines.get(self.inst) else {
-            return Ok(Standing::Stuck);
-        };
-        match line.operation {
+        match *operation {
             Operation::Argument { to, index } => self.write(to, argument(arguments, index)),
             Operation::Constant { to, value } => self.write(to, value),
             Operation::Copy { to, from } => {
@@ -353,6 +352,22 @@ impl State {
             }
             Operation::Call { .. } => Ok(Standing::Stuck),
             Operation::Return { value } => Ok(Standing::Returned(self.number(value))),
+        }
+    }
+
+    /// Makes a step: that of the current line.
+    pub fn step(
+        &mut self,
+        alloc: Global,
+        procedure: &Procedure,
+        arguments: &[u64],
+    ) -> Result<Standing, AllocError>
+        ensures { IfOk result (λ r. procedure_step (function_of_procedure procedure.now) (operations procedure.now) (arguments_of arguments.now) (state_of self.old)
+            ≡ procedure_outcome r self.new) }
+    {
+        match procedure.lines.get(self.inst) {
+            Some(line) => self.perform(alloc, procedure, &line.operation, arguments),
+            None => Ok(Standing::Stuck),
         }
     }
 }

@@ -1,4 +1,5 @@
-use Rattle.std.proofs.Common.{◌<◌, length, refl, arith, below_more}
+use Rattle.std.proofs.Common.{◌<◌, length, refl, arith, below_more, sym, ◌∙◌}
+use Rattle.std.proofs.lemmas.Bool.{false≢true}
 use Rattle.regalloc2_function.specs.FunctionValue.{FunctionValue, block_at}
 use Rattle.regalloc2_function.specs.WellFormed.{FollowsAt}
 use Rattle.regalloc2_function.proofs.framed.test_blocks.Goals as goal
@@ -6,8 +7,10 @@ use Rattle.regalloc2_function.proofs.framed.test_blocks.Goals as goal
 pub returns-then-not-follows-clause-ok : goal.returns-then-not-follows-clause-ok
 returns-then-not-follows-clause-ok g c =
     let f : FunctionValue = g.F.Function.function c.args.f.now in
-    let less : c.loop-b.b < length f.blocks = omega (arith, c.loop-b.invariant.within) in
-    (λ h. absurd cc, λ all. let yes = c.follows.ensures.1 (rw c.new-block.ensures (all c.loop-b.b less)) in absurd cc)
+    let less : c.loop-b.b < length f.blocks = omega (arith, c.loop-b.invariant.within) in (
+      λ h. absurd (false≢true h),
+      λ all. absurd (false≢true (sym c.if-not-follows.true ∙ c.follows.ensures.1 (rw c.new-block.ensures (all c.loop-b.b less)))),
+    )
 
 pub returns-then-not-follows-clause-first : goal.returns-then-not-follows-clause-first
 returns-then-not-follows-clause-first g c =
@@ -17,7 +20,7 @@ returns-then-not-follows-clause-first g c =
       refl,
       (
         less,
-        λ h. let yes = c.follows.ensures.1 h in absurd cc,
+        λ h. false≢true (sym c.if-not-follows.true ∙ c.follows.ensures.1 h),
         λ m low. c.loop-b.invariant.so_far m (omega (arith, c.new-block.ensures)),
       ),
     )
@@ -30,3 +33,9 @@ loop-b-preserved g c =
       so_far = below_more (λ n. FollowsAt f n (block_at f n)) _ c.loop-b.invariant.so_far
           (rw c.new-block.ensures at (c.follows.ensures.0 c.if-not-follows.false));
     }
+
+pub follows-requires : goal.follows-requires
+follows-requires g c = omega (arith, c.loop-b.invariant.within, c.new-block.ensures)
+
+pub returns-clause-ok : goal.returns-clause-ok
+returns-clause-ok g c = (λ h n less. c.loop-b.invariant.so_far n (omega (arith, c.loop-b.invariant.within)), λ h. refl)
