@@ -1,17 +1,17 @@
 -- Chunks of an array and of saved copies of it.
 use Rattle.std.proofs.Common.{ℕ, ◌≡◌, ◌+◌, ◌*◌, ◌<◌, ◌≤◌, ◌/◌, ◌%◌, arith, List, length, get_or, sym, ap, ◌∙◌, subst}
 use Rattle.std.proofs.Common.{Bool, true, false, nat_eq, refl, ◌-◌, ◌≢◌, inl, inr}
-use Rattle.std.specs.Prelude.{not}
+use Rattle.std.specs.Prelude.{not, slice_set}
 use Rattle.std.specs.List.{between}
 use Rattle.std.specs.Cmp.Lexicographic.{pointwise}
-use Rattle.std.proofs.lemmas.Bool.{cases_lt}
+use Rattle.std.proofs.lemmas.Bool.{cases_eq, cases_lt}
 use Rattle.std.proofs.lemmas.Bool.Decides.{Decides-eqb}
 use Rattle.std.proofs.lemmas.Slice.Eq.{slice_eq-Decides}
-use Rattle.std.proofs.lemmas.List.{ext_get_or}
+use Rattle.std.proofs.lemmas.List.{ext_get_or, get_or-set_other, get_or-set_same, length-set}
 use Rattle.std.proofs.lemmas.List.Edits.{get_or-between, length-between}
 use Rattle.regalloc2_checker_sets.specs.SavedCopies.{Copies, saved_at, number_in_cell, IsChunkAt}
 use Rattle.regalloc2_checker_sets.specs.SavedCopies.{AreSameBetween}
-use Rattle.regalloc2_checker_sets.specs.SavedNumbers.{AreChunksKept, ArePartsAlike}
+use Rattle.regalloc2_checker_sets.specs.SavedNumbers.{AreChunksKept, AreLoaded, ArePartsAlike}
 
 -- if all numbers are zeros, each chunk is at the beginning of the words
 pub chunks-new : (words cells : List ℕ) (bases : Copies) → length words ≡ 64 → ((i : ℕ) → get_or words i 0 ≡ 0) → ((i : ℕ) → get_or cells i 0 ≡ 0) →
@@ -76,3 +76,51 @@ same-where-not xs ys r e d = (slice_eq-Decides Decides-eqb xs ys (pointwise nat_
     yes : (b : Bool) → not b ≡ false → b ≡ true
     yes true h = refl
     yes false h = absurd cc
+
+-- the array has the chunks of a saved copy, and the working bases are that copy's
+pub chunks-loaded : (words cells new : List ℕ) (bases now : Copies) (k : ℕ) → AreChunksKept words cells bases → length new ≡ length cells →
+    AreLoaded words new bases k (length bases.cells) → now.words ≡ bases.words → now.saved ≡ bases.saved → length now.cells ≡ length bases.cells →
+    ((j : ℕ) → j < length now.cells → number_in_cell now j ≡ saved_at bases k j) → AreChunksKept words new now
+chunks-loaded words cells new bases now k h long loaded w s n at = record {
+  whole = rw long h.whole;
+  long = omega (arith, long, n, h.long);
+  within = λ i j l. rw (w, s) (h.within i j (omega (arith, l, n)));
+  small = λ i j l. rw (w, s) (h.small i j (omega (arith, l, n)));
+  known = λ j l small. subst (IsChunkAt words new j) (sym (at j l)) (loaded j (omega (arith, l, n)) (omega (arith, l, n)));
+  past_now = λ j high l. at j l ∙ h.past_saved k j (omega (arith, high, long)) (omega (arith, l, n));
+  past_saved = λ i j high l. rw (w, s) (h.past_saved i j (omega (arith, high, long)) (omega (arith, l, n)));
+}
+
+-- so each of its numbers is that of the copy
+pub number-loaded : (words new : List ℕ) (bases : Copies) (k i : ℕ) → AreLoaded words new bases k (length bases.cells) → i / 64 < length bases.cells →
+    get_or new i 0 ≡ get_or words (saved_at bases k (i / 64) + i % 64) 0
+number-loaded words new bases k i loaded less =
+    subst (λ n. get_or new n 0 ≡ get_or words (saved_at bases k (i / 64) + i % 64) 0) (omega arith) ((loaded (i / 64) less less).same (i % 64) (omega arith))
+
+-- a number is written, and its chunk isn't stored any more
+pub chunks-written : (words cells : List ℕ) (bases new : Copies) (p x : ℕ) → p < length cells →
+    new ≡ record bases { cells = slice_set bases.cells (p / 64) 4294967295 } → AreChunksKept words cells bases → AreChunksKept words (slice_set cells p x) new
+chunks-written words cells bases new p x less e h =
+    let inside : p / 64 < length bases.cells = omega (arith, less, h.long) in
+    let count = length-set cells p x in
+    let long = length-set bases.cells (p / 64) 4294967295 in
+    subst (AreChunksKept words (slice_set cells p x)) (sym e) (record {
+      whole = rw count h.whole;
+      long = omega (arith, h.long, count, long);
+      within = λ k j l. h.within k j (omega (arith, l, long));
+      small = λ k j l. h.small k j (omega (arith, l, long));
+      known = λ j l small. elim (cases_eq j (p / 64)) [
+        | inl q ↦ (let at = ap (λ n. get_or (slice_set bases.cells (p / 64) 4294967295) n 0) q ∙ get_or-set_same bases.cells (p / 64) 4294967295 0 inside in
+            absurd (omega (arith, at, small)))
+        | inr n ↦
+            let other = get_or-set_other bases.cells (p / 64) j 4294967295 0 n in
+            let chunk = h.known j (omega (arith, l, long)) (subst (λ m. m < 4294967295) other small) in
+            subst (IsChunkAt words (slice_set cells p x) j) (sym other) (record {
+              within = chunk.within;
+              same = λ t lt. get_or-set_other cells p (64 * j + t) x 0 (λ q. n (omega (arith, q, lt))) ∙ chunk.same t lt;
+            })
+      ];
+      past_now = λ j high l. get_or-set_other bases.cells (p / 64) j 4294967295 0 (λ q. omega (arith, q, high, count, less))
+          ∙ h.past_now j (omega (arith, high, count)) (omega (arith, l, long));
+      past_saved = λ k j high l. h.past_saved k j (omega (arith, high, count)) (omega (arith, l, long));
+    })

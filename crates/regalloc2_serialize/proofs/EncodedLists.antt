@@ -8,8 +8,8 @@ use Rattle.std.proofs.lemmas.Iterator.Adapters.{option_map_id}
 use Rattle.serde_json.specs.Data.{Data}
 use Rattle.regalloc2_function.specs.declared.serialize.StoredFault.{StoredFault}
 use Rattle.regalloc2_function.specs.declared.serialize.StoredFault.TheVariants.{Memory, Shape}
-use Rattle.regalloc2_serialize.specs.FromJson.{byte, or_null, list, member}
-use Rattle.regalloc2_serialize.specs.JsonShape.{machine, HasJsonShape, IsFunctionAt, IsRefusal}
+use Rattle.regalloc2_serialize.specs.FromJson.{byte, word, long, triple, quadruple, or_null, list, member}
+use Rattle.regalloc2_serialize.specs.JsonShape.{machine, output, HasJsonShape, IsFunctionAt, IsRefusal}
 use Rattle.regalloc2_serialize.specs.declared.data.StoredFunction.{StoredFunction}
 
 -- mapping a list by two functions that agree everywhere gives equal lists
@@ -61,6 +61,16 @@ pub machine-read : {X : Type 0} (items : X → List ℕ) (d : Data) (p n : List 
     machine d ≡ Some (record { preferred = map items p; non_preferred = map items n; scratch = s; fixed_stack_slots = f })
 machine-read items d p n s f hp hn hs hf =
     machine-made d (map items p) (map items n) s f (lists-read items _ p hp) (lists-read items _ n hn) (hs ∙ ap Some (options-shown s)) (plain-read _ f hf)
+
+-- where its five members are read from JSON, an output is read that has them
+pub output-read : (d : Data) (n : ℕ) (e : List (ℕ × ℕ × ℕ)) (a o : List ℕ) (l : List (ℕ × ℕ × ℕ × ℕ)) →
+    member (codes "num_spillslots") long d ≡ Some n →
+    member (codes "edits") (list triple) d ≡ Some (map (λ x. x) e) →
+    member (codes "allocs") (list word) d ≡ Some (map (λ x. x) a) →
+    member (codes "inst_alloc_offsets") (list word) d ≡ Some (map (λ x. x) o) →
+    member (codes "debug_locations") (list quadruple) d ≡ Some (map (λ x. x) l) →
+    output d ≡ Some (record { num_spillslots = n; edits = e; allocs = a; offsets = o; debug_locations = l })
+output-read d n e a o l hn he ha ho hl = rw (hn, plain-read _ e he, plain-read _ a ha, plain-read _ o ho, plain-read _ l hl) refl
 
 -- an option that is `None` has no value
 pub none-some : {X : Type 0} (o : Option X) → o ≡ None → IsSome o → ⊥

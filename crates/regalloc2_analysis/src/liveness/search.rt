@@ -152,6 +152,34 @@ fn take<A: Allocator>(near: &mut Vec<Block, A>, far: &mut Vec<Block, A>) -> Opti
     }
 }
 
+/// Whether a path over blocks that don't define the vreg comes from the work to the block looked for.
+fn leads_on<A: Allocator, F: Function>(
+    f: &F,
+    vreg: VReg,
+    sought: Block,
+    marked: &mut [bool],
+    near: &mut Vec<Block, A>,
+    far: &mut Vec<Block, A>,
+) -> Result<bool, AllocError>
+    requires framed { IsFramed (F.function f.now) }
+    requires near { All (LeadsBack (F.function f.now) vreg) near.old.items }
+    requires far { All (LeadsBack (F.function f.now) vreg) far.old.items }
+    ensures { IfOk result (λ b. b ≡ true → LeadsBack (F.function f.now) vreg sought) }
+{
+    for _ in 0..f.num_blocks() {
+        let Some(at) = take(near, far) else {
+            return Ok(false);
+        };
+        if !is_unwritten(f, at, vreg) {
+            continue;
+        }
+        if add_succs(f, at, vreg, sought, marked, near, far)? {
+            return Ok(true);
+        }
+    }
+    Ok(false)
+}
+
 /// Whether a block reads or passes a vreg without a definition before, and a path from the entry comes there over blocks
 /// that don't define the vreg and edges that don't give it a value.
 ///
@@ -178,28 +206,9 @@ pub fn reads_early<A: Allocator + Copy, F: Function>(
     }
     let mut marked: Vec<bool, A> = Vec::new(alloc);
     marked.resize(f.num_blocks(), false)?;
-    let mut near: Vec<Block, A> = Vec::new(alloc);
-    let mut far: Vec<Block, A> = Vec::new(alloc);
     mark(marked.as_mut_slice(), entry);
+    let mut near: Vec<Block, A> = Vec::new(alloc);
     near.push(entry)?;
-    for _ in 0..f.num_blocks() {
-        let Some(at) = take(&mut near, &mut far) else {
-            return Ok(false);
-        };
-        if !is_unwritten(f, at, vreg) {
-            continue;
-        }
-        if add_succs(
-            f,
-            at,
-            vreg,
-            block,
-            marked.as_mut_slice(),
-            &mut near,
-            &mut far,
-        )? {
-            return Ok(true);
-        }
-    }
-    Ok(false)
+    let mut far: Vec<Block, A> = Vec::new(alloc);
+    leads_on(f, vreg, block, marked.as_mut_slice(), &mut near, &mut far)
 }

@@ -1,5 +1,7 @@
-use Rattle.std.proofs.Common.{ℕ, ◌≡◌, ◌-◌, ◌<◌, List, Bool, true, length, ap, ◌∙◌, sym, subst, refl, arith}
+use Rattle.std.proofs.Common.{ℕ, ◌≡◌, ◌-◌, ◌<◌, List, Bool, true, length, ap, ◌∙◌, sym, subst, refl, arith, inl, inr}
 use Rattle.std.specs.Prelude.{◌↔◌}
+use Rattle.regalloc2_index.proofs.Bools.{false_refutes}
+use Rattle.regalloc2_index.proofs.Numbers.{below_or_last}
 use Rattle.regalloc2_index.specs.Range.{Span}
 use Rattle.regalloc2_names.specs.Operand.{OperandValue}
 use Rattle.regalloc2_names.specs.Register.{Register}
@@ -58,3 +60,16 @@ inst_operands-operands-requires g c =
     let f : FunctionValue = g.F.Function.function c.args.f.now in
     let last : c.last-branch.result ≡ last_of (block_at f c.args.from) = c.last-branch.ensures ∙ ap (λ (r : Span). r.end - 1) c.block_insns.ensures in
     omega (arith, last, last_within f c.requires.well_formed c.args.from c.requires.block)
+
+pub returns-then-not-ends_in_definitions : goal.returns-then-not-ends_in_definitions
+returns-then-not-ends_in_definitions g c =
+    let f : FunctionValue = g.F.Function.function c.args.f.now in
+    record {
+      long = c.requires.so_far.long;
+      edge = c.requires.so_far.edge;
+      no_edge = λ b none from position less edge. elim (below_or_last from c.args.from less) [
+        | inl before ↦ c.requires.so_far.no_edge b none from position before edge
+        | inr last ↦ false_refutes {P = EndsInDefinitions f c.args.from} c.ends_in_definitions.result c.if-not-ends_in_definitions.true
+            c.ends_in_definitions.ensures.1 (subst (EndsInDefinitions f) last edge.definitions)
+      ];
+    }

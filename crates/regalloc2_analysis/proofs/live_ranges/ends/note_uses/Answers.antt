@@ -1,4 +1,4 @@
-use Rattle.std.proofs.Common.{ℕ, ◌≡◌, ◌+◌, List, true, false, length, sym, ap, subst, ◌∙◌}
+use Rattle.std.proofs.Common.{ℕ, ◌≡◌, ◌+◌, List, true, false, length, sym, ap, subst, ◌∙◌, arith}
 use Rattle.std.specs.Prelude.{nat_eq}
 use Rattle.std.proofs.lemmas.Bool.Decides.{Decides-eqb}
 use Rattle.regalloc2_index.specs.Range.{Span}
@@ -35,3 +35,27 @@ returns-else-eq g c n has =
     let test : nat_eq c.next.result c.end.result ≡ true = (Decides-eqb c.next.result c.end.result).1 same in
     let fails : nat_eq c.next.result c.end.result ≡ false = sym c.eq.ensures ∙ c.if-eq.false in absurd cc)
     (rw c.inst_operands-operands.ensures at (c.note_reads.ensures n has)) (rw c.inst_operands-operands.ensures at (c.note_reads-2.ensures n one))
+
+pub note_reads-requires-clause-apart : goal.note_reads-requires-clause-apart
+note_reads-requires-clause-apart g c = c.requires.apart
+
+pub note_reads-requires-clause-small : goal.note_reads-requires-clause-small
+note_reads-requires-clause-small g c = let limit = (g.met.F.Function.limited c.args.f.now).insts in omega (arith, limit, c.requires.within)
+
+pub note_reads-requires-2-clause-apart : goal.note_reads-requires-2-clause-apart
+note_reads-requires-2-clause-apart g c = rw c.note_reads.auto.ends c.requires.apart
+
+pub note_reads-requires-2-clause-small : goal.note_reads-requires-2-clause-small
+note_reads-requires-2-clause-small g c = let limit = (g.met.F.Function.limited c.args.f.now).insts in omega (arith, limit, c.requires.within)
+
+pub note_passed-requires : goal.note_passed-requires
+note_passed-requires g c =
+    let limit = (g.met.F.Function.limited c.args.f.now).insts in
+    let test : nat_eq c.next.result c.end.result ≡ true = sym c.eq.ensures ∙ c.if-eq.true in
+    record {
+      apart = rw (c.note_reads-2.auto.ends, c.note_reads.auto.ends) c.requires.apart;
+      block = c.requires.block;
+      last = sym c.next.ensures ∙ (Decides-eqb c.next.result c.end.result).0 test ∙ c.end.ensures ∙ ap (λ (r : Span). r.end) c.block_insns.ensures;
+      nonempty = c.requires.first;
+      small = omega (arith, limit, c.requires.within);
+    }

@@ -1,5 +1,7 @@
-use Rattle.std.proofs.Common.{List, Option, ℕ, ◌≡◌, ◌∙◌, length, sym, ap, subst, arith}
+use Rattle.std.proofs.Common.{List, [], ◌++◌, Option, ℕ, ◌≡◌, ◌∙◌, ◌-◌, length, take, replicate, sym, ap, subst, arith}
+use Rattle.std.specs.Prelude.{None, vec_len}
 use Rattle.std.proofs.lemmas.List.{with_items_is}
+use Rattle.std.proofs.Math.Seq.{take-nil}
 use Rattle.regalloc2_function.specs.FunctionValue.{FunctionValue}
 use Rattle.regalloc2_shape.specs.TableLength.{HasRoom}
 use Rattle.regalloc2_analysis.specs.declared.live_ranges.LiveRange.{LiveRange}
@@ -38,3 +40,19 @@ returns-clause-ok g c =
 
 pub returns-clause-few : goal.returns-clause-few
 returns-clause-few g c = omega (arith, c.in_ok-slots.ensures.len, c.table_length.ensures.few)
+
+-- a table that is made longer from nothing
+made : {X : Type 0} (xs old : List X) (n len : ℕ) (x : X) → old ≡ [] → len ≡ 0 → xs ≡ take n old ++ replicate (n - len) x → xs ≡ replicate n x
+made xs old n len x empty none is = is ∙ rw (empty, none, take-nil) (ap (λ m. replicate m x) (omega arith))
+
+pub walk_blocks-requires-clause-no_ends : goal.walk_blocks-requires-clause-no_ends
+walk_blocks-requires-clause-no_ends g c =
+    let long : length c.as_mut_slice.result.now ≡ c.in_ok-slots.count = omega (arith, c.as_mut_slice.ensures.len, c.in_ok-resize.ensures.len) in
+    rw long (c.as_mut_slice.ensures.value ∙ made c.resize.new.self.items c.new-ends.result.items c.in_ok-slots.count (vec_len c.new-ends.result) None
+    c.new-ends.ensures.items c.new-ends.ensures.len c.in_ok-resize.ensures.items)
+
+pub walk_blocks-requires-clause-no_ranges : goal.walk_blocks-requires-clause-no_ranges
+walk_blocks-requires-clause-no_ranges g c =
+    let long : length c.as_mut_slice.result.now ≡ c.in_ok-slots.count = omega (arith, c.as_mut_slice.ensures.len, c.in_ok-resize.ensures.len) in
+    rw long (c.as_mut_slice-2.ensures.value ∙ made c.resize-2.new.self.items c.new-entries.result.items c.in_ok-slots.count (vec_len c.new-entries.result)
+    None c.new-entries.ensures.items c.new-entries.ensures.len c.in_ok-resize-2.ensures.items)

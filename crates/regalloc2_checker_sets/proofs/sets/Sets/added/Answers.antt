@@ -11,3 +11,16 @@ returns-in-Some-clause-found g c =
     ok-as _ _ c.add_pair.result
     (λ n h. set-is c.add_pair.new.self n _ _ (pair-more (is_member c.args.self.now c.args.set) c.args.bits c.in-Some.only is.members) h)
     c.add_pair.ensures.found
+
+pub returns-in-Some-clause-more : goal.returns-in-Some-clause-more
+returns-in-Some-clause-more g c = c.add_pair.ensures.more
+
+pub returns-clause-more : goal.returns-clause-more
+returns-clause-more g c = c.add.ensures.more
+
+pub changed-requires : goal.changed-requires
+changed-requires g c = c.requires
+
+pub returns-clause-found : goal.returns-clause-found
+returns-clause-found g c =
+    ok-as _ _ c.add.result (λ n h. set-is c.add.new.self n _ _ c.in_ok-more.ensures h) c.add.ensures.found

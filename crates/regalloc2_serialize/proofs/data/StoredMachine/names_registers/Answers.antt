@@ -1,17 +1,11 @@
-use Rattle.std.proofs.Common.{◌≡◌, ◌∙◌, sym, Bool, true, false}
+use Rattle.std.proofs.Common.{◌≡◌, ◌∙◌, sym}
 use Rattle.std.specs.Prelude.{All, IfSome, IsTrue, ◌↔◌}
 use Rattle.std.proofs.lemmas.Bool.{false≢true}
 use Rattle.regalloc2_names.specs.Packing.{IsRegisterIndex}
+use Rattle.regalloc2_serialize.proofs.Chains.{both, neither}
 use Rattle.regalloc2_serialize.proofs.data.StoredMachine.names_registers.Goals.{then-are_lists_of_registers, else-are_lists_of_registers}
 use Rattle.regalloc2_serialize.proofs.data.StoredMachine.names_registers.Goals.{then-are_lists_of_registers-2, else-are_lists_of_registers-2}
 use Rattle.regalloc2_serialize.proofs.data.StoredMachine.names_registers.Goals as goal
-
--- a chain of two tests whose first holds says what the second says, and one whose first fails says nothing
-both : {P Q : Type 0} (v a b : Bool) → (IsTrue a ↔ P) → a ≡ true → v ≡ b → (IsTrue b ↔ Q) → IsTrue v ↔ (P × Q)
-both v a b p met is q = (λ h. (p.0 met, q.0 (sym is ∙ h)), λ pq. is ∙ q.1 pq.1)
-
-neither : {P Q : Type 0} (v a : Bool) → (IsTrue a ↔ P) → a ≡ false → v ≡ a → IsTrue v ↔ (P × Q)
-neither v a p unmet is = (λ h. absurd (false≢true (sym (is ∙ unmet) ∙ h)), λ pq. absurd (false≢true (sym unmet ∙ p.1 pq.0)))
 
 pub returns-then-are_scratch_registers : goal.returns-then-are_scratch_registers
 returns-then-are_scratch_registers g c =
@@ -20,7 +14,7 @@ returns-then-are_scratch_registers g c =
     rw c.as_slice.ensures.value at c.are_lists_of_registers.ensures in
     let two : IsTrue c.if-are_lists_of_registers.value ↔ (All (λ l. All IsRegisterIndex l.items) m.preferred_regs_by_class.items
     × All (λ l. All IsRegisterIndex l.items) m.non_preferred_regs_by_class.items) = elim c.if-are_lists_of_registers.branch [
-      | then-are_lists_of_registers w ↦ both _ _ _ one w.if-are_lists_of_registers.true w.value-is
+      | then-are_lists_of_registers w ↦ both _ _ (one.0 w.if-are_lists_of_registers.true) w.value-is
           (rw w.as_slice-then-are_lists_of_registers.ensures.value at w.are_lists_of_registers-then-are_lists_of_registers.ensures)
       | else-are_lists_of_registers w ↦ neither _ _ one w.if-are_lists_of_registers.false w.value-is
     ] in
@@ -48,7 +42,7 @@ returns-else-are_scratch_registers g c =
     rw c.as_slice.ensures.value at c.are_lists_of_registers.ensures in
     let two : IsTrue c.if-are_lists_of_registers.value ↔ (All (λ l. All IsRegisterIndex l.items) m.preferred_regs_by_class.items
     × All (λ l. All IsRegisterIndex l.items) m.non_preferred_regs_by_class.items) = elim c.if-are_lists_of_registers.branch [
-      | then-are_lists_of_registers w ↦ both _ _ _ one w.if-are_lists_of_registers.true w.value-is
+      | then-are_lists_of_registers w ↦ both _ _ (one.0 w.if-are_lists_of_registers.true) w.value-is
           (rw w.as_slice-then-are_lists_of_registers.ensures.value at w.are_lists_of_registers-then-are_lists_of_registers.ensures)
       | else-are_lists_of_registers w ↦ neither _ _ one w.if-are_lists_of_registers.false w.value-is
     ] in (

@@ -93,3 +93,24 @@ returns-clause-function g c =
           ∙ ap (λ h. map (label_at (label_words words)) (range_with_len 0 h.labels)) head)
           (ap (λ h. nat_eq (h.flags / 2) 1) head);
     }
+
+pub machine_from-requires : goal.machine_from-requires
+machine_from-requires g c = c.requires
+
+pub operands_from-requires : goal.operands_from-requires
+operands_from-requires g c = c.requires
+
+pub preds_from-requires : goal.preds_from-requires
+preds_from-requires g c = c.requires
+
+pub succs_from-requires : goal.succs_from-requires
+succs_from-requires g c = c.requires
+
+pub params_from-requires : goal.params_from-requires
+params_from-requires g c = c.requires
+
+pub arguments_from-requires : goal.arguments_from-requires
+arguments_from-requires g c = c.requires
+
+pub returns-clause-machine : goal.returns-clause-machine
+returns-clause-machine g c = c.in_ok-machine.ensures

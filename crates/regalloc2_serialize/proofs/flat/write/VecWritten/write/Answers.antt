@@ -1,4 +1,5 @@
-use Rattle.std.proofs.Common.{subst}
+use Rattle.std.proofs.Common.{subst, ap, ◌∙◌, ◌≡◌, ◌+◌, ◌<◌, ◌++◌, ◌∷◌, [], ℕ, List, length, take, get_or, append_assoc, arith}
+use Rattle.std.proofs.lemmas.List.{flat_map_more, take_all, take_more}
 use Rattle.std.specs.List.{flat_map}
 use Rattle.regalloc2_serialize.specs.Flat.Flat.{HasLongWord}
 use Rattle.std.proofs.lemmas.Result.{err_from_is_err_and}
@@ -13,3 +14,24 @@ returns-in_err-write-clause-limit g c =
     let member = long_member g.T.Flat.words slice c.loop-item.item-index c.item-item.result c.loop-item-test.true c.item-item.is
     (c.in_err-write.ensures.limit e) in
     long_in_list g.T.Flat.words c.args.self.now.items (subst (λ xs. HasLongWord (flat_map g.T.Flat.words xs)) c.as_slice-item-items.ensures.value member))
+
+-- the words of one more item
+words-more : {X : Type 0} (f : X → List ℕ) (to now : List ℕ) (n : ℕ) (xs : List X) (i : ℕ) (x : X) → i < length xs → x ≡ get_or xs i x →
+    now ≡ to ++ n ∷ flat_map f (take i xs) → now ++ f x ≡ to ++ n ∷ flat_map f (take (i + 1) xs)
+words-more f to now n xs i x less is before = rw (before, take_more xs i x less, ← is) (append_assoc to (n ∷ flat_map f (take i xs)) (f x)
+    ∙ ap (λ l. to ++ n ∷ l) (flat_map_more f [] (take i xs) x))
+
+pub loop-item-preserved : goal.loop-item-preserved
+loop-item-preserved g c =
+    let same = c.as_slice-item-items.ensures.value in
+    rw c.in_ok-write.ensures.ok (words-more g.T.Flat.words c.args.to.now.items c.loop-item.to.items (length c.args.self.now.items) c.args.self.now.items
+    c.loop-item.item-index c.item-item.result (rw same at c.loop-item-test.true) (rw same at c.item-item.is) c.loop-item.invariant)
+
+pub returns-clause-ok : goal.returns-clause-ok
+returns-clause-ok g c =
+    rw (take_all c.loop-item.item-index c.args.self.now.items (rw c.as_slice-item-items.ensures.value at c.loop-item-test.false)) at c.loop-item.invariant
+
+pub loop-item-init : goal.loop-item-init
+loop-item-init g c =
+    let count : c.in-Ok.count ≡ length c.args.self.now.items = omega (arith, c.in-Ok.ensures.1, c.len.ensures, c.args.self.now.ok.0) in
+    rw count at c.in_ok-push.ensures.items

@@ -1,6 +1,6 @@
 use Rattle.std.specs.Prelude.{All}
 use Rattle.regalloc2_analysis.specs.Liveness.Search.{LeadsBack}
-use Rattle.regalloc2_analysis.proofs.liveness.search.reads_early.Given as goal
+use Rattle.regalloc2_analysis.proofs.liveness.search.leads_on.Given as goal
 
 -- what waits leads back
 abbrev pub invariant-loop : goal.invariant-loop

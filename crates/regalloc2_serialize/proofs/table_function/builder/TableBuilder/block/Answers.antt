@@ -1,0 +1,24 @@
+use Rattle.std.proofs.Common.{◌≡◌, arith, refl, rules}
+use Rattle.std.proofs.lemmas.List.{length-map, map-append}
+use Rattle.std.proofs.lemmas.Result.{err_from_is_err_and}
+use Rattle.regalloc2_serialize.proofs.table_function.builder.TableBuilder.block.Goals as goal
+
+pub returns-in_err-to_vec-clause-err : goal.returns-in_err-to_vec-clause-err
+returns-in_err-to_vec-clause-err g c = let p = err_from_is_err_and c.from_residual.result c.from_residual.ensures.1 in rw (p.1, p.2) tt
+
+pub returns-in_err-push-clause-err : goal.returns-in_err-push-clause-err
+returns-in_err-push-clause-err g c =
+    let p = err_from_is_err_and c.from_residual-in_err-push.result c.from_residual-in_err-push.ensures.1 in rw (p.1, p.2) tt
+
+pub returns-in_err-push-clause-unchanged : goal.returns-in_err-push-clause-unchanged
+returns-in_err-push-clause-unchanged g c =
+    let p = err_from_is_err_and c.from_residual-in_err-push.result c.from_residual-in_err-push.ensures.1 in
+    rw (p.1, c.in_err-push.ensures.items) refl
+
+pub returns-clause-number : goal.returns-clause-number
+returns-clause-number g c = rw length-map (omega (arith, c.new-4.ensures, c.len-number.ensures, c.args.self.now.blocks.ok.0))
+
+pub returns-clause-ok : goal.returns-clause-ok
+returns-clause-ok g c =
+    let params : c.in_ok-to_vec.field-0.items ≡ c.args.params.now = search rules in
+    rw (c.in_ok-push.ensures.items, map-append, params, c.new.ensures.items, c.new-2.ensures.items, c.new-3.ensures.items) refl
