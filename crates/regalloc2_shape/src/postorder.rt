@@ -1,6 +1,6 @@
 //! The order in which a depth-first walk leaves blocks.
 
-ghost use Rattle.std.specs.Prelude.{◌≡◌, ◌<◌, ◌≤◌, ◌^◌, ◌↔◌, ◌⊎◌, ℕ, List, [], ◌∷◌, length, replicate, false, true, IfErr, OnErr, OnOk};
+ghost use Rattle.std.specs.Prelude.{◌≡◌, ◌<◌, ◌≤◌, ◌↔◌, ◌⊎◌, ℕ, List, [], ◌∷◌, length, false, true, IfErr, OnErr, OnOk};
 ghost use Rattle.regalloc2_function.specs.Reasons.{IsFirstIn};
 ghost use Rattle.regalloc2_function.specs.WellFormed.{SuccessorsAreBlocks};
 ghost use Rattle.regalloc2_shape.specs.Leaves.{Leaves, ListsOnce, Reaches, met, succs_in};

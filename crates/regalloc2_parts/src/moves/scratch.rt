@@ -2,7 +2,6 @@
 
 ghost use Rattle.std.specs.Prelude.{◌≡◌, ◌⊎◌, true, false, IfOk, IfErr, MatchResult};
 ghost use Rattle.regalloc2_names.specs.Place.{InRegister};
-ghost use Rattle.regalloc2_parts.specs.Resolved.{moves_listed};
 ghost use Rattle.regalloc2_parts.specs.Tracking.{CanExpandBy, IsExpanded};
 ghost use Rattle.regalloc2_parts.specs.Computed.{CanAsk, CanCompute, IsHanding, IsRefusing, IsVia, IsPlaceChosen};
 ghost use Rattle.regalloc2_parts.specs.Computed.{Computes, AreApartInMemory, AreSeenApart};
