@@ -1,6 +1,6 @@
 //! Functions: blocks of lines.
 
-ghost use Rattle.std.specs.Prelude.{◌≡◌, ◌⊎◌, ◌<◌, ◌≤◌, ◌^◌, ◌-◌, IfOk, IfErr, IsTrue, All, map, vec_len};
+ghost use Rattle.std.specs.Prelude.{◌≡◌, ◌<◌, ◌≤◌, ◌^◌, ◌-◌, IfOk, IfErr, IsTrue, vec_len};
 ghost use Rattle.std.specs.List.{list_all};
 ghost use Rattle.codegen_ir.specs.Successors.{has_small_number, has_successors, knows_registers, operations_of, wanted_by, IsMalformed};
 

@@ -9,7 +9,7 @@ mod sites;
 mod uses;
 
 ghost use Rattle.std.specs.Prelude.{◌≡◌, ◌≤◌, ◌↔◌, ℕ, Some, length, IsTrue, IfOk, IfErr};
-ghost use Rattle.regalloc2_analysis.specs.BranchDefs.BranchDefs.{EndsInDefinitions, HasDefinitions, MayHaveTables};
+ghost use Rattle.regalloc2_analysis.specs.BranchDefs.BranchDefs.{HasDefinitions, MayHaveTables};
 ghost use Rattle.regalloc2_analysis.specs.BranchDefs.BranchDefs.{fixed_definition as fixed_definition_of};
 ghost use Rattle.regalloc2_analysis.specs.BranchDefs.Tables.{AreBranchDefsOf, edge_of, site_of, stored_of};
 

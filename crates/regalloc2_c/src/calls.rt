@@ -1,6 +1,6 @@
 //! What the calls that allocate do.
 
-ghost use Rattle.std.specs.Prelude.{◌≡◌, ◌+◌, length, IfOk, IfErr};
+ghost use Rattle.std.specs.Prelude.{◌+◌, length, IfOk, IfErr};
 ghost use Rattle.regalloc2.specs.Views.{machine_of};
 ghost use Rattle.regalloc2_c.specs.Outcome.{AreWordsOf, AreUnreadWords, IsJsonOf, IsTextInput, NumbersName, NumbersNameNone};
 ghost use Rattle.regalloc2_c.specs.Outcome.{IsAllocatedOutput, IsAllocateFailure, IsTestedOutput, IsRunFailure, IsAllocationFound, IsRunFound};

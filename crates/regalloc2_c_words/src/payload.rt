@@ -1,6 +1,6 @@
 //! The words that say what a failure is about.
 
-ghost use Rattle.std.specs.Prelude.{◌≡◌, ◌∷◌, [], ℕ, List};
+ghost use Rattle.std.specs.Prelude.{◌≡◌, ◌∷◌, []};
 ghost use Rattle.regalloc2_names.specs.Register.{class_code};
 ghost use Rattle.regalloc2_names.specs.RegisterBits.{bits_of_register};
 ghost use Rattle.regalloc2_c_words.specs.Payload.{misfit_words, refusal_payload};

@@ -1,10 +1,9 @@
 //! The places and vregs that a walk over an output may fill or write.
 
-ghost use Rattle.std.specs.Prelude.{◌≡◌, ◌<◌, ◌↔◌, ◌∷◌, [], true, ℕ, OnOk, IfOk, All, map, length};
+ghost use Rattle.std.specs.Prelude.{◌≡◌, ◌<◌, ◌↔◌, true, ℕ, OnOk, IfOk, All, length};
 ghost use Rattle.std.specs.List.{flat_map};
-ghost use Rattle.regalloc2_names.specs.Place.{InRegister};
 ghost use Rattle.regalloc2_names.specs.Register.{Register};
-ghost use Rattle.regalloc2_names.specs.RegisterSet.{has_register, registers_of};
+ghost use Rattle.regalloc2_names.specs.RegisterSet.{has_register};
 ghost use Rattle.regalloc2_function.specs.FunctionValue.{block_at, inst_at};
 ghost use Rattle.regalloc2_function.specs.SourceRun.{arguments_at};
 ghost use Rattle.regalloc2_function.specs.Views.{output_of};

@@ -1,6 +1,6 @@
 //! A queue of blocks, in the order of their ranks.
 
-ghost use Rattle.std.specs.Prelude.{◌≡◌, ◌<◌, ◌≤◌, ◌+◌, ◌⊎◌, ◌∷◌, ℕ, None, true, false, OnOk, IfSome, IsPermutation, All, length, slice_set};
+ghost use Rattle.std.specs.Prelude.{◌≡◌, ◌<◌, ◌≤◌, ◌+◌, ◌⊎◌, ◌∷◌, ℕ, None, true, false, OnOk, IfSome, IsPermutation, length, slice_set};
 ghost use Rattle.std.specs.BinaryHeap.{heap_items, heap_len};
 ghost use Rattle.std.specs.declared.cmp.Reverse.{Reverse};
 ghost use Rattle.regalloc2_checker_facts.specs.Propagation.{mark_at, queued_block, IsQueue};

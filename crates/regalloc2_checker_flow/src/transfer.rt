@@ -1,10 +1,7 @@
 //! One instruction, as the function's run and the allocated run make it.
 
-ghost use Rattle.std.specs.Prelude.{◌≡◌, ◌<◌, ◌↔◌, ◌∷◌, [], ℕ, OnOk, IfOk, All, true, false, map, not, nat_lt, ◌&&◌, if◌then◌else◌, length, min, take, ◌≤◌};
+ghost use Rattle.std.specs.Prelude.{◌≡◌, ◌<◌, ◌↔◌, ◌∷◌, [], ℕ, OnOk, IfOk, All, true, false, map, not, ◌&&◌, if◌then◌else◌, length, min, take, ◌≤◌};
 ghost use Rattle.regalloc2_names.specs.Operand.{is_def, is_late};
-ghost use Rattle.regalloc2_names.specs.Place.{Place};
-ghost use Rattle.regalloc2_names.specs.Register.{VirtualRegister, is_vreg};
-ghost use Rattle.regalloc2_names.specs.RegisterBits.{bits_of_vreg};
 ghost use Rattle.regalloc2_function.specs.OutputValue.{place_at};
 ghost use Rattle.regalloc2_checker_tables.specs.Holding.{is_in};
 ghost use Rattle.regalloc2_checker_tables.specs.Showing.{shows_now, AreTablesKept};

@@ -5,11 +5,11 @@
 //! words that grows until copies are dropped. Where the chunks of each copy begin is an array of
 //! numbers itself, with saved copies, so neither saving nor loading a copy goes over all chunks.
 
-ghost use Rattle.std.specs.Prelude.{◌≡◌, ◌≢◌, ℕ, ◌+◌, ◌*◌, ◌/◌, ◌%◌, ◌-◌, ◌^◌, ◌<◌, ◌≤◌, length, get_or, slice_set};
+ghost use Rattle.std.specs.Prelude.{◌≡◌, ◌≢◌, ℕ, ◌+◌, ◌*◌, ◌/◌, ◌-◌, ◌^◌, ◌<◌, ◌≤◌, length, get_or, slice_set};
 ghost use Rattle.std.specs.Prelude.{◌⊎◌, IfOk, IfSome, OnOk, OnErr, None, Some, [], true, false};
 ghost use Rattle.std.specs.Bool.{OnTrue};
 ghost use Rattle.regalloc2_checker_sets.specs.Renumbering.{renamed, IsMarked, AppearsIn};
-ghost use Rattle.regalloc2_checker_sets.specs.SavedCopies.{number_in_cell, saved_at, AreMoreWords};
+ghost use Rattle.regalloc2_checker_sets.specs.SavedCopies.{number_in_cell, AreMoreWords};
 ghost use Rattle.regalloc2_checker_sets.specs.SavedNumbers.{copy_count, saved_number, number_now, AreAlikeBetween, AreChunksKept, AreCopiesKept, AreLoaded};
 ghost use Rattle.regalloc2_checker_sets.specs.SavedNumbers.{AreSaved, AreWrittenTo, AreNumbersSame, IsSomeArray, IsWithout};
 

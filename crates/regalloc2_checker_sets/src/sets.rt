@@ -1,8 +1,7 @@
 //! Sets of the bits of vregs, which are never changed once they are made.
 
-ghost use Rattle.std.specs.Prelude.{◌≡◌, ℕ, ◌<◌, ◌≤◌, ◌+◌, ◌++◌, ◌∷◌, [], true, false, ◌&&◌, ◌||◌, nat_eq, if◌then◌else◌, length, get_or, IfOk, OnErr};
+ghost use Rattle.std.specs.Prelude.{◌≡◌, ℕ, ◌<◌, ◌≤◌, ◌+◌, true, false, ◌&&◌, ◌||◌, nat_eq, if◌then◌else◌, length, get_or, IfOk, OnErr};
 ghost use Rattle.std.specs.Bool.{OnTrue, OnFalse};
-ghost use Rattle.regalloc2_shape.specs.Numbers.{has_number};
 ghost use Rattle.regalloc2_checker_sets.specs.EntrySets.{has_bits, is_member, AreMore, IsSetOf, ListsBits, IsLess};
 ghost use Rattle.regalloc2_checker_sets.specs.Renumbering.{AreMovedDown, AreMarkedKept};
 

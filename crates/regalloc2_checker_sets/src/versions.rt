@@ -5,9 +5,9 @@
 //! chunk of the array that is worked on, its base among the words is kept, unless the chunk was
 //! written since.
 
-ghost use Rattle.std.specs.Prelude.{◌≡◌, ℕ, [], true, ◌+◌, ◌*◌, ◌/◌, ◌%◌, ◌-◌, ◌^◌, ◌<◌, ◌≤◌, ◌++◌, Some, None, length, get_or, slice_set, slice_index, map};
+ghost use Rattle.std.specs.Prelude.{◌≡◌, ℕ, [], true, ◌+◌, ◌*◌, ◌/◌, ◌%◌, ◌-◌, ◌^◌, ◌<◌, ◌≤◌, Some, None, length, get_or, slice_set, map};
 ghost use Rattle.std.specs.Bool.{OnTrue};
-ghost use Rattle.std.specs.Prelude.{List, ◌≢◌, IfOk, OnOk, OnErr, IsTrue, ◌↔◌, MatchOption};
+ghost use Rattle.std.specs.Prelude.{◌≢◌, IfOk, OnOk, OnErr, ◌↔◌, MatchOption};
 ghost use Rattle.regalloc2_checker_sets.specs.SavedCopies.{saved_at, number_in_cell, IsChunkAt, IsDifferenceIn, AreSameBetween, AreClean, AreWithin, AreMoreWords};
 ghost use Rattle.regalloc2_checker_sets.specs.SavedCopies.{AreBases, AreSame, IsFirstDifference};
 

@@ -6,7 +6,6 @@
 ghost use Rattle.std.specs.Prelude.{◌≡◌, ◌<◌, ◌⊎◌, ◌↔◌, ℕ, IsTrue, IfOk, IfErr, OnOk, Contains, All, ◌-◌, Some, length, true, false};
 ghost use Rattle.regalloc2_names.specs.Place.{InSlot, InRegister};
 ghost use Rattle.regalloc2_names.specs.Register.{Register};
-ghost use Rattle.regalloc2_names.specs.RegisterSet.{has_register};
 ghost use Rattle.regalloc2_names.specs.declared.RegClass.{RegClass};
 ghost use Rattle.regalloc2_function.specs.FunctionValue.{FunctionValue, inst_at};
 ghost use Rattle.regalloc2_function.specs.Machine.{scratch_of, is_allocatable, IsFixedStackSlot};

@@ -1,7 +1,6 @@
 //! Checks the blocks that a path reaches.
 
-ghost use Rattle.std.specs.Prelude.{◌≡◌, ◌<◌, ◌≤◌, ◌+◌, ◌-◌, ◌++◌, ℕ, false, OnOk, IfOk, List, length};
-ghost use Rattle.regalloc2_function.specs.FunctionValue.{block_at};
+ghost use Rattle.std.specs.Prelude.{◌≡◌, ◌<◌, ◌+◌, ◌-◌, ℕ, false, OnOk, IfOk, length};
 ghost use Rattle.regalloc2_function.specs.Machine.{MachineValue};
 ghost use Rattle.regalloc2_function.specs.OutputValue.{OutputValue, IsInOrder};
 ghost use Rattle.regalloc2_function.specs.Views.{machine_of, output_of};

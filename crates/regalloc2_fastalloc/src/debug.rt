@@ -1,7 +1,7 @@
 //! The debug locations of an output: where the values of labelled vregs are located.
 
 ghost use Rattle.std.specs.Prelude.{◌≡◌, ◌<◌, ℕ, All, IfErr, IfOk, length, map, slice_index};
-ghost use Rattle.regalloc2_function.specs.FunctionValue.{inst_at, operand_count};
+ghost use Rattle.regalloc2_function.specs.FunctionValue.{operand_count};
 ghost use Rattle.regalloc2_function.specs.Stored.{location_of};
 ghost use Rattle.regalloc2_analysis.specs.LiveRanges.LiveRanges.{AreLabelsMarked, IsSSA, IsWanted};
 ghost use Rattle.regalloc2_analysis.specs.LiveRanges.WalkInvariant.{AreNamers};

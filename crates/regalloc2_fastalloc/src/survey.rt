@@ -4,9 +4,8 @@
 //! operands is most of the work of each of these, and so they share the pass.
 
 ghost use Rattle.std.specs.Prelude.{◌≡◌, ◌+◌, ℕ, ◌<◌, ◌^◌, ◌↔◌, All, length, IfOk, IfErr, IsTrue, OnOk, SomeIff};
-ghost use Rattle.regalloc2_function.specs.FunctionValue.{inst_at, op_at, operand_count};
+ghost use Rattle.regalloc2_function.specs.FunctionValue.{inst_at, op_at};
 ghost use Rattle.regalloc2_analysis.specs.LiveRanges.LiveRanges.{IsWanted};
-ghost use Rattle.regalloc2_analysis.specs.LiveRanges.WalkInvariant.{NamesNoAsked};
 ghost use Rattle.regalloc2_fastalloc_state.specs.Validate.Constraints.{AreUnlimited, BranchDefinesInPlace, IsUnlimited, IsUnsupported};
 ghost use Rattle.regalloc2_fastalloc_state.specs.Validate.NoLimits.{AreTaken, IsTakenOperand};
 ghost use Rattle.regalloc2_fastalloc.specs.Survey.{IsSurvey, IsSurveyError};

@@ -1,6 +1,6 @@
 //! The registers that may be allocated.
 
-ghost use Rattle.std.specs.Prelude.{ℕ, ◌≡◌, ◌≢◌, ◌+◌, ◌↔◌, ◌<◌, ◌≤◌, ◌∷◌, ◌||◌, ◌⊎◌, true, not, filter, Contains, IfSome, IfNone};
+ghost use Rattle.std.specs.Prelude.{◌≡◌, ◌≢◌, ◌+◌, ◌↔◌, ◌<◌, ◌∷◌, ◌||◌, ◌⊎◌, true, not, filter, Contains, IfSome, IfNone};
 ghost use Rattle.std.specs.Prelude.{IfOk, IfErr, None, Some, Bool, slice_index_or};
 ghost use Rattle.regalloc2_names.specs.declared.RegClass.{RegClass};
 ghost use Rattle.regalloc2_function.specs.Machine.{is_allocatable};

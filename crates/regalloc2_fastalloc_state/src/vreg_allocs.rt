@@ -1,7 +1,7 @@
 //! The locations of vregs.
 
-ghost use Rattle.std.specs.Prelude.{◌≡◌, ◌≢◌, ◌↔◌, ℕ, ◌<◌, ◌≤◌, ◌⊎◌, [], true, All, length, IfOk, IfErr, IfSome, IfNone, Option, Some};
-ghost use Rattle.regalloc2_names.specs.Place.{Place, NoPlace, InRegister, is_in_register, is_place};
+ghost use Rattle.std.specs.Prelude.{◌≡◌, ◌≢◌, ◌↔◌, ◌<◌, ◌≤◌, ◌⊎◌, [], true, All, length, IfOk, IfErr, IfSome, IfNone, Option, Some};
+ghost use Rattle.regalloc2_names.specs.Place.{InRegister, is_in_register};
 ghost use Rattle.regalloc2_names.specs.Register.{Register, VirtualRegister};
 ghost use Rattle.regalloc2_names.specs.RegisterSet.{has_register};
 ghost use Rattle.regalloc2_fastalloc_state.specs.StateParts.{IsInverse, IsNewest, alloc_of, vreg_of_preg, SetsAlloc, SetsVRegInPReg, no_allocs};

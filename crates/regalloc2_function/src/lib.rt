@@ -5,7 +5,7 @@
 //! `output_of` an [`Output`]. The definitions over them are in this crate's `specs`.
 #![tactic(auto)]
 
-ghost use Rattle.std.specs.Prelude.{◌≡◌, ℕ, ◌+◌, ◌-◌, ◌<◌, ◌≤◌, ◌^◌, SomeIff, length, map, slice_index_or, []};
+ghost use Rattle.std.specs.Prelude.{◌≡◌, ◌+◌, ◌-◌, ◌<◌, ◌≤◌, ◌^◌, SomeIff, length, map, slice_index_or, []};
 ghost use Rattle.regalloc2_function.specs.FunctionValue.{FunctionValue, IsLimited, block_at, inst_at, operand_count, slot_size, label_of};
 
 use regalloc2_index::{Block, Inst, InstRange};

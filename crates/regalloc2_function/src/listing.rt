@@ -6,7 +6,7 @@ ghost use Rattle.std.specs.Iterator.{YieldsFirstBy, item_count};
 ghost use Rattle.regalloc2_names.specs.Point.{before};
 ghost use Rattle.regalloc2_names.specs.Place.{NoPlace};
 ghost use Rattle.regalloc2_function.specs.FunctionValue.{block_at, inst_at};
-ghost use Rattle.regalloc2_function.specs.OutputValue.{OutputValue, OffsetsInOrder, IsInOrder, alloc_start, alloc_end, allocs_of};
+ghost use Rattle.regalloc2_function.specs.OutputValue.{OffsetsInOrder, IsInOrder, alloc_start, alloc_end, allocs_of};
 ghost use Rattle.regalloc2_function.specs.Listing.{block_listing, IsListedWithin};
 ghost use Rattle.regalloc2_function.specs.Views.{output_of, move_of, item_of, rest_of};
 

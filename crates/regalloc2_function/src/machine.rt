@@ -1,9 +1,9 @@
 //! The registers of a machine.
 
-ghost use Rattle.std.specs.Prelude.{◌≡◌, ◌≢◌, ℕ, ◌<◌, ◌+◌, ◌&&◌, ◌↔◌, IsTrue, IfErr, OnErr, OnOk, MatchOption, ◌⊎◌, All, Any, Contains, Some, true};
-ghost use Rattle.std.specs.Prelude.{false, length, slice_index_or, []};
+ghost use Rattle.std.specs.Prelude.{◌≡◌, ◌≢◌, ℕ, ◌<◌, ◌&&◌, ◌↔◌, IsTrue, IfErr, OnErr, OnOk, MatchOption, ◌⊎◌, All, Any, Contains, Some, true};
+ghost use Rattle.std.specs.Prelude.{false, length};
 ghost use Rattle.std.specs.Bool.{OnTrue, OnFalse};
-ghost use Rattle.regalloc2_names.specs.Register.{Register, class_code, invalid_register};
+ghost use Rattle.regalloc2_names.specs.Register.{Register, invalid_register};
 ghost use Rattle.regalloc2_names.specs.RegisterSet.{has_register};
 ghost use Rattle.regalloc2_names.specs.declared.RegClass.{RegClass};
 ghost use Rattle.regalloc2_function.specs.FunctionValue.{FunctionValue, block_at, inst_at};

@@ -1,8 +1,7 @@
 //! Outputs as plain numbers, to be stored.
 
-ghost use Rattle.std.specs.Prelude.{◌≡◌, ◌⊎◌, ℕ, ◌↔◌, IsTrue, All, IfOk, IfErr, map};
+ghost use Rattle.std.specs.Prelude.{◌≡◌, ◌⊎◌, ◌↔◌, IsTrue, All, IfOk, IfErr, map};
 ghost use Rattle.regalloc2_names.specs.PlaceBits.{IsPlaceBits, place_of_bits};
-ghost use Rattle.regalloc2_names.specs.Point.{IsPointNumber};
 ghost use Rattle.regalloc2_function.specs.Views.{output_of, edit_of};
 ghost use Rattle.regalloc2_function.specs.Stored.{NamesMove, NamesLocation, NamesValues, stored_move, stored_location, location_of, output_of_stored};
 

@@ -1,6 +1,6 @@
 //! Ranges of instructions.
 
-ghost use Rattle.std.specs.Prelude.{◌≡◌, ℕ, ◌+◌, ◌-◌, ◌<◌, ◌≤◌};
+ghost use Rattle.std.specs.Prelude.{◌≡◌, ◌+◌, ◌-◌, ◌<◌, ◌≤◌};
 ghost use Rattle.regalloc2_index.specs.Range.{numbers_of};
 
 use super::{Inst, InstRangeIter};

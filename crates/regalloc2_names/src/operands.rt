@@ -1,8 +1,8 @@
 //! Operands of instructions.
 
-ghost use Rattle.std.specs.Prelude.{None, Some, ◌≡◌, ℕ, ◌%◌, ◌<◌, ◌≤◌, ◌↔◌, IsTrue};
+ghost use Rattle.std.specs.Prelude.{None, Some, ◌≡◌, ℕ, ◌<◌, ◌↔◌, IsTrue};
 ghost use Rattle.regalloc2_names.specs.Operand.{is_def, is_late, is_position, is_reading, nonallocatable_register, reads_at};
-ghost use Rattle.regalloc2_names.specs.Packing.{IsConstraintOf, IsOperand, IsOperandBits, bits_of_operand, constraint_code, operand_of_bits};
+ghost use Rattle.regalloc2_names.specs.Packing.{IsConstraintOf, IsOperandBits, bits_of_operand, constraint_code, operand_of_bits};
 
 use super::registers::CLASSES;
 use super::{OperandConstraint, OperandKind, OperandPos, PReg, RegClass, VReg};

@@ -1,7 +1,7 @@
 //! The operands of one instruction, selected by what they do.
 
-ghost use Rattle.std.specs.Prelude.{◌≡◌, ◌+◌, ◌-◌, ◌<◌, ◌∷◌, [], IfSome, IfNone, drop, length, slice_index_or};
-ghost use Rattle.std.specs.Iterator.{IsFinite, YieldsFirst, item_count, at_most};
+ghost use Rattle.std.specs.Prelude.{◌≡◌, ◌+◌, ◌-◌, ◌<◌, ◌∷◌, [], IfSome, IfNone, length, slice_index_or};
+ghost use Rattle.std.specs.Iterator.{YieldsFirst, item_count, at_most};
 ghost use Rattle.regalloc2_names.specs.Operand.{OperandValue};
 ghost use Rattle.regalloc2_parts.specs.Picked.{accepts, left_from, picked, is_def_operand, is_use_operand, is_reuse_operand, is_fixed_operand, is_any_reg_operand, is_late_operand, is_early_operand};
 ghost use Rattle.regalloc2_parts.specs.Matching.{GivesNextMatch, walked_operands, next_index, predicate_of};

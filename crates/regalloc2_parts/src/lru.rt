@@ -1,6 +1,6 @@
 //! Registers ordered by their last use: LRU lists.
 
-ghost use Rattle.std.specs.Prelude.{◌≡◌, ◌-◌, ◌∷◌, ◌<◌, ◌≤◌, ◌↔◌, ◌==◌, IsTrue, true, false, IfSome, IfNone, IfOk, IfErr, All, Contains, length};
+ghost use Rattle.std.specs.Prelude.{◌≡◌, ◌-◌, ◌∷◌, ◌<◌, ◌↔◌, ◌==◌, IsTrue, true, false, IfSome, IfNone, IfOk, IfErr, All, Contains, length};
 ghost use Rattle.std.specs.Prelude.{Bool, Some, not, filter, find, reverse, slice_get, slice_index_or, slice_set, ◌≢◌, [], IsOk};
 ghost use Rattle.std.specs.List.{IsDistinct};
 ghost use Rattle.regalloc2_names.specs.declared.RegClass.{RegClass};

@@ -6,7 +6,7 @@
 
 ghost use Rattle.std.specs.Prelude.{◌≡◌, ◌≢◌, ◌↔◌, ◌<◌, ◌≤◌, length, [], ◌∷◌, ◌++◌, IsTrue, IsOk, IfOk, OnOk, OnErr, IfErr, IfSome, IfNone};
 ghost use Rattle.regalloc2_names.specs.Place.{NoPlace};
-ghost use Rattle.regalloc2_parts.specs.AtOnce.{ends_of, HasOneSourceEach, IsPlace};
+ghost use Rattle.regalloc2_parts.specs.AtOnce.{ends_of, HasOneSourceEach};
 
 mod order;
 mod passing;

@@ -1,10 +1,8 @@
 //! Puts a function's blocks in another order.
 
-ghost use Rattle.std.specs.Prelude.{◌≡◌, ◌≢◌, ◌↔◌, ℕ, ◌<◌, ◌≤◌, ◌^◌, ◌-◌, All, IfOk, IfErr, IsTrue, length, map, slice_index};
-ghost use Rattle.std.specs.List.{range_with_len};
-ghost use Rattle.regalloc2_function.specs.FunctionValue.{block_at, inst_at};
+ghost use Rattle.std.specs.Prelude.{◌≡◌, ◌≢◌, ◌↔◌, ◌<◌, ◌^◌, ◌-◌, All, IfOk, IfErr, IsTrue, length, map, slice_index};
 ghost use Rattle.regalloc2_function.specs.WellFormed.{IsFramed};
-ghost use Rattle.regalloc2_serialize.specs.TableFunction.Table.{function_of_table, inst_of_table};
+ghost use Rattle.regalloc2_serialize.specs.TableFunction.Table.{function_of_table};
 ghost use Rattle.regalloc2_serialize.specs.TableFunction.Draft.{draft_of};
 ghost use Rattle.regalloc2_rewrite.specs.Renumbered.{AreNumbers, IsRenumbered, IsUnnumbered, IsUnrenumbered, renamed};
 

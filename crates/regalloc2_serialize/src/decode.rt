@@ -1,14 +1,14 @@
 //! The function and the machine that stored numbers name.
 
-ghost use Rattle.std.specs.Prelude.{◌≡◌, ℕ, ◌<◌, ◌≤◌, ◌^◌, ◌-◌, IsTrue, All, IfOk, IfErr, IfSome, length, map, slice_index_or, [], vec_len};
+ghost use Rattle.std.specs.Prelude.{◌≡◌, ◌<◌, ◌-◌, All, IfOk, IfErr, IfSome, length, map};
 ghost use Rattle.std.specs.List.{AllZip, range_with_len};
 ghost use Rattle.std.specs.Option.{option_map};
 ghost use Rattle.regalloc2_names.specs.Packing.{IsRegisterIndex, IsVRegBits, IsOperandBits, register_of_bits, vreg_of_bits, operand_of_bits};
 ghost use Rattle.regalloc2_function.specs.FunctionValue.{IsSlotSize, label_of};
 ghost use Rattle.regalloc2_function.specs.Views.{machine_of};
-ghost use Rattle.regalloc2_serialize.specs.Validity.{NamesOperands, NamesRegisters, HasThreeClasses, IsSoundStored, IsRangeWithin, IsFaultOf};
+ghost use Rattle.regalloc2_serialize.specs.Validity.{NamesOperands, NamesRegisters, HasThreeClasses, IsSoundStored, IsFaultOf};
 ghost use Rattle.regalloc2_serialize.specs.Decoded.{HasIndexes, NamesInst, NamesMachine, NamesFunction, stored_block, stored_label, stored_sizes};
-ghost use Rattle.regalloc2_serialize.specs.TableFunction.Table.{inst_of_table, block_of_table, sizes_of_table, function_of_table};
+ghost use Rattle.regalloc2_serialize.specs.TableFunction.Table.{inst_of_table, block_of_table, sizes_of_table};
 ghost use Rattle.regalloc2_serialize.specs.Tables.{function_of_serializable};
 
 use super::data::{StoredFunction, StoredInst, StoredMachine};

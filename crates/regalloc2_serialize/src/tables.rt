@@ -1,6 +1,6 @@
 //! A function with the machine that it is for, as they are stored.
 
-ghost use Rattle.std.specs.Prelude.{◌≡◌, ◌≤◌, ◌<◌, ◌^◌, ◌-◌, All, length, vec_len};
+ghost use Rattle.std.specs.Prelude.{◌≡◌, ◌≤◌, ◌<◌, ◌-◌, All, length, vec_len};
 
 use super::table_function::TableFunction;
 use regalloc2_function::{Function, MachineEnv};

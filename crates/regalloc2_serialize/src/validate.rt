@@ -1,6 +1,6 @@
 //! The tests of stored functions, each over plain data.
 
-ghost use Rattle.std.specs.Prelude.{◌≡◌, ℕ, ◌↔◌, ◌<◌, ◌≤◌, ◌/◌, IsTrue, All, IfSome, length, map};
+ghost use Rattle.std.specs.Prelude.{◌≡◌, ◌↔◌, ◌<◌, ◌/◌, IsTrue, All, IfSome, length, map};
 ghost use Rattle.regalloc2_names.specs.Packing.{IsRegisterIndex, IsVRegBits, IsOperandBits};
 ghost use Rattle.regalloc2_function.specs.FunctionValue.{IsSlotSize};
 ghost use Rattle.regalloc2_serialize.specs.Validity.{HasThreeClasses, HasAllOfEachBlock, HasLengths, IsRangeWithin, AreNumbersWithin, NamesOperands};

@@ -1,6 +1,6 @@
 //! The tables of a function's blocks and instructions, and the tests of its blocks and edges.
 
-ghost use Rattle.std.specs.Prelude.{◌≡◌, ◌<◌, ◌⊎◌, ℕ, [], length, map, IfErr, IfOk, OnErr, OnOk};
+ghost use Rattle.std.specs.Prelude.{◌≡◌, ◌<◌, ◌⊎◌, [], length, map, IfErr, IfOk, OnErr, OnOk};
 ghost use Rattle.regalloc2_function.specs.Reasons.{HasShape, IsShapeFault};
 ghost use Rattle.regalloc2_function.specs.WellFormed.{BlocksFollow};
 ghost use Rattle.regalloc2_shape.specs.Tables.{AreCFGTables, HaveBlocks, IsEmptyInfo, IsInfoOf, entry_point, exit_point};

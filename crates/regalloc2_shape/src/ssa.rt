@@ -8,7 +8,6 @@ ghost use Rattle.regalloc2_function.specs.FunctionValue.{block_at};
 ghost use Rattle.regalloc2_function.specs.Reasons.{param_definition, operand_definition, inst_definitions, block_definitions, definitions_in};
 ghost use Rattle.regalloc2_function.specs.Reasons.{operand_read, inst_reads, argument_use, passed_at, block_uses, uses_in, IsDefinitionFault};
 ghost use Rattle.regalloc2_function.specs.Reasons.{HasShape, IsSound, IsSoundnessFault};
-ghost use Rattle.regalloc2_names.specs.Operand.{is_def, is_reading};
 ghost use Rattle.regalloc2_function.specs.WellFormed.{ArgumentsFit, ArgumentsFitAt, BlocksFollow, DefinedOnce, EntryIsFirst, IsFirstToFail};
 ghost use Rattle.regalloc2_function.specs.WellFormed.{SuccessorsAreBlocks, UsesAreDefined, last_of};
 ghost use Rattle.regalloc2_shape.specs.Definitions.{entry_of, IsDefinedInTable, IsNumberTaken, IsUsable, NamesTaken, NamesUnusable, NotesDefinitions};

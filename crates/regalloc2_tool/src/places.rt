@@ -1,6 +1,6 @@
 //! Places other than registers, with the text after them.
 
-ghost use Rattle.std.specs.Prelude.{◌≡◌, ◌++◌, OnOk};
+ghost use Rattle.std.specs.Prelude.{◌++◌, OnOk};
 ghost use Rattle.std.specs.Io.KnownBytes.{Appends};
 ghost use Rattle.regalloc2_names.specs.Text.{place_text, slot_text};
 

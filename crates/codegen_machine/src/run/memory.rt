@@ -1,6 +1,6 @@
 //! Memory: little-endian numbers in its bytes.
 
-ghost use Rattle.std.specs.Prelude.{◌≡◌, ◌<◌, ◌≤◌, ◌+◌, ◌^◌, true, length, vec_len};
+ghost use Rattle.std.specs.Prelude.{◌≡◌, ◌<◌, ◌≤◌, ◌+◌, ◌^◌, true, vec_len};
 ghost use Rattle.codegen_ir.specs.Numbers.{count_of, four_at, is_within, number_at, pair_at, with_byte, with_four, with_number, with_pair};
 
 use codegen_ir::Bytes;

@@ -1,6 +1,6 @@
 //! Arithmetic of 64-bit integers.
 
-ghost use Rattle.std.specs.Prelude.{◌≡◌, ◌<◌, ◌&&◌, ◌||◌, false, true, nat_eq, not, if◌then◌else◌, slice_index};
+ghost use Rattle.std.specs.Prelude.{◌≡◌, ◌<◌, ◌&&◌, ◌||◌, false, true};
 ghost use Rattle.codegen_ir.specs.Numbers.{at_width, computed, computed_at, condition_holds, divided, divided_at, division_traps, extended};
 ghost use Rattle.codegen_ir.specs.Numbers.{is_negative, least, magnitude, shifted, shifted_at, signed_rank, widened, with_sign};
 ghost use Rattle.codegen_machine.specs.Run.Runs.{arguments_of};

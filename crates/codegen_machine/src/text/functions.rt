@@ -1,7 +1,6 @@
 //! The functions that a text names.
 
-ghost use Rattle.std.specs.Prelude.{◌+◌, ◌≤◌, length, IfErr, IfOk};
-ghost use Rattle.regalloc2_text.specs.Cursor.Cursor.{tokens_left};
+ghost use Rattle.std.specs.Prelude.{◌+◌, length, IfErr};
 ghost use Rattle.regalloc2_text.specs.Cursor.Lines.{IsOnLineBetween};
 
 use regalloc2_text::cursor::{Cursor, Flaw, TextError, Token, split_line, tokenize};

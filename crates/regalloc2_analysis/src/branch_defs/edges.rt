@@ -3,7 +3,6 @@
 ghost use Rattle.std.specs.Prelude.{◌≡◌, ◌<◌, ◌+◌, ◌↔◌, true, ℕ, None, length, slice_index_or, IsTrue, IfOk, OnOk};
 ghost use Rattle.regalloc2_names.specs.Register.{Register};
 ghost use Rattle.regalloc2_names.specs.RegisterSet.{has_register};
-ghost use Rattle.regalloc2_function.specs.FunctionValue.{block_at};
 ghost use Rattle.regalloc2_analysis.specs.BranchDefs.BranchDefs.{DefinesNumber, EndsInDefinitions, HasDefinitions, IsHeld, MayHaveTables};
 ghost use Rattle.regalloc2_analysis.specs.BranchDefs.Notes.{AreUsed, IsMarkedDefinition, ListsStored};
 ghost use Rattle.regalloc2_analysis.specs.BranchDefs.Tables.{AreEdges};

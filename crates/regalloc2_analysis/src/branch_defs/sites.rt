@@ -1,8 +1,6 @@
 //! Which operands of branches define.
 
 ghost use Rattle.std.specs.Prelude.{◌≡◌, ◌<◌, ◌↔◌, ℕ, if◌then◌else◌, slice_set, slice_index_or, length, None, Some, IsTrue, IfOk};
-ghost use Rattle.regalloc2_function.specs.FunctionValue.{block_at, inst_at};
-ghost use Rattle.regalloc2_function.specs.WellFormed.{last_of};
 ghost use Rattle.regalloc2_names.specs.Operand.{is_def};
 ghost use Rattle.regalloc2_shape.specs.TableLength.{HasRoom};
 ghost use Rattle.regalloc2_analysis.specs.BranchDefs.BranchDefs.{MayHaveTables};

@@ -1,10 +1,8 @@
 //! Which vregs another instruction uses than the one that defines them.
 
-ghost use Rattle.std.specs.Prelude.{◌≡◌, ◌<◌, ◌+◌, ◌↔◌, true, false, ℕ, [], length, slice_index_or, IfOk};
+ghost use Rattle.std.specs.Prelude.{◌≡◌, ◌<◌, ◌+◌, true, false, ℕ, length, slice_index_or, IfOk};
 ghost use Rattle.regalloc2_names.specs.Operand.{is_reading};
-ghost use Rattle.regalloc2_names.specs.Register.{VirtualRegister};
-ghost use Rattle.regalloc2_function.specs.FunctionValue.{block_at, inst_at};
-ghost use Rattle.regalloc2_function.specs.WellFormed.{last_of};
+ghost use Rattle.regalloc2_function.specs.FunctionValue.{block_at};
 ghost use Rattle.regalloc2_shape.specs.TableLength.{HasRoom};
 ghost use Rattle.regalloc2_shape.specs.MarkedNumbers.{Marks};
 ghost use Rattle.regalloc2_analysis.specs.BranchDefs.BranchDefs.{MayHaveTables};

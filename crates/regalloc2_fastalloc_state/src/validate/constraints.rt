@@ -1,6 +1,6 @@
 //! The tests of operands' constraints: reuses, fixed registers beside clobbers, limits, and definitions on branches.
 
-ghost use Rattle.std.specs.Prelude.{ℕ, ◌≡◌, ◌<◌, ◌⊎◌, ◌↔◌, All, length, true, false, IsTrue, IsFalse, IsOk, OnOk, IfSome, IfNone, IfErr, slice_index_or};
+ghost use Rattle.std.specs.Prelude.{ℕ, ◌≡◌, ◌<◌, ◌↔◌, All, length, true, false, IsTrue, IsFalse, IsOk, OnOk, IfSome, IfNone, IfErr, slice_index_or};
 ghost use Rattle.regalloc2_function.specs.FunctionValue.{inst_at, op_at};
 ghost use Rattle.regalloc2_function.specs.Views.{machine_of};
 ghost use Rattle.regalloc2_function.specs.WellFormed.{MayBeReused, ReusesAreSound, FixedAvoidClobbers};

@@ -1,10 +1,10 @@
 //! The errors in the moves of a call, or in its scratch resources.
 
 ghost use Rattle.std.specs.Prelude.{◌≡◌, ◌≢◌, ◌<◌, ◌≤◌, ◌||◌, true, false, length, ℕ, IfOk, MatchOption};
-ghost use Rattle.regalloc2_names.specs.Place.{NoPlace, InRegister, InSlot, is_place};
+ghost use Rattle.regalloc2_names.specs.Place.{InRegister, InSlot, is_place};
 ghost use Rattle.regalloc2_names.specs.Register.{Register};
 ghost use Rattle.regalloc2_names.specs.RegisterSet.{has_register};
-ghost use Rattle.regalloc2_parts.specs.Callmoves.CallMoves.{source, target, HasNone, IsLowest, IsFirstOrNone, NamesNoPlace, HasOtherSource, MovesName};
+ghost use Rattle.regalloc2_parts.specs.Callmoves.CallMoves.{source, target, HasNone, IsFirstOrNone, NamesNoPlace, HasOtherSource, MovesName};
 ghost use Rattle.regalloc2_parts.specs.Callmoves.CallMoves.{IsLower, IsNotFree, IsFreeRegister, IsBorrowedTaken, IsNamedSlot, IsFirstInUseOrNone, IsFoundOrNone};
 
 use super::{CallFault, CallFrame};

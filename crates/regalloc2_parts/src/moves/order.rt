@@ -13,7 +13,7 @@
 //! place, and a move from the last one's source to the scratch place is emitted after its first
 //! move.
 
-ghost use Rattle.std.specs.Prelude.{◌≡◌, ◌≢◌, ◌↔◌, true, false, ◌+◌, ◌<◌, ◌≤◌, length, reverse, slice_index, [], Contains, EachIndex, IsTrue, IsOk};
+ghost use Rattle.std.specs.Prelude.{◌≡◌, ◌≢◌, ◌↔◌, true, false, ◌+◌, ◌<◌, ◌≤◌, length, reverse, slice_index, Contains, EachIndex, IsTrue, IsOk};
 ghost use Rattle.std.specs.Prelude.{ℕ, ◌-◌, IfOk, IfErr, IsFalse, OnOk, slice_index_or};
 ghost use Rattle.std.specs.List.{All};
 ghost use Rattle.std.specs.List.Sorted.{IsPermutation, IsNonDecreasingBy};

@@ -1,7 +1,5 @@
 //! Stored outputs from words.
 
-ghost use Rattle.std.specs.Prelude.{◌≡◌, ◌⊎◌, ◌++◌, IfOk, IfErr};
-
 use super::read::{Flat, Words};
 use regalloc2_function::{StoredFault, StoredOutput};
 use std::alloc::Global;

@@ -1,6 +1,6 @@
 //! Builds a function: blocks are declared, then filled in any order.
 
-ghost use Rattle.std.specs.Prelude.{◌≡◌, ℕ, ◌<◌, ◌≤◌, ◌^◌, ◌-◌, ◌+◌, ◌++◌, ◌∷◌, [], false, true, All, OnOk, OnErr, IfOk, IfErr, map, length, vec_len};
+ghost use Rattle.std.specs.Prelude.{◌≡◌, ℕ, ◌<◌, ◌^◌, ◌-◌, ◌+◌, ◌++◌, ◌∷◌, [], false, true, All, OnOk, OnErr, IfOk, IfErr, map, length, vec_len};
 ghost use Rattle.regalloc2_serialize.specs.TableFunction.Table.{function_of_table, inst_of_table, block_of_table};
 ghost use Rattle.regalloc2_serialize.specs.TableFunction.Draft.{draft_of, drafts_of, declared_with, with_inst, with_succ, IsChanged, HasMore, IsUndeclared, IsUnadded};
 ghost use Rattle.regalloc2_serialize.specs.TableFunction.Built.{placed_block, blocks_from, insts_of, edges_to, preds_from, IsBuilt, IsUnbuilt};

@@ -1,6 +1,6 @@
 //! A function that is kept in tables.
 
-ghost use Rattle.std.specs.Prelude.{◌≡◌, ◌<◌, ◌≤◌, ◌^◌, ◌-◌, IsTrue, All, vec_len};
+ghost use Rattle.std.specs.Prelude.{◌<◌, ◌≤◌, ◌^◌, ◌-◌, IsTrue, All, vec_len};
 ghost use Rattle.std.specs.Int.{is_power_of_two};
 
 use super::super::data::InstOpcode;

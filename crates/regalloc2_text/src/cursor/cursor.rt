@@ -1,6 +1,6 @@
 //! A place among the tokens of a line.
 
-ghost use Rattle.std.specs.Prelude.{◌≡◌, ◌<◌, ◌≤◌, length, IsTrue, IfSome};
+ghost use Rattle.std.specs.Prelude.{◌<◌, ◌≤◌, length, IsTrue, IfSome};
 ghost use Rattle.regalloc2_text.specs.Cursor.Cursor.{tokens_left};
 
 use super::error::{Expected, Flaw, Found};

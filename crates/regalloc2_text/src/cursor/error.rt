@@ -1,6 +1,6 @@
 //! Why a text can't be read.
 
-ghost use Rattle.std.specs.Prelude.{◌≡◌, ℕ, ◌≤◌};
+ghost use Rattle.std.specs.Prelude.{ℕ, ◌≤◌};
 
 use std::alloc::{AllocError, AllocFailed};
 use std::error::Error;

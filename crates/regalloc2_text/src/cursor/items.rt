@@ -1,6 +1,6 @@
 //! Registers, vregs, operands, places and points from tokens.
 
-ghost use Rattle.std.specs.Prelude.{◌≡◌, ◌<◌, ◌≤◌, IfOk, IfSome};
+ghost use Rattle.std.specs.Prelude.{◌<◌, ◌≤◌, IfOk, IfSome};
 ghost use Rattle.regalloc2_names.specs.Packing.{IsConstraintOf};
 ghost use Rattle.regalloc2_text.specs.Cursor.Cursor.{tokens_left};
 

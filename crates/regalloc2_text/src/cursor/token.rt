@@ -1,6 +1,6 @@
 //! The words, numbers and signs of a line.
 
-ghost use Rattle.std.specs.Prelude.{◌≡◌, ◌<◌, ◌≤◌, length, IfSome};
+ghost use Rattle.std.specs.Prelude.{◌<◌, ◌≤◌, length, IfSome};
 
 use super::error::{Expected, Flaw, Found};
 use std::alloc::Allocator;

@@ -1,6 +1,6 @@
 //! The registers of a machine, from the lines that name them.
 
-ghost use Rattle.std.specs.Prelude.{◌≡◌, ◌≤◌};
+ghost use Rattle.std.specs.Prelude.{◌≤◌};
 ghost use Rattle.regalloc2_text.specs.Cursor.Cursor.{tokens_left};
 
 use crate::cursor::{Cursor, class_named};

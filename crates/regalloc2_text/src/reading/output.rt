@@ -1,8 +1,5 @@
 //! The places, moves, slots and debug locations of an output.
 
-ghost use Rattle.std.specs.Prelude.{◌≡◌, ◌≤◌};
-ghost use Rattle.regalloc2_text.specs.Cursor.Cursor.{tokens_left};
-
 use super::dump::{slots_moved, slots_named};
 use super::settings::first_of_kind;
 use crate::cursor::{Cursor, Expected, Flaw, Found};

@@ -1,6 +1,6 @@
 //! What a function has once: its entry, its count of vregs, sizes and flags.
 
-ghost use Rattle.std.specs.Prelude.{◌≡◌, ◌≤◌};
+ghost use Rattle.std.specs.Prelude.{◌≤◌};
 ghost use Rattle.regalloc2_text.specs.Cursor.Cursor.{tokens_left};
 
 use super::machine::ByClass;

@@ -1,6 +1,6 @@
 //! Lists as numbers, each of which takes the place of what other lines say.
 
-ghost use Rattle.std.specs.Prelude.{◌≡◌, ◌≤◌};
+ghost use Rattle.std.specs.Prelude.{◌≤◌};
 ghost use Rattle.regalloc2_text.specs.Cursor.Cursor.{tokens_left};
 
 use crate::cursor::{Cursor, Expected};

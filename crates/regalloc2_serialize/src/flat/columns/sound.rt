@@ -2,7 +2,7 @@
 
 ghost use Rattle.std.specs.Prelude.{◌≡◌, ℕ, ◌↔◌, ◌+◌, ◌-◌, ◌*◌, ◌/◌, ◌%◌, ◌<◌, ◌≤◌, ◌^◌, IsTrue, All, IfOk, IfErr, length, slice_index};
 ghost use Rattle.regalloc2_names.specs.Packing.{IsRegisterIndex, IsVRegBits, IsOperandBits};
-ghost use Rattle.regalloc2_serialize.specs.Flat.Columns.Layout.{header_of, AreInColumns};
+ghost use Rattle.regalloc2_serialize.specs.Flat.Columns.Layout.{AreInColumns};
 ghost use Rattle.regalloc2_serialize.specs.Flat.Columns.Value.{long_at};
 ghost use Rattle.regalloc2_serialize.specs.Flat.Columns.Sound.{Covers, AllCovered, AreColumnsWithin, ColumnsNameAll, ColumnsKeepLimits, AreSoundColumns};
 ghost use Rattle.regalloc2_serialize.specs.Flat.Columns.Sound.{ColumnsNameRegisters, ColumnsNameVRegs, IsColumnsFault};

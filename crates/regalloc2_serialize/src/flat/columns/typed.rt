@@ -1,6 +1,6 @@
 //! The lists of columns that were tested.
 
-ghost use Rattle.std.specs.Prelude.{◌≡◌, ℕ, ◌+◌, ◌*◌, ◌/◌, ◌%◌, ◌<◌, ◌≤◌, ◌^◌, ◌∷◌, All, IfOk, OnOk, length, map, slice_index, slice_range, vec_len};
+ghost use Rattle.std.specs.Prelude.{◌≡◌, ℕ, ◌+◌, ◌*◌, ◌/◌, ◌%◌, ◌<◌, ◌≤◌, ◌^◌, ◌∷◌, All, IfOk, length, map, slice_index, vec_len};
 ghost use Rattle.std.specs.List.{range_with_len};
 ghost use Rattle.regalloc2_names.specs.Packing.{IsRegisterIndex, IsVRegBits, IsOperandBits, register_of_bits, operand_of_bits};
 ghost use Rattle.regalloc2_function.specs.FunctionValue.{label_of};
