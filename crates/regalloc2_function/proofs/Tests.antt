@@ -3,6 +3,7 @@ use Rattle.std.proofs.Common.{◌≡◌, Bool, true, false}
 use Rattle.regalloc2_names.specs.declared.RegClass.{RegClass}
 use Rattle.regalloc2_names.specs.declared.RegClass.TheVariants.{Int, Float, Vector}
 use Rattle.std.specs.Bool.{OnFalse}
+use Rattle.std.specs.Prelude.{None, Some}
 
 -- if a test returns false, what holds in that case holds
 pub none_at : {P : Type 0} (b : Bool) → b ≡ false → OnFalse b P → P
@@ -14,3 +15,10 @@ pub by_class : (P : RegClass → Type 0) → P Int → P Float → P Vector → 
 by_class P i f v Int = i
 by_class P i f v Float = f
 by_class P i f v Vector = v
+
+-- values that are there are equal if their contents are, and none is missing
+pub same_some : {X : Type 0} (x y : X) → Some x ≡ Some y → x ≡ y
+same_some x y e = cc
+
+pub none_is_not_some : {X : Type 0} (x : X) → None ≡ Some x → ⊥
+none_is_not_some x e = cc

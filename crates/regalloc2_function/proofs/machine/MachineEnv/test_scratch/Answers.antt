@@ -1,7 +1,9 @@
 use Rattle.std.proofs.Common.{◌≡◌, ap, sym, ◌∙◌}
 use Rattle.std.specs.Prelude.{Some}
+use Rattle.std.proofs.lemmas.Bool.{false≢true}
 use Rattle.regalloc2_names.specs.Register.{Register}
 use Rattle.regalloc2_names.specs.RegisterSet.{has_register}
+use Rattle.regalloc2_function.proofs.Tests.{same_some}
 use Rattle.regalloc2_function.proofs.machine.MachineEnv.test_scratch.Goals as goal
 
 pub returns-in_default-clause-ok : goal.returns-in_default-clause-ok
@@ -9,7 +11,7 @@ returns-in_default-clause-ok g c = λ r is. absurd (c.in_default.not-Some r (c.s
 
 pub returns-then-not-is_class-clause-misfit : goal.returns-then-not-is_class-clause-misfit
 returns-then-not-is_class-clause-misfit g c =
-    λ f passes. (passes, sym c.scratch.ensures ∙ c.in-Some.is, λ e. let yes = c.is_class.ensures.1 (c.class.ensures ∙ e) in absurd cc)
+    λ f passes. (passes, sym c.scratch.ensures ∙ c.in-Some.is, λ e. false≢true (sym c.if-not-is_class.true ∙ c.is_class.ensures.1 (c.class.ensures ∙ e)))
 
 pub returns-then-contains-clause-misfit : goal.returns-then-contains-clause-misfit
 returns-then-contains-clause-misfit g c = λ f passes. (
@@ -21,7 +23,7 @@ returns-then-contains-clause-misfit g c = λ f passes. (
 
 pub returns-in-Some-as_valid-clause-ok : goal.returns-in-Some-as_valid-clause-ok
 returns-in-Some-as_valid-clause-ok g c = λ r is.
-    let e : r ≡ c.in-Some.scratch = cc (sym is ∙ sym c.scratch.ensures ∙ c.in-Some.is) in (
+    let e : r ≡ c.in-Some.scratch = same_some _ _ (sym is ∙ sym c.scratch.ensures ∙ c.in-Some.is) in (
       ap (λ (x : Register). x.class) e ∙ sym c.class.ensures ∙ c.is_class.ensures.0 c.if-not-is_class.false,
       sym (c.allocatable.ensures r) ∙ ap (has_register c.allocatable.result) e ∙ sym c.contains.ensures.member ∙ c.if-contains.false,
       λ h. c.in-Some-as_valid.ensures.1 (sym e ∙ h),
