@@ -3,6 +3,7 @@
 ghost use Rattle.std.specs.Prelude.{◌≡◌, ◌<◌, ◌+◌, ℕ, List, [], true, false, OnOk, IfOk, length, get_or, None};
 ghost use Rattle.std.specs.BinaryHeap.{heap_items};
 ghost use Rattle.std.specs.Bool.{OnTrue, OnFalse};
+ghost use Rattle.regalloc2_names.specs.declared.sets.PRegSet.{PRegSet};
 ghost use Rattle.regalloc2_function.specs.Machine.{MachineValue};
 ghost use Rattle.regalloc2_function.specs.OutputValue.{OutputValue};
 ghost use Rattle.regalloc2_function.specs.WellFormed.{IsFramed};
@@ -246,6 +247,29 @@ fn pass_all_on<F: Function, A: Allocator + Copy>(
     Ok(false)
 }
 
+/// A check before anything is passed on.
+fn start_sweep<F: Function, A: Allocator + Copy>(
+    alloc: A,
+    f: &F,
+    values: PassingTables<A>,
+) -> Result<Sweep<A>, AllocError>
+    requires framed { IsFramed (F.function f.now) }
+    requires count { table_count values ≡ length (F.function f.now).blocks + 1 }
+    requires empty { (k i y : ℕ) → shows_in values k i y ≡ false }
+    ensures { IfOk result (λ s. (o : OutputValue) (slots : PRegSet) → AreNamed (F.function f.now) o values → IsSweepUnderWay A (F.function f.now) o slots
+        s.state.values s.state.reached.items s.is_done.items s.state.queue.is_queued.items (heap_items s.state.queue.heap)) }
+{
+    let room = room_for(f);
+    let is_done = no_marks(alloc, f.num_blocks())?;
+    let state = start(alloc, f, values)?;
+    Ok(Sweep {
+        state,
+        is_done,
+        room,
+        limit: room,
+    })
+}
+
 /// Whether an output has no errors. Returns `false` too if an edge from a block that changed leads to one whose table was
 /// dropped.
 pub fn is_clean<F: Function, A: Allocator + Copy>(
@@ -263,18 +287,12 @@ pub fn is_clean<F: Function, A: Allocator + Copy>(
     requires empty { (k i y : ℕ) → shows_in values k i y ≡ false }
     ensures { IfOk result (λ clean. OnTrue clean ((env : MachineValue) → AreStackSlots env slots → IsReport {A = A} (F.function f.now) env o [])) }
 {
+    let mut sweep = start_sweep(alloc, f, values)?;
     let by = Judging {
         alloc,
         f,
         slots,
         listing,
-    };
-    let room = room_for(f);
-    let mut sweep = Sweep {
-        state: start(alloc, f, values)?,
-        is_done: no_marks(alloc, f.num_blocks())?,
-        room,
-        limit: room,
     };
     pass_all_on(&by, &mut sweep)
 }
