@@ -6,6 +6,6 @@ pass_all_on-requires g c κs within = (
   search rules,
   (
     search rules,
-    (c.requires.1.1.0, (c.requires.1.1.1.0, c.in_ok-sweep.ensures g.o c.args.slots c.requires.1.1.1.1.0)),
+    (c.requires.1.1.1.0, (c.requires.1.1.1.1.0, rw c.requires.1.1.1.1.1.0 at (c.in_ok-sweep.ensures c.args.slots))),
   ),
 )
