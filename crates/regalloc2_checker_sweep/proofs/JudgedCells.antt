@@ -6,6 +6,7 @@ use Rattle.regalloc2_function.specs.Machine.{MachineValue}
 use Rattle.regalloc2_function.specs.OutputValue.{OutputValue}
 use Rattle.regalloc2_function.specs.Fitting.{IsProperPlace}
 use Rattle.regalloc2_names.specs.declared.RegClass.{RegClass}
+use Rattle.regalloc2_names.specs.declared.RegClass.TheVariants.{Int, Float, Vector}
 use Rattle.regalloc2_names.specs.Place.{Place, NoPlace, InRegister, InSlot}
 use Rattle.regalloc2_checker_sweep.specs.CellRegisters.{IsAllocatablePlace}
 use Rattle.regalloc2_checker_sweep.specs.Cells.{AreCells, ArePlacesOfMachine, IsSlotTaken, IsInFrame, AreUnitsApart}
@@ -62,3 +63,9 @@ no_cells f env out (Location k) differ h cells = (let p = cells.places.locations
 no_cells f env out (Slot n) differ h cells = h.2 (cells.frame n h.0 h.1)
 no_cells f env out (Shared m n) differ h cells = h.5 (cells.apart m h.0 n h.1 h.2 h.3 h.4)
 no_cells f env out Memory differ h cells = differ refl
+
+-- a class that is neither of the first two is the last
+pub last_class : (P : RegClass → Type 0) → (P Int → ⊥) → (P Float → ⊥) → (k : RegClass) → P k → P Vector
+last_class P no_int no_float Int p = absurd (no_int p)
+last_class P no_int no_float Float p = absurd (no_float p)
+last_class P no_int no_float Vector p = p

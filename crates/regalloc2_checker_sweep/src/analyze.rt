@@ -123,7 +123,7 @@ fn one_mark<A: Allocator>(alloc: A, count: usize, at: usize) -> Result<Vec<bool,
 
 /// The marks of the blocks that a path is known to reach, and the queue, before anything is passed on: the entry is marked and
 /// queued.
-fn first_marks<F: Function, A: Allocator + Copy>(
+pub fn first_marks<F: Function, A: Allocator + Copy>(
     alloc: A,
     f: &F,
 ) -> Result<(Vec<bool, A>, Queue<A>), AllocError>

@@ -90,7 +90,7 @@ fn check_all<F: Function, A: Allocator + Copy>(
 }
 
 /// Empty tables, one for each block and one beside them, of the places and the vregs that are named.
-fn tables_of<F: Function, A: Allocator + Copy, C: Allocator>(
+pub(crate) fn tables_of<F: Function, A: Allocator + Copy, C: Allocator>(
     alloc: A,
     f: &F,
     out: &Output<C>,
@@ -128,11 +128,10 @@ pub fn find_errors<F: Function, A: Allocator + Copy, B: Allocator, C: Allocator>
         offsets: &out.inst_alloc_offsets,
     };
     let slots = stack_slots(env);
-    let tables = tables_of(alloc, f, out)?;
-    if is_clean(alloc, f, slots, &listing, tables)? {
+    if is_clean(alloc, f, slots, &listing, out)? {
         return Ok(Vec::new(alloc));
     }
-    let new_tables = tables_of(alloc, f, out)?;
-    let mut state = analyze(alloc, f, &listing, new_tables)?;
+    let tables = tables_of(alloc, f, out)?;
+    let mut state = analyze(alloc, f, &listing, tables)?;
     check_all(alloc, f, slots, &listing, &state.reached, &mut state.values)
 }

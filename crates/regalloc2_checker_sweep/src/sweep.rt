@@ -3,24 +3,23 @@
 ghost use Rattle.std.specs.Prelude.{◌≡◌, ◌<◌, ◌+◌, ℕ, [], true, false, OnOk, IfOk, length, get_or, None};
 ghost use Rattle.std.specs.BinaryHeap.{heap_items};
 ghost use Rattle.std.specs.Bool.{OnTrue, OnFalse};
+ghost use Rattle.regalloc2_names.specs.declared.sets.PRegSet.{PRegSet};
 ghost use Rattle.regalloc2_function.specs.Machine.{MachineValue};
-ghost use Rattle.regalloc2_function.specs.OutputValue.{OutputValue};
+ghost use Rattle.regalloc2_function.specs.OutputValue.{OutputValue, IsInOrder};
+ghost use Rattle.regalloc2_function.specs.Views.{output_of};
 ghost use Rattle.regalloc2_function.specs.WellFormed.{IsFramed};
-ghost use Rattle.regalloc2_checker_tables.specs.Showing.{table_count, shows_in};
 ghost use Rattle.regalloc2_checker_facts.specs.CheckInputs.{AreStackSlots};
 ghost use Rattle.regalloc2_checker_facts.specs.Listing.{IsListing};
 ghost use Rattle.regalloc2_checker_facts.specs.Report.{IsReport};
 ghost use Rattle.regalloc2_checker_facts.specs.Swept.{done_at, AreSweepTables, LeadsToNoneDone, IsSweptOn, IsFurther, IsSweepReady, IsSweepUnderWay};
-ghost use Rattle.regalloc2_checker_facts.specs.TableFacts.{AreNamed};
 ghost use Rattle.regalloc2_checker_facts.specs.Tables.{views};
 
-use crate::analyze::{no_marks, propagate_block, start};
-use crate::find_errors::check_block;
+use crate::analyze::{first_marks, no_marks, propagate_block};
+use crate::find_errors::{check_block, tables_of};
 use regalloc2_checker_facts::listing::Listing;
 use regalloc2_checker_flow::check::Judging;
 use regalloc2_checker_flow::edges::Analysis;
-use regalloc2_checker_tables::PassingTables;
-use regalloc2_function::{Function, finds_earlier_writes};
+use regalloc2_function::{Function, Output, finds_earlier_writes};
 use regalloc2_index::Block;
 use regalloc2_names::PRegSet;
 use std::alloc::{AllocError, Allocator};
@@ -246,35 +245,55 @@ fn pass_all_on<F: Function, A: Allocator + Copy>(
     Ok(false)
 }
 
+/// A check before anything is passed on. The tables are made last, since each error after them would drop them.
+fn start_sweep<F: Function, A: Allocator + Copy, C: Allocator>(
+    alloc: A,
+    f: &F,
+    out: &Output<C>,
+) -> Result<Sweep<A>, AllocError>
+    requires framed { IsFramed (F.function f.now) }
+    requires in_order { IsInOrder (F.function f.now) (output_of out.now) }
+    ensures { IfOk result (λ s. (slots : PRegSet) → IsSweepUnderWay A (F.function f.now) (output_of out.now) slots
+        s.state.values s.state.reached.items s.is_done.items s.state.queue.is_queued.items (heap_items s.state.queue.heap)) }
+{
+    let room = room_for(f);
+    let is_done = no_marks(alloc, f.num_blocks())?;
+    let (reached, queue) = first_marks(alloc, f)?;
+    let values = tables_of(alloc, f, out)?;
+    Ok(Sweep {
+        state: Analysis {
+            values,
+            reached,
+            queue,
+        },
+        is_done,
+        room,
+        limit: room,
+    })
+}
+
 /// Whether an output has no errors. Returns `false` too if an edge from a block that changed leads to one whose table was
 /// dropped.
-pub fn is_clean<F: Function, A: Allocator + Copy>(
+pub fn is_clean<F: Function, A: Allocator + Copy, C: Allocator>(
     alloc: A,
     f: &F,
     slots: PRegSet,
     listing: &Listing<'_>,
-    values: PassingTables<A>,
+    out: &Output<C>,
 ) -> Result<bool, AllocError>
     ghost o: { OutputValue }
     requires listing { IsListing (F.function f.now) o listing.now }
     requires framed { IsFramed (F.function f.now) }
-    requires named { AreNamed (F.function f.now) o values }
-    requires count { table_count values ≡ length (F.function f.now).blocks + 1 }
-    requires empty { (k i y : ℕ) → shows_in values k i y ≡ false }
+    requires output { output_of out.now ≡ o }
+    requires in_order { IsInOrder (F.function f.now) (output_of out.now) }
     ensures { IfOk result (λ clean. OnTrue clean ((env : MachineValue) → AreStackSlots env slots → IsReport {A = A} (F.function f.now) env o [])) }
 {
+    let mut sweep = start_sweep(alloc, f, out)?;
     let by = Judging {
         alloc,
         f,
         slots,
         listing,
-    };
-    let room = room_for(f);
-    let mut sweep = Sweep {
-        state: start(alloc, f, values)?,
-        is_done: no_marks(alloc, f.num_blocks())?,
-        room,
-        limit: room,
     };
     pass_all_on(&by, &mut sweep)
 }

@@ -1,10 +1,8 @@
-use Rattle.std.proofs.Common.{◌<◌, ℕ, List, Bool, [], length, refl}
+use Rattle.std.proofs.Common.{◌<◌, ℕ, List, Bool, length, refl}
 use Rattle.std.specs.BinaryHeap.{heap_items}
 use Rattle.std.specs.declared.cmp.Reverse.{Reverse}
 use Rattle.regalloc2_function.specs.FunctionValue.{FunctionValue}
-use Rattle.regalloc2_checker_facts.specs.Tables.{views}
-use Rattle.regalloc2_checker_facts.proofs.Queues.{reached-one}
-use Rattle.regalloc2_checker_facts.proofs.Started.{started, started-entry}
+use Rattle.regalloc2_checker_sweep.proofs.FirstMarks.{first_sized, first_way}
 use Rattle.regalloc2_checker_sweep.proofs.analyze.start.Goals as goal
 
 pub returns : goal.returns
@@ -17,8 +15,6 @@ returns g c =
     let there : f.entry < length f.blocks = c.requires.framed.successors.0 in
     record {
       values = refl;
-      sized = record { reached = h.long; count = c.requires.count; marks = h.size };
-      on_way = λ o. started f o c.args.values rs marks entries there h.long h.one h.size h.marked c.requires.empty h.queue
-          (reached-one (views c.args.values rs) [] entries f.entry refl
-          (started-entry f o c.args.values rs marks entries there h.long h.one h.size h.marked c.requires.empty) h.entries);
+      sized = first_sized f c.args.values rs marks entries there h c.requires.count;
+      on_way = first_way f c.args.values rs marks entries there h c.requires.empty;
     }

@@ -11,6 +11,27 @@ use Rattle.regalloc2_checker_sweep.proofs.find_errors.find_errors.Goals as goal
 
 pub is_clean-requires : goal.is_clean-requires
 is_clean-requires g c κs within =
+    let f : FunctionValue = g.F.Function.function c.args.f.now in (
+      search rules,
+      (
+        search rules,
+        (
+          search rules,
+          (
+            listing_of f g.o c.args.out.now _ _ c.requires.1.1.1.1.0 c.requires.1.1.1.1.1.1 c.in_ok-listed.ensures c.deref.ensures.value
+                c.deref-2.ensures.value c.deref-3.ensures.value c.deref-4.ensures.value,
+            (c.requires.1.1.1.1.1.0, (c.requires.1.1.1.1.0, c.requires.1.1.1.1.1.1)),
+          ),
+        ),
+      ),
+    )
+
+pub returns-then-branch : goal.returns-then-branch
+returns-then-branch g c =
+    rw c.new.ensures.items (OnTrue_at c.if-branch.true c.in_ok-is_clean.ensures (machine_of c.args.env.now) c.stack_slots-slots.ensures)
+
+pub analyze-requires : goal.analyze-requires
+analyze-requires g c κs within =
     let f : FunctionValue = g.F.Function.function c.args.f.now in
     let t = c.in_ok-tables.ensures in (
       search rules,
@@ -27,35 +48,13 @@ is_clean-requires g c κs within =
       ),
     )
 
-pub returns-then-branch : goal.returns-then-branch
-returns-then-branch g c =
-    rw c.new.ensures.items (OnTrue_at c.if-branch.true c.in_ok-is_clean.ensures (machine_of c.args.env.now) c.stack_slots-slots.ensures)
-
-pub analyze-requires : goal.analyze-requires
-analyze-requires g c κs within =
-    let f : FunctionValue = g.F.Function.function c.args.f.now in
-    let t = c.in_ok-new_tables.ensures in (
-      search rules,
-      (
-        search rules,
-        (
-          listing_of f g.o c.args.out.now _ _ c.requires.1.1.1.1.0 c.requires.1.1.1.1.1.1 c.in_ok-listed.ensures c.deref.ensures.value
-              c.deref-2.ensures.value c.deref-3.ensures.value c.deref-4.ensures.value,
-          (
-            c.requires.1.1.1.1.1.0,
-            (subst (λ (o : OutputValue). AreNamed f o c.in_ok-new_tables.new_tables) c.requires.1.1.1.1.0 t.named, (t.count, t.empty)),
-          ),
-        ),
-      ),
-    )
-
 pub check_all-requires : goal.check_all-requires
 check_all-requires g c κs within =
     let f : FunctionValue = g.F.Function.function c.args.f.now in
-    let t = c.in_ok-new_tables.ensures in
+    let t = c.in_ok-tables.ensures in
     let s = c.in_ok-state.ensures in
-    let named : AreNamed f g.o c.in_ok-new_tables.new_tables =
-    subst (λ (o : OutputValue). AreNamed f o c.in_ok-new_tables.new_tables) c.requires.1.1.1.1.0 t.named in (
+    let named : AreNamed f g.o c.in_ok-tables.tables =
+    subst (λ (o : OutputValue). AreNamed f o c.in_ok-tables.tables) c.requires.1.1.1.1.0 t.named in (
       search rules,
       (
         search rules,
@@ -65,7 +64,7 @@ check_all-requires g c κs within =
           (
             c.requires.1.1.1.1.1.0,
             (
-              named_same f g.o c.in_ok-new_tables.new_tables c.in_ok-state.state.values s.alike.places s.alike.vregs named,
+              named_same f g.o c.in_ok-tables.tables c.in_ok-state.state.values s.alike.places s.alike.vregs named,
               (
                 rw c.deref-5.ensures.value s.long,
                 (s.alike.count ∙ t.count, rw c.deref-5.ensures.value s.solved),

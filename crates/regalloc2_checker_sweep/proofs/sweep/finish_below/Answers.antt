@@ -1,6 +1,7 @@
-use Rattle.std.proofs.Common.{ℕ, ◌≡◌, Bool, true, false, List, get_or, ap, subst, ◌∙◌, arith, below_more}
-use Rattle.std.proofs.lemmas.Bool.{OnTrue_at}
+use Rattle.std.proofs.Common.{ℕ, ◌≡◌, Bool, true, false, List, get_or, ap, refl, sym, subst, ◌∙◌, arith, below_more}
+use Rattle.std.proofs.lemmas.Bool.{OnTrue_at, false≢true}
 use Rattle.regalloc2_checker_facts.specs.Swept.{done_at}
+use Rattle.regalloc2_checker_facts.proofs.Queues.{alike-same}
 use Rattle.regalloc2_checker_facts.proofs.Sweeps.{further-twice}
 use Rattle.regalloc2_checker_sweep.proofs.sweep.finish_below.Goals as goal
 
@@ -23,4 +24,36 @@ loop-b-preserved g c =
       queue = p.queue ∙ inv.queue;
       swept = λ vs s. OnTrue_at c.if-not-branch.false p.swept vs (inv.swept vs s);
       all = λ none. below_more _ _ (λ n less r. p.further.kept n (inv.all none n less r)) here;
+    }
+
+pub loop-b-init : goal.loop-b-init
+loop-b-init g c = record {
+  within = c.num_blocks-b-end.ensures.count;
+  low = omega arith;
+  further = record { alike = alike-same c.args.sweep.now.state.values; reached = refl; size = refl; kept = λ b done. done };
+  queue = refl;
+  swept = λ vs s. s;
+  all = λ none b less r. absurd (omega (arith, less));
+}
+
+pub loop-b-preserved-then-not-is_below : goal.loop-b-preserved-then-not-is_below
+loop-b-preserved-then-not-is_below g c =
+    let inv = c.loop-b.invariant in
+    record {
+      within = inv.within;
+      low = omega (arith, c.loop-b-test.true, inv.within);
+      further = inv.further;
+      queue = inv.queue;
+      swept = inv.swept;
+      all = λ none. absurd (false≢true (sym c.if-not-is_below.true ∙ c.is_below.ensures none));
+    }
+
+pub returns : goal.returns
+returns g c =
+    let inv = c.loop-b.invariant in
+    record {
+      further = inv.further;
+      queue = inv.queue;
+      swept = inv.swept;
+      all = λ none b less r. inv.all none b (omega (arith, less, c.loop-b-test.false, inv.within)) r;
     }

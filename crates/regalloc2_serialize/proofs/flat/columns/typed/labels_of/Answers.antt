@@ -1,4 +1,4 @@
-use Rattle.std.proofs.Common.{rules, ◌≡◌, ◌∙◌, [], ◌∷◌, ◌++◌, ◌+◌, ◌*◌, ℕ, ap, map, refl}
+use Rattle.std.proofs.Common.{◌≡◌, ◌∙◌, [], ◌∷◌, ◌++◌, ◌+◌, ◌*◌, ℕ, ap, map, refl}
 use Rattle.std.specs.Prelude.{slice_index}
 use Rattle.regalloc2_names.specs.Register.{VirtualRegister}
 use Rattle.regalloc2_function.specs.FunctionValue.{label_of}
@@ -11,6 +11,6 @@ loop-k-preserved g c =
     let words = c.args.words.now in
     let k = c.loop-k.k in
     let x : VirtualRegister × ℕ × ℕ × ℕ = (c.from_bits-vreg.result, c.new-start.result, c.new-end.result, slice_index words (4 * k + 3)) in
-    let e : c.push.new.self.items ≡ c.loop-k.labels.items ++ x ∷ [] = search rules in
+    let e : c.push.new.self.items ≡ c.loop-k.labels.items ++ x ∷ [] = c.in_ok-push.ensures.items in
     let here : label_of x ≡ label_at words k = rw (c.from_bits-vreg.ensures.vreg, c.new-start.ensures, c.new-end.ensures) refl in
     ap (map label_of) e ∙ seen-more label_of (label_at words) c.loop-k.labels.items x k c.loop-k.invariant here

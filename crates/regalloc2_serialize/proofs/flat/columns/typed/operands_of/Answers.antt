@@ -1,4 +1,4 @@
-use Rattle.std.proofs.Common.{rules, ◌≡◌, ◌∙◌, [], ◌∷◌, ◌++◌, ap}
+use Rattle.std.proofs.Common.{◌≡◌, ◌∙◌, [], ◌∷◌, ◌++◌, ap}
 use Rattle.regalloc2_names.specs.Packing.{operand_of_bits}
 use Rattle.regalloc2_serialize.specs.Flat.Columns.Value.{long_at}
 use Rattle.regalloc2_serialize.proofs.ColumnsLemmas.More.{made-more}
@@ -6,6 +6,6 @@ use Rattle.regalloc2_serialize.proofs.flat.columns.typed.operands_of.Goals as go
 
 pub loop-k-preserved : goal.loop-k-preserved
 loop-k-preserved g c =
-    let e : c.push.new.self.items ≡ c.loop-k.operands.items ++ c.from_bits.result ∷ [] = search rules in
+    let e : c.push.new.self.items ≡ c.loop-k.operands.items ++ c.from_bits.result ∷ [] = c.in_ok-push.ensures.items in
     e ∙ made-more operand_of_bits (long_at c.args.words.now) c.loop-k.operands.items c.from_bits.result c.loop-k.k c.loop-k.invariant
     (c.from_bits.ensures.operand ∙ ap operand_of_bits c.long.ensures)
