@@ -2,9 +2,10 @@
 
 ghost use Rattle.std.specs.Prelude.{◌≡◌, ◌<◌, ◌≤◌, ◌+◌, ℕ, List, Bool, true, false, IfOk, OnOk, length, get_or, nat_eq, sum_by};
 ghost use Rattle.std.specs.BinaryHeap.{heap_items, heap_len};
-ghost use Rattle.regalloc2_function.specs.OutputValue.{OutputValue};
+ghost use Rattle.regalloc2_function.specs.OutputValue.{OutputValue, IsInOrder};
+ghost use Rattle.regalloc2_function.specs.Views.{output_of};
 ghost use Rattle.regalloc2_function.specs.WellFormed.{IsFramed};
-ghost use Rattle.regalloc2_checker_tables.specs.Showing.{table_count, shows_in};
+ghost use Rattle.regalloc2_checker_tables.specs.Showing.{table_count};
 ghost use Rattle.regalloc2_checker_facts.specs.Listing.{IsListing};
 ghost use Rattle.regalloc2_checker_facts.specs.Propagation.{IsBlockEnd, IsQueue, IsReady, IsUnderWay, AreSized};
 ghost use Rattle.regalloc2_checker_facts.specs.Swept.{laid, LeadsToNoneDone};
@@ -12,13 +13,13 @@ ghost use Rattle.regalloc2_checker_facts.specs.TableFacts.{facts_now, AreNamed};
 ghost use Rattle.regalloc2_checker_sweep.specs.Beginning.{IsEntryQueued};
 ghost use Rattle.regalloc2_checker_facts.specs.Tables.{BlockView, facts_at, weight, ListTheSame, IsSolved, views};
 
+use crate::find_errors::tables_of;
 use crate::transfer_block::transfer_block;
 use regalloc2_checker_facts::listing::Listing;
 use regalloc2_checker_facts::order::ranks;
 use regalloc2_checker_facts::queue::Queue;
 use regalloc2_checker_flow::edges::{Analysis, propagate_over};
-use regalloc2_checker_tables::PassingTables;
-use regalloc2_function::{Function, finds_earlier_writes};
+use regalloc2_function::{Function, Output, finds_earlier_writes};
 use regalloc2_index::Block;
 use std::alloc::{AllocError, Allocator};
 use std::collections::BinaryHeap;
@@ -123,7 +124,7 @@ fn one_mark<A: Allocator>(alloc: A, count: usize, at: usize) -> Result<Vec<bool,
 
 /// The marks of the blocks that a path is known to reach, and the queue, before anything is passed on: the entry is marked and
 /// queued.
-pub fn first_marks<F: Function, A: Allocator + Copy>(
+fn first_marks<F: Function, A: Allocator + Copy>(
     alloc: A,
     f: &F,
 ) -> Result<(Vec<bool, A>, Queue<A>), AllocError>
@@ -141,21 +142,22 @@ pub fn first_marks<F: Function, A: Allocator + Copy>(
     Ok((reached, queue))
 }
 
-/// What is known before anything is passed on: a path reaches the entry, and nothing holds there.
-pub fn start<F: Function, A: Allocator + Copy>(
+/// What is known before anything is passed on: a path reaches the entry, and nothing holds there. The tables are made last, since
+/// an error would drop them.
+pub fn start<F: Function, A: Allocator + Copy, C: Allocator>(
     alloc: A,
     f: &F,
-    values: PassingTables<A>,
+    out: &Output<C>,
 ) -> Result<Analysis<A>, AllocError>
     requires framed { IsFramed (F.function f.now) }
-    requires count { table_count values ≡ length (F.function f.now).blocks + 1 }
-    requires empty { (k i y : ℕ) → shows_in values k i y ≡ false }
-    ensures values { IfOk result (λ s. s.values ≡ values) }
+    requires in_order { IsInOrder (F.function f.now) (output_of out.now) }
+    ensures named { IfOk result (λ s. AreNamed (F.function f.now) (output_of out.now) s.values) }
     ensures sized { IfOk result (λ s. AreSized (F.function f.now) s.values s.reached.items s.queue.is_queued.items) }
     ensures on_way { IfOk result (λ s. (o : OutputValue) → IsUnderWay (F.function f.now) o (views s.values s.reached.items) s.queue.is_queued.items
         (heap_items s.queue.heap)) }
 {
     let (reached, queue) = first_marks(alloc, f)?;
+    let values = tables_of(alloc, f, out)?;
     Ok(Analysis {
         values,
         reached,
@@ -164,23 +166,23 @@ pub fn start<F: Function, A: Allocator + Copy>(
 }
 
 /// Passes on what holds at the blocks' beginnings until nothing changes.
-pub fn analyze<F: Function, A: Allocator + Copy>(
+pub fn analyze<F: Function, A: Allocator + Copy, C: Allocator>(
     alloc: A,
     f: &F,
     listing: &Listing<'_>,
-    values: PassingTables<A>,
+    out: &Output<C>,
 ) -> Result<Analysis<A>, AllocError>
     ghost o: { OutputValue }
     requires listing { IsListing (F.function f.now) o listing.now }
     requires framed { IsFramed (F.function f.now) }
-    requires named { AreNamed (F.function f.now) o values }
-    requires count { table_count values ≡ length (F.function f.now).blocks + 1 }
-    requires empty { (k i y : ℕ) → shows_in values k i y ≡ false }
-    ensures alike { IfOk result (λ s. ListTheSame values s.values) }
+    requires output { output_of out.now ≡ o }
+    requires in_order { IsInOrder (F.function f.now) (output_of out.now) }
+    ensures named { IfOk result (λ s. AreNamed (F.function f.now) o s.values) }
+    ensures count { IfOk result (λ s. table_count s.values ≡ length (F.function f.now).blocks + 1) }
     ensures long { IfOk result (λ s. length s.reached.items ≡ length (F.function f.now).blocks) }
     ensures solved { IfOk result (λ s. IsSolved (F.function f.now) o (views s.values s.reached.items)) }
 {
-    let mut state = start(alloc, f, values)?;
+    let mut state = start(alloc, f, out)?;
     'passes: while let Some(block) = state.queue.pop() {
         propagate_block(alloc, f, listing, &mut state, Block::new(block))?;
     }

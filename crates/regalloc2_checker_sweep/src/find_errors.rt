@@ -131,7 +131,6 @@ pub fn find_errors<F: Function, A: Allocator + Copy, B: Allocator, C: Allocator>
     if is_clean(alloc, f, slots, &listing, out)? {
         return Ok(Vec::new(alloc));
     }
-    let tables = tables_of(alloc, f, out)?;
-    let mut state = analyze(alloc, f, &listing, tables)?;
+    let mut state = analyze(alloc, f, &listing, out)?;
     check_all(alloc, f, slots, &listing, &state.reached, &mut state.values)
 }

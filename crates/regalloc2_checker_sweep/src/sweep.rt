@@ -14,8 +14,8 @@ ghost use Rattle.regalloc2_checker_facts.specs.Report.{IsReport};
 ghost use Rattle.regalloc2_checker_facts.specs.Swept.{done_at, AreSweepTables, LeadsToNoneDone, IsSweptOn, IsFurther, IsSweepReady, IsSweepUnderWay};
 ghost use Rattle.regalloc2_checker_facts.specs.Tables.{views};
 
-use crate::analyze::{first_marks, no_marks, propagate_block};
-use crate::find_errors::{check_block, tables_of};
+use crate::analyze::{no_marks, propagate_block, start};
+use crate::find_errors::check_block;
 use regalloc2_checker_facts::listing::Listing;
 use regalloc2_checker_flow::check::Judging;
 use regalloc2_checker_flow::edges::Analysis;
@@ -245,7 +245,7 @@ fn pass_all_on<F: Function, A: Allocator + Copy>(
     Ok(false)
 }
 
-/// A check before anything is passed on. The tables are made last, since each error after them would drop them.
+/// A check before anything is passed on.
 fn start_sweep<F: Function, A: Allocator + Copy, C: Allocator>(
     alloc: A,
     f: &F,
@@ -258,14 +258,9 @@ fn start_sweep<F: Function, A: Allocator + Copy, C: Allocator>(
 {
     let room = room_for(f);
     let is_done = no_marks(alloc, f.num_blocks())?;
-    let (reached, queue) = first_marks(alloc, f)?;
-    let values = tables_of(alloc, f, out)?;
+    let state = start(alloc, f, out)?;
     Ok(Sweep {
-        state: Analysis {
-            values,
-            reached,
-            queue,
-        },
+        state,
         is_done,
         room,
         limit: room,

@@ -5,7 +5,7 @@ use Rattle.regalloc2_function.specs.FunctionValue.{FunctionValue}
 use Rattle.regalloc2_checker_facts.specs.Propagation.{IsReady}
 use Rattle.regalloc2_checker_facts.specs.Tables.{BlockView, views}
 use Rattle.regalloc2_checker_facts.proofs.Laid.{way-all}
-use Rattle.regalloc2_checker_facts.proofs.Queues.{alike-same, alike-twice, all-settled, ready-popped}
+use Rattle.regalloc2_checker_facts.proofs.Queues.{all-settled, ready-popped}
 use Rattle.regalloc2_checker_facts.proofs.RoundInvariant.{solved}
 use Rattle.regalloc2_checker_facts.proofs.TransferFollowsFacts.{named_same}
 use Rattle.regalloc2_checker_sweep.proofs.analyze.analyze.Goals as goal
@@ -14,7 +14,7 @@ pub passes-init : goal.passes-init
 passes-init g c =
     let s = c.in_ok-state.ensures in
     record {
-      alike = rw s.values (alike-same c.args.values);
+      named = rw c.requires.1.1.1.1.1.0 at s.named;
       sized = s.sized;
       on_way = s.on_way g.o;
     }
@@ -32,11 +32,11 @@ propagate_block-requires g c κs within =
       (
         search rules,
         (
-          c.requires.1.1.0,
+          c.requires.1.1.1.0,
           (
-            c.requires.1.1.1.0,
+            c.requires.1.1.1.1.0,
             (
-              named_same f g.o c.args.values c.passes.state.values inv.alike.places inv.alike.vregs c.requires.1.1.1.1.0,
+              inv.named,
               (
                 less,
                 (
@@ -64,7 +64,7 @@ passes-preserved g c =
     let p = c.in_ok-propagate_block.ensures in
     let ready = ready-popped f g.o t marks (heap_items c.passes.state.queue.heap) (heap_items c.pop.new.self.heap) e.0 c.in-Some.block e.1 e.2 inv.on_way in
     record {
-      alike = alike-twice c.args.values c.passes.state.values c.propagate_block.new.state.values inv.alike p.alike;
+      named = named_same f g.o c.passes.state.values c.propagate_block.new.state.values p.alike.places p.alike.vregs inv.named;
       sized = p.sized;
       on_way = way-all f g.o t (views c.propagate_block.new.state.values c.propagate_block.new.state.reached.items) c.pop.new.self.is_queued.items
           c.propagate_block.new.state.queue.is_queued.items (heap_items c.pop.new.self.heap) (heap_items c.propagate_block.new.state.queue.heap) c.new.result
@@ -78,5 +78,11 @@ returns-clause-solved g c =
     let f : FunctionValue = g.F.Function.function c.args.f.now in
     let inv = c.passes.invariant in
     let t : List BlockView = views c.passes.state.values c.passes.state.reached.items in
-    solved f g.o t c.requires.1.1.1.0 inv.on_way.sound
+    solved f g.o t c.requires.1.1.1.1.0 inv.on_way.sound
     (all-settled f g.o t c.passes.state.queue.is_queued.items inv.on_way.kept (c.in_default.ensures.none refl))
+
+pub returns-clause-named : goal.returns-clause-named
+returns-clause-named g c = c.passes.invariant.named
+
+pub returns-clause-count : goal.returns-clause-count
+returns-clause-count g c = c.passes.invariant.sized.count

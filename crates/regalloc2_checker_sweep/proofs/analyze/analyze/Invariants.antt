@@ -2,7 +2,8 @@ use Rattle.std.proofs.Common.{◌+◌}
 use Rattle.std.specs.Prelude.{sum_by}
 use Rattle.std.specs.BinaryHeap.{heap_items, heap_len}
 use Rattle.regalloc2_checker_facts.specs.Propagation.{IsUnderWay, AreSized}
-use Rattle.regalloc2_checker_facts.specs.Tables.{ListTheSame, views, weight}
+use Rattle.regalloc2_checker_facts.specs.TableFacts.{AreNamed}
+use Rattle.regalloc2_checker_facts.specs.Tables.{views, weight}
 use Rattle.regalloc2_checker_sweep.proofs.analyze.analyze.Given as goal
 
 abbrev pub ghost-propagate_block : goal.ghost-propagate_block
@@ -11,7 +12,7 @@ ghost-propagate_block g a = g.o
 -- what is under way
 abbrev pub invariant-passes : goal.invariant-passes
 invariant-passes g l = record {
-  alike : ListTheSame l.fn.values l.state.values;
+  named : AreNamed (g.F.Function.function l.f) g.o l.state.values;
   sized : AreSized (g.F.Function.function l.f) l.state.values l.state.reached.items l.state.queue.is_queued.items;
   on_way : IsUnderWay (g.F.Function.function l.f) g.o (views l.state.values l.state.reached.items) l.state.queue.is_queued.items
       (heap_items l.state.queue.heap);

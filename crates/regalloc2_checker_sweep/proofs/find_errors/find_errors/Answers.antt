@@ -1,12 +1,9 @@
-use Rattle.std.proofs.Common.{◌∙◌, subst, rules}
+use Rattle.std.proofs.Common.{rules}
 use Rattle.std.proofs.lemmas.Bool.{OnTrue_at}
 use Rattle.std.proofs.lemmas.Result.{IfOk-weaker}
 use Rattle.regalloc2_function.specs.FunctionValue.{FunctionValue}
-use Rattle.regalloc2_function.specs.OutputValue.{OutputValue}
 use Rattle.regalloc2_function.specs.Views.{machine_of}
-use Rattle.regalloc2_checker_facts.specs.TableFacts.{AreNamed}
 use Rattle.regalloc2_checker_facts.proofs.CopiedListing.{listing_of}
-use Rattle.regalloc2_checker_facts.proofs.TransferFollowsFacts.{named_same}
 use Rattle.regalloc2_checker_sweep.proofs.find_errors.find_errors.Goals as goal
 
 pub is_clean-requires : goal.is_clean-requires
@@ -32,17 +29,16 @@ returns-then-branch g c =
 
 pub analyze-requires : goal.analyze-requires
 analyze-requires g c κs within =
-    let f : FunctionValue = g.F.Function.function c.args.f.now in
-    let t = c.in_ok-tables.ensures in (
+    let f : FunctionValue = g.F.Function.function c.args.f.now in (
       search rules,
       (
         search rules,
         (
-          listing_of f g.o c.args.out.now _ _ c.requires.1.1.1.1.0 c.requires.1.1.1.1.1.1 c.in_ok-listed.ensures c.deref.ensures.value
-              c.deref-2.ensures.value c.deref-3.ensures.value c.deref-4.ensures.value,
+          search rules,
           (
-            c.requires.1.1.1.1.1.0,
-            (subst (λ (o : OutputValue). AreNamed f o c.in_ok-tables.tables) c.requires.1.1.1.1.0 t.named, (t.count, t.empty)),
+            listing_of f g.o c.args.out.now _ _ c.requires.1.1.1.1.0 c.requires.1.1.1.1.1.1 c.in_ok-listed.ensures c.deref.ensures.value
+                c.deref-2.ensures.value c.deref-3.ensures.value c.deref-4.ensures.value,
+            (c.requires.1.1.1.1.1.0, (c.requires.1.1.1.1.0, c.requires.1.1.1.1.1.1)),
           ),
         ),
       ),
@@ -51,10 +47,7 @@ analyze-requires g c κs within =
 pub check_all-requires : goal.check_all-requires
 check_all-requires g c κs within =
     let f : FunctionValue = g.F.Function.function c.args.f.now in
-    let t = c.in_ok-tables.ensures in
-    let s = c.in_ok-state.ensures in
-    let named : AreNamed f g.o c.in_ok-tables.tables =
-    subst (λ (o : OutputValue). AreNamed f o c.in_ok-tables.tables) c.requires.1.1.1.1.0 t.named in (
+    let s = c.in_ok-state.ensures in (
       search rules,
       (
         search rules,
@@ -63,13 +56,7 @@ check_all-requires g c κs within =
               c.deref-2.ensures.value c.deref-3.ensures.value c.deref-4.ensures.value,
           (
             c.requires.1.1.1.1.1.0,
-            (
-              named_same f g.o c.in_ok-tables.tables c.in_ok-state.state.values s.alike.places s.alike.vregs named,
-              (
-                rw c.deref-5.ensures.value s.long,
-                (s.alike.count ∙ t.count, rw c.deref-5.ensures.value s.solved),
-              ),
-            ),
+            (s.named, (rw c.deref-5.ensures.value s.long, (s.count, rw c.deref-5.ensures.value s.solved))),
           ),
         ),
       ),
