@@ -5,9 +5,9 @@
     python3 bench/ci.py --functions CRATE [--most N]
 
 The first form runs `rt ci --anew` with N checks side by side (one for each processor, if N isn't given), and before and after it proves
-`regalloc2_names` by two jobs, since a virtual machine may become half as fast within an hour. It prints processor seconds for proofs, second proofs
-(with which mutants begin) and mutants, and the ratio: core-minutes of the run for each second of `regalloc2_names`, the mean of both. Run it with
-nothing beside it: other work makes each check cost more. The status is that of `rt ci`.
+`regalloc2_names` twice by two jobs, since a virtual machine may become half as fast within an hour. It prints processor seconds for proofs, second
+proofs (with which mutants begin) and mutants, and the ratio: core-minutes of the run for each second of `regalloc2_names`, the mean of all four. Run
+it with nothing beside it: other work makes each check cost more. The status is that of `rt ci`.
 
 The second form proves a crate by `rt check --jobs 1` in its folder, from nothing unless another checkout on this machine has kept work of it, and
 prints for each function the seconds between the time stamps of its modules, most first: `Lts`, `Tie` and others are the borrow checker's part, which
@@ -77,11 +77,14 @@ def prove_names():
 
 
 def seconds_of_names():
-    """What a process of its own prints."""
-    done = subprocess.run([sys.executable, os.path.abspath(__file__), "--names"], stdout=subprocess.PIPE, text=True)
-    if done.returncode:
-        sys.exit("regalloc2_names isn't proved")
-    return float(done.stdout.split()[-1])
+    """What two processes of their own print, one after the other."""
+    seconds = []
+    for _ in range(2):
+        done = subprocess.run([sys.executable, os.path.abspath(__file__), "--names"], stdout=subprocess.PIPE, text=True)
+        if done.returncode:
+            sys.exit("regalloc2_names isn't proved")
+        seconds.append(float(done.stdout.split()[-1]))
+    return seconds
 
 
 def table(rows):
@@ -105,9 +108,9 @@ def whole(lanes):
         status = rt.main(["ci", "--anew"])
         minutes, cores = (time.time() - begun) / 60, (sum(os.times()[:4]) - before) / 60
         table(noted(room))
-        last = seconds_of_names()
-        ratio = 2 * cores / (first + last)
-        print(f"{minutes:.0f} minutes, {cores:.0f} core-minutes; regalloc2_names {first:.1f} and {last:.1f} s: ratio {ratio:.2f}")
+        names = first + seconds_of_names()
+        seconds = ", ".join(f"{it:.1f}" for it in names)
+        print(f"{minutes:.0f} minutes, {cores:.0f} core-minutes; regalloc2_names {seconds} s: ratio {cores * len(names) / sum(names):.2f}")
         return status
 
 

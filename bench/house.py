@@ -18,7 +18,7 @@ FLOORS = [
         ("regalloc2_names", "vregs, operands, places"),
         ("regalloc2_function", "Function, Output, specs")]),
      ("Moves", [
-         ("regalloc2_parts_steps", "one move, one search"),
+         ("regalloc2_steps", "one move, slot, edge"),
          ("regalloc2_parts", "lists, parallel moves")])],
     [("Stored forms", [
         ("regalloc2_serialize", "numbers, JSON, words"),
@@ -36,7 +36,6 @@ FLOORS = [
         ("regalloc2_checker_flow", "instructions, edges"),
         ("regalloc2_checker_sweep", "all blocks, test_cells")])],
     [("Allocator", [
-        ("regalloc2_fastalloc_steps", "one test, one slot"),
         ("regalloc2_fastalloc_state", "tests, tables of the walk"),
         ("regalloc2_fastalloc_proofs", "steps as relations"),
         ("regalloc2_fastalloc_walk", "the walk"),
@@ -61,16 +60,13 @@ FLOORS = [
         ("codegen", "the compiler"),
         ("compile", "program")])],
     [("Rewriting", [
-        ("regalloc2_rewrite_steps", "one edge, one list"),
         ("regalloc2_rewrite", "split edges, renumber")]),
      ("Examples", [
          ("example_call", "program: one call"),
          ("example_toy", "program: a client")])],
     [("Tests", [
         ("regalloc2_test_alloc", "failing allocator"),
-        ("regalloc2_unit_tests", "parts"),
-        ("regalloc2_tests", "allocator, programs"),
-        ("regalloc2_cases", "case files"),
+        ("regalloc2_tests", "the program"),
         ("regalloc2_bench", "cost")])],
 ]
 

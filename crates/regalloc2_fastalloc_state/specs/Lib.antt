@@ -2,7 +2,7 @@
 -- `Validate`: which functions the allocator takes, and the first error of the others.
 -- Read first: `StateParts`, then `InstRegs`; `chosen` in `Choice` is the register that the allocator takes.
 -- Depends on regalloc2_names, on `Machine` and `Fitting` of regalloc2_function, on the LRU list of regalloc2_parts, and on
--- regalloc2_fastalloc_steps.
+-- regalloc2_steps.
 pub mod Choice
 pub mod ClassLrus
 pub mod FilledRegs

@@ -7,7 +7,7 @@ use Rattle.std.specs.List.{count_by}
 use Rattle.regalloc2_names.specs.declared.RegClass.{RegClass}
 use Rattle.regalloc2_names.specs.Register.{class_code}
 use Rattle.regalloc2_parts.specs.Ring.{AreDistinctOf}
-use Rattle.regalloc2_fastalloc_steps.specs.Units.{most_units}
+use Rattle.regalloc2_steps.specs.Units.{most_units}
 use Rattle.regalloc2_function.specs.Fitting.{count_below, register_number}
 use Rattle.regalloc2_function.specs.Machine.{empty_set}
 use Rattle.regalloc2_function.specs.OutputValue.{MoveValue}

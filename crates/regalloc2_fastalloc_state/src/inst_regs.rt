@@ -7,8 +7,8 @@ ghost use Rattle.regalloc2_names.specs.RegisterSet.{has_register};
 ghost use Rattle.regalloc2_fastalloc_state.specs.InstRegs.{RemovesAvailable, IsAvailableAt, SameAvailable, awaited_of};
 ghost use Rattle.regalloc2_fastalloc_state.specs.InstRegs.{is_available_at, is_free_throughout};
 
-pub use regalloc2_fastalloc_steps::positions::Positions;
 use regalloc2_names::{PReg, PRegSet, RegClass};
+pub use regalloc2_steps::positions::Positions;
 
 /// The registers of one instruction, while its operands are allocated.
 #[derive(Clone, Copy)]

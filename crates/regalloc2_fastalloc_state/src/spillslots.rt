@@ -5,10 +5,10 @@ ghost use Rattle.regalloc2_names.specs.Place.{InSlot};
 ghost use Rattle.regalloc2_fastalloc_state.specs.OutOfResources.{IsResourceErrorIn};
 ghost use Rattle.regalloc2_fastalloc_state.specs.StateParts.{SlotsHaveOneOwner, GetsSpillSlot, AddsTempSlots, later_end, later_slot, no_slots, slot_end};
 ghost use Rattle.regalloc2_fastalloc_state.specs.StateParts.{slot_name};
-ghost use Rattle.regalloc2_fastalloc_steps.specs.Units.{most_units};
+ghost use Rattle.regalloc2_steps.specs.Units.{most_units};
 
-use regalloc2_fastalloc_steps::units::Units;
 use regalloc2_names::{Allocation, RegAllocError, RegClass, SpillSlot, VReg};
+use regalloc2_steps::units::Units;
 use std::alloc::Allocator;
 use std::marker::Model;
 

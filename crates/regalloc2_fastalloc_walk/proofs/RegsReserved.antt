@@ -9,7 +9,7 @@ use Rattle.regalloc2_names.specs.Register.{Register, is_register}
 use Rattle.regalloc2_names.specs.RegisterSet.{has_register}
 use Rattle.regalloc2_names.specs.Operand.{OperandValue}
 use Rattle.regalloc2_semantics.proofs.Cells.{is_register-same, is_register-true}
-use Rattle.regalloc2_fastalloc_steps.specs.declared.positions.Positions.{Positions}
+use Rattle.regalloc2_steps.specs.declared.positions.Positions.{Positions}
 use Rattle.regalloc2_fastalloc_state.specs.declared.inst_regs.InstRegs.{InstRegs}
 use Rattle.regalloc2_fastalloc_walk.specs.declared.reserve_regs.ReservedRegs.{ReservedRegs}
 use Rattle.regalloc2_fastalloc_state.specs.InstRegs.{RemovesAvailable, SameAvailable, is_free_throughout}

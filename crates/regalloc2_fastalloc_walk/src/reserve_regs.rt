@@ -3,7 +3,7 @@
 ghost use Rattle.std.specs.Prelude.{ℕ, ◌≡◌, ◌<◌, ◌⊎◌, ◌||◌, ◌↔◌, ◌∷◌, [], length, true, false, IsTrue, OnOk, IfOk, IfSome, IfNone, IfErr, Some, MatchResult};
 ghost use Rattle.regalloc2_names.specs.Register.{Register};
 ghost use Rattle.regalloc2_names.specs.RegisterSet.{has_register, registers_of};
-ghost use Rattle.regalloc2_fastalloc_steps.specs.Positions.{positions_of};
+ghost use Rattle.regalloc2_steps.specs.Positions.{positions_of};
 ghost use Rattle.regalloc2_fastalloc_state.specs.InstRegs.{SameAvailable, RemovesAvailable, is_free_throughout};
 ghost use Rattle.regalloc2_fastalloc_state.specs.StateParts.{AllAtOrAfter};
 ghost use Rattle.regalloc2_fastalloc_state.specs.OutOfResources.{IsResourceErrorIn};

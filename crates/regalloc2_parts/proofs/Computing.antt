@@ -13,9 +13,9 @@ use Rattle.regalloc2_parts.specs.declared.moves.resolved.MoveVecWithScratch.{Mov
 use Rattle.regalloc2_parts.specs.declared.moves.resolved.MoveVecWithScratch.TheVariants.{NoScratch, Scratch}
 use Rattle.regalloc2_parts.specs.AtOnce.{ends_of, own_names, in_turn, WritesNoneFirst}
 use Rattle.regalloc2_parts.specs.Resolved.{moves_listed, has_scratch, with_place, place_or, filled, IsRunnable, IsUnnamed, AreBetweenPlaces}
-use Rattle.regalloc2_parts_steps.specs.declared.borrowed.Held.{Held}
-use Rattle.regalloc2_parts_steps.specs.declared.borrowed.Held.TheVariants.{Free, InRegister}
-use Rattle.regalloc2_parts_steps.specs.declared.borrowed.ScratchReg.{ScratchReg}
+use Rattle.regalloc2_steps.specs.declared.borrowed.Held.{Held}
+use Rattle.regalloc2_steps.specs.declared.borrowed.Held.TheVariants.{Free, InRegister}
+use Rattle.regalloc2_steps.specs.declared.borrowed.ScratchReg.{ScratchReg}
 use Rattle.regalloc2_parts.specs.Tracking.{CanExpand, IsExpanded, IsMade, IsEither, IsUnused}
 use Rattle.regalloc2_parts.specs.Computed.{Asked, MayBeAskedTwice, Owes, IsHanding, IsRefusing, IsVia, IsPlaceChosen, IsAnswer, IsComputed}
 use Rattle.regalloc2_parts.specs.Computed.{AreApartInMemory, AreSeenApart, handed_place}

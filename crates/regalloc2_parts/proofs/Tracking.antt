@@ -5,8 +5,8 @@ use Rattle.std.proofs.lemmas.List.Elements.{All-contains, Contains-get_or, Conta
 use Rattle.std.specs.List.{All}
 use Rattle.std.proofs.lemmas.List.{take_more, take_all}
 use Rattle.regalloc2_names.specs.Place.{Place, NoPlace}
-use Rattle.regalloc2_parts_steps.specs.declared.borrowed.Held.{Held}
-use Rattle.regalloc2_parts_steps.specs.declared.borrowed.Held.TheVariants.{Free, InRegister, InBoth, InSave}
+use Rattle.regalloc2_steps.specs.declared.borrowed.Held.{Held}
+use Rattle.regalloc2_steps.specs.declared.borrowed.Held.TheVariants.{Free, InRegister, InBoth, InSave}
 use Rattle.regalloc2_parts.specs.AtOnce.{Ends, ends, ends_of, no_move, CellsOf, moved, in_turn}
 use Rattle.regalloc2_parts.specs.Giving.{from_at, to_at}
 use Rattle.regalloc2_parts.specs.Tracking.{Tracks, FreeNeedsNoSave, CanPass, IsUnused, SavesOrRestores, GoesThrough, IsMadeFor, IsMade, stands_where}

@@ -7,9 +7,9 @@ use Rattle.regalloc2_parts.specs.declared.moves.MoveFault.{MoveFault}
 use Rattle.regalloc2_parts.specs.declared.moves.MoveFault.TheVariants.{NoSlot}
 use Rattle.regalloc2_parts.specs.declared.moves.scratch.Handed.{Handed}
 use Rattle.regalloc2_parts.specs.declared.moves.scratch.Handed.TheVariants.{Register, Slot}
-use Rattle.regalloc2_parts_steps.specs.declared.borrowed.Held.{Held}
-use Rattle.regalloc2_parts_steps.specs.declared.borrowed.Held.TheVariants.{Free, InRegister as Borrowed}
-use Rattle.regalloc2_parts_steps.specs.declared.borrowed.ScratchReg.{ScratchReg}
+use Rattle.regalloc2_steps.specs.declared.borrowed.Held.{Held}
+use Rattle.regalloc2_steps.specs.declared.borrowed.Held.TheVariants.{Free, InRegister as Borrowed}
+use Rattle.regalloc2_steps.specs.declared.borrowed.ScratchReg.{ScratchReg}
 use Rattle.regalloc2_parts.specs.declared.moves.scratch.MoveAndScratchResolver.{MoveAndScratchResolver}
 use Rattle.regalloc2_parts.specs.declared.moves.resolved.MoveVecWithScratch.{MoveVecWithScratch}
 use Rattle.regalloc2_parts.specs.AtOnce.{ends_of, own_names, in_turn}

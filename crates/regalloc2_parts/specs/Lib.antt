@@ -1,6 +1,6 @@
 -- Operand filters, the LRU list, the list of live vregs, and resolvers of parallel moves.
 -- Read first: `AtOnce`, parallel moves; their resolvers, `Resolved` and `Computed`; `Ring`, `LiveList`, `Picked`.
--- Depends on regalloc2_names and on `Frame`, a call's registers, of regalloc2_parts_steps. `Giving`, `Tracking`, `Steps`, `Links`,
+-- Depends on regalloc2_names and on `Frame`, a call's registers, of regalloc2_steps. `Giving`, `Tracking`, `Steps`, `Links`,
 -- `RingNodes` and `VRegNodes` are private steps of these.
 pub mod AtOnce
 pub mod Callmoves

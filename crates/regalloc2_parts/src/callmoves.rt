@@ -13,7 +13,7 @@ mod frame;
 use crate::moves::{MoveFault, MoveVec, ParallelMoves};
 use frame::scratch_pool;
 use regalloc2_names::Allocation;
-pub use regalloc2_parts_steps::frame::CallFrame;
+pub use regalloc2_steps::frame::CallFrame;
 use smallvec::SmallVec;
 use std::alloc::Allocator;
 use std::error::Error;

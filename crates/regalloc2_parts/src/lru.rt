@@ -10,7 +10,7 @@ ghost use Rattle.regalloc2_parts.specs.Ring.{AreDistinctOf, IsNewRing, IsOldestA
 
 use nodes::{LruNode, OldestFirst};
 use regalloc2_names::{PReg, PRegSet, RegAllocError, RegClass};
-use regalloc2_parts_steps::walk::first_in;
+use regalloc2_steps::walk::first_in;
 use std::alloc::{Allocator, Global};
 use std::fmt;
 use std::marker::Model;

@@ -12,9 +12,9 @@ use crate::error::RewriteError;
 use regalloc2_function::{Function, is_framed};
 use regalloc2_index::Block;
 use regalloc2_names::{PRegSet, VReg};
-use regalloc2_rewrite_steps::edges::{one_of, only_edge};
 use regalloc2_serialize::InstOpcode;
 use regalloc2_serialize::table_function::{BlockDraft, TableFunction, TableInst};
+use regalloc2_steps::edges::{one_of, only_edge};
 use std::alloc::{AllocError, Allocator};
 
 /// A function has fewer blocks.

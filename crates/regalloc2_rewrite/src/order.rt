@@ -10,9 +10,9 @@ use crate::copied::{copied_insts, laid_like};
 use crate::error::RewriteError;
 use regalloc2_function::{Function, is_framed};
 use regalloc2_index::Block;
-use regalloc2_rewrite_steps::numbers::renamed_succs;
 use regalloc2_serialize::from_function::copied_arguments;
 use regalloc2_serialize::table_function::{BlockDraft, TableFunction};
+use regalloc2_steps::numbers::renamed_succs;
 use std::alloc::{AllocError, Allocator};
 
 /// Whether each block has a number.

@@ -1,35 +1,45 @@
-//! `regalloc2_tests`: calls the allocator, the checker, `ra2` and the code generator as no case
-//! file can, and prints their results. The file `stdout` has the expected output. The input has a
-//! title and a function, a JSON text, for each part of the table of failed allocations; then,
-//! behind an empty line, texts for `ra2`.
+//! `regalloc2_tests`: runs files of cases, or all tests.
 //!
-//! Randomly generated functions, from fixed seeds, have up to twelve blocks, operands of every kind
-//! but `Limit`, and registers enough for each of their instructions, most of which require all that
-//! there are; on no path is a value read before it is written.
+//! An argument is a folder, whose files `*.case` are run, by name. Each call whose result isn't the expected one is
+//! printed, and then how many files there are and how many calls passed and failed.
+//!
+//! Without one the cases of the folder that it runs in come first, and then calls of the library's parts, the allocator,
+//! the checker, `ra2` and the code generator that no case file can make, with their results. The file `stdout` has the
+//! expected output. The input has a function and an output, as JSON; behind an empty line, a title and a function for each
+//! part of the table of failed allocations; behind another one, texts for `ra2`. Randomly generated functions, from fixed seeds, have up to twelve blocks, operands of
+//! every kind but `Limit`, and registers enough for each of their instructions, most of which require all that there
+//! are; on no path is a value read before it is written.
+//!
+//! The status is 0, or 1 where a call of a case failed, or 2 where a file can't be read, the output can't be written or
+//! memory runs out.
 #![tactic(auto)]
 
 mod adversary;
 mod calls;
-mod compiled;
+mod cases;
 mod fuzz;
 mod graph;
 mod instructions;
 mod large;
 mod maker;
-mod modules;
 mod program;
 mod random;
 mod refusing;
 mod rows;
+mod units;
 
+use cases::{Tally, run_folder};
 use codegen::program::agrees_at_random;
 use maker::Maker;
 use regalloc2::{MachineEnv, allocate, is_framed, run_tested};
 use regalloc2_analysis::liveness::decided_by_tree;
 use regalloc2_serialize::table_function::TableFunction;
+use regalloc2_tool::calls::call::CallError;
 use std::alloc::Global;
+use std::env::{self, Env};
 use std::fmt::Debug;
 use std::io::{self, BufWriter, Write};
+use std::process::ExitCode;
 
 /// Writes what a call returns.
 fn show<W: Write, T: Debug + Drop>(out: &mut W, name: &str, value: T) -> io::Result<()> {
@@ -125,18 +135,46 @@ fn show_program<W: Write>(alloc: Global, out: &mut W) -> io::Result<()> {
     )
 }
 
-fn main(rt: HostRuntime) -> io::Result<()> {
-    let alloc = rt.alloc();
-    let lines = io::read_to_string(alloc, rt.stdin())?;
-    let out = &mut BufWriter::new(alloc, rt.stdout())?;
+/// Writes what all but the cases return.
+fn show_all<W: Write>(alloc: Global, lines: &str, out: &mut W) -> io::Result<()> {
+    let (part, lines) = lines.split_once("\n\n").unwrap_or((lines, ""));
+    units::write_all(alloc, part, out)?;
     show_calls(alloc, out)?;
     show_program(alloc, out)?;
-    let (functions, texts) = lines.split_once("\n\n").unwrap_or((&lines, ""));
+    let (functions, texts) = lines.split_once("\n\n").unwrap_or((lines, ""));
     refusing::show_all(alloc, functions, out)?;
     let count = agreeing(alloc, 200);
     writeln!(out, "{count} of 200 modules and their codes end alike")?;
-    compiled::show_all(alloc, out)?;
-    modules::show_all(alloc, out)?;
-    fuzz::show_fuzz(alloc, texts, out)?;
-    out.flush()
+    fuzz::show_fuzz(alloc, texts, out)
+}
+
+/// Runs the cases of a folder, or else all tests.
+fn run<O: Write>(rt: &HostRuntime, out: &mut O) -> Result<Tally, CallError> {
+    let folder = env::args(rt)?.nth(1);
+    let tally = run_folder(rt, folder.as_deref().unwrap_or("."), out)?;
+    if folder.is_none() {
+        let lines = io::read_to_string(rt.alloc(), rt.stdin())?;
+        show_all(rt.alloc(), lines.as_str(), out)?;
+    }
+    out.flush()?;
+    Ok(tally)
+}
+
+/// Runs what is requested, and prints.
+fn run_and_print(rt: &HostRuntime) -> Result<Tally, CallError> {
+    let mut out = BufWriter::new(rt.alloc(), rt.stdout())?;
+    let tally = run(rt, &mut out);
+    // a buffer that is dropped would write once more what a failed write left in it
+    let _ = out.into_parts();
+    tally
+}
+
+fn main(rt: HostRuntime) -> ExitCode {
+    match run_and_print(&rt) {
+        Ok(tally) => ExitCode::from(if tally.has_passed() { 0 } else { 1 }),
+        Err(error) => {
+            let _ = eprintln!(rt; "regalloc2_tests: {error}");
+            ExitCode::from(2)
+        }
+    }
 }

@@ -11,12 +11,12 @@ use Rattle.regalloc2_names.specs.Place.{Place, NoPlace, InRegister, InSlot}
 use Rattle.regalloc2_function.specs.OutputValue.{MoveValue}
 use Rattle.regalloc2_semantics.proofs.Cells.{is_place-same, is_place-other}
 use Rattle.regalloc2_fastalloc_state.specs.declared.inst_regs.InstRegs.{InstRegs}
-use Rattle.regalloc2_fastalloc_steps.specs.declared.positions.Positions.{Positions}
+use Rattle.regalloc2_steps.specs.declared.positions.Positions.{Positions}
 use Rattle.regalloc2_fastalloc_state.specs.declared.request.Requirement.TheVariants.{InPReg}
 use Rattle.regalloc2_fastalloc_state.specs.declared.request.OperandRequest.{OperandRequest}
 use Rattle.regalloc2_fastalloc_state.specs.StateParts.{VRegAllocsValue, IsSlotOrNone, alloc_of, vreg_of_preg}
 use Rattle.regalloc2_fastalloc_state.specs.InstRegs.{IsAvailableAt}
-use Rattle.regalloc2_fastalloc_steps.specs.Positions.{positions_of}
+use Rattle.regalloc2_steps.specs.Positions.{positions_of}
 use Rattle.regalloc2_function.specs.FunctionValue.{op_at}
 use Rattle.regalloc2_fastalloc_proofs.specs.InstSteps.{StateValue, empty, cleared, EvictsOtherVRegs, own, others, SelectsPlace, ClaimsPlace, in_slot}
 use Rattle.regalloc2_fastalloc_proofs.specs.InstSteps.{in_register, AllocsOperand, AddsMoveIf, sent, unsent, FreesAlloc, NeedsFixedReg}

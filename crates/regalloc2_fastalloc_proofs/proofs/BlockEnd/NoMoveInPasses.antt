@@ -16,11 +16,11 @@ use Rattle.regalloc2_semantics.proofs.Cells.{is_place-same, is_place-other}
 use Rattle.regalloc2_semantics.proofs.Operands.{reads_use}
 use Rattle.regalloc2_semantics.proofs.Forms.{same_register}
 use Rattle.regalloc2_fastalloc_state.specs.declared.inst_regs.InstRegs.{InstRegs}
-use Rattle.regalloc2_fastalloc_steps.specs.declared.positions.Positions.{Positions}
+use Rattle.regalloc2_steps.specs.declared.positions.Positions.{Positions}
 use Rattle.regalloc2_fastalloc_state.specs.declared.request.Requirement.TheVariants.{InPReg}
 use Rattle.regalloc2_fastalloc_state.specs.StateParts.{VRegAllocsValue, SetsAlloc, alloc_of, vreg_of_preg}
 use Rattle.regalloc2_fastalloc_state.specs.InstRegs.{IsAvailableAt}
-use Rattle.regalloc2_fastalloc_steps.specs.Positions.{positions_of}
+use Rattle.regalloc2_steps.specs.Positions.{positions_of}
 use Rattle.regalloc2_function.specs.FunctionValue.{op_at}
 use Rattle.regalloc2_fastalloc_proofs.specs.InstSteps.{StateValue, use_request, def_request, reuse_request, LocatesUse, stays, located, AllocsUse}
 use Rattle.regalloc2_fastalloc_proofs.specs.InstSteps.{AllocsDefOp, ProcessesOperand, a_register, a_use, a_def, a_reuse, own, named}

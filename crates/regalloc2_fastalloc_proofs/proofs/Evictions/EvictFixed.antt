@@ -12,8 +12,8 @@ use Rattle.regalloc2_names.specs.Place.{Place, InRegister}
 use Rattle.regalloc2_names.specs.Point.{after}
 use Rattle.regalloc2_semantics.specs.OperandsPlaced.{What, what_of, Share, read_first, written_after, Counts, Clear, Progress, Puts, at_begin}
 use Rattle.regalloc2_fastalloc_state.specs.declared.inst_regs.InstRegs.{InstRegs}
-use Rattle.regalloc2_fastalloc_steps.specs.declared.positions.Positions.{Positions}
-use Rattle.regalloc2_fastalloc_steps.specs.Positions.{positions_of}
+use Rattle.regalloc2_steps.specs.declared.positions.Positions.{Positions}
+use Rattle.regalloc2_steps.specs.Positions.{positions_of}
 use Rattle.regalloc2_function.specs.FunctionValue.{op_at}
 use Rattle.regalloc2_fastalloc_proofs.specs.InstSteps.{StateValue, SameMachine, AllocsScratchReg, dedicated_scratch, had, found, AddsMove, direct}
 use Rattle.regalloc2_fastalloc_proofs.specs.InstSteps.{through, EvictsPReg, empty, cleared, EvictsOtherVRegs, own, others, NeedsFixedReg}

@@ -18,8 +18,8 @@ use Rattle.regalloc2_semantics.specs.BlockByPoints.{AllFrom, at_point, walked, l
 use Rattle.regalloc2_semantics.specs.OperandsPlaced.{What, what_of, Progress, Need}
 use Rattle.regalloc2_semantics.proofs.MoveInFront.{after_part-clean}
 use Rattle.regalloc2_fastalloc_state.specs.declared.inst_regs.InstRegs.{InstRegs}
-use Rattle.regalloc2_fastalloc_steps.specs.declared.positions.Positions.{Positions}
-use Rattle.regalloc2_fastalloc_steps.specs.Positions.{positions_of}
+use Rattle.regalloc2_steps.specs.declared.positions.Positions.{Positions}
+use Rattle.regalloc2_steps.specs.Positions.{positions_of}
 use Rattle.regalloc2_fastalloc_proofs.specs.InstSteps.{StateValue, NeedsFixedReg, own, named, ReservesRegs, RemovesClobbers, EvictsEach, none_left, one_more}
 use Rattle.regalloc2_fastalloc_proofs.specs.InstSteps.{AllocsInst, ends_block}
 use Rattle.regalloc2_fastalloc_proofs.specs.Safety.{IsWhole}

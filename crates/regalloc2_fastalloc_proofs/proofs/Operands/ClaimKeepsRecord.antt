@@ -11,7 +11,7 @@ use Rattle.regalloc2_semantics.specs.OperandsPlaced.{what_of, Counts, Progress, 
 use Rattle.regalloc2_semantics.proofs.BoundaryToBoundary.{Covers, Holds as Keeps, held_more}
 use Rattle.regalloc2_semantics.proofs.Cells.{is_register-same}
 use Rattle.regalloc2_fastalloc_state.specs.declared.inst_regs.InstRegs.{InstRegs}
-use Rattle.regalloc2_fastalloc_steps.specs.declared.positions.Positions.{Positions}
+use Rattle.regalloc2_steps.specs.declared.positions.Positions.{Positions}
 use Rattle.regalloc2_fastalloc_state.specs.InstRegs.{RemovesAvailable, SameAvailable}
 use Rattle.regalloc2_fastalloc_proofs.specs.InstSteps.{StateValue}
 use Rattle.regalloc2_fastalloc_proofs.proofs.Operands.RecordOverState.{Located}

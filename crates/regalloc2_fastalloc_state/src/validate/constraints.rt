@@ -12,12 +12,12 @@ ghost use Rattle.regalloc2_fastalloc_state.specs.Validate.Constraints.{IsNoReuse
 ghost use Rattle.regalloc2_fastalloc_state.specs.Validate.Constraints.{AreUnlimited, BranchDefinesInPlace, DefinesInPlace, IsFirstFailing, IsFixedFault, IsUnsupported};
 
 use crate::allocatable::allocatable_of;
-use regalloc2_fastalloc_steps::refusal::refuse_unless;
 use regalloc2_function::{Function, MachineEnv};
 use regalloc2_index::Inst;
 use regalloc2_names::{
     Operand, OperandConstraint, OperandKind, OperandPos, PRegSet, RegAllocError, RegClass,
 };
+use regalloc2_steps::refusal::refuse_unless;
 use std::alloc::Allocator;
 
 /// Which operand a reuse names. The index fits five bits.

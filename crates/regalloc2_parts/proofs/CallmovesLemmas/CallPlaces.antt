@@ -11,8 +11,8 @@ use Rattle.regalloc2_names.specs.PlaceBits.{index_of_place}
 use Rattle.regalloc2_names.specs.Register.{Register, is_register}
 use Rattle.regalloc2_names.specs.RegisterSet.{has_register}
 use Rattle.regalloc2_names.proofs.EqualNames.{is_place-true, is_place-along}
-use Rattle.regalloc2_parts_steps.specs.declared.frame.CallFrame.{CallFrame}
-use Rattle.regalloc2_parts_steps.specs.Frame.{free_at}
+use Rattle.regalloc2_steps.specs.declared.frame.CallFrame.{CallFrame}
+use Rattle.regalloc2_steps.specs.Frame.{free_at}
 use Rattle.regalloc2_parts.specs.Callmoves.CallMoves.{CallMoves, call_move, source, target, HasNone, NamesNoPlace, MovesName, IsNotFree, IsLower}
 
 -- a slot's place and its number

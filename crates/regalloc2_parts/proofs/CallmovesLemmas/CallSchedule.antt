@@ -14,8 +14,8 @@ use Rattle.regalloc2_parts.specs.Resolved.{IsResolution, IsUnnamed}
 use Rattle.regalloc2_parts.specs.declared.scratch_pool.ScratchPool.{ScratchPool}
 use Rattle.regalloc2_parts.specs.ScratchPool.{Moves, IsOfScratchPair, IsScratchTaken as IsHandedOut, IsUsableFor, IsOrderedWith, HasTooFewSlots}
 use Rattle.regalloc2_names.proofs.EqualNames.{cases_place}
-use Rattle.regalloc2_parts_steps.specs.declared.frame.CallFrame.{CallFrame}
-use Rattle.regalloc2_parts_steps.specs.Frame.{free_at, IsRegisterAt}
+use Rattle.regalloc2_steps.specs.declared.frame.CallFrame.{CallFrame}
+use Rattle.regalloc2_steps.specs.Frame.{free_at, IsRegisterAt}
 use Rattle.regalloc2_parts.specs.Callmoves.CallMoves.{CallMoves, with_units, source, target, fault_of, HasNone, HasOtherSource, MovesName}
 use Rattle.regalloc2_parts.proofs.CallmovesLemmas.CallPlaces.{split_le}
 use Rattle.regalloc2_parts.specs.Callmoves.CallMoves.{IsProper, IsCallFault, IsLent, IsSlotAt, IsMove, IsPoolOf, IsScheduled}

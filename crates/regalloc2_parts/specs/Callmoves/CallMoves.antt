@@ -11,8 +11,8 @@ use Rattle.regalloc2_parts.specs.declared.moves.MoveFault.TheVariants.{NoSlot as
 use Rattle.regalloc2_parts.specs.declared.scratch_pool.ScratchPool.{ScratchPool}
 use Rattle.regalloc2_parts.specs.declared.callmoves.CallFault.{CallFault}
 use Rattle.regalloc2_parts.specs.declared.callmoves.CallFault.TheVariants.{NoneNamed, TwoSources, InUse, NoSlot, Memory}
-use Rattle.regalloc2_parts_steps.specs.declared.frame.CallFrame.{CallFrame}
-use Rattle.regalloc2_parts_steps.specs.Frame.{free_at, IsRegisterAt}
+use Rattle.regalloc2_steps.specs.declared.frame.CallFrame.{CallFrame}
+use Rattle.regalloc2_steps.specs.Frame.{free_at, IsRegisterAt}
 
 -- the moves of a call: each from a place to a place
 abbrev pub CallMoves : Type 0

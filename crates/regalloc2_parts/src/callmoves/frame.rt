@@ -6,7 +6,7 @@ ghost use Rattle.regalloc2_parts.specs.Callmoves.CallMoves.{IsPoolOf, IsSlotAt};
 use super::CallFrame;
 use crate::scratch_pool::{ScratchPair, ScratchPool};
 use regalloc2_names::{Allocation, SpillSlot};
-use regalloc2_parts_steps::frame::free_pair;
+use regalloc2_steps::frame::free_pair;
 use std::alloc::Allocator;
 
 /// The slot so many after the start of the range, where there is one.

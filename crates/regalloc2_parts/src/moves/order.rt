@@ -27,7 +27,7 @@ ghost use Rattle.regalloc2_parts.specs.declared.moves.order.State.TheVariants.{T
 
 use super::{MoveFault, MoveVec, MoveVecWithScratch};
 use regalloc2_names::Allocation;
-use regalloc2_parts_steps::cycle::opened;
+use regalloc2_steps::cycle::opened;
 use smallvec::SmallVec;
 use std::alloc::{AllocError, Allocator};
 

@@ -4,10 +4,10 @@ ghost use Rattle.std.specs.Prelude.{◌≡◌, ◌≢◌, ◌⊎◌, Contains, I
 ghost use Rattle.regalloc2_names.specs.Place.{Place};
 ghost use Rattle.regalloc2_parts.specs.AtOnce.{CellsOf, ends_of, in_turn, moved};
 ghost use Rattle.regalloc2_parts.specs.Tracking.{Tracks, CanPass, SavesOrRestores, GoesThrough, IsMadeFor};
-ghost use Rattle.regalloc2_parts_steps.specs.declared.borrowed.Held.TheVariants.{InSave};
+ghost use Rattle.regalloc2_steps.specs.declared.borrowed.Held.TheVariants.{InSave};
 
 use regalloc2_names::Allocation;
-use regalloc2_parts_steps::borrowed::{Held, ScratchReg, restoring};
+use regalloc2_steps::borrowed::{Held, ScratchReg, restoring};
 use std::alloc::{AllocError, Allocator};
 
 /// Saves the value that the register must hold, unless it is saved.

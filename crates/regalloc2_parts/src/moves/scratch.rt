@@ -8,7 +8,7 @@ ghost use Rattle.regalloc2_parts.specs.Computed.{Computes, AreApartInMemory, Are
 
 use super::{MoveFault, MoveVec, MoveVecWithScratch, passing};
 use regalloc2_names::{Allocation, PReg};
-use regalloc2_parts_steps::borrowed::{Held, ScratchReg};
+use regalloc2_steps::borrowed::{Held, ScratchReg};
 use smallvec::SmallVec;
 use std::alloc::Allocator;
 

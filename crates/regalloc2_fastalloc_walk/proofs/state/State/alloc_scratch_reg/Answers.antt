@@ -1,7 +1,7 @@
 use Rattle.std.proofs.Common.{List, sym, ◌∙◌, ap}
 use Rattle.std.specs.Prelude.{Option, slice_set, Some}
 use Rattle.regalloc2_names.specs.Register.{Register, class_code}
-use Rattle.regalloc2_fastalloc_steps.specs.declared.positions.Positions.{Positions}
+use Rattle.regalloc2_steps.specs.declared.positions.Positions.{Positions}
 use Rattle.regalloc2_fastalloc_state.specs.InstRegs.{IsAvailableAt}
 use Rattle.regalloc2_fastalloc_proofs.specs.InstSteps.{found}
 use Rattle.regalloc2_fastalloc_proofs.proofs.Evictions.PushedAndRemoved.{left_of_both}

@@ -1,5 +1,5 @@
 use Rattle.std.proofs.Common.{◌<◌, ◌≤◌, rules, arith}
-use Rattle.regalloc2_fastalloc_steps.specs.Units.{most_units}
+use Rattle.regalloc2_steps.specs.Units.{most_units}
 use Rattle.regalloc2_semantics.proofs.Plain.{each_of_three}
 use Rattle.regalloc2_fastalloc_walk.proofs.LrusOfClasses.{ring_is}
 use Rattle.regalloc2_fastalloc_walk.proofs.state.State.new.Goals as goal

@@ -5,7 +5,7 @@ use Rattle.regalloc2_names.specs.Place.{Place, InRegister}
 use Rattle.regalloc2_fastalloc_state.specs.InstRegs.{IsAvailableAt}
 use Rattle.regalloc2_fastalloc_state.specs.StateParts.{NoneIsIn}
 use Rattle.regalloc2_fastalloc_walk.specs.StateView.{tables_of}
-use Rattle.regalloc2_fastalloc_steps.specs.declared.positions.Positions.{Positions}
+use Rattle.regalloc2_steps.specs.declared.positions.Positions.{Positions}
 use Rattle.regalloc2_fastalloc_proofs.proofs.Moves.ParallelMovesOrdered.{spare_of, differ_of}
 use Rattle.regalloc2_fastalloc_walk.proofs.AvailableCount.{only_first}
 use Rattle.regalloc2_fastalloc_walk.proofs.state.State.scratch_regs.Goals as goal

@@ -1,4 +1,0 @@
--- The registers of a call's frame, as contracts see them.
--- Read first: `Frame`.
--- Depends on regalloc2_names.
-pub mod Frame

@@ -1,0 +1,182 @@
+//! Calls that allocate memory: each allocation, made to fail in turn.
+
+use super::listed::{SLOT, resolved};
+use super::structures::three_rings;
+use crate::units::report::Report;
+use regalloc2_function::{MachineEnv, Output, StoredFault, StoredOutput, is_framed};
+use regalloc2_names::{PRegSet, RegAllocError};
+use regalloc2_parts::moves::MoveFault;
+use regalloc2_parts::moves::MoveVecWithScratch::{NoScratch, Scratch};
+use regalloc2_parts::vregset::VRegSet;
+use regalloc2_serialize::{FromValue, SerializableFunction, StoredFunction};
+use regalloc2_shape::indexset::IndexSet;
+use regalloc2_test_alloc::{Call, Refusing, is_each_told};
+use serde_json::Value;
+use std::alloc::{AllocError, Allocator, Global};
+
+/// Calls, and the JSON texts that they read.
+#[derive(Clone, Copy)]
+enum Made<'a> {
+    Parts(Global),
+    Sets,
+    Stored(Global, (&'a str, &'a str)),
+}
+
+impl Call for Made<'_> {
+    fn make(&self, alloc: &Refusing<Global>) -> Result<bool, AllocError> {
+        let answer = match *self {
+            Made::Parts(global) => make_parts(global, alloc),
+            Made::Sets => make_sets(alloc),
+            Made::Stored(global, texts) => make_stored(global, alloc, texts),
+        };
+        match answer {
+            Ok(()) => Ok(true),
+            Err(RegAllocError::Memory) => Err(AllocError),
+            Err(_) => Ok(false),
+        }
+    }
+}
+
+/// Resolves a cycle of 17 slots. If one of them is left out, the others need no scratch place.
+fn resolve_cycle(global: Global, alloc: &Refusing<Global>) -> Result<(), RegAllocError> {
+    let mut cycle = [(0, 0); 17];
+    for at in 0..cycle.len() {
+        cycle[at] = (SLOT + at, SLOT + (at + 1) % 17);
+    }
+    match resolved(global, alloc, &cycle) {
+        Ok(Some(Scratch(_))) => Ok(()),
+        Ok(Some(NoScratch(_))) | Err(MoveFault::Memory) => Err(RegAllocError::Memory),
+        _ => Err(RegAllocError::TooManySpillSlots),
+    }
+}
+
+/// Makes rings and a list, and resolves a cycle.
+fn make_parts(global: Global, alloc: &Refusing<Global>) -> Result<(), RegAllocError> {
+    let _rings = three_rings(alloc)?;
+    let _list = VRegSet::with_capacity(alloc, 3)?;
+    resolve_cycle(global, alloc)
+}
+
+/// Fills a set past its twelve words, assigns it and adds it to another one.
+fn make_sets(alloc: &Refusing<Global>) -> Result<(), RegAllocError> {
+    let mut set = IndexSet::new(alloc);
+    for word in 0..40usize {
+        set.set(64 * word, true)?;
+    }
+    let (mut assigned, mut added) = (IndexSet::new(alloc), IndexSet::new(alloc));
+    assigned.assign(&set)?;
+    added.union_with(&set)?;
+    Ok(())
+}
+
+/// Reads a function and an output.
+fn make_stored(
+    global: Global,
+    alloc: &Refusing<Global>,
+    texts: (&str, &str),
+) -> Result<(), RegAllocError> {
+    let _numbers = stored(global, alloc, texts)?;
+    Ok(())
+}
+
+/// What a call returns, with its error as other calls name it: out of memory, or another one.
+fn named<T: Drop>(answer: Result<T, StoredFault>) -> Result<T, RegAllocError> {
+    match answer {
+        Ok(made) => Ok(made),
+        Err(StoredFault::Memory) => Err(RegAllocError::Memory),
+        Err(_) => Err(RegAllocError::EntryLivein),
+    }
+}
+
+/// The value of a JSON text.
+fn value_of(global: Global, text: &str) -> Result<Value, RegAllocError> {
+    match Value::from_str(global, text) {
+        Ok(value) => Ok(value),
+        Err(_) => Err(RegAllocError::EntryLivein),
+    }
+}
+
+/// A copy of a function that is structurally valid (`IsFramed`), with a machine without registers.
+fn copied<A: Allocator + Copy>(
+    alloc: A,
+    f: &SerializableFunction<A>,
+) -> Result<SerializableFunction<A>, RegAllocError> {
+    if !is_framed(f) {
+        return Err(RegAllocError::EntryLivein);
+    }
+    let env = MachineEnv {
+        preferred_regs_by_class: [PRegSet::empty(); 3],
+        non_preferred_regs_by_class: [PRegSet::empty(); 3],
+        scratch_by_class: [None; 3],
+        fixed_stack_slots: Vec::new(alloc),
+    };
+    SerializableFunction::new(alloc, f, env)
+}
+
+/// The function that a JSON value gives.
+fn function_of<A: Allocator + Copy>(
+    alloc: A,
+    value: &Value,
+) -> Result<SerializableFunction<A>, RegAllocError> {
+    let stored = named(StoredFunction::from_value(alloc, value))?;
+    named(SerializableFunction::from_stored(alloc, &stored))
+}
+
+/// The stored numbers of a function, copied with a machine without registers.
+fn copied_numbers<A: Allocator + Copy>(
+    alloc: A,
+    f: &SerializableFunction<A>,
+) -> Result<StoredFunction<A>, RegAllocError> {
+    Ok(copied(alloc, f)?.stored()?)
+}
+
+/// The stored numbers of a function that a JSON text gives, copied with a machine without registers.
+fn stored_function<A: Allocator + Copy>(
+    global: Global,
+    alloc: A,
+    text: &str,
+) -> Result<StoredFunction<A>, RegAllocError> {
+    let value = value_of(global, text)?;
+    let f = function_of(alloc, &value)?;
+    copied_numbers(alloc, &f)
+}
+
+/// The output that a JSON value gives.
+fn output_of<A: Allocator + Copy>(alloc: A, value: &Value) -> Result<Output<A>, RegAllocError> {
+    let read = named(StoredOutput::from_value(alloc, value))?;
+    named(Output::from_stored(alloc, &read))
+}
+
+/// The stored numbers of an output that a JSON text gives.
+fn stored_output<A: Allocator + Copy>(
+    global: Global,
+    alloc: A,
+    text: &str,
+) -> Result<StoredOutput<A>, RegAllocError> {
+    let value = value_of(global, text)?;
+    Ok(output_of(alloc, &value)?.stored()?)
+}
+
+/// The stored numbers of a function and of an output that JSON texts give.
+fn stored<A: Allocator + Copy>(
+    global: Global,
+    alloc: A,
+    texts: (&str, &str),
+) -> Result<(StoredFunction<A>, StoredOutput<A>), RegAllocError> {
+    let f = stored_function(global, alloc, texts.0)?;
+    Ok((f, stored_output(global, alloc, texts.1)?))
+}
+
+/// Writes the numbers that the texts of a function and an output give, and of each call whether it
+/// reports each allocation that fails.
+pub fn write_all(global: Global, text: &str, out: &mut Report) {
+    let texts = text.split_once('\n').unwrap_or(("", ""));
+    out.row("stored", &stored(global, global, texts).ok());
+    for (name, call) in [
+        ("rings, list, moves", Made::Parts(global)),
+        ("sets", Made::Sets),
+        ("a stored function and output", Made::Stored(global, texts)),
+    ] {
+        out.row(name, &is_each_told(global, &call));
+    }
+}

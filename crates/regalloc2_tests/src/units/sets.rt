@@ -1,0 +1,167 @@
+//! Sets of registers, and sparse sets of numbers.
+
+use crate::units::report::Report;
+use regalloc2_names::{PReg, PRegSet, RegClass};
+use regalloc2_shape::indexset::{IndexSet, SetBitsIter};
+use regalloc2_test_alloc::Refusing;
+use std::alloc::{AllocError, Allocator, Global};
+
+/// The classes.
+static CLASSES: [RegClass; 3] = [RegClass::Int, RegClass::Float, RegClass::Vector];
+
+/// Writes what sets return.
+pub fn write_all(alloc: Global, out: &mut Report) -> Result<(), AllocError> {
+    write_changes(alloc, out)?;
+    write_counts(out);
+    write_ranges(out);
+    write_inline(alloc, out)?;
+    let ample = Refusing::counting(alloc);
+    write_left(out, &ample, &Refusing::new(alloc, 1), true)?;
+    write_left(out, &ample, &Refusing::new(alloc, 1), false)?;
+    write_members(alloc, out)
+}
+
+/// Writes sets with the results of all their queries.
+fn write_sets(out: &mut Report, sets: &[(&str, PRegSet)]) {
+    for (name, set) in sets {
+        out.put(&format_args!("{name}: {set}\n"));
+        let (int, float) = (set.is_empty(RegClass::Int), set.is_empty(RegClass::Float));
+        let vector = set.is_empty(RegClass::Vector);
+        out.row("is", &(set.len(), set.max_preg(), int, float, vector));
+    }
+}
+
+/// Writes sets that others are changed to, and what walks of one give: by reference its last register, by value how many.
+fn write_changes(alloc: Global, out: &mut Report) -> Result<(), AllocError> {
+    let (p4, p5) = (PReg::new(4, RegClass::Int), PReg::new(5, RegClass::Int));
+    let list = [p4, PReg::new(3, RegClass::Vector), p4];
+    let set: PRegSet = list.iter().copied().collect(alloc)?;
+    let mut less = set;
+    less.remove(p4);
+    let mut both = less;
+    both.union_from(PRegSet::empty().with(p4));
+    let mut low = PRegSet::empty().with(p5);
+    low.add_up_to(PReg::new(3, RegClass::Int));
+    let sets = [
+        ("none", PRegSet::default()),
+        ("collected", set),
+        ("removed", less),
+        ("union", both),
+        ("and", both & less),
+        ("or", less | set),
+        ("less", set.difference(PRegSet::empty().with(p4))),
+        ("up to", low),
+    ];
+    write_sets(out, &sets);
+    out.row("inverse of none", &PRegSet::empty().invert().len());
+    out.row("walked", &((&set).into_iter().last(), count_of(set)));
+    Ok(())
+}
+
+/// How many registers a walk gives.
+fn count_of(set: PRegSet) -> u32 {
+    let mut count = 0u32;
+    for p in set {
+        count = count.wrapping_add(u32::from(set.contains(p)));
+    }
+    count
+}
+
+/// Writes how many registers a set has and which is the greatest, as it grows.
+fn write_counts(out: &mut Report) {
+    let mut set = PRegSet::empty();
+    for number in [3, 3, 4, 2] {
+        set.add(PReg::new(number, RegClass::Int));
+        write_sets(out, &[("added", set)]);
+    }
+}
+
+/// Writes, for each class, of how many registers' ranges the first register, the one before and the register itself is.
+fn write_ranges(out: &mut Report) {
+    for class in &CLASSES {
+        let class = *class;
+        let (mut first, mut before, mut own) = (0u32, 0u32, 0u32);
+        for number in 0..64usize {
+            let p = PReg::new(number, class);
+            let mut set = PRegSet::empty();
+            set.add_up_to(p);
+            first = first.wrapping_add(u32::from(set.contains(PReg::new(0, class))));
+            own = own.wrapping_add(u32::from(set.contains(p)));
+            if number > 0 && set.contains(PReg::new(number - 1, class)) {
+                before = before.wrapping_add(1);
+            }
+        }
+        out.row("up to each", &(class, first, before, own));
+    }
+}
+
+/// How many members a set has, and their sum.
+pub fn count_and_sum<A: Allocator + Copy>(set: &IndexSet<A>) -> (usize, usize) {
+    let (mut count, mut sum) = (0usize, 0usize);
+    for number in set.iter() {
+        count = count.wrapping_add(1);
+        sum = sum.wrapping_add(number);
+    }
+    (count, sum)
+}
+
+/// Writes a set that stays within its twelve words, where the first allocation fails, and then goes
+/// past them.
+fn write_inline(global: Global, out: &mut Report) -> Result<(), AllocError> {
+    let alloc = Refusing::new(global, 1);
+    let mut set = IndexSet::new(&alloc);
+    for word in 0..12usize {
+        set.set(64 * word, true)?;
+    }
+    set.set(64 * 5, false)?;
+    set.set(64 * 100, true)?;
+    let row = (count_and_sum(&set), alloc.has_refused());
+    out.row("twelve words", &row);
+    let is_refused = set.set(64 * 200, true).is_err();
+    let row = (is_refused, count_and_sum(&set));
+    out.row("the thirteenth refused", &row);
+    set.set(64 * 200, true)?;
+    out.row("thirteen", &(count_and_sum(&set), set.get(64 * 200)));
+    Ok(())
+}
+
+/// Writes what is left of a set of one member, to which a set of 40 words is assigned or added, if
+/// an allocation of its own allocator fails. Of a union the words for which there is room are left.
+fn write_left<'a>(
+    out: &mut Report,
+    ample: &'a Refusing<Global>,
+    short: &'a Refusing<Global>,
+    assigns: bool,
+) -> Result<(), AllocError> {
+    let mut other = IndexSet::new(ample);
+    for word in 0..40usize {
+        other.set(64 * word, true)?;
+    }
+    let mut set = IndexSet::new(short);
+    set.set(7, true)?;
+    let is_refused = if assigns {
+        set.assign(&other).is_err()
+    } else {
+        set.union_with(&other).is_err()
+    };
+    out.row("left", &(is_refused, count_and_sum(&set)));
+    Ok(())
+}
+
+/// Writes the multiples of 17, a union, and the bits of a word.
+fn write_members(alloc: Global, out: &mut Report) -> Result<(), AllocError> {
+    let mut set = IndexSet::new(alloc);
+    for multiple in 0..61usize {
+        set.set(17 * multiple, true)?;
+    }
+    let row = (count_and_sum(&set), set.get(17), set.get(18));
+    out.row("multiples of 17", &row);
+    let mut small = IndexSet::new(alloc);
+    small.set(17, true)?;
+    let added = (small.union_with(&set).ok(), small.union_with(&set).ok());
+    out.row("added", &(added, count_and_sum(&small)));
+    for bit in SetBitsIter::new(1 << 63 | 0b101) {
+        out.row("bit", &bit);
+    }
+    Ok(())
+}

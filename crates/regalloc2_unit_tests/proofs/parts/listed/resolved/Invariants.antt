@@ -1,5 +1,0 @@
-use Rattle.std.proofs.Common.{◌≡◌}
-use Rattle.regalloc2_unit_tests.proofs.parts.listed.resolved.Given as goal
-
-abbrev pub invariant-loop-from : goal.invariant-loop-from
-invariant-loop-from g l = l.moves ≡ l.list.items
