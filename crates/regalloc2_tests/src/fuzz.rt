@@ -15,6 +15,7 @@ use super::random::Random;
 use asked::{Answer, ask};
 use changed::changed;
 use refused::show_refused;
+use regalloc2_test_alloc::Refusing;
 use std::alloc::{AllocError, Global};
 use std::io::{self, Write};
 
@@ -37,7 +38,7 @@ fn text_of(alloc: Global, whole: &str, text: &str) -> Result<String, AllocError>
 
 /// Writes the result for a text.
 fn show<W: Write>(alloc: Global, words: &str, text: &str, out: &mut W) -> io::Result<()> {
-    match ask(alloc, alloc, words, text.as_bytes()) {
+    match ask(alloc, &Refusing::counting(alloc), words, text.as_bytes()) {
         Some(answer) => write!(out, "{answer}"),
         None => writeln!(out, "out of memory"),
     }
@@ -142,7 +143,7 @@ fn place_of(answer: Option<Answer>) -> usize
 fn count(alloc: Global, random: &mut Random, words: &str, text: &str, counts: &mut Counts) {
     for _ in 0..COPIES {
         let answer = match changed(alloc, random, text.as_bytes()) {
-            Some(text) => ask(alloc, alloc, words, text.as_slice()),
+            Some(text) => ask(alloc, &Refusing::counting(alloc), words, text.as_slice()),
             None => None,
         };
         let place = place_of(answer);

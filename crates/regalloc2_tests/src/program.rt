@@ -1,5 +1,6 @@
 //! What `ra2` returns for arguments and texts, and where a read or a write fails.
 
+use regalloc2_test_alloc::Refusing;
 use regalloc2_tool::ra2::answer;
 use std::alloc::{AllocError, Global};
 use std::io::{self, BufWriter, ErrorKind, Read, Write};
@@ -106,7 +107,8 @@ fn is_refused<R: Read + Drop>(
     let words = words(alloc, line)?;
     let out = BufWriter::new(alloc, Vec::new(alloc))?;
     let mut err = Vec::new(alloc);
-    let (status, out) = answer(alloc, alloc, words.as_slice(), input, out, &mut err);
+    let ample = &Refusing::counting(alloc);
+    let (status, out) = answer(alloc, ample, words.as_slice(), input, out, &mut err);
     Ok(status == 2 && out.is_empty() && err.as_slice() == err_line.as_bytes())
 }
 
@@ -161,9 +163,10 @@ fn answer_faulty(alloc: Global, capacity: usize, sound_writes: u32) -> io::Resul
     let out = Faulty::new(alloc, sound_writes, true);
     let out = BufWriter::with_capacity(alloc, capacity, out)?;
     let mut err = Vec::new(alloc);
+    let ample = &Refusing::counting(alloc);
     let (status, out) = answer(
         alloc,
-        alloc,
+        ample,
         words.as_slice(),
         TEXT.as_bytes(),
         out,
@@ -213,7 +216,8 @@ pub fn failed_flush(alloc: Global) -> io::Result<(u8, bool, bool)> {
     let run = words(alloc, &["run"])?;
     let out = BufWriter::new(alloc, Faulty::new(alloc, u32::MAX, false))?;
     let mut err = Vec::new(alloc);
-    let (status, out) = answer(alloc, alloc, run.as_slice(), TEXT.as_bytes(), out, &mut err);
+    let ample = &Refusing::counting(alloc);
+    let (status, out) = answer(alloc, ample, run.as_slice(), TEXT.as_bytes(), out, &mut err);
     let is_listed = out.text.as_slice() == LISTING.as_bytes();
     Ok((status, is_listed, err.is_empty()))
 }
@@ -224,9 +228,10 @@ pub fn shut_error_stream(alloc: Global) -> io::Result<(u8, bool)> {
     let walk = words(alloc, &["walk"])?;
     let out = BufWriter::new(alloc, Vec::new(alloc))?;
     let mut shut = Faulty::new(alloc, 0, false);
+    let ample = &Refusing::counting(alloc);
     let (status, out) = answer(
         alloc,
-        alloc,
+        ample,
         walk.as_slice(),
         TEXT.as_bytes(),
         out,

@@ -10,7 +10,7 @@ mod calls;
 use calls::{Given, NAMES, Name};
 use regalloc2::serialize::{FromValue, SerializableFunction, StoredFunction};
 use regalloc2::{Output, allocate_without_checker};
-use regalloc2_test_alloc::is_each_told;
+use regalloc2_test_alloc::{Refusing, is_each_told};
 use serde_json::Value;
 use std::alloc::Global;
 use std::io::{self, Write};
@@ -30,7 +30,7 @@ fn output_of(alloc: Global, f: &SerializableFunction) -> Output {
 /// Whether each failed allocation of a call is reported, and whether the call allocates memory at
 /// all. The call's expected result is the one that it returns with ample memory.
 fn is_told(global: Global, given: &mut Given) -> Option<bool> {
-    given.wanted = given.answer(global).ok()?;
+    given.wanted = given.answer(&Refusing::counting(global)).ok()?;
     Some(is_each_told(global, given))
 }
 

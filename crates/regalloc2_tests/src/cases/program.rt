@@ -120,27 +120,29 @@ fn answer_of(
     Ok(to)
 }
 
-/// The lines of a result that aren't blank.
-fn shown_lines<'a>(alloc: Global, came: &'a str) -> Result<Vec<&'a str>, AllocError> {
-    let mut shown = Vec::new(alloc);
+/// A result without its blank lines.
+fn without_blank_lines(alloc: Global, came: &str) -> Result<String, AllocError> {
+    let mut shown = String::new(alloc);
     for line in came.lines() {
         if !line.is_empty() {
-            shown.push(line)?;
+            shown.push_str(line)?;
+            shown.push('\n')?;
         }
     }
     Ok(shown)
 }
 
 /// The first line at which a result differs: the expected one and the actual one.
-fn first_difference<'a>(wanted: &[&'a str], came: &[&'a str]) -> Option<(Shown<'a>, Shown<'a>)> {
-    for (at, line) in wanted.iter().enumerate() {
-        let next = came.get(at).copied();
-        if next != Some(*line) {
+fn first_difference<'a>(wanted: &[&'a str], came: &'a str) -> Option<(Shown<'a>, Shown<'a>)> {
+    let mut lines = came.lines();
+    for line in wanted {
+        let next = lines.next();
+        if !next.is_some_and(|text| text == *line) {
             return Some((Shown(Some(*line)), Shown(next)));
         }
     }
-    let next = came.get(wanted.len())?;
-    Some((Shown(None), Shown(Some(*next))))
+    let next = lines.next()?;
+    Some((Shown(None), Shown(Some(next))))
 }
 
 /// Runs a call of a case, and writes how its result differs from the expected one. Returns whether it doesn't.
@@ -154,8 +156,8 @@ fn run_call<O: Write>(
 ) -> Result<bool, CallError> {
     let bytes = answer_of(alloc, case, before, wanted.call)?;
     let came = String::from_utf8_lossy(alloc, bytes.as_slice())?;
-    let lines = shown_lines(alloc, came.as_str())?;
-    let Some((want, got)) = first_difference(wanted.answer.as_slice(), lines.as_slice()) else {
+    let shown = without_blank_lines(alloc, came.as_str())?;
+    let Some((want, got)) = first_difference(wanted.answer.as_slice(), shown.as_str()) else {
         return Ok(true);
     };
     let line = wanted.line;

@@ -1,7 +1,8 @@
 //! What `ra2` returns for arguments and a text.
 
+use regalloc2_test_alloc::Refusing;
 use regalloc2_tool::ra2::answer;
-use std::alloc::{Allocator, Global};
+use std::alloc::Global;
 use std::io::BufWriter;
 use std::{fmt, str};
 
@@ -32,12 +33,7 @@ fn words_of(global: Global, line: &str) -> Option<Vec<String>> {
 }
 
 /// Calls the function that `main` calls, with the arguments between `+`, over an allocator.
-pub fn ask<A: Allocator + Copy>(
-    global: Global,
-    alloc: A,
-    line: &str,
-    text: &[u8],
-) -> Option<Answer> {
+pub fn ask(global: Global, alloc: &Refusing<Global>, line: &str, text: &[u8]) -> Option<Answer> {
     let words = words_of(global, line)?;
     let out = BufWriter::new(global, Vec::new(global)).ok()?;
     let mut err = Vec::new(global);

@@ -13,7 +13,7 @@ use std::io::{self, Write};
 /// Whether each memory allocation that fails ends in a line that says so, which is then marked; and
 /// there is one.
 fn is_each_told(global: Global, words: &str, text: &[u8], met: &mut [bool; 5]) -> Option<bool> {
-    let ample = ask(global, global, words, text)?;
+    let ample = ask(global, &Refusing::counting(global), words, text)?;
     for nth in 1..10_000u64 {
         let alloc = Refusing::new(global, nth);
         let answer = ask(global, &alloc, words, text)?;
