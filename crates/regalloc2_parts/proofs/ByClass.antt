@@ -1,5 +1,5 @@
 -- A list with one element for each register class, read and written as code does, by the class's discriminant.
-use Rattle.std.proofs.Common.{◌≡◌, ◌≢◌, arith, List, [], length, get_or, set}
+use Rattle.std.proofs.Common.{◌≡◌, ◌≢◌, ◌<◌, ◌≤◌, arith, List, [], length, get_or, set}
 use Rattle.std.proofs.lemmas.List.{get_or_default, get_or-set_same, get_or-set_other, set-get_or}
 use denote.Enum.Declared.{tag_of}
 use Rattle.regalloc2_names.specs.declared.RegClass.{RegClass}
@@ -8,6 +8,16 @@ use Rattle.regalloc2_names.specs.Register.{Register, class_code}
 use Rattle.regalloc2_names.proofs.Bits.{tag-class, class_code-lt}
 use Rattle.regalloc2_parts.specs.Ring.{ring_of}
 use Rattle.regalloc2_parts.proofs.RegisterLaws.{class_codes}
+
+-- the discriminants are below 3
+pub tag-lt : (class : RegClass) → tag_of the_type class < 3
+tag-lt class = rw (tag-class class) (class_code-lt class)
+
+pub tag-le : (class : RegClass) → tag_of the_type class ≤ 3
+tag-le class = omega (arith, tag-lt class)
+
+pub tag-within : {X : Type 0} (xs : List X) (class : RegClass) → length xs ≡ 3 → tag_of the_type class < length xs
+tag-within xs class three = rw three (tag-lt class)
 
 -- the ring that is read
 pub read_ring : (rings : List (List Register)) (class : RegClass) (d : List Register) → length rings ≡ 3 → get_or rings (tag_of the_type class) d ≡ ring_of rings class

@@ -3,7 +3,7 @@ use Rattle.std.specs.Prelude.{find, reverse}
 use Rattle.std.specs.List.{IsDistinct}
 use Rattle.regalloc2_names.specs.Register.{Register, is_register}
 use Rattle.regalloc2_names.specs.RegisterSet.{has_register}
-use Rattle.regalloc2_parts.proofs.ByClass.{read_ring}
+use Rattle.regalloc2_parts.proofs.ByClass.{tag-lt, tag-le, tag-within, read_ring}
 use Rattle.regalloc2_parts.proofs.lru.PartedByRegClass+Lru+A.last.Goals as goal
 
 pub returns-clause-oldest : goal.returns-clause-oldest
@@ -28,3 +28,12 @@ pub returns-clause-distinct : goal.returns-clause-distinct
 returns-clause-distinct g c =
     subst (λ (xs : List Register). IsDistinct is_register xs)
     (read_ring c.args.self.now.items c.args.class c.index-self-class.result (omega arith)) c.last.ensures.distinct
+
+pub offset_bounds-self-class : goal.offset_bounds-self-class
+offset_bounds-self-class g c = tag-le c.args.class
+
+pub listed : goal.listed
+listed g c = tag-within c.args.self.now.items c.args.class (omega arith)
+
+pub bounds-self-class : goal.bounds-self-class
+bounds-self-class g c = tag-lt c.args.class

@@ -2,7 +2,7 @@ use Rattle.std.proofs.Common.{◌∙◌, ap, sym, subst, arith, List, Contains, 
 use Rattle.std.specs.Prelude.{filter}
 use Rattle.std.specs.List.{IsDistinct}
 use Rattle.regalloc2_names.specs.Register.{Register, is_register}
-use Rattle.regalloc2_parts.proofs.ByClass.{read_ring, set_ring, set_ring-other}
+use Rattle.regalloc2_parts.proofs.ByClass.{tag-lt, tag-le, tag-within, read_ring, set_ring, set_ring-other}
 use Rattle.regalloc2_parts.proofs.lru.PartedByRegClass+Lru+A.poke_ring.Goals as goal
 
 pub poke-requires : goal.poke-requires
@@ -21,3 +21,12 @@ returns-clause-distinct g c =
 
 pub returns-clause-others : goal.returns-clause-others
 returns-clause-others g c = λ other apart. set_ring-other c.args.self.now.items c.args.class other c.poke.new.self apart
+
+pub offset_bounds-self-class : goal.offset_bounds-self-class
+offset_bounds-self-class g c = tag-le c.args.class
+
+pub listed : goal.listed
+listed g c = tag-within c.args.self.now.items c.args.class (omega arith)
+
+pub bounds-self-class : goal.bounds-self-class
+bounds-self-class g c = tag-lt c.args.class

@@ -1,7 +1,7 @@
 use Rattle.std.proofs.Common.{◌∙◌, ap, subst, arith, length, List, Contains, ◌-◌, IfSome}
 use Rattle.std.specs.Prelude.{slice_get}
 use Rattle.regalloc2_names.specs.Register.{Register}
-use Rattle.regalloc2_parts.proofs.ByClass.{read_ring, set_ring-same}
+use Rattle.regalloc2_parts.proofs.ByClass.{tag-lt, tag-le, tag-within, read_ring, set_ring-same}
 use Rattle.regalloc2_parts.proofs.lru.PartedByRegClass+Lru+A.pop.Goals as goal
 
 pub returns-clause-oldest : goal.returns-clause-oldest
@@ -16,3 +16,12 @@ returns-clause-member g c =
 pub returns-clause-unchanged : goal.returns-clause-unchanged
 returns-clause-unchanged g c =
     set_ring-same c.args.self.now.items c.args.class c.pop.new.self c.index-self-class.result c.pop.ensures.unchanged
+
+pub offset_bounds-self-class : goal.offset_bounds-self-class
+offset_bounds-self-class g c = tag-le c.args.class
+
+pub listed : goal.listed
+listed g c = tag-within c.args.self.now.items c.args.class (omega arith)
+
+pub bounds-self-class : goal.bounds-self-class
+bounds-self-class g c = tag-lt c.args.class
