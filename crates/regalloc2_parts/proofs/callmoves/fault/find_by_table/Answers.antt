@@ -27,13 +27,13 @@ returns-in_err-earlier g c = let p = err_from_is_err_and c.from_residual.result 
 
 pub returns-then-earlier-from : goal.returns-then-earlier-from
 returns-then-earlier-from g c = (
-      c.loop-at-test.true,
-      table_differs c.args.moves.now c.loop-at.at (get nat_eq c.loop-at.sources) c.source_at.result c.target_at.result c.bits-from.result c.bits-to.result
-          c.loop-at.invariant (record { is = c.source_at.ensures; bits = c.bits-from.ensures.bits; back = c.bits-from.ensures.place })
-          (record { is = c.target_at.ensures; bits = c.bits-to.ensures.bits; back = c.bits-to.ensures.place })
-          c.in-Some.earlier (sym c.in_ok-earlier.ensures.old ∙ c.in-Some.is) c.if-earlier-from.true,
-      none_before c.args.moves.now c.loop-at.at (get nat_eq c.loop-at.sources) c.loop-at.invariant,
-    )
+  c.loop-at-test.true,
+  table_differs c.args.moves.now c.loop-at.at (get nat_eq c.loop-at.sources) c.source_at.result c.target_at.result c.bits-from.result c.bits-to.result
+      c.loop-at.invariant (record { is = c.source_at.ensures; bits = c.bits-from.ensures.bits; back = c.bits-from.ensures.place })
+      (record { is = c.target_at.ensures; bits = c.bits-to.ensures.bits; back = c.bits-to.ensures.place })
+      c.in-Some.earlier (sym c.in_ok-earlier.ensures.old ∙ c.in-Some.is) c.if-earlier-from.true,
+  none_before c.args.moves.now c.loop-at.at (get nat_eq c.loop-at.sources) c.loop-at.invariant,
+)
 
 pub returns : goal.returns
 returns g c =

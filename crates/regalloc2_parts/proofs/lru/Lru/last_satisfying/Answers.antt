@@ -20,16 +20,16 @@ returns-clause-oldest g c =
 
 pub loop-preg-init : goal.loop-preg-init
 loop-preg-init g c = record {
-      walk = sym (c.into_iter-preg-iterator.ensures.into_iter_gives ∙ c.oldest_first-preg-items.ensures.walk);
-      asked = λ k d less. absurd (omega (arith, less));
-    }
+  walk = sym (c.into_iter-preg-iterator.ensures.into_iter_gives ∙ c.oldest_first-preg-items.ensures.walk);
+  asked = λ k d less. absurd (omega (arith, less));
+}
 
 pub loop-preg-preserved : goal.loop-preg-preserved
 loop-preg-preserved g c = record {
-      walk = c.loop-preg.invariant.walk ∙ ap (λ (l : List Register). c.loop-preg.yielded ++ l) c.in-Some.ensures.steps
-          ∙ sym (append_assoc c.loop-preg.yielded (c.in-Some.preg ∷ []) c.next.new.self);
-      asked = All-push (λ r. goal.F-post g c.args.f r false) c.loop-preg.yielded c.in-Some.preg c.loop-preg.invariant.asked c.if-f.ensures;
-    }
+  walk = c.loop-preg.invariant.walk ∙ ap (λ (l : List Register). c.loop-preg.yielded ++ l) c.in-Some.ensures.steps
+      ∙ sym (append_assoc c.loop-preg.yielded (c.in-Some.preg ∷ []) c.next.new.self);
+  asked = All-push (λ r. goal.F-post g c.args.f r false) c.loop-preg.yielded c.in-Some.preg c.loop-preg.invariant.asked c.if-f.ensures;
+}
 
 pub loop-preg-smaller : goal.loop-preg-smaller
 loop-preg-smaller g c =

@@ -132,11 +132,11 @@ loop-top-preserved g c =
 
 pub loop-top-init : goal.loop-top-init
 loop-top-init g c = record {
-      as_many = c.requires.as_many;
-      giving = c.requires.giving;
-      on = λ k n. n;
-      of_moves = c.requires.of_moves;
-    }
+  as_many = c.requires.as_many;
+  giving = c.requires.giving;
+  on = λ k n. n;
+  of_moves = c.requires.of_moves;
+}
 
 pub returns-in_err-push : goal.returns-in_err-push
 returns-in_err-push g c = let p = err_from_is_err_and c.from_residual.result c.from_residual.ensures.1 in rw p.1 (record { given = tt })
