@@ -1,4 +1,4 @@
-use Rattle.std.proofs.Common.{ℕ, ◌≡◌, List, [], Vec, length, sym, subst, arith, inl, inr}
+use Rattle.std.proofs.Common.{ℕ, ◌≡◌, List, [], Vec, sym, subst, arith, inl, inr}
 use Rattle.std.proofs.lemmas.Result.{IfErr-weaker, err_from_is_err_and}
 use Rattle.regalloc2_shape.specs.Ways.{listed_of}
 use Rattle.regalloc2_shape.proofs.blocks.test_counted.Goals as goal
