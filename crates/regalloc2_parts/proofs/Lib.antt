@@ -10,6 +10,7 @@
 -- the most recently used).
 -- The list of vregs: `node_inserted` and `node_removed` in `VRegLinks`. Both rest on rings of links: `LinkRings`,
 -- `Linked`, `LinksChanged`, `Numbers`. `Poked`, `MemberOut` and `RegisterLaws` are on lists of registers.
+pub mod ByClass
 pub mod CallmovesLemmas
 pub mod Chains
 pub mod Computing

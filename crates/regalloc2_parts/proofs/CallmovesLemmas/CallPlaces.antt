@@ -1,9 +1,10 @@
 -- Lemmas on the moves of a call that have been seen so far.
 use Rattle.std.proofs.Common.{ℕ, ◌≡◌, ◌≢◌, ◌<◌, ◌≤◌, ◌+◌, true, false, length, get_or, refl, sym, ap, ◌∙◌, inl, inr, ◌⊎◌}
-use Rattle.std.proofs.Common.{⊎_elim, subst, arith, None, Some}
+use Rattle.std.proofs.Common.{⊎_elim, subst, arith, None, Some, suc, take, List, [], ◌∷◌, ◌++◌}
+use Rattle.std.proofs.Math.Seq.{take-suc}
 use Rattle.std.specs.Prelude.{◌||◌}
 use Rattle.std.proofs.lemmas.Bool.{cases_lt, or_cases, or_left, or_right}
-use Rattle.std.proofs.lemmas.List.{get_or_default}
+use Rattle.std.proofs.lemmas.List.{get_or_default, map-append}
 use Rattle.regalloc2_index.proofs.Numbers.{below_or_last}
 use Rattle.regalloc2_names.specs.declared.sets.PRegSet.{PRegSet}
 use Rattle.regalloc2_names.specs.Place.{Place, NoPlace, InRegister, InSlot, is_place, slot_of_place}
@@ -13,7 +14,7 @@ use Rattle.regalloc2_names.specs.RegisterSet.{has_register}
 use Rattle.regalloc2_names.proofs.EqualNames.{is_place-true, is_place-along}
 use Rattle.regalloc2_steps.specs.declared.frame.CallFrame.{CallFrame}
 use Rattle.regalloc2_steps.specs.Frame.{free_at}
-use Rattle.regalloc2_parts.specs.Callmoves.CallMoves.{CallMoves, call_move, source, target, HasNone, NamesNoPlace, MovesName, IsNotFree, IsLower}
+use Rattle.regalloc2_parts.specs.Callmoves.CallMoves.{CallMoves, call_move, source, target, HasNone, NamesNoPlace, MovesName, with_units, IsNotFree, IsLower}
 
 -- a slot's place and its number
 pub slot_there : (p : Place) (s : ℕ) → Some s ≡ slot_of_place p → p ≡ InSlot (index_of_place p)
@@ -145,3 +146,13 @@ lowest_more ms n start end_ a b c h first second = record {
         ((omega (arith, s.0)), named_here ms n (InSlot c) (inl (s.1 ∙ ap InSlot (sym same))))
     by lt (inr same) (inr old) = let s = h.named (omega arith) in
         ((omega (arith, s.0)), named_later ms n (InSlot c) (subst (λ k. IsNamedBelow ms n (InSlot k)) (sym old ∙ sym same) s.1))
+
+-- the moves so far as parallel moves, with a move more
+pub units_more : (ms : CallMoves) (k : ℕ) (m : Place × Place) (ps : List (Place × Place × Unit {0})) → k < length ms → m ≡ get_or ms k m →
+    ps ≡ with_units (take k ms) → ps ++ (m.0, m.1, tt) ∷ [] ≡ with_units (take (k + 1) ms)
+units_more ms k m ps less is same =
+    let s : suc k ≡ k + 1 = omega arith in
+    let more : with_units (take (suc k) ms) ≡ with_units (take k ms) ++ (m.0, m.1, tt) ∷ [] =
+    ap with_units (take-suc ms k m less ∙ ap (λ (y : Place × Place). take k ms ++ y ∷ []) (sym is))
+    ∙ map-append (λ (x : Place × Place). (x.0, x.1, tt)) (take k ms) (m ∷ []) in
+    rw same (sym more ∙ ap (λ (n : ℕ). with_units (take n ms)) s)

@@ -5,7 +5,7 @@ use Rattle.regalloc2_index.proofs.Numbers.{below_or_last}
 use Rattle.regalloc2_names.specs.Place.{Place}
 use Rattle.regalloc2_names.specs.PlaceBits.{bits_of_place, place_of_bits}
 use Rattle.regalloc2_parts.specs.AtOnce.{IsPlace}
-use Rattle.regalloc2_parts.specs.Callmoves.CallMoves.{CallMoves, source, target}
+use Rattle.regalloc2_parts.specs.Callmoves.CallMoves.{CallMoves, source, target, HasNone, HasOtherSource}
 
 abbrev pub Words : Type 0
 Words = ℕ → Option ℕ
@@ -63,6 +63,15 @@ module _ (ms : CallMoves) (n : ℕ) (t u : Words) (h : IsTable ms n t) (from : I
     words = λ j lt. all_words j (below_or_last j n lt);
   }
 
+-- no move of the table has the destination of an earlier one and another source
+pub none_before : (ms : CallMoves) (n : ℕ) (t : Words) → IsTable ms n t → HasNone n (HasOtherSource ms)
+none_before ms n t h k less other =
+    let j = other.0 in
+    let low : j < n = omega (arith, other.1) in
+    let same : from_word ms j ≡ from_word ms k = some_word (from_word ms j) (from_word ms k)
+    (sym (h.there j low) ∙ ap (λ (p : Place). t (bits_of_place p)) other.2 ∙ h.there k less) in
+    other.3 (sym (h.words j low).0 ∙ ap place_of_bits same ∙ (h.words k less).0)
+
 -- v is the word of the place p, which is q, and gives it back
 pub record IsWordOf (v : ℕ) (p q : Place) : Type 0 where
   pub is : p ≡ q
@@ -86,3 +95,14 @@ module _ (ms : CallMoves) (n : ℕ) (t : Words) (p q : Place) (v w : ℕ) (h : I
   table_with u put old = table_more ms n t u h (place_is v p (source ms n) from) (place_is w q (target ms n) to)
       (λ x. put x ∙ ap (λ k. cond (nat_eq k x) (Some v) (t x)) w_is ∙ ap (λ k. cond (nat_eq (to_word ms n) x) (Some k) (t x)) v_is)
       (⊎_elim (λ a. inl (ap t (sym w_is) ∙ a)) (λ b. inr (ap t (sym w_is) ∙ b ∙ ap Some v_is)) old)
+
+  -- where the table has another word, the move has another source
+  pub table_differs : (u : ℕ) → t w ≡ Some u → (u ≡ v → ⊥) → HasOtherSource ms n
+  table_differs u has apart =
+      let j = h.back w u has in
+      let low : j.0 < n = j.1 in (
+        j.0,
+        low,
+        sym (h.words j.0 low).1 ∙ ap place_of_bits (sym j.2 ∙ w_is) ∙ place_is w q (target ms n) to,
+        λ e. apart (j.3 ∙ ap bits_of_place e ∙ sym v_is),
+      )

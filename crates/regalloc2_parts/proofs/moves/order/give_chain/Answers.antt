@@ -1,4 +1,4 @@
-use Rattle.std.proofs.Common.{◌≡◌, ℕ, ◌<◌, ◌∷◌, ◌++◌, [], length, slice_set, arith, sym, ap, ◌∙◌, subst, refl, rules}
+use Rattle.std.proofs.Common.{◌+◌, ◌≡◌, ℕ, ◌<◌, ◌∷◌, ◌++◌, [], length, slice_set, arith, sym, ap, ◌∙◌, subst, refl, rules}
 use Rattle.std.specs.List.{All}
 use Rattle.std.proofs.lemmas.List.{length-set}
 use Rattle.std.proofs.lemmas.List.Elements.{All-push}
@@ -9,6 +9,8 @@ use Rattle.regalloc2_parts.specs.Giving.{IsGiving}
 use Rattle.regalloc2_parts.proofs.Lists.{length_ends, ends_push, read_to, read_from, read_in, of_itself, of_aside}
 use Rattle.regalloc2_parts.proofs.Chains.{last_within, goes_on, todo_done, ends_settled}
 use Rattle.regalloc2_parts.proofs.Rounds.{gives_plain, gives_first, cut_within, ends_whole}
+use Rattle.std.proofs.lemmas.Result.{err_from_is_err_and}
+use Rattle.regalloc2_parts.proofs.Chains.{length_push}
 use Rattle.regalloc2_parts.proofs.moves.order.give_chain.Goals as goal
 
 pub bounds-moves-top : goal.bounds-moves-top
@@ -127,3 +129,28 @@ loop-top-preserved g c =
           (All-push (IsOfMoves c.args.moves.now) c.loop-top.given.items m c.loop-top.invariant.of_moves
           (of_itself c.args.moves.now m (read_in c.args.moves.now top m (omega arith) c.index-moves-top.is)));
     }
+
+pub loop-top-init : goal.loop-top-init
+loop-top-init g c = record {
+  as_many = c.requires.as_many;
+  giving = c.requires.giving;
+  on = λ k n. n;
+  of_moves = c.requires.of_moves;
+}
+
+pub returns-in_err-push : goal.returns-in_err-push
+returns-in_err-push g c = let p = err_from_is_err_and c.from_residual.result c.from_residual.ensures.1 in rw p.1 (record { given = tt })
+
+pub returns-in_err-push-2 : goal.returns-in_err-push-2
+returns-in_err-push-2 g c =
+    let p = err_from_is_err_and c.from_residual-in_err-push-2.result c.from_residual-in_err-push-2.ensures.1 in rw p.1 (record { given = tt })
+
+pub loop-top-smaller-then-top-first : goal.loop-top-smaller-then-top-first
+loop-top-smaller-then-top-first g c =
+    let more : length c.loop-top.chain.items ≡ length c.pop.new.self.items + 1 = ap length c.in-Some.ensures.items ∙ length_push c.pop.new.self.items c.in-Some.top in
+    omega (arith, more)
+
+pub loop-top-smaller : goal.loop-top-smaller
+loop-top-smaller g c =
+    let more : length c.loop-top.chain.items ≡ length c.pop.new.self.items + 1 = ap length c.in-Some.ensures.items ∙ length_push c.pop.new.self.items c.in-Some.top in
+    omega (arith, more)
