@@ -27,6 +27,7 @@ pub mod OwnDefs
 pub mod PickedInTurn
 pub mod SlotUses
 pub mod Steps
+pub mod StepsFail
 pub mod StoresListed
 pub mod StoresOnEdge
 pub mod StoresPushed

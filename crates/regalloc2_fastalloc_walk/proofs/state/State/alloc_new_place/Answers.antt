@@ -1,4 +1,4 @@
-use Rattle.std.proofs.Common.{◌≡◌, refl, sym, ◌∙◌, subst}
+use Rattle.std.proofs.Common.{◌≡◌, refl, sym, ◌∙◌, subst, ap, arith}
 use Rattle.regalloc2_names.specs.Place.{NoPlace, InRegister}
 use Rattle.regalloc2_fastalloc_proofs.specs.InstSteps.{IsAffordable, fixed, free, slot}
 use Rattle.regalloc2_semantics.proofs.Forms.{same_register}
@@ -6,6 +6,9 @@ use Rattle.regalloc2_fastalloc_walk.specs.StateView.{tables_of}
 use Rattle.regalloc2_fastalloc_proofs.proofs.Operands.SelectedPlace.{wanted_rest}
 use Rattle.regalloc2_fastalloc_proofs.proofs.Safety.StepsKeepState.{slot_no_register}
 use Rattle.regalloc2_fastalloc_state.specs.declared.request.Requirement.TheVariants.{AnyPlace, InPReg}
+use Rattle.std.specs.Prelude.{Err}
+use Rattle.std.proofs.lemmas.Result.{err_from_is_err_and}
+use Rattle.regalloc2_names.specs.declared.RegAllocError.TheVariants.{TooManyLiveRegs, TooManySpillSlots}
 use Rattle.regalloc2_fastalloc_walk.proofs.state.State.alloc_new_place.Goals as goal
 
 pub returns-in-InPReg-clause-outcome : goal.returns-in-InPReg-clause-outcome
@@ -58,3 +61,50 @@ returns-in-InPReg-clause-awaited g c = λ any def r e. absurd (let no : InPReg c
 
 pub returns-clause-awaited : goal.returns-clause-awaited
 returns-clause-awaited g c = λ any def r e. absurd (slot_no_register _ _ r c.in_ok-slot.ensures.ok.below e)
+
+pub returns-in-InPReg-clause-affordable : goal.returns-in-InPReg-clause-affordable
+returns-in-InPReg-clause-affordable g c = λ any r e. absurd (let no : InPReg c.in-InPReg.preg ≡ AnyPlace = sym c.in-InPReg.is ∙ any in cc)
+
+pub returns-in-InPReg-clause-there : goal.returns-in-InPReg-clause-there
+returns-in-InPReg-clause-there g c = λ e. absurd (let no : InRegister c.in-InPReg.preg ≡ NoPlace = sym c.reg.ensures ∙ e in cc)
+
+pub get_spillslot-requires : goal.get_spillslot-requires
+get_spillslot-requires g c = omega (arith, c.requires.vreg, c.args.self.now.same_long)
+
+pub returns-clause-affordable : goal.returns-clause-affordable
+returns-clause-affordable g c = λ any r e. absurd (slot_no_register _ _ r c.in_ok-slot.ensures.ok.below e)
+
+pub returns-clause-there : goal.returns-clause-there
+returns-clause-there g c = c.in_ok-slot.ensures.ok.there
+
+pub returns-clause-machine : goal.returns-clause-machine
+returns-clause-machine g c = record {
+  allocatable = refl;
+  fixed_stack = refl;
+  dedicated_scratch = refl;
+  sizes = c.get_spillslot.ensures.sizes;
+  vregs = c.get_spillslot.ensures.vregs;
+  num_temp_slots = c.get_spillslot.ensures.num_temp_slots;
+}
+
+-- there is no slot
+pub returns-in_err-slot : goal.returns-in_err-slot
+returns-in_err-slot g c =
+    let e = err_from_is_err_and c.from_residual.result c.from_residual.ensures.1 in
+    record {
+      outcome = rw e.1 (λ lacks. absurd (let no : TooManySpillSlots ≡ TooManyLiveRegs = sym c.in_err-slot.ensures.full.0 ∙ sym e.2 ∙ lacks in cc));
+      affordable = rw e.1 tt;
+      there = rw e.1 tt;
+      places = refl;
+      edits = refl;
+      machine = record {
+        allocatable = refl;
+        fixed_stack = refl;
+        dedicated_scratch = refl;
+        sizes = c.get_spillslot.ensures.sizes;
+        vregs = c.get_spillslot.ensures.vregs;
+        num_temp_slots = c.get_spillslot.ensures.num_temp_slots;
+      };
+      err = rw (e.1 ∙ ap Err e.2) c.in_err-slot.ensures.lack;
+      awaited = rw e.1 tt;
+    }

@@ -8,6 +8,9 @@ use Rattle.regalloc2_fastalloc_proofs.proofs.Evictions.PushedAndRemoved.{no_some
 use Rattle.regalloc2_fastalloc_walk.proofs.FilledClobbers.{AreLeftOut, are_small, evicts_all, none_listed, shared_are}
 use Rattle.regalloc2_fastalloc_walk.specs.StateView.{tables_of}
 use Rattle.regalloc2_fastalloc_proofs.proofs.Evictions.EvictClobbers.{evicts_each_step, evicts_each_more}
+use Rattle.std.proofs.lemmas.Result.{err_from_is_err_and}
+use Rattle.regalloc2_fastalloc_walk.proofs.Steps.{step_then_fails}
+use Rattle.regalloc2_fastalloc_walk.proofs.StepsFail.{step_none}
 use Rattle.regalloc2_fastalloc_walk.proofs.state.State.evict_clobbers.Goals as goal
 
 pub loop-preg-init : goal.loop-preg-init
@@ -64,3 +67,26 @@ returns-clause-outcome g c =
     evicts_all c.args.point (has_register filled) (registers_of c.args.clobbers) c.args.inst_regs.now c.loop-preg.inst_regs old new
     (are_small c.args.clobbers) left (subst (λ (rs : List Register). EvictsEach c.args.point rs c.args.inst_regs.now old c.loop-preg.inst_regs new)
     (shared_are c.bitand-held.result c.args.clobbers filled c.bitand-held.ensures) all)
+
+pub returns-then-has_none-clause-step : goal.returns-then-has_none-clause-step
+returns-then-has_none-clause-step g c = step_none c.args.self.now c.requires
+
+pub returns-clause-awaited : goal.returns-clause-awaited
+returns-clause-awaited g c = c.loop-preg.invariant.awaited
+
+pub returns-clause-step : goal.returns-clause-step
+returns-clause-step g c = record {
+  machine = c.loop-preg.invariant.machine;
+  later = c.loop-preg.invariant.later;
+  long = c.loop-preg.invariant.long;
+  err = search rules;
+}
+
+pub returns-in_err-evict_preg-clause-awaited : goal.returns-in_err-evict_preg-clause-awaited
+returns-in_err-evict_preg-clause-awaited g c = c.evict_preg.ensures.awaited ∙ c.loop-preg.invariant.awaited
+
+pub returns-in_err-evict_preg-clause-step : goal.returns-in_err-evict_preg-clause-step
+returns-in_err-evict_preg-clause-step g c =
+    let e = err_from_is_err_and c.from_residual.result c.from_residual.ensures.1 in
+    step_then_fails c.from_residual.result c.args.self.now c.loop-preg.self c.evict_preg.new.self e.1 e.2 c.loop-preg.invariant.machine
+    c.in_err-evict_preg.ensures.step

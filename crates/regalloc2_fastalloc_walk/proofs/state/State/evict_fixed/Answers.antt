@@ -1,4 +1,4 @@
-use Rattle.std.proofs.Common.{ℕ, ◌≡◌, List, length, refl, sym, ap, ◌∙◌, subst, arith}
+use Rattle.std.proofs.Common.{ℕ, ◌≡◌, List, length, refl, sym, ap, ◌∙◌, subst, arith, rules}
 use Rattle.regalloc2_names.specs.Register.{VirtualRegister}
 use Rattle.regalloc2_names.specs.Operand.{OperandValue}
 use Rattle.regalloc2_function.specs.FunctionValue.{op_at}
@@ -8,7 +8,8 @@ use Rattle.regalloc2_fastalloc_walk.specs.StateView.{tables_of}
 use Rattle.regalloc2_fastalloc_state.proofs.ValidateLemmas.OperandReads.{read_operand, read_vreg}
 use Rattle.std.proofs.lemmas.Result.{err_from_is_err_and}
 use Rattle.regalloc2_fastalloc_walk.proofs.RegsReserved.{evicts_none}
-use Rattle.regalloc2_fastalloc_walk.proofs.Steps.{stops_others}
+use Rattle.regalloc2_fastalloc_walk.proofs.Steps.{stops_others, step_then_fails}
+use Rattle.regalloc2_fastalloc_walk.proofs.StepsFail.{step_none}
 use Rattle.regalloc2_fastalloc_walk.proofs.state.State.evict_fixed.Goals as goal
 use Rattle.regalloc2_fastalloc_walk.proofs.state.State.evict_fixed.Goals.{in-FixedReg+in_ok-evict_other_vregs-in-FixedReg}
 use Rattle.regalloc2_fastalloc_walk.proofs.state.State.evict_fixed.Goals.{in-Reuse+in-Some+in_ok-evict_preg-in-Reuse}
@@ -100,3 +101,26 @@ returns-in_err-evict_other_vregs-in-FixedReg-clause-outcome g c =
       done = c.loop-k.invariant.cleared;
       stops = (c.in-FixedReg.preg, stops_others (c.in_err-evict_other_vregs-in-FixedReg.ensures.outcome (sym e.2 ∙ same)));
     })
+
+pub returns-then-not-any_fixed-clause-step : goal.returns-then-not-any_fixed-clause-step
+returns-then-not-any_fixed-clause-step g c = step_none c.args.self.now c.requires.later
+
+pub returns-clause-awaited : goal.returns-clause-awaited
+returns-clause-awaited g c = c.loop-k.invariant.awaited
+
+pub returns-clause-step : goal.returns-clause-step
+returns-clause-step g c = record {
+  machine = c.loop-k.invariant.machine;
+  later = c.loop-k.invariant.later;
+  long = c.loop-k.invariant.long;
+  err = search rules;
+}
+
+pub returns-in_err-evict_other_vregs-in-FixedReg-clause-awaited : goal.returns-in_err-evict_other_vregs-in-FixedReg-clause-awaited
+returns-in_err-evict_other_vregs-in-FixedReg-clause-awaited g c = c.evict_other_vregs.ensures.awaited ∙ c.loop-k.invariant.awaited
+
+pub returns-in_err-evict_other_vregs-in-FixedReg-clause-step : goal.returns-in_err-evict_other_vregs-in-FixedReg-clause-step
+returns-in_err-evict_other_vregs-in-FixedReg-clause-step g c =
+    let e = err_from_is_err_and c.from_residual.result c.from_residual.ensures.1 in
+    step_then_fails c.from_residual.result c.args.self.now c.loop-k.self c.evict_other_vregs.new.self e.1 e.2 c.loop-k.invariant.machine
+    c.in_err-evict_other_vregs-in-FixedReg.ensures.step

@@ -1,13 +1,15 @@
-use Rattle.std.proofs.Common.{◌≡◌, ◌<◌, refl, sym, ◌∙◌, arith, subst}
+use Rattle.std.proofs.Common.{◌≡◌, ◌<◌, refl, sym, ◌∙◌, arith, subst, rules}
 use Rattle.std.specs.Prelude.{Some}
 use Rattle.std.proofs.lemmas.Result.{err_from_is_err_and}
 use Rattle.regalloc2_names.specs.declared.RegClass.{RegClass}
 use Rattle.regalloc2_names.specs.Place.{Place, InRegister}
 use Rattle.regalloc2_fastalloc_state.specs.StateParts.{vreg_of_preg, alloc_of}
-use Rattle.regalloc2_fastalloc_proofs.specs.InstSteps.{StateValue, AddMove, next, no_register, cleared}
+use Rattle.regalloc2_fastalloc_proofs.specs.InstSteps.{StateValue, AddMove, next, no_register, cleared, SameMachine}
 use Rattle.regalloc2_fastalloc_walk.specs.StateView.{tables_of}
-use Rattle.regalloc2_fastalloc_proofs.proofs.Evictions.PushedAndRemoved.{adds_move_empty, sets_alloc_empties}
+use Rattle.regalloc2_fastalloc_proofs.proofs.Evictions.PushedAndRemoved.{adds_move_empty, sets_alloc_empties, same_then}
 use Rattle.regalloc2_fastalloc_state.proofs.SlotsAsPlaces.{slot_is_no_register}
+use Rattle.regalloc2_names.specs.declared.RegAllocError.TheVariants.{TooManyLiveRegs, TooManySpillSlots}
+use Rattle.regalloc2_fastalloc_walk.proofs.Steps.{fails_with}
 use Rattle.regalloc2_fastalloc_walk.proofs.state.State.evict_occupied_preg.Goals as goal
 
 pub get_spillslot-requires : goal.get_spillslot-requires
@@ -70,3 +72,70 @@ returns-clause-empty g c =
     (sets_alloc_empties c.args.self.now.places c.set_alloc.new.self c.args.vreg c.in_ok-slot.slot c.args.preg small
     (λ e. slot_is_no_register c.args.self.now.slots c.get_spillslot.new.self c.args.vreg c.in_ok-slot.slot c.args.preg c.in_ok-slot.ensures.ok
     c.get_spillslot.ensures.owned e) there c.set_alloc.ensures.settled)
+
+-- there is no slot
+pub returns-in_err-slot-clause-outcome : goal.returns-in_err-slot-clause-outcome
+returns-in_err-slot-clause-outcome g c =
+    let e = err_from_is_err_and c.from_residual.result c.from_residual.ensures.1 in
+    rw e.1 (λ lacks. absurd (let no : TooManySpillSlots ≡ TooManyLiveRegs = sym c.in_err-slot.ensures.full.0 ∙ sym e.2 ∙ lacks in cc))
+
+pub returns-in_err-slot-clause-step : goal.returns-in_err-slot-clause-step
+returns-in_err-slot-clause-step g c =
+    let e = err_from_is_err_and c.from_residual.result c.from_residual.ensures.1 in
+    fails_with c.from_residual.result c.args.self.now _ e.1 e.2
+    (record {
+      allocatable = refl;
+      fixed_stack = refl;
+      dedicated_scratch = refl;
+      sizes = c.get_spillslot.ensures.sizes;
+      vregs = c.get_spillslot.ensures.vregs;
+      num_temp_slots = c.get_spillslot.ensures.num_temp_slots;
+    })
+    c.in_err-slot.ensures.lack
+
+-- a slot is no register
+pub set_alloc-requires-clause-alone : goal.set_alloc-requires-clause-alone
+set_alloc-requires-clause-alone g c = λ r e. absurd (slot_is_no_register c.args.self.now.slots c.get_spillslot.new.self c.args.vreg c.in_ok-slot.slot r
+    c.in_ok-slot.ensures.ok c.get_spillslot.ensures.owned e)
+
+pub add_move-requires : goal.add_move-requires
+add_move-requires g c = (search rules, c.requires.later)
+
+pub returns-clause-awaited : goal.returns-clause-awaited
+returns-clause-awaited g c = c.add_move.ensures.awaited
+
+pub returns-in_err-add_move-clause-awaited : goal.returns-in_err-add_move-clause-awaited
+returns-in_err-add_move-clause-awaited g c = c.add_move.ensures.awaited
+
+pub returns-clause-step : goal.returns-clause-step
+returns-clause-step g c =
+    let made : SameMachine (tables_of c.args.self.now) (record (tables_of c.args.self.now) { places = c.set_alloc.new.self; slots = c.get_spillslot.new.self }) =
+    record {
+      allocatable = refl;
+      fixed_stack = refl;
+      dedicated_scratch = refl;
+      sizes = c.get_spillslot.ensures.sizes;
+      vregs = c.get_spillslot.ensures.vregs;
+      num_temp_slots = c.get_spillslot.ensures.num_temp_slots;
+    } in
+    record {
+      machine = same_then _ _ _ made c.in_ok-add_move.ensures.step.machine;
+      later = c.in_ok-add_move.ensures.step.later;
+      long = c.in_ok-add_move.ensures.step.long ∙ c.set_alloc.ensures.settled.long;
+      err = search rules;
+    }
+
+pub returns-in_err-add_move-clause-step : goal.returns-in_err-add_move-clause-step
+returns-in_err-add_move-clause-step g c =
+    let e = err_from_is_err_and c.from_residual-in_err-add_move.result c.from_residual-in_err-add_move.ensures.1 in
+    let made : SameMachine (tables_of c.args.self.now) (record (tables_of c.args.self.now) { places = c.set_alloc.new.self; slots = c.get_spillslot.new.self }) =
+    record {
+      allocatable = refl;
+      fixed_stack = refl;
+      dedicated_scratch = refl;
+      sizes = c.get_spillslot.ensures.sizes;
+      vregs = c.get_spillslot.ensures.vregs;
+      num_temp_slots = c.get_spillslot.ensures.num_temp_slots;
+    } in
+    fails_with c.from_residual-in_err-add_move.result c.args.self.now c.add_move.new.self e.1 e.2
+    (same_then _ _ _ made c.in_err-add_move.ensures.step.machine) c.in_err-add_move.ensures.step.err

@@ -1,10 +1,11 @@
-use Rattle.std.proofs.Common.{ℕ, ◌≡◌, refl, sym, ◌∙◌, ap, arith}
+use Rattle.std.proofs.Common.{ℕ, ◌≡◌, refl, sym, ◌∙◌, ap, arith, rules}
 use Rattle.std.specs.Prelude.{None, Some}
 use Rattle.std.proofs.lemmas.Result.{err_from_is_err_and}
 use Rattle.regalloc2_names.specs.Place.{NoPlace, InRegister}
 use Rattle.regalloc2_fastalloc_state.specs.StateParts.{vreg_of_preg, alloc_of}
 use Rattle.regalloc2_fastalloc_proofs.specs.InstSteps.{own, others}
 use Rattle.regalloc2_fastalloc_proofs.proofs.Evictions.PushedAndRemoved.{same_held}
+use Rattle.regalloc2_fastalloc_walk.proofs.StepsFail.{fails_as, step_none}
 use Rattle.regalloc2_fastalloc_walk.proofs.state.State.evict_other_vregs.Goals as goal
 use Rattle.regalloc2_fastalloc_walk.proofs.state.State.evict_other_vregs.Goals.{in-Some+else-vreg, in_default}
 
@@ -44,3 +45,32 @@ returns-in_err-evict_preg-clause-outcome g c =
       | in_default x ↦ let none : None ≡ Some w = sym x.in_default.is ∙ c.vreg_in.ensures.vreg ∙ h in absurd cc
     ])
     (c.in_err-evict_preg.ensures.outcome (sym e.2 ∙ lacks)))
+
+-- it is the vreg's own
+pub returns-then-vreg-clause-step : goal.returns-then-vreg-clause-step
+returns-then-vreg-clause-step g c = step_none c.args.self.now c.requires
+
+pub evict_preg-requires : goal.evict_preg-requires
+evict_preg-requires g c = (search rules, c.requires)
+
+pub returns-clause-awaited : goal.returns-clause-awaited
+returns-clause-awaited g c = c.evict_preg.ensures.awaited
+
+pub returns-clause-alone : goal.returns-clause-alone
+returns-clause-alone g c = λ e. c.in_ok-evict_preg.ensures.empty
+
+pub returns-clause-step : goal.returns-clause-step
+returns-clause-step g c = c.in_ok-evict_preg.ensures.step
+
+pub returns-in_err-evict_preg-clause-awaited : goal.returns-in_err-evict_preg-clause-awaited
+returns-in_err-evict_preg-clause-awaited g c = c.evict_preg.ensures.awaited
+
+pub returns-in_err-evict_preg-clause-alone : goal.returns-in_err-evict_preg-clause-alone
+returns-in_err-evict_preg-clause-alone g c =
+    let e = err_from_is_err_and c.from_residual.result c.from_residual.ensures.1 in
+    rw e.1 tt
+
+pub returns-in_err-evict_preg-clause-step : goal.returns-in_err-evict_preg-clause-step
+returns-in_err-evict_preg-clause-step g c =
+    let e = err_from_is_err_and c.from_residual.result c.from_residual.ensures.1 in
+    fails_as c.from_residual.result c.args.self.now c.evict_preg.new.self e.1 e.2 c.in_err-evict_preg.ensures.step

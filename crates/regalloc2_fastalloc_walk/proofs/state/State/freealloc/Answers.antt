@@ -1,11 +1,13 @@
-use Rattle.std.proofs.Common.{Bool, refl, sym, subst, ◌∙◌}
+use Rattle.std.proofs.Common.{Bool, refl, sym, subst, ◌∙◌, arith, rules, ◌≡◌}
 use Rattle.std.specs.Prelude.{not, ◌&&◌}
 use Rattle.regalloc2_names.specs.declared.RegClass.{RegClass}
-use Rattle.regalloc2_names.specs.Place.{Place, is_place}
-use Rattle.regalloc2_fastalloc_state.specs.StateParts.{SetsAlloc, alloc_of, slot_name}
-use Rattle.regalloc2_fastalloc_proofs.specs.InstSteps.{StateValue, AddsMoveIf, is_another, AddMoveIf, no_register, to_awaited, to_slot}
+use Rattle.regalloc2_names.specs.Place.{Place, is_place, NoPlace, InRegister}
+use Rattle.regalloc2_fastalloc_state.specs.StateParts.{SetsAlloc, alloc_of, slot_name, VRegAllocsValue}
+use Rattle.regalloc2_fastalloc_proofs.specs.InstSteps.{StateValue, AddsMoveIf, is_another, AddMoveIf, no_register, to_awaited, to_slot, SameMachine}
 use Rattle.std.proofs.lemmas.Result.{err_from_is_err_and}
 use Rattle.regalloc2_fastalloc_walk.specs.StateView.{tables_of}
+use Rattle.regalloc2_fastalloc_proofs.proofs.Evictions.PushedAndRemoved.{same_then}
+use Rattle.regalloc2_fastalloc_walk.proofs.Steps.{fails_with}
 use Rattle.regalloc2_fastalloc_walk.proofs.state.State.freealloc.Goals as goal
 
 pub returns-clause-outcome : goal.returns-clause-outcome
@@ -87,3 +89,57 @@ returns-in_err-add_move_if-2-clause-outcome g c =
     to_slot left middle c.add_move_if.new.inst_regs (subst (SetsAlloc t.places c.set_alloc.new.self c.args.vreg) c.none.ensures c.set_alloc.ensures.settled)
     refl refl
     (record { allocatable = refl; fixed_stack = refl; dedicated_scratch = refl; sizes = refl; vregs = refl; num_temp_slots = refl }) a3 s4)
+
+pub find_spillslot-slot-requires : goal.find_spillslot-slot-requires
+find_spillslot-slot-requires g c = omega (arith, c.requires.vreg, c.args.self.now.same_long)
+
+pub set_alloc-requires-clause-vreg : goal.set_alloc-requires-clause-vreg
+set_alloc-requires-clause-vreg g c = c.requires.vreg
+
+-- no place is no register
+pub set_alloc-requires-clause-alone : goal.set_alloc-requires-clause-alone
+set_alloc-requires-clause-alone g c = λ r e. absurd (let no : NoPlace ≡ InRegister r = sym c.none.ensures ∙ e in cc)
+
+pub add_move_if-requires : goal.add_move_if-requires
+add_move_if-requires g c = (search rules, c.requires.later)
+
+pub add_move_if-requires-2 : goal.add_move_if-requires-2
+add_move_if-requires-2 g c = (search rules, c.in_ok-add_move_if.ensures.step.later)
+
+pub returns-clause-awaited : goal.returns-clause-awaited
+returns-clause-awaited g c = c.add_move_if-2.ensures.awaited ∙ c.add_move_if.ensures.awaited
+
+pub returns-in_err-add_move_if-clause-awaited : goal.returns-in_err-add_move_if-clause-awaited
+returns-in_err-add_move_if-clause-awaited g c = c.add_move_if.ensures.awaited
+
+pub returns-in_err-add_move_if-2-clause-awaited : goal.returns-in_err-add_move_if-2-clause-awaited
+returns-in_err-add_move_if-2-clause-awaited g c = c.add_move_if-2.ensures.awaited ∙ c.add_move_if.ensures.awaited
+
+-- the machine stays
+placed : (t : StateValue) (places : VRegAllocsValue) → SameMachine t (record t { places = places })
+placed t places = record { allocatable = refl; fixed_stack = refl; dedicated_scratch = refl; sizes = refl; vregs = refl; num_temp_slots = refl }
+
+pub returns-clause-step : goal.returns-clause-step
+returns-clause-step g c =
+    let one = c.in_ok-add_move_if.ensures.step in
+    let two = c.in_ok-add_move_if-2.ensures.step in
+    record {
+      machine = same_then _ _ _ (same_then _ _ _ (placed (tables_of c.args.self.now) c.set_alloc.new.self) one.machine) two.machine;
+      later = two.later;
+      long = two.long ∙ one.long ∙ c.set_alloc.ensures.settled.long;
+      err = search rules;
+    }
+
+pub returns-in_err-add_move_if-clause-step : goal.returns-in_err-add_move_if-clause-step
+returns-in_err-add_move_if-clause-step g c =
+    let e = err_from_is_err_and c.from_residual.result c.from_residual.ensures.1 in
+    fails_with c.from_residual.result c.args.self.now c.add_move_if.new.self e.1 e.2
+    (same_then _ _ _ (placed (tables_of c.args.self.now) c.set_alloc.new.self) c.in_err-add_move_if.ensures.step.machine)
+    c.in_err-add_move_if.ensures.step.err
+
+pub returns-in_err-add_move_if-2-clause-step : goal.returns-in_err-add_move_if-2-clause-step
+returns-in_err-add_move_if-2-clause-step g c =
+    let e = err_from_is_err_and c.from_residual-in_err-add_move_if-2.result c.from_residual-in_err-add_move_if-2.ensures.1 in
+    let kept = same_then _ _ _ (placed (tables_of c.args.self.now) c.set_alloc.new.self) c.in_ok-add_move_if.ensures.step.machine in
+    fails_with c.from_residual-in_err-add_move_if-2.result c.args.self.now c.add_move_if-2.new.self e.1 e.2
+    (same_then _ _ _ kept c.in_err-add_move_if-2.ensures.step.machine) c.in_err-add_move_if-2.ensures.step.err

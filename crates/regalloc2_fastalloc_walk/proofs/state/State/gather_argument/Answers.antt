@@ -1,9 +1,14 @@
-use Rattle.std.proofs.Common.{◌++◌, ◌∷◌, [], refl, sym, ◌∙◌, subst, arith}
+use Rattle.std.proofs.Common.{◌++◌, ◌∷◌, [], refl, sym, ◌∙◌, subst, arith, ◌≡◌, rules}
 use Rattle.std.proofs.lemmas.Result.{err_from_is_err_and}
 use Rattle.regalloc2_names.specs.declared.RegClass.{RegClass}
 use Rattle.regalloc2_fastalloc_proofs.specs.BranchSteps.{AreOf, ClassMove}
 use Rattle.regalloc2_fastalloc_proofs.proofs.Branches.ArgMovesAreParallel.{settled_slot}
 use Rattle.regalloc2_fastalloc_walk.specs.StateView.{tables_of}
+use Rattle.regalloc2_names.specs.declared.RegAllocError.TheVariants.{TooManyLiveRegs, TooManySpillSlots}
+use Rattle.regalloc2_fastalloc_proofs.specs.InstSteps.{SameMachine}
+use Rattle.regalloc2_fastalloc_proofs.proofs.Evictions.PushedAndRemoved.{same_then}
+use Rattle.regalloc2_fastalloc_walk.proofs.Steps.{fails_with}
+use Rattle.regalloc2_fastalloc_walk.proofs.StepsFail.{fails_for_memory, no_lack}
 use Rattle.regalloc2_fastalloc_walk.proofs.state.State.gather_argument.Goals as goal
 
 pub get_spillslot-requires : goal.get_spillslot-requires
@@ -56,3 +61,77 @@ returns-in_err-from-clause-outcome g c =
       },
       c.in_err-from.ensures.outcome (sym e.2 ∙ same),
     ))
+
+-- there is no slot
+pub returns-in_err-to-clause-outcome : goal.returns-in_err-to-clause-outcome
+returns-in_err-to-clause-outcome g c =
+    let e = err_from_is_err_and c.from_residual.result c.from_residual.ensures.1 in
+    rw e.1 (λ lacks. absurd (let no : TooManySpillSlots ≡ TooManyLiveRegs = sym c.in_err-to.ensures.full.0 ∙ sym e.2 ∙ lacks in cc))
+
+pub returns-in_err-to-clause-step : goal.returns-in_err-to-clause-step
+returns-in_err-to-clause-step g c =
+    let e = err_from_is_err_and c.from_residual.result c.from_residual.ensures.1 in
+    fails_with c.from_residual.result c.args.self.now _ e.1 e.2
+    (record {
+      allocatable = refl;
+      fixed_stack = refl;
+      dedicated_scratch = refl;
+      sizes = c.get_spillslot.ensures.sizes;
+      vregs = c.get_spillslot.ensures.vregs;
+      num_temp_slots = c.get_spillslot.ensures.num_temp_slots;
+    })
+    c.in_err-to.ensures.lack
+
+-- a slot leaves the machine
+pub spill_argument-requires : goal.spill_argument-requires
+spill_argument-requires g c = (search rules, (c.requires.later, c.requires.argument))
+
+pub returns-in_err-from-clause-step : goal.returns-in_err-from-clause-step
+returns-in_err-from-clause-step g c =
+    let e = err_from_is_err_and c.from_residual-in_err-from.result c.from_residual-in_err-from.ensures.1 in
+    let made : SameMachine (tables_of c.args.self.now) (record (tables_of c.args.self.now) { slots = c.get_spillslot.new.self }) = record {
+      allocatable = refl;
+      fixed_stack = refl;
+      dedicated_scratch = refl;
+      sizes = c.get_spillslot.ensures.sizes;
+      vregs = c.get_spillslot.ensures.vregs;
+      num_temp_slots = c.get_spillslot.ensures.num_temp_slots;
+    } in
+    fails_with c.from_residual-in_err-from.result c.args.self.now c.spill_argument.new.self e.1 e.2
+    (same_then _ _ _ made c.in_err-from.ensures.step.machine) c.in_err-from.ensures.step.err
+
+pub returns-in_err-add-clause-outcome : goal.returns-in_err-add-clause-outcome
+returns-in_err-add-clause-outcome g c =
+    let e = err_from_is_err_and c.from_residual-in_err-add.result c.from_residual-in_err-add.ensures.1 in
+    rw e.1 (λ lacks. no_lack e.2 c.in_err-add.ensures.err lacks)
+
+pub returns-in_err-add-clause-step : goal.returns-in_err-add-clause-step
+returns-in_err-add-clause-step g c =
+    let e = err_from_is_err_and c.from_residual-in_err-add.result c.from_residual-in_err-add.ensures.1 in
+    let made : SameMachine (tables_of c.args.self.now) (record (tables_of c.args.self.now) { slots = c.get_spillslot.new.self }) = record {
+      allocatable = refl;
+      fixed_stack = refl;
+      dedicated_scratch = refl;
+      sizes = c.get_spillslot.ensures.sizes;
+      vregs = c.get_spillslot.ensures.vregs;
+      num_temp_slots = c.get_spillslot.ensures.num_temp_slots;
+    } in
+    fails_for_memory c.from_residual-in_err-add.result c.args.self.now c.spill_argument.new.self e.1 e.2 c.in_err-add.ensures.err
+    (same_then _ _ _ made c.in_ok-from.ensures.step.machine)
+
+pub returns-clause-step : goal.returns-clause-step
+returns-clause-step g c =
+    let made : SameMachine (tables_of c.args.self.now) (record (tables_of c.args.self.now) { slots = c.get_spillslot.new.self }) = record {
+      allocatable = refl;
+      fixed_stack = refl;
+      dedicated_scratch = refl;
+      sizes = c.get_spillslot.ensures.sizes;
+      vregs = c.get_spillslot.ensures.vregs;
+      num_temp_slots = c.get_spillslot.ensures.num_temp_slots;
+    } in
+    record {
+      machine = same_then _ _ _ made c.in_ok-from.ensures.step.machine;
+      later = c.in_ok-from.ensures.step.later;
+      long = c.in_ok-from.ensures.step.long;
+      err = search rules;
+    }

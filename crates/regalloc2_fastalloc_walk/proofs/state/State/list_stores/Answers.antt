@@ -1,4 +1,4 @@
-use Rattle.std.proofs.Common.{ℕ, ◌≡◌, ◌<◌, List, length, map, refl, sym, ap, ◌∙◌, subst, rules, slice_index, slice_index_or}
+use Rattle.std.proofs.Common.{ℕ, ◌≡◌, ◌<◌, List, length, map, refl, sym, ap, ◌∙◌, subst, rules, slice_index, slice_index_or, arith}
 use Rattle.std.specs.Prelude.{All, Contains, Err}
 use Rattle.std.proofs.lemmas.List.{get_or_read}
 use Rattle.std.proofs.lemmas.List.Elements.{Contains-get_or}
@@ -15,6 +15,7 @@ use Rattle.regalloc2_fastalloc_proofs.proofs.Safety.StateKept.{params_known}
 use Rattle.regalloc2_fastalloc_walk.specs.BranchStores.{ListsParams, own_store}
 use Rattle.regalloc2_fastalloc_walk.specs.declared.store.StoredDef.{StoredDef}
 use Rattle.regalloc2_fastalloc_walk.proofs.StoresListed.{lists_permuted, lists_stores}
+use Rattle.regalloc2_analysis.proofs.BranchDefsLemmas.BlockEnds.{last_within}
 use Rattle.regalloc2_fastalloc_walk.proofs.state.State.list_stores.Goals as goal
 
 pub own_stores-requires : goal.own_stores-requires
@@ -92,3 +93,46 @@ pub returns-in_err-list_params-clause-err : goal.returns-in_err-list_params-clau
 returns-in_err-list_params-clause-err g c =
     let p = err_from_is_err_and c.from_residual-in_err-list_params.result c.from_residual-in_err-list_params.ensures.1 in
     rw (p.1 ∙ ap Err (p.2 ∙ c.in_err-list_params.ensures.err)) refl
+
+pub inst_operands-requires : goal.inst_operands-requires
+inst_operands-requires g c =
+    let f : FunctionValue = g.F.Function.function c.args.f.now in
+    let ie = c.requires.edge.1 in
+    subst (λ (n : ℕ). n < length f.insts) (sym ie.branch) (last_within f c.requires.well_formed c.args.edge.now.from ie.edge.block)
+
+pub block_succs-requires : goal.block_succs-requires
+block_succs-requires g c = c.requires.edge.1.edge.block
+
+pub bounds-block_succs-edge : goal.bounds-block_succs-edge
+bounds-block_succs-edge g c = subst (λ (l : List ℕ). c.args.edge.now.position < length l) (sym c.block_succs.ensures) c.requires.edge.1.edge.edge
+
+pub block_params-params-requires : goal.block_params-params-requires
+block_params-params-requires g c =
+    let f : FunctionValue = g.F.Function.function c.args.f.now in
+    let ie = c.requires.edge.1 in
+    let e : ℕ = c.args.edge.now.from in
+    let k : ℕ = c.args.edge.now.position in
+    let read : c.index-block_succs-edge.result ≡ target_at f e k = get_or_read c.block_succs.result.now k c.index-block_succs-edge.result
+    (subst (λ (l : List ℕ). k < length l) (sym c.block_succs.ensures) ie.edge.edge) c.index-block_succs-edge.is 0
+    ∙ ap (λ (l : List ℕ). slice_index l k) c.block_succs.ensures in
+    subst (λ (n : ℕ). n < length f.blocks) (sym read)
+    ((well_formed_are_sound c.requires.well_formed.0 f c.requires.well_formed.1).targets e k ie.edge.edge)
+
+pub branch_blockparams-arguments-requires-clause-block : goal.branch_blockparams-arguments-requires-clause-block
+branch_blockparams-arguments-requires-clause-block g c = c.requires.edge.1.edge.block
+
+pub branch_blockparams-arguments-requires-clause-last : goal.branch_blockparams-arguments-requires-clause-last
+branch_blockparams-arguments-requires-clause-last g c =
+    let ie = c.requires.edge.1 in
+    let some = (c.requires.well_formed.1.follow c.args.edge.now.from ie.edge.block).0 in omega (arith, ie.branch, some)
+
+pub branch_blockparams-arguments-requires-clause-nonempty : goal.branch_blockparams-arguments-requires-clause-nonempty
+branch_blockparams-arguments-requires-clause-nonempty g c =
+    let ie = c.requires.edge.1 in
+    let some = (c.requires.well_formed.1.follow c.args.edge.now.from ie.edge.block).0 in omega (arith, ie.branch, some)
+
+pub branch_blockparams-arguments-requires-clause-position : goal.branch_blockparams-arguments-requires-clause-position
+branch_blockparams-arguments-requires-clause-position g c = c.requires.edge.1.edge.edge
+
+pub returns-in_err-stores-clause-ok : goal.returns-in_err-stores-clause-ok
+returns-in_err-stores-clause-ok g c = let p = err_from_is_err_and c.from_residual.result c.from_residual.ensures.1 in rw p.1 tt

@@ -5,6 +5,7 @@ use Rattle.regalloc2_names.specs.Place.{NoPlace}
 use Rattle.regalloc2_function.specs.FunctionValue.{op_at}
 use Rattle.regalloc2_fastalloc_state.proofs.ValidateLemmas.OperandReads.{read_operand}
 use Rattle.regalloc2_fastalloc_walk.proofs.SlotUses.{slot_use}
+use Rattle.regalloc2_fastalloc_walk.proofs.StepsFail.{step_none}
 use Rattle.regalloc2_fastalloc_walk.proofs.state.State.process_operand_allocation.Goals as goal
 
 pub process_reg_operand-requires : goal.process_reg_operand-requires
@@ -36,3 +37,30 @@ returns-in-Some-slot_of_any_use-clause-outcome g c =
     (omega (arith, c.requires.inside, c.requires.allocs_long)) c.index-allocs-k.is NoPlace in
     let s = c.in-Some-slot_of_any_use.ensures.some in
     slot_use c.index-operands-k.result c.index-allocs-k.result c.in-Some-slot_of_any_use.slot o h s.0 s.1 c.in_default.ensures.none s.2 s.3
+
+pub returns-then-asks_any_reg-clause-outcome : goal.returns-then-asks_any_reg-clause-outcome
+returns-then-asks_any_reg-clause-outcome g c = c.process_reg_operand.ensures.outcome
+
+pub returns-then-asks_any_reg-clause-step : goal.returns-then-asks_any_reg-clause-step
+returns-then-asks_any_reg-clause-step g c = c.process_reg_operand.ensures.step
+
+pub returns-in-Some-clause-outcome : goal.returns-in-Some-clause-outcome
+returns-in-Some-clause-outcome g c = c.process_placed_use.ensures.outcome
+
+pub returns-in-Some-clause-step : goal.returns-in-Some-clause-step
+returns-in-Some-clause-step g c = c.process_placed_use.ensures.step
+
+pub returns-in-Some-slot_of_any_use-clause-step : goal.returns-in-Some-slot_of_any_use-clause-step
+returns-in-Some-slot_of_any_use-clause-step g c = step_none c.args.self.now c.requires.later
+
+pub process_operand-requires : goal.process_operand-requires
+process_operand-requires g c = (
+  search rules,
+  (c.requires.inside, (c.requires.inst, (c.requires.later, (c.requires.in_tables, c.requires.allocs_long)))),
+)
+
+pub returns-clause-outcome : goal.returns-clause-outcome
+returns-clause-outcome g c = c.process_operand.ensures.outcome
+
+pub returns-clause-step : goal.returns-clause-step
+returns-clause-step g c = c.process_operand.ensures.step

@@ -1,16 +1,20 @@
-use Rattle.std.proofs.Common.{◌≡◌, [], refl, sym, ◌∙◌, subst, inl, inr, ⊎_elim}
+use Rattle.std.proofs.Common.{◌≡◌, [], refl, sym, ◌∙◌, subst, inl, inr, ⊎_elim, ℕ, ◌+◌, rules}
 use Rattle.regalloc2_fastalloc_walk.proofs.Steps.{outcome_of}
 use Rattle.regalloc2_names.specs.declared.RegAllocError.TheVariants.{Memory, TooManyLiveRegs}
 use Rattle.regalloc2_names.specs.Register.{Register}
 use Rattle.regalloc2_fastalloc_state.specs.InstRegs.{IsAvailableAt}
 use Rattle.regalloc2_steps.specs.declared.positions.Positions.{Positions}
 use Rattle.regalloc2_fastalloc_state.specs.ScratchPool.{Moves}
-use Rattle.regalloc2_fastalloc_proofs.specs.BranchSteps.{MayBeScratch, Pushes}
+use Rattle.regalloc2_fastalloc_proofs.specs.BranchSteps.{MayBeScratch, Pushes, AddsTempSlotsAtMost}
 use Rattle.regalloc2_fastalloc_proofs.specs.InstSteps.{StateValue}
 use Rattle.regalloc2_fastalloc_proofs.proofs.Moves.OneMove.{pushes_one}
-use Rattle.regalloc2_fastalloc_proofs.proofs.Safety.StateKept.{none_lends}
+use Rattle.regalloc2_fastalloc_proofs.proofs.Safety.StateKept.{none_lends, same_lends}
 use Rattle.regalloc2_fastalloc_walk.proofs.NothingPassed.{pushes_nothing}
 use Rattle.regalloc2_fastalloc_walk.specs.StateView.{tables_of}
+use Rattle.std.specs.Prelude.{Result, Ok, Err, OnOk}
+use Rattle.std.proofs.lemmas.Result.{IfErr-weaker}
+use Rattle.regalloc2_fastalloc_state.specs.OutOfResources.{IsResourceError, SlotsExhaustedWith}
+use Rattle.regalloc2_fastalloc_state.specs.StateParts.{SpillSlotsValue}
 use Rattle.regalloc2_fastalloc_walk.proofs.state.State.push_moves.Goals as goal
 
 -- no moves of the class
@@ -53,3 +57,29 @@ returns-clause-machine g c = c.push_some.ensures.machine
 
 pub returns-clause-err : goal.returns-clause-err
 returns-clause-err g c = c.push_some.ensures.err
+
+pub push_one-requires : goal.push_one-requires
+push_one-requires g c = (search rules, c.requires.later)
+
+pub returns-then-is_empty-clause-later : goal.returns-then-is_empty-clause-later
+returns-then-is_empty-clause-later g c = c.requires.later
+
+-- what holds anyway holds where a call succeeds
+on_ok : {T E P : Type 0} (r : Result T E) → P → OnOk r P
+on_ok (Ok x) p = p
+on_ok (Err e) p = tt
+
+pub returns-in-Some-first_scratch-clause-later : goal.returns-in-Some-first_scratch-clause-later
+returns-in-Some-first_scratch-clause-later g c = on_ok c.push_one.result c.push_one.ensures.later
+
+pub returns-in-Some-first_scratch-clause-machine : goal.returns-in-Some-first_scratch-clause-machine
+returns-in-Some-first_scratch-clause-machine g c =
+    let t : StateValue = tables_of c.args.self.now in
+    subst (AddsTempSlotsAtMost 2 t) (sym c.push_one.ensures.rest) (same_lends 2 t (record t { edits = c.push_one.new.self.edits })
+    (record { allocatable = refl; fixed_stack = refl; dedicated_scratch = refl; sizes = refl; vregs = refl; num_temp_slots = refl }))
+
+pub returns-in-Some-first_scratch-clause-err : goal.returns-in-Some-first_scratch-clause-err
+returns-in-Some-first_scratch-clause-err g c =
+    let s : SpillSlotsValue = c.args.self.now.slots in
+    IfErr-weaker c.push_one.result (λ e. e ≡ Memory) (IsResourceError (SlotsExhaustedWith s (s.num_temp_slots + 2)))
+    (λ e is. subst (IsResourceError (SlotsExhaustedWith s (s.num_temp_slots + 2))) (sym is) tt) c.push_one.ensures.err

@@ -8,6 +8,8 @@ use Rattle.regalloc2_fastalloc_state.proofs.SlotsAsPlaces.{slot_is_no_register}
 use Rattle.std.proofs.lemmas.Result.{err_from_is_err_and}
 use Rattle.regalloc2_fastalloc_walk.specs.StateView.{tables_of}
 use Rattle.regalloc2_semantics.proofs.Forms.{place_of_register}
+use Rattle.regalloc2_names.specs.declared.RegAllocError.TheVariants.{TooManyLiveRegs, TooManySpillSlots}
+use Rattle.regalloc2_fastalloc_walk.proofs.Steps.{fails_with}
 use Rattle.regalloc2_fastalloc_walk.proofs.state.State.spill_argument.Goals as goal
 
 pub get_spillslot-requires : goal.get_spillslot-requires
@@ -105,3 +107,37 @@ returns-in-Some-clause-step g c =
 
 pub evict_preg-requires : goal.evict_preg-requires
 evict_preg-requires g c = (search rules, c.requires.later)
+
+-- there is no slot
+pub returns-in_err-slot-clause-outcome : goal.returns-in_err-slot-clause-outcome
+returns-in_err-slot-clause-outcome g c =
+    let e = err_from_is_err_and c.from_residual.result c.from_residual.ensures.1 in
+    rw e.1 (λ lacks. absurd (let no : TooManySpillSlots ≡ TooManyLiveRegs = sym c.in_err-slot.ensures.full.0 ∙ sym e.2 ∙ lacks in cc))
+
+pub returns-in_err-slot-clause-step : goal.returns-in_err-slot-clause-step
+returns-in_err-slot-clause-step g c =
+    let e = err_from_is_err_and c.from_residual.result c.from_residual.ensures.1 in
+    fails_with c.from_residual.result c.args.self.now _ e.1 e.2
+    (record {
+      allocatable = refl;
+      fixed_stack = refl;
+      dedicated_scratch = refl;
+      sizes = c.get_spillslot.ensures.sizes;
+      vregs = c.get_spillslot.ensures.vregs;
+      num_temp_slots = c.get_spillslot.ensures.num_temp_slots;
+    })
+    c.in_err-slot.ensures.lack
+
+pub returns-in_err-evict_preg-clause-step : goal.returns-in_err-evict_preg-clause-step
+returns-in_err-evict_preg-clause-step g c =
+    let e = err_from_is_err_and c.from_residual-in_err-evict_preg.result c.from_residual-in_err-evict_preg.ensures.1 in
+    let made : SameMachine (tables_of c.args.self.now) (record (tables_of c.args.self.now) { slots = c.get_spillslot.new.self }) = record {
+      allocatable = refl;
+      fixed_stack = refl;
+      dedicated_scratch = refl;
+      sizes = c.get_spillslot.ensures.sizes;
+      vregs = c.get_spillslot.ensures.vregs;
+      num_temp_slots = c.get_spillslot.ensures.num_temp_slots;
+    } in
+    fails_with c.from_residual-in_err-evict_preg.result c.args.self.now c.evict_preg.new.self e.1 e.2
+    (same_then _ _ _ made c.in_err-evict_preg.ensures.step.machine) c.in_err-evict_preg.ensures.step.err

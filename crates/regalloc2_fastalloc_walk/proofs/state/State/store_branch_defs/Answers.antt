@@ -23,8 +23,9 @@ use Rattle.regalloc2_fastalloc_walk.specs.BranchStores.{FindsStores, LacksStoreR
 use Rattle.regalloc2_fastalloc_walk.specs.StateView.{IsStepAt, tables_of}
 use Rattle.regalloc2_fastalloc_walk.specs.declared.operand.PlaceMove.{PlaceMove}
 use Rattle.regalloc2_fastalloc_walk.specs.declared.store.StoredDef.{StoredDef}
-use Rattle.regalloc2_fastalloc_walk.proofs.Steps.{step_then}
+use Rattle.regalloc2_fastalloc_walk.proofs.Steps.{step_then, step_then_fails, fails_with}
 use Rattle.regalloc2_fastalloc_walk.proofs.StoresOnEdge.{edge_stores, stores_on, stores_lack}
+use Rattle.regalloc2_fastalloc_walk.proofs.StepsFail.{fails_for_memory, no_lack, same_machine}
 use Rattle.regalloc2_fastalloc_walk.proofs.state.State.store_branch_defs.Goals as goal
 
 -- what is stored is of vregs of the function, and of operands of the branch
@@ -250,3 +251,36 @@ list_stores-requires g c = (
     room = c.requires.room;
   },
 )
+
+pub returns-in_err-push_stores-2-clause-step : goal.returns-in_err-push_stores-2-clause-step
+returns-in_err-push_stores-2-clause-step g c =
+    let r = err_from_is_err_and c.from_residual-in_err-push_stores-2.result c.from_residual-in_err-push_stores-2.ensures.1 in
+    step_then_fails c.from_residual-in_err-push_stores-2.result c.args.self.now c.push_stores.new.self c.push_stores-2.new.self r.1 r.2
+    (same_then _ _ _ c.store_moves.ensures.step.machine c.in_ok-push_stores.ensures.step.machine) c.in_err-push_stores-2.ensures.step
+
+pub returns-in_err-push_stores-clause-step : goal.returns-in_err-push_stores-clause-step
+returns-in_err-push_stores-clause-step g c =
+    let r = err_from_is_err_and c.from_residual-in_err-push_stores.result c.from_residual-in_err-push_stores.ensures.1 in
+    step_then_fails c.from_residual-in_err-push_stores.result c.args.self.now c.store_moves.new.self c.push_stores.new.self r.1 r.2
+    c.store_moves.ensures.step.machine c.in_err-push_stores.ensures.step
+
+pub returns-in_err-moves-clause-outcome : goal.returns-in_err-moves-clause-outcome
+returns-in_err-moves-clause-outcome g c =
+    let r = err_from_is_err_and c.from_residual-in_err-moves.result c.from_residual-in_err-moves.ensures.1 in
+    rw r.1 (λ lacks. absurd (c.in_err-moves.ensures.step.err.1 (sym r.2 ∙ lacks)))
+
+pub returns-in_err-moves-clause-step : goal.returns-in_err-moves-clause-step
+returns-in_err-moves-clause-step g c =
+    let r = err_from_is_err_and c.from_residual-in_err-moves.result c.from_residual-in_err-moves.ensures.1 in
+    fails_with c.from_residual-in_err-moves.result c.args.self.now c.store_moves.new.self r.1 r.2 c.store_moves.ensures.step.machine
+    c.in_err-moves.ensures.step.err.0
+
+pub returns-in_err-stores-clause-outcome : goal.returns-in_err-stores-clause-outcome
+returns-in_err-stores-clause-outcome g c =
+    let r = err_from_is_err_and c.from_residual.result c.from_residual.ensures.1 in
+    rw r.1 (λ lacks. no_lack r.2 c.in_err-stores.ensures.err lacks)
+
+pub returns-in_err-stores-clause-step : goal.returns-in_err-stores-clause-step
+returns-in_err-stores-clause-step g c =
+    let r = err_from_is_err_and c.from_residual.result c.from_residual.ensures.1 in
+    fails_for_memory c.from_residual.result c.args.self.now c.args.self.now r.1 r.2 c.in_err-stores.ensures.err (same_machine (tables_of c.args.self.now))

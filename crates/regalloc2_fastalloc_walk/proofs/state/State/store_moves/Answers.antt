@@ -10,6 +10,7 @@ use Rattle.regalloc2_fastalloc_walk.specs.BranchStores.{FindsStore, FindsStores,
 use Rattle.regalloc2_fastalloc_walk.specs.StateView.{tables_of}
 use Rattle.regalloc2_fastalloc_walk.specs.declared.operand.PlaceMove.{PlaceMove}
 use Rattle.regalloc2_fastalloc_walk.specs.declared.store.StoredDef.{StoredDef}
+use Rattle.std.proofs.lemmas.Result.{err_from_is_err_and}
 use Rattle.regalloc2_fastalloc_walk.proofs.state.State.store_moves.Goals as goal
 
 pub loop-store-init : goal.loop-store-init
@@ -68,3 +69,29 @@ loop-store-preserved g c =
       tables = c.store_move.ensures.step.tables ∙ ap (λ (x : StateValue). record x { slots = c.store_move.new.self.slots }) c.loop-store.invariant.tables;
       machine = same_then t (tables_of c.loop-store.self) (tables_of c.store_move.new.self) c.loop-store.invariant.machine c.store_move.ensures.step.machine;
     }
+
+pub returns-clause-ok : goal.returns-clause-ok
+returns-clause-ok g c =
+    let all : c.loop-store.store-index ≡ length c.args.stores.now = omega arith in
+    subst (λ (n : ℕ). FindsStores c.args.operands.now c.args.stores.now c.args.self.now.slots n c.loop-store.moves.items c.loop-store.self.slots) all
+    c.loop-store.invariant.finds
+
+pub returns-clause-step : goal.returns-clause-step
+returns-clause-step g c = record { tables = c.loop-store.invariant.tables; machine = c.loop-store.invariant.machine; err = search rules }
+
+-- slots, or memory for them, are out
+pub returns-in_err-m-clause-ok : goal.returns-in_err-m-clause-ok
+returns-in_err-m-clause-ok g c = let e = err_from_is_err_and c.from_residual.result c.from_residual.ensures.1 in rw e.1 tt
+
+pub returns-in_err-m-clause-step : goal.returns-in_err-m-clause-step
+returns-in_err-m-clause-step g c =
+    let e = err_from_is_err_and c.from_residual.result c.from_residual.ensures.1 in
+    let t : StateValue = tables_of c.args.self.now in
+    rw e.1 (rw e.2 (record {
+      tables = c.store_move.ensures.step.tables ∙ ap (λ (x : StateValue). record x { slots = c.store_move.new.self.slots }) c.loop-store.invariant.tables;
+      machine = same_then t (tables_of c.loop-store.self) (tables_of c.store_move.new.self) c.loop-store.invariant.machine c.store_move.ensures.step.machine;
+      err = c.in_err-m.ensures.step.err;
+    }))
+
+pub returns-in_err-push-clause-ok : goal.returns-in_err-push-clause-ok
+returns-in_err-push-clause-ok g c = let e = err_from_is_err_and c.from_residual-in_err-push.result c.from_residual-in_err-push.ensures.1 in rw e.1 tt
