@@ -29,17 +29,15 @@ returns-in-Ok-judge g c = record {
   refused = tt;
 }
 
-pub returns-in-Err-judge : goal.returns-in-Err-judge
-returns-in-Err-judge g c =
-    let f = g.F.Function.function c.args.f.now in
-    let env = machine_of c.args.env.now in
-    let out = output_of c.in-Ok.out in
-    record {
-      allocation = tt;
-      faithful = tt;
-      tested = tt;
-      passes_checks = tt;
-      accepted = λ written. no_fault f env out c.in-Err-judge.error (c.in-Ok.ensures.allocation.faithful written).faithful c.in-Err-judge.ensures.err;
-      refused = reason f env c.args.options.now.validate_ssa out c.in-Err-judge.error c.in-Ok.ensures.allocation c.in-Ok.ensures.passes_checks
-          c.in-Err-judge.ensures.err;
-    }
+pub returns-in-Err-judge-clause-faithful : goal.returns-in-Err-judge-clause-faithful
+returns-in-Err-judge-clause-faithful g c = tt
+
+pub returns-in-Err-judge-clause-accepted : goal.returns-in-Err-judge-clause-accepted
+returns-in-Err-judge-clause-accepted g c = λ written.
+    no_fault (g.F.Function.function c.args.f.now) (machine_of c.args.env.now) (output_of c.in-Ok.out) c.in-Err-judge.error
+    (c.in-Ok.ensures.allocation.faithful written).faithful c.in-Err-judge.ensures.err
+
+pub returns-in-Err-judge-clause-refused : goal.returns-in-Err-judge-clause-refused
+returns-in-Err-judge-clause-refused g c =
+    reason (g.F.Function.function c.args.f.now) (machine_of c.args.env.now) c.args.options.now.validate_ssa (output_of c.in-Ok.out)
+    c.in-Err-judge.error c.in-Ok.ensures.allocation c.in-Ok.ensures.passes_checks c.in-Err-judge.ensures.err

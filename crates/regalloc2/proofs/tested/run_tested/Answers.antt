@@ -11,3 +11,13 @@ returns-clause-runs g c = c.in-Ok.ensures.allocation.faithful (c.in-Ok-reads_wri
 
 pub returns-clause-live : goal.returns-clause-live
 returns-clause-live g c = c.in-Ok.ensures.allocation.live (c.in-Ok-reads_written.ensures.ok.0 c.if-not-written.false)
+
+-- where one does, nothing is returned
+pub returns-then-not-written-clause-runs : goal.returns-then-not-written-clause-runs
+returns-then-not-written-clause-runs g c = tt
+
+pub returns-then-not-written-clause-live : goal.returns-then-not-written-clause-live
+returns-then-not-written-clause-live g c = tt
+
+pub returns-then-not-written-clause-written : goal.returns-then-not-written-clause-written
+returns-then-not-written-clause-written g c = tt
