@@ -1,4 +1,4 @@
-use Rattle.std.proofs.Common.{◌<◌, refl, arith, ap}
+use Rattle.std.proofs.Common.{refl, arith, ap}
 use Rattle.std.proofs.lemmas.Bool.{false≢true}
 use Rattle.regalloc2_serialize.proofs.flat.columns.cut.Cut.is_within.Goals as goal
 
