@@ -3,7 +3,7 @@ use Rattle.std.proofs.Common.{◌≡◌, ◌∙◌, ℕ, ◌+◌, ◌<◌, List,
 use Rattle.std.specs.List.{AllZip}
 use Rattle.std.specs.Prelude.{All}
 use Rattle.std.proofs.lemmas.List.Elements.{All-map}
-use Rattle.std.proofs.lemmas.List.{get_or-map, take_more, length-map, map-append}
+use Rattle.std.proofs.lemmas.List.{append_assoc, get_or-map, take_more, length-map, map-append}
 use Rattle.std.proofs.lemmas.Slice.Zip.{all_zipped_more}
 
 -- numbers of two lists agree at an index
@@ -68,3 +68,9 @@ copy-more xs ys i x y less is here before = rw (take_more ys i y less, ← is, b
 -- what each member of a mapped list has, each member has under the map
 pub all-from-map : {X Y : Type 0} (P : Y → Type 0) (f : X → Y) (xs : List X) → All P (map f xs) → All (λ x. P (f x)) xs
 all-from-map P f xs all k d less = subst P (get_or-map f xs k d (f d) less) (all k (f d) (rw length-map less))
+
+-- a list whose image and what is left of a walk are the walk has it with one more item, which the walk gave
+pub walked-more : {X Y : Type 0} (f : X → Y) (done : List X) (x : X) (y : Y) (left rest all : List Y) →
+    left ≡ y ∷ rest → f x ≡ y → map f done ++ left ≡ all → map f (done ++ x ∷ []) ++ rest ≡ all
+walked-more f done x y left rest all is here before =
+    ap (λ zs. zs ++ rest) (map-append f done (x ∷ [])) ∙ append_assoc (map f done) (f x ∷ []) rest ∙ rw here (ap (λ zs. map f done ++ zs) (sym is)) ∙ before

@@ -1,5 +1,6 @@
 -- The numbers of a function and its machine, part by part.
 use Rattle.std.specs.Prelude.{◌≡◌, List, All, length, map}
+use Rattle.regalloc2_names.specs.Packing.{IsVRegBits}
 use Rattle.regalloc2_names.specs.RegisterBits.{vreg_of_bits}
 use Rattle.regalloc2_function.specs.FunctionValue.{IsSlotSize, label_of}
 use Rattle.regalloc2_function.specs.Views.{machine_of}
@@ -8,6 +9,7 @@ use Rattle.regalloc2_serialize.specs.TableFunction.Table.{block_of_table}
 use Rattle.regalloc2_serialize.specs.Tables.{function_of_serializable}
 use Rattle.regalloc2_serialize.specs.Validity.{HasThreeClasses, NamesAll}
 use Rattle.regalloc2_serialize.specs.declared.data.StoredFunction.{StoredFunction}
+use Rattle.regalloc2_serialize.specs.declared.json_outputs.BlockLists.{BlockLists}
 use Rattle.regalloc2_serialize.specs.declared.table_function.table.TableBlock.{TableBlock}
 use Rattle.regalloc2_serialize.specs.declared.tables.SerializableFunction.{SerializableFunction}
 
@@ -18,6 +20,16 @@ pub record AreListsOf {A B : Type 0} (s : StoredFunction A) (bs : List (TableBlo
   pub preds : map (λ l. l.items) s.block_preds.items ≡ map (λ b. (block_of_table b).preds) bs
   pub params : map (λ l. map vreg_of_bits l.items) s.block_params_in.items ≡ map (λ b. (block_of_table b).params) bs
   pub arguments : map (λ l. map (λ k. map vreg_of_bits k.items) l.items) s.block_params_out.items ≡ map (λ b. (block_of_table b).arguments) bs
+
+-- lists by block are those of blocks, and the words of their vregs are such words
+pub record AreBlockLists {A B : Type 0} (l : BlockLists A) (bs : List (TableBlock B)) : Type 0 where
+  pub ranges : map stored_range l.blocks.items ≡ map (λ b. (block_of_table b).range) bs
+  pub succs : map (λ k. k.items) l.succs.items ≡ map (λ b. (block_of_table b).succs) bs
+  pub preds : map (λ k. k.items) l.preds.items ≡ map (λ b. (block_of_table b).preds) bs
+  pub params : map (λ k. map vreg_of_bits k.items) l.params_in.items ≡ map (λ b. (block_of_table b).params) bs
+  pub arguments : map (λ k. map (λ j. map vreg_of_bits j.items) k.items) l.params_out.items ≡ map (λ b. (block_of_table b).arguments) bs
+  pub param_names : All (λ k. All IsVRegBits k.items) l.params_in.items
+  pub argument_names : All (λ k. All (λ j. All IsVRegBits j.items) k.items) l.params_out.items
 
 -- what the tests of stored functions read are the parts of a function
 pub record ArePartsOf {A B : Type 0} (s : StoredFunction A) (f : SerializableFunction B) : Type 0 where

@@ -291,10 +291,11 @@ impl<A: Allocator> StoredFunction<A> {
 fn function_from<A: Allocator + Copy, B: Allocator>(
     alloc: A,
     stored: &StoredFunction<B>,
-) -> Result<SerializableFunction<A>, AllocError>
+) -> Result<SerializableFunction<A>, StoredFault>
     requires { IsSoundStored stored.now }
     ensures function { IfOk result (λ f. NamesFunction stored.now (function_of_serializable f)) }
     ensures machine { IfOk result (λ f. NamesMachine stored.now.machine_env (machine_of f.machine)) }
+    ensures memory { IfErr result (λ e. e ≡ StoredFault.Memory) }
 {
     let machine = machine_from(alloc, &stored.machine_env)?;
     let blocks = tables_from(alloc, stored)?;
@@ -333,7 +334,7 @@ impl<A: Allocator + Copy> SerializableFunction<A> {
         ensures refused { IfErr result (λ e. IsFaultOf stored.now e) }
     {
         stored.test()?;
-        Ok(function_from(alloc, stored)?)
+        function_from(alloc, stored)
     }
 }
 

@@ -8,12 +8,13 @@ ghost use Rattle.regalloc2_function.specs.FunctionValue.{FunctionValue, IsSlotSi
 ghost use Rattle.regalloc2_function.specs.Machine.{MachineValue};
 ghost use Rattle.regalloc2_function.specs.Views.{machine_of};
 ghost use Rattle.regalloc2_serialize.specs.Decoded.{HasIndexes, NamesInst, NamesMachine, NamesFunction, stored_range, stored_label, stored_sizes};
-ghost use Rattle.regalloc2_serialize.specs.Encoded.{AreNumbersOf};
+ghost use Rattle.regalloc2_serialize.specs.Encoded.{AreBlockLists, AreNumbersOf};
 ghost use Rattle.regalloc2_serialize.specs.TableFunction.Table.{inst_of_table, block_of_table, function_of_table};
 ghost use Rattle.regalloc2_serialize.specs.Tables.{function_of_serializable};
 ghost use Rattle.regalloc2_serialize.specs.Validity.{NamesOperands, NamesRegisters, HasThreeClasses, HasLengths, NamesAll, KeepsLimits, NamesItsBlocks, IsSoundStored};
 
 use super::data::{StoredFunction, StoredInst, StoredMachine};
+use super::json_outputs::BlockLists;
 use super::table_function::{TableBlock, TableFunction, TableInst};
 use super::tables::SerializableFunction;
 use regalloc2_function::MachineEnv;
@@ -311,33 +312,50 @@ fn arguments_of<A: Allocator, B: Allocator + Copy>(
     Ok(arguments)
 }
 
+/// The lists of blocks.
+fn lists_of<A: Allocator, B: Allocator + Copy>(
+    alloc: B,
+    blocks: &[TableBlock<A>],
+) -> Result<BlockLists<B>, AllocError>
+    ensures { IfOk result (λ lists. AreBlockLists lists blocks.now) }
+{
+    let ranges = ranges_of(alloc, blocks)?;
+    let preds = preds_of(alloc, blocks)?;
+    let succs = succs_of(alloc, blocks)?;
+    let params_in = params_of(alloc, blocks)?;
+    let params_out = arguments_of(alloc, blocks)?;
+    Ok(BlockLists {
+        blocks: ranges,
+        preds,
+        succs,
+        params_in,
+        params_out,
+    })
+}
+
 /// The numbers of a function and its machine, made with the function's own allocator.
 fn numbers_of<A: Allocator + Copy>(
     named: &SerializableFunction<A>,
 ) -> Result<StoredFunction<A>, AllocError>
     ensures { IfOk result (λ s. AreNumbersOf s named.now) }
 {
+    // Plain lists are made first and the machine last: each error drops what was made before it.
     let f = &named.function;
     let alloc = *f.blocks.allocator();
-    let tables = f.blocks.as_slice();
-    let machine_env = numbers_of_machine(alloc, &named.machine)?;
-    let insts = numbers_of_insts(alloc, f.insts.as_slice())?;
-    let blocks = ranges_of(alloc, tables)?;
-    let block_preds = preds_of(alloc, tables)?;
-    let block_succs = succs_of(alloc, tables)?;
-    let block_params_in = params_of(alloc, tables)?;
-    let block_params_out = arguments_of(alloc, tables)?;
-    let debug_value_labels = numbers_of_labels(alloc, f.labels.as_slice())?;
     let spillslot_size = numbers_of_sizes(alloc, f)?;
+    let debug_value_labels = numbers_of_labels(alloc, f.labels.as_slice())?;
+    let lists = lists_of(alloc, f.blocks.as_slice())?;
+    let insts = numbers_of_insts(alloc, f.insts.as_slice())?;
+    let machine_env = numbers_of_machine(alloc, &named.machine)?;
     Ok(StoredFunction {
         machine_env,
         entry_block: f.entry.raw_u32(),
         insts,
-        blocks,
-        block_preds,
-        block_succs,
-        block_params_in,
-        block_params_out,
+        blocks: lists.blocks,
+        block_preds: lists.preds,
+        block_succs: lists.succs,
+        block_params_in: lists.params_in,
+        block_params_out: lists.params_out,
         num_vregs: f.num_vregs as u64,
         debug_value_labels,
         spillslot_size,

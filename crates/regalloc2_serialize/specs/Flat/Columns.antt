@@ -5,4 +5,5 @@ pub mod Layout
 pub mod Value
 pub mod Sound
 pub mod Kept
+pub mod Tables
 pub mod Limits

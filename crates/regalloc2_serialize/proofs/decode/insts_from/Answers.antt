@@ -1,4 +1,4 @@
-use Rattle.std.proofs.Common.{rules, refl, ◌+◌, ◌≡◌, ◌∷◌, [], ◌++◌, subst, sym, map, take, arith}
+use Rattle.std.proofs.Common.{refl, ◌+◌, ◌≡◌, ◌∷◌, [], ◌++◌, subst, sym, map, take, arith}
 use Rattle.std.proofs.lemmas.List.{take_all}
 use Rattle.std.proofs.lemmas.List.{length-append}
 use Rattle.std.specs.List.{AllZip}
@@ -13,7 +13,7 @@ inst_from-requires g c = subst (λ i. NamesOperands i) (sym c.inst-item.is) (c.r
 
 pub loop-inst-preserved : goal.loop-inst-preserved
 loop-inst-preserved g c =
-    let e : c.push.new.self.items ≡ c.loop-inst.insts.items ++ c.in_ok-inst_from.field-0 ∷ [] = search rules in
+    let e : c.push.new.self.items ≡ c.loop-inst.insts.items ++ c.in_ok-inst_from.field-0 ∷ [] = c.in_ok-push.ensures.items in
     record {
       pairs = subst (λ zs. AllZip (λ s i. NamesInst s i) (take (c.loop-inst.inst-index + 1) c.args.stored.now) (map inst_of_table zs)) (sym e)
           (zip-more (λ s i. NamesInst s i) inst_of_table c.args.stored.now c.loop-inst.insts.items c.loop-inst.inst-index c.inst-item.result

@@ -1,4 +1,4 @@
-use Rattle.std.proofs.Common.{rules, arith, ◌≡◌, ◌∙◌, ◌+◌, ◌++◌, ◌∷◌, [], map, take, ap, subst, sym}
+use Rattle.std.proofs.Common.{arith, ◌≡◌, ◌∙◌, ◌+◌, ◌++◌, ◌∷◌, [], map, take, ap, subst, sym}
 use Rattle.std.specs.Prelude.{All}
 use Rattle.std.proofs.lemmas.List.{take_all}
 use Rattle.regalloc2_names.specs.Packing.{IsVRegBits}
@@ -16,7 +16,7 @@ loop-list-preserved g c =
     let one = c.in_ok-vregs_from.field-0 in
     let i = c.loop-list.list-index in
     let all = c.args.lists.now in
-    let e : c.push.new.self.items ≡ done ++ one ∷ [] = search rules in
+    let e : c.push.new.self.items ≡ done ++ one ∷ [] = c.in_ok-push.ensures.items in
     subst (λ zs. map (λ v. v.items) zs ≡ map (λ v. map vreg_of_bits v.items) (take (i + 1) all)) (sym e)
     (map-more (λ v. v.items) (λ v. map vreg_of_bits v.items) done all i one c.list-item.result c.loop-list-test.true c.list-item.is
     (c.in_ok-vregs_from.ensures ∙ ap (map vreg_of_bits) c.as_slice.ensures.value) c.loop-list.invariant)

@@ -1,4 +1,4 @@
-use Rattle.std.proofs.Common.{rules, arith, refl, ◌≡◌, ◌∷◌, [], ◌++◌}
+use Rattle.std.proofs.Common.{arith, refl, ◌≡◌, ◌∷◌, [], ◌++◌}
 use Rattle.std.proofs.lemmas.List.{map-append, length-append}
 use Rattle.std.proofs.lemmas.List.FromFn.{map-range_with_len_more}
 use Rattle.regalloc2_serialize.specs.Decoded.{stored_block}
@@ -7,7 +7,7 @@ use Rattle.regalloc2_serialize.proofs.decode.tables_from.Goals as goal
 
 pub loop-block-preserved : goal.loop-block-preserved
 loop-block-preserved g c =
-    let e : c.push.new.self.items ≡ c.loop-block.tables.items ++ c.in_ok-block_from.field-0 ∷ [] = search rules in
+    let e : c.push.new.self.items ≡ c.loop-block.tables.items ++ c.in_ok-block_from.field-0 ∷ [] = c.in_ok-push.ensures.items in
     record {
       blocks = rw (
         e,

@@ -1,4 +1,4 @@
-use Rattle.std.proofs.Common.{rules, ◌≡◌, ◌∙◌, ◌∷◌, [], ◌++◌, ◌+◌, ap, sym, subst, take, map, arith}
+use Rattle.std.proofs.Common.{◌≡◌, ◌∙◌, ◌∷◌, [], ◌++◌, ◌+◌, ap, sym, subst, take, map, arith}
 use Rattle.std.proofs.lemmas.List.{take_all}
 use Rattle.std.specs.Prelude.{All}
 use Rattle.std.proofs.lemmas.List.Elements.{All-push}
@@ -13,7 +13,7 @@ loop-block-preserved g c =
     let one = c.in_ok-words_of_lists.field-0 in
     let i = c.loop-block.block-index in
     let all = c.args.blocks.now in
-    let e : c.push.new.self.items ≡ done ++ one ∷ [] = search rules in
+    let e : c.push.new.self.items ≡ done ++ one ∷ [] = c.in_ok-push.ensures.items in
     record {
       same = subst (λ zs. map (λ v. map (λ k. map vreg_of_bits k.items) v.items) zs ≡ map (λ b. (block_of_table b).arguments) (take (i + 1) all)) (sym e)
           (map-more (λ v. map (λ k. map vreg_of_bits k.items) v.items) (λ b. (block_of_table b).arguments) done all i one c.block-item.result

@@ -11,7 +11,7 @@ pub loop-reg-preserved : goal.loop-reg-preserved
 loop-reg-preserved g c =
     let done = c.loop-reg.indexes.items in
     let one = c.index.result in
-    let e : c.push.new.self.items ≡ done ++ one ∷ [] = search rules in
+    let e : c.push.new.self.items ≡ done ++ one ∷ [] = c.in_ok-push.ensures.items in
     record {
       same = subst (λ zs. map register_of_bits zs ≡ take (c.loop-reg.reg-index + 1) c.args.registers.now) (sym e)
           (image-more register_of_bits done c.args.registers.now c.loop-reg.reg-index one c.reg-item.result c.loop-reg-test.true

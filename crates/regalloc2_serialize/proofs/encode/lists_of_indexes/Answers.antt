@@ -12,7 +12,7 @@ use Rattle.regalloc2_serialize.proofs.encode.lists_of_indexes.Goals as goal
 
 pub loop-set-preserved : goal.loop-set-preserved
 loop-set-preserved g c =
-    let e : c.push.new.self.items ≡ c.loop-set.lists.items ++ c.in_ok-indexes_of.field-0 ∷ [] = search rules in
+    let e : c.push.new.self.items ≡ c.loop-set.lists.items ++ c.in_ok-indexes_of.field-0 ∷ [] = c.in_ok-push.ensures.items in
     let none : PRegSet = record { bits = [] } in
     let three : length c.args.sets.now ≡ 3 = search rules in
     let less : c.loop-set.set-index < length c.args.sets.now = omega (arith, three, c.loop-set-test.true) in

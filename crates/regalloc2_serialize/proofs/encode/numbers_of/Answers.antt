@@ -4,6 +4,7 @@ use Rattle.std.proofs.lemmas.Slice.Zip.{AllZip-long}
 use Rattle.std.specs.List.{AllZip, range_with_len}
 use Rattle.regalloc2_function.specs.FunctionValue.{label_of}
 use Rattle.regalloc2_serialize.specs.Decoded.{NamesInst, NamesFunction, stored_label, stored_block}
+use Rattle.std.proofs.lemmas.Result.{IfOk-from_err}
 use Rattle.regalloc2_serialize.specs.Encoded.{AreListsOf, ArePartsOf}
 use Rattle.regalloc2_serialize.specs.TableFunction.Table.{inst_of_table, block_of_table}
 use Rattle.regalloc2_serialize.specs.Tables.{function_of_serializable}
@@ -17,11 +18,11 @@ numbers g c = record {
   machine_env = c.in_ok-machine_env.machine_env;
   entry_block = c.raw_u32.result;
   insts = c.in_ok-insts.insts;
-  blocks = c.in_ok-blocks.blocks;
-  block_preds = c.in_ok-block_preds.block_preds;
-  block_succs = c.in_ok-block_succs.block_succs;
-  block_params_in = c.in_ok-block_params_in.block_params_in;
-  block_params_out = c.in_ok-block_params_out.block_params_out;
+  blocks = c.in_ok-lists.lists.blocks;
+  block_preds = c.in_ok-lists.lists.preds;
+  block_succs = c.in_ok-lists.lists.succs;
+  block_params_in = c.in_ok-lists.lists.params_in;
+  block_params_out = c.in_ok-lists.lists.params_out;
   num_vregs = c.args.named.now.function.num_vregs;
   debug_value_labels = c.in_ok-debug_value_labels.debug_value_labels;
   spillslot_size = c.in_ok-spillslot_size.spillslot_size;
@@ -31,43 +32,43 @@ numbers g c = record {
 
 function : (g : Over) (c : goal.After-raw_u32 g) → NamesFunction (numbers g c) (function_of_serializable c.args.named.now)
 function g c = record {
-  blocks = subst (λ xs. map block_of_table xs ≡ map (stored_block (numbers g c)) (range_with_len 0 (length c.in_ok-blocks.blocks.items)))
-      c.as_slice-tables.ensures.value
-      (read-blocks (numbers g c) block_of_table c.as_slice-tables.result.now c.in_ok-blocks.ensures c.in_ok-block_succs.ensures
-      c.in_ok-block_preds.ensures c.in_ok-block_params_in.ensures.params c.in_ok-block_params_out.ensures.arguments);
-  insts = subst (λ xs. AllZip (λ x i. NamesInst x i) c.in_ok-insts.insts.items (map inst_of_table xs)) c.as_slice.ensures.value
+  blocks = subst (λ xs. map block_of_table xs ≡ map (stored_block (numbers g c)) (range_with_len 0 (length c.in_ok-lists.lists.blocks.items)))
+      c.as_slice-2.ensures.value
+      (read-blocks (numbers g c) block_of_table c.as_slice-2.result.now c.in_ok-lists.ensures.ranges c.in_ok-lists.ensures.succs
+      c.in_ok-lists.ensures.preds c.in_ok-lists.ensures.params c.in_ok-lists.ensures.arguments);
+  insts = subst (λ xs. AllZip (λ x i. NamesInst x i) c.in_ok-insts.insts.items (map inst_of_table xs)) c.as_slice-3.ensures.value
       c.in_ok-insts.ensures.insts;
   entry = sym c.raw_u32.ensures;
   num_vregs = refl;
   slot_sizes = sym c.in_ok-spillslot_size.ensures.sizes;
   named_by_last_slot = refl;
-  labels = sym (subst (λ ls. map stored_label c.in_ok-debug_value_labels.debug_value_labels.items ≡ map label_of ls) c.as_slice-2.ensures.value
+  labels = sym (subst (λ ls. map stored_label c.in_ok-debug_value_labels.debug_value_labels.items ≡ map label_of ls) c.as_slice.ensures.value
       c.in_ok-debug_value_labels.ensures.labels);
   allows_multiple_defs = refl;
 }
 
 parts : (g : Over) (c : goal.After-raw_u32 g) → ArePartsOf (numbers g c) c.args.named.now
 parts g c = record {
-  lists = subst (AreListsOf (numbers g c)) c.as_slice-tables.ensures.value (record {
-    ranges = c.in_ok-blocks.ensures;
-    succs = c.in_ok-block_succs.ensures;
-    preds = c.in_ok-block_preds.ensures;
-    params = c.in_ok-block_params_in.ensures.params;
-    arguments = c.in_ok-block_params_out.ensures.arguments;
+  lists = subst (AreListsOf (numbers g c)) c.as_slice-2.ensures.value (record {
+    ranges = c.in_ok-lists.ensures.ranges;
+    succs = c.in_ok-lists.ensures.succs;
+    preds = c.in_ok-lists.ensures.preds;
+    params = c.in_ok-lists.ensures.params;
+    arguments = c.in_ok-lists.ensures.arguments;
   });
-  insts = sym (AllZip-long (λ x i. NamesInst x i) c.in_ok-insts.insts.items (map inst_of_table c.as_slice.result.now) c.in_ok-insts.ensures.insts)
-      ∙ length-map c.as_slice.result.now inst_of_table ∙ ap length c.as_slice.ensures.value;
+  insts = sym (AllZip-long (λ x i. NamesInst x i) c.in_ok-insts.insts.items (map inst_of_table c.as_slice-3.result.now) c.in_ok-insts.ensures.insts)
+      ∙ length-map c.as_slice-3.result.now inst_of_table ∙ ap length c.as_slice-3.ensures.value;
   entry = c.raw_u32.ensures;
   num_vregs = refl;
-  labels = subst (λ ls. map stored_label c.in_ok-debug_value_labels.debug_value_labels.items ≡ map label_of ls) c.as_slice-2.ensures.value
+  labels = subst (λ ls. map stored_label c.in_ok-debug_value_labels.debug_value_labels.items ≡ map label_of ls) c.as_slice.ensures.value
       c.in_ok-debug_value_labels.ensures.labels;
   classes = c.in_ok-machine_env.ensures.three;
   names = record {
     machine = c.in_ok-machine_env.ensures.names;
     insts = c.in_ok-insts.ensures.names;
     vregs = record {
-      params = c.in_ok-block_params_in.ensures.names;
-      arguments = c.in_ok-block_params_out.ensures.names;
+      params = c.in_ok-lists.ensures.param_names;
+      arguments = c.in_ok-lists.ensures.argument_names;
       labels = c.in_ok-debug_value_labels.ensures.names;
     };
   };
@@ -77,3 +78,18 @@ parts g c = record {
 
 pub returns : goal.returns
 returns g c = record { function = function g c; machine = c.in_ok-machine_env.ensures.machine; parts = parts g c }
+
+pub returns-in_err-spillslot_size : goal.returns-in_err-spillslot_size
+returns-in_err-spillslot_size g c = IfOk-from_err c.from_residual.result _ c.from_residual.ensures.0
+
+pub returns-in_err-debug_value_labels : goal.returns-in_err-debug_value_labels
+returns-in_err-debug_value_labels g c = IfOk-from_err c.from_residual-in_err-debug_value_labels.result _ c.from_residual-in_err-debug_value_labels.ensures.0
+
+pub returns-in_err-lists : goal.returns-in_err-lists
+returns-in_err-lists g c = IfOk-from_err c.from_residual-in_err-lists.result _ c.from_residual-in_err-lists.ensures.0
+
+pub returns-in_err-insts : goal.returns-in_err-insts
+returns-in_err-insts g c = IfOk-from_err c.from_residual-in_err-insts.result _ c.from_residual-in_err-insts.ensures.0
+
+pub returns-in_err-machine_env : goal.returns-in_err-machine_env
+returns-in_err-machine_env g c = IfOk-from_err c.from_residual-in_err-machine_env.result _ c.from_residual-in_err-machine_env.ensures.0

@@ -1,4 +1,4 @@
-use Rattle.std.proofs.Common.{rules, ◌≡◌, ◌∷◌, [], ◌++◌, ◌+◌, sym, subst, take, map, arith}
+use Rattle.std.proofs.Common.{◌≡◌, ◌∷◌, [], ◌++◌, ◌+◌, sym, subst, take, map, arith}
 use Rattle.std.proofs.lemmas.List.{length-map, take_all}
 use Rattle.std.specs.List.{AllZip}
 use Rattle.std.specs.Prelude.{All}
@@ -11,7 +11,7 @@ use Rattle.regalloc2_serialize.proofs.encode.numbers_of_insts.Goals as goal
 
 pub loop-inst-preserved : goal.loop-inst-preserved
 loop-inst-preserved g c =
-    let e : c.push.new.self.items ≡ c.loop-inst.numbers.items ++ c.in_ok-numbers_of_inst.field-0 ∷ [] = search rules in
+    let e : c.push.new.self.items ≡ c.loop-inst.numbers.items ++ c.in_ok-numbers_of_inst.field-0 ∷ [] = c.in_ok-push.ensures.items in
     record {
       same = subst (λ zs. AllZip (λ x i. NamesInst x i) zs (take (c.loop-inst.inst-index + 1) (map inst_of_table c.args.insts.now))) (sym e)
           (zip-next-under (λ x i. NamesInst x i) inst_of_table c.loop-inst.numbers.items c.args.insts.now c.loop-inst.inst-index

@@ -1,4 +1,4 @@
-use Rattle.std.proofs.Common.{rules, arith, ◌≡◌, ◌∙◌, ◌+◌, ◌++◌, ◌∷◌, [], map, take, subst, sym}
+use Rattle.std.proofs.Common.{arith, ◌≡◌, ◌+◌, ◌++◌, ◌∷◌, [], map, take, subst, sym}
 use Rattle.std.proofs.lemmas.List.{take_all}
 use Rattle.regalloc2_serialize.specs.Decoded.{stored_range}
 use Rattle.regalloc2_serialize.specs.TableFunction.Table.{block_of_table}
@@ -11,7 +11,7 @@ loop-block-preserved g c =
     let one = c.numbers_of_range.result in
     let i = c.loop-block.block-index in
     let all = c.args.blocks.now in
-    let e : c.push.new.self.items ≡ done ++ one ∷ [] = search rules in
+    let e : c.push.new.self.items ≡ done ++ one ∷ [] = c.in_ok-push.ensures.items in
     subst (λ zs. map stored_range zs ≡ map (λ b. (block_of_table b).range) (take (i + 1) all)) (sym e)
     (map-more stored_range (λ b. (block_of_table b).range) done all i one c.block-item.result c.loop-block-test.true c.block-item.is (c.numbers_of_range.ensures)
     c.loop-block.invariant)

@@ -1,4 +1,4 @@
-use Rattle.std.proofs.Common.{rules, ◌≡◌, ◌∙◌, ◌∷◌, [], ◌++◌, ◌+◌, sym, subst, take, map, arith}
+use Rattle.std.proofs.Common.{◌≡◌, ◌∙◌, ◌∷◌, [], ◌++◌, ◌+◌, sym, subst, take, map, arith}
 use Rattle.std.proofs.lemmas.List.{take_all}
 use Rattle.std.specs.Prelude.{All}
 use Rattle.std.proofs.lemmas.List.Elements.{All-push}
@@ -12,7 +12,7 @@ loop-list-preserved g c =
     let one = c.in_ok-words_of_vregs.field-0 in
     let i = c.loop-list.list-index in
     let all = c.args.lists.now in
-    let e : c.push.new.self.items ≡ done ++ one ∷ [] = search rules in
+    let e : c.push.new.self.items ≡ done ++ one ∷ [] = c.in_ok-push.ensures.items in
     record {
       same = subst (λ zs. map (λ v. map vreg_of_bits v.items) zs ≡ map (λ v. v.items) (take (i + 1) all)) (sym e)
           (map-more (λ v. map vreg_of_bits v.items) (λ v. v.items) done all i one c.list-item.result c.loop-list-test.true

@@ -8,7 +8,7 @@ use Rattle.regalloc2_serialize.proofs.from_function.copied_arguments.Goals as go
 pub loop-k-preserved : goal.loop-k-preserved
 loop-k-preserved g c =
     let args : List (List VirtualRegister) = (block_at (g.F.Function.function c.args.f.now) c.args.block).arguments in
-    let e : c.push.new.self.items ≡ c.loop-k.arguments.items ++ c.in_ok-to_vec.field-0 ∷ [] = search rules in
+    let e : c.push.new.self.items ≡ c.loop-k.arguments.items ++ c.in_ok-to_vec.field-0 ∷ [] = c.in_ok-push.ensures.items in
     let here : c.in_ok-to_vec.field-0.items ≡ get_or args c.loop-k.k [] = search rules in
     subst (λ xs. map (λ v. v.items) xs ≡ map (λ k. get_or args k []) (range_with_len 0 (c.loop-k.k + 1))) (sym e)
     (map-next (λ v. v.items) (λ k. get_or args k []) c.loop-k.arguments.items c.loop-k.k c.in_ok-to_vec.field-0 here c.loop-k.invariant)

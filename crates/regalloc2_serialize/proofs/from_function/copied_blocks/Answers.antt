@@ -11,7 +11,7 @@ pub loop-block-preserved : goal.loop-block-preserved
 loop-block-preserved g c =
     let f : FunctionValue = g.F.Function.function c.args.f.now in
     let shown : ℕ → BlockValue = λ i. shown_block (block_at f i) in
-    let e : c.push.new.self.items ≡ c.loop-block.tables.items ++ c.in_ok-copied_block.field-0 ∷ [] = search rules in
+    let e : c.push.new.self.items ≡ c.loop-block.tables.items ++ c.in_ok-copied_block.field-0 ∷ [] = c.in_ok-push.ensures.items in
     let here : block_of_table c.in_ok-copied_block.field-0 ≡ shown c.loop-block.block = search rules in
     record {
       blocks = subst (λ xs. map block_of_table xs ≡ map shown (range_with_len 0 (c.loop-block.block + 1))) (sym e)

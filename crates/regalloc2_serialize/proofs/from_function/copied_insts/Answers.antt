@@ -11,7 +11,7 @@ pub loop-inst-preserved : goal.loop-inst-preserved
 loop-inst-preserved g c =
     let f : FunctionValue = g.F.Function.function c.args.f.now in
     let shown : ℕ → InstValue = λ i. shown_inst (inst_at f i) in
-    let e : c.push.new.self.items ≡ c.loop-inst.tables.items ++ c.in_ok-copied_inst.field-0 ∷ [] = search rules in
+    let e : c.push.new.self.items ≡ c.loop-inst.tables.items ++ c.in_ok-copied_inst.field-0 ∷ [] = c.in_ok-push.ensures.items in
     let here : inst_of_table c.in_ok-copied_inst.field-0 ≡ shown c.loop-inst.inst = search rules in
     record {
       insts = subst (λ xs. map inst_of_table xs ≡ map shown (range_with_len 0 (c.loop-inst.inst + 1))) (sym e)

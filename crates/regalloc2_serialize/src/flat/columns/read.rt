@@ -8,6 +8,7 @@ ghost use Rattle.regalloc2_serialize.specs.Flat.Columns.Layout.{param_words, par
 ghost use Rattle.regalloc2_serialize.specs.Flat.Columns.Value.{longs, IsLaidOutAs, IsMachineOf};
 ghost use Rattle.regalloc2_serialize.specs.Flat.Columns.Sound.{AreSoundColumns, IsColumnsFault};
 ghost use Rattle.regalloc2_serialize.specs.Flat.Columns.Kept.{function_of_flat};
+ghost use Rattle.regalloc2_serialize.specs.Flat.Columns.Tables.{AreInstTables, AreEdgeTables};
 
 use super::FlatFunction;
 use super::cut::Cut;
@@ -19,7 +20,7 @@ use super::typed::{
 use crate::decode::{blocks_from, vregs_from};
 use regalloc2_function::{MachineEnv, StoredFault};
 use regalloc2_index::Block;
-use regalloc2_names::{Operand, VReg};
+use regalloc2_names::{Operand, PRegSet, VReg};
 use std::alloc::{AllocError, Allocator};
 
 /// The machine of columns that were tested.
@@ -92,37 +93,89 @@ fn arguments_from<A: Allocator + Copy>(
     pieces_of(alloc, items, cut.argument_ends())
 }
 
-/// The function and the machine of columns that were tested.
-fn function_from<A: Allocator + Copy>(
-    alloc: A,
-    cut: &Cut<'_>,
-) -> Result<FlatFunction<A>, AllocError>
+/// The tables of instructions.
+#[derive(Drop)]
+pub struct InstTables<A: Allocator> {
+    /// What the instructions are.
+    pub kinds: Vec<u32, A>,
+    /// The sets of clobbers, by their numbers.
+    pub sets: Vec<PRegSet, A>,
+    /// The operands, by instructions.
+    pub operands: Pieces<Operand, A>,
+}
+
+/// The tables of edges.
+#[derive(Drop)]
+pub struct EdgeTables<A: Allocator> {
+    /// The predecessors, by blocks.
+    pub preds: Pieces<Block, A>,
+    /// The successors, by blocks.
+    pub succs: Pieces<Block, A>,
+    /// The parameters, by blocks.
+    pub params: Pieces<VReg, A>,
+    /// The arguments, by edges.
+    pub arguments: Pieces<VReg, A>,
+}
+
+/// The tables of instructions of columns that were tested.
+fn insts_from<A: Allocator + Copy>(alloc: A, cut: &Cut<'_>) -> Result<InstTables<A>, AllocError>
     requires { AreSoundColumns cut.now.words.now }
-    ensures function { IfOk result (λ f. IsLaidOutAs cut.now.words.now (function_of_flat f)) }
-    ensures machine { IfOk result (λ f. IsMachineOf cut.now.words.now (machine_of f.machine)) }
+    ensures { IfOk result (λ t. AreInstTables cut.now.words.now t) }
 {
-    let header = cut.header();
-    let machine = machine_from(alloc, cut)?;
     let kinds = numbers_of(alloc, cut.kinds())?;
-    let sets = numbered_sets(alloc, cut.sets(), header.sets as usize)?;
+    let sets = numbered_sets(alloc, cut.sets(), cut.header().sets as usize)?;
     let operands = operands_from(alloc, cut)?;
-    let inst_bounds = bounds_of(alloc, cut.inst_ends())?;
+    Ok(InstTables {
+        kinds,
+        sets,
+        operands,
+    })
+}
+
+/// The tables of edges of columns that were tested.
+fn edges_from<A: Allocator + Copy>(alloc: A, cut: &Cut<'_>) -> Result<EdgeTables<A>, AllocError>
+    requires { AreSoundColumns cut.now.words.now }
+    ensures { IfOk result (λ t. AreEdgeTables cut.now.words.now t) }
+{
     let preds = preds_from(alloc, cut)?;
     let succs = succs_from(alloc, cut)?;
     let params = params_from(alloc, cut)?;
     let arguments = arguments_from(alloc, cut)?;
-    let labels = labels_of(alloc, cut.labels(), header.labels as usize)?;
-    let (int_slot, float_slot, vector_slot) = sizes_of(header.sizes);
-    Ok(FlatFunction {
-        machine,
-        kinds,
-        sets,
-        operands,
-        inst_bounds,
+    Ok(EdgeTables {
         preds,
         succs,
         params,
         arguments,
+    })
+}
+
+/// The function and the machine of columns that were tested.
+fn function_from<A: Allocator + Copy>(
+    alloc: A,
+    cut: &Cut<'_>,
+) -> Result<FlatFunction<A>, StoredFault>
+    requires { AreSoundColumns cut.now.words.now }
+    ensures function { IfOk result (λ f. IsLaidOutAs cut.now.words.now (function_of_flat f)) }
+    ensures machine { IfOk result (λ f. IsMachineOf cut.now.words.now (machine_of f.machine)) }
+    ensures memory { IfErr result (λ e. e ≡ StoredFault.Memory) }
+{
+    let header = cut.header();
+    let inst_bounds = bounds_of(alloc, cut.inst_ends())?;
+    let labels = labels_of(alloc, cut.labels(), header.labels as usize)?;
+    let machine = machine_from(alloc, cut)?;
+    let insts = insts_from(alloc, cut)?;
+    let edges = edges_from(alloc, cut)?;
+    let (int_slot, float_slot, vector_slot) = sizes_of(header.sizes);
+    Ok(FlatFunction {
+        machine,
+        kinds: insts.kinds,
+        sets: insts.sets,
+        operands: insts.operands,
+        inst_bounds,
+        preds: edges.preds,
+        succs: edges.succs,
+        params: edges.params,
+        arguments: edges.arguments,
         entry: Block::new(header.entry as usize),
         num_vregs: header.vregs as usize,
         int_slot,
@@ -149,7 +202,7 @@ impl<A: Allocator + Copy> FlatFunction<A> {
             return Err(StoredFault::Shape);
         };
         cut.test()?;
-        Ok(function_from(alloc, &cut)?)
+        function_from(alloc, &cut)
     }
 }
 

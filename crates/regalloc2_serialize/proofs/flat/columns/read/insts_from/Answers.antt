@@ -1,0 +1,29 @@
+use Rattle.std.proofs.Common.{◌∙◌, ◌*◌, ap, sym, subst}
+use Rattle.std.proofs.lemmas.Result.{IfOk-from_err}
+use Rattle.regalloc2_serialize.specs.Flat.Columns.Layout.{header_of}
+use Rattle.regalloc2_serialize.specs.Flat.Columns.Value.{AreNumbered}
+use Rattle.regalloc2_serialize.proofs.flat.columns.read.insts_from.Goals as goal
+
+pub operands_from-requires : goal.operands_from-requires
+operands_from-requires g c = c.requires
+
+pub numbered_sets-requires : goal.numbered_sets-requires
+numbered_sets-requires g c = c.sets.ensures.count ∙ ap (λ h. 6 * h.sets) (sym c.header.ensures)
+
+pub returns : goal.returns
+returns g c = record {
+  kinds = c.in_ok-kinds.ensures ∙ c.kinds.ensures.column;
+  sets = subst (λ ws. AreNumbered ws (header_of c.args.cut.now.words.now).sets c.in_ok-sets.sets.items) c.sets.ensures.column
+      (subst (λ h. AreNumbered c.sets.result.now h.sets c.in_ok-sets.sets.items) c.header.ensures c.in_ok-sets.ensures);
+  operands = c.in_ok-operands.ensures.items;
+  operand_bounds = c.in_ok-operands.ensures.bounds;
+}
+
+pub returns-in_err-kinds : goal.returns-in_err-kinds
+returns-in_err-kinds g c = IfOk-from_err c.from_residual.result _ c.from_residual.ensures.0
+
+pub returns-in_err-sets : goal.returns-in_err-sets
+returns-in_err-sets g c = IfOk-from_err c.from_residual-in_err-sets.result _ c.from_residual-in_err-sets.ensures.0
+
+pub returns-in_err-operands : goal.returns-in_err-operands
+returns-in_err-operands g c = IfOk-from_err c.from_residual-in_err-operands.result _ c.from_residual-in_err-operands.ensures.0
