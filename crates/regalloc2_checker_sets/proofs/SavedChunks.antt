@@ -7,8 +7,8 @@ use Rattle.std.specs.declared.vec.Vec.{Vec}
 use Rattle.std.proofs.lemmas.List.{get_or-set_other, get_or-set_same, get_or_append_left, get_or-append-add, get_or_push, length-set, length-append, length_push}
 use Rattle.std.proofs.lemmas.List.{map_push}
 use Rattle.std.proofs.lemmas.List.Edits.{length-between, get_or-between}
-use Rattle.regalloc2_checker_sets.specs.SavedCopies.{Copies, number_in_cell, IsChunkAt, AreClean, AreMoreWords, AreBases}
-use Rattle.regalloc2_checker_sets.specs.SavedNumbers.{AreChunksKept, AreCopiesKept}
+use Rattle.regalloc2_checker_sets.specs.SavedCopies.{Copies, number_in_cell, IsChunkAt, AreClean, AreMoreWords, AreBases, AreSameBetween}
+use Rattle.regalloc2_checker_sets.specs.SavedNumbers.{AreChunksKept, AreCopiesKept, AreSaved}
 use Rattle.regalloc2_checker_sets.proofs.Rows.{some-same}
 
 -- no words yet
@@ -165,3 +165,26 @@ chunks-set words more cells bases new chunk b m less e inside at old =
           ∙ h.past_now j high (omega (arith, l, long));
       past_saved = λ k j high l. h.past_saved k j high (omega (arith, l, long));
     })
+
+-- the copies are kept twice
+pub copies-then : (a b c : Copies) → AreCopiesKept a b → AreCopiesKept b c → AreCopiesKept a c
+copies-then a b c h k = record { words = k.words ∙ h.words; saved = k.saved ∙ h.saved; long = k.long ∙ h.long }
+
+-- chunks are stored that are those of a saved copy
+pub saved-below : (words cells : List ℕ) (bases : Copies) (near from end : ℕ) → AreChunksKept words cells bases → AreSaved bases from →
+    AreSameBetween bases near from end → AreSaved bases end
+saved-below words cells bases near from end kept saved same j low less = elim (cases_lt j from) [
+  | inl l ↦ saved j l less
+  | inr g ↦ (let small = kept.small near j less in let e = same j g low in omega (arith, small, e))
+]
+
+-- and one more, that was stored now
+pub saved-next : (words cells : List ℕ) (bases new : Copies) (near from chunk : ℕ) → AreChunksKept words cells bases → AreSaved bases from →
+    AreSameBetween bases near from chunk → AreCopiesKept bases new → ((j : ℕ) → j ≢ chunk → number_in_cell new j ≡ number_in_cell bases j) →
+    number_in_cell new chunk < 4294967295 → AreSaved new (chunk + 1)
+saved-next words cells bases new near from chunk kept saved same copies others now j low less = elim (cases_eq j chunk) [
+  | inl e ↦ subst (λ (k : ℕ). number_in_cell new k < 4294967295) (sym e) now
+  | inr n ↦
+      let below = saved-below words cells bases near from chunk kept saved same j (omega (arith, low, n)) (omega (arith, less, copies.long)) in
+      omega (arith, below, others j n)
+]

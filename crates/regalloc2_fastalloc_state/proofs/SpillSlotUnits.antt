@@ -1,22 +1,22 @@
 -- How many units slots take.
 use Rattle.std.proofs.Common.{ℕ, ◌≡◌, ◌≢◌, inl, inr, ◌+◌, ◌-◌, ◌*◌, ◌<◌, ◌≤◌, Bool, true, false, cond, List, length, refl, sym, ap, ◌∙◌, subst, arith}
-use Rattle.std.specs.Prelude.{IsTrue, not, set, slice_index, slice_index_or}
+use Rattle.std.specs.Prelude.{IsTrue, if◌then◌else◌, not, set, slice_index, slice_index_or}
 use Rattle.std.specs.Int.{next_multiple_of}
 use Rattle.std.specs.List.{count_by}
 use Rattle.std.proofs.Math.Nat.{mul-le-mul_right}
-use Rattle.std.proofs.lemmas.Bool.{cases_eq}
+use Rattle.std.proofs.lemmas.Bool.{cases_eq, false≢true}
 use Rattle.std.proofs.lemmas.List.{get_or_read, get_or-set_same, get_or-set_other, length-set}
 use Rattle.std.proofs.lemmas.List.Sums.{sum_by-set, count_by-le-length}
 use Rattle.regalloc2_names.specs.declared.RegAllocError.{RegAllocError}
 use Rattle.regalloc2_names.specs.declared.RegAllocError.TheVariants.{TooManyLiveRegs}
 use Rattle.regalloc2_names.specs.declared.RegAllocError.TheVariants.{TooManySpillSlots}
 use Rattle.regalloc2_names.specs.declared.RegClass.{RegClass}
-use Rattle.regalloc2_names.specs.Register.{class_code}
+use Rattle.regalloc2_names.specs.Register.{VirtualRegister, class_code}
 use Rattle.regalloc2_names.specs.Place.{Place, NoPlace, InSlot, is_no_place}
 use Rattle.regalloc2_parts.specs.declared.moves.MoveFault.{MoveFault}
 use Rattle.regalloc2_parts.specs.declared.moves.MoveFault.TheVariants.{NoSlot, Memory as MemoryFault}
 use Rattle.regalloc2_parts.specs.ScratchPool.{error_of}
-use Rattle.regalloc2_fastalloc_state.specs.StateParts.{SpillSlotsValue, SlotsHaveOneOwner, AreUpTo, IsSlotOrNone, later_end, owners, slot_name}
+use Rattle.regalloc2_fastalloc_state.specs.StateParts.{SpillSlotsValue, SlotsHaveOneOwner, GetsSpillSlot, AreUpTo, IsSlotOrNone, later_end, owners, slot_name}
 use Rattle.regalloc2_steps.specs.Units.{most_units}
 use Rattle.regalloc2_fastalloc_state.specs.OutOfResources.{IsResourceError, LacksSlots, SlotsExhausted}
 use Rattle.regalloc2_semantics.proofs.Forms.{nothing_there}
@@ -59,6 +59,63 @@ fewer_fit k n most h = mul-le-mul_right (2 * most) h
 pub no_slot_yet : (items : List Place) (n : ℕ) (p : Place) (b : Bool) → n < length items → p ≡ slice_index_or items n p → (is_no_place p ≡ false → IsTrue b) →
     b ≡ false → slice_index_or items n NoPlace ≡ NoPlace
 no_slot_yet items n p b lt reads h f = sym (get_or_read items n p lt reads NoPlace) ∙ nothing_there p b h f
+
+-- a vreg keeps the slot that it has
+pub slot_kept : (s : SpillSlotsValue) (v : VirtualRegister) (n : ℕ) (p : Place) → SlotsHaveOneOwner s → n ≡ v.number → n < length s.vreg_spillslots →
+    p ≡ slice_index_or s.vreg_spillslots n p → is_no_place p ≡ false → GetsSpillSlot s s v p
+slot_kept s v n p owned e lt reads some =
+    let is : slot_name s v.number ≡ p = ap (slot_name s) (sym e) ∙ sym (get_or_read s.vreg_spillslots n p lt reads NoPlace) in
+    let there : p ≢ NoPlace = λ h. false≢true (sym some ∙ ap is_no_place h) in
+    record {
+      long = refl;
+      sizes = refl;
+      by_last = refl;
+      grows = omega arith;
+      gives = is;
+      there = there;
+      below = subst (IsSlotOrNone s.count) is (owned.below v.number);
+      others = λ m d. refl;
+      had = λ h. (sym is, refl);
+      made = λ h. absurd (there (sym is ∙ h));
+    }
+
+-- a vreg without a slot gets one
+pub slot_made : (s t : SpillSlotsValue) (v : VirtualRegister) (code n start end k : ℕ) (p : Place) → s ≡ t → n ≡ v.number → code ≡ class_code v.class →
+    n < length s.vreg_spillslots → slot_name s n ≡ NoPlace → start ≡ next_multiple_of s.count (slice_index s.sizes code) →
+    end ≡ next_multiple_of s.count (slice_index s.sizes code) + slice_index s.sizes code →
+    k ≡ (if s.by_last then start + slice_index s.sizes code - 1 else start) → k < start + slice_index s.sizes code → p ≡ InSlot k
+    → GetsSpillSlot t (record {
+      vreg_spillslots = set s.vreg_spillslots n p;
+      count = end;
+      num_temp_slots = s.num_temp_slots;
+      sizes = s.sizes;
+      by_last = s.by_last;
+    }) v p
+slot_made s t v code n start end k p same e c lt none begins ends named high is =
+    let size : ℕ → ℕ = λ i. slice_index s.sizes i in
+    let at : ℕ → ℕ → ℕ = λ first units. if s.by_last then first + units - 1 else first in
+    let made : SpillSlotsValue = record {
+      vreg_spillslots = set s.vreg_spillslots n p;
+      count = end;
+      num_temp_slots = s.num_temp_slots;
+      sizes = s.sizes;
+      by_last = s.by_last;
+    } in
+    subst (λ (o : SpillSlotsValue). GetsSpillSlot o made v p) same (record {
+      long = length-set s.vreg_spillslots n p;
+      sizes = refl;
+      by_last = refl;
+      grows = omega (arith, ends);
+      gives = ap (λ m. slice_index_or (set s.vreg_spillslots n p) m NoPlace) (sym e) ∙ get_or-set_same s.vreg_spillslots n p NoPlace lt;
+      there = λ h. false≢true (ap is_no_place (sym is ∙ h));
+      below = subst (IsSlotOrNone end) (sym is) (omega (arith, high, begins, ends));
+      others = λ m d. get_or-set_other s.vreg_spillslots n m p NoPlace (λ h. d (h ∙ e));
+      had = λ h. absurd (h (ap (slot_name s) (sym e) ∙ none));
+      made = λ h. (
+          is ∙ ap InSlot (named ∙ ap (λ first. at first (size code)) begins ∙ ap (λ i. at (next_multiple_of s.count (size i)) (size i)) c),
+          ends ∙ ap (λ i. next_multiple_of s.count (size i) + size i) c,
+        );
+    })
 
 module _ (s : SpillSlotsValue) (code n start : ℕ) (owned : SlotsHaveOneOwner s) (three : code < 3) (lt : n < length s.vreg_spillslots)
     (none : slot_name s n ≡ NoPlace) (begins : start ≡ next_multiple_of s.count (slice_index s.sizes code)) where

@@ -7,7 +7,7 @@ use Rattle.std.proofs.lemmas.Bool.Decides.{Decides-eqb}
 use Rattle.std.proofs.lemmas.List.{get_or_default}
 use Rattle.regalloc2_index.proofs.Numbers.{below_or_last}
 use Rattle.regalloc2_names.specs.Register.{VirtualRegister, no_vreg}
-use Rattle.regalloc2_function.specs.FunctionValue.{FunctionValue, block_at}
+use Rattle.regalloc2_function.specs.FunctionValue.{FunctionValue, block_at, inst_at}
 use Rattle.regalloc2_names.specs.Operand.{OperandValue, is_def}
 use Rattle.regalloc2_names.specs.Point.{before, after}
 use Rattle.regalloc2_function.specs.WellFormed.{BlocksFollow}
@@ -89,6 +89,18 @@ begun_same Asked ops m t o less is never h k lt within def asked = elim (below_o
   | inr here ↦ (let at : op_at ops k ≡ o = ap (λ (j : ℕ). op_at ops j) here ∙ op_is ops m o less (sym is) in
       absurd (never (ap (λ (p : OperandValue). is_def p.kind) (sym at) ∙ def) (subst (λ (p : OperandValue). Asked p.vreg.number) at asked)))
 ]
+
+-- where all operands were passed, what the instruction defines has entries
+pub begun_all : (f : FunctionValue) (Asked : ℕ → Type 0) (i m : ℕ) (ops : List OperandValue) (t : List (Option LiveRange)) → ops ≡ (inst_at f i).operands →
+    length ops ≤ m → AreBegun Asked ops m t → (v : VirtualRegister) → Asked v.number → DefinesAt f v i → range_at t v.number ≢ None
+begun_all f Asked i m ops t e all h v asked d =
+    let k : ℕ = d.1.0 in
+    let less : k < length ops = subst (λ (xs : List OperandValue). k < length xs) (sym e) d.1.2 in
+    let at : op_at ops k ≡ d.1.1 = op_is ops k d.1.1 less (subst (λ (xs : List OperandValue). slice_index_or xs k d.1.1 ≡ d.1.1) (sym e) d.1.3) in
+    let vreg : (op_at ops k).vreg ≡ v = ap (λ (p : OperandValue). p.vreg) at ∙ d.1.5 in
+    subst (λ (w : VirtualRegister). range_at t w.number ≢ None) vreg
+    (h k (omega (arith, less, all)) less (ap (λ (p : OperandValue). is_def p.kind) at ∙ d.1.4)
+    (subst (λ (w : VirtualRegister). Asked w.number) (sym vreg) asked))
 
 -- of the first so many parameters, those that are requested and have ends have entries
 abbrev pub AreTaken : (ℕ → Type 0) → List VirtualRegister → ℕ → List (Option RangeEnd) → List (Option LiveRange) → Type 0

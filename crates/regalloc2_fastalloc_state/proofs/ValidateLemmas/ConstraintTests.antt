@@ -9,7 +9,7 @@ use Rattle.regalloc2_names.specs.declared.sets.PRegSet.{PRegSet}
 use Rattle.regalloc2_names.specs.Operand.{OperandValue}
 use Rattle.regalloc2_function.specs.FunctionValue.{InstValue, no_operand}
 use Rattle.regalloc2_function.specs.Machine.{MachineValue}
-use Rattle.regalloc2_function.specs.WellFormed.{MayBeReused, ReusesAreSound}
+use Rattle.regalloc2_function.specs.WellFormed.{FixedAvoidClobbers, MayBeReused, ReusesAreSound}
 use Rattle.regalloc2_function.specs.FunctionValue.{op_at}
 use Rattle.regalloc2_fastalloc_state.specs.Validate.Constraints.{IsNoReuse, IsReusedOperand, IsReuseTarget, IsSoundReuse, AreReusesApart, AvoidsClobbers, OperandAvoidsClobbers}
 use Rattle.std.proofs.lemmas.List.{get_or_default}
@@ -194,4 +194,21 @@ pub valid_else : (env : MachineValue) (i : InstValue) (ops : List OperandValue) 
 valid_else env i ops b e isnt each = (
   λ t. absurd (let f : false ≡ true = sym isnt ∙ t in cc),
   λ s. each.1 (subst (λ os. (k : ℕ) → k < length os → IsSoundReuse env os (op_at os k)) (sym e) (valid_reuses env i s)),
+)
+
+-- each operand avoids the clobbers, whatever is read past the end
+pub clear_each : (i : InstValue) → ((k : ℕ) → k < length i.operands → OperandAvoidsClobbers i.clobbers i.operands k) ↔ FixedAvoidClobbers i
+clear_each i = (
+  λ h k d lt r is why.
+      let at : op_at i.operands k ≡ slice_index_or i.operands k d = get_or_default i.operands k no_operand d lt in
+      h k lt r (ap (λ (o : OperandValue). o.constraint) at ∙ is) (elim why [
+        | inl def ↦ inl (ap (λ (o : OperandValue). o.kind) at ∙ def)
+        | inr (inl late) ↦ inr (inl (ap (λ (o : OperandValue). o.position) at ∙ late))
+        | inr (inr (j, e, less, reuse)) ↦ inr (inr (j, less, ap (λ (o : OperandValue). o.constraint) (get_or_default i.operands j no_operand e less) ∙ reuse))
+      ]),
+  λ h k lt r is why. h k no_operand lt r is (elim why [
+    | inl def ↦ inl def
+    | inr (inl late) ↦ inr (inl late)
+    | inr (inr (j, less, reuse)) ↦ inr (inr (j, no_operand, less, reuse))
+  ]),
 )

@@ -1,4 +1,5 @@
-use Rattle.std.proofs.Common.{ℕ, List, ◌+◌, ◌<◌, ◌∙◌, length, get_or, ap, sym, arith, subst}
+use Rattle.std.proofs.Common.{ℕ, List, ◌+◌, ◌<◌, ◌∙◌, refl, length, get_or, ap, sym, arith, subst}
+use Rattle.std.proofs.lemmas.Result.{IfOk-from_err}
 use Rattle.regalloc2_checker_sets.specs.SavedCopies.{IsChunkAt}
 use Rattle.regalloc2_checker_sets.proofs.SavedChunks.{more-as, more-same, more-put, chunk-put, unsaved-inside, chunks-more, chunks-set}
 use Rattle.regalloc2_checker_sets.proofs.SavedChunks.{set-copies, set-others, set-at}
@@ -68,3 +69,85 @@ pub returns-in_err-extend_from_slice-clause-kept : goal.returns-in_err-extend_fr
 returns-in_err-extend_from_slice-clause-kept g c =
     chunks-more c.args.words.now.items c.extend_from_slice.new.self.items c.args.cells.now c.args.bases.now
     (more-as _ _ (c.in_err-extend_from_slice.ensures.items ∙ c.make_room.ensures)) c.requires.kept
+
+pub get-requires : goal.get-requires
+get-requires g c = c.requires.chunk
+
+pub returns-then-get : goal.returns-then-get
+returns-then-get g c = record {
+  words = more-same _;
+  kept = c.requires.kept;
+  copies = record { words = refl; saved = refl; long = refl };
+  others = λ j n. refl;
+  saved = omega (arith, c.get.ensures, c.if-get.true, c.get.type_inv);
+}
+
+pub saved-base-requires : goal.saved-base-requires
+saved-base-requires g c = c.requires.copy
+
+pub set-requires : goal.set-requires
+set-requires g c = c.requires.chunk
+
+pub set-requires-2 : goal.set-requires-2
+set-requires-2 g c = c.requires.chunk
+
+pub returns-then-end : goal.returns-then-end
+returns-then-end g c = record {
+  words = more-same _;
+  kept = c.requires.kept;
+  copies = record { words = refl; saved = refl; long = refl };
+  others = λ j n. refl;
+  saved = tt;
+}
+
+pub returns-in_err-make_room-clause-copies : goal.returns-in_err-make_room-clause-copies
+returns-in_err-make_room-clause-copies g c = record { words = refl; saved = refl; long = refl }
+
+pub returns-in_err-make_room-clause-others : goal.returns-in_err-make_room-clause-others
+returns-in_err-make_room-clause-others g c j n = refl
+
+pub returns-in_err-make_room-clause-saved : goal.returns-in_err-make_room-clause-saved
+returns-in_err-make_room-clause-saved g c = IfOk-from_err c.from_residual.result _ c.from_residual.ensures.0
+
+pub returns-in_err-extend_from_slice-clause-copies : goal.returns-in_err-extend_from_slice-clause-copies
+returns-in_err-extend_from_slice-clause-copies g c = record { words = refl; saved = refl; long = refl }
+
+pub returns-in_err-extend_from_slice-clause-others : goal.returns-in_err-extend_from_slice-clause-others
+returns-in_err-extend_from_slice-clause-others g c j n = refl
+
+pub returns-in_err-extend_from_slice-clause-saved : goal.returns-in_err-extend_from_slice-clause-saved
+returns-in_err-extend_from_slice-clause-saved g c =
+    IfOk-from_err c.from_residual-in_err-extend_from_slice.result _ c.from_residual-in_err-extend_from_slice.ensures.0
+
+pub overflow_mul-chunk : goal.overflow_mul-chunk
+overflow_mul-chunk g c =
+    let inside = unsaved-inside c.args.words.now.items c.args.cells.now c.args.bases.now c.args.chunk c.requires.kept c.requires.chunk
+    (sym c.get.ensures ∙ c.if-get.false) in
+    omega (arith, inside)
+
+pub overflow_mul-chunk-2 : goal.overflow_mul-chunk-2
+overflow_mul-chunk-2 g c =
+    let inside = unsaved-inside c.args.words.now.items c.args.cells.now c.args.bases.now c.args.chunk c.requires.kept c.requires.chunk
+    (sym c.get.ensures ∙ c.if-get.false) in
+    omega (arith, inside)
+
+pub overflow_mul-chunk-3 : goal.overflow_mul-chunk-3
+overflow_mul-chunk-3 g c =
+    let inside = unsaved-inside c.args.words.now.items c.args.cells.now c.args.bases.now c.args.chunk c.requires.kept c.requires.chunk
+    (sym c.get.ensures ∙ c.if-get.false) in
+    omega (arith, inside)
+
+pub overflow_add-chunk : goal.overflow_add-chunk
+overflow_add-chunk g c =
+    let inside = unsaved-inside c.args.words.now.items c.args.cells.now c.args.bases.now c.args.chunk c.requires.kept c.requires.chunk
+    (sym c.get.ensures ∙ c.if-get.false) in
+    omega (arith, inside)
+
+pub offset_bounds-cells-chunk : goal.offset_bounds-cells-chunk
+offset_bounds-cells-chunk g c =
+    let inside = unsaved-inside c.args.words.now.items c.args.cells.now c.args.bases.now c.args.chunk c.requires.kept c.requires.chunk
+    (sym c.get.ensures ∙ c.if-get.false) in
+    omega (arith, inside)
+
+pub overflow_cast-end : goal.overflow_cast-end
+overflow_cast-end g c = omega (arith, c.if-end.false)

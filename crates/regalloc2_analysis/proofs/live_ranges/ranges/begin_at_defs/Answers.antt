@@ -7,11 +7,11 @@ use Rattle.regalloc2_function.specs.FunctionValue.{FunctionValue}
 use Rattle.regalloc2_shape.specs.TableLength.{HasRoom}
 use Rattle.regalloc2_analysis.specs.declared.live_ranges.LiveRange.{LiveRange}
 use Rattle.regalloc2_analysis.specs.LiveRanges.LiveRanges.{IsDefiner, IsWanted}
-use Rattle.regalloc2_analysis.specs.LiveRanges.Slots.{HasSlot, spread}
+use Rattle.regalloc2_analysis.specs.LiveRanges.Slots.{HasSlot, IsApart, spread}
 use Rattle.regalloc2_analysis.proofs.LiveRangesLemmas.Spread.{spread_length}
 use Rattle.regalloc2_analysis.proofs.LiveRangesLemmas.UsesInSSA.{definer_small, item_defines}
 use Rattle.regalloc2_analysis.proofs.LiveRangesLemmas.UsesNoted.{both_not}
-use Rattle.regalloc2_analysis.proofs.LiveRangesLemmas.LiveRangeTable.{begun_more, begun_same, defined_range, right_set, stay_set}
+use Rattle.regalloc2_analysis.proofs.LiveRangesLemmas.LiveRangeTable.{begun_all, begun_more, begun_same, defined_range, right_set, stay_set}
 use Rattle.regalloc2_analysis.proofs.live_ranges.ranges.begin_at_defs.Goals as goal
 use Rattle.regalloc2_analysis.proofs.live_ranges.ranges.begin_at_defs.Goals.{then-defines_wanted, else-defines_wanted}
 
@@ -64,3 +64,39 @@ loop-index-preserved g c =
             (sym c.defines_wanted.ensures ∙ w.if-defines_wanted.false) def asked) c.loop-index.invariant.so_far;
       })
     ]
+
+pub inst_operands-operand-items-requires : goal.inst_operands-operand-items-requires
+inst_operands-operand-items-requires g c = c.requires.inst
+
+pub loop-index-init : goal.loop-index-init
+loop-index-init g c = record { right = c.requires.right; stay = λ n some. some; so_far = λ k lt. absurd (omega (arith, lt)) }
+
+pub bounds-operand-items-index : goal.bounds-operand-items-index
+bounds-operand-items-index g c = c.loop-index-test.true
+
+pub next-requires : goal.next-requires
+next-requires g c = λ e. let limit = (g.met.F.Function.limited c.args.f.now).insts in omega (arith, e, c.requires.inst, limit)
+
+pub before-requires : goal.before-requires
+before-requires g c = λ valid. let limit = (g.met.F.Function.limited c.args.f.now).insts in omega (arith, c.requires.inst, limit, c.next.ensures)
+
+pub after-requires : goal.after-requires
+after-requires g c = λ valid. let limit = (g.met.F.Function.limited c.args.f.now).insts in omega (arith, c.requires.inst, limit)
+
+pub end_of_defined-end-requires : goal.end_of_defined-end-requires
+end_of_defined-end-requires g c = let limit = (g.met.F.Function.limited c.args.f.now).insts in omega (arith, c.requires.inst, limit)
+
+pub set_entry-requires : goal.set_entry-requires
+set_entry-requires g c =
+    subst (λ (n : ℕ). IsApart c.args.slots.now n) (sym c.loop-index.auto.ranges) c.requires.slots.apart
+
+pub returns-clause-right : goal.returns-clause-right
+returns-clause-right g c = c.loop-index.invariant.right
+
+pub returns-clause-stay : goal.returns-clause-stay
+returns-clause-stay g c = c.loop-index.invariant.stay
+
+pub returns-clause-defined : goal.returns-clause-defined
+returns-clause-defined g c =
+    begun_all (g.F.Function.function c.args.f.now) (IsWanted c.args.wanted.now) c.args.inst c.loop-index.index c.inst_operands-operand-items.result.now
+    (spread c.args.slots.now c.loop-index.ranges) c.inst_operands-operand-items.ensures c.loop-index-test.false c.loop-index.invariant.so_far

@@ -7,7 +7,7 @@ use Rattle.regalloc2_semantics.proofs.Order.{ends_within}
 use Rattle.regalloc2_shape.specs.TableLength.{HasRoom}
 use Rattle.regalloc2_analysis.specs.declared.live_ranges.LiveRange.{LiveRange}
 use Rattle.regalloc2_analysis.specs.LiveRanges.LiveRanges.{IsWanted}
-use Rattle.regalloc2_analysis.specs.LiveRanges.Slots.{HasSlot, spread}
+use Rattle.regalloc2_analysis.specs.LiveRanges.Slots.{HasSlot, IsApart, spread}
 use Rattle.regalloc2_analysis.proofs.LiveRangesLemmas.Spread.{spread_length}
 use Rattle.regalloc2_analysis.proofs.LiveRangesLemmas.UsesInSSA.{parameter_small}
 use Rattle.regalloc2_analysis.proofs.LiveRangesLemmas.LiveRangeTable.{param_within, right_set, stay_set, taken_all, taken_more, taken_range, taken_same}
@@ -73,3 +73,29 @@ returns-clause-taken g c =
     (record { block = c.requires.block; same = c.block_params-param-items.ensures; all = c.loop-param-test.false })
     (record { room = subst (HasRoom f) (sym (spread_length c.args.slots.now c.args.ends.now)) c.requires.room; noted = c.requires.ends })
     c.loop-param.invariant.so_far
+
+pub block_insns-requires : goal.block_insns-requires
+block_insns-requires g c = c.requires.block
+
+pub first-requires : goal.first-requires
+first-requires g c =
+    subst (λ (r : Span). r.first < r.end) (sym c.block_insns.ensures) (c.requires.ssa.follow c.args.block c.requires.block).0
+
+pub block_params-param-items-requires : goal.block_params-param-items-requires
+block_params-param-items-requires g c = c.requires.block
+
+pub loop-param-init : goal.loop-param-init
+loop-param-init g c = record { right = c.requires.right; stay = λ n some. some; so_far = λ k lt. absurd (omega (arith, lt)) }
+
+pub bounds-param-items-param-index : goal.bounds-param-items-param-index
+bounds-param-items-param-index g c = c.loop-param-test.true
+
+pub set_entry-requires : goal.set_entry-requires
+set_entry-requires g c =
+    subst (λ (n : ℕ). IsApart c.args.slots.now n) (sym c.loop-param.auto.ranges) c.requires.slots.apart
+
+pub returns-clause-right : goal.returns-clause-right
+returns-clause-right g c = c.loop-param.invariant.right
+
+pub returns-clause-stay : goal.returns-clause-stay
+returns-clause-stay g c = c.loop-param.invariant.stay

@@ -1,12 +1,12 @@
-use Rattle.std.proofs.Common.{List, [], ◌++◌, Option, ℕ, ◌≡◌, ◌∙◌, ◌-◌, length, take, replicate, sym, ap, subst, arith}
+use Rattle.std.proofs.Common.{List, Option, ℕ, ◌≡◌, ◌∙◌, length, sym, ap, subst, arith}
 use Rattle.std.specs.Prelude.{None, vec_len}
 use Rattle.std.proofs.lemmas.List.{with_items_is}
-use Rattle.std.proofs.Math.Seq.{take-nil}
 use Rattle.regalloc2_function.specs.FunctionValue.{FunctionValue}
 use Rattle.regalloc2_shape.specs.TableLength.{HasRoom}
 use Rattle.regalloc2_analysis.specs.declared.live_ranges.LiveRange.{LiveRange}
 use Rattle.regalloc2_analysis.specs.LiveRanges.LiveRanges.{AreLiveRanges, IsWanted}
 use Rattle.regalloc2_analysis.specs.LiveRanges.Slots.{AreSlots, spread}
+use Rattle.regalloc2_analysis.proofs.LivenessLemmas.SitesKept.{made}
 use Rattle.regalloc2_analysis.proofs.live_ranges.walk.few_ranges.Goals as goal
 
 pub walk_blocks-requires-clause-room : goal.walk_blocks-requires-clause-room
@@ -40,10 +40,6 @@ returns-clause-ok g c =
 
 pub returns-clause-few : goal.returns-clause-few
 returns-clause-few g c = omega (arith, c.in_ok-slots.ensures.len, c.table_length.ensures.few)
-
--- a table that is made longer from nothing
-made : {X : Type 0} (xs old : List X) (n len : ℕ) (x : X) → old ≡ [] → len ≡ 0 → xs ≡ take n old ++ replicate (n - len) x → xs ≡ replicate n x
-made xs old n len x empty none is = is ∙ rw (empty, none, take-nil) (ap (λ m. replicate m x) (omega arith))
 
 pub walk_blocks-requires-clause-no_ends : goal.walk_blocks-requires-clause-no_ends
 walk_blocks-requires-clause-no_ends g c =

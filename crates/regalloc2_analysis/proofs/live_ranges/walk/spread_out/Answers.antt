@@ -1,6 +1,7 @@
 use Rattle.std.proofs.Common.{ℕ, ◌≡◌, ◌+◌, ◌∷◌, ◌++◌, ◌<◌, ◌∙◌, [], List, Option, length, take, sym, ap, arith}
 use Rattle.std.specs.Prelude.{None, slice_index_or}
-use Rattle.std.proofs.lemmas.List.{take_more}
+use Rattle.std.proofs.lemmas.List.{take_all, take_more}
+use Rattle.std.proofs.lemmas.Result.{IfOk-from_err}
 use Rattle.regalloc2_analysis.proofs.LiveRangesLemmas.Spread.{spread_length}
 use Rattle.regalloc2_analysis.proofs.live_ranges.walk.spread_out.Goals as goal
 
@@ -13,3 +14,17 @@ pub loop-number-preserved : goal.loop-number-preserved
 loop-number-preserved g c = pushed _ c.loop-number.number c.entry.result c.loop-number.ranges.items c.push.new.self.items
     (omega (arith, spread_length c.args.slots.now c.args.entries.now, c.loop-number-test.true)) c.loop-number.invariant
     c.in_ok-push.ensures.items c.entry.ensures
+
+pub loop-number-init : goal.loop-number-init
+loop-number-init g c = c.in_ok-ranges.ensures.items
+
+pub returns-in_err-ranges : goal.returns-in_err-ranges
+returns-in_err-ranges g c = IfOk-from_err c.from_residual.result _ c.from_residual.ensures.0
+
+pub returns-in_err-push : goal.returns-in_err-push
+returns-in_err-push g c = IfOk-from_err c.from_residual-in_err-push.result _ c.from_residual-in_err-push.ensures.0
+
+pub returns : goal.returns
+returns g c =
+    c.loop-number.invariant
+    ∙ take_all c.loop-number.number _ (omega (arith, spread_length c.args.slots.now c.args.entries.now, c.loop-number-test.false))

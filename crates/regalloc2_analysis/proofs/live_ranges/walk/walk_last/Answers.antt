@@ -47,3 +47,37 @@ returns-clause-walked g c =
     walked_last f c.requires.ssa.follow W c.args.block (c.args.block + 1) c.args.last (spread slots c.args.ends.now) (spread slots c.note_passed.new.ends)
     (spread slots c.args.ranges.now) c.requires.block (omega (arith, some, c.requires.last)) (omega (arith, within, c.requires.last)) c.requires.last none long
     (λ n lt asked. c.note_passed.ensures n (c.requires.ends_slots.theirs n (omega (arith, lt, same)) asked)) c.requires.walked
+
+pub is_next-requires : goal.is_next-requires
+is_next-requires g c = c.requires.named.within
+
+pub walk_inst-requires : goal.walk_inst-requires
+walk_inst-requires g c =
+    let some = (c.requires.ssa.follow c.args.block c.requires.block).0 in
+    record {
+      ssa = c.requires.ssa;
+      block = c.requires.block;
+      first = omega (arith, some, c.requires.last);
+      end = omega (arith, c.requires.last);
+      ends_slots = c.requires.ends_slots;
+      ranges_slots = c.requires.ranges_slots;
+      walked = c.requires.walked;
+    }
+
+pub overflow_sub-result : goal.overflow_sub-result
+overflow_sub-result g c = let some = (c.is_next.ensures.0 c.if-is_next.true).0 in omega (arith, some)
+
+pub returns-then-is_next-clause-walked : goal.returns-then-is_next-clause-walked
+returns-then-is_next-clause-walked g c = c.walk_inst.ensures
+
+pub note_passed-requires-clause-apart : goal.note_passed-requires-clause-apart
+note_passed-requires-clause-apart g c = c.requires.ends_slots.apart
+
+pub note_passed-requires-clause-block : goal.note_passed-requires-clause-block
+note_passed-requires-clause-block g c = c.requires.block
+
+pub note_passed-requires-clause-last : goal.note_passed-requires-clause-last
+note_passed-requires-clause-last g c = c.requires.last
+
+pub note_passed-requires-clause-nonempty : goal.note_passed-requires-clause-nonempty
+note_passed-requires-clause-nonempty g c = let some = (c.requires.ssa.follow c.args.block c.requires.block).0 in omega (arith, some, c.requires.last)

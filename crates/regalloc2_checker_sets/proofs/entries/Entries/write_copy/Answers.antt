@@ -22,3 +22,43 @@ chunks-preserved g c =
       ];
       rest = λ i high less. w.after i (search rules) ∙ inv.rest i (omega (arith, high, found.0)) less;
     }
+
+pub chunks-init : goal.chunks-init
+chunks-init g c = record {
+  count = refl;
+  saved = λ k i. refl;
+  long = refl;
+  written = λ i low less. absurd (omega (arith, low));
+  rest = λ i high less. c.requires.same i less;
+}
+
+pub next_chunk-requires : goal.next_chunk-requires
+next_chunk-requires g c = c.requires.copy
+
+pub base-base-requires : goal.base-base-requires
+base-base-requires g c =
+    let found = c.in-Some.ensures.some c.in-Some.chunk refl in
+    record { copy = c.requires.copy; chunk = found.1 }
+
+pub returns-clause-count : goal.returns-clause-count
+returns-clause-count g c = c.chunks.invariant.count
+
+pub returns-clause-saved : goal.returns-clause-saved
+returns-clause-saved g c = c.chunks.invariant.saved
+
+pub returns-clause-long : goal.returns-clause-long
+returns-clause-long g c = c.chunks.invariant.long
+
+pub returns-clause-written : goal.returns-clause-written
+returns-clause-written g c i less =
+    let inv = c.chunks.invariant in
+    elim (cases_lt i (64 * c.chunks.from)) [
+      | inl l ↦ inv.written i l less
+      | inr h ↦ inv.rest i h less ∙ c.in_default.ensures.none refl i h less
+    ]
+
+pub write_all-requires-clause-small : goal.write_all-requires-clause-small
+write_all-requires-clause-small g c = let found = c.in-Some.ensures.some c.in-Some.chunk refl in omega (arith, found.2)
+
+pub chunks-smaller : goal.chunks-smaller
+chunks-smaller g c = let found = c.in-Some.ensures.some c.in-Some.chunk refl in omega (arith, found.0, found.1)

@@ -46,3 +46,26 @@ returns-clause-loaded g c i less =
     ∙ ap (λ (l : List ℕ). number_in l c.deref-2.result.now i) c.deref.ensures.value
     ∙ ap (λ (l : List ℕ). number_in c.self.inside.words.items l i) (c.deref-2.ensures.value ∙ sym row)
     ∙ ap (λ (v : Copies). saved_at v c.args.copy i) c.self.view_is
+
+pub index-requires : goal.index-requires
+index-requires g c =
+    let less = row-less c.self.inside.saved.items c.args.self.now.saved c.args.copy (ap (λ (v : Copies). v.saved) c.self.view_is) c.requires in
+    omega (arith, less, c.self.inside.saved.ok.0)
+
+pub load_all-requires-clause-long : goal.load_all-requires-clause-long
+load_all-requires-clause-long g c =
+    let d = ap (λ (l : List ℕ). length l) c.deref_mut.ensures.value in
+    let e = ap (λ (l : List (Option ℕ)). length l) c.deref_mut-2.ensures.value in
+    omega (arith, d, e, c.self.invariant.long)
+
+pub returns-clause-words : goal.returns-clause-words
+returns-clause-words g c = ap (λ (v : Copies). v.words) c.self.view_is
+
+pub returns-clause-saved : goal.returns-clause-saved
+returns-clause-saved g c = ap (λ (v : Copies). v.saved) c.self.view_is
+
+pub returns-clause-long : goal.returns-clause-long
+returns-clause-long g c =
+    let cells = with_items_is c.self.inside.cells c.load_all.new.cells (c.load_all.auto.cells ∙ c.deref_mut.ensures.len) in
+    ap (λ (l : List ℕ). length l) cells ∙ c.load_all.auto.cells ∙ ap (λ (l : List ℕ). length l) c.deref_mut.ensures.value
+    ∙ ap (λ (v : Copies). length v.cells) c.self.view_is

@@ -3,7 +3,8 @@ use Rattle.std.specs.Prelude.{Option, slice_set}
 use Rattle.std.specs.Vec.{with_items}
 use Rattle.std.proofs.Common.{inl, inr}
 use Rattle.std.proofs.lemmas.Bool.{cases_eq}
-use Rattle.std.proofs.lemmas.List.{with_items_is}
+use Rattle.std.proofs.lemmas.Result.{IfOk-from_err}
+use Rattle.std.proofs.lemmas.List.{with_items_is, length-map, length-set}
 use Rattle.regalloc2_checker_sets.specs.SavedCopies.{Copies, saved_at, number_in_cell, number_in}
 use Rattle.regalloc2_checker_sets.proofs.Rows.{row-is, row-less, row-set_same, row-set_other, within-as}
 use Rattle.regalloc2_checker_sets.proofs.Rows.{clean-as, within-more, number-kept, bases-within, bases-same}
@@ -102,3 +103,34 @@ returns-in_err-bases-clause-err g c =
     on_err_always _ c.from_residual.result
     (λ i less. number-kept c.self.inside.words.items c.save_all.new.words.items _ i c.in_err-bases.ensures.words (c.self.invariant.within c.args.copy)
     ∙ ap (λ (v : Copies). saved_at v c.args.copy i) c.self.view_is)
+
+pub index-requires : goal.index-requires
+index-requires g c =
+    let less = row-less c.self.inside.saved.items c.args.self.now.saved c.args.copy (ap (λ (v : Copies). v.saved) c.self.view_is) c.requires in
+    omega (arith, less, c.self.inside.saved.ok.0)
+
+pub index_mut-requires : goal.index_mut-requires
+index_mut-requires g c =
+    let less = row-less c.self.inside.saved.items c.args.self.now.saved c.args.copy (ap (λ (v : Copies). v.saved) c.self.view_is) c.requires in
+    omega (arith, less, c.self.inside.saved.ok.0)
+
+pub returns-in_err-bases-clause-cells : goal.returns-in_err-bases-clause-cells
+returns-in_err-bases-clause-cells g c = ap (λ (v : Copies). v.cells) c.self.view_is
+
+pub returns-in_err-bases-clause-count : goal.returns-in_err-bases-clause-count
+returns-in_err-bases-clause-count g c = ap (λ (v : Copies). length v.saved) c.self.view_is
+
+pub returns-in_err-bases-clause-saved : goal.returns-in_err-bases-clause-saved
+returns-in_err-bases-clause-saved g c = IfOk-from_err c.from_residual.result _ c.from_residual.ensures.0
+
+pub returns-clause-cells : goal.returns-clause-cells
+returns-clause-cells g c = ap (λ (v : Copies). v.cells) c.self.view_is
+
+pub returns-clause-count : goal.returns-clause-count
+returns-clause-count g c =
+    length-map (slice_set c.self.inside.saved.items c.args.copy c.in_ok-bases.bases) _
+    ∙ length-set c.self.inside.saved.items c.args.copy c.in_ok-bases.bases
+    ∙ sym (length-map c.self.inside.saved.items _) ∙ ap (λ (v : Copies). length v.saved) c.self.view_is
+
+pub returns-clause-err : goal.returns-clause-err
+returns-clause-err g c = tt
