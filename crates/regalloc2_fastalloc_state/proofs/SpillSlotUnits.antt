@@ -112,9 +112,9 @@ slot_made s t v code n start end k p same e c lt none begins ends named high is 
       others = λ m d. get_or-set_other s.vreg_spillslots n m p NoPlace (λ h. d (h ∙ e));
       had = λ h. absurd (h (ap (slot_name s) (sym e) ∙ none));
       made = λ h. (
-          is ∙ ap InSlot (named ∙ ap (λ first. at first (size code)) begins ∙ ap (λ i. at (next_multiple_of s.count (size i)) (size i)) c),
-          ends ∙ ap (λ i. next_multiple_of s.count (size i) + size i) c,
-        );
+        is ∙ ap InSlot (named ∙ ap (λ first. at first (size code)) begins ∙ ap (λ i. at (next_multiple_of s.count (size i)) (size i)) c),
+        ends ∙ ap (λ i. next_multiple_of s.count (size i) + size i) c,
+      );
     })
 
 module _ (s : SpillSlotsValue) (code n start : ℕ) (owned : SlotsHaveOneOwner s) (three : code < 3) (lt : n < length s.vreg_spillslots)
