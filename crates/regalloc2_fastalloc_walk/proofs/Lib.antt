@@ -3,7 +3,7 @@
 -- Depends on regalloc2_fastalloc_proofs (relations), regalloc2_fastalloc_state (tables) and the branch definitions.
 -- `AvailableCount` says which registers are found free, and `LrusOfClasses` what the order of their use has.
 -- `RegsReserved` (`reserves_all`) is the loop over fixed registers, `OperandOutOfRegs` says where an operand stops,
--- `Steps` chains steps.
+-- `Steps` chains steps, and `StepsFail` has those that do nothing or fail.
 -- `InstPlaced`: an instruction is allocated once its operands are placed.
 -- `NothingPassed`: a branch to blocks without parameters does nothing to the tables. `FilledClobbers`: only clobbers
 -- in which vregs are have to be emptied.
