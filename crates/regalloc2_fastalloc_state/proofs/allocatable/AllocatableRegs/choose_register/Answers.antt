@@ -50,9 +50,3 @@ returns-clause-none g c =
       fixed_stack = c.self.inside.fixed_stack;
       dedicated_scratch = c.self.inside.dedicated_scratch;
     }) c.args.class c.args.available c.last.result c.self.invariant.0 (subst Q (sym c.index-self-code.is ∙ ring) c.last.ensures.none))
-
-pub bounds-self-inside-code : goal.bounds-self-inside-code
-bounds-self-inside-code g c = omega (arith, c.self.invariant.0.three, c.code.ensures.small)
-
-pub listed : goal.listed
-listed g c = omega (arith, c.self.invariant.0.three, c.code.ensures.small)
