@@ -24,13 +24,19 @@ returns-else-is_empty-clause-refused g c = λ o e.
 
 pub returns-in_default-clause-unprepared : goal.returns-in_default-clause-unprepared
 returns-in_default-clause-unprepared g c = λ e.
-    rw (c.of.ensures, c.push_reserved.ensures.items,
-    nil_from_length c.args.self.room.items (omega (arith, c.args.self.empty, c.args.self.room.ok.0))) refl
+    rw (
+      c.of.ensures,
+      c.push_reserved.ensures.items,
+      nil_from_length c.args.self.room.items (omega (arith, c.args.self.empty, c.args.self.room.ok.0)),
+    ) refl
 
 pub returns-in-Err-clause-refused : goal.returns-in-Err-clause-refused
 returns-in-Err-clause-refused g c = λ o e. inl
-    (rw (c.of-in-Err.ensures, c.push_reserved-in-Err.ensures.items,
-    nil_from_length c.args.self.room.items (omega (arith, c.args.self.empty, c.args.self.room.ok.0))) refl)
+    (rw (
+      c.of-in-Err.ensures,
+      c.push_reserved-in-Err.ensures.items,
+      nil_from_length c.args.self.room.items (omega (arith, c.args.self.empty, c.args.self.room.ok.0)),
+    ) refl)
 
 -- what is prepared isn't nothing
 prepared : {X Y : Type 0} (h : X → Y) (o : Option X) (x : X) → o ≡ Some x → option_map h o ≡ None → ⊥
