@@ -28,77 +28,117 @@ fn file<'a>(alloc: Global) -> Arg<'a> {
         .help("A function or several, as a text; - is standard input")
 }
 
-/// A command, with the options common to all.
-fn with_options<'a>(alloc: Global, command: Command<'a>) -> Result<Command<'a>, Error> {
-    let output = Arg::new(alloc, "output")
+/// The option of the file that is written.
+fn output<'a>(alloc: Global) -> Arg<'a> {
+    Arg::new(alloc, "output")
         .short('o')
         .long("output")
         .value_name("OUT")
         .action(ArgAction::Set)
-        .help("Write the answer to the file OUT");
-    let quiet = Arg::new(alloc, "quiet")
+        .help("Write the answer to the file OUT")
+}
+
+/// The option to write nothing.
+fn quiet<'a>(alloc: Global) -> Arg<'a> {
+    Arg::new(alloc, "quiet")
         .short('q')
         .long("quiet")
         .action(ArgAction::SetTrue)
-        .help("Write neither answer nor rejection nor what is wrong with a text: the status tells");
-    Ok(command.after_help(STATUSES).arg(output)?.arg(quiet)?)
+        .help("Write neither answer nor rejection nor what is wrong with a text: the status tells")
 }
 
-/// The subcommand `run`.
-fn run_command<'a>(alloc: Global) -> Result<Command<'a>, Error> {
-    let numbers = Arg::new(alloc, "NUMBER")
+/// A command, with the options common to all.
+fn with_options<'a>(alloc: Global, command: Command<'a>) -> Result<Command<'a>, Error> {
+    let command = command.after_help(STATUSES).arg(output(alloc))?;
+    Ok(command.arg(quiet(alloc))?)
+}
+
+/// The arguments of the functions that `run` runs.
+fn numbers<'a>(alloc: Global) -> Arg<'a> {
+    Arg::new(alloc, "NUMBER")
         .action(ArgAction::Append)
         .num_args(0..)
         .value_parser(value_parser!(u64))
-        .help("The arguments; those past them are 0");
-    let room = Arg::new(alloc, "room")
+        .help("The arguments; those past them are 0")
+}
+
+/// The option of `run` for room on the stack.
+fn room<'a>(alloc: Global) -> Arg<'a> {
+    Arg::new(alloc, "room")
         .long("room")
         .value_name("WORDS")
         .value_parser(value_parser!(u64))
         .action(ArgAction::Set)
-        .help("How many words the code may take on the stack, 131072 unless given");
-    let memory = Arg::new(alloc, "memory")
+        .help("How many words the code may take on the stack, 131072 unless given")
+}
+
+/// The option of `run` for the memory's hash.
+fn memory<'a>(alloc: Global) -> Arg<'a> {
+    Arg::new(alloc, "memory")
         .long("memory")
         .action(ArgAction::SetTrue)
-        .help("Write the hash of the memory that the code leaves (FNV-1a, 64 bits)");
-    let command = Command::new(alloc, "run")
-        .about("Write what the function and its code return, by interpreters")
-        .arg(file(alloc).required(true))?
-        .arg(numbers)?
-        .arg(room)?
-        .arg(memory)?;
-    with_options(alloc, command)
+        .help("Write the hash of the memory that the code leaves (FNV-1a, 64 bits)")
+}
+
+/// The subcommand `run`.
+fn run_command<'a>(alloc: Global) -> Result<Command<'a>, Error> {
+    let command = Command::new(alloc, "run").about(
+        "Write what the function and its code return, by interpreters",
+    );
+    let command = command.arg(file(alloc).required(true))?;
+    let command = command.arg(numbers(alloc))?;
+    let command = command.arg(room(alloc))?;
+    with_options(alloc, command.arg(memory(alloc))?)
+}
+
+/// The argument of `random`.
+fn seed<'a>(alloc: Global) -> Arg<'a> {
+    Arg::new(alloc, "SEED")
+        .required(true)
+        .action(ArgAction::Set)
+        .value_parser(value_parser!(u64))
+        .help("A number; the same one gives the same functions")
 }
 
 /// The subcommand `random`.
 fn random_command<'a>(alloc: Global) -> Result<Command<'a>, Error> {
-    let seed = Arg::new(alloc, "SEED")
-        .required(true)
-        .action(ArgAction::Set)
-        .value_parser(value_parser!(u64))
-        .help("A number; the same one gives the same functions");
-    let command = Command::new(alloc, "random")
-        .about("Write the text of up to four functions that look random and end")
-        .arg(seed)?;
-    with_options(alloc, command)
+    let command = Command::new(alloc, "random").about(
+        "Write the text of up to four functions that look random and end",
+    );
+    with_options(alloc, command.arg(seed(alloc))?)
 }
 
-/// The whole command.
-fn command<'a>(alloc: Global) -> Result<Command<'a>, Error> {
-    let header = Arg::new(alloc, "header")
+/// The option for a header.
+fn header<'a>(alloc: Global) -> Arg<'a> {
+    Arg::new(alloc, "header")
         .long("header")
         .action(ArgAction::SetTrue)
-        .help("Write a header for C in place of the assembly");
+        .help("Write a header for C in place of the assembly")
+}
+
+/// The command without its subcommands.
+fn own_command<'a>(alloc: Global) -> Result<Command<'a>, Error> {
     let command = Command::new(alloc, "compile")
         .version("0.1.0")
         .about("Writes a function as assembly for x86-64")
         .arg_required_else_help(true)
-        .args_conflicts_with_subcommands(true)
-        .arg(file(alloc))?
-        .arg(header)?
-        .subcommand(run_command(alloc)?)?
-        .subcommand(random_command(alloc)?)?;
-    with_options(alloc, command)
+        .args_conflicts_with_subcommands(true);
+    let command = command.arg(file(alloc))?;
+    with_options(alloc, command.arg(header(alloc))?)
+}
+
+/// A command with one more subcommand, unless that couldn't be made.
+fn with_subcommand<'a>(
+    command: Command<'a>,
+    subcommand: Result<Command<'a>, Error>,
+) -> Result<Command<'a>, Error> {
+    Ok(command.subcommand(subcommand?)?)
+}
+
+/// The whole command.
+fn command<'a>(alloc: Global) -> Result<Command<'a>, Error> {
+    let command = with_subcommand(own_command(alloc)?, run_command(alloc))?;
+    with_subcommand(command, random_command(alloc))
 }
 
 /// The arguments of `run`.
@@ -146,20 +186,41 @@ fn task_of<'a>(
     Ok(Some(Task::Read(path, action)))
 }
 
+/// The request in the matches of a command, unless it names no file.
+fn request_of<'a>(
+    alloc: Global,
+    name: &str,
+    given: &ArgMatches<'a>,
+) -> Result<Option<Request<'a>>, Error> {
+    let Some(task) = task_of(alloc, name, given)? else {
+        return Ok(None);
+    };
+    Ok(Some(Request {
+        task,
+        output: given.get_str("output"),
+        is_quiet: given.get_flag("quiet"),
+    }))
+}
+
+/// The request in the matches of the whole command, or the error that there is none.
+fn request_in<'a>(
+    alloc: Global,
+    command: &mut Command<'a>,
+    matches: &ArgMatches<'a>,
+) -> Result<Request<'a>, Error> {
+    let (name, given) = matches.subcommand().unwrap_or(("", matches));
+    match request_of(alloc, name, given)? {
+        Some(request) => Ok(request),
+        None => Err(command.error(ErrorKind::MissingRequiredArgument, "a file is wanted")?),
+    }
+}
+
 impl<'a> Request<'a> {
     /// Parses the program's arguments, the first of which is its own name. The error's text is for
     /// the user: the error in the arguments, or the help or the version if requested.
     pub fn of(alloc: Global, words: &'a [String]) -> Result<Request<'a>, Error> {
         let mut command = command(alloc)?;
         let matches = command.try_get_matches_from_mut(words)?;
-        let (name, given) = matches.subcommand().unwrap_or(("", &matches));
-        if let Some(task) = task_of(alloc, name, given)? {
-            return Ok(Request {
-                task,
-                output: given.get_str("output"),
-                is_quiet: given.get_flag("quiet"),
-            });
-        }
-        Err(command.error(ErrorKind::MissingRequiredArgument, "a file is wanted")?)
+        request_in(alloc, &mut command, &matches)
     }
 }

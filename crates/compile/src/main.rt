@@ -13,7 +13,7 @@ use codegen::program::{Task, UNUSABLE, answer};
 use command::Request;
 use std::env::{self, Env};
 use std::fs::File;
-use std::io::{self, BufWriter, Write};
+use std::io::{self, Read, Write};
 use std::process::ExitCode;
 
 /// The program's arguments, its name first.
@@ -21,39 +21,43 @@ fn words(rt: &(impl Env + AllocGlobal)) -> io::Result<Vec<String>> {
     Ok(env::args(rt)?.collect(rt.alloc())?)
 }
 
-/// Runs a task with its input, and returns the exit status.
-fn perform<O: Write, E: Write>(
-    rt: &HostRuntime,
-    task: &Task<'_>,
-    out: &mut O,
-    err: &mut E,
-) -> io::Result<u8> {
+/// The bytes of a task's file; `-` is standard input. None of `random`.
+fn bytes_of(rt: &HostRuntime, task: &Task<'_>) -> io::Result<Vec<u8>> {
+    let mut bytes = Vec::new(rt.alloc());
     match task {
-        Task::Read(path, _) if *path != "-" => {
-            let input = File::open(rt, *path)?;
-            Ok(answer(rt.alloc(), task, input, out, err))
+        Task::Random(_) => {}
+        Task::Read("-", _) => {
+            rt.stdin().read_to_end(&mut bytes)?;
         }
-        _ => Ok(answer(rt.alloc(), task, rt.stdin(), out, err)),
+        Task::Read(path, _) => {
+            File::open(rt, *path)?.read_to_end(&mut bytes)?;
+        }
+    }
+    Ok(bytes)
+}
+
+/// Writes a result to a file, or else to standard output.
+fn write_result(rt: &HostRuntime, output: Option<&str>, bytes: &[u8]) -> io::Result<()> {
+    match output {
+        Some(path) => File::create(rt, path)?.write_all(bytes),
+        None => rt.stdout().write_all(bytes),
     }
 }
 
-/// Runs the requested task with its output, and returns the exit status.
-fn perform_all(rt: &HostRuntime, request: &Request<'_>) -> io::Result<u8> {
-    let task = &request.task;
+/// Runs the requested task, writes its errors and its result, and returns the exit status.
+///
+/// The result is written when all of it is made, so the file that is read may be the one that is written.
+fn perform(rt: &HostRuntime, request: &Request<'_>) -> io::Result<u8> {
+    let alloc = rt.alloc();
+    let bytes = bytes_of(rt, &request.task)?;
+    let (mut out, mut err) = (Vec::new(alloc), Vec::new(alloc));
+    let status = answer(alloc, &request.task, bytes.as_slice(), &mut out, &mut err);
     if request.is_quiet {
-        return perform(rt, task, &mut io::sink(), &mut io::sink());
+        return Ok(status);
     }
-    if let Some(path) = request.output {
-        let mut out = BufWriter::new(rt.alloc(), File::create(rt, path)?)?;
-        let status = perform(rt, task, &mut out, &mut rt.stderr());
-        // dropping the buffer would write again the bytes that a failed write left in it
-        let _ = out.into_parts();
-        return status;
-    }
-    let mut out = BufWriter::new(rt.alloc(), rt.stdout())?;
-    let status = perform(rt, task, &mut out, &mut rt.stderr());
-    let _ = out.into_parts();
-    status
+    let _ = rt.stderr().write_all(err.as_slice());
+    write_result(rt, request.output, out.as_slice())?;
+    Ok(status)
 }
 
 fn main(rt: HostRuntime) -> ExitCode {
@@ -68,7 +72,7 @@ fn main(rt: HostRuntime) -> ExitCode {
             return ExitCode::from(if is_asked_for { 0 } else { UNUSABLE });
         }
     };
-    match perform_all(&rt, &request) {
+    match perform(&rt, &request) {
         Ok(status) => ExitCode::from(status),
         Err(error) => {
             let _ = match &request.task {

@@ -9,7 +9,7 @@
 use ra2_text_program::{Task, UNUSABLE, answer};
 use std::env::{self, Env};
 use std::fs::File;
-use std::io::{self, BufWriter, Read, Write};
+use std::io::{self, Read, Write};
 use std::process::ExitCode;
 
 /// The program's arguments, its name first.
@@ -28,64 +28,65 @@ fn bytes_of(rt: &HostRuntime, path: &str) -> io::Result<Vec<u8>> {
     Ok(bytes)
 }
 
-/// Performs a task with its input, and returns the status. A line on standard error reports a file
-/// that can't be read.
-fn perform<O: Write>(rt: &HostRuntime, task: Task<'_>, out: &mut O) -> u8 {
+/// Performs a task with its input, and returns the status. A line of `err` reports a file that can't be read.
+fn perform(rt: &HostRuntime, task: Task<'_>, out: &mut Vec<u8>, err: &mut Vec<u8>) -> u8 {
     let alloc = rt.alloc();
     let bytes = match bytes_of(rt, task.path) {
         Ok(bytes) => bytes,
-        Err(error) => return refuse_file(rt, task.path, error),
+        Err(error) => return refuse_file(err, task.path, error),
     };
     let Some(path) = task.other else {
-        return answer(alloc, task, bytes.as_slice(), None, out, &mut rt.stderr());
+        return answer(alloc, task, bytes.as_slice(), None, out, err);
     };
     match bytes_of(rt, path) {
         Ok(other) => {
             let other = Some((path, other.as_slice()));
-            answer(alloc, task, bytes.as_slice(), other, out, &mut rt.stderr())
+            answer(alloc, task, bytes.as_slice(), other, out, err)
         }
-        Err(error) => refuse_file(rt, path, error),
+        Err(error) => refuse_file(err, path, error),
     }
 }
 
 /// Reports a file that can't be read or written, and returns the status.
-fn refuse_file(rt: &HostRuntime, path: &str, error: io::Error) -> u8 {
-    let _ = eprintln!(rt; "ra2_text: {path}: {error}");
+fn refuse_file<W: Write>(err: &mut W, path: &str, error: io::Error) -> u8 {
+    let _ = writeln!(err, "ra2_text: {path}: {error}");
     UNUSABLE
 }
 
-/// Performs a task with its input and its output, and returns the status.
-fn perform_all(rt: &HostRuntime, task: Task<'_>) -> io::Result<u8> {
-    if let Some(path) = task.output {
-        let mut out = BufWriter::new(rt.alloc(), File::create(rt, path)?)?;
-        let status = perform(rt, task, &mut out);
-        // a dropped buffer would write again what a failed write left in it
-        let _ = out.into_parts();
-        return Ok(status);
+/// Writes the result to the task's file, or else to standard output.
+fn write_result(rt: &HostRuntime, task: Task<'_>, bytes: &[u8]) -> io::Result<()> {
+    match task.output {
+        Some(path) => File::create(rt, path)?.write_all(bytes),
+        None => rt.stdout().write_all(bytes),
     }
-    let mut out = BufWriter::new(rt.alloc(), rt.stdout())?;
-    let status = perform(rt, task, &mut out);
-    let _ = out.into_parts();
-    Ok(status)
+}
+
+/// Performs a task, writes its errors and its result, and returns the status.
+///
+/// The result is written when all of it is made, so a file that is read may be the one that is written.
+fn perform_all(rt: &HostRuntime, task: Task<'_>) -> u8 {
+    let (mut out, mut err) = (Vec::new(rt.alloc()), Vec::new(rt.alloc()));
+    let status = perform(rt, task, &mut out, &mut err);
+    let _ = rt.stderr().write_all(err.as_slice());
+    match write_result(rt, task, out.as_slice()) {
+        Ok(()) => status,
+        Err(error) => {
+            let path = task.output.unwrap_or("standard output");
+            refuse_file(&mut rt.stderr(), path, error)
+        }
+    }
 }
 
 fn main(rt: HostRuntime) -> ExitCode {
     let Ok(words) = words(&rt) else {
         return ExitCode::from(UNUSABLE);
     };
-    let task = match Task::of(rt.alloc(), words.as_slice()) {
-        Ok(task) => task,
+    match Task::of(rt.alloc(), words.as_slice()) {
+        Ok(task) => ExitCode::from(perform_all(&rt, task)),
         Err(error) => {
             let is_shown = error.print(&rt).is_ok();
             let is_asked_for = is_shown && !error.use_stderr();
-            return ExitCode::from(if is_asked_for { 0 } else { UNUSABLE });
-        }
-    };
-    match perform_all(&rt, task) {
-        Ok(status) => ExitCode::from(status),
-        Err(error) => {
-            let path = task.output.unwrap_or("standard output");
-            ExitCode::from(refuse_file(&rt, path, error))
+            ExitCode::from(if is_asked_for { 0 } else { UNUSABLE })
         }
     }
 }

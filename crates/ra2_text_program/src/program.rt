@@ -37,10 +37,10 @@ fn status_of(verdict: Verdict) -> u8
 }
 
 /// Writes the function of a text as JSON on one line.
-fn write_function<O: Write>(
+fn write_function(
     alloc: Global,
     function: &StoredFunction,
-    out: &mut O,
+    out: &mut Vec<u8>,
 ) -> Result<(), CallError> {
     let mut json = String::new(alloc);
     if write_json(function, None, &mut json).is_err() {
@@ -63,7 +63,7 @@ fn count_names(function: &StoredFunction) -> u64 {
 }
 
 /// Warns of vreg numbers that are far above how many the function names, with the memory that their tables take.
-fn warn<E: Write>(path: &str, function: &StoredFunction, err: &mut E) -> io::Result<()> {
+fn warn(path: &str, function: &StoredFunction, err: &mut Vec<u8>) -> io::Result<()> {
     let vregs = function.num_vregs;
     let names = count_names(function);
     if vregs <= USUAL_VREGS || vregs / 16 <= names {
@@ -114,12 +114,12 @@ struct Other<'p, 't, 'i> {
 }
 
 /// Writes how the outputs of two inputs differ.
-fn act_diff<O: Write, E: Write>(
+fn act_diff(
     alloc: Global,
     given: &Given<'_, '_, '_>,
     other: Other<'_, '_, '_>,
-    out: &mut O,
-    err: &mut E,
+    out: &mut Vec<u8>,
+    err: &mut Vec<u8>,
 ) -> Result<Verdict, CallError> {
     let Other { path, text, input } = other;
     let one = write(alloc, given.function, None)?;
@@ -152,13 +152,13 @@ struct Inputs<'t, 'i, 'p, 'u, 'o> {
     other: Option<Other<'p, 'u, 'o>>,
 }
 
-/// Does an action with an input, and flushes the output.
-fn act<O: Write, E: Write>(
+/// Does an action with an input.
+fn act(
     alloc: Global,
     task: Task<'_>,
     inputs: Inputs<'_, '_, '_, '_, '_>,
-    out: &mut O,
-    err: &mut E,
+    out: &mut Vec<u8>,
+    err: &mut Vec<u8>,
 ) -> Result<Verdict, CallError> {
     let Inputs { text, input, other } = inputs;
     let path = task.path;
@@ -171,39 +171,43 @@ fn act<O: Write, E: Write>(
         output: input.text.output.as_ref(),
         source: Some(source),
     };
-    let verdict = match (task.action, other) {
+    match (task.action, other) {
         (Action::Json, _) => {
             write_function(alloc, given.function, out)?;
-            Verdict::Accepted
+            Ok(Verdict::Accepted)
         }
-        (Action::Answer(Call::Diff), Some(other)) => act_diff(alloc, &given, other, out, err)?,
-        (Action::Answer(Call::Text), _) => answer_call(alloc, Call::Text, &given, out, err)?,
+        (Action::Answer(Call::Diff), Some(other)) => act_diff(alloc, &given, other, out, err),
+        (Action::Answer(Call::Text), _) => answer_call(alloc, Call::Text, &given, out, err),
         (Action::Answer(call), _) => {
             warn(path, given.function, err)?;
-            answer_call(alloc, call, &given, out, err)?
+            answer_call(alloc, call, &given, out, err)
         }
-    };
-    out.flush()?;
-    Ok(verdict)
+    }
 }
 
 /// Does an action with an input, and writes nothing if the task is to be quiet.
-fn act_as_asked<O: Write, E: Write>(
+fn act_as_asked(
     alloc: Global,
     task: Task<'_>,
     inputs: Inputs<'_, '_, '_, '_, '_>,
-    out: &mut O,
-    err: &mut E,
+    out: &mut Vec<u8>,
+    err: &mut Vec<u8>,
 ) -> Result<Verdict, CallError> {
     if task.is_quiet {
-        act(alloc, task, inputs, &mut io::sink(), &mut io::sink())
+        act(
+            alloc,
+            task,
+            inputs,
+            &mut Vec::new(alloc),
+            &mut Vec::new(alloc),
+        )
     } else {
         act(alloc, task, inputs, out, err)
     }
 }
 
 /// Reads an input; nothing if it can't be read, of which `err` gets a line.
-fn read_input<E: Write>(alloc: Global, path: &str, bytes: &[u8], err: &mut E) -> Option<Input> {
+fn read_input(alloc: Global, path: &str, bytes: &[u8], err: &mut Vec<u8>) -> Option<Input> {
     let read = match text_of(bytes) {
         Ok(text) => Input::read(alloc, text),
         Err(error) => Err(error),
@@ -217,51 +221,17 @@ fn read_input<E: Write>(alloc: Global, path: &str, bytes: &[u8], err: &mut E) ->
     }
 }
 
-/// The other input of `diff`, with its path and its bytes, if there is one.
-fn other_of<'p, 't, 'i>(
-    given: Option<(&'p str, &'t [u8])>,
-    input: Option<&'i Input>,
-) -> Option<Other<'p, 't, 'i>> {
-    let (path, bytes) = given?;
-    Some(Other {
-        path,
-        text: text_of(bytes).unwrap_or(""),
-        input: input?,
-    })
-}
-
-/// Does a task with the bytes of its files, and returns the status.
-///
-/// The input's error, or why there is no whole result, is a line on `err`, and the status then 2. Else the result is on `out`,
-/// flushed, and the status 0; or 1 if the function is rejected, of which `err` has the cause, or something is found; or 2 if its numbers
-/// name no function.
-pub fn answer<O: Write, E: Write>(
+/// Does a task with its inputs, and returns the status.
+fn finish(
     alloc: Global,
     task: Task<'_>,
-    bytes: &[u8],
-    other: Option<(&str, &[u8])>,
-    out: &mut O,
-    err: &mut E,
+    inputs: Inputs<'_, '_, '_, '_, '_>,
+    out: &mut Vec<u8>,
+    err: &mut Vec<u8>,
 ) -> u8
     ensures { result ≤ 2 }
 {
     let path = task.path;
-    let Some(input) = read_input(alloc, path, bytes, err) else {
-        return UNUSABLE;
-    };
-    let mut second = None;
-    if let Some((name, more)) = other {
-        second = read_input(alloc, name, more, err);
-        if second.is_none() {
-            return UNUSABLE;
-        }
-    }
-    let other = other_of(other, second.as_ref());
-    let inputs = Inputs {
-        text: text_of(bytes).unwrap_or(""),
-        input: &input,
-        other,
-    };
     match act_as_asked(alloc, task, inputs, out, err) {
         Ok(verdict) => status_of(verdict),
         Err(error) => {
@@ -269,4 +239,62 @@ pub fn answer<O: Write, E: Write>(
             UNUSABLE
         }
     }
+}
+
+/// Reads the other file of a task, if it has one, and does the task.
+fn answer_read(
+    alloc: Global,
+    task: Task<'_>,
+    text: &str,
+    input: &Input,
+    other: Option<(&str, &[u8])>,
+    out: &mut Vec<u8>,
+    err: &mut Vec<u8>,
+) -> u8
+    ensures { result ≤ 2 }
+{
+    let Some((path, bytes)) = other else {
+        let inputs = Inputs {
+            text,
+            input,
+            other: None,
+        };
+        return finish(alloc, task, inputs, out, err);
+    };
+    let Some(second) = read_input(alloc, path, bytes, err) else {
+        return UNUSABLE;
+    };
+    let other = Other {
+        path,
+        text: text_of(bytes).unwrap_or(""),
+        input: &second,
+    };
+    let inputs = Inputs {
+        text,
+        input,
+        other: Some(other),
+    };
+    finish(alloc, task, inputs, out, err)
+}
+
+/// Does a task with the bytes of its files, and returns the status.
+///
+/// The input's error, or why there is no whole result, is a line on `err`, and the status then 2. Else the result is on `out`,
+/// and the status 0; or 1 if the function is rejected, of which `err` has the cause, or something is found; or 2 if its numbers
+/// name no function.
+pub fn answer(
+    alloc: Global,
+    task: Task<'_>,
+    bytes: &[u8],
+    other: Option<(&str, &[u8])>,
+    out: &mut Vec<u8>,
+    err: &mut Vec<u8>,
+) -> u8
+    ensures { result ≤ 2 }
+{
+    let Some(input) = read_input(alloc, task.path, bytes, err) else {
+        return UNUSABLE;
+    };
+    let text = text_of(bytes).unwrap_or("");
+    answer_read(alloc, task, text, &input, other, out, err)
 }

@@ -1,7 +1,7 @@
 //! The tasks of the program.
 
 use clap::error::ErrorKind;
-use clap::{Arg, ArgAction, Command, Error};
+use clap::{Arg, ArgAction, ArgMatches, Command, Error};
 use regalloc2_tool::calls::call::Call;
 use std::alloc::Global;
 
@@ -89,47 +89,72 @@ pub struct Task<'a> {
     pub is_quiet: bool,
 }
 
-/// A subcommand with its arguments.
-fn subcommand<'a>(alloc: Global, name: &'a str, about: &'a str) -> Result<Command<'a>, Error> {
-    let file = Arg::new(alloc, "FILE")
+/// The argument that names the file.
+fn file<'a>(alloc: Global) -> Arg<'a> {
+    Arg::new(alloc, "FILE")
         .required(true)
         .action(ArgAction::Set)
         .help(
             "A function with its machine, as a text, as JSON or as upstream prints it; - is standard input",
-        );
-    let output = Arg::new(alloc, "output")
+        )
+}
+
+/// The option of the file that is written.
+fn output<'a>(alloc: Global) -> Arg<'a> {
+    Arg::new(alloc, "output")
         .short('o')
         .long("output")
         .value_name("OUT")
         .action(ArgAction::Set)
-        .help("Write the answer to the file OUT");
-    let quiet = Arg::new(alloc, "quiet")
+        .help("Write the answer to the file OUT")
+}
+
+/// The option to write nothing.
+fn quiet<'a>(alloc: Global) -> Arg<'a> {
+    Arg::new(alloc, "quiet")
         .short('q')
         .long("quiet")
         .action(ArgAction::SetTrue)
-        .help("Write neither answer nor rejection: the status tells");
-    let command = Command::new(alloc, name)
-        .about(about)
-        .after_help(STATUSES)
-        .arg(file)?
-        .arg(output)?
-        .arg(quiet)?;
+        .help("Write neither answer nor rejection: the status tells")
+}
+
+/// The argument of `diff` that names the other file.
+fn other<'a>(alloc: Global) -> Arg<'a> {
+    Arg::new(alloc, "OTHER").action(ArgAction::Set).help(
+        "The same function with another output; without it, the allocator's",
+    )
+}
+
+/// The option of `stats` for JSON.
+fn json<'a>(alloc: Global) -> Arg<'a> {
+    Arg::new(alloc, "json")
+        .long("json")
+        .action(ArgAction::SetTrue)
+        .help("Write the counts as JSON")
+}
+
+/// A subcommand with its arguments.
+fn subcommand<'a>(alloc: Global, name: &'a str, about: &'a str) -> Result<Command<'a>, Error> {
+    let command = Command::new(alloc, name).about(about).after_help(STATUSES);
+    let command = command.arg(file(alloc))?;
+    let command = command.arg(output(alloc))?;
+    let command = command.arg(quiet(alloc))?;
     match name {
-        "diff" => {
-            let other = Arg::new(alloc, "OTHER").action(ArgAction::Set).help(
-                "The same function with another output; without it, the allocator's",
-            );
-            Ok(command.arg(other)?)
-        }
-        "stats" => {
-            let json = Arg::new(alloc, "json")
-                .long("json")
-                .action(ArgAction::SetTrue)
-                .help("Write the counts as JSON");
-            Ok(command.arg(json)?)
-        }
+        "diff" => Ok(command.arg(other(alloc))?),
+        "stats" => Ok(command.arg(json(alloc))?),
         _ => Ok(command),
     }
+}
+
+/// A command with one more subcommand.
+fn with_subcommand<'a>(
+    alloc: Global,
+    command: Command<'a>,
+    name: &'a str,
+    about: &'a str,
+) -> Result<Command<'a>, Error> {
+    let subcommand = subcommand(alloc, name, about)?;
+    Ok(command.subcommand(subcommand)?)
 }
 
 /// The command with its subcommands.
@@ -141,9 +166,33 @@ fn command<'a>(alloc: Global) -> Result<Command<'a>, Error> {
         .subcommand_required(true)
         .arg_required_else_help(true);
     for (name, about) in &SUBCOMMANDS {
-        command = command.subcommand(subcommand(alloc, *name, *about)?)?;
+        command = with_subcommand(alloc, command, *name, *about)?;
     }
     Ok(command)
+}
+
+/// The task in the matches of a subcommand.
+fn task_of<'a>(name: &str, given: &ArgMatches<'a>) -> Option<Task<'a>> {
+    Some(Task {
+        action: Action::named(name, given.get_flag("json"))?,
+        path: given.get_str("FILE")?,
+        other: given.get_str("OTHER"),
+        output: given.get_str("output"),
+        is_quiet: given.get_flag("quiet"),
+    })
+}
+
+/// The task in the matches of the command, or the error that there is none.
+fn task_in<'a>(command: &mut Command<'a>, matches: &ArgMatches<'a>) -> Result<Task<'a>, Error> {
+    if let Some((name, given)) = matches.subcommand() {
+        if let Some(task) = task_of(name, given) {
+            return Ok(task);
+        }
+    }
+    Err(command.error(
+        ErrorKind::MissingSubcommand,
+        "a subcommand and a file are wanted",
+    )?)
 }
 
 impl<'a> Task<'a> {
@@ -152,21 +201,6 @@ impl<'a> Task<'a> {
     pub fn of(alloc: Global, words: &'a [String]) -> Result<Task<'a>, Error> {
         let mut command = command(alloc)?;
         let matches = command.try_get_matches_from_mut(words)?;
-        if let Some((name, given)) = matches.subcommand() {
-            let action = Action::named(name, given.get_flag("json"));
-            if let (Some(action), Some(path)) = (action, given.get_str("FILE")) {
-                return Ok(Task {
-                    action,
-                    path,
-                    other: given.get_str("OTHER"),
-                    output: given.get_str("output"),
-                    is_quiet: given.get_flag("quiet"),
-                });
-            }
-        }
-        Err(command.error(
-            ErrorKind::MissingSubcommand,
-            "a subcommand and a file are wanted",
-        )?)
+        task_in(&mut command, &matches)
     }
 }

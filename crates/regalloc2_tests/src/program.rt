@@ -31,6 +31,16 @@ struct Failing<'a> {
     sound_reads: u32,
 }
 
+impl<'a> Failing<'a> {
+    /// A reader of which no read fails.
+    fn sound(text: &'a [u8]) -> Failing<'a> {
+        Failing {
+            text,
+            sound_reads: u32::MAX,
+        }
+    }
+}
+
 impl Read for Failing<'_> {
     fn read(&mut self, buf: &mut [u8]) -> io::Result<usize> {
         if self.sound_reads == 0 {
@@ -61,6 +71,11 @@ impl Faulty {
             is_written_again: false,
             flushes,
         }
+    }
+
+    /// A writer of which nothing fails.
+    fn sound(alloc: Global) -> Faulty {
+        Faulty::new(alloc, u32::MAX, true)
     }
 }
 
@@ -98,23 +113,25 @@ fn words(alloc: Global, line: &[&str]) -> Result<Vec<String>, AllocError> {
 
 /// Whether the program reports arguments and an input by just a line on the standard error, with
 /// status 2.
-fn is_refused<R: Read + Drop>(
+fn is_refused(
     alloc: Global,
     line: &[&str],
-    input: R,
+    input: Failing<'_>,
     err_line: &str,
 ) -> io::Result<bool> {
     let words = words(alloc, line)?;
-    let out = BufWriter::new(alloc, Vec::new(alloc))?;
-    let mut err = Vec::new(alloc);
+    let out = BufWriter::new(alloc, Faulty::sound(alloc))?;
+    let mut err = Faulty::sound(alloc);
     let ample = &Refusing::counting(alloc);
     let (status, out) = answer(alloc, ample, words.as_slice(), input, out, &mut err);
-    Ok(status == 2 && out.is_empty() && err.as_slice() == err_line.as_bytes())
+    let is_told = err.text.as_slice() == err_line.as_bytes();
+    Ok(status == 2 && out.text.is_empty() && is_told)
 }
 
 /// Whether a call without arguments is rejected.
 pub fn no_words(alloc: Global) -> io::Result<bool> {
-    is_refused(alloc, &[], TEXT.as_bytes(), "ra2: bad words\n")
+    let input = Failing::sound(TEXT.as_bytes());
+    is_refused(alloc, &[], input, "ra2: bad words\n")
 }
 
 /// The lengths at which a text that is cut there isn't rejected.
@@ -122,7 +139,8 @@ pub fn unrefused_lengths(alloc: Global) -> io::Result<Vec<usize>> {
     let whole = TEXT.as_bytes();
     let mut unrefused = Vec::new(alloc);
     for length in 0..whole.len() {
-        if !is_refused(alloc, &["run"], &whole[..length], UNREADABLE)? {
+        let input = Failing::sound(&whole[..length]);
+        if !is_refused(alloc, &["run"], input, UNREADABLE)? {
             unrefused.push(length)?;
         }
     }
@@ -134,7 +152,7 @@ pub fn unrefused_bytes(alloc: Global) -> io::Result<Vec<&'static [u8]>> {
     let no_function: [&'static [u8]; 4] = [b"{", b"null", &[34, 255, 34], &[195, 40]];
     let mut unrefused = Vec::new(alloc);
     for bytes in no_function {
-        if !is_refused(alloc, &["run"], bytes, UNREADABLE)? {
+        if !is_refused(alloc, &["run"], Failing::sound(bytes), UNREADABLE)? {
             unrefused.push(bytes)?;
         }
     }
@@ -162,17 +180,17 @@ fn answer_faulty(alloc: Global, capacity: usize, sound_writes: u32) -> io::Resul
     let words = words(alloc, &["check"])?;
     let out = Faulty::new(alloc, sound_writes, true);
     let out = BufWriter::with_capacity(alloc, capacity, out)?;
-    let mut err = Vec::new(alloc);
+    let mut err = Faulty::sound(alloc);
     let ample = &Refusing::counting(alloc);
     let (status, out) = answer(
         alloc,
         ample,
         words.as_slice(),
-        TEXT.as_bytes(),
+        Failing::sound(TEXT.as_bytes()),
         out,
         &mut err,
     );
-    if !err.is_empty() {
+    if !err.text.is_empty() {
         return Ok((u8::MAX, out));
     }
     Ok((status, out))
@@ -215,27 +233,34 @@ pub fn writes_up_to_five(alloc: Global) -> io::Result<[Option<u32>; 3]> {
 pub fn failed_flush(alloc: Global) -> io::Result<(u8, bool, bool)> {
     let run = words(alloc, &["run"])?;
     let out = BufWriter::new(alloc, Faulty::new(alloc, u32::MAX, false))?;
-    let mut err = Vec::new(alloc);
+    let mut err = Faulty::sound(alloc);
     let ample = &Refusing::counting(alloc);
-    let (status, out) = answer(alloc, ample, run.as_slice(), TEXT.as_bytes(), out, &mut err);
+    let (status, out) = answer(
+        alloc,
+        ample,
+        run.as_slice(),
+        Failing::sound(TEXT.as_bytes()),
+        out,
+        &mut err,
+    );
     let is_listed = out.text.as_slice() == LISTING.as_bytes();
-    Ok((status, is_listed, err.is_empty()))
+    Ok((status, is_listed, err.text.is_empty()))
 }
 
 /// The status where arguments are rejected, and the line that says so can't be written; whether
 /// nothing else is.
 pub fn shut_error_stream(alloc: Global) -> io::Result<(u8, bool)> {
     let walk = words(alloc, &["walk"])?;
-    let out = BufWriter::new(alloc, Vec::new(alloc))?;
+    let out = BufWriter::new(alloc, Faulty::sound(alloc))?;
     let mut shut = Faulty::new(alloc, 0, false);
     let ample = &Refusing::counting(alloc);
     let (status, out) = answer(
         alloc,
         ample,
         walk.as_slice(),
-        TEXT.as_bytes(),
+        Failing::sound(TEXT.as_bytes()),
         out,
         &mut shut,
     );
-    Ok((status, out.is_empty()))
+    Ok((status, out.text.is_empty()))
 }
