@@ -56,7 +56,11 @@ fn perform(rt: &HostRuntime, request: &Request<'_>) -> io::Result<u8> {
         return Ok(status);
     }
     let _ = rt.stderr().write_all(err.as_slice());
-    write_result(rt, request.output, out.as_slice())?;
+    if let Err(error) = write_result(rt, request.output, out.as_slice()) {
+        let path = request.output.unwrap_or("standard output");
+        let _ = eprintln!(rt; "compile: {path}: {error}");
+        return Ok(UNUSABLE);
+    }
     Ok(status)
 }
 
