@@ -136,10 +136,8 @@ impl<A: Allocator + Copy> Entries<A> {
         ensures saved { IfOk result (λ v. (k i : ℕ) → saved_number v k i ≡ 0) }
     {
         let bases = Versions::new(alloc, count, size / 64)?;
-        let mut words = Vec::new(alloc);
-        words.resize(64, 0)?;
-        let mut cells = Vec::new(alloc);
-        cells.resize(64 * (size / 64 + 1), 0)?;
+        let words = Vec::from_elem(alloc, 0, 64)?;
+        let cells = Vec::from_elem(alloc, 0, 64 * (size / 64 + 1))?;
         Ok(Entries {
             words,
             cells,

@@ -104,13 +104,10 @@ impl<A: Allocator + Copy> Kept<A> {
         if !self.many.is_empty() {
             return listed(alloc, &self.many[0]);
         }
-        let mut members = Vec::new(alloc);
-        members.push(self.first)?;
         if self.second == self.first {
-            return Ok(members);
+            return Vec::from_slice(alloc, &[self.first]);
         }
-        members.push(self.second)?;
-        Ok(members)
+        Vec::from_slice(alloc, &[self.first, self.second])
     }
 
     /// A copy that can be changed.

@@ -164,12 +164,10 @@ impl<A: Allocator + Copy> Sets<A> {
         if set >= FIRST {
             return self.kept(set).members(self.alloc);
         }
-        let mut members = Vec::new(self.alloc);
         if set == 0 {
-            return Ok(members);
+            return Ok(Vec::new(self.alloc));
         }
-        members.push(set - 1)?;
-        Ok(members)
+        Vec::from_slice(self.alloc, &[set - 1])
     }
 
     /// Adds a set that is kept, and returns its number.
@@ -531,8 +529,7 @@ impl<A: Allocator + Copy> Sets<A> {
         if count > FIRST as usize {
             return Err(AllocError);
         }
-        let mut numbers = Vec::new(self.alloc);
-        numbers.resize(count, 0)?;
+        let mut numbers = Vec::from_elem(self.alloc, 0, count)?;
         self.grown = None;
         move_down(&mut self.kept, marks, &mut numbers);
         Ok(numbers)

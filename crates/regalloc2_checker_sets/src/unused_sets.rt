@@ -63,8 +63,7 @@ pub fn drop_unused_sets<A: Allocator + Copy>(
     ensures same { HaveSameMembers sets.old entries.old sets.new entries.new }
     ensures used { OnOk result ((n : ℕ) → 2147483648 ≤ n → n < length sets.new → AppearsIn entries.new n) }
 {
-    let mut used = Vec::new(alloc);
-    used.resize(sets.kept_count(), false)?;
+    let mut used = Vec::from_elem(alloc, false, sets.kept_count())?;
     entries.note_numbers(&mut used);
     let numbers = sets.keep_marked(&used)?;
     entries.renumber(&numbers);

@@ -276,12 +276,9 @@ impl<A: Allocator + Copy> Versions<A> {
         ensures saved { IfOk result (λ v. (k i : ℕ) → saved_at v k i ≡ 0) }
     {
         let chunks = size / 64 + 1;
-        let mut words = Vec::new(alloc);
-        words.resize(64, 0)?;
-        let mut cells = Vec::new(alloc);
-        cells.resize(64 * chunks, 0)?;
-        let mut clean = Vec::new(alloc);
-        clean.resize(chunks, Some(0))?;
+        let words = Vec::from_elem(alloc, 0, 64)?;
+        let cells = Vec::from_elem(alloc, 0, 64 * chunks)?;
+        let clean = Vec::from_elem(alloc, Some(0), chunks)?;
         let saved = empty_rows(alloc, count)?;
         Ok(Versions {
             words,

@@ -145,9 +145,7 @@ fn no_edges<A: Allocator + Copy>(
     ensures len { IfOk result (λ v. length v.items ≡ num) }
     ensures none { IfOk result (λ v. (n : ℕ) → slice_index_or v.items n None ≡ None) }
 {
-    let mut edges = Vec::new(alloc);
-    edges.resize(num, None)?;
-    Ok(edges)
+    Vec::from_elem(alloc, None, num)
 }
 
 /// By block, the edge into it from a branch that defines; and the operands that are listed as stored.

@@ -64,9 +64,7 @@ fn no_sites<A: Allocator + Copy>(
     ensures len { IfOk result (λ v. length v.items ≡ num) }
     ensures none { IfOk result (λ v. (n : ℕ) → slice_index_or v.items n None ≡ None) }
 {
-    let mut sites = Vec::new(alloc);
-    sites.resize(num, None)?;
-    Ok(sites)
+    Vec::from_elem(alloc, None, num)
 }
 
 /// By vreg number, up to a bound, the operand of a branch that defines it.

@@ -100,9 +100,7 @@ fn no_marks<A: Allocator + Copy>(alloc: A, num: usize) -> Result<Vec<bool, A>, A
     ensures len { IfOk result (λ v. length v.items ≡ num) }
     ensures none { IfOk result (λ v. (n : ℕ) → slice_index_or v.items n false ≡ false) }
 {
-    let mut used = Vec::new(alloc);
-    used.resize(num, false)?;
-    Ok(used)
+    Vec::from_elem(alloc, false, num)
 }
 
 /// By vreg number, up to a bound, whether an instruction reads it, or passes it and doesn't define it.

@@ -175,10 +175,8 @@ pub fn few_ranges<A: Allocator + Copy, F: Function>(
     ensures few { IfOk result (λ r. length r.slots.items ≤ (F.function f.now).num_vregs) }
 {
     let (slots, count) = slots_of(alloc, wanted, table_length(f))?;
-    let mut ends: Vec<Option<RangeEnd>, A> = Vec::new(alloc);
-    ends.resize(count, None)?;
-    let mut entries = Vec::new(alloc);
-    entries.resize(count, None)?;
+    let mut ends: Vec<Option<RangeEnd>, A> = Vec::from_elem(alloc, None, count)?;
+    let mut entries = Vec::from_elem(alloc, None, count)?;
     walk_blocks(
         ends.as_mut_slice(),
         entries.as_mut_slice(),

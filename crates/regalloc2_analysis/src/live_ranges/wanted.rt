@@ -94,9 +94,7 @@ fn no_marks<A: Allocator + Copy>(alloc: A, num: usize) -> Result<Vec<bool, A>, A
     ensures len { IfOk result (λ v. length v.items ≡ num) }
     ensures none { IfOk result (λ v. (n : ℕ) → slice_index_or v.items n false ≡ false) }
 {
-    let mut wanted = Vec::new(alloc);
-    wanted.resize(num, false)?;
-    Ok(wanted)
+    Vec::from_elem(alloc, false, num)
 }
 
 // The vregs whose live ranges are requested, by number: those that labels name, as far as the

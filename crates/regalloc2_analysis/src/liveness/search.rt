@@ -204,8 +204,7 @@ pub fn reads_early<A: Allocator + Copy, F: Function>(
     if block == entry {
         return Ok(true);
     }
-    let mut marked: Vec<bool, A> = Vec::new(alloc);
-    marked.resize(f.num_blocks(), false)?;
+    let mut marked = Vec::from_elem(alloc, false, f.num_blocks())?;
     mark(marked.as_mut_slice(), entry);
     let mut near: Vec<Block, A> = Vec::new(alloc);
     near.push(entry)?;

@@ -1,12 +1,11 @@
-use Rattle.std.proofs.Common.{List, Option, ℕ, ◌≡◌, ◌∙◌, length, sym, ap, subst, arith}
-use Rattle.std.specs.Prelude.{None, vec_len}
+use Rattle.std.proofs.Common.{List, Option, ℕ, ◌≡◌, ◌∙◌, length, refl, sym, ap, subst, arith}
+use Rattle.std.specs.Prelude.{None, Some}
 use Rattle.std.proofs.lemmas.List.{with_items_is}
 use Rattle.regalloc2_function.specs.FunctionValue.{FunctionValue}
 use Rattle.regalloc2_shape.specs.TableLength.{HasRoom}
 use Rattle.regalloc2_analysis.specs.declared.live_ranges.LiveRange.{LiveRange}
 use Rattle.regalloc2_analysis.specs.LiveRanges.LiveRanges.{AreLiveRanges, IsWanted}
 use Rattle.regalloc2_analysis.specs.LiveRanges.Slots.{AreSlots, spread}
-use Rattle.regalloc2_analysis.proofs.LivenessLemmas.SitesKept.{made}
 use Rattle.regalloc2_analysis.proofs.live_ranges.walk.few_ranges.Goals as goal
 
 pub walk_blocks-requires-clause-room : goal.walk_blocks-requires-clause-room
@@ -23,7 +22,7 @@ walk_blocks-requires-clause-ssa g c = c.requires.ssa
 
 pub walk_blocks-requires-clause-slots : goal.walk_blocks-requires-clause-slots
 walk_blocks-requires-clause-slots g c =
-    let long : length c.as_mut_slice.result.now ≡ c.in_ok-slots.count = omega (arith, c.as_mut_slice.ensures.len, c.in_ok-resize.ensures.len) in
+    let long : length c.as_mut_slice.result.now ≡ c.in_ok-slots.count = omega (arith, c.as_mut_slice.ensures.len, c.in_ok-ends.ensures.len) in
     subst (AreSlots c.args.wanted.now c.as_slice.result.now) (sym long)
     (subst (λ (ss : List ℕ). AreSlots c.args.wanted.now ss c.in_ok-slots.count) (sym c.as_slice.ensures.value) c.in_ok-slots.ensures.slots)
 
@@ -35,20 +34,23 @@ returns-clause-ok g c =
     let f : FunctionValue = g.F.Function.function c.args.f.now in
     let W : ℕ → Type 0 = IsWanted c.args.wanted.now in
     subst (λ (t : List (Option LiveRange)). AreLiveRanges f W (spread c.in_ok-slots.slots.items t))
-    (sym (with_items_is c.resize-2.new.self c.walk_blocks.new.ranges (c.walk_blocks.auto.ranges ∙ c.as_mut_slice-2.ensures.len)))
+    (sym (with_items_is c.in_ok-entries.entries c.walk_blocks.new.ranges (c.walk_blocks.auto.ranges ∙ c.as_mut_slice-2.ensures.len)))
     (subst (λ (ss : List ℕ). AreLiveRanges f W (spread ss c.walk_blocks.new.ranges)) c.as_slice.ensures.value c.walk_blocks.ensures)
 
 pub returns-clause-few : goal.returns-clause-few
 returns-clause-few g c = omega (arith, c.in_ok-slots.ensures.len, c.table_length.ensures.few)
 
+-- a value that is no `Some` is `None`
+only_none : {X : Type 0} (H : Option X → Type 0) → ((x : X) → H (Some x) → ⊥) → (y : Option X) → H y → y ≡ None
+only_none H none None h = refl
+only_none H none (Some x) h = absurd (none x h)
+
 pub walk_blocks-requires-clause-no_ends : goal.walk_blocks-requires-clause-no_ends
 walk_blocks-requires-clause-no_ends g c =
-    let long : length c.as_mut_slice.result.now ≡ c.in_ok-slots.count = omega (arith, c.as_mut_slice.ensures.len, c.in_ok-resize.ensures.len) in
-    rw long (c.as_mut_slice.ensures.value ∙ made c.resize.new.self.items c.new-ends.result.items c.in_ok-slots.count (vec_len c.new-ends.result) None
-    c.new-ends.ensures.items c.new-ends.ensures.len c.in_ok-resize.ensures.items)
+    let long : length c.as_mut_slice.result.now ≡ c.in_ok-slots.count = omega (arith, c.as_mut_slice.ensures.len, c.in_ok-ends.ensures.len) in
+    rw long (c.as_mut_slice.ensures.value ∙ c.in_ok-ends.ensures.items_if_clones_equal (only_none _ (λ x no. no)))
 
 pub walk_blocks-requires-clause-no_ranges : goal.walk_blocks-requires-clause-no_ranges
 walk_blocks-requires-clause-no_ranges g c =
-    let long : length c.as_mut_slice.result.now ≡ c.in_ok-slots.count = omega (arith, c.as_mut_slice.ensures.len, c.in_ok-resize.ensures.len) in
-    rw long (c.as_mut_slice-2.ensures.value ∙ made c.resize-2.new.self.items c.new-entries.result.items c.in_ok-slots.count (vec_len c.new-entries.result)
-    None c.new-entries.ensures.items c.new-entries.ensures.len c.in_ok-resize-2.ensures.items)
+    let long : length c.as_mut_slice.result.now ≡ c.in_ok-slots.count = omega (arith, c.as_mut_slice.ensures.len, c.in_ok-ends.ensures.len) in
+    rw long (c.as_mut_slice-2.ensures.value ∙ c.in_ok-entries.ensures.items_if_clones_equal (only_none _ (λ x no. no)))

@@ -1,8 +1,9 @@
-use Rattle.std.proofs.Common.{arith, ap, sym, ◌∙◌, ℕ, List, ◌++◌, ◌∷◌, [], subst}
+use Rattle.std.proofs.Common.{arith, sym, subst}
 use Rattle.std.specs.Prelude.{IfOk}
 use Rattle.std.proofs.lemmas.Bool.{eqb-true}
 use Rattle.regalloc2_shape.specs.Numbers.{NumberSet}
 use Rattle.regalloc2_checker_sets.specs.EntrySets.{has_bits, ListsBits}
+use Rattle.regalloc2_checker_sets.proofs.Bits.{ok-as}
 use Rattle.regalloc2_checker_sets.proofs.TwoSets.{kept-two, kept-many, lists-same, lists-two, not-none}
 use Rattle.regalloc2_checker_sets.proofs.kept_set.Kept.members.Goals as goal
 
@@ -18,17 +19,14 @@ pub returns-then-self : goal.returns-then-self
 returns-then-self g c =
     let k = c.self.inside in
     let empty = eqb-true _ _ (sym c.if-not-is_empty.ensures) in
-    lists-same (has_bits c.args.self.now) c.push.new.self.items k.first k.second
-    (c.in_ok-push.ensures.items ∙ ap (λ (l : List ℕ). l ++ k.first ∷ []) c.new-members.ensures.items) c.if-self.true
+    ok-as _ _ c.from_slice.result (λ v h. lists-same (has_bits c.args.self.now) v.items k.first k.second h c.if-self.true
     (kept-two k.first k.second k.many.items c.args.self.now c.self.view_is (omega (arith, empty, k.many.ok.0)) c.self.invariant.0
-    c.self.invariant.1)
+    c.self.invariant.1)) c.from_slice.ensures.items
 
 pub returns : goal.returns
 returns g c =
     let k = c.self.inside in
     let empty = eqb-true _ _ (sym c.if-not-is_empty.ensures) in
-    lists-two (has_bits c.args.self.now) c.push-2.new.self.items k.first k.second
-    (c.in_ok-push-2.ensures.items ∙ ap (λ (l : List ℕ). l ++ k.second ∷ [])
-    (c.in_ok-push.ensures.items ∙ ap (λ (l : List ℕ). l ++ k.first ∷ []) c.new-members.ensures.items)) c.if-self.false
+    ok-as _ _ c.from_slice-2.result (λ v h. lists-two (has_bits c.args.self.now) v.items k.first k.second h c.if-self.false
     (kept-two k.first k.second k.many.items c.args.self.now c.self.view_is (omega (arith, empty, k.many.ok.0)) c.self.invariant.0
-    c.self.invariant.1)
+    c.self.invariant.1)) c.from_slice-2.ensures.items
