@@ -1,10 +1,11 @@
 //! The edges into blocks from branches that define.
 
-ghost use Rattle.std.specs.Prelude.{◌<◌, All, length};
+ghost use Rattle.std.specs.Prelude.{◌≡◌, ◌<◌, All, length};
+ghost use Rattle.regalloc2_names.specs.Point.{before, inst_limit};
 ghost use Rattle.regalloc2_analysis_steps.specs.Edges.{NotesEdges};
 
 use regalloc2_index::{Block, Inst};
-use regalloc2_names::PRegSet;
+use regalloc2_names::{PRegSet, ProgPoint};
 
 /// The edge into a block from a branch that defines.
 #[derive(Clone, Copy)]
@@ -21,6 +22,18 @@ pub struct EdgeInto {
     pub first: usize,
     /// Where they end there.
     pub end: usize,
+}
+
+impl EdgeInto {
+    /// The point at which the block that the edge leads to stores what the branch defines: its own
+    /// beginning, since nothing may follow the branch in its block.
+    #[inline(always)]
+    pub fn store_point(&self, first: Inst) -> ProgPoint
+        requires { first < inst_limit }
+        ensures { result ≡ before first }
+    {
+        ProgPoint::before(first)
+    }
 }
 
 /// Notes an edge for each successor, with its position.

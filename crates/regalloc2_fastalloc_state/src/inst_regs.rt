@@ -8,6 +8,7 @@ ghost use Rattle.regalloc2_fastalloc_state.specs.InstRegs.{RemovesAvailable, IsA
 ghost use Rattle.regalloc2_fastalloc_state.specs.InstRegs.{is_available_at, is_free_throughout};
 
 use regalloc2_names::{PReg, PRegSet, RegClass};
+use regalloc2_steps::clobbers::late_left;
 pub use regalloc2_steps::positions::Positions;
 
 /// The registers of one instruction, while its operands are allocated.
@@ -97,7 +98,7 @@ impl InstRegs {
         ensures scratch { self.new.scratch ≡ self.old.scratch }
         ensures awaited { self.new.awaited ≡ self.old.awaited }
     {
-        self.late = self.late.difference(taken);
+        self.late = late_left(self.late, taken);
     }
 
     /// Counts one more operand of the class, if it requires any register.

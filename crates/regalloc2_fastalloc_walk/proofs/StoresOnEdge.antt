@@ -27,7 +27,7 @@ use Rattle.regalloc2_fastalloc_proofs.proofs.Safety.StoredDefs.{last_within}
 use Rattle.regalloc2_fastalloc_proofs.proofs.Safety.StoresKeepSafe.{stored_concerned, stored_defines}
 use Rattle.regalloc2_fastalloc_proofs.proofs.Slots.SlotsGrow.{SlotsStay, gives_stay, same_stay}
 use Rattle.regalloc2_fastalloc_proofs.proofs.Operands.DefRecord.{real_slot}
-use Rattle.regalloc2_fastalloc_walk.specs.declared.operand.PlaceMove.{PlaceMove}
+use Rattle.regalloc2_steps.specs.declared.moved.PlaceMove.{PlaceMove}
 use Rattle.regalloc2_fastalloc_walk.specs.declared.store.StoredDef.{StoredDef}
 use Rattle.regalloc2_fastalloc_walk.specs.BranchStores.{ListsStores, is_for, FindsDefined, held, in_slot, FindsStore, no_store, FindsStores, none_found}
 use Rattle.regalloc2_fastalloc_walk.specs.BranchStores.{one_found, IsMadeOf, AreMadeOf, none_made, passed_over, one_made, PushesStores, LacksStoreReg}

@@ -10,7 +10,7 @@ use Rattle.regalloc2_semantics.specs.Stores.{Store, moves_by, store_moves}
 use Rattle.regalloc2_fastalloc_proofs.specs.InstSteps.{StateValue}
 use Rattle.regalloc2_fastalloc_proofs.specs.StoreSteps.{pushed_moves}
 use Rattle.regalloc2_fastalloc_walk.specs.BranchStores.{AreMadeOf, IsMadeOf, PushesStores, none_made, passed_over, one_made}
-use Rattle.regalloc2_fastalloc_walk.specs.declared.operand.PlaceMove.{PlaceMove}
+use Rattle.regalloc2_steps.specs.declared.moved.PlaceMove.{PlaceMove}
 
 -- what is pushed of two lists is what is pushed of the second, and then of the first
 pub pushed_append : (point : ℕ) (ms ns : List MoveValue) → pushed_moves point (ms ++ ns) ≡ pushed_moves point ns ++ pushed_moves point ms

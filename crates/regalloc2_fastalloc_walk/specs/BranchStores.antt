@@ -12,7 +12,7 @@ use Rattle.regalloc2_analysis.specs.declared.branch_defs.BranchDefs.{BranchDefs}
 use Rattle.regalloc2_fastalloc_state.specs.StateParts.{SpillSlotsValue, GetsSpillSlot, NoneIsFrom, slot_name}
 use Rattle.regalloc2_fastalloc_proofs.specs.InstSteps.{StateValue, Outcome, next, no_register}
 use Rattle.regalloc2_fastalloc_proofs.specs.StoreSteps.{IsByWay, IsStoredFor, pushed_moves}
-use Rattle.regalloc2_fastalloc_walk.specs.declared.operand.PlaceMove.{PlaceMove}
+use Rattle.regalloc2_steps.specs.declared.moved.PlaceMove.{PlaceMove}
 use Rattle.regalloc2_fastalloc_walk.specs.declared.store.StoredDef.{StoredDef}
 
 -- the tables say that the branch defines the argument of a parameter with a slot, by the operand j

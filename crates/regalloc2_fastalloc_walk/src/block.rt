@@ -8,11 +8,11 @@ ghost use Rattle.regalloc2_fastalloc_state.specs.StateParts.{AllAtOrAfter, vreg_
 ghost use Rattle.regalloc2_fastalloc_proofs.specs.BlockStart.{ReloadParam, ReloadParams, ReloadRegs, ReloadAtBegin};
 
 use super::inst::are_places_different;
-use super::operand::PlaceMove;
 use super::state::State;
 use regalloc2_fastalloc_state::inst_regs::InstRegs;
 use regalloc2_index::Inst;
 use regalloc2_names::{Allocation, ProgPoint, RegAllocError, VReg};
+use regalloc2_steps::moved::PlaceMove;
 use std::alloc::Allocator;
 
 impl<'a, A: Allocator> State<'a, A> {

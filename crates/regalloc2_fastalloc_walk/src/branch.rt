@@ -32,6 +32,7 @@ use regalloc2_index::{Block, Inst};
 use regalloc2_names::{Allocation, PReg, PRegSet, ProgPoint, RegAllocError, RegClass, VReg};
 use regalloc2_parts::moves::{MoveVec, MoveVecWithScratch, ParallelMoves};
 use regalloc2_parts::scratch_pool::{ScratchPair, ScratchPool};
+use regalloc2_steps::moved::{by_way_of, passing_point};
 use std::alloc::Allocator;
 
 /// What a branch defines.
@@ -267,9 +268,9 @@ impl<'a, A: Allocator> State<'a, A> {
         ensures rest { tables_of self.new ≡ record (tables_of self.old) { edits = self.new.edits } }
         ensures err { IfErr result (λ e. e ≡ RegAllocError.Memory) }
     {
-        let register = Allocation::reg(by);
-        self.edits.push(point, register, to)?;
-        self.edits.push(point, from, register)?;
+        let (first, then) = by_way_of(Allocation::reg(by), from, to);
+        self.edits.push(point, then.0, then.1)?;
+        self.edits.push(point, first.0, first.1)?;
         Ok(())
     }
 
@@ -371,7 +372,7 @@ impl<'a, A: Allocator> State<'a, A> {
             arguments.now inst_regs.old (tables_of self.old) given no_register) }
         ensures step { IsStepAt (before own.now.branch) result self.old self.new }
     {
-        let point = ProgPoint::before(own.branch);
+        let point = passing_point(own.branch);
         for j in 0..params.len() {
             let argument = arguments[j];
             if !own.has(argument) {
@@ -452,7 +453,7 @@ impl<'a, A: Allocator> State<'a, A> {
         let moves = self.gather(inst_regs, alloc, cx, block, inst)?;
         // read for its contract: each slot has one owner, so no two arguments go to one slot
         let _count = self.slots.num_units();
-        let point = ProgPoint::before(inst);
+        let point = passing_point(inst);
         self.push_gathered(inst_regs, point, moves)?;
         Ok(())
     }

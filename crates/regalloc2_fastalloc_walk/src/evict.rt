@@ -9,6 +9,7 @@ ghost use Rattle.regalloc2_fastalloc_walk.specs.StateView.{IsStepAt, tables_of, 
 use super::state::State;
 use regalloc2_fastalloc_state::inst_regs::{InstRegs, Positions};
 use regalloc2_names::{Allocation, PReg, ProgPoint, RegAllocError, RegClass, VReg};
+use regalloc2_steps::moved::by_way_of;
 use std::alloc::Allocator;
 
 impl<'a, A: Allocator> State<'a, A> {
@@ -83,8 +84,9 @@ impl<'a, A: Allocator> State<'a, A> {
         // most moves are reloads, which go to a register
         if self.is_stack(to) && self.is_stack(from) {
             let by = Allocation::reg(self.alloc_scratch_reg(inst_regs, point, class)?);
-            self.edits.push(point, by, to)?;
-            self.edits.push(point, from, by)?;
+            let (first, then) = by_way_of(by, from, to);
+            self.edits.push(point, then.0, then.1)?;
+            self.edits.push(point, first.0, first.1)?;
             return Ok(());
         }
         self.edits.push(point, from, to)?;

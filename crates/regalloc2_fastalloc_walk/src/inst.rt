@@ -19,7 +19,6 @@ ghost use Rattle.regalloc2_fastalloc_walk.specs.BeforeSteps.{IsBeforeOperands};
 ghost use Rattle.regalloc2_fastalloc_walk.specs.StateView.{IsStepAt, tables_of, ComesTo};
 ghost use Rattle.regalloc2_fastalloc_proofs.specs.BlockSteps.{AllocInstAt};
 
-use super::operand::PlaceMove;
 use super::reserve_regs::Sorted;
 use super::state::State;
 use regalloc2_fastalloc_state::inst_regs::{InstRegs, Positions};
@@ -30,6 +29,7 @@ use regalloc2_names::{
     Allocation, Operand, OperandConstraint, OperandPos, PReg, PRegSet, ProgPoint, RegAllocError,
 };
 use regalloc2_parts::iter::{Operands, PickedOperands};
+use regalloc2_steps::moved::PlaceMove;
 use std::alloc::Allocator;
 
 /// The operands at a position, with their indexes.

@@ -19,15 +19,9 @@ use super::state::State;
 use regalloc2_fastalloc_state::inst_regs::{InstRegs, Positions};
 use regalloc2_fastalloc_state::request::{OperandRequest, Requirement};
 use regalloc2_names::{Allocation, PReg, ProgPoint, RegAllocError, RegClass, VReg};
+use regalloc2_steps::choice::{granted, is_enough, reserve_left};
+use regalloc2_steps::moved::{PlaceMove, def_moves};
 use std::alloc::Allocator;
-
-/// A move of a value of a class, from one place to another.
-#[derive(Clone, Copy)]
-pub struct PlaceMove {
-    pub class: RegClass,
-    pub from: Allocation,
-    pub to: Allocation,
-}
 
 /// Whether a place isn't none, and differs from the other one.
 fn is_another(place: Allocation, other: Allocation) -> bool
@@ -85,10 +79,10 @@ impl<'a, A: Allocator> State<'a, A> {
         ensures left { result ≡ scratch_reserve_left self.now.registers.fixed_stack self.now.registers.dedicated_scratch inst_regs.now class }
         ensures small { result ≤ 1 }
     {
-        match inst_regs.scratch_of(class) {
-            Some(_) => 0,
-            None => self.registers.scratch_reserve_of(class),
-        }
+        reserve_left(
+            inst_regs.scratch_of(class),
+            self.registers.scratch_reserve_of(class),
+        )
     }
 
     /// Whether enough registers are left for the operands that require any register, once this one
@@ -101,7 +95,11 @@ impl<'a, A: Allocator> State<'a, A> {
         let class = preg.class();
         let taken = if inst_regs.is_free(preg) { 1 } else { 0 };
         let kept = self.scratch_reserve_left(inst_regs, class) + taken;
-        inst_regs.awaited(class).saturating_add(kept) <= self.free_count(inst_regs, class)
+        is_enough(
+            inst_regs.awaited(class),
+            kept,
+            self.free_count(inst_regs, class),
+        )
     }
 
     /// Whether an operand that may be anywhere may hold the place.
@@ -233,8 +231,10 @@ impl<'a, A: Allocator> State<'a, A> {
     {
         let preg = self.choose_free(inst_regs, request.vreg.class(), request.positions)?;
         match request.requirement {
-            Requirement::AnyReg => Some(preg),
-            Requirement::AnyPlace if self.prefers_register(inst_regs, request, preg) => Some(preg),
+            Requirement::AnyReg => granted(preg, true, false),
+            Requirement::AnyPlace => {
+                granted(preg, false, self.prefers_register(inst_regs, request, preg))
+            }
             _ => None,
         }
     }
@@ -424,20 +424,11 @@ impl<'a, A: Allocator> State<'a, A> {
         let awaited = self.places.current_alloc(vreg);
         let slot = self.slots.find_spillslot(vreg);
         self.places.set_alloc(vreg, Allocation::none());
+        let moves = def_moves(class, place, awaited, slot);
         let is_awaited = is_awaited(is_ret, awaited, place);
-        let to_awaited = PlaceMove {
-            class,
-            from: place,
-            to: awaited,
-        };
-        self.add_move_if(inst_regs, point, is_awaited, to_awaited)?;
+        self.add_move_if(inst_regs, point, is_awaited, moves.to_awaited)?;
         let is_stored = is_stored(is_ret, slot, place, awaited);
-        let to_slot = PlaceMove {
-            class,
-            from: place,
-            to: slot,
-        };
-        self.add_move_if(inst_regs, point, is_stored, to_slot)?;
+        self.add_move_if(inst_regs, point, is_stored, moves.to_slot)?;
         Ok(())
     }
 

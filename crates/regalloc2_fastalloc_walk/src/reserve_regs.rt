@@ -18,6 +18,7 @@ use super::state::State;
 use regalloc2_fastalloc_state::inst_regs::{InstRegs, Positions};
 use regalloc2_fastalloc_state::masks::Masks;
 use regalloc2_names::{Operand, OperandConstraint, PReg, PRegSet, ProgPoint, RegAllocError};
+use regalloc2_steps::clobbers::held_clobbers;
 use std::alloc::Allocator;
 
 /// The fixed registers of an instruction's operands so far, by position, and those that were poked.
@@ -376,7 +377,7 @@ impl<'a, A: Allocator> State<'a, A> {
             return Ok(());
         }
         let filled = self.places.filled();
-        let held = clobbers & filled;
+        let held = held_clobbers(clobbers, filled);
         for preg in held {
             self.evict_preg(inst_regs, point, preg)?;
         }

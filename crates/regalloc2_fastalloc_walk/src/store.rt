@@ -1,11 +1,12 @@
 //! A branch's definitions, stored at the beginning of the block that it leads to.
 
-ghost use Rattle.std.specs.Prelude.{◌≡◌, ◌+◌, ◌<◌, ◌⊎◌, All, length, map, None, Some, OnOk, IfOk, IfErr, slice_index_or};
+ghost use Rattle.std.specs.Prelude.{◌≡◌, ◌+◌, ◌<◌, ◌⊎◌, ◌||◌, ◌++◌, ◌∷◌, [], All, if◌then◌else◌, length, map, not, None, Some, OnOk, IfOk, IfErr, slice_index_or};
+ghost use Rattle.regalloc2_names.specs.Place.{is_no_place};
 ghost use Rattle.regalloc2_names.specs.Register.{class_code};
 ghost use Rattle.regalloc2_names.specs.Point.{before};
 ghost use Rattle.regalloc2_function.specs.FunctionValue.{block_at};
 ghost use Rattle.regalloc2_function.specs.FunctionValue.{op_at};
-ghost use Rattle.regalloc2_fastalloc_state.specs.StateParts.{AllAtOrAfter, NoneIsFrom};
+ghost use Rattle.regalloc2_fastalloc_state.specs.StateParts.{AllAtOrAfter, NoneIsFrom, slot_name};
 ghost use Rattle.regalloc2_fastalloc_proofs.specs.InstSteps.{MayHold};
 ghost use Rattle.regalloc2_fastalloc_proofs.specs.StoreSteps.{StoreBranchDefs};
 ghost use Rattle.regalloc2_fastalloc_walk.specs.BranchStores.{FindsDefined, FindsStore, FindsStores, ListsGiven, ListsParams, PushStore, PushStores};
@@ -13,7 +14,6 @@ ghost use Rattle.regalloc2_fastalloc_walk.specs.BranchStores.{ListsStores, own_s
 ghost use Rattle.regalloc2_fastalloc_walk.specs.BeforeSteps.{IsBeforeListing, IsBeforeStores};
 ghost use Rattle.regalloc2_fastalloc_walk.specs.StateView.{IsStepAt, MakesSlots, tables_of, ComesTo};
 
-use super::operand::PlaceMove;
 use super::state::State;
 use regalloc2_analysis::branch_defs::{BranchDefs, EdgeInto, fixed_definition};
 use regalloc2_function::Function;
@@ -21,6 +21,8 @@ use regalloc2_index::Block;
 use regalloc2_names::{
     Allocation, Operand, PReg, PRegSet, ProgPoint, RegAllocError, RegClass, VReg,
 };
+use regalloc2_steps::moved::{PlaceMove, by_way_of};
+use regalloc2_steps::stores::{is_stored, stack_in_turn};
 use std::alloc::Allocator;
 
 /// A value that a block's beginning stores: that of an operand of the branch, to the slot of a vreg.
@@ -32,25 +34,48 @@ struct StoredDef {
     to: VReg,
 }
 
-/// The values of operands that go to the slots of their own vregs.
-fn own_stores<A: Allocator + Copy>(
-    alloc: A,
-    operands: &[Operand],
-    stored: &[usize],
-) -> Result<Vec<StoredDef, A>, RegAllocError>
-    requires { All (λ j. j < length operands.now) stored.now }
-    ensures ok { IfOk result (λ v. v.items ≡ map (own_store operands.now) stored.now) }
-    ensures err { IfErr result (λ e. e ≡ RegAllocError.Memory) }
-{
-    let mut stores = Vec::new(alloc);
-    for index in stored {
-        let to = operands[*index].vreg();
-        stores.push(StoredDef { index: *index, to })?;
-    }
-    Ok(stores)
-}
-
 impl<'a, A: Allocator> State<'a, A> {
+    /// Lists a value of an operand for the slot of a vreg, its own or a parameter, if it is stored there.
+    fn list_store<B: Allocator>(
+        &self,
+        stores: &mut Vec<StoredDef, B>,
+        is_own: bool,
+        index: usize,
+        to: VReg,
+    ) -> Result<(), RegAllocError>
+        requires { to.number < length self.now.slots.vreg_spillslots }
+        ensures ok { OnOk result (stores.new.items ≡ (if is_own || not (is_no_place (slot_name self.now.slots to.number))
+            then stores.old.items ++ record { index = index; to = to } ∷ [] else stores.old.items)) }
+        ensures err { IfErr result (λ e. e ≡ RegAllocError.Memory) }
+    {
+        let has_slot = self.slots.find_spillslot(to).is_some();
+        if !is_stored(is_own, has_slot) {
+            return Ok(());
+        }
+        stores.push(StoredDef { index, to })?;
+        Ok(())
+    }
+
+    /// The values of operands that go to the slots of their own vregs.
+    fn own_stores<'b, B: Allocator>(
+        &self,
+        alloc: &'b B,
+        operands: &[Operand],
+        stored: &[usize],
+    ) -> Result<Vec<StoredDef, &'b B>, RegAllocError>
+        requires inside { All (λ j. j < length operands.now) stored.now }
+        requires known { All (λ j. (op_at operands.now j).vreg.number < length self.now.slots.vreg_spillslots) stored.now }
+        ensures ok { IfOk result (λ v. v.items ≡ map (own_store operands.now) stored.now) }
+        ensures err { IfErr result (λ e. e ≡ RegAllocError.Memory) }
+    {
+        let mut stores = Vec::new(alloc);
+        for index in stored {
+            let to = operands[*index].vreg();
+            self.list_store(&mut stores, true, *index, to)?;
+        }
+        Ok(stores)
+    }
+
     /// Lists the value that a parameter is given, if the branch of the edge defines it, and
     /// something uses the parameter.
     fn list_given<B: Allocator, C: Allocator>(
@@ -68,11 +93,10 @@ impl<'a, A: Allocator> State<'a, A> {
         let Some(site) = defs.site(argument) else {
             return Ok(());
         };
-        if site.branch != edge.branch || self.slots.find_spillslot(param).is_none() {
+        if site.branch != edge.branch {
             return Ok(());
         }
-        let index = site.index;
-        stores.push(StoredDef { index, to: param })?;
+        self.list_store(stores, false, site.index, param)?;
         Ok(())
     }
 
@@ -111,7 +135,8 @@ impl<'a, A: Allocator> State<'a, A> {
         ensures ok { IfOk result (λ v. ListsStores (F.function f.now) edge.now.from edge.now.position self.now.slots v.items) }
         ensures err { IfErr result (λ e. e ≡ RegAllocError.Memory) }
     {
-        let mut stores = own_stores(alloc, f.inst_operands(edge.branch), defs.stored_on(edge))?;
+        let operands = f.inst_operands(edge.branch);
+        let mut stores = self.own_stores(alloc, operands, defs.stored_on(edge))?;
         let params = f.block_params(f.block_succs(edge.from)[edge.position]);
         let arguments = f.branch_blockparams(edge.from, edge.branch, edge.position);
         self.list_params(&mut stores, defs, edge, params, arguments)?;
@@ -207,8 +232,9 @@ impl<'a, A: Allocator> State<'a, A> {
             return Ok(());
         }
         let by = Allocation::reg(self.store_scratch(m.class, held)?);
-        self.edits.push(point, by, m.to)?;
-        self.edits.push(point, m.from, by)?;
+        let (first, then) = by_way_of(by, m.from, m.to);
+        self.edits.push(point, then.0, then.1)?;
+        self.edits.push(point, first.0, first.1)?;
         Ok(())
     }
 
@@ -257,9 +283,10 @@ impl<'a, A: Allocator> State<'a, A> {
         let moves = self.store_moves(alloc, f.inst_operands(edge.branch), &stores)?;
         // its contract says that each slot has one owner
         let _count = self.slots.num_units();
-        let point = ProgPoint::before(f.block_insns(block).first());
-        self.push_stores(point, edge.held, true, &moves)?;
-        self.push_stores(point, edge.held, false, &moves)?;
+        let point = edge.store_point(f.block_insns(block).first());
+        let (first, then) = stack_in_turn();
+        self.push_stores(point, edge.held, first, &moves)?;
+        self.push_stores(point, edge.held, then, &moves)?;
         Ok(())
     }
 }

@@ -27,7 +27,7 @@ ghost use Rattle.regalloc2_parts.specs.declared.moves.order.State.TheVariants.{T
 
 use super::{MoveFault, MoveVec, MoveVecWithScratch};
 use regalloc2_names::Allocation;
-use regalloc2_steps::cycle::opened;
+use regalloc2_steps::cycle::{are_free, opened};
 use smallvec::SmallVec;
 use std::alloc::{AllocError, Allocator};
 
@@ -35,7 +35,7 @@ use std::alloc::{AllocError, Allocator};
 pub(super) type Indexes<'a, A> = SmallVec<usize, 16, &'a A>;
 
 /// The state of a move.
-#[derive(Clone, Copy, Debug, Default, PartialEq, Eq)]
+#[derive(Clone, Copy, Default)]
 pub(super) enum State {
     /// On no chain yet.
     #[default]
@@ -308,14 +308,6 @@ fn turn_round<T: Copy + Default, A: Allocator + Copy>(moves: &mut MoveVec<T, A>)
     ensures { moves.new.items ≡ reverse moves.old.items }
 {
     moves.as_mut_slice().reverse();
-}
-
-/// Whether no move reads what another writes.
-fn are_free(nexts: &[usize]) -> bool
-    ensures { IsTrue result ↔ EachIndex nexts.now (λ k. length nexts.now ≤ slice_index nexts.now k) }
-{
-    let end = nexts.len();
-    nexts.iter().all(|next| *next >= end)
 }
 
 /// The moves, ordered so that they can be made one after another as if in parallel.

@@ -37,7 +37,7 @@ where
 const MIN_CAPACITY: usize = 17;
 
 /// A place that the closures returned.
-#[derive(Clone, Copy, Debug, PartialEq, Eq)]
+#[derive(Clone, Copy)]
 enum Handed {
     Register(Allocation),
     Slot(Allocation),

@@ -1,8 +1,8 @@
-use Rattle.std.proofs.Common.{ℕ, ◌≡◌, Bool, false, List, refl, sym, ◌∙◌, ap, rules}
+use Rattle.std.proofs.Common.{ℕ, ◌≡◌, ◌++◌, ◌∷◌, [], Bool, false, List, refl, sym, ◌∙◌, ap, rules}
 use Rattle.std.specs.Prelude.{◌&&◌}
 use Rattle.std.proofs.lemmas.Result.{err_from_is_err_and}
 use Rattle.std.proofs.lemmas.Bool.{and_from, and_left, and_right}
-use Rattle.regalloc2_names.specs.Place.{InRegister}
+use Rattle.regalloc2_names.specs.Place.{Place, InRegister}
 use Rattle.regalloc2_function.specs.OutputValue.{MoveValue}
 use Rattle.regalloc2_fastalloc_proofs.specs.InstSteps.{StateValue, is_stack_in, direct, through, no_scratch}
 use Rattle.regalloc2_fastalloc_walk.specs.StateView.{tables_of}
@@ -21,7 +21,10 @@ returns-then-is_stack-2-clause-outcome g c =
     c.in_ok-alloc_scratch_reg.ensures.outcome
     (ap (λ (es : List (ℕ × MoveValue)). record m { edits = es })
     (two_pushed c.args.point c.reg-by.result (InRegister by) c.args.from c.args.to m.edits c.push.new.self c.push-then-is_stack-2.new.self c.reg-by.ensures
-    c.in_ok-push.ensures.ok c.in_ok-push-2.ensures.ok))
+    (c.in_ok-push.ensures.ok ∙ ap (λ (w : (Place × Place) × (Place × Place)). m.edits ++ (c.args.point, record { from = w.1.0; to = w.1.1 }) ∷ [])
+    c.by_way_of-first.ensures)
+    (c.in_ok-push-2.ensures.ok
+    ∙ ap (λ (w : (Place × Place) × (Place × Place)). c.push.new.self ++ (c.args.point, record { from = w.0.0; to = w.0.1 }) ∷ []) c.by_way_of-first.ensures)))
 
 pub returns-in_err-alloc_scratch_reg-clause-outcome : goal.returns-in_err-alloc_scratch_reg-clause-outcome
 returns-in_err-alloc_scratch_reg-clause-outcome g c =

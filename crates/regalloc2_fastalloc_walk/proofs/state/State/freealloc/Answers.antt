@@ -2,6 +2,7 @@ use Rattle.std.proofs.Common.{Bool, refl, sym, subst, ◌∙◌, arith, rules, �
 use Rattle.std.specs.Prelude.{not, ◌&&◌}
 use Rattle.regalloc2_names.specs.declared.RegClass.{RegClass}
 use Rattle.regalloc2_names.specs.Place.{Place, is_place, NoPlace, InRegister}
+use Rattle.regalloc2_steps.specs.declared.moved.PlaceMove.{PlaceMove}
 use Rattle.regalloc2_fastalloc_state.specs.StateParts.{SetsAlloc, alloc_of, slot_name, VRegAllocsValue}
 use Rattle.regalloc2_fastalloc_proofs.specs.InstSteps.{StateValue, AddsMoveIf, is_another, AddMoveIf, no_register, to_awaited, to_slot, SameMachine}
 use Rattle.std.proofs.lemmas.Result.{err_from_is_err_and}
@@ -20,7 +21,8 @@ returns-clause-outcome g c =
     let awaited : Place = alloc_of t.places c.args.vreg.number in
     let A : RegClass → Bool → Place → Type 0 = λ k b q. AddsMoveIf c.args.point k b p q c.args.inst_regs.now c.add_move_if.new.inst_regs left middle in
     let a1 : A c.args.vreg.class c.is_awaited-is_awaited.result c.current_alloc-awaited.result = subst (λ (k : RegClass). A k c.is_awaited-is_awaited.result
-    c.current_alloc-awaited.result) c.class-class.ensures c.in_ok-add_move_if.ensures.outcome in
+    c.current_alloc-awaited.result) c.class-class.ensures (subst (λ (v : PlaceMove). AddsMoveIf c.args.point v.class c.is_awaited-is_awaited.result v.from v.to c.args.inst_regs.now c.add_move_if.new.inst_regs
+    left middle) c.def_moves-moves.ensures.awaited c.in_ok-add_move_if.ensures.outcome) in
     let a2 : A c.args.vreg.class (not ret && is_another c.current_alloc-awaited.result p)
     c.current_alloc-awaited.result = subst (λ (b : Bool). A c.args.vreg.class b c.current_alloc-awaited.result) c.is_awaited-is_awaited.ensures a1 in
     let a3 : A c.args.vreg.class (not ret && is_another awaited p) awaited = subst (λ (q : Place). A c.args.vreg.class (not ret && is_another q p) q)
@@ -28,7 +30,8 @@ returns-clause-outcome g c =
     let S : RegClass → Bool → Place → Type 0 = λ k b q. AddsMoveIf c.args.point k b p q c.add_move_if.new.inst_regs c.add_move_if-2.new.inst_regs middle
     (tables_of c.add_move_if-2.new.self) in
     let s1 : S c.args.vreg.class c.is_stored-is_stored.result c.find_spillslot-slot.result = subst (λ (k : RegClass). S k c.is_stored-is_stored.result
-    c.find_spillslot-slot.result) c.class-class.ensures c.in_ok-add_move_if-2.ensures.outcome in
+    c.find_spillslot-slot.result) c.class-class.ensures (subst (λ (v : PlaceMove). AddsMoveIf c.args.point v.class c.is_stored-is_stored.result v.from v.to c.add_move_if.new.inst_regs
+    c.add_move_if-2.new.inst_regs middle (tables_of c.add_move_if-2.new.self)) c.def_moves-moves.ensures.slot c.in_ok-add_move_if-2.ensures.outcome) in
     let s2 = subst (λ (b : Bool). S c.args.vreg.class b c.find_spillslot-slot.result) c.is_stored-is_stored.ensures s1 in
     let s3 = subst (λ (q : Place). S c.args.vreg.class (not ret && (is_another q p && not (is_place q c.current_alloc-awaited.result))) q)
     c.find_spillslot-slot.ensures.slot s2 in
@@ -57,7 +60,8 @@ returns-in_err-add_move_if-clause-outcome g c =
     let A : RegClass → Bool → Place → Type 0 = λ k b q. AddMoveIf c.args.point k b p q c.args.inst_regs.now left no_register in
     let e = err_from_is_err_and c.from_residual.result c.from_residual.ensures.1 in
     rw e.1 (λ same.
-    let a0 = c.in_err-add_move_if.ensures.outcome (sym e.2 ∙ same) in
+    let a0 = subst (λ (v : PlaceMove). AddMoveIf c.args.point v.class c.is_awaited-is_awaited.result v.from v.to c.args.inst_regs.now left no_register)
+    c.def_moves-moves.ensures.awaited (c.in_err-add_move_if.ensures.outcome (sym e.2 ∙ same)) in
     let a1 = subst (λ (k : RegClass). A k c.is_awaited-is_awaited.result c.current_alloc-awaited.result) c.class-class.ensures a0 in
     let a2 = subst (λ (b : Bool). A c.args.vreg.class b c.current_alloc-awaited.result) c.is_awaited-is_awaited.ensures a1 in
     let a3 = subst (λ (q : Place). A c.args.vreg.class (not ret && is_another q p) q) c.current_alloc-awaited.ensures.place a2 in
@@ -73,14 +77,16 @@ returns-in_err-add_move_if-2-clause-outcome g c =
     let ret : Bool = c.args.is_ret in
     let A : RegClass → Bool → Place → Type 0 = λ k b q. AddsMoveIf c.args.point k b p q c.args.inst_regs.now c.add_move_if.new.inst_regs left middle in
     let a1 = subst (λ (k : RegClass). A k c.is_awaited-is_awaited.result c.current_alloc-awaited.result) c.class-class.ensures
-    c.in_ok-add_move_if.ensures.outcome in
+    (subst (λ (v : PlaceMove). AddsMoveIf c.args.point v.class c.is_awaited-is_awaited.result v.from v.to c.args.inst_regs.now c.add_move_if.new.inst_regs
+    left middle) c.def_moves-moves.ensures.awaited c.in_ok-add_move_if.ensures.outcome) in
     let a2 = subst (λ (b : Bool). A c.args.vreg.class b c.current_alloc-awaited.result) c.is_awaited-is_awaited.ensures a1 in
     let a3 = subst (λ (q : Place). A c.args.vreg.class (not ret && is_another q p) q) c.current_alloc-awaited.ensures.place a2 in
     let S : RegClass → Bool → Place → Type 0 = λ k b q. AddMoveIf c.args.point k b p q c.add_move_if.new.inst_regs middle no_register in
     let s : Place = slot_name t.slots c.args.vreg.number in
     let e = err_from_is_err_and c.from_residual-in_err-add_move_if-2.result c.from_residual-in_err-add_move_if-2.ensures.1 in
     rw e.1 (λ same.
-    let s0 = c.in_err-add_move_if-2.ensures.outcome (sym e.2 ∙ same) in
+    let s0 = subst (λ (v : PlaceMove). AddMoveIf c.args.point v.class c.is_stored-is_stored.result v.from v.to c.add_move_if.new.inst_regs middle no_register)
+    c.def_moves-moves.ensures.slot (c.in_err-add_move_if-2.ensures.outcome (sym e.2 ∙ same)) in
     let s1 = subst (λ (k : RegClass). S k c.is_stored-is_stored.result c.find_spillslot-slot.result) c.class-class.ensures s0 in
     let s2 = subst (λ (b : Bool). S c.args.vreg.class b c.find_spillslot-slot.result) c.is_stored-is_stored.ensures s1 in
     let s3 = subst (λ (q : Place). S c.args.vreg.class (not ret && (is_another q p && not (is_place q c.current_alloc-awaited.result))) q)

@@ -1,17 +1,19 @@
-use Rattle.std.proofs.Common.{ℕ, ◌≡◌, ◌<◌, List, length, map, refl, sym, ap, ◌∙◌, subst, rules, slice_index, slice_index_or, arith}
+use Rattle.std.proofs.Common.{ℕ, ◌≡◌, ◌<◌, List, inl, length, map, refl, sym, ap, ◌∙◌, subst, rules, slice_index, slice_index_or, arith}
 use Rattle.std.specs.Prelude.{All, Contains, Err}
 use Rattle.std.proofs.lemmas.List.{get_or_read}
 use Rattle.std.proofs.lemmas.List.Elements.{Contains-get_or}
 use Rattle.std.proofs.lemmas.Result.{err_from_is_err_and}
 use Rattle.regalloc2_names.specs.Operand.{OperandValue}
 use Rattle.regalloc2_names.specs.Register.{VirtualRegister}
-use Rattle.regalloc2_function.specs.FunctionValue.{FunctionValue, block_at, inst_at}
+use Rattle.regalloc2_function.specs.FunctionValue.{FunctionValue, block_at, inst_at, op_at}
 use Rattle.regalloc2_function.specs.SourceRun.{arguments_at}
 use Rattle.regalloc2_semantics.specs.Blocks.{target_at}
 use Rattle.regalloc2_semantics.proofs.Soundness.{well_formed_are_sound}
-use Rattle.regalloc2_analysis.specs.BranchDefs.BranchDefs.{AreStoredOperands}
+use Rattle.regalloc2_analysis.specs.BranchDefs.BranchDefs.{AreStoredOperands, DefinesNumber, IsStoredOperand}
 use Rattle.regalloc2_fastalloc_proofs.specs.StoreSteps.{branch_operands}
-use Rattle.regalloc2_fastalloc_proofs.proofs.Safety.StateKept.{params_known}
+use Rattle.regalloc2_analysis.proofs.BranchDefsLemmas.EdgeNotes.{fixed_defines}
+use Rattle.regalloc2_fastalloc_proofs.proofs.Safety.StateKept.{made_below, params_known}
+use Rattle.regalloc2_fastalloc_proofs.proofs.Safety.StoredDefs.{concerned_made}
 use Rattle.regalloc2_fastalloc_walk.specs.BranchStores.{ListsParams, own_store}
 use Rattle.regalloc2_fastalloc_walk.specs.declared.store.StoredDef.{StoredDef}
 use Rattle.regalloc2_fastalloc_walk.proofs.StoresListed.{lists_permuted, lists_stores}
@@ -19,13 +21,35 @@ use Rattle.regalloc2_analysis.proofs.BranchDefsLemmas.BlockEnds.{last_within}
 use Rattle.regalloc2_fastalloc_walk.proofs.state.State.list_stores.Goals as goal
 
 pub own_stores-requires : goal.own_stores-requires
-own_stores-requires g c = λ k d lt.
+own_stores-requires g c =
     let f : FunctionValue = g.F.Function.function c.args.f.now in
+    let n : ℕ = length c.args.self.now.slots.vreg_spillslots in
     let ie = c.requires.edge.1 in
-    let x : ℕ = slice_index_or c.stored_on.result.now k d in
-    let has : Contains c.stored_on.result.now x = Contains-get_or c.stored_on.result.now k d lt in
-    let is = (ie.stored.members x).0 (subst (λ (l : List ℕ). Contains l x) c.stored_on.ensures has) in
-    subst (λ (ops : List OperandValue). x < length ops) (sym c.inst_operands.ensures) is.operand
+    let e : ℕ = c.args.edge.now.from in
+    let ks : List ℕ = c.stored_on.result.now in
+    let ops : c.inst_operands-operands.result.now ≡ branch_operands f e = c.inst_operands-operands.ensures
+    ∙ ap (λ (m : ℕ). (inst_at f m).operands) ie.branch in
+    let one : (k : ℕ) (d : ℕ) → k < length ks → IsStoredOperand f (branch_operands f e) (slice_index_or ks k d) = λ k d lt.
+    let x : ℕ = slice_index_or ks k d in
+    let has : Contains ks x = Contains-get_or ks k d lt in
+    subst (λ (m : ℕ). IsStoredOperand f (inst_at f m).operands x) ie.branch
+    ((ie.stored.members x).0 (subst (λ (l : List ℕ). Contains l x) c.stored_on.ensures has)) in
+    let defines : (x : ℕ) → IsStoredOperand f (branch_operands f e) x →
+    DefinesNumber (branch_operands f e) (op_at (branch_operands f e) x).vreg.number x = λ x is. record {
+      operand = is.operand;
+      definition = fixed_defines (op_at (branch_operands f e) x) is.fixed;
+      number = refl;
+    } in
+    let known : (x : ℕ) → IsStoredOperand f (branch_operands f e) x → (op_at (branch_operands f e) x).vreg.number < n = λ x is.
+    made_below f n c.requires.room (op_at (branch_operands f e) x).vreg
+    (concerned_made f c.requires.well_formed.1.successors c.requires.well_formed.1.follow c.requires.edge.0 e c.args.edge.now.position
+    (op_at (branch_operands f e) x).vreg ie.edge (inl (x, defines x is, refl))) in (
+      search rules,
+      (
+        λ k d lt. subst (λ (l : List OperandValue). slice_index_or ks k d < length l) (sym ops) (one k d lt).operand,
+        λ k d lt. subst (λ (l : List OperandValue). (op_at l (slice_index_or ks k d)).vreg.number < n) (sym ops) (known (slice_index_or ks k d) (one k d lt)),
+      ),
+    )
 
 pub list_params-requires : goal.list_params-requires
 list_params-requires g c =
@@ -61,7 +85,7 @@ returns-clause-ok g c =
     n).params) read in
     let xs : c.branch_blockparams-arguments.result.now ≡ arguments_at f e k = c.branch_blockparams-arguments.ensures in
     let ks : List ℕ = c.stored_on.result.now in
-    let ops : c.inst_operands.result.now ≡ branch_operands f e = c.inst_operands.ensures ∙ ap (λ (n : ℕ). (inst_at f n).operands) ie.branch in
+    let ops : c.inst_operands-operands.result.now ≡ branch_operands f e = c.inst_operands-operands.ensures ∙ ap (λ (n : ℕ). (inst_at f n).operands) ie.branch in
     let stored : AreStoredOperands f (branch_operands f e) ks = subst (λ (n : ℕ). AreStoredOperands f (inst_at f n).operands ks) ie.branch
     (subst (λ (l : List ℕ). AreStoredOperands f (inst_at f c.args.edge.now.branch).operands l) (sym c.stored_on.ensures) ie.stored) in
     let own : c.in_ok-stores.stores.items ≡ map (own_store (branch_operands f e)) ks = c.in_ok-stores.ensures.ok
@@ -94,8 +118,8 @@ returns-in_err-list_params-clause-err g c =
     let p = err_from_is_err_and c.from_residual-in_err-list_params.result c.from_residual-in_err-list_params.ensures.1 in
     rw (p.1 ∙ ap Err (p.2 ∙ c.in_err-list_params.ensures.err)) refl
 
-pub inst_operands-requires : goal.inst_operands-requires
-inst_operands-requires g c =
+pub inst_operands-operands-requires : goal.inst_operands-operands-requires
+inst_operands-operands-requires g c =
     let f : FunctionValue = g.F.Function.function c.args.f.now in
     let ie = c.requires.edge.1 in
     subst (λ (n : ℕ). n < length f.insts) (sym ie.branch) (last_within f c.requires.well_formed c.args.edge.now.from ie.edge.block)

@@ -33,7 +33,7 @@ returns-then-passes_nothing-clause-step g c = record {
 pub push_gathered-requires : goal.push_gathered-requires
 push_gathered-requires g c =
     let f = g.F.Function.function c.args.cx.now.f.now in
-    let at : c.before-point.result ≡ before c.args.inst = c.before-point.ensures.point (λ e. omega (arith, c.requires.gathering.inst)) in
+    let at : c.passing_point-point.result ≡ before c.args.inst = c.passing_point-point.ensures in
     let old : StateValue = tables_of c.args.self.now in
     let m : StateValue = tables_of c.gather.new.self in
     let x = c.in_ok-moves.ensures.outcome in
@@ -56,11 +56,11 @@ push_gathered-requires g c =
 
 pub returns-clause-outcome : goal.returns-clause-outcome
 returns-clause-outcome g c =
-    let at : c.before-point.result ≡ before c.args.inst = c.before-point.ensures.point (λ e. omega (arith, c.requires.gathering.inst)) in
+    let at : c.passing_point-point.result ≡ before c.args.inst = c.passing_point-point.ensures in
     let m : StateValue = tables_of c.gather.new.self in
     let x = c.in_ok-moves.ensures.outcome in
     let u = c.gather.new.inst_regs in
-    let p : ℕ = c.before-point.result in
+    let p : ℕ = c.passing_point-point.result in
     let y = c.in_ok-push_gathered.ensures.outcome in
     record {
       given = x.0;
@@ -76,11 +76,11 @@ returns-clause-outcome g c =
 
 pub returns-clause-step : goal.returns-clause-step
 returns-clause-step g c =
-    let at : c.before-point.result ≡ before c.args.inst = c.before-point.ensures.point (λ e. omega (arith, c.requires.gathering.inst)) in
+    let at : c.passing_point-point.result ≡ before c.args.inst = c.passing_point-point.ensures in
     let old : StateValue = tables_of c.args.self.now in
     let b : StateValue = tables_of c.gather.new.self in
     let u = c.gather.new.inst_regs in
-    let p : ℕ = c.before-point.result in
+    let p : ℕ = c.passing_point-point.result in
     let y = c.in_ok-push_gathered.ensures.outcome in
     record {
       machine = lends_then 0 6 6 old b (tables_of c.push_gathered.new.self) (omega arith) (lends_none old b c.gather.ensures.step.machine)

@@ -5,7 +5,7 @@ use Rattle.regalloc2_names.specs.Place.{is_memory}
 use Rattle.regalloc2_fastalloc_proofs.specs.InstSteps.{StateValue}
 use Rattle.regalloc2_fastalloc_walk.specs.BranchStores.{IsMadeOf, PushesStores}
 use Rattle.regalloc2_fastalloc_walk.specs.StateView.{tables_of}
-use Rattle.regalloc2_fastalloc_walk.specs.declared.operand.PlaceMove.{PlaceMove}
+use Rattle.regalloc2_steps.specs.declared.moved.PlaceMove.{PlaceMove}
 use Rattle.regalloc2_fastalloc_walk.proofs.StoresPushed.{pushes_none, pushes_over, pushes_one, kind_there, other_kind}
 use Rattle.regalloc2_fastalloc_walk.proofs.state.State.push_stores.Goals as goal
 

@@ -1,4 +1,4 @@
-use Rattle.std.proofs.Common.{ℕ, ◌≡◌, ◌<◌, List, true, false, inl, length, refl, sym, ap, ◌∙◌, subst, arith, rules}
+use Rattle.std.proofs.Common.{Bool, ℕ, ◌≡◌, ◌<◌, List, true, false, inl, length, refl, sym, ap, ◌∙◌, subst, arith, rules}
 use Rattle.std.specs.Prelude.{All, Contains, Ok}
 use Rattle.std.proofs.lemmas.List.Elements.{All-weaker}
 use Rattle.std.proofs.lemmas.Result.{err_from_is_err_and}
@@ -21,7 +21,7 @@ use Rattle.regalloc2_fastalloc_proofs.proofs.Safety.StoredDefs.{concerned_made}
 use Rattle.regalloc2_fastalloc_proofs.proofs.Safety.StoresKeepSafe.{stored_concerned, stored_defines}
 use Rattle.regalloc2_fastalloc_walk.specs.BranchStores.{FindsStores, LacksStoreReg, PushesStores}
 use Rattle.regalloc2_fastalloc_walk.specs.StateView.{IsStepAt, tables_of}
-use Rattle.regalloc2_fastalloc_walk.specs.declared.operand.PlaceMove.{PlaceMove}
+use Rattle.regalloc2_steps.specs.declared.moved.PlaceMove.{PlaceMove}
 use Rattle.regalloc2_fastalloc_walk.specs.declared.store.StoredDef.{StoredDef}
 use Rattle.regalloc2_fastalloc_walk.proofs.Steps.{step_then, step_then_fails, fails_with}
 use Rattle.regalloc2_fastalloc_walk.proofs.StoresOnEdge.{edge_stores, stores_on, stores_lack}
@@ -90,8 +90,8 @@ first-requires g c =
     let some = (c.requires.well_formed.1.follow c.args.block c.requires.block).0 in
     subst (λ (r : Span). r.first < r.end) (sym c.block_insns.ensures) some
 
-pub before-point-requires : goal.before-point-requires
-before-point-requires g c = λ valid.
+pub store_point-point-requires : goal.store_point-point-requires
+store_point-point-requires g c =
     let f : FunctionValue = g.F.Function.function c.args.f.now in
     let first : c.first.result ≡ (block_at f c.args.block).range.first = c.first.ensures ∙ ap (λ (r : Span). r.first) c.block_insns.ensures in
     let some = (c.requires.well_formed.1.follow c.args.block c.requires.block).0 in
@@ -105,14 +105,7 @@ push_stores-requires g c =
     let some = (c.requires.well_formed.1.follow c.args.block c.requires.block).0 in
     let within = end_within f c.requires.well_formed.1.follow c.args.block c.requires.block in
     let few = (g.met.F.Function.limited c.args.f.now).insts in
-    let at : c.before-point.result ≡ before (block_at f c.args.block).range.first = c.before-point.ensures.point (λ e. omega (
-      arith,
-      e,
-      first,
-      some,
-      within,
-      few,
-    ))
+    let at : c.store_point-point.result ≡ before (block_at f c.args.block).range.first = c.store_point-point.ensures
     ∙ ap before first in (
       search rules,
       subst (λ (p : ℕ). AllAtOrAfter p c.store_moves.new.self.edits) (sym at)
@@ -189,24 +182,18 @@ returns-clause-outcome g c =
     subst (λ (l : List OperandValue). FindsStores l ds old.slots (length ds) ms slots) ops
     (subst (λ (l : List StoredDef). FindsStores c.inst_operands.result.now l old.slots (length l) ms slots) c.deref.ensures.value c.in_ok-moves.ensures.ok) in
     let w : StateValue = tables_of c.push_stores-2.new.self in
-    let point : ℕ = c.before-point.result in
+    let point : ℕ = c.store_point-point.result in
     let tables : t ≡ record old { slots = slots } = c.store_moves.ensures.step.tables in
     let p : PushesStores point true ms (record old { slots = slots }) u = subst (λ (x : StateValue). PushesStores point true ms x u) tables
-    (subst (λ (l : List PlaceMove). PushesStores point true l t u) c.deref-2.ensures.value c.in_ok-push_stores.ensures.outcome) in
+    (subst (λ (l : List PlaceMove). PushesStores point true l t u) c.deref-2.ensures.value
+    (subst (λ (turn : Bool × Bool). PushesStores point turn.0 c.deref-2.result.now t u) c.stack_in_turn-first.ensures c.in_ok-push_stores.ensures.outcome)) in
     let q : PushesStores point false ms u w = subst (λ (l : List PlaceMove). PushesStores point false l u w) c.deref-3.ensures.value
-    c.in_ok-push_stores-2.ensures.outcome in
+    (subst (λ (turn : Bool × Bool). PushesStores point turn.1 c.deref-3.result.now u w) c.stack_in_turn-first.ensures c.in_ok-push_stores-2.ensures.outcome) in
     let first : c.first.result ≡ (block_at f c.args.block).range.first = c.first.ensures ∙ ap (λ (r : Span). r.first) c.block_insns.ensures in
     let some = (c.requires.well_formed.1.follow c.args.block c.requires.block).0 in
     let within = end_within f c.requires.well_formed.1.follow c.args.block c.requires.block in
     let few = (g.met.F.Function.limited c.args.f.now).insts in
-    let at : c.before-point.result ≡ before (block_at f c.args.block).range.first = c.before-point.ensures.point (λ v. omega (
-      arith,
-      v,
-      first,
-      some,
-      within,
-      few,
-    ))
+    let at : c.store_point-point.result ≡ before (block_at f c.args.block).range.first = c.store_point-point.ensures
     ∙ ap before first in
     all_stored e c.in-Some.edge.position ie.edge (subst (λ (n : ℕ). StoresOn f e c.in-Some.edge.position n old w) at
     (stores_on (edge_stores f c.requires.well_formed c.args.block e c.in-Some.edge.position ie.edge old c.requires.apart ds c.in_ok-stores.ensures.ok
@@ -223,16 +210,9 @@ returns-clause-step g c =
     let some = (c.requires.well_formed.1.follow c.args.block c.requires.block).0 in
     let within = end_within f c.requires.well_formed.1.follow c.args.block c.requires.block in
     let few = (g.met.F.Function.limited c.args.f.now).insts in
-    let at : c.before-point.result ≡ before (block_at f c.args.block).range.first = c.before-point.ensures.point (λ v. omega (
-      arith,
-      v,
-      first,
-      some,
-      within,
-      few,
-    ))
+    let at : c.store_point-point.result ≡ before (block_at f c.args.block).range.first = c.store_point-point.ensures
     ∙ ap before first in
-    let begun : IsStepAt {T = Unit {0}} c.before-point.result (Ok tt) c.args.self.now c.push_stores.new.self = record {
+    let begun : IsStepAt {T = Unit {0}} c.store_point-point.result (Ok tt) c.args.self.now c.push_stores.new.self = record {
       machine = same_then old t u c.store_moves.ensures.step.machine c.in_ok-push_stores.ensures.step.machine;
       later = c.in_ok-push_stores.ensures.step.later;
       long = c.in_ok-push_stores.ensures.step.long ∙ ap (λ (x : StateValue). length x.places.vreg_allocs) c.store_moves.ensures.step.tables;

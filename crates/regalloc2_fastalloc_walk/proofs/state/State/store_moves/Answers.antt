@@ -8,7 +8,7 @@ use Rattle.regalloc2_fastalloc_proofs.specs.InstSteps.{StateValue}
 use Rattle.regalloc2_fastalloc_proofs.proofs.Evictions.PushedAndRemoved.{same_then}
 use Rattle.regalloc2_fastalloc_walk.specs.BranchStores.{FindsStore, FindsStores, no_store, none_found, one_found}
 use Rattle.regalloc2_fastalloc_walk.specs.StateView.{tables_of}
-use Rattle.regalloc2_fastalloc_walk.specs.declared.operand.PlaceMove.{PlaceMove}
+use Rattle.regalloc2_steps.specs.declared.moved.PlaceMove.{PlaceMove}
 use Rattle.regalloc2_fastalloc_walk.specs.declared.store.StoredDef.{StoredDef}
 use Rattle.std.proofs.lemmas.Result.{err_from_is_err_and}
 use Rattle.regalloc2_fastalloc_walk.proofs.state.State.store_moves.Goals as goal
