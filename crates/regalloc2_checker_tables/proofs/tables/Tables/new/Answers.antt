@@ -8,13 +8,13 @@ pub invariant_of-result : goal.invariant_of-result
 invariant_of-result g c =
     let e = c.in_ok-places.ensures in
     let long = ap (λ (l : List ℕ). length l) e in
-    new-all c.in_ok-places.places c.args.vregs c.in_ok-entries.entries c.new-sets.result c.in_ok-homes.homes
+    new-all c.in_ok-places.places c.args.vregs c.in_ok-entries.entries c.new-3.result c.in_ok-homes.homes
     (subst IsStrictlyIncreasing (sym e) c.requires.places) c.requires.vregs
-    (omega (arith, c.in_ok-entries.ensures.long, c.len-2.ensures)) (omega (arith, long, c.len.ensures)) c.new-sets.ensures
+    (omega (arith, c.in_ok-entries.ensures.long, c.len-3.ensures)) (omega (arith, long, c.len.ensures)) c.new-3.ensures
     (let h = c.in_ok-homes.ensures in omega arith) c.in_ok-entries.ensures.cells c.in_ok-entries.ensures.saved
 
 pub returns-clause-now : goal.returns-clause-now
-returns-clause-now g c i y = ap (λ n. is_member c.new-sets.result n y) (c.in_ok-entries.ensures.cells i) ∙ c.new-sets.ensures.members y
+returns-clause-now g c i y = ap (λ n. is_member c.new-3.result n y) (c.in_ok-entries.ensures.cells i) ∙ c.new-3.ensures.members y
 
 pub returns-clause-tables : goal.returns-clause-tables
-returns-clause-tables g c k i y = ap (λ n. is_member c.new-sets.result n y) (c.in_ok-entries.ensures.saved k i) ∙ c.new-sets.ensures.members y
+returns-clause-tables g c k i y = ap (λ n. is_member c.new-3.result n y) (c.in_ok-entries.ensures.saved k i) ∙ c.new-3.ensures.members y
