@@ -105,16 +105,6 @@ cells-more cs k ns less e = ap (λ (l : List ℕ). l ++ option_to_list (get_or c
     one (Some x) = refl
 
 -- cells that were made without a number
-pub cells-made : (t n : ℕ) (before cs : List (Option ℕ)) → before ≡ [] → cs ≡ take t before ++ replicate n None → flat_map option_to_list cs ≡ []
-cells-made t n before cs none e = ap (flat_map option_to_list) (e ∙ ap (λ (l : List (Option ℕ)). take t l ++ replicate n None) none
-    ∙ ap (λ (l : List (Option ℕ)). l ++ replicate n None) (taken t)) ∙ alike (replicate n None)
-    (λ k less. get_or-replicate n k None None (omega (arith, less, length-replicate {A = Option ℕ} n None)))
-  where
-    taken : (m : ℕ) → take {A = Option ℕ} m [] ≡ []
-    taken zero = refl
-    taken (suc m) = refl
-
-    alike : (ds : List (Option ℕ)) → ((k : ℕ) → k < length ds → get_or ds k None ≡ None) → flat_map option_to_list ds ≡ []
-    alike [] h = refl
-    alike (d ∷ ds) h = flat_map-cons option_to_list d ds ∙ ap (λ (c : Option ℕ). option_to_list c ++ flat_map option_to_list ds) (h 0 (omega arith))
-        ∙ alike ds (λ k less. h (suc k) (omega (arith, less)))
+pub cells-made : (n : ℕ) → ◌≡◌ {A = List ℕ} (flat_map option_to_list (replicate {A = Option ℕ} n None)) []
+cells-made zero = refl
+cells-made (suc n) = flat_map-cons option_to_list None (replicate n None) ∙ cells-made n
