@@ -40,6 +40,14 @@ adds_same P Q xs ys to from h n u = (λ c. there ((h n u).0 c), λ c. back c)
     back (inl p) = (h n u).1 (inl p)
     back (inr q) = (h n u).1 (inr (from n u q))
 
+-- none are added before the first index
+pub adds_none : (R : ℕ → ℕ → ℕ → Type 0) (xs : List (ℕ × ℕ)) → AddsSlots (λ n u. (j : ℕ) × (j < 0) × R j n u) xs xs
+adds_none R xs n u = (λ h. inl h, λ h. back h)
+  where
+    back : Contains xs (n, u) ⊎ ((j : ℕ) × (j < 0) × R j n u) → Contains xs (n, u)
+    back (inl p) = p
+    back (inr (j, less, r)) = absurd (omega (arith, less))
+
 -- those of one index more
 pub adds_more : (R : ℕ → ℕ → ℕ → Type 0) (k : ℕ) (xs ys zs : List (ℕ × ℕ)) → AddsSlots (λ n u. (j : ℕ) × (j < k) × R j n u) xs ys →
     AddsSlots (λ n u. R k n u) ys zs → AddsSlots (λ n u. (j : ℕ) × (j < k + 1) × R j n u) xs zs

@@ -4,7 +4,7 @@ use Rattle.std.proofs.Common.{Option, None, Some, set, replicate}
 use Rattle.std.specs.Prelude.{◌↔◌, ◌⊎◌, Contains}
 use Rattle.std.specs.List.{flat_map}
 use Rattle.std.specs.Option.{option_to_list}
-use Rattle.std.proofs.lemmas.List.{append_assoc, take-append-drop, take-set, drop-set, drop_more, take_more, get_or-replicate, length-replicate}
+use Rattle.std.proofs.lemmas.List.{append_assoc, take-append-drop, take-set, drop-set, drop_more, take_more}
 use Rattle.std.proofs.lemmas.List.Concat.{get_or-flat_map, flat_map-cons}
 use Rattle.std.proofs.lemmas.List.Folds.{length-flat_map-take}
 use Rattle.std.proofs.lemmas.List.Elements.{Contains-append_left, Contains-append_right, Contains-append_cases, Contains-push, Contains-push_cases}

@@ -1,4 +1,4 @@
-use Rattle.std.proofs.Common.{◌<◌, length, arith, ℕ, ◌≡◌, ◌+◌, ◌∙◌, take, ap}
+use Rattle.std.proofs.Common.{◌<◌, length, arith, ◌+◌, ◌∙◌, ap}
 use Rattle.std.specs.Prelude.{if◌then◌else◌, nat_eq}
 use Rattle.std.proofs.lemmas.List.{take_all}
 use Rattle.regalloc2_function.specs.WellFormed.{times_in}

@@ -1,4 +1,4 @@
-use Rattle.std.proofs.Common.{ℕ, ◌≡◌, ◌<◌, ◌∙◌, get_or, length, refl, sym, ap, below_more, arith}
+use Rattle.std.proofs.Common.{◌≡◌, ◌∙◌, get_or, refl, sym, ap, below_more, arith}
 use Rattle.std.proofs.lemmas.Bool.{false≢true}
 use Rattle.std.proofs.lemmas.List.{get_or_default}
 use Rattle.regalloc2_shape.proofs.blocks.are_used_up.Goals as goal

@@ -1,4 +1,4 @@
-use Rattle.std.proofs.Common.{◌≡◌, get_or, arith, ℕ, ◌+◌, ◌∙◌, sym, ap, refl}
+use Rattle.std.proofs.Common.{◌≡◌, get_or, arith, ◌+◌, ◌∙◌, sym, ap, refl}
 use Rattle.std.proofs.lemmas.List.{get_or_past, take_all}
 use Rattle.regalloc2_shape.proofs.TimesInList.{too_many, counted_less}
 use Rattle.regalloc2_shape.proofs.blocks.count_out.Goals.{then-index-counts-via-then-index-counts, then-index-counts-via-else-index-counts+then-counts-index-eq0}

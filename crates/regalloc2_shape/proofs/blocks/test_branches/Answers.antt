@@ -1,4 +1,4 @@
-use Rattle.std.proofs.Common.{◌≡◌, ◌<◌, ◌≤◌, length, refl, ap, below_more, arith, ℕ, ◌∙◌, sym}
+use Rattle.std.proofs.Common.{◌≡◌, ◌<◌, ◌≤◌, length, refl, ap, below_more, arith, ◌∙◌, sym}
 use Rattle.regalloc2_names.specs.declared.RegAllocError.TheVariants.{DisallowedBranchArg}
 use Rattle.regalloc2_function.specs.FunctionValue.{FunctionValue, block_at}
 use Rattle.regalloc2_function.specs.WellFormed.{NoOperandsAt, last_of}

@@ -1,4 +1,4 @@
-use Rattle.std.proofs.Common.{◌+◌, ◌<◌, [], ◌∷◌, length, take, drop, refl, ap, arith, ℕ, sym, subst}
+use Rattle.std.proofs.Common.{◌+◌, ◌<◌, [], ◌∷◌, length, take, drop, refl, ap, arith}
 use Rattle.std.specs.Prelude.{All, flat_map}
 use Rattle.std.proofs.lemmas.List.Elements.{All-cons, All-nil, All-same, All-append}
 use Rattle.regalloc2_names.specs.declared.RegAllocError.TheVariants.{BB}

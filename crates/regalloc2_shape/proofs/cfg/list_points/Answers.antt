@@ -1,4 +1,4 @@
-use Rattle.std.proofs.Common.{◌≡◌, ◌≢◌, ◌-◌, ◌<◌, ◌∙◌, length, ap, arith, sym, take}
+use Rattle.std.proofs.Common.{◌≡◌, ◌≢◌, ◌-◌, ◌<◌, ◌∙◌, length, ap, arith, sym}
 use Rattle.regalloc2_names.specs.Point.{after, before, invalid_inst}
 use Rattle.regalloc2_function.specs.FunctionValue.{FunctionValue, block_at}
 use Rattle.regalloc2_function.specs.WellFormed.{last_of}
@@ -6,7 +6,6 @@ use Rattle.regalloc2_shape.specs.Tables.{entry_point, exit_point}
 use Rattle.regalloc2_function.specs.Following.{end_within}
 use Rattle.regalloc2_shape.proofs.BlockRanges.{block_is}
 use Rattle.regalloc2_shape.proofs.TablesByBlock.{points_more}
-use Rattle.std.specs.Prelude.{map}
 use Rattle.std.proofs.lemmas.Result.{err_from_is_err_and}
 use Rattle.regalloc2_shape.proofs.ListsInParts.{map_taken}
 use Rattle.regalloc2_shape.proofs.cfg.list_points.Goals as goal

@@ -1,4 +1,4 @@
-use Rattle.std.proofs.Common.{◌≡◌, ◌<◌, length, refl, ap, arith, below_more, ◌∙◌, ℕ, ◌≤◌, sym}
+use Rattle.std.proofs.Common.{◌≡◌, ◌<◌, length, refl, ap, arith, below_more, ◌∙◌, sym}
 use Rattle.regalloc2_names.specs.declared.RegAllocError.TheVariants.{Branch}
 use Rattle.regalloc2_function.specs.FunctionValue.{FunctionValue, block_at}
 use Rattle.regalloc2_function.specs.WellFormed.{ArgumentsFitAt, last_of}
