@@ -1,13 +1,13 @@
 //! Checks the blocks that a path reaches.
 
-ghost use Rattle.std.specs.Prelude.{◌≡◌, ◌<◌, ◌+◌, ◌-◌, ℕ, false, OnOk, IfOk, length};
+ghost use Rattle.std.specs.Prelude.{◌≡◌, ◌<◌, ◌+◌, OnOk, IfOk, length};
 ghost use Rattle.regalloc2_function.specs.Machine.{MachineValue};
 ghost use Rattle.regalloc2_function.specs.OutputValue.{OutputValue, IsInOrder};
 ghost use Rattle.regalloc2_function.specs.Views.{machine_of, output_of};
 ghost use Rattle.regalloc2_function.specs.WellFormed.{IsFramed};
 ghost use Rattle.regalloc2_checker_facts.specs.Blocks.{IsBlockJudged};
 ghost use Rattle.regalloc2_checker_facts.specs.CheckInputs.{AreStackSlots};
-ghost use Rattle.regalloc2_checker_tables.specs.Showing.{table_count, shows_in, AreTablesKept};
+ghost use Rattle.regalloc2_checker_tables.specs.Showing.{table_count, AreTablesKept};
 ghost use Rattle.regalloc2_checker_facts.specs.TableFacts.{facts_table, AreNamed};
 ghost use Rattle.regalloc2_checker_facts.specs.Report.{IsReport};
 ghost use Rattle.regalloc2_checker_facts.specs.Tables.{IsSolved, views};
@@ -18,7 +18,6 @@ use crate::sweep::is_clean;
 use regalloc2_checker_facts::errors::CheckerError;
 use regalloc2_checker_facts::handle::handle_listing;
 use regalloc2_checker_facts::listing::Listing;
-use regalloc2_checker_facts::names::{named_places, named_vregs};
 use regalloc2_checker_flow::check::{Judging, check_inst};
 use regalloc2_checker_flow::constraints::stack_slots;
 use regalloc2_checker_tables::PassingTables;
@@ -87,24 +86,6 @@ fn check_all<F: Function, A: Allocator + Copy>(
         check_block(&by, Block::new(b), values, &mut errors)?;
     }
     Ok(errors)
-}
-
-/// Empty tables, one for each block and one beside them, of the places and the vregs that are named.
-pub(crate) fn tables_of<F: Function, A: Allocator + Copy, C: Allocator>(
-    alloc: A,
-    f: &F,
-    out: &Output<C>,
-) -> Result<PassingTables<A>, AllocError>
-    requires framed { IsFramed (F.function f.now) }
-    requires in_order { IsInOrder (F.function f.now) (output_of out.now) }
-    ensures named { IfOk result (λ t. AreNamed (F.function f.now) (output_of out.now) t) }
-    ensures count { IfOk result (λ t. table_count t ≡ length (F.function f.now).blocks + 1) }
-    ensures empty { IfOk result (λ t. (k i y : ℕ) → shows_in t k i y ≡ false) }
-{
-    let places = named_places(alloc, f, out)?;
-    let vregs = named_vregs(alloc, f)?;
-    let tables = PassingTables::new(alloc, f.num_blocks() + 1, places, vregs)?;
-    Ok(tables)
 }
 
 /// The errors of an output.
