@@ -4,7 +4,6 @@ use Rattle.regalloc2_shape.specs.Numbers.{times_listed}
 use Rattle.regalloc2_checker_sets.specs.Held.{held}
 use Rattle.regalloc2_checker_sets.proofs.HomeLaws.{few-walked, few-ended}
 use Rattle.regalloc2_checker_tables.proofs.Holders.{still-same, still-then, dropped-none, dropped-more}
-use Rattle.std.proofs.lemmas.Result.{err_from_is_err_and}
 use Rattle.regalloc2_checker_tables.proofs.tables.drop_each.Goals as goal
 
 pub loop-place-init : goal.loop-place-init
@@ -44,6 +43,3 @@ pub returns-in_err-drop_at-clause-still : goal.returns-in_err-drop_at-clause-sti
 returns-in_err-drop_at-clause-still g c =
     still-then c.args.sets.now c.loop-place.sets c.drop_at.new.sets c.args.entries.now c.loop-place.entries c.drop_at.new.entries
     c.loop-place.invariant.still c.in_err-drop_at.ensures.still
-
-pub returns-in_err-drop_at-clause-ok : goal.returns-in_err-drop_at-clause-ok
-returns-in_err-drop_at-clause-ok g c = let p = err_from_is_err_and c.from_residual.result c.from_residual.ensures.1 in rw p.1 tt

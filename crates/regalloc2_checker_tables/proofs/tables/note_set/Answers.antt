@@ -7,7 +7,6 @@ use Rattle.regalloc2_checker_tables.proofs.Holders.{homes-same}
 use Rattle.regalloc2_checker_sets.proofs.Results.{on_ok_as, on_ok_of_both}
 use Rattle.regalloc2_checker_sets.proofs.TwoSets.{either_member}
 use Rattle.regalloc2_checker_tables.proofs.TableLaws.{listed-times}
-use Rattle.std.proofs.lemmas.Result.{err_from_is_err_and}
 use Rattle.regalloc2_checker_tables.proofs.tables.note_set.Goals as goal
 
 pub returns-then-set-eq0-clause-more : goal.returns-then-set-eq0-clause-more
@@ -39,21 +38,3 @@ returns-in-Some-two-clause-noted g c =
     on_ok_of_both _ _ _ c.note_two.result
     (λ first second y is. either_member (IsHome c.args.vregs.now c.note_two.new.homes c.args.place) c.in-Some-two.pair.0 c.in-Some-two.pair.1 y
     (sym (members y) ∙ is) first second) c.note_two.ensures.first c.note_two.ensures.second
-
-pub returns-in_err-members-clause-noted : goal.returns-in_err-members-clause-noted
-returns-in_err-members-clause-noted g c = let p = err_from_is_err_and c.from_residual.result c.from_residual.ensures.1 in rw p.1 tt
-
-pub returns-in-Some-clause-more : goal.returns-in-Some-clause-more
-returns-in-Some-clause-more g c = c.note.ensures.more
-
-pub returns-in-Some-two-clause-more : goal.returns-in-Some-two-clause-more
-returns-in-Some-two-clause-more g c = c.note_two.ensures.more
-
-pub returns-clause-more : goal.returns-clause-more
-returns-clause-more g c = c.note_all.ensures.more
-
-pub note-requires-clause-rising : goal.note-requires-clause-rising
-note-requires-clause-rising g c = c.requires.rising
-
-pub note-requires-clause-homes : goal.note-requires-clause-homes
-note-requires-clause-homes g c = c.requires.homes

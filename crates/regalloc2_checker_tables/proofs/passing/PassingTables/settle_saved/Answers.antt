@@ -2,11 +2,11 @@ use Rattle.std.proofs.Common.{ℕ, ◌≡◌, ◌<◌, length, get_or, arith, ap
 use Rattle.std.specs.Prelude.{if◌then◌else◌, slice_set, Option, None, Some}
 use Rattle.std.proofs.lemmas.List.{get_or-set_same, length-set}
 use Rattle.regalloc2_checker_tables.specs.Holding.{holds_now, holds_in}
-use Rattle.regalloc2_checker_tables.specs.Showing.{Showing, showing, read_as, table_count, shows_now, shows_in, ListsPassed, ShowsNow}
+use Rattle.regalloc2_checker_tables.specs.Showing.{Showing, showing, read_as, table_count, shows_now, shows_in, ListsPassed}
+use Rattle.regalloc2_checker_tables.specs.Showing.{ShowsNow}
 use Rattle.regalloc2_checker_tables.specs.declared.passing.Passed.{Passed}
 use Rattle.regalloc2_checker_sets.proofs.Bits.{read-is}
 use Rattle.regalloc2_checker_tables.proofs.Shown.{shown-after, shown-set, none-passed, inside-table, now-shown, settled-shown}
-use Rattle.std.proofs.lemmas.Result.{err_from_is_err_and}
 use Rattle.regalloc2_checker_tables.proofs.passing.PassingTables.settle_saved.Goals as goal
 
 pub returns-in_default-clause-none : goal.returns-in_default-clause-none
@@ -93,12 +93,3 @@ pub returns-clause-none : goal.returns-clause-none
 returns-clause-none g c =
     let l = inside-table c.args.self.now c.self.inside.tables c.self.inside.passed c.self.inside.saved.items c.args.table c.self.view_is c.requires in
     get_or-set_same c.self.inside.saved.items c.args.table None None l
-
-pub returns-in_err-settle_in-clause-now : goal.returns-in_err-settle_in-clause-now
-returns-in_err-settle_in-clause-now g c = let p = err_from_is_err_and c.from_residual.result c.from_residual.ensures.1 in rw p.1 tt
-
-pub returns-in_err-settle_in-clause-tables : goal.returns-in_err-settle_in-clause-tables
-returns-in_err-settle_in-clause-tables g c = let p = err_from_is_err_and c.from_residual.result c.from_residual.ensures.1 in rw p.1 tt
-
-pub returns-in_err-settle_in-clause-none : goal.returns-in_err-settle_in-clause-none
-returns-in_err-settle_in-clause-none g c = let p = err_from_is_err_and c.from_residual.result c.from_residual.ensures.1 in rw p.1 tt
