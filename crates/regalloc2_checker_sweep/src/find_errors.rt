@@ -88,6 +88,25 @@ fn check_all<F: Function, A: Allocator + Copy>(
     Ok(errors)
 }
 
+/// The errors of an output, from what holds at the blocks' beginnings.
+fn analyzed_errors<F: Function, A: Allocator + Copy, C: Allocator>(
+    alloc: A,
+    f: &F,
+    slots: PRegSet,
+    listing: &Listing<'_>,
+    out: &Output<C>,
+) -> Result<Vec<CheckerError<A>, A>, AllocError>
+    ghost o: { OutputValue }
+    requires listing { IsListing (F.function f.now) o listing.now }
+    requires framed { IsFramed (F.function f.now) }
+    requires output { output_of out.now ≡ o }
+    requires in_order { IsInOrder (F.function f.now) (output_of out.now) }
+    ensures { IfOk result (λ r. (env : MachineValue) → AreStackSlots env slots → IsReport (F.function f.now) env o r.items) }
+{
+    let mut state = analyze(alloc, f, listing, out)?;
+    check_all(alloc, f, slots, listing, &state.reached, &mut state.values)
+}
+
 /// The errors of an output.
 pub fn find_errors<F: Function, A: Allocator + Copy, B: Allocator, C: Allocator>(
     alloc: A,
@@ -112,6 +131,5 @@ pub fn find_errors<F: Function, A: Allocator + Copy, B: Allocator, C: Allocator>
     if is_clean(alloc, f, slots, &listing, out)? {
         return Ok(Vec::new(alloc));
     }
-    let mut state = analyze(alloc, f, &listing, out)?;
-    check_all(alloc, f, slots, &listing, &state.reached, &mut state.values)
+    analyzed_errors(alloc, f, slots, &listing, out)
 }
