@@ -1,5 +1,6 @@
 -- Slots that are added to a list, in turn.
-use Rattle.std.proofs.Common.{ℕ, ◌≡◌, ◌+◌, ◌<◌, ◌≤◌, List, [], length, arith, true, sym, ap, ◌∙◌, subst, inl, inr}
+use Rattle.std.proofs.lemmas.List.Elements.{Contains-append_left, Contains-push, Contains-push_cases}
+use Rattle.std.proofs.Common.{ℕ, ◌≡◌, ◌+◌, ◌<◌, ◌≤◌, ◌++◌, ◌∷◌, List, [], length, arith, true, sym, ap, ◌∙◌, subst, inl, inr}
 use Rattle.std.proofs.lemmas.Bool.{cases_lt}
 use Rattle.regalloc2_names.specs.Place.{Place, NoPlace, InRegister, InSlot, is_in_slot}
 use Rattle.regalloc2_names.specs.PlaceBits.{index_of_place}
@@ -38,6 +39,14 @@ adds_same P Q xs ys to from h n u = (λ c. there ((h n u).0 c), λ c. back c)
     back : Contains xs (n, u) ⊎ Q n u → Contains ys (n, u)
     back (inl p) = (h n u).1 (inl p)
     back (inr q) = (h n u).1 (inr (from n u q))
+
+-- none are added before the first index
+pub adds_none : (R : ℕ → ℕ → ℕ → Type 0) (xs : List (ℕ × ℕ)) → AddsSlots (λ n u. (j : ℕ) × (j < 0) × R j n u) xs xs
+adds_none R xs n u = (λ h. inl h, λ h. back h)
+  where
+    back : Contains xs (n, u) ⊎ ((j : ℕ) × (j < 0) × R j n u) → Contains xs (n, u)
+    back (inl p) = p
+    back (inr (j, less, r)) = absurd (omega (arith, less))
 
 -- those of one index more
 pub adds_more : (R : ℕ → ℕ → ℕ → Type 0) (k : ℕ) (xs ys zs : List (ℕ × ℕ)) → AddsSlots (λ n u. (j : ℕ) × (j < k) × R j n u) xs ys →
@@ -85,3 +94,18 @@ adds_own (InRegister r) index units xs ys slot is h = absurd cc
 adds_own (InSlot m) index units xs ys slot is h =
     adds_same (λ n u. (n ≡ index) × (u ≡ units)) (λ n u. (InSlot m ≡ InSlot n) × (u ≡ units)) xs ys
     (λ n u d. (ap (λ (k : ℕ). InSlot k) (sym (d.0 ∙ is)), d.1)) (λ n u d. let same : m ≡ n = cc in (sym same ∙ sym is, d.1)) h
+
+-- one slot more at the end
+pub adds_one : (xs ys : List (ℕ × ℕ)) (s t : ℕ) → ys ≡ xs ++ (s, t) ∷ [] → AddsSlots (λ n u. (n ≡ s) × (u ≡ t)) xs ys
+adds_one xs ys s t e n u =
+    subst (λ (l : List (ℕ × ℕ)). Contains l (n, u) ↔ (Contains xs (n, u) ⊎ ((n ≡ s) × (u ≡ t)))) (sym e)
+    (λ h. there (Contains-push_cases xs (s, t) (n, u) h), λ h. back h)
+  where
+    there : Contains xs (n, u) ⊎ (◌≡◌ {A = ℕ × ℕ} (s, t) (n, u)) → Contains xs (n, u) ⊎ ((n ≡ s) × (u ≡ t))
+    there (inl p) = inl p
+    there (inr q) = inr (sym (ap (λ (x : ℕ × ℕ). x.0) q), sym (ap (λ (x : ℕ × ℕ). x.1) q))
+
+    back : Contains xs (n, u) ⊎ ((n ≡ s) × (u ≡ t)) → Contains (xs ++ (s, t) ∷ []) (n, u)
+    back (inl p) = Contains-append_left xs ((s, t) ∷ []) (n, u) p
+    back (inr q) = subst (λ m. Contains (xs ++ (s, t) ∷ []) (m, u)) (sym q.0)
+        (subst (λ m. Contains (xs ++ (s, t) ∷ []) (s, m)) (sym q.1) (Contains-push xs (s, t)))

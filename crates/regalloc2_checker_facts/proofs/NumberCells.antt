@@ -4,7 +4,7 @@ use Rattle.std.proofs.Common.{Option, None, Some, set, replicate}
 use Rattle.std.specs.Prelude.{◌↔◌, ◌⊎◌, Contains}
 use Rattle.std.specs.List.{flat_map}
 use Rattle.std.specs.Option.{option_to_list}
-use Rattle.std.proofs.lemmas.List.{append_assoc, take-append-drop, take-set, drop-set, drop_more, take_more, get_or-replicate, length-replicate}
+use Rattle.std.proofs.lemmas.List.{append_assoc, take-append-drop, take-set, drop-set, drop_more, take_more}
 use Rattle.std.proofs.lemmas.List.Concat.{get_or-flat_map, flat_map-cons}
 use Rattle.std.proofs.lemmas.List.Folds.{length-flat_map-take}
 use Rattle.std.proofs.lemmas.List.Elements.{Contains-append_left, Contains-append_right, Contains-append_cases, Contains-push, Contains-push_cases}
@@ -105,16 +105,6 @@ cells-more cs k ns less e = ap (λ (l : List ℕ). l ++ option_to_list (get_or c
     one (Some x) = refl
 
 -- cells that were made without a number
-pub cells-made : (t n : ℕ) (before cs : List (Option ℕ)) → before ≡ [] → cs ≡ take t before ++ replicate n None → flat_map option_to_list cs ≡ []
-cells-made t n before cs none e = ap (flat_map option_to_list) (e ∙ ap (λ (l : List (Option ℕ)). take t l ++ replicate n None) none
-    ∙ ap (λ (l : List (Option ℕ)). l ++ replicate n None) (taken t)) ∙ alike (replicate n None)
-    (λ k less. get_or-replicate n k None None (omega (arith, less, length-replicate {A = Option ℕ} n None)))
-  where
-    taken : (m : ℕ) → take {A = Option ℕ} m [] ≡ []
-    taken zero = refl
-    taken (suc m) = refl
-
-    alike : (ds : List (Option ℕ)) → ((k : ℕ) → k < length ds → get_or ds k None ≡ None) → flat_map option_to_list ds ≡ []
-    alike [] h = refl
-    alike (d ∷ ds) h = flat_map-cons option_to_list d ds ∙ ap (λ (c : Option ℕ). option_to_list c ++ flat_map option_to_list ds) (h 0 (omega arith))
-        ∙ alike ds (λ k less. h (suc k) (omega (arith, less)))
+pub cells-made : (n : ℕ) → ◌≡◌ {A = List ℕ} (flat_map option_to_list (replicate {A = Option ℕ} n None)) []
+cells-made zero = refl
+cells-made (suc n) = flat_map-cons option_to_list None (replicate n None) ∙ cells-made n

@@ -31,8 +31,7 @@ impl<A: Allocator + Copy> NamedSlots<A> {
         ensures { IfOk result (λ s. s ≡ []) }
     {
         let slots = Vec::with_capacity(alloc, ROOM)?;
-        let mut latest = Vec::new(alloc);
-        latest.resize(bound, 0)?;
+        let latest = Vec::from_elem(alloc, 0, bound)?;
         Ok(NamedSlots { slots, latest })
     }
 }

@@ -31,9 +31,8 @@ impl<A: Allocator + Copy> NumberList<A> {
     pub fn new(alloc: A, keys: usize) -> Result<NumberList<A>, AllocError>
         ensures { IfOk result (λ l. l ≡ []) }
     {
-        let mut cells = Vec::new(alloc);
         // At least one, and odd: numbers that are two or four apart take all remainders.
-        cells.resize(keys / 2 * 2 + 1, None)?;
+        let cells = Vec::from_elem(alloc, None, keys / 2 * 2 + 1)?;
         Ok(NumberList {
             cells,
             others: Vec::new(alloc),

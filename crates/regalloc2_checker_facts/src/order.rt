@@ -78,8 +78,7 @@ fn leave_order<F: Function, A: Allocator + Copy>(
     alloc: A,
     f: &F,
 ) -> Result<Vec<Block, A>, AllocError> {
-    let mut visited = Vec::new(alloc);
-    visited.resize(f.num_blocks(), false)?;
+    let visited = Vec::from_elem(alloc, false, f.num_blocks())?;
     let mut walk = Walk {
         stack: Vec::new(alloc),
         visited,
@@ -101,8 +100,7 @@ pub fn ranks<F: Function, A: Allocator + Copy>(alloc: A, f: &F) -> Result<Vec<us
     requires { IsFramed (F.function f.now) }
 {
     let order = leave_order(alloc, f)?;
-    let mut ranks = Vec::new(alloc);
-    ranks.resize(f.num_blocks(), 0)?;
+    let mut ranks = Vec::from_elem(alloc, 0, f.num_blocks())?;
     for k in 0..order.len() {
         if let Some(rank) = ranks.get_mut(order[k].index()) {
             *rank = order.len() - k;

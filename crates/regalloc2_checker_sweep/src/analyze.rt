@@ -5,7 +5,7 @@ ghost use Rattle.std.specs.BinaryHeap.{heap_items, heap_len};
 ghost use Rattle.regalloc2_function.specs.OutputValue.{OutputValue, IsInOrder};
 ghost use Rattle.regalloc2_function.specs.Views.{output_of};
 ghost use Rattle.regalloc2_function.specs.WellFormed.{IsFramed};
-ghost use Rattle.regalloc2_checker_tables.specs.Showing.{table_count};
+ghost use Rattle.regalloc2_checker_tables.specs.Showing.{table_count, shows_in};
 ghost use Rattle.regalloc2_checker_facts.specs.Listing.{IsListing};
 ghost use Rattle.regalloc2_checker_facts.specs.Propagation.{IsBlockEnd, IsQueue, IsReady, IsUnderWay, AreSized};
 ghost use Rattle.regalloc2_checker_facts.specs.Swept.{laid, LeadsToNoneDone};
@@ -13,12 +13,13 @@ ghost use Rattle.regalloc2_checker_facts.specs.TableFacts.{facts_now, AreNamed};
 ghost use Rattle.regalloc2_checker_sweep.specs.Beginning.{IsEntryQueued};
 ghost use Rattle.regalloc2_checker_facts.specs.Tables.{BlockView, facts_at, weight, ListTheSame, IsSolved, views};
 
-use crate::find_errors::tables_of;
 use crate::transfer_block::transfer_block;
 use regalloc2_checker_facts::listing::Listing;
+use regalloc2_checker_facts::names::{named_places, named_vregs};
 use regalloc2_checker_facts::order::ranks;
 use regalloc2_checker_facts::queue::Queue;
 use regalloc2_checker_flow::edges::{Analysis, propagate_over};
+use regalloc2_checker_tables::PassingTables;
 use regalloc2_function::{Function, Output, finds_earlier_writes};
 use regalloc2_index::Block;
 use std::alloc::{AllocError, Allocator};
@@ -106,9 +107,7 @@ pub fn no_marks<A: Allocator>(alloc: A, count: usize) -> Result<Vec<bool, A>, Al
     ensures long { IfOk result (λ marks. length marks.items ≡ count) }
     ensures none { IfOk result (λ marks. (b : ℕ) (d : Bool) → b < count → get_or marks.items b d ≡ false) }
 {
-    let mut marks = Vec::new(alloc);
-    marks.resize(count, false)?;
-    Ok(marks)
+    Vec::from_elem(alloc, false, count)
 }
 
 /// So many marks, of which one is set.
@@ -140,6 +139,24 @@ fn first_marks<F: Function, A: Allocator + Copy>(
     };
     queue.push(entry)?;
     Ok((reached, queue))
+}
+
+/// Empty tables, one for each block and one beside them, of the places and the vregs that are named.
+fn tables_of<F: Function, A: Allocator + Copy, C: Allocator>(
+    alloc: A,
+    f: &F,
+    out: &Output<C>,
+) -> Result<PassingTables<A>, AllocError>
+    requires framed { IsFramed (F.function f.now) }
+    requires in_order { IsInOrder (F.function f.now) (output_of out.now) }
+    ensures named { IfOk result (λ t. AreNamed (F.function f.now) (output_of out.now) t) }
+    ensures count { IfOk result (λ t. table_count t ≡ length (F.function f.now).blocks + 1) }
+    ensures empty { IfOk result (λ t. (k i y : ℕ) → shows_in t k i y ≡ false) }
+{
+    let places = named_places(alloc, f, out)?;
+    let vregs = named_vregs(alloc, f)?;
+    let tables = PassingTables::new(alloc, f.num_blocks() + 1, places, vregs)?;
+    Ok(tables)
 }
 
 /// What is known before anything is passed on: a path reaches the entry, and nothing holds there. The tables are made last, since

@@ -1,13 +1,13 @@
 //! Checks the blocks that a path reaches.
 
-ghost use Rattle.std.specs.Prelude.{◌≡◌, ◌<◌, ◌+◌, ◌-◌, ℕ, false, OnOk, IfOk, length};
+ghost use Rattle.std.specs.Prelude.{◌≡◌, ◌<◌, ◌+◌, OnOk, IfOk, length};
 ghost use Rattle.regalloc2_function.specs.Machine.{MachineValue};
 ghost use Rattle.regalloc2_function.specs.OutputValue.{OutputValue, IsInOrder};
 ghost use Rattle.regalloc2_function.specs.Views.{machine_of, output_of};
 ghost use Rattle.regalloc2_function.specs.WellFormed.{IsFramed};
 ghost use Rattle.regalloc2_checker_facts.specs.Blocks.{IsBlockJudged};
 ghost use Rattle.regalloc2_checker_facts.specs.CheckInputs.{AreStackSlots};
-ghost use Rattle.regalloc2_checker_tables.specs.Showing.{table_count, shows_in, AreTablesKept};
+ghost use Rattle.regalloc2_checker_tables.specs.Showing.{table_count, AreTablesKept};
 ghost use Rattle.regalloc2_checker_facts.specs.TableFacts.{facts_table, AreNamed};
 ghost use Rattle.regalloc2_checker_facts.specs.Report.{IsReport};
 ghost use Rattle.regalloc2_checker_facts.specs.Tables.{IsSolved, views};
@@ -18,7 +18,6 @@ use crate::sweep::is_clean;
 use regalloc2_checker_facts::errors::CheckerError;
 use regalloc2_checker_facts::handle::handle_listing;
 use regalloc2_checker_facts::listing::Listing;
-use regalloc2_checker_facts::names::{named_places, named_vregs};
 use regalloc2_checker_flow::check::{Judging, check_inst};
 use regalloc2_checker_flow::constraints::stack_slots;
 use regalloc2_checker_tables::PassingTables;
@@ -89,22 +88,23 @@ fn check_all<F: Function, A: Allocator + Copy>(
     Ok(errors)
 }
 
-/// Empty tables, one for each block and one beside them, of the places and the vregs that are named.
-pub(crate) fn tables_of<F: Function, A: Allocator + Copy, C: Allocator>(
+/// The errors of an output, from what holds at the blocks' beginnings.
+fn analyzed_errors<F: Function, A: Allocator + Copy, C: Allocator>(
     alloc: A,
     f: &F,
+    slots: PRegSet,
+    listing: &Listing<'_>,
     out: &Output<C>,
-) -> Result<PassingTables<A>, AllocError>
+) -> Result<Vec<CheckerError<A>, A>, AllocError>
+    ghost o: { OutputValue }
+    requires listing { IsListing (F.function f.now) o listing.now }
     requires framed { IsFramed (F.function f.now) }
+    requires output { output_of out.now ≡ o }
     requires in_order { IsInOrder (F.function f.now) (output_of out.now) }
-    ensures named { IfOk result (λ t. AreNamed (F.function f.now) (output_of out.now) t) }
-    ensures count { IfOk result (λ t. table_count t ≡ length (F.function f.now).blocks + 1) }
-    ensures empty { IfOk result (λ t. (k i y : ℕ) → shows_in t k i y ≡ false) }
+    ensures { IfOk result (λ r. (env : MachineValue) → AreStackSlots env slots → IsReport (F.function f.now) env o r.items) }
 {
-    let places = named_places(alloc, f, out)?;
-    let vregs = named_vregs(alloc, f)?;
-    let tables = PassingTables::new(alloc, f.num_blocks() + 1, places, vregs)?;
-    Ok(tables)
+    let mut state = analyze(alloc, f, listing, out)?;
+    check_all(alloc, f, slots, listing, &state.reached, &mut state.values)
 }
 
 /// The errors of an output.
@@ -131,6 +131,5 @@ pub fn find_errors<F: Function, A: Allocator + Copy, B: Allocator, C: Allocator>
     if is_clean(alloc, f, slots, &listing, out)? {
         return Ok(Vec::new(alloc));
     }
-    let mut state = analyze(alloc, f, &listing, out)?;
-    check_all(alloc, f, slots, &listing, &state.reached, &mut state.values)
+    analyzed_errors(alloc, f, slots, &listing, out)
 }

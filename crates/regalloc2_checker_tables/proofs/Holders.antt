@@ -4,7 +4,7 @@ use Rattle.std.proofs.Common.{nat_eq, nat_lt, eq-eqb, List, [], ◌∷◌, ◌++
 use Rattle.std.specs.Prelude.{◌&&◌, ◌||◌, if◌then◌else◌}
 use Rattle.std.specs.List.Sorted.{IsStrictlyIncreasing}
 use Rattle.std.proofs.lemmas.List.{take_more}
-use Rattle.std.proofs.lemmas.Bool.{cases_eq, lt-ltb as below, ne_eqb}
+use Rattle.std.proofs.lemmas.Bool.{false≢true, cases_eq, lt-ltb as below, ne_eqb}
 use Rattle.std.proofs.Math.Bool.{and-false, or-false as or-no}
 use Rattle.regalloc2_shape.specs.Numbers.{NumberSet, has_number, times_listed}
 use Rattle.regalloc2_checker_sets.specs.SavedNumbers.{NumberCopies}
@@ -222,3 +222,8 @@ pub noted-more : (vregs : List ℕ) (old new : List HomePlaces) (members : List 
 noted-more vregs old new members k place x less e m h here y l =
     walked-more (λ y. IsHome vregs new place y) (take k members) x (λ z lz. home-kept vregs old new place z m (h z lz)) here y
     (subst (λ (xs : List ℕ). 0 < times_listed xs y) (take_more members k 0 less ∙ ap (λ n. take k members ++ n ∷ []) (sym e)) l)
+
+-- what is held where some members were dropped was held before
+pub dropped-had : (b x h : Bool) → h ≡ (if b then false else x) → h ≡ true → x ≡ true
+dropped-had true x h e is = absurd (false≢true (sym e ∙ is))
+dropped-had false x h e is = sym e ∙ is

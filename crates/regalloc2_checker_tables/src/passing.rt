@@ -146,9 +146,8 @@ impl<A: Allocator + Copy> PassingTables<A> {
         if count == usize::MAX {
             return Err(AllocError);
         }
+        let saved = Vec::from_elem(alloc, None, count)?;
         let tables = Tables::new(alloc, count + 1, places, vregs)?;
-        let mut saved = Vec::new(alloc);
-        saved.resize(count, None)?;
         Ok(PassingTables {
             tables,
             passed: None,

@@ -403,14 +403,13 @@ impl<A: Allocator + Copy> Tables<A> {
             return Err(AllocError);
         }
         let places = PlacePositions::of(alloc, places)?;
-        let entries = Entries::new(alloc, count, places.len())?;
-        let sets = Sets::new(alloc);
         let homes = Homes::new(alloc, vregs.len())?;
+        let entries = Entries::new(alloc, count, places.len())?;
         Ok(Tables {
             places,
             vregs,
             entries,
-            sets,
+            sets: Sets::new(alloc),
             homes,
         })
     }

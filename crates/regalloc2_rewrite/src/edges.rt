@@ -56,8 +56,7 @@ fn entries_of<F: Function, A: Allocator>(alloc: A, f: &F) -> Result<Vec<usize, A
     requires { SuccessorsAreBlocks (F.function f.now) }
     ensures { IfOk result (λ counts. AreEntries (F.function f.now) counts.items) }
 {
-    let mut counts = Vec::new(alloc);
-    counts.resize(f.num_blocks(), 0usize)?;
+    let mut counts = Vec::from_elem(alloc, 0usize, f.num_blocks())?;
     for block in 0..f.num_blocks() {
         count_entries(&mut counts, f.block_succs(Block::new(block)));
     }

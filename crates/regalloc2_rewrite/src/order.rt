@@ -35,8 +35,7 @@ fn numbers_in<A: Allocator>(
     if order.len() != count {
         return Err(RewriteError::NoOrder);
     }
-    let mut numbers = Vec::new(alloc);
-    numbers.resize(count, Block::invalid())?;
+    let mut numbers = Vec::from_elem(alloc, Block::invalid(), count)?;
     for n in 0..count {
         let block = order[n].index();
         if block >= count {

@@ -1,9 +1,9 @@
 -- A pass over all successors that meets each block's predecessors in the order of its list.
 use Rattle.std.proofs.Common.{ℕ, zero, suc, ◌≡◌, ◌+◌, ◌-◌, ◌*◌, ◌<◌, ◌≤◌, Bool, true, false}
 use Rattle.std.proofs.Common.{List, [], ◌∷◌, ◌++◌, length, get_or, set, replicate, take, drop, refl, sym, ap, ◌∙◌}
-use Rattle.std.proofs.Common.{eq-eqb, add-one, append_assoc, subst, inl, inr, arith}
-use Rattle.std.specs.Prelude.{cond, flat_map, nat_eq}
-use Rattle.std.proofs.Math.Seq.{drop-cons}
+use Rattle.std.proofs.Common.{eq-eqb, add-one, append_assoc, append-nil, subst, inl, inr, arith}
+use Rattle.std.specs.Prelude.{◌↔◌, cond, flat_map, nat_eq}
+use Rattle.std.proofs.Math.Seq.{drop-cons, drop-length}
 use Rattle.std.proofs.lemmas.Bool.{cases_eq, ne_eqb}
 use Rattle.std.proofs.lemmas.List.{get_or_at, get_or-set_other, get_or-set_same, length-append, replicate-append-replicate, take_all}
 use Rattle.std.proofs.lemmas.List.Sums.{count_by_more_no, count_by_more_yes, sum_by-append}
@@ -139,3 +139,14 @@ order_agrees f order n less p =
     let end : ℕ = length f.blocks in
     let h = times_first f end n p in
     ap (times_in p) (order n less) ∙ all_ways_end f end n p (times_in p (ways_of_first f end n)) (omega arith) h.0 h.1
+
+-- a pass that met all predecessors of each block met them in order, and the other way round
+pub all_met : (f : FunctionValue) (counts : List ℕ) → MetSoFar f (length f.blocks) counts →
+    EachBlock f (λ n b. get_or counts n 0 ≡ length b.preds) ↔ ListedInOrder f
+all_met f counts met = (
+  λ all n less.
+      let preds : List ℕ = (block_at f n).preds in
+      let ways : List ℕ = ways_of_first f (length f.blocks) n in
+      (met n less).1 ∙ ap (λ k. ways ++ drop k preds) (all n less) ∙ ap (λ l. ways ++ l) (drop-length preds) ∙ append-nil ways,
+  λ order n less. (met n less).0 ∙ sym (ap length (order n less)),
+)

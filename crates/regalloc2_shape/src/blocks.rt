@@ -217,8 +217,7 @@ fn are_in_order<A: Allocator + Copy, F: Function>(alloc: A, f: &F) -> Result<boo
     requires { SuccessorsAreBlocks (F.function f.now) }
     ensures { IfOk result (λ yes. IsTrue yes ↔ ListedInOrder (F.function f.now)) }
 {
-    let mut counts: Vec<usize, A> = Vec::new(alloc);
-    counts.resize(f.num_blocks(), 0)?;
+    let mut counts = Vec::from_elem(alloc, 0, f.num_blocks())?;
     Ok(pass_in_order(counts.as_mut_slice(), f))
 }
 
@@ -231,8 +230,7 @@ fn test_counted<A: Allocator + Copy, F: Function>(alloc: A, f: &F) -> Result<(),
 {
     let mut ways = no_ways(alloc, f.num_blocks())?;
     add_all_ways(ways.as_mut_slice(), f)?;
-    let mut counts: Vec<usize, A> = Vec::new(alloc);
-    counts.resize(f.num_blocks(), 0)?;
+    let mut counts = Vec::from_elem(alloc, 0, f.num_blocks())?;
     compare_ways(counts.as_mut_slice(), ways.as_slice(), f)
 }
 

@@ -294,8 +294,7 @@ pub fn test_definitions<A: Allocator + Copy, F: Function>(
     ensures refused { IfErr result (IsDefinitionFault (F.function f.now)) }
     ensures accepted { DefinedOnce (F.function f.now) → UsesAreDefined (F.function f.now) → IfErr result (λ e. e ≡ RegAllocError.Memory) }
 {
-    let mut defined: Vec<Option<Definition>, A> = Vec::new(alloc);
-    defined.resize(table_length(f), None)?;
+    let mut defined = Vec::from_elem(alloc, None, table_length(f))?;
     test_over(defined.as_mut_slice(), f)
 }
 

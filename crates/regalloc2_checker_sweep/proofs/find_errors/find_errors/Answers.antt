@@ -27,8 +27,8 @@ pub returns-then-branch : goal.returns-then-branch
 returns-then-branch g c =
     rw c.new.ensures.items (OnTrue_at c.if-branch.true c.in_ok-is_clean.ensures (machine_of c.args.env.now) c.stack_slots-slots.ensures)
 
-pub analyze-requires : goal.analyze-requires
-analyze-requires g c κs within =
+pub analyzed_errors-requires : goal.analyzed_errors-requires
+analyzed_errors-requires g c κs within =
     let f : FunctionValue = g.F.Function.function c.args.f.now in (
       search rules,
       (
@@ -44,23 +44,5 @@ analyze-requires g c κs within =
       ),
     )
 
-pub check_all-requires : goal.check_all-requires
-check_all-requires g c κs within =
-    let f : FunctionValue = g.F.Function.function c.args.f.now in
-    let s = c.in_ok-state.ensures in (
-      search rules,
-      (
-        search rules,
-        (
-          listing_of f g.o c.args.out.now _ _ c.requires.1.1.1.1.0 c.requires.1.1.1.1.1.1 c.in_ok-listed.ensures c.deref.ensures.value
-              c.deref-2.ensures.value c.deref-3.ensures.value c.deref-4.ensures.value,
-          (
-            c.requires.1.1.1.1.1.0,
-            (s.named, (rw c.deref-5.ensures.value s.long, (s.count, rw c.deref-5.ensures.value s.solved))),
-          ),
-        ),
-      ),
-    )
-
 pub returns : goal.returns
-returns g c = IfOk-weaker c.check_all.result _ _ (λ r judged. judged (machine_of c.args.env.now) c.stack_slots-slots.ensures) c.check_all.ensures
+returns g c = IfOk-weaker c.analyzed_errors.result _ _ (λ r judged. judged (machine_of c.args.env.now) c.stack_slots-slots.ensures) c.analyzed_errors.ensures

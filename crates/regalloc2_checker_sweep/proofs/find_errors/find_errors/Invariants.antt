@@ -1,10 +1,7 @@
 use Rattle.regalloc2_checker_sweep.proofs.find_errors.find_errors.Given as goal
 
-abbrev pub ghost-analyze : goal.ghost-analyze
-ghost-analyze g a = g.o
-
-abbrev pub ghost-check_all : goal.ghost-check_all
-ghost-check_all g a = g.o
+abbrev pub ghost-analyzed_errors : goal.ghost-analyzed_errors
+ghost-analyzed_errors g a = g.o
 
 abbrev pub ghost-is_clean : goal.ghost-is_clean
 ghost-is_clean g a = g.o

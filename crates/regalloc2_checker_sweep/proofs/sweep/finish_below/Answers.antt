@@ -3,6 +3,7 @@ use Rattle.std.proofs.lemmas.Bool.{OnTrue_at, false≢true}
 use Rattle.regalloc2_checker_facts.specs.Swept.{done_at}
 use Rattle.regalloc2_checker_facts.proofs.Queues.{alike-same}
 use Rattle.regalloc2_checker_facts.proofs.Sweeps.{further-twice}
+use Rattle.std.proofs.lemmas.Result.{err_from_is_err_and}
 use Rattle.regalloc2_checker_sweep.proofs.sweep.finish_below.Goals as goal
 
 pub loop-b-preserved : goal.loop-b-preserved
@@ -57,3 +58,29 @@ returns g c =
       swept = inv.swept;
       all = λ none b less r. inv.all none b (omega (arith, less, c.loop-b-test.false, inv.within)) r;
     }
+
+pub returns-in_err-finish-clause-further : goal.returns-in_err-finish-clause-further
+returns-in_err-finish-clause-further g c =
+    let p = err_from_is_err_and c.from_residual.result c.from_residual.ensures.1 in rw p.1 tt
+
+pub returns-in_err-finish-clause-queue : goal.returns-in_err-finish-clause-queue
+returns-in_err-finish-clause-queue g c =
+    let p = err_from_is_err_and c.from_residual.result c.from_residual.ensures.1 in rw p.1 tt
+
+pub returns-in_err-finish-clause-swept : goal.returns-in_err-finish-clause-swept
+returns-in_err-finish-clause-swept g c =
+    let p = err_from_is_err_and c.from_residual.result c.from_residual.ensures.1 in rw p.1 tt
+
+pub returns-in_err-finish-clause-all : goal.returns-in_err-finish-clause-all
+returns-in_err-finish-clause-all g c =
+    let p = err_from_is_err_and c.from_residual.result c.from_residual.ensures.1 in rw p.1 tt
+
+pub returns-then-not-branch-clause-further : goal.returns-then-not-branch-clause-further
+returns-then-not-branch-clause-further g c =
+    let inv = c.loop-b.invariant in
+    further-twice c.args.sweep.now.state.values c.loop-b.sweep.state.values c.finish.new.sweep.state.values c.args.sweep.now.state.reached.items
+    c.loop-b.sweep.state.reached.items c.finish.new.sweep.state.reached.items c.args.sweep.now.is_done.items c.loop-b.sweep.is_done.items
+    c.finish.new.sweep.is_done.items inv.further c.in_ok-finish.ensures.further
+
+pub returns-then-not-branch-clause-queue : goal.returns-then-not-branch-clause-queue
+returns-then-not-branch-clause-queue g c = c.in_ok-finish.ensures.queue ∙ c.loop-b.invariant.queue

@@ -1,9 +1,10 @@
-use Rattle.std.proofs.Common.{arith, ◌≡◌, ◌∙◌, ◌+◌, ◌∷◌, [], ℕ, List, length, ap, subst}
+use Rattle.std.proofs.Common.{arith, ◌≡◌, ◌∙◌, ◌+◌, ◌∷◌, [], ℕ, List, length, ap, subst, get_or}
 use Rattle.std.specs.Prelude.{slice_index}
 use Rattle.regalloc2_function.specs.FunctionValue.{FunctionValue, block_at}
 use Rattle.regalloc2_function.specs.WellFormed.{times_in}
 use Rattle.regalloc2_rewrite.specs.SplitEdges.{AgreeUpToTwo}
 use Rattle.regalloc2_rewrite.proofs.SplitSteps.{entered-all, listed-next, listed_by}
+use Rattle.std.proofs.lemmas.List.{get_or-replicate}
 use Rattle.regalloc2_rewrite.proofs.edges.entries_of.Goals as goal
 
 pub loop-block-preserved : goal.loop-block-preserved
@@ -33,4 +34,15 @@ returns g c =
           (subst (λ (n : ℕ). AgreeUpToTwo (slice_index now t) (listed_by f n t)) end (c.loop-block.invariant.counted t less))
           (subst (λ (e : ℕ). AgreeUpToTwo (slice_index next t) (slice_index now t + times_in t (e ∷ []))) c.entry_block.ensures
           (c.count_entry.ensures.counted t (omega (arith, c.loop-block.invariant.long, less))));
+    }
+
+pub loop-block-init : goal.loop-block-init
+loop-block-init g c =
+    let f : FunctionValue = g.F.Function.function c.args.f.now in
+    record {
+      long = omega (arith, c.in_ok-counts.ensures.len, c.in_ok-counts.counts.ok.0, c.num_blocks.ensures.count);
+      counted = λ t less. (
+          let none : slice_index c.in_ok-counts.counts.items t ≡ 0 = ap (λ (cs : List ℕ). get_or cs t 0) (c.in_ok-counts.ensures.items_if_clones_equal (λ y h. h))
+          ∙ get_or-replicate c.num_blocks.result t 0 0 (omega (arith, less, c.num_blocks.ensures.count)) in
+          (λ low. none, λ low. none));
     }

@@ -1,4 +1,4 @@
-use Rattle.std.proofs.Common.{rules, arith, ◌≡◌, ◌∙◌, ◌++◌, ◌∷◌, [], ℕ, length, map, ap}
+use Rattle.std.proofs.Common.{arith, ◌≡◌, ◌∙◌, ◌++◌, ◌∷◌, [], ℕ, length, map, ap}
 use Rattle.std.specs.List.{range_with_len}
 use Rattle.std.proofs.lemmas.List.{map-append}
 use Rattle.regalloc2_function.specs.FunctionValue.{FunctionValue, block_at}
@@ -6,6 +6,7 @@ use Rattle.regalloc2_serialize.specs.TableFunction.Draft.{draft_of}
 use Rattle.regalloc2_rewrite.specs.SplitEdges.{split_arguments, split_succ}
 use Rattle.regalloc2_rewrite.proofs.Lists.{filled-more}
 use Rattle.regalloc2_rewrite.proofs.SplitSteps.{jumps-next}
+use Rattle.std.proofs.lemmas.Result.{err_from_is_err_and}
 use Rattle.regalloc2_rewrite.proofs.edges.split_edges.Goals as goal
 
 pub split_edge-requires : goal.split_edge-requires
@@ -17,8 +18,8 @@ split_edge-requires g c = record {
 pub loop-k-preserved : goal.loop-k-preserved
 loop-k-preserved g c =
     let f : FunctionValue = g.F.Function.function c.args.f.now in
-    let e : c.push.new.self.items ≡ c.loop-k.succs.items ++ c.in_ok-succ.succ ∷ [] = search rules in
-    let d : c.push-in-loop-k.new.self.items ≡ c.loop-k.lists.items ++ c.in_ok-succ.arguments ∷ [] = search rules in
+    let e : c.push.new.self.items ≡ c.loop-k.succs.items ++ c.in_ok-succ.succ ∷ [] = c.in_ok-push.ensures.items in
+    let d : c.push-in-loop-k.new.self.items ≡ c.loop-k.lists.items ++ c.in_ok-succ.arguments ∷ [] = c.in_ok-push-2.ensures.items in
     record {
       succs = e
           ∙ filled-more (split_succ f c.args.block) c.loop-k.succs.items c.in_ok-succ.succ c.loop-k.k c.loop-k.invariant.succs c.in_ok-succ.ensures.ends.0;
@@ -43,3 +44,39 @@ returns-clause-jumps g c =
     let all : c.loop-k.k ≡ length (block_at f c.args.block).succs =
     omega (arith, c.loop-k-test.false, c.loop-k.auto.k-end, ap length c.block_succs-k-end.ensures) in
     jumps-next c.args.none f c.args.block c.loop-k.k (map draft_of c.loop-k.jumps.items) all c.loop-k.invariant.jumps
+
+pub returns-in_err-succ-clause-ends : goal.returns-in_err-succ-clause-ends
+returns-in_err-succ-clause-ends g c =
+    let p = err_from_is_err_and c.from_residual.result c.from_residual.ensures.1 in rw p.1 tt
+
+pub returns-in_err-succ-clause-jumps : goal.returns-in_err-succ-clause-jumps
+returns-in_err-succ-clause-jumps g c =
+    let p = err_from_is_err_and c.from_residual.result c.from_residual.ensures.1 in rw p.1 tt
+
+pub returns-in_err-succ-clause-err : goal.returns-in_err-succ-clause-err
+returns-in_err-succ-clause-err g c =
+    let p = err_from_is_err_and c.from_residual.result c.from_residual.ensures.1 in rw (p.1, p.2) c.in_err-succ.ensures.err
+
+pub returns-in_err-push-clause-ends : goal.returns-in_err-push-clause-ends
+returns-in_err-push-clause-ends g c =
+    let p = err_from_is_err_and c.from_residual-in_err-push.result c.from_residual-in_err-push.ensures.1 in rw p.1 tt
+
+pub returns-in_err-push-clause-jumps : goal.returns-in_err-push-clause-jumps
+returns-in_err-push-clause-jumps g c =
+    let p = err_from_is_err_and c.from_residual-in_err-push.result c.from_residual-in_err-push.ensures.1 in rw p.1 tt
+
+pub returns-in_err-push-clause-err : goal.returns-in_err-push-clause-err
+returns-in_err-push-clause-err g c =
+    let p = err_from_is_err_and c.from_residual-in_err-push.result c.from_residual-in_err-push.ensures.1 in rw (p.1, p.2) tt
+
+pub returns-in_err-push-2-clause-ends : goal.returns-in_err-push-2-clause-ends
+returns-in_err-push-2-clause-ends g c =
+    let p = err_from_is_err_and c.from_residual-in_err-push-2.result c.from_residual-in_err-push-2.ensures.1 in rw p.1 tt
+
+pub returns-in_err-push-2-clause-jumps : goal.returns-in_err-push-2-clause-jumps
+returns-in_err-push-2-clause-jumps g c =
+    let p = err_from_is_err_and c.from_residual-in_err-push-2.result c.from_residual-in_err-push-2.ensures.1 in rw p.1 tt
+
+pub returns-in_err-push-2-clause-err : goal.returns-in_err-push-2-clause-err
+returns-in_err-push-2-clause-err g c =
+    let p = err_from_is_err_and c.from_residual-in_err-push-2.result c.from_residual-in_err-push-2.ensures.1 in rw (p.1, p.2) tt

@@ -1,10 +1,10 @@
-use Rattle.std.proofs.Common.{rules, arith, ◌≡◌, ◌∙◌, ℕ, ◌<◌, List, length, get_or, subst, take, sym, ap}
+use Rattle.std.proofs.Common.{arith, ◌≡◌, ◌∙◌, ℕ, ◌<◌, List, length, get_or, subst, take, sym, ap}
 use Rattle.std.specs.Prelude.{◌≢◌, All, slice_index}
 use Rattle.std.proofs.lemmas.Bool.{false≢true}
-use Rattle.std.proofs.lemmas.List.{get_or_default, length-set}
-use Rattle.regalloc2_rewrite.proofs.Marks.{marked, mark-new, mark-old, within-more, all-marked, order-marked, marked-number}
-use Rattle.regalloc2_rewrite.proofs.order.numbers_in.Goals as goal
+use Rattle.std.proofs.lemmas.List.{get_or_default, length-set, get_or-replicate}
+use Rattle.regalloc2_rewrite.proofs.Marks.{marked, mark-new, mark-old, within-more, all-marked, order-marked, marked-number, marked-none}
 use Rattle.regalloc2_rewrite.proofs.order.numbers_in.Goals.{then-is_invalid, else-is_invalid}
+use Rattle.regalloc2_rewrite.proofs.order.numbers_in.Goals as goal
 
 pub loop-n-preserved : goal.loop-n-preserved
 loop-n-preserved g c =
@@ -14,7 +14,7 @@ loop-n-preserved g c =
     let long : length old ≡ c.args.count = c.loop-n.invariant.long in
     let marks = c.loop-n.invariant.marked in
     let less : n < length c.args.order.now = omega (arith, c.if-order-count.false, c.loop-n-test.true) in
-    let is : x ≡ get_or c.args.order.now n x = search rules in
+    let is : x ≡ get_or c.args.order.now n x = rw c.index-block.ensures c.index-order-n.is in
     let below : x < c.args.count = c.if-block-count.false in
     let here : x < length old = omega (arith, long, below) in
     let at : c.index.result.now ≡ slice_index old x = c.index.ensures ∙ get_or_default old x c.index.result.now 0 here in
@@ -63,3 +63,11 @@ returns-clause-ok g c =
       long = long;
       each = marked-number order numbers c.args.count listed c.requires marks some;
     }
+
+pub loop-n-init : goal.loop-n-init
+loop-n-init g c = record {
+  long = omega (arith, c.in_ok-numbers.ensures.len, c.in_ok-numbers.numbers.ok.0);
+  within = λ k d less. absurd (omega (arith, less));
+  marked = λ b less. ap (λ (ns : List ℕ). get_or ns b 0) (c.in_ok-numbers.ensures.items_if_clones_equal (λ y h. h))
+      ∙ get_or-replicate c.args.count b c.invalid.result 0 less ∙ c.invalid.ensures ∙ sym (marked-none c.args.order.now b);
+}

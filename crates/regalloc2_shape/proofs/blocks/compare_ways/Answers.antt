@@ -5,6 +5,7 @@ use Rattle.regalloc2_function.specs.WellFormed.{PredecessorsAt, times_in}
 use Rattle.regalloc2_shape.specs.Ways.{listed_of}
 use Rattle.regalloc2_shape.proofs.TimesInList.{zeros}
 use Rattle.regalloc2_shape.proofs.PredsListed.{are_blocks, listed_here}
+use Rattle.std.proofs.lemmas.Bool.{false≢true}
 use Rattle.regalloc2_shape.proofs.blocks.compare_ways.Goals as goal
 
 pub loop-b-init : goal.loop-b-init
@@ -34,8 +35,8 @@ returns-then-not-same_blocks-clause-err g c =
       refl,
       (
         less,
-        λ passes. let y = c.same_blocks.ensures.same.1 (λ p. ap (times_in p) c.block_preds.ensures ∙ passes p
-            ∙ ap (λ n. times_in n (block_at f p).succs) c.new-block.ensures ∙ sym (c.requires.ways c.loop-b.b p) ∙ ap (times_in p) listed) in absurd cc,
+        λ passes. absurd (false≢true (sym c.if-not-same_blocks.true ∙ c.same_blocks.ensures.same.1 (λ p. ap (times_in p) c.block_preds.ensures ∙ passes p
+            ∙ ap (λ n. times_in n (block_at f p).succs) c.new-block.ensures ∙ sym (c.requires.ways c.loop-b.b p) ∙ ap (times_in p) listed))),
         λ m low. c.loop-b.invariant.so_far m (omega (arith, c.new-block.ensures)),
       ),
     )
@@ -54,3 +55,15 @@ loop-b-preserved g c =
           (λ p. ap (times_in p) (sym preds) ∙ c.same_blocks.ensures.same.0 c.if-not-same_blocks.false p ∙ ap (times_in p) (sym listed)
           ∙ c.requires.ways c.loop-b.b p);
     }
+
+pub bounds-ways-b : goal.bounds-ways-b
+bounds-ways-b g c = omega (arith, c.loop-b.invariant.whole, c.loop-b-test.true, c.requires.long)
+
+pub block_preds-requires : goal.block_preds-requires
+block_preds-requires g c = omega (arith, c.loop-b.invariant.whole, c.loop-b-test.true, c.new-block.ensures)
+
+pub same_blocks-requires-clause-zero : goal.same_blocks-requires-clause-zero
+same_blocks-requires-clause-zero g c = c.loop-b.invariant.zero
+
+pub returns-clause-ok : goal.returns-clause-ok
+returns-clause-ok g c = λ n less. c.loop-b.invariant.so_far n (omega (arith, less, c.loop-b.invariant.whole, c.loop-b-test.false))

@@ -1,12 +1,13 @@
-use Rattle.std.proofs.Common.{ℕ, ◌≡◌, ◌<◌, ◌∙◌, get_or, length, sym, arith}
+use Rattle.std.proofs.Common.{ℕ, ◌≡◌, ◌<◌, ◌∙◌, get_or, length, sym, subst, append-nil, arith}
 use Rattle.std.specs.Prelude.{nat_eq}
 use Rattle.std.proofs.lemmas.Bool.{eqb-false, not-false, not-true}
 use Rattle.std.proofs.lemmas.Bool.Decides.{Decides-eqb}
 use Rattle.std.proofs.lemmas.List.{get_or_default}
 use Rattle.regalloc2_function.specs.FunctionValue.{FunctionValue, block_at}
-use Rattle.regalloc2_shape.proofs.PredsInOrder.{met_block, met_more, next_met, succ_within}
-use Rattle.regalloc2_shape.proofs.blocks.meets_in_order.Goals as goal
+use Rattle.regalloc2_shape.specs.Ways.{ways_of_first}
+use Rattle.regalloc2_shape.proofs.PredsInOrder.{AreFirst, met_block, met_more, next_met, succ_within}
 use Rattle.regalloc2_shape.proofs.blocks.meets_in_order.Goals.{then-met-preds-via-then-met-preds, then-met-preds-via-else-met-preds+then-ne}
+use Rattle.regalloc2_shape.proofs.blocks.meets_in_order.Goals as goal
 
 pub returns-then-met-preds-clause-order : goal.returns-then-met-preds-clause-order
 returns-then-met-preds-clause-order g c = λ order.
@@ -46,3 +47,22 @@ pub returns-clause-met : goal.returns-clause-met
 returns-clause-met g c =
     let f : FunctionValue = g.F.Function.function c.args.f.now in
     met_block f c.args.block c.loop-succ.succ-index c.loop-succ.counts (rw c.block_succs-succ-items.ensures at c.loop-succ-test.false) c.loop-succ.invariant
+
+pub bounds-counts-index : goal.bounds-counts-index
+bounds-counts-index g c =
+    let f : FunctionValue = g.F.Function.function c.args.f.now in
+    let e = c.block_succs-succ-items.ensures in
+    let within : c.succ-item.result < length f.blocks = succ_within f c.args.block c.loop-succ.succ-index c.succ-item.result c.requires.blocks c.requires.block
+    (rw e at c.loop-succ-test.true) (rw e at c.succ-item.is) in
+    omega (arith, within, c.index.ensures, c.loop-succ.auto.counts, c.requires.long)
+
+pub block_preds-preds-requires : goal.block_preds-preds-requires
+block_preds-preds-requires g c =
+    let f : FunctionValue = g.F.Function.function c.args.f.now in
+    let e = c.block_succs-succ-items.ensures in
+    succ_within f c.args.block c.loop-succ.succ-index c.succ-item.result c.requires.blocks c.requires.block
+    (rw e at c.loop-succ-test.true) (rw e at c.succ-item.is)
+
+pub loop-succ-init : goal.loop-succ-init
+loop-succ-init g c = λ n less. subst (λ ws. AreFirst ws (get_or c.args.counts.now n 0) (block_at (g.F.Function.function c.args.f.now) n).preds)
+    (sym (append-nil (ways_of_first (g.F.Function.function c.args.f.now) c.args.block n))) (c.requires.met n less)

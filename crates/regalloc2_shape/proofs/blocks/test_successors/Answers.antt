@@ -1,11 +1,10 @@
 use Rattle.std.proofs.Common.{◌+◌, ◌<◌, [], ◌∷◌, length, take, drop, refl, ap, arith}
 use Rattle.std.specs.Prelude.{All, flat_map}
-use Rattle.std.proofs.lemmas.List.Elements.{All-cons, All-nil}
+use Rattle.std.proofs.lemmas.List.Elements.{All-cons, All-nil, All-same, All-append}
 use Rattle.regalloc2_names.specs.declared.RegAllocError.TheVariants.{BB}
 use Rattle.regalloc2_function.specs.FunctionValue.{BlockValue, FunctionValue, block_at}
 use Rattle.regalloc2_function.specs.Reasons.{IsFirstIn}
-use Rattle.regalloc2_shape.proofs.ListsInParts.{all_of_part, first_of_part, flat_split, flat_taken}
-use Rattle.std.proofs.lemmas.List.Elements.{All-same}
+use Rattle.regalloc2_shape.proofs.ListsInParts.{all_of_part, first_of_part, flat_split, flat_taken, flat_more}
 use Rattle.regalloc2_shape.proofs.BlockRanges.{block_is}
 use Rattle.regalloc2_shape.proofs.blocks.test_successors.Goals as goal
 
@@ -47,3 +46,27 @@ returns-clause-ok g c =
       λ b less. all_of_part (λ s. s < length f.blocks) (λ (b : BlockValue). b.succs) f.blocks b (block_at f b) less (block_is f b less)
           all,
     )
+
+pub loop-b-init : goal.loop-b-init
+loop-b-init g c = record {
+  whole = c.num_blocks-num_blocks.ensures.count;
+  entry = omega (arith, c.if-index-num_blocks.false, c.index.ensures, c.entry_block-entry.ensures, c.num_blocks-num_blocks.ensures.count);
+  so_far = All-nil (λ s. s < length (g.F.Function.function c.args.f.now).blocks);
+}
+
+pub block_succs-requires : goal.block_succs-requires
+block_succs-requires g c = omega (arith, c.loop-b.invariant.whole, c.loop-b-test.true, c.new.ensures)
+
+pub loop-b-preserved : goal.loop-b-preserved
+loop-b-preserved g c =
+    let f : FunctionValue = g.F.Function.function c.args.f.now in
+    let less : c.loop-b.b < length f.blocks = omega (arith, c.loop-b.invariant.whole, c.loop-b-test.true) in
+    let here : All (λ s. s < length f.blocks) (block_at f c.loop-b.b).succs =
+    rw (c.block_succs.ensures, c.new.ensures, c.num_blocks-num_blocks.ensures.count) at c.in_default.ensures.none in
+    record {
+      whole = c.loop-b.invariant.whole;
+      entry = c.loop-b.invariant.entry;
+      so_far = All-same (λ s. s < length f.blocks) _ _ (flat_more (λ (b : BlockValue). b.succs) f.blocks c.loop-b.b (block_at f c.loop-b.b) less
+          (block_is f c.loop-b.b less)) (All-append (λ s. s < length f.blocks) (flat_map (λ b. b.succs) (take c.loop-b.b f.blocks)) (block_at f c.loop-b.b).succs
+          c.loop-b.invariant.so_far here);
+    }

@@ -1,4 +1,4 @@
-use Rattle.std.proofs.Common.{◌≡◌, ◌<◌, length, inr, refl, sym, ◌∙◌, subst, arith, rules}
+use Rattle.std.proofs.Common.{◌≡◌, ◌<◌, length, inl, inr, refl, sym, ◌∙◌, subst, arith, rules}
 use Rattle.std.proofs.lemmas.Result.{err_from_is_err_and}
 use Rattle.regalloc2_shape.specs.Listed.{AreBlocks}
 use Rattle.regalloc2_shape.proofs.ListsInParts.{first_not_all}
@@ -28,7 +28,7 @@ walk-requires g c =
           subst (λ n. AreBlocks s.0 n c.args.entry) (sym long) (c.in_ok-test_named.ensures.ok s.0 s.1),
         );
         unvisited = search rules;
-        empty = search rules;
+        empty = c.clear.ensures.items;
       },
     )
 
@@ -44,3 +44,49 @@ returns-in-Ok-clause-once g c =
 
 pub returns-in-Ok-clause-reached : goal.returns-in-Ok-clause-reached
 returns-in-Ok-clause-reached g c = λ succs same. leaves_reached succs c.args.entry c.walk.new.out.items (returns-in-Ok-clause-order g c succs same)
+
+pub returns-in_err-test_named-clause-blocks : goal.returns-in_err-test_named-clause-blocks
+returns-in_err-test_named-clause-blocks g c = λ succs same. (let p = err_from_is_err_and c.from_residual.result c.from_residual.ensures.1 in rw p.1 tt)
+
+pub returns-in_err-test_named-clause-order : goal.returns-in_err-test_named-clause-order
+returns-in_err-test_named-clause-order g c = λ succs same. (let p = err_from_is_err_and c.from_residual.result c.from_residual.ensures.1 in rw p.1 tt)
+
+pub returns-in_err-test_named-clause-once : goal.returns-in_err-test_named-clause-once
+returns-in_err-test_named-clause-once g c = let p = err_from_is_err_and c.from_residual.result c.from_residual.ensures.1 in rw p.1 tt
+
+pub returns-in_err-test_named-clause-reached : goal.returns-in_err-test_named-clause-reached
+returns-in_err-test_named-clause-reached g c = λ succs same. (let p = err_from_is_err_and c.from_residual.result c.from_residual.ensures.1 in rw p.1 tt)
+
+pub returns-in_err-test_named-clause-empty : goal.returns-in_err-test_named-clause-empty
+returns-in_err-test_named-clause-empty g c = let p = err_from_is_err_and c.from_residual.result c.from_residual.ensures.1 in rw p.1 c.clear.ensures.items
+
+pub returns-in_err-resize-clause-blocks : goal.returns-in_err-resize-clause-blocks
+returns-in_err-resize-clause-blocks g c =
+    λ succs same. (let p = err_from_is_err_and c.from_residual-in_err-resize.result c.from_residual-in_err-resize.ensures.1 in rw p.1 tt)
+
+pub returns-in_err-resize-clause-order : goal.returns-in_err-resize-clause-order
+returns-in_err-resize-clause-order g c =
+    λ succs same. (let p = err_from_is_err_and c.from_residual-in_err-resize.result c.from_residual-in_err-resize.ensures.1 in rw p.1 tt)
+
+pub returns-in_err-resize-clause-once : goal.returns-in_err-resize-clause-once
+returns-in_err-resize-clause-once g c =
+    let p = err_from_is_err_and c.from_residual-in_err-resize.result c.from_residual-in_err-resize.ensures.1 in rw p.1 tt
+
+pub returns-in_err-resize-clause-reached : goal.returns-in_err-resize-clause-reached
+returns-in_err-resize-clause-reached g c =
+    λ succs same. (let p = err_from_is_err_and c.from_residual-in_err-resize.result c.from_residual-in_err-resize.ensures.1 in rw p.1 tt)
+
+pub returns-in_err-resize-clause-refused : goal.returns-in_err-resize-clause-refused
+returns-in_err-resize-clause-refused g c =
+    λ succs same. (let p = err_from_is_err_and c.from_residual-in_err-resize.result c.from_residual-in_err-resize.ensures.1 in rw p.1 (inl p.2))
+
+pub returns-in_err-resize-clause-accepted : goal.returns-in_err-resize-clause-accepted
+returns-in_err-resize-clause-accepted g c =
+    λ succs same blocks. (let p = err_from_is_err_and c.from_residual-in_err-resize.result c.from_residual-in_err-resize.ensures.1 in rw p.1 p.2)
+
+pub returns-in_err-resize-clause-empty : goal.returns-in_err-resize-clause-empty
+returns-in_err-resize-clause-empty g c =
+    let p = err_from_is_err_and c.from_residual-in_err-resize.result c.from_residual-in_err-resize.ensures.1 in rw p.1 c.clear.ensures.items
+
+pub returns-in-Ok-clause-blocks : goal.returns-in-Ok-clause-blocks
+returns-in-Ok-clause-blocks g c = λ succs same. c.in_ok-test_named.ensures.ok succs same

@@ -2,8 +2,8 @@ use Rattle.std.proofs.Common.{ℕ, ◌≡◌, true, List, [], ◌∷◌, ◌++�
 use Rattle.std.proofs.lemmas.List.{nil_from_length}
 use Rattle.regalloc2_shape.specs.declared.postorder.Frame.{Frame}
 use Rattle.regalloc2_shape.proofs.NamedBlocks.{entry_is_block, succ_in_range}
-use Rattle.regalloc2_shape.proofs.DepthFirstWalk.{walked_frame, walked_start, again_step, enter_step, leave_step, again_less, enter_less, leave_less, walked_end}
-use Rattle.regalloc2_shape.proofs.DepthFirstWalk.{read_zero}
+use Rattle.regalloc2_shape.proofs.DepthFirstWalk.{walked_frame, walked_start, again_step, enter_step, leave_step, again_less, enter_less, leave_less, walked_end, read_zero}
+use Rattle.std.proofs.lemmas.Result.{err_from_is_err_and}
 use Rattle.regalloc2_shape.proofs.postorder.walk.Goals as goal
 
 pub loop-frame-init : goal.loop-frame-init
@@ -105,3 +105,18 @@ pub returns : goal.returns
 returns g c = λ succs same blocks. walked_end succs (length c.args.visited.now) c.args.entry c.loop-frame.visited c.loop-frame.stack.items
     c.loop-frame.out.items (nil_from_length c.loop-frame.stack.items (sym c.loop-frame.stack.ok.0 ∙ (rw c.in_default.is at c.pop.ensures.cases).0))
     (c.loop-frame.invariant succs same blocks)
+
+pub returns-in_err-push : goal.returns-in_err-push
+returns-in_err-push g c = λ succs same blocks. (let p = err_from_is_err_and c.from_residual.result c.from_residual.ensures.1 in rw p.1 tt)
+
+pub returns-in_err-push-2 : goal.returns-in_err-push-2
+returns-in_err-push-2 g c =
+    λ succs same blocks. (let p = err_from_is_err_and c.from_residual-in_err-push-2.result c.from_residual-in_err-push-2.ensures.1 in rw p.1 tt)
+
+pub returns-in_err-push-3 : goal.returns-in_err-push-3
+returns-in_err-push-3 g c =
+    λ succs same blocks. (let p = err_from_is_err_and c.from_residual-in_err-push-3.result c.from_residual-in_err-push-3.ensures.1 in rw p.1 tt)
+
+pub returns-in_err-push-4 : goal.returns-in_err-push-4
+returns-in_err-push-4 g c =
+    λ succs same blocks. (let p = err_from_is_err_and c.from_residual-in_err-push-4.result c.from_residual-in_err-push-4.ensures.1 in rw p.1 tt)

@@ -1,7 +1,9 @@
-use Rattle.std.proofs.Common.{ℕ, ◌<◌, List, length, get_or, ap, sym, refl, subst}
-use Rattle.regalloc2_checker_tables.specs.Holding.{holds_now}
-use Rattle.regalloc2_checker_tables.proofs.TableLaws.{kept_then}
-use Rattle.regalloc2_checker_tables.proofs.TableLaws.{give-none, give-more, is_in-at}
+use Rattle.std.specs.Prelude.{if◌then◌else◌}
+use Rattle.std.proofs.lemmas.List.{take_all}
+use Rattle.std.proofs.Common.{◌∙◌, nat_eq, arith, ℕ, ◌<◌, List, length, get_or, ap, sym, refl, subst}
+use Rattle.regalloc2_checker_tables.specs.Holding.{holds_now, is_in}
+use Rattle.regalloc2_checker_tables.proofs.TableLaws.{kept_then, give-none, give-more, is_in-at}
+use Rattle.std.proofs.lemmas.Result.{err_from_is_err_and}
 use Rattle.regalloc2_checker_tables.proofs.tables.Tables.give.Goals as goal
 
 pub loop-place-init : goal.loop-place-init
@@ -30,3 +32,24 @@ loop-place-preserved g c = record {
 pub returns-in_err-add_at-clause-kept : goal.returns-in_err-add_at-clause-kept
 returns-in_err-add_at-clause-kept g c =
     kept_then c.args.self.now c.loop-place.self c.add_at.new.self c.loop-place.invariant.kept c.in_err-add_at.ensures.kept
+
+pub returns-in_err-forget-clause-kept : goal.returns-in_err-forget-clause-kept
+returns-in_err-forget-clause-kept g c = c.in_err-forget.ensures.kept
+
+pub returns-in_err-forget-clause-now : goal.returns-in_err-forget-clause-now
+returns-in_err-forget-clause-now g c = let p = err_from_is_err_and c.from_residual.result c.from_residual.ensures.1 in rw p.1 tt
+
+pub forget-requires : goal.forget-requires
+forget-requires g c = c.requires.vreg
+
+pub returns-in_err-add_at-clause-now : goal.returns-in_err-add_at-clause-now
+returns-in_err-add_at-clause-now g c =
+    let p = err_from_is_err_and c.from_residual-in_err-add_at.result c.from_residual-in_err-add_at.ensures.1 in rw p.1 tt
+
+pub returns-clause-kept : goal.returns-clause-kept
+returns-clause-kept g c = c.loop-place.invariant.kept
+
+pub returns-clause-now : goal.returns-clause-now
+returns-clause-now g c i y less = c.loop-place.invariant.now i y less
+    ∙ ap (λ (l : List ℕ). if nat_eq y (get_or c.args.self.now.vregs c.args.vreg 0) then is_in l i else holds_now c.args.self.now i y)
+    (take_all c.loop-place.place-index c.args.places.now (omega (arith, c.loop-place-test.false)))

@@ -1,5 +1,5 @@
 use Rattle.std.proofs.Common.{◌∙◌, arith}
-use Rattle.regalloc2_checker_sweep.proofs.find_errors.tables_of.Goals as goal
+use Rattle.regalloc2_checker_sweep.proofs.analyze.tables_of.Goals as goal
 
 pub returns : goal.returns
 returns g c =
