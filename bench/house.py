@@ -30,7 +30,7 @@ FLOORS = [
          ("regalloc2_analysis", "liveness, ranges, branches")])],
     [("Checker", [
         ("regalloc2_checker_sets", "sets, saved copies"),
-        ("regalloc2_checker_steps", "one place"),
+        ("regalloc2_checker_steps", "one place, move, edge"),
         ("regalloc2_checker_tables", "vregs of places"),
         ("regalloc2_checker_facts", "facts, reports, names"),
         ("regalloc2_checker_flow", "instructions, edges"),

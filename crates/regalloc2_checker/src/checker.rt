@@ -13,6 +13,7 @@ ghost use Rattle.regalloc2_checker.specs.FramedIsProp.{framed-once};
 use crate::errors::CheckerErrors;
 use regalloc2_checker_facts::errors::CheckerError;
 use regalloc2_checker_facts::handle::handle_output;
+use regalloc2_checker_steps::verdict::{alone, refuse_unless, verdict};
 use regalloc2_checker_sweep::find_errors::find_errors;
 use regalloc2_function::{Function, MachineEnv, Output};
 use std::alloc::{Allocator, Global};
@@ -99,15 +100,36 @@ impl<'a, F: Function, A: Allocator + Copy, B: Allocator> Checker<'a, F, A, B> {
             ⊎ ((e ≡ CheckerError.Memory) × IsInOrder (F.function (subject_of self.old)) (output_of out.now)))) }
     {
         self.prepared = None;
-        if !out.is_in_order(self.f) {
-            return Err(CheckerError::MalformedOutput);
-        }
+        refuse_unless(out.is_in_order(self.f), CheckerError::MalformedOutput)?;
         match handle_output(self.alloc, out) {
             Ok(copy) => {
                 self.prepared = Some(copy);
                 Ok(())
             }
             Err(_) => Err(CheckerError::Memory),
+        }
+    }
+
+    /// The errors of the prepared output: `MalformedOutput` alone where none is prepared, and `Memory` alone where a memory
+    /// allocation failed.
+    fn found(self) -> Vec<CheckerError<A>, A>
+        ensures unprepared { output_in self.entry ≡ None → result.items ≡ CheckerError.MalformedOutput ∷ [] }
+        ensures prepared { (o : OutputValue) → output_in self.entry ≡ Some o → (result.items ≡ CheckerError.Memory ∷ [])
+            ⊎ IsReport (F.function (subject_of self.entry)) (machine_in self.entry) o result.items }
+    {
+        let Checker {
+            f,
+            env,
+            alloc,
+            prepared,
+            room,
+        } = self;
+        let Some(out) = prepared else {
+            return alone(room, CheckerError::MalformedOutput);
+        };
+        match find_errors(alloc, f, env, &out) {
+            Ok(errors) => errors,
+            Err(_) => alone(room, CheckerError::Memory),
         }
     }
 
@@ -125,28 +147,9 @@ impl<'a, F: Function, A: Allocator + Copy, B: Allocator> Checker<'a, F, A, B> {
             ⊎ ((IsFaithful (F.function (subject_of self.entry)) (machine_in self.entry) o → ⊥)
             × IsReport (F.function (subject_of self.entry)) (machine_in self.entry) o (errors_of es))) }
     {
-        let Checker {
-            f,
-            env,
-            alloc,
-            prepared,
-            mut room,
-        } = self;
-        let Some(out) = prepared else {
-            room.push_reserved(CheckerError::MalformedOutput);
-            return Err(CheckerErrors::of(room));
-        };
-        match find_errors(alloc, f, env, &out) {
-            Ok(errors) => {
-                if errors.is_empty() {
-                    return Ok(());
-                }
-                Err(CheckerErrors::of(errors))
-            }
-            Err(_) => {
-                room.push_reserved(CheckerError::Memory);
-                Err(CheckerErrors::of(room))
-            }
+        match verdict(self.found()) {
+            Ok(()) => Ok(()),
+            Err(errors) => Err(CheckerErrors::of(errors)),
         }
     }
 }

@@ -22,6 +22,7 @@ use regalloc2_checker_facts::errors::CheckerError;
 use regalloc2_checker_facts::listing::Listing;
 use regalloc2_checker_facts::lookup::place_at;
 use regalloc2_checker_facts::vregs_in::{holds, vregs_in};
+use regalloc2_checker_steps::operands::is_judged_at;
 use regalloc2_checker_tables::PassingTables;
 use regalloc2_function::{Edit, Function};
 use regalloc2_index::{Block, Inst};
@@ -128,7 +129,7 @@ fn check_position<A: Allocator + Copy>(
 {
     let operands = at.operands;
     for k in 0..operands.len() {
-        if !operands[k].is_at(position) {
+        if !is_judged_at(operands, k, position) {
             continue;
         }
         let fault = check_operand(alloc, values, slots, at, k)?;

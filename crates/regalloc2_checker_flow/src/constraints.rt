@@ -10,6 +10,7 @@ ghost use Rattle.regalloc2_checker_facts.specs.Report.{IsConstraintFault};
 
 use regalloc2_checker_facts::errors::CheckerError;
 use regalloc2_checker_facts::lookup::place_at;
+use regalloc2_checker_steps::operands::is_reused;
 use regalloc2_function::MachineEnv;
 use regalloc2_index::Inst;
 use regalloc2_names::{Allocation, Operand, OperandConstraint, PRegSet};
@@ -76,15 +77,14 @@ fn check_reuse<A: Allocator>(
     if index >= count {
         return Some(CheckerError::ConstraintViolated { inst, op, alloc });
     }
-    let expected_alloc = place_at(places, index);
-    if alloc.is_same(expected_alloc) {
+    if is_reused(alloc, places, index) {
         return None;
     }
     Some(CheckerError::AllocationIsNotReuse {
         inst,
         op,
         alloc,
-        expected_alloc,
+        expected_alloc: place_at(places, index),
     })
 }
 

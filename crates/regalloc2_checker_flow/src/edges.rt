@@ -13,6 +13,7 @@ ghost use Rattle.regalloc2_checker_facts.specs.Propagation.{over};
 
 use crate::transfer::take_arguments;
 use regalloc2_checker_facts::queue::Queue;
+use regalloc2_checker_steps::edges::edge_arguments;
 use regalloc2_checker_tables::PassingTables;
 use regalloc2_function::Function;
 use regalloc2_index::Block;
@@ -44,7 +45,7 @@ pub fn transfer_edge<F: Function, A: Allocator + Copy>(
 {
     let target = f.block_succs(block)[position];
     let params = f.block_params(target);
-    let arguments = f.branch_blockparams(block, f.block_insns(block).last(), position);
+    let arguments = edge_arguments(f, block, position);
     let is_entered_once = f.block_preds(target).len() == 1;
     take_arguments(alloc, values, params, arguments, is_entered_once)?;
     Ok(())

@@ -5,6 +5,7 @@ ghost use Rattle.regalloc2_names.specs.Place.{InSlot};
 ghost use Rattle.regalloc2_checker_facts.specs.NamedSlots.{AddsSlots};
 
 use regalloc2_checker_facts::named_slots::NamedSlots;
+use regalloc2_checker_steps::slots::slot_of;
 use regalloc2_names::Allocation;
 use std::alloc::{AllocError, Allocator};
 
@@ -16,8 +17,8 @@ pub fn add_slot<A: Allocator>(
 ) -> Result<(), AllocError>
     ensures { OnOk result (AddsSlots (λ n u. (place ≡ InSlot n) × (u ≡ units)) named.old named.new) }
 {
-    if place.is_stack() {
-        named.add(place.index(), units)?;
+    if let Some((slot, taken)) = slot_of(place, units) {
+        named.add(slot, taken)?;
     }
     Ok(())
 }

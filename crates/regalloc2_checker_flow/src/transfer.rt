@@ -11,6 +11,7 @@ ghost use Rattle.regalloc2_checker_facts.specs.Listing.{listed_move};
 ghost use Rattle.regalloc2_checker_facts.specs.Renamed.{facts_renamed, HoldersAre, AreHoldersOf, AreOthersKept, given_to, facts_forgotten, facts_without};
 
 use regalloc2_checker_facts::lookup::{place_at, position, vreg_position};
+use regalloc2_checker_steps::moves::{MoveEffect, move_effect};
 use regalloc2_checker_tables::PassingTables;
 use regalloc2_function::Edit;
 use regalloc2_names::{Allocation, Operand, PRegSet, ProgPoint, VReg};
@@ -31,15 +32,17 @@ fn make_move<A: Allocator + Copy>(
     ensures kept { OnOk result (AreTablesKept values.old values.new) }
     ensures now { OnOk result (facts_now values.new ≡ placed to (facts_now values.old from) (facts_now values.old)) }
 {
-    let Some(target) = position(values, to) else {
-        return Ok(());
-    };
-    let Some(source) = position(values, from) else {
-        values.clear(target);
-        return Ok(());
-    };
-    values.copy(source, target)?;
-    Ok(())
+    match move_effect(position(values, from), position(values, to)) {
+        MoveEffect::Nothing => Ok(()),
+        MoveEffect::Clears(target) => {
+            values.clear(target);
+            Ok(())
+        }
+        MoveEffect::Copies(source, target) => {
+            values.copy(source, target)?;
+            Ok(())
+        }
+    }
 }
 
 /// Makes the moves, one by one.

@@ -23,7 +23,7 @@ use regalloc2_checker_sets::homes::{Home, Homes};
 use regalloc2_checker_sets::place_positions::PlacePositions;
 use regalloc2_checker_sets::sets::Sets;
 use regalloc2_checker_sets::unused_sets::drop_unused_sets;
-use regalloc2_checker_steps::{drop_at, meet_at};
+use regalloc2_checker_steps::sets::{drop_at, meet_at};
 use regalloc2_names::Allocation;
 use regalloc2_shape::indexset::IndexSet;
 use std::alloc::{AllocError, Allocator};

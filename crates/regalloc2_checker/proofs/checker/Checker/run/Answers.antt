@@ -1,50 +1,49 @@
-use Rattle.std.proofs.Common.{◌≡◌, ◌∙◌, sym, inl, inr, refl, arith, None, Some}
-use Rattle.std.specs.Prelude.{Option}
+use Rattle.std.proofs.Common.{◌≡◌, ◌∙◌, ap, inl, inr, refl, None, Some, [], ◌∷◌, List, Vec}
+use Rattle.std.specs.Prelude.{Option, ◌⊎◌}
 use Rattle.std.specs.Option.{option_map}
-use Rattle.std.proofs.lemmas.List.{nil_from_length}
-use Rattle.regalloc2_checker_facts.proofs.NoErrorsIsFaithful.{accepts, refuses}
+use Rattle.std.proofs.lemmas.Bool.{false≢true}
+use Rattle.regalloc2_function.specs.FunctionValue.{FunctionValue}
+use Rattle.regalloc2_function.specs.Machine.{MachineValue}
+use Rattle.regalloc2_function.specs.OutputValue.{OutputValue}
+use Rattle.regalloc2_function.specs.Views.{machine_of, output_of}
+use Rattle.regalloc2_function.specs.WellFormed.{IsFramed}
+use Rattle.regalloc2_function.specs.Faithful.{IsFaithful}
+use Rattle.regalloc2_checker_facts.specs.Report.{IsReport}
+use Rattle.regalloc2_checker_facts.specs.declared.errors.CheckerError.{CheckerError}
+use Rattle.regalloc2_checker_facts.proofs.NoErrorsIsFaithful.{report_verdict}
 use Rattle.regalloc2_checker.proofs.checker.Checker.run.Goals as goal
 
-pub returns-then-is_empty-clause-refused : goal.returns-then-is_empty-clause-refused
-returns-then-is_empty-clause-refused g c = λ o e. tt
+-- a list of one error isn't empty
+some : {X : Type 0} (x : X) (xs : List X) → xs ≡ x ∷ [] → xs ≡ [] → ⊥
+some x [] e none = absurd cc
+some x (y ∷ ys) e none = absurd cc
 
-pub returns-in_default-clause-accepted : goal.returns-in_default-clause-accepted
-returns-in_default-clause-accepted g c = tt
+-- where no errors were found, an output was prepared, which is faithful
+accepted : {A : Type 0} (f : FunctionValue) (env : MachineValue) (p : Option OutputValue) (es : List (CheckerError A)) → IsFramed f →
+    (p ≡ None → es ≡ CheckerError.MalformedOutput ∷ []) → ((o : OutputValue) → p ≡ Some o → (es ≡ CheckerError.Memory ∷ []) ⊎ IsReport f env o es) →
+    es ≡ [] → (o : OutputValue) × (p ≡ Some o) × IsFaithful f env o
+accepted f env None es ok unprepared found none = absurd (some _ es (unprepared refl) none)
+accepted f env (Some o) es ok unprepared found none = (o, refl, faithful (found o refl))
+  where
+    faithful : (es ≡ CheckerError.Memory ∷ []) ⊎ IsReport f env o es → IsFaithful f env o
+    faithful (inl e) = absurd (some _ es e none)
+    faithful (inr r) = (report_verdict f env o es ok r).0 none
 
-pub returns-then-is_empty-clause-accepted : goal.returns-then-is_empty-clause-accepted
-returns-then-is_empty-clause-accepted g c =
-    accepts _ _ c.args.self.prepared c.in-Some.out c.in-Ok.errors.items _ c.args.self.framed c.in-Some.is c.in-Ok.ensures (sym c.in-Ok.errors.ok.0)
-    (sym c.is_empty.ensures ∙ c.if-is_empty.true)
+-- where some were found of an output that was prepared, it isn't faithful, and these are its report
+refused : {A : Type 0} (f : FunctionValue) (env : MachineValue) (o : OutputValue) (es : List (CheckerError A)) → IsFramed f → (es ≡ [] → ⊥) →
+    (es ≡ CheckerError.Memory ∷ []) ⊎ IsReport f env o es → (es ≡ CheckerError.Memory ∷ []) ⊎ ((IsFaithful f env o → ⊥) × IsReport f env o es)
+refused f env o es ok any (inl e) = inl e
+refused f env o es ok any (inr r) = inr (λ h. any ((report_verdict f env o es ok r).1 h), r)
 
-pub returns-else-is_empty-clause-refused : goal.returns-else-is_empty-clause-refused
-returns-else-is_empty-clause-refused g c = λ o e.
-    let r = refuses _ _ c.args.self.prepared c.in-Some.out c.in-Ok.errors.items _ c.args.self.framed c.in-Some.is c.in-Ok.ensures (sym c.in-Ok.errors.ok.0)
-    (sym c.is_empty.ensures ∙ c.if-is_empty.false) o e in
-    inr (r.0, rw c.of-in-Ok.ensures r.1)
-
-pub returns-in_default-clause-unprepared : goal.returns-in_default-clause-unprepared
-returns-in_default-clause-unprepared g c = λ e.
-    rw (
-      c.of.ensures,
-      c.push_reserved.ensures.items,
-      nil_from_length c.args.self.room.items (omega (arith, c.args.self.empty, c.args.self.room.ok.0)),
-    ) refl
-
-pub returns-in-Err-clause-refused : goal.returns-in-Err-clause-refused
-returns-in-Err-clause-refused g c = λ o e. inl
-    (rw (
-      c.of-in-Err.ensures,
-      c.push_reserved-in-Err.ensures.items,
-      nil_from_length c.args.self.room.items (omega (arith, c.args.self.empty, c.args.self.room.ok.0)),
-    ) refl)
-
--- what is prepared isn't nothing
-prepared : {X Y : Type 0} (h : X → Y) (o : Option X) (x : X) → o ≡ Some x → option_map h o ≡ None → ⊥
-prepared h None x e none = absurd cc
-prepared h (Some y) x e none = absurd cc
+pub returns-in-Ok-clause-accepted : goal.returns-in-Ok-clause-accepted
+returns-in-Ok-clause-accepted g c =
+    accepted (g.F.Function.function c.args.self.f.now) (machine_of c.args.self.env.now) (option_map output_of c.args.self.prepared) c.found.result.items
+    c.args.self.framed c.found.ensures.unprepared c.found.ensures.prepared (c.in-Ok.ensures.yes.0 refl)
 
 pub returns-in-Err-clause-unprepared : goal.returns-in-Err-clause-unprepared
-returns-in-Err-clause-unprepared g c = λ none. absurd (prepared _ c.args.self.prepared c.in-Some.out c.in-Some.is none)
+returns-in-Err-clause-unprepared g c = λ e. c.of.ensures ∙ ap (λ (v : Vec _ _). v.items) c.in-Err.ensures.no.0 ∙ c.found.ensures.unprepared e
 
-pub returns-else-is_empty-clause-unprepared : goal.returns-else-is_empty-clause-unprepared
-returns-else-is_empty-clause-unprepared g c = λ none. absurd (prepared _ c.args.self.prepared c.in-Some.out c.in-Some.is none)
+pub returns-in-Err-clause-refused : goal.returns-in-Err-clause-refused
+returns-in-Err-clause-refused g c = λ o e. rw (c.of.ensures, ap (λ (v : Vec _ _). v.items) c.in-Err.ensures.no.0)
+    (refused (g.F.Function.function c.args.self.f.now) (machine_of c.args.self.env.now) o c.found.result.items c.args.self.framed
+    (λ none. absurd (false≢true (c.in-Err.ensures.yes.1 none))) (c.found.ensures.prepared o e))
