@@ -14,8 +14,8 @@ use Rattle.regalloc2_function.specs.OutputValue.{OutputValue, place_at}
 use Rattle.regalloc2_function.specs.Listing.{Listed, ListedInst, ListedMove, IsListedWithin}
 use Rattle.codegen_ir.specs.Seen.{Operations}
 use Rattle.codegen_ir.specs.Successors.{operations_of}
-use Rattle.codegen_ir.specs.declared.operation.Line.{Line}
-use Rattle.codegen_ir.specs.declared.operation.Operation.{Operation}
+use Rattle.codegen_operation.specs.declared.line.Line.{Line}
+use Rattle.codegen_operation.specs.declared.operation.Operation.{Operation}
 use Rattle.codegen_machine.specs.declared.Instruction.{Instruction}
 use Rattle.codegen_emit.specs.Emitted.{item_code, items_code, block_code, blocks_code, block_start, pass_code, passes_code, stack_arguments, outgoing_words}
 use Rattle.codegen_emit.specs.Emitted.{block_label, emitted, resolved}

@@ -12,7 +12,7 @@ use super::frame::{
     frame_words,
 };
 use crate::{Instruction, ModuleCode, NamedCode, Source};
-use codegen_ir::{Bytes, Condition, Operator, ShiftOperator, Width};
+use codegen_operation::{Bytes, Condition, Operator, ShiftOperator, Width};
 use std::fmt;
 
 /// The start of the entry: keeps the memory's address, and below it the stack's limit.
