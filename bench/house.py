@@ -54,6 +54,7 @@ FLOORS = [
         ("ra2_text_program", "subcommands, text or JSON"),
         ("ra2_text", "texts")])],
     [("Code generator", [
+        ("codegen_operation", "operations, operands"),
         ("codegen_ir", "functions, modules"),
         ("codegen_machine", "machine, text"),
         ("codegen_emit", "instructions"),

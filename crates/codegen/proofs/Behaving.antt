@@ -1,7 +1,7 @@
 -- Code behaves as its module, if each step of the module preserves a relation of the states, unless the stack overflows.
 use Rattle.std.proofs.Common.{ℕ, zero, suc, ◌≡◌, ◌+◌, ◌≤◌, ◌⊎◌, inl, inr, true, List, Option, None, refl, sym, ap, ◌∙◌, subst, ⊎_elim, arith}
 use Rattle.std.proofs.lemmas.Bool.{cases_lt}
-use Rattle.codegen_ir.specs.Numbers.{RunOutcome, Running, Returned, Trapped, Overflowed, Stuck, further}
+use Rattle.codegen_operation.specs.Numbers.{RunOutcome, Running, Returned, Trapped, Overflowed, Stuck, further}
 use Rattle.codegen_ir.specs.Calls.{ModuleState, module_begun, module_run, module_step}
 use Rattle.codegen_ir.specs.Modules.{procedures_of}
 use Rattle.codegen_ir.specs.declared.module.Module.{Module}

@@ -19,12 +19,12 @@ use Rattle.regalloc2_function.specs.Listing.{ListedInst, listing_from}
 use Rattle.regalloc2_function.specs.AllocatedRun.{moves_at}
 use Rattle.regalloc2_semantics.specs.Values.Interpreters.{State, edge_to, read_by, is_late_use, number_set, numbers_defined, passed_over, way_on}
 use Rattle.regalloc2_semantics.specs.Values.Interpreters.{place_set, numbers_moved, written_to, numbers_clobbered}
-use Rattle.codegen_ir.specs.Numbers.{put}
-use Rattle.codegen_ir.specs.Operands.{argument_registers, arguments_in, call_operands, is_lost_in, is_lost_in_call, operands_of, passed_in, passed_on_stack}
+use Rattle.codegen_operation.specs.Numbers.{put}
+use Rattle.codegen_operation.specs.Operands.{argument_registers, arguments_in, call_operands, is_lost_in, is_lost_in_call, operands_of, passed_in, passed_on_stack}
 use Rattle.codegen_ir.specs.Meaning.{ProcedureState}
 use Rattle.codegen_ir.specs.Seen.{Operations}
-use Rattle.codegen_ir.specs.declared.operation.Operation.{Operation}
-use Rattle.codegen_ir.specs.declared.operation.Operation.TheVariants.{Call as Calling}
+use Rattle.codegen_operation.specs.declared.operation.Operation.{Operation}
+use Rattle.codegen_operation.specs.declared.operation.Operation.TheVariants.{Call as Calling}
 use Rattle.codegen_machine.specs.declared.Instruction.{Instruction}
 use Rattle.codegen_machine.specs.Calls.{argument_register, is_caller_saved, registers_returned}
 use Rattle.codegen_machine.specs.Machine.{CodeValue, MachineState, is_general}

@@ -11,13 +11,13 @@ use Rattle.regalloc2_names.specs.Same.{is_register-true}
 use Rattle.regalloc2_names.specs.Place.{Place, NoPlace, InRegister, InSlot}
 use Rattle.regalloc2_function.specs.OutputValue.{place_at}
 use Rattle.regalloc2_semantics.specs.Values.Interpreters.{read_by, is_late_use, place_set, written_to, numbers_clobbered}
-use Rattle.codegen_ir.specs.Numbers.{Running, Trapped, Stuck, divided_at, division_traps, extended, is_within, put}
-use Rattle.codegen_ir.specs.Operands.{is_lost_in, operands_of, other_register, part_register}
-use Rattle.codegen_ir.specs.declared.operation.Width.{Width}
-use Rattle.codegen_ir.specs.declared.operation.DivisionPart.{DivisionPart}
-use Rattle.codegen_ir.specs.declared.operation.DivisionPart.TheVariants.{Quotient, Remainder}
-use Rattle.codegen_ir.specs.declared.operation.Operation.{Operation}
-use Rattle.codegen_ir.specs.declared.operation.Operation.TheVariants.{Divide as Dividing, Load as Loading, Store as Storing, Call as Calling}
+use Rattle.codegen_operation.specs.Numbers.{Running, Trapped, Stuck, divided_at, division_traps, extended, is_within, put}
+use Rattle.codegen_operation.specs.Operands.{is_lost_in, operands_of, other_register, part_register}
+use Rattle.codegen_operation.specs.declared.operation.Width.{Width}
+use Rattle.codegen_operation.specs.declared.operation.DivisionPart.{DivisionPart}
+use Rattle.codegen_operation.specs.declared.operation.DivisionPart.TheVariants.{Quotient, Remainder}
+use Rattle.codegen_operation.specs.declared.operation.Operation.{Operation}
+use Rattle.codegen_operation.specs.declared.operation.Operation.TheVariants.{Divide as Dividing, Load as Loading, Store as Storing, Call as Calling}
 use Rattle.codegen_machine.specs.declared.Instruction.{Instruction}
 use Rattle.codegen_machine.specs.declared.Instruction.TheVariants.{Clear, ExtendSign, Divide}
 use Rattle.codegen_machine.specs.Machine.{CodeValue, MachineState, divides, executed, machine_run, parted}

@@ -10,7 +10,7 @@ use Rattle.regalloc2_names.specs.Register.{VirtualRegister}
 use Rattle.regalloc2_names.specs.Place.{Place}
 use Rattle.regalloc2_function.specs.FunctionValue.{FunctionValue}
 use Rattle.regalloc2_function.specs.Path.{Location, first_of}
-use Rattle.codegen_ir.specs.Numbers.{RunOutcome, Running, Returned, Trapped, Overflowed, Stuck, put}
+use Rattle.codegen_operation.specs.Numbers.{RunOutcome, Running, Returned, Trapped, Overflowed, Stuck, put}
 use Rattle.codegen_ir.specs.Meaning.{ProcedureState, done, onward, procedure_step}
 use Rattle.codegen_ir.specs.Successors.{operations_of}
 use Rattle.codegen_ir.specs.Seen.{Operations, function_of_procedure, operations}
@@ -19,8 +19,8 @@ use Rattle.codegen_ir.specs.Calls.{CallValue, ModuleState, SuspendedFrame, call_
 use Rattle.codegen_ir.specs.Calls.{returned_to, step_in, suspended}
 use Rattle.codegen_ir.specs.declared.module.Module.{Module}
 use Rattle.codegen_ir.specs.declared.module.NamedProcedure.{NamedProcedure}
-use Rattle.codegen_ir.specs.declared.operation.Operation.{Operation}
-use Rattle.codegen_ir.specs.declared.operation.Operation.TheVariants.{Argument as TakeArgument, Jump as GoTo, Call as Calling}
+use Rattle.codegen_operation.specs.declared.operation.Operation.{Operation}
+use Rattle.codegen_operation.specs.declared.operation.Operation.TheVariants.{Argument as TakeArgument, Jump as GoTo, Call as Calling}
 use Rattle.codegen_ir.specs.declared.procedure.Procedure.{Procedure}
 use Rattle.codegen_machine.specs.Calls.{FunctionCode, Stack, StackState, SuspendedActivation, activated, activation_of, arguments_passed, calling, exceeds}
 use Rattle.codegen_machine.specs.Calls.{registers_returned, returned_into, stack_begun, stack_run, stack_step, suspended_at, words_taken}

@@ -7,7 +7,7 @@ use Rattle.regalloc2_function.specs.FunctionValue.{FunctionValue, block_at}
 use Rattle.regalloc2_function.specs.OutputValue.{OutputValue}
 use Rattle.regalloc2_function.specs.Path.{Location, first_of}
 use Rattle.regalloc2_semantics.specs.Values.Interpreters.{State}
-use Rattle.codegen_ir.specs.Numbers.{RunOutcome, Running, Returned, Trapped, Overflowed, Stuck}
+use Rattle.codegen_operation.specs.Numbers.{RunOutcome, Running, Returned, Trapped, Overflowed, Stuck}
 use Rattle.codegen_ir.specs.Meaning.{ProcedureState, procedure_step}
 use Rattle.codegen_ir.specs.Seen.{Operations}
 use Rattle.codegen_machine.specs.Machine.{CodeValue, MachineState, machine_run}

@@ -7,7 +7,7 @@ use Rattle.std.specs.Prelude.{slice_get}
 use Rattle.regalloc2_names.specs.Place.{Place, NoPlace, InRegister, InSlot}
 use Rattle.regalloc2_function.specs.OutputValue.{place_at}
 use Rattle.regalloc2_semantics.specs.Values.Interpreters.{place_set}
-use Rattle.codegen_ir.specs.Numbers.{put}
+use Rattle.codegen_operation.specs.Numbers.{put}
 use Rattle.codegen_machine.specs.declared.Instruction.{Instruction}
 use Rattle.codegen_machine.specs.declared.Instruction.TheVariants.{Call, Load}
 use Rattle.codegen_machine.specs.Calls.{FunctionCode, Stack, StackState, argument_register, arguments_passed}

@@ -6,17 +6,17 @@ use Rattle.regalloc2_names.specs.RegisterSet.{has_register}
 use Rattle.regalloc2_names.specs.Place.{Place, NoPlace, InRegister, InSlot}
 use Rattle.regalloc2_function.specs.FunctionValue.{FunctionValue, block_at, inst_at}
 use Rattle.regalloc2_function.specs.OutputValue.{OutputValue, allocs_of, place_at}
-use Rattle.codegen_ir.specs.Operands.{argument_registers, is_lost_in, operands_of, part_register}
+use Rattle.codegen_operation.specs.Operands.{argument_registers, is_lost_in, operands_of, part_register}
 use Rattle.codegen_ir.specs.Seen.{Operations}
-use Rattle.codegen_ir.specs.declared.operation.Operation.{Operation}
-use Rattle.codegen_ir.specs.declared.operation.Operation.TheVariants.{Argument as TakeArgument, Constant as TakeConstant, Copy, Compute as Computation}
-use Rattle.codegen_ir.specs.declared.operation.Operation.TheVariants.{Shift as Shifting, Divide as Dividing, Compare as Comparison, Select, Jump as GoTo, BranchIf}
-use Rattle.codegen_ir.specs.declared.operation.Operation.TheVariants.{BranchIfHolds, Load as Loading, Store as Storing, Call as Calling}
-use Rattle.codegen_ir.specs.declared.operation.Operation.TheVariants.{Return as GiveBack}
-use Rattle.codegen_ir.specs.declared.operation.Count.{Count}
-use Rattle.codegen_ir.specs.declared.operation.Count.TheVariants.{VReg as CountIn, Number as CountOf}
-use Rattle.codegen_ir.specs.declared.operation.Right.{Right}
-use Rattle.codegen_ir.specs.declared.operation.Right.TheVariants.{VReg, Number as Given}
+use Rattle.codegen_operation.specs.declared.operation.Operation.{Operation}
+use Rattle.codegen_operation.specs.declared.operation.Operation.TheVariants.{Argument as TakeArgument, Constant as TakeConstant, Copy, Compute as Computation}
+use Rattle.codegen_operation.specs.declared.operation.Operation.TheVariants.{Shift as Shifting, Divide as Dividing, Compare as Comparison, Select, Jump as GoTo, BranchIf}
+use Rattle.codegen_operation.specs.declared.operation.Operation.TheVariants.{BranchIfHolds, Load as Loading, Store as Storing, Call as Calling}
+use Rattle.codegen_operation.specs.declared.operation.Operation.TheVariants.{Return as GiveBack}
+use Rattle.codegen_operation.specs.declared.operation.Count.{Count}
+use Rattle.codegen_operation.specs.declared.operation.Count.TheVariants.{VReg as CountIn, Number as CountOf}
+use Rattle.codegen_operation.specs.declared.operation.Right.{Right}
+use Rattle.codegen_operation.specs.declared.operation.Right.TheVariants.{VReg, Number as Given}
 use Rattle.codegen_machine.specs.Machine.{CodeValue, is_general}
 use Rattle.codegen_emit.specs.declared.placement.MachinePlace.{MachinePlace}
 use Rattle.codegen_emit.specs.declared.placement.MachinePlace.TheVariants.{Register as AtRegister, Slot as AtSlot}

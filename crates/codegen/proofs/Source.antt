@@ -9,19 +9,19 @@ use Rattle.regalloc2_function.specs.FunctionValue.{FunctionValue, block_at}
 use Rattle.regalloc2_function.specs.OutputValue.{OutputValue}
 use Rattle.regalloc2_function.specs.Path.{Way, Onward, ToSuccessor, next_of}
 use Rattle.regalloc2_semantics.specs.Values.Interpreters.{History, State, read_by, edge_to, way_on, numbers_defined, passed_over}
-use Rattle.codegen_ir.specs.Numbers.{RunOutcome, Running, Returned, Trapped, Overflowed, Stuck, shifted_at, divided_at, division_traps, condition_holds, widened}
-use Rattle.codegen_ir.specs.Numbers.{is_within, number_at, with_number}
-use Rattle.codegen_ir.specs.Operands.{divide_operands, operands_of}
+use Rattle.codegen_operation.specs.Numbers.{RunOutcome, Running, Returned, Trapped, Overflowed, Stuck, shifted_at, divided_at, division_traps, condition_holds, widened}
+use Rattle.codegen_operation.specs.Numbers.{is_within, number_at, with_number}
+use Rattle.codegen_operation.specs.Operands.{divide_operands, operands_of}
 use Rattle.codegen_ir.specs.Meaning.{ProcedureState, onward, stored, entered, along, done, procedure_step}
 use Rattle.codegen_ir.specs.Seen.{Operations}
-use Rattle.codegen_ir.specs.declared.operation.Operation.{Operation}
-use Rattle.codegen_ir.specs.declared.operation.Operation.TheVariants.{Argument as TakeArgument, Constant as TakeConstant, Copy, Compute as Computation}
-use Rattle.codegen_ir.specs.declared.operation.Operation.TheVariants.{Shift as Shifting, Divide as Dividing, Compare as Comparison, Select, Jump as GoTo, BranchIf}
-use Rattle.codegen_ir.specs.declared.operation.Operation.TheVariants.{BranchIfHolds, Load as Loading, Store as Storing}
-use Rattle.codegen_ir.specs.declared.operation.Operation.TheVariants.{Return as GiveBack}
-use Rattle.codegen_ir.specs.declared.operation.DivisionPart.{DivisionPart}
-use Rattle.codegen_ir.specs.declared.operation.Count.TheVariants.{VReg as CountIn, Number as CountOf}
-use Rattle.codegen_ir.specs.declared.operation.Right.TheVariants.{VReg, Number as Given}
+use Rattle.codegen_operation.specs.declared.operation.Operation.{Operation}
+use Rattle.codegen_operation.specs.declared.operation.Operation.TheVariants.{Argument as TakeArgument, Constant as TakeConstant, Copy, Compute as Computation}
+use Rattle.codegen_operation.specs.declared.operation.Operation.TheVariants.{Shift as Shifting, Divide as Dividing, Compare as Comparison, Select, Jump as GoTo, BranchIf}
+use Rattle.codegen_operation.specs.declared.operation.Operation.TheVariants.{BranchIfHolds, Load as Loading, Store as Storing}
+use Rattle.codegen_operation.specs.declared.operation.Operation.TheVariants.{Return as GiveBack}
+use Rattle.codegen_operation.specs.declared.operation.DivisionPart.{DivisionPart}
+use Rattle.codegen_operation.specs.declared.operation.Count.TheVariants.{VReg as CountIn, Number as CountOf}
+use Rattle.codegen_operation.specs.declared.operation.Right.TheVariants.{VReg, Number as Given}
 use Rattle.codegen_machine.specs.Machine.{CodeValue}
 use Rattle.codegen_emit.specs.Emitted.{operation_at}
 use Rattle.codegen.proofs.Premise.{IsPlain, IsCall, IsEnd, IsEmitted}

@@ -10,28 +10,28 @@ use Rattle.regalloc2_names.specs.Place.{Place, NoPlace, InRegister, InSlot}
 use Rattle.regalloc2_function.specs.OutputValue.{place_at}
 use Rattle.regalloc2_function.specs.Path.{Way, Onward, ToSuccessor}
 use Rattle.regalloc2_semantics.specs.Values.Interpreters.{read_by, place_set, written_to, disturbed, edge_to}
-use Rattle.codegen_ir.specs.Numbers.{RunOutcome, Running, Returned, Trapped, Stuck, computed_at, shifted_at, divided_at, division_traps}
-use Rattle.codegen_ir.specs.Numbers.{condition_holds, signed_rank, widened, truth, count_of, is_within, number_at, with_number}
-use Rattle.codegen_ir.specs.declared.operation.Bytes.{Bytes}
-use Rattle.codegen_ir.specs.declared.operation.Bytes.TheVariants.{One, Two, Four, Eight}
-use Rattle.codegen_ir.specs.Operands.{argument_registers, arguments_in, operands_of}
-use Rattle.codegen_ir.specs.declared.operation.Width.{Width}
-use Rattle.codegen_ir.specs.declared.operation.Operator.{Operator}
-use Rattle.codegen_ir.specs.declared.operation.ShiftOperator.{ShiftOperator}
-use Rattle.codegen_ir.specs.declared.operation.Condition.{Condition}
-use Rattle.codegen_ir.specs.declared.operation.Condition.TheVariants.{Equal, NotEqual, Less, LessOrEqual, Greater, GreaterOrEqual}
-use Rattle.codegen_ir.specs.declared.operation.Condition.TheVariants.{SignedLess, SignedLessOrEqual, SignedGreater, SignedGreaterOrEqual}
-use Rattle.codegen_ir.specs.declared.operation.Operation.{Operation}
-use Rattle.codegen_ir.specs.declared.operation.Operation.TheVariants.{Argument as TakeArgument, Constant as TakeConstant, Copy, Compute as Computation}
-use Rattle.codegen_ir.specs.declared.operation.Operation.TheVariants.{Shift as Shifting, Divide as Dividing, Compare as Comparison, Select, Jump as GoTo, BranchIf}
-use Rattle.codegen_ir.specs.declared.operation.Operation.TheVariants.{BranchIfHolds, Load as Loading, Store as Storing, Call as Calling}
-use Rattle.codegen_ir.specs.declared.operation.Operation.TheVariants.{Return as GiveBack}
-use Rattle.codegen_ir.specs.declared.operation.DivisionPart.{DivisionPart}
-use Rattle.codegen_ir.specs.declared.operation.DivisionPart.TheVariants.{Quotient, Remainder}
-use Rattle.codegen_ir.specs.declared.operation.Count.{Count}
-use Rattle.codegen_ir.specs.declared.operation.Count.TheVariants.{VReg as CountIn, Number as CountOf}
-use Rattle.codegen_ir.specs.declared.operation.Right.{Right}
-use Rattle.codegen_ir.specs.declared.operation.Right.TheVariants.{VReg, Number as Given}
+use Rattle.codegen_operation.specs.Numbers.{RunOutcome, Running, Returned, Trapped, Stuck, computed_at, shifted_at, divided_at, division_traps}
+use Rattle.codegen_operation.specs.Numbers.{condition_holds, signed_rank, widened, truth, count_of, is_within, number_at, with_number}
+use Rattle.codegen_operation.specs.declared.operation.Bytes.{Bytes}
+use Rattle.codegen_operation.specs.declared.operation.Bytes.TheVariants.{One, Two, Four, Eight}
+use Rattle.codegen_operation.specs.Operands.{argument_registers, arguments_in, operands_of}
+use Rattle.codegen_operation.specs.declared.operation.Width.{Width}
+use Rattle.codegen_operation.specs.declared.operation.Operator.{Operator}
+use Rattle.codegen_operation.specs.declared.operation.ShiftOperator.{ShiftOperator}
+use Rattle.codegen_operation.specs.declared.operation.Condition.{Condition}
+use Rattle.codegen_operation.specs.declared.operation.Condition.TheVariants.{Equal, NotEqual, Less, LessOrEqual, Greater, GreaterOrEqual}
+use Rattle.codegen_operation.specs.declared.operation.Condition.TheVariants.{SignedLess, SignedLessOrEqual, SignedGreater, SignedGreaterOrEqual}
+use Rattle.codegen_operation.specs.declared.operation.Operation.{Operation}
+use Rattle.codegen_operation.specs.declared.operation.Operation.TheVariants.{Argument as TakeArgument, Constant as TakeConstant, Copy, Compute as Computation}
+use Rattle.codegen_operation.specs.declared.operation.Operation.TheVariants.{Shift as Shifting, Divide as Dividing, Compare as Comparison, Select, Jump as GoTo, BranchIf}
+use Rattle.codegen_operation.specs.declared.operation.Operation.TheVariants.{BranchIfHolds, Load as Loading, Store as Storing, Call as Calling}
+use Rattle.codegen_operation.specs.declared.operation.Operation.TheVariants.{Return as GiveBack}
+use Rattle.codegen_operation.specs.declared.operation.DivisionPart.{DivisionPart}
+use Rattle.codegen_operation.specs.declared.operation.DivisionPart.TheVariants.{Quotient, Remainder}
+use Rattle.codegen_operation.specs.declared.operation.Count.{Count}
+use Rattle.codegen_operation.specs.declared.operation.Count.TheVariants.{VReg as CountIn, Number as CountOf}
+use Rattle.codegen_operation.specs.declared.operation.Right.{Right}
+use Rattle.codegen_operation.specs.declared.operation.Right.TheVariants.{VReg, Number as Given}
 use Rattle.codegen_machine.specs.declared.Instruction.{Instruction}
 use Rattle.codegen_machine.specs.declared.Instruction.TheVariants.{Constant, Clear, Argument, Compute, Shift, ShiftBy, Compare, Set, MoveIf, Test, Jump, JumpIf}
 use Rattle.codegen_machine.specs.declared.Instruction.TheVariants.{Return, Guard, Read, Write}

@@ -1,7 +1,7 @@
 -- The main theorem of the code generator: compiled code behaves as the module does.
 use Rattle.std.specs.Prelude.{ℕ, ◌≡◌, ◌≢◌, ◌≤◌, ◌⊎◌, true, List, ◌∷◌, length, map}
 use Rattle.regalloc2_names.specs.Register.{VirtualRegister}
-use Rattle.codegen_ir.specs.Numbers.{RunOutcome, Running, Returned, Trapped, Overflowed, Stuck, further}
+use Rattle.codegen_operation.specs.Numbers.{RunOutcome, Running, Returned, Trapped, Overflowed, Stuck, further}
 use Rattle.codegen_ir.specs.Calls.{ModuleState, module_begun, module_run}
 use Rattle.codegen_ir.specs.Modules.{procedures_of}
 use Rattle.codegen_ir.specs.declared.module.Module.{Module}

@@ -7,7 +7,7 @@
 //!
 //! # From an operation to instructions
 //!
-//! A line's operation determines its operands and clobbers (`codegen_ir`). Where the
+//! A line's operation determines its operands and clobbers (`codegen_operation`). Where the
 //! processor has two-address instructions, the result reuses the register of the first number, and
 //! the second number is read from a register, a slot or an immediate. A 32-bit form is emitted as
 //! the same instructions with another width. A division reads its dividend from register 0, extends

@@ -5,7 +5,7 @@ use Rattle.std.specs.Prelude.{slice_index, All, map, nat_lt, if◌then◌else◌
 use Rattle.std.proofs.Math.Path.{fun_ext}
 use Rattle.std.proofs.Math.ListN.{get_or-map}
 use Rattle.std.proofs.lemmas.Bool.{ltb-true, ltb-false}
-use Rattle.std.proofs.lemmas.List.{get_or_past, length-map, take_more}
+use Rattle.std.proofs.lemmas.List.{get_or_default, get_or_past, length-map, take_more}
 use Rattle.std.proofs.lemmas.List.Recursion.{max_push}
 use Rattle.std.proofs.lemmas.Grind.{common_steps}
 use Rattle.regalloc2_function.specs.FunctionValue.{FunctionValue}
@@ -14,8 +14,8 @@ use Rattle.regalloc2_function.specs.OutputValue.{OutputValue, place_at}
 use Rattle.regalloc2_function.specs.Listing.{Listed, ListedInst, ListedMove, IsListedWithin}
 use Rattle.codegen_ir.specs.Seen.{Operations}
 use Rattle.codegen_ir.specs.Successors.{operations_of}
-use Rattle.codegen_ir.specs.declared.operation.Line.{Line}
-use Rattle.codegen_ir.specs.declared.operation.Operation.{Operation}
+use Rattle.codegen_operation.specs.declared.line.Line.{Line}
+use Rattle.codegen_operation.specs.declared.operation.Operation.{Operation}
 use Rattle.codegen_machine.specs.declared.Instruction.{Instruction}
 use Rattle.codegen_emit.specs.Emitted.{item_code, items_code, block_code, blocks_code, block_start, pass_code, passes_code, stack_arguments, outgoing_words}
 use Rattle.codegen_emit.specs.Emitted.{block_label, emitted, resolved}
@@ -65,6 +65,13 @@ one_word lines n most made result l less here h this is =
     ap outgoing_words (take_more os n l.operation within) ∙ words_more (take n os) (get_or os n l.operation) in
     let now : stack_arguments (get_or os n l.operation) ≡ stack_arguments l.operation = ap stack_arguments same in
     omega (arith, h, this, is, before, now)
+
+-- the operation of a line, by the line's number
+pub operation_here : (lines : List Line) (i : ℕ) (l : Line) (o : Operation) → i < length lines → l ≡ get_or lines i l → get_or (operations_of lines) i o ≡ l.operation
+operation_here lines i l o less here =
+    let within : i < length (operations_of lines) = omega (arith, less, length-map lines (λ (x : Line). x.operation)) in
+    get_or_default (operations_of lines) i o l.operation within
+    ∙ get_or-map (λ (x : Line). x.operation) lines i l ∙ ap (λ (x : Line). x.operation) (sym here)
 
 module _ (operations : Operations) (out : OutputValue) where
   -- one item of a listing is emitted, and the others are left

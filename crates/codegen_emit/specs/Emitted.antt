@@ -6,23 +6,23 @@ use Rattle.regalloc2_names.specs.Place.{Place}
 use Rattle.regalloc2_function.specs.FunctionValue.{FunctionValue, block_at}
 use Rattle.regalloc2_function.specs.OutputValue.{OutputValue, allocs_of, place_at}
 use Rattle.regalloc2_function.specs.Listing.{Listed, ListedInst, ListedMove, block_listing}
-use Rattle.codegen_ir.specs.declared.operation.Operation.{Operation}
-use Rattle.codegen_ir.specs.declared.operation.Operation.TheVariants.{Argument as TakeArgument, Constant as TakeConstant, Copy, Compute as Computation}
-use Rattle.codegen_ir.specs.declared.operation.Operation.TheVariants.{Shift as Shifting, Divide as Dividing, Compare as Comparison, Select, Jump as GoTo, BranchIf}
-use Rattle.codegen_ir.specs.declared.operation.Operation.TheVariants.{BranchIfHolds, Load as Loading, Store as Storing, Call as Calling}
-use Rattle.codegen_ir.specs.declared.operation.Operation.TheVariants.{Return as GiveBack}
-use Rattle.codegen_ir.specs.Numbers.{count_of}
+use Rattle.codegen_operation.specs.declared.operation.Operation.{Operation}
+use Rattle.codegen_operation.specs.declared.operation.Operation.TheVariants.{Argument as TakeArgument, Constant as TakeConstant, Copy, Compute as Computation}
+use Rattle.codegen_operation.specs.declared.operation.Operation.TheVariants.{Shift as Shifting, Divide as Dividing, Compare as Comparison, Select, Jump as GoTo, BranchIf}
+use Rattle.codegen_operation.specs.declared.operation.Operation.TheVariants.{BranchIfHolds, Load as Loading, Store as Storing, Call as Calling}
+use Rattle.codegen_operation.specs.declared.operation.Operation.TheVariants.{Return as GiveBack}
+use Rattle.codegen_operation.specs.Numbers.{count_of}
 use Rattle.codegen_ir.specs.Seen.{Operations}
-use Rattle.codegen_ir.specs.declared.operation.Bytes.{Bytes}
-use Rattle.codegen_ir.specs.declared.operation.Width.{Width}
-use Rattle.codegen_ir.specs.declared.operation.ShiftOperator.{ShiftOperator}
-use Rattle.codegen_ir.specs.declared.operation.Condition.{Condition}
-use Rattle.codegen_ir.specs.declared.operation.Condition.TheVariants.{Equal, NotEqual, Less, LessOrEqual, Greater, GreaterOrEqual}
-use Rattle.codegen_ir.specs.declared.operation.Condition.TheVariants.{SignedLess, SignedLessOrEqual, SignedGreater, SignedGreaterOrEqual}
-use Rattle.codegen_ir.specs.declared.operation.Count.{Count}
-use Rattle.codegen_ir.specs.declared.operation.Count.TheVariants.{VReg as CountIn, Number as CountOf}
-use Rattle.codegen_ir.specs.declared.operation.Right.{Right}
-use Rattle.codegen_ir.specs.declared.operation.Right.TheVariants.{VReg, Number as Given}
+use Rattle.codegen_operation.specs.declared.operation.Bytes.{Bytes}
+use Rattle.codegen_operation.specs.declared.operation.Width.{Width}
+use Rattle.codegen_operation.specs.declared.operation.ShiftOperator.{ShiftOperator}
+use Rattle.codegen_operation.specs.declared.operation.Condition.{Condition}
+use Rattle.codegen_operation.specs.declared.operation.Condition.TheVariants.{Equal, NotEqual, Less, LessOrEqual, Greater, GreaterOrEqual}
+use Rattle.codegen_operation.specs.declared.operation.Condition.TheVariants.{SignedLess, SignedLessOrEqual, SignedGreater, SignedGreaterOrEqual}
+use Rattle.codegen_operation.specs.declared.operation.Count.{Count}
+use Rattle.codegen_operation.specs.declared.operation.Count.TheVariants.{VReg as CountIn, Number as CountOf}
+use Rattle.codegen_operation.specs.declared.operation.Right.{Right}
+use Rattle.codegen_operation.specs.declared.operation.Right.TheVariants.{VReg, Number as Given}
 use Rattle.codegen_machine.specs.declared.Source.{Source}
 use Rattle.codegen_machine.specs.declared.Source.TheVariants.{Number}
 use Rattle.codegen_machine.specs.declared.Instruction.{Instruction}

@@ -16,10 +16,11 @@ ghost use Rattle.codegen_emit.specs.Emitted.{call_code, outgoing_words, pass_cod
 ghost use Rattle.codegen_emit.specs.Emitted.{block_code, emitted};
 
 use super::placement::{MachinePlace, frame_slots, machine_place};
-use codegen_ir::{
-    Bytes, Condition, Count, Line, Operation, Operator, Procedure, Right, ShiftOperator, Width,
-};
+use codegen_ir::Procedure;
 use codegen_machine::{Code, Instruction, Source};
+use codegen_operation::{
+    Bytes, Condition, Count, Line, Operation, Operator, Right, ShiftOperator, Width,
+};
 use regalloc2_function::{Function, InstOrEdit, Output};
 use regalloc2_index::Block;
 use regalloc2_names::Allocation;

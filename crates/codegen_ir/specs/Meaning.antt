@@ -6,15 +6,15 @@ use Rattle.regalloc2_function.specs.Path.{Location, first_of}
 use Rattle.regalloc2_function.specs.SourceRun.{arguments_at}
 use Rattle.regalloc2_semantics.specs.Values.Interpreters.{number_set, passed_on}
 use Rattle.codegen_ir.specs.Seen.{Operations}
-use Rattle.codegen_ir.specs.Numbers.{RunOutcome, Running, Returned, Trapped, Stuck, further, computed_at, shifted_at, divided_at, division_traps}
-use Rattle.codegen_ir.specs.Numbers.{condition_holds, widened, truth, is_within, number_at, with_number}
-use Rattle.codegen_ir.specs.declared.operation.Operation.{Operation}
-use Rattle.codegen_ir.specs.declared.operation.Operation.TheVariants.{Argument, Constant, Copy, Compute, Shift, Divide, Compare, Select, Jump, BranchIf, BranchIfHolds}
-use Rattle.codegen_ir.specs.declared.operation.Operation.TheVariants.{Load, Store, Call, Return}
-use Rattle.codegen_ir.specs.declared.operation.Count.{Count}
-use Rattle.codegen_ir.specs.declared.operation.Count.TheVariants.{VReg as CountIn, Number as CountOf}
-use Rattle.codegen_ir.specs.declared.operation.Right.{Right}
-use Rattle.codegen_ir.specs.declared.operation.Right.TheVariants.{VReg, Number}
+use Rattle.codegen_operation.specs.Numbers.{RunOutcome, Running, Returned, Trapped, Stuck, further, computed_at, shifted_at, divided_at, division_traps}
+use Rattle.codegen_operation.specs.Numbers.{condition_holds, widened, truth, is_within, number_at, with_number}
+use Rattle.codegen_operation.specs.declared.operation.Operation.{Operation}
+use Rattle.codegen_operation.specs.declared.operation.Operation.TheVariants.{Argument, Constant, Copy, Compute, Shift, Divide, Compare, Select, Jump, BranchIf, BranchIfHolds}
+use Rattle.codegen_operation.specs.declared.operation.Operation.TheVariants.{Load, Store, Call, Return}
+use Rattle.codegen_operation.specs.declared.operation.Count.{Count}
+use Rattle.codegen_operation.specs.declared.operation.Count.TheVariants.{VReg as CountIn, Number as CountOf}
+use Rattle.codegen_operation.specs.declared.operation.Right.{Right}
+use Rattle.codegen_operation.specs.declared.operation.Right.TheVariants.{VReg, Number}
 
 -- the current line of a run, the numbers of the virtual registers, and the bytes in memory
 pub record ProcedureState : Type 0 where

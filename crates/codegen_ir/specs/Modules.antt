@@ -2,8 +2,8 @@
 use Rattle.std.specs.Prelude.{ℕ, ◌≡◌, ◌<◌, IsTrue, Bool, true, false, nat_eq, nat_lt, nat_le, List, [], ◌∷◌, map, length, slice_get, Option, None, Some}
 use Rattle.std.specs.List.{list_all}
 use Rattle.codegen_ir.specs.Successors.{operations_of}
-use Rattle.codegen_ir.specs.declared.operation.Operation.{Operation}
-use Rattle.codegen_ir.specs.declared.operation.Operation.TheVariants.{Argument, Call}
+use Rattle.codegen_operation.specs.declared.operation.Operation.{Operation}
+use Rattle.codegen_operation.specs.declared.operation.Operation.TheVariants.{Argument, Call}
 use Rattle.codegen_ir.specs.declared.procedure.Procedure.{Procedure}
 use Rattle.codegen_ir.specs.declared.module.NamedProcedure.{NamedProcedure}
 use Rattle.codegen_ir.specs.declared.module.Refusal.{Refusal}

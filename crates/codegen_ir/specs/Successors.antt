@@ -2,12 +2,12 @@
 -- bounds.
 use Rattle.std.specs.Prelude.{ℕ, ◌≡◌, ◌-◌, ◌^◌, ◌<◌, ◌⊎◌, Bool, true, false, nat_le, nat_lt, List, map, length, slice_get, Option, None, Some}
 use Rattle.std.specs.List.{list_all}
-use Rattle.codegen_ir.specs.declared.operation.Operation.{Operation}
-use Rattle.codegen_ir.specs.declared.operation.Operation.TheVariants.{Compute, Compare, Jump, BranchIf, BranchIfHolds}
-use Rattle.codegen_ir.specs.declared.operation.Right.{Right}
-use Rattle.codegen_ir.specs.declared.operation.Right.TheVariants.{VReg, Number}
-use Rattle.codegen_ir.specs.Operands.{operands_of}
-use Rattle.codegen_ir.specs.declared.operation.Line.{Line}
+use Rattle.codegen_operation.specs.declared.operation.Operation.{Operation}
+use Rattle.codegen_operation.specs.declared.operation.Operation.TheVariants.{Compute, Compare, Jump, BranchIf, BranchIfHolds}
+use Rattle.codegen_operation.specs.declared.operation.Right.{Right}
+use Rattle.codegen_operation.specs.declared.operation.Right.TheVariants.{VReg, Number}
+use Rattle.codegen_operation.specs.Operands.{operands_of}
+use Rattle.codegen_operation.specs.declared.line.Line.{Line}
 use Rattle.codegen_ir.specs.declared.procedure.Part.{Part}
 use Rattle.codegen_ir.specs.declared.procedure.Malformed.{Malformed}
 use Rattle.codegen_ir.specs.declared.procedure.Malformed.TheVariants.{TooLarge, MissingSuccessor, UnknownRegister, LargeNumber, LargeMemory}

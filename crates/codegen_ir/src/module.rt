@@ -4,8 +4,8 @@ ghost use Rattle.std.specs.Prelude.{◌≡◌, ◌<◌, IfErr, IfOk, IsTrue, vec
 ghost use Rattle.std.specs.List.{list_all};
 ghost use Rattle.codegen_ir.specs.Modules.{arities_of, calls_function, calls_functions, has_memory, IsRefused, passes_registers, reads_argument, reads_arguments};
 
-use super::operation::{Line, Operation};
 use super::procedure::Procedure;
+use codegen_operation::{Line, Operation};
 use std::error::Error;
 use std::fmt;
 

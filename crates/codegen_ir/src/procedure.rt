@@ -4,7 +4,7 @@ ghost use Rattle.std.specs.Prelude.{◌≡◌, ◌<◌, ◌≤◌, ◌^◌, ◌-
 ghost use Rattle.std.specs.List.{list_all};
 ghost use Rattle.codegen_ir.specs.Successors.{has_small_number, has_successors, knows_registers, operations_of, wanted_by, IsMalformed};
 
-use super::operation::{Line, Operation, Right};
+use codegen_operation::{Line, Operation, Right};
 use regalloc2_function::Function;
 use regalloc2_index::{Block, Inst, InstRange};
 use regalloc2_names::{Operand, PRegSet, RegClass, VReg};

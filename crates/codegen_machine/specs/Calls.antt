@@ -2,8 +2,8 @@
 -- a return continues it with the callee-saved registers as they were, and with the callee's numbers in the caller-saved ones.
 use Rattle.std.specs.Prelude.{ℕ, zero, suc, ◌+◌, ◌-◌, ◌%◌, Bool, false, ◌||◌, ◌&&◌, nat_lt, min, if◌then◌else◌, List, [], ◌∷◌, map, slice_get, slice_index_or}
 use Rattle.std.specs.Prelude.{Option, None, Some}
-use Rattle.codegen_ir.specs.Numbers.{RunOutcome, Running, Returned, Trapped, Overflowed, Stuck, further, put}
-use Rattle.codegen_ir.specs.Operands.{argument_registers}
+use Rattle.codegen_operation.specs.Numbers.{RunOutcome, Running, Returned, Trapped, Overflowed, Stuck, further, put}
+use Rattle.codegen_operation.specs.Operands.{argument_registers}
 use Rattle.codegen_machine.specs.declared.Instruction.{Instruction}
 use Rattle.codegen_machine.specs.declared.Instruction.TheVariants.{Call, Pass}
 use Rattle.codegen_machine.specs.declared.NamedCode.{NamedCode}

@@ -2,11 +2,11 @@
 -- condition is tested and no numbers have been compared since the flags were last clobbered, if register 2 doesn't extend a division's dividend, and if an
 -- access lies outside memory.
 use Rattle.std.specs.Prelude.{ℕ, zero, suc, ◌+◌, Bool, true, ◌&&◌, not, nat_eq, nat_lt, if◌then◌else◌, List, slice_get, Option, None, Some}
-use Rattle.codegen_ir.specs.Numbers.{RunOutcome, Running, Returned, Trapped, Stuck, further, computed_at, shifted_at, divided_at, division_traps}
-use Rattle.codegen_ir.specs.Numbers.{extended, widened, condition_holds, truth, is_within, number_at, with_number, put}
-use Rattle.codegen_ir.specs.declared.operation.Bytes.{Bytes}
-use Rattle.codegen_ir.specs.declared.operation.Width.{Width}
-use Rattle.codegen_ir.specs.declared.operation.DivisionPart.TheVariants.{Quotient, Remainder}
+use Rattle.codegen_operation.specs.Numbers.{RunOutcome, Running, Returned, Trapped, Stuck, further, computed_at, shifted_at, divided_at, division_traps}
+use Rattle.codegen_operation.specs.Numbers.{extended, widened, condition_holds, truth, is_within, number_at, with_number, put}
+use Rattle.codegen_operation.specs.declared.operation.Bytes.{Bytes}
+use Rattle.codegen_operation.specs.declared.operation.Width.{Width}
+use Rattle.codegen_operation.specs.declared.operation.DivisionPart.TheVariants.{Quotient, Remainder}
 use Rattle.codegen_machine.specs.declared.Source.{Source}
 use Rattle.codegen_machine.specs.declared.Source.TheVariants.{Register, Slot, Number}
 use Rattle.codegen_machine.specs.declared.Instruction.{Instruction}

@@ -6,7 +6,7 @@
 //! `specs/Calls.antt` calls and returns.
 #![tactic(auto)]
 
-use codegen_ir::{Bytes, Condition, Operator, ShiftOperator, Width};
+use codegen_operation::{Bytes, Condition, Operator, ShiftOperator, Width};
 
 pub mod run;
 pub mod text;

@@ -10,7 +10,7 @@ use Rattle.codegen_machine.specs.Calls.{FunctionCode, Stack, StackState, stack_r
 use Rattle.codegen_ir.specs.Calls.{CallValue, ModuleState, SuspendedFrame, frame_called, frame_entered, module_run, module_step, suspended}
 use Rattle.codegen_ir.specs.Modules.{procedures_of}
 use Rattle.codegen_ir.specs.Seen.{function_of_procedure}
-use Rattle.codegen_ir.specs.Numbers.{RunOutcome, Running as runs, Returned as returned, Trapped as traps, Overflowed as overflows, Stuck as sticks, further}
+use Rattle.codegen_operation.specs.Numbers.{RunOutcome, Running as runs, Returned as returned, Trapped as traps, Overflowed as overflows, Stuck as sticks, further}
 use Rattle.codegen_machine.specs.Run.Runs.{arguments_of, first_state, run_outcome}
 use Rattle.codegen_machine.specs.Run.States.{frame_of, frames_of, suspended_of, suspensions_of}
 use Rattle.codegen_ir.specs.declared.module.NamedProcedure.{NamedProcedure}

@@ -9,8 +9,8 @@ use Rattle.std.specs.Prelude.{slice_get, slice_index, nat_lt, vec_len, All}
 use Rattle.codegen_machine.specs.Calls.{FunctionCode, Stack as Room, StackState, SuspendedActivation, StackAct, act_on_stack, activation_of, argument_register, arguments_passed}
 use Rattle.codegen_machine.specs.Calls.{calling, functions_of, instruction_done, registers_returned, returned_into, stack_begun, stack_step, stack_step_in}
 use Rattle.codegen_machine.specs.Calls.{suspended_at, words_of, words_taken}
-use Rattle.codegen_ir.specs.Numbers.{RunOutcome, Running as runs, Overflowed as overflows, Stuck as sticks, put}
-use Rattle.codegen_ir.specs.Operands.{argument_registers}
+use Rattle.codegen_operation.specs.Numbers.{RunOutcome, Running as runs, Overflowed as overflows, Stuck as sticks, put}
+use Rattle.codegen_operation.specs.Operands.{argument_registers}
 use Rattle.codegen_machine.specs.Machine.{MachineState}
 use Rattle.codegen_machine.specs.Run.Runs.{arguments_of, empty_stack, first_machine}
 use Rattle.codegen_machine.specs.Run.States.{HasWords, IsSound, function_of, instruction_called, stack_state, suspensions_of}

@@ -2,7 +2,7 @@
 use Rattle.std.specs.Prelude.{ℕ, ◌≡◌, List, codes, slice_index, None, Some}
 use Rattle.std.specs.Fmt.{decimal}
 use Rattle.regalloc2_function.specs.Path.{first_of}
-use Rattle.codegen_ir.specs.Numbers.{RunOutcome, Running as runs, Returned as returned, Trapped as traps, Overflowed as overflows, Stuck as sticks, further}
+use Rattle.codegen_operation.specs.Numbers.{RunOutcome, Running as runs, Returned as returned, Trapped as traps, Overflowed as overflows, Stuck as sticks, further}
 use Rattle.codegen_ir.specs.Meaning.{ProcedureState}
 use Rattle.codegen_ir.specs.Seen.{function_of_procedure}
 use Rattle.codegen_ir.specs.declared.procedure.Procedure.{Procedure}

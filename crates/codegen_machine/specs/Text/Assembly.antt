@@ -1,17 +1,17 @@
 -- Instructions as x86-64 assembly in AT&T syntax, in which the source precedes the destination.
 use Rattle.std.specs.Prelude.{ℕ, ◌+◌, ◌%◌, Bool, false, nat_eq, nat_lt, min, if◌then◌else◌, codes, List, [], ◌∷◌, ◌++◌, length, slice_index_or, string_bytes}
 use Rattle.std.specs.Fmt.{decimal}
-use Rattle.codegen_ir.specs.declared.operation.Operator.{Operator}
-use Rattle.codegen_ir.specs.declared.operation.Operator.TheVariants.{Add, Sub, Mul, And, Or, Xor}
-use Rattle.codegen_ir.specs.declared.operation.ShiftOperator.{ShiftOperator}
-use Rattle.codegen_ir.specs.declared.operation.ShiftOperator.TheVariants.{Left, Right, SignedRight}
-use Rattle.codegen_ir.specs.declared.operation.Bytes.{Bytes}
-use Rattle.codegen_ir.specs.declared.operation.Bytes.TheVariants.{One, Two, Four, Eight}
-use Rattle.codegen_ir.specs.declared.operation.Width.{Width}
-use Rattle.codegen_ir.specs.declared.operation.Width.TheVariants.{Full, Half}
-use Rattle.codegen_ir.specs.declared.operation.Condition.{Condition}
-use Rattle.codegen_ir.specs.declared.operation.Condition.TheVariants.{Equal, NotEqual, Less, LessOrEqual, Greater, GreaterOrEqual}
-use Rattle.codegen_ir.specs.declared.operation.Condition.TheVariants.{SignedLess, SignedLessOrEqual, SignedGreater, SignedGreaterOrEqual}
+use Rattle.codegen_operation.specs.declared.operation.Operator.{Operator}
+use Rattle.codegen_operation.specs.declared.operation.Operator.TheVariants.{Add, Sub, Mul, And, Or, Xor}
+use Rattle.codegen_operation.specs.declared.operation.ShiftOperator.{ShiftOperator}
+use Rattle.codegen_operation.specs.declared.operation.ShiftOperator.TheVariants.{Left, Right, SignedRight}
+use Rattle.codegen_operation.specs.declared.operation.Bytes.{Bytes}
+use Rattle.codegen_operation.specs.declared.operation.Bytes.TheVariants.{One, Two, Four, Eight}
+use Rattle.codegen_operation.specs.declared.operation.Width.{Width}
+use Rattle.codegen_operation.specs.declared.operation.Width.TheVariants.{Full, Half}
+use Rattle.codegen_operation.specs.declared.operation.Condition.{Condition}
+use Rattle.codegen_operation.specs.declared.operation.Condition.TheVariants.{Equal, NotEqual, Less, LessOrEqual, Greater, GreaterOrEqual}
+use Rattle.codegen_operation.specs.declared.operation.Condition.TheVariants.{SignedLess, SignedLessOrEqual, SignedGreater, SignedGreaterOrEqual}
 use Rattle.codegen_machine.specs.declared.Source.{Source}
 use Rattle.codegen_machine.specs.declared.Source.TheVariants.{Register, Slot, Number}
 use Rattle.codegen_machine.specs.declared.Instruction.{Instruction}

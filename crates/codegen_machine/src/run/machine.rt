@@ -1,7 +1,7 @@
 //! The machine, step by step.
 
 ghost use Rattle.std.specs.Prelude.{◌≡◌, ◌+◌, ◌<◌, ◌^◌, IfOk, true, nat_lt, if◌then◌else◌, replicate, vec_len};
-ghost use Rattle.codegen_ir.specs.Numbers.{computed_at, condition_holds, extended, shifted_at, truth, widened};
+ghost use Rattle.codegen_operation.specs.Numbers.{computed_at, condition_holds, extended, shifted_at, truth, widened};
 ghost use Rattle.codegen_machine.specs.Machine.{code_of, compared_to, divides, executed, is_general, jumped, machine_run, machine_step};
 ghost use Rattle.codegen_machine.specs.Machine.{frame_stored, guarded, memory_read, memory_written, with_compared, with_register, with_source, written};
 ghost use Rattle.codegen_machine.specs.Run.Runs.{arguments_of, first_machine, IsMachineRun};
@@ -13,7 +13,7 @@ use super::numbers::{
 };
 use super::standing::{Run, Standing};
 use crate::{Code, Instruction, Source};
-use codegen_ir::{Bytes, Condition, DivisionPart, Operator, ShiftOperator, Width};
+use codegen_operation::{Bytes, Condition, DivisionPart, Operator, ShiftOperator, Width};
 use std::alloc::{AllocError, Global};
 
 /// The machine's state: the current instruction, the numbers in registers and slots, the numbers

@@ -1,9 +1,9 @@
 //! Memory: little-endian numbers in its bytes.
 
 ghost use Rattle.std.specs.Prelude.{◌≡◌, ◌<◌, ◌≤◌, ◌+◌, ◌^◌, true, vec_len};
-ghost use Rattle.codegen_ir.specs.Numbers.{count_of, four_at, is_within, number_at, pair_at, with_byte, with_four, with_number, with_pair};
+ghost use Rattle.codegen_operation.specs.Numbers.{count_of, four_at, is_within, number_at, pair_at, with_byte, with_four, with_number, with_pair};
 
-use codegen_ir::Bytes;
+use codegen_operation::Bytes;
 
 /// How many bytes an access reads or writes.
 fn count_of(bytes: Bytes) -> u64

@@ -1,11 +1,11 @@
 //! Arithmetic of 64-bit integers.
 
 ghost use Rattle.std.specs.Prelude.{◌≡◌, ◌<◌, ◌&&◌, ◌||◌, false, true};
-ghost use Rattle.codegen_ir.specs.Numbers.{at_width, computed, computed_at, condition_holds, divided, divided_at, division_traps, extended};
-ghost use Rattle.codegen_ir.specs.Numbers.{is_negative, least, magnitude, shifted, shifted_at, signed_rank, widened, with_sign};
+ghost use Rattle.codegen_operation.specs.Numbers.{at_width, computed, computed_at, condition_holds, divided, divided_at, division_traps, extended};
+ghost use Rattle.codegen_operation.specs.Numbers.{is_negative, least, magnitude, shifted, shifted_at, signed_rank, widened, with_sign};
 ghost use Rattle.codegen_machine.specs.Run.Runs.{arguments_of};
 
-use codegen_ir::{Condition, DivisionPart, Operator, ShiftOperator, Width};
+use codegen_operation::{Condition, DivisionPart, Operator, ShiftOperator, Width};
 
 /// A number's lower 32 bits.
 fn lower_half(number: u64) -> u64

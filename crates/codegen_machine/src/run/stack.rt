@@ -2,8 +2,8 @@
 
 ghost use Rattle.std.specs.Prelude.{ℕ, ◌≡◌, ◌<◌, ◌^◌, ◌+◌, ◌∷◌, ◌++◌, [], IfOk, IfSome, MatchOption, OnOk, nat_lt, if◌then◌else◌, map, slice_get, slice_index, vec_len, Some, None};
 ghost use Rattle.std.specs.Option.{option_map};
-ghost use Rattle.codegen_ir.specs.Numbers.{put};
-ghost use Rattle.codegen_ir.specs.Operands.{argument_registers};
+ghost use Rattle.codegen_operation.specs.Numbers.{put};
+ghost use Rattle.codegen_operation.specs.Operands.{argument_registers};
 ghost use Rattle.codegen_machine.specs.Calls.{StackState, act_on_stack, activation_stepped, functions_of, passed, registers_returned, returned_into};
 ghost use Rattle.codegen_machine.specs.Calls.{stack_step, words_of};
 ghost use Rattle.codegen_machine.specs.Machine.{code_of, machine_step};

@@ -12,7 +12,7 @@ use super::frame::{
     frame_words,
 };
 use crate::{Instruction, ModuleCode, NamedCode, Source};
-use codegen_ir::{Bytes, Condition, Operator, ShiftOperator, Width};
+use codegen_operation::{Bytes, Condition, Operator, ShiftOperator, Width};
 use std::fmt;
 
 /// The start of the entry: keeps the memory's address, and below it the stack's limit.
@@ -269,14 +269,14 @@ impl fmt::Display for ReadText {
     ghost output = { λ t. Some (read_text t.0 t.2 ++ read_name t.0 t.1) };
 
     fn fmt<W: fmt::Write>(&self, f: &mut fmt::Formatter<W>) -> fmt::Result {
-        let (half, full) = (half_name(self.1), register_name(self.1));
         let address = register_name(self.2);
-        match self.0 {
-            Bytes::One => write!(f, "movzbl (%r15,{address}), {half}"),
-            Bytes::Two => write!(f, "movzwl (%r15,{address}), {half}"),
-            Bytes::Four => write!(f, "movl (%r15,{address}), {half}"),
-            Bytes::Eight => write!(f, "movq (%r15,{address}), {full}"),
-        }
+        let (name, to) = match self.0 {
+            Bytes::One => ("movzbl", half_name(self.1)),
+            Bytes::Two => ("movzwl", half_name(self.1)),
+            Bytes::Four => ("movl", half_name(self.1)),
+            Bytes::Eight => ("movq", register_name(self.1)),
+        };
+        write!(f, "{name} (%r15,{address}), {to}")
     }
 }
 
@@ -351,16 +351,17 @@ impl fmt::Display for PassText {
     }
 }
 
-/// What follows the name of an instruction with a source and a register.
+/// An instruction with that name, a source and a register.
 #[derive(Clone, Copy)]
-struct PairText(SourceText, usize);
+struct PairText(&'static str, SourceText, usize);
 
 impl fmt::Display for PairText {
-    ghost output = { λ t. Some (letter t.0.1 ++ codes " " ++ source_text t.0.0 t.0.1 t.0.2 ++ codes ", " ++ name_at t.0.1 t.1) };
+    ghost output = { λ t. Some (t.0.now ++ letter t.1.1 ++ codes " " ++ source_text t.1.0 t.1.1 t.1.2 ++ codes ", " ++ name_at t.1.1 t.2) };
 
     fn fmt<W: fmt::Write>(&self, f: &mut fmt::Formatter<W>) -> fmt::Result {
-        let (from, letter, to) = (self.0, letter(self.0.1), name_at(self.0.1, self.1));
-        write!(f, "{letter} {from}, {to}")
+        let (name, letter) = (self.0, letter(self.1.1));
+        let (from, to) = (self.1, name_at(self.1.1, self.2));
+        write!(f, "{name}{letter} {from}, {to}")
     }
 }
 
@@ -465,23 +466,20 @@ impl fmt::Display for InstructionText {
         match self.instruction {
             Instruction::Constant { to, value } => fmt::Display::fmt(&ConstantText(value, to), f),
             Instruction::Clear { to } => {
-                let pair = PairText(SourceText(outgoing, Width::Full, Source::Register(to)), to);
-                write!(f, "xor{pair}")
+                let from = SourceText(outgoing, Width::Full, Source::Register(to));
+                fmt::Display::fmt(&PairText("xor", from, to), f)
             }
             Instruction::Argument { to, index } => fmt::Display::fmt(
                 &ArgumentMoveText(frame, index as usize, to),
                 f,
             ),
             Instruction::Move { to, from } => {
-                let pair = PairText(
-                    SourceText(outgoing, Width::Full, Source::Register(from)),
-                    to,
-                );
-                write!(f, "mov{pair}")
+                let from = SourceText(outgoing, Width::Full, Source::Register(from));
+                fmt::Display::fmt(&PairText("mov", from, to), f)
             }
             Instruction::Load { to, slot } => {
-                let pair = PairText(SourceText(outgoing, Width::Full, Source::Slot(slot)), to);
-                write!(f, "mov{pair}")
+                let from = SourceText(outgoing, Width::Full, Source::Slot(slot));
+                fmt::Display::fmt(&PairText("mov", from, to), f)
             }
             Instruction::Store { slot, from } => fmt::Display::fmt(
                 &StoreText(outgoing, slot, from),
@@ -493,11 +491,8 @@ impl fmt::Display for InstructionText {
                 to,
                 from,
             } => {
-                let (name, pair) = (
-                    operator_name(operator),
-                    PairText(SourceText(outgoing, width, from), to),
-                );
-                write!(f, "{name}{pair}")
+                let (name, from) = (operator_name(operator), SourceText(outgoing, width, from));
+                fmt::Display::fmt(&PairText(name, from, to), f)
             }
             Instruction::Shift {
                 width,
@@ -518,8 +513,8 @@ impl fmt::Display for InstructionText {
                 from,
             } => fmt::Display::fmt(&DivideText(is_signed, SourceText(outgoing, width, from)), f),
             Instruction::Compare { width, left, right } => {
-                let pair = PairText(SourceText(outgoing, width, right), left);
-                write!(f, "cmp{pair}")
+                let right = SourceText(outgoing, width, right);
+                fmt::Display::fmt(&PairText("cmp", right, left), f)
             }
             Instruction::Set { to, condition } => fmt::Display::fmt(&SetText(condition, to), f),
             Instruction::MoveIf {

@@ -4,7 +4,7 @@ ghost use Rattle.std.specs.Prelude.{◌≤◌};
 ghost use Rattle.regalloc2_text.specs.Cursor.Cursor.{tokens_left};
 
 use super::functions::{Callee, Functions, MOST_ARGUMENTS};
-use codegen_ir::{
+use codegen_operation::{
     Bytes, Condition, Count, DivisionPart, Operation, Operator, Right, ShiftOperator, Width,
 };
 use regalloc2_names::{RegClass, VReg};

@@ -1,5 +1,5 @@
 use Rattle.std.proofs.Common.{◌≡◌, ◌+◌, ◌-◌, refl, ap, ◌∙◌, arith}
-use Rattle.codegen_ir.specs.Numbers.{further}
+use Rattle.codegen_operation.specs.Numbers.{further}
 use Rattle.codegen_machine.specs.Machine.{code_of, machine_run}
 use Rattle.codegen_machine.specs.Run.Runs.{arguments_of, run_outcome}
 use Rattle.codegen_machine.specs.Run.States.{machine_state}

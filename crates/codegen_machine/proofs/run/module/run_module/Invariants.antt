@@ -1,5 +1,5 @@
 use Rattle.std.proofs.Common.{◌≡◌}
-use Rattle.codegen_ir.specs.Numbers.{Running}
+use Rattle.codegen_operation.specs.Numbers.{Running}
 use Rattle.codegen_machine.specs.Run.Runs.{module_outcome}
 use Rattle.codegen_machine.specs.Run.States.{frames_state}
 use Rattle.codegen_machine.proofs.run.module.run_module.Given as goal

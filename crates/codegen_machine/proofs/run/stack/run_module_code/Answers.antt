@@ -2,7 +2,7 @@ use Rattle.std.proofs.Common.{ℕ, ◌≡◌, ◌+◌, ◌-◌, [], List, length
 use Rattle.std.proofs.lemmas.Option.{slice_get_past, slice_get_read}
 use Rattle.std.specs.Prelude.{slice_get, None, Some}
 use Rattle.codegen_machine.specs.Calls.{StackState, functions_of, stack_run, stack_step}
-use Rattle.codegen_ir.specs.Numbers.{RunOutcome, further}
+use Rattle.codegen_operation.specs.Numbers.{RunOutcome, further}
 use Rattle.codegen_machine.specs.Run.Runs.{arguments_of, empty_stack, first_machine, run_outcome}
 use Rattle.codegen_machine.specs.Run.States.{function_of, machine_state, stack_standing, stack_state, suspensions_of}
 use Rattle.codegen_machine.specs.declared.NamedCode.{NamedCode}

@@ -1,7 +1,7 @@
 use Rattle.std.proofs.Common.{◌≡◌, List, length, refl, subst}
 use Rattle.std.proofs.lemmas.Option.{slice_get-map, slice_get_past, slice_get_read}
 use Rattle.std.specs.Prelude.{slice_get, None, Some}
-use Rattle.codegen_ir.specs.declared.operation.Line.{Line}
+use Rattle.codegen_operation.specs.declared.line.Line.{Line}
 use Rattle.codegen_machine.proofs.run.procedure.State.step.Goals as goal
 
 pub returns-in-Some : goal.returns-in-Some

@@ -2,7 +2,7 @@ use Rattle.std.proofs.Common.{ℕ, ◌≡◌, ◌+◌, ◌∷◌, ◌++◌, List
 use Rattle.std.proofs.lemmas.Option.{slice_get_read}
 use Rattle.std.specs.Prelude.{slice_get, slice_index, Some}
 use Rattle.codegen_machine.specs.Calls.{arguments_passed, functions_of, suspended_at}
-use Rattle.codegen_ir.specs.Operands.{argument_registers}
+use Rattle.codegen_operation.specs.Operands.{argument_registers}
 use Rattle.codegen_machine.specs.Run.Runs.{arguments_of}
 use Rattle.codegen_machine.specs.Run.States.{function_of, stack_state, suspended_of, suspensions_of}
 use Rattle.codegen_machine.specs.declared.NamedCode.{NamedCode}

@@ -1,6 +1,6 @@
 use Rattle.std.proofs.Common.{ℕ, ◌≡◌, List, refl, ap, ◌∙◌, subst}
 use Rattle.codegen_machine.specs.Calls.{activation_stepped}
-use Rattle.codegen_ir.specs.Numbers.{RunOutcome}
+use Rattle.codegen_operation.specs.Numbers.{RunOutcome}
 use Rattle.codegen_machine.specs.Machine.{MachineState, code_of, machine_step}
 use Rattle.codegen_machine.specs.Run.Runs.{arguments_of}
 use Rattle.codegen_machine.specs.Run.States.{machine_state, stack_standing, stack_state}

@@ -7,15 +7,15 @@ use Rattle.regalloc2_names.specs.declared.RegClass.TheVariants.{Int}
 use Rattle.regalloc2_names.specs.declared.OperandConstraint.TheVariants.{Any, Reg, FixedReg, Reuse}
 use Rattle.regalloc2_names.specs.declared.OperandKind.TheVariants.{Def, Use}
 use Rattle.regalloc2_names.specs.declared.OperandPos.TheVariants.{Early, Late}
-use Rattle.codegen_ir.specs.declared.operation.Operation.{Operation}
-use Rattle.codegen_ir.specs.declared.operation.Operation.TheVariants.{Argument, Constant, Copy, Compute, Shift, Divide, Compare, Select, Jump, BranchIf, BranchIfHolds}
-use Rattle.codegen_ir.specs.declared.operation.Operation.TheVariants.{Load, Store, Call, Return}
-use Rattle.codegen_ir.specs.declared.operation.DivisionPart.{DivisionPart}
-use Rattle.codegen_ir.specs.declared.operation.DivisionPart.TheVariants.{Quotient, Remainder}
-use Rattle.codegen_ir.specs.declared.operation.Count.{Count}
-use Rattle.codegen_ir.specs.declared.operation.Count.TheVariants.{VReg as CountIn, Number as CountOf}
-use Rattle.codegen_ir.specs.declared.operation.Right.{Right}
-use Rattle.codegen_ir.specs.declared.operation.Right.TheVariants.{VReg, Number}
+use Rattle.codegen_operation.specs.declared.operation.Operation.{Operation}
+use Rattle.codegen_operation.specs.declared.operation.Operation.TheVariants.{Argument, Constant, Copy, Compute, Shift, Divide, Compare, Select, Jump, BranchIf, BranchIfHolds}
+use Rattle.codegen_operation.specs.declared.operation.Operation.TheVariants.{Load, Store, Call, Return}
+use Rattle.codegen_operation.specs.declared.operation.DivisionPart.{DivisionPart}
+use Rattle.codegen_operation.specs.declared.operation.DivisionPart.TheVariants.{Quotient, Remainder}
+use Rattle.codegen_operation.specs.declared.operation.Count.{Count}
+use Rattle.codegen_operation.specs.declared.operation.Count.TheVariants.{VReg as CountIn, Number as CountOf}
+use Rattle.codegen_operation.specs.declared.operation.Right.{Right}
+use Rattle.codegen_operation.specs.declared.operation.Right.TheVariants.{VReg, Number}
 
 -- a late definition, and an early use
 abbrev pub def_in : OperandConstraint → VirtualRegister → OperandValue

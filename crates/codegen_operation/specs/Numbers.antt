@@ -1,19 +1,19 @@
 -- 64-bit integers: the results of operators, and the conditions.
 use Rattle.std.specs.Prelude.{ℕ, ◌+◌, ◌-◌, ◌*◌, ◌/◌, ◌%◌, ◌^◌, Bool, false, true, ◌&&◌, ◌||◌, not, nat_eq, nat_lt, nat_le, if◌then◌else◌, bit_and, bit_or, bit_xor}
 use Rattle.std.specs.Prelude.{List, length, slice_index, set}
-use Rattle.codegen_ir.specs.declared.operation.Operator.{Operator}
-use Rattle.codegen_ir.specs.declared.operation.Operator.TheVariants.{Add, Sub, Mul, And, Or, Xor}
-use Rattle.codegen_ir.specs.declared.operation.ShiftOperator.{ShiftOperator}
-use Rattle.codegen_ir.specs.declared.operation.ShiftOperator.TheVariants.{Left, Right, SignedRight}
-use Rattle.codegen_ir.specs.declared.operation.Width.{Width}
-use Rattle.codegen_ir.specs.declared.operation.Width.TheVariants.{Full, Half}
-use Rattle.codegen_ir.specs.declared.operation.Bytes.{Bytes}
-use Rattle.codegen_ir.specs.declared.operation.Bytes.TheVariants.{One, Two, Four, Eight}
-use Rattle.codegen_ir.specs.declared.operation.DivisionPart.{DivisionPart}
-use Rattle.codegen_ir.specs.declared.operation.DivisionPart.TheVariants.{Quotient, Remainder}
-use Rattle.codegen_ir.specs.declared.operation.Condition.{Condition}
-use Rattle.codegen_ir.specs.declared.operation.Condition.TheVariants.{Equal, NotEqual, Less, LessOrEqual, Greater, GreaterOrEqual}
-use Rattle.codegen_ir.specs.declared.operation.Condition.TheVariants.{SignedLess, SignedLessOrEqual, SignedGreater, SignedGreaterOrEqual}
+use Rattle.codegen_operation.specs.declared.operation.Operator.{Operator}
+use Rattle.codegen_operation.specs.declared.operation.Operator.TheVariants.{Add, Sub, Mul, And, Or, Xor}
+use Rattle.codegen_operation.specs.declared.operation.ShiftOperator.{ShiftOperator}
+use Rattle.codegen_operation.specs.declared.operation.ShiftOperator.TheVariants.{Left, Right, SignedRight}
+use Rattle.codegen_operation.specs.declared.operation.Width.{Width}
+use Rattle.codegen_operation.specs.declared.operation.Width.TheVariants.{Full, Half}
+use Rattle.codegen_operation.specs.declared.operation.Bytes.{Bytes}
+use Rattle.codegen_operation.specs.declared.operation.Bytes.TheVariants.{One, Two, Four, Eight}
+use Rattle.codegen_operation.specs.declared.operation.DivisionPart.{DivisionPart}
+use Rattle.codegen_operation.specs.declared.operation.DivisionPart.TheVariants.{Quotient, Remainder}
+use Rattle.codegen_operation.specs.declared.operation.Condition.{Condition}
+use Rattle.codegen_operation.specs.declared.operation.Condition.TheVariants.{Equal, NotEqual, Less, LessOrEqual, Greater, GreaterOrEqual}
+use Rattle.codegen_operation.specs.declared.operation.Condition.TheVariants.{SignedLess, SignedLessOrEqual, SignedGreater, SignedGreaterOrEqual}
 
 -- the result of an operator, modulo 2^64
 abbrev pub computed : Operator → ℕ → ℕ → ℕ

@@ -4,7 +4,7 @@ use Rattle.std.specs.Prelude.{slice_get}
 use Rattle.regalloc2_names.specs.Register.{VirtualRegister}
 use Rattle.regalloc2_names.specs.Operand.{OperandValue}
 use Rattle.regalloc2_names.specs.declared.OperandConstraint.TheVariants.{FixedReg}
-use Rattle.codegen_ir.specs.Operands.{argument_in, argument_registers, arguments_in, call_operands, def_in, passed_in, passed_on_stack}
+use Rattle.codegen_operation.specs.Operands.{argument_in, argument_registers, arguments_in, call_operands, def_in, passed_in, passed_on_stack}
 
 arguments_none : (rs : List ℕ) → arguments_in rs [] ≡ []
 unfolding arguments_in

@@ -11,8 +11,8 @@ use Rattle.regalloc2_names.specs.declared.OperandKind.{OperandKind}
 use Rattle.regalloc2_names.specs.declared.OperandKind.TheVariants.{Def, Use}
 use Rattle.regalloc2_names.specs.declared.OperandPos.{OperandPos}
 use Rattle.regalloc2_names.specs.declared.OperandPos.TheVariants.{Early, Late}
-use Rattle.codegen_ir.specs.Operands.{operands_of}
-use Rattle.codegen_ir.specs.declared.operation.Operation.{Operation}
+use Rattle.codegen_operation.specs.Operands.{operands_of}
+use Rattle.codegen_operation.specs.declared.operation.Operation.{Operation}
 
 class_back : (c : RegClass) → class_of_code (class_code c) ≡ c
 class_back Int = refl

@@ -1,5 +1,5 @@
 use Rattle.std.proofs.Common.{rules}
-use Rattle.codegen_ir.proofs.operation.passed.Goals as goal
+use Rattle.codegen_operation.proofs.line.passed.Goals as goal
 
 pub returns-in-Some : goal.returns-in-Some
 returns-in-Some c = search rules

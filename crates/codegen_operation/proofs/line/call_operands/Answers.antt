@@ -2,9 +2,9 @@ use Rattle.std.proofs.Common.{◌≡◌, ◌∷◌, ◌++◌, [], List, take, ap
 use Rattle.std.specs.Prelude.{slice_get}
 use Rattle.regalloc2_names.specs.Operand.{OperandValue}
 use Rattle.regalloc2_names.specs.declared.OperandConstraint.TheVariants.{FixedReg}
-use Rattle.codegen_ir.specs.Operands.{argument_in, argument_registers, call_operands, def_in}
-use Rattle.codegen_ir.proofs.Arguments.{operands_all, operands_next, operands_none}
-use Rattle.codegen_ir.proofs.operation.call_operands.Goals as goal
+use Rattle.codegen_operation.specs.Operands.{argument_in, argument_registers, call_operands, def_in}
+use Rattle.codegen_operation.proofs.Arguments.{operands_all, operands_next, operands_none}
+use Rattle.codegen_operation.proofs.line.call_operands.Goals as goal
 
 pub loop-index-init : goal.loop-index-init
 loop-index-init c =
