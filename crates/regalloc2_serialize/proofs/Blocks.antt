@@ -1,5 +1,5 @@
--- Blocks from five lists.
-use Rattle.std.proofs.Common.{◌≡◌, ◌∙◌, ℕ, ◌<◌, List, [], length, map, get_or, ap, sym, arith, refl}
+-- Blocks from five lists, and those of a table.
+use Rattle.std.proofs.Common.{◌≡◌, ◌∙◌, ℕ, ◌<◌, List, [], length, map, get_or, ap, sym, subst, arith, refl}
 use Rattle.std.specs.List.{range_with_len}
 use Rattle.std.proofs.lemmas.List.{ext_get_or, get_or-map, length-map, map-id}
 use Rattle.std.proofs.lemmas.Simd.{map-map}
@@ -10,6 +10,8 @@ use Rattle.regalloc2_names.specs.RegisterBits.{vreg_of_bits}
 use Rattle.regalloc2_function.specs.FunctionValue.{BlockValue, no_block}
 use Rattle.regalloc2_serialize.specs.Decoded.{stored_block, stored_range}
 use Rattle.regalloc2_serialize.specs.declared.data.StoredFunction.{StoredFunction}
+use Rattle.regalloc2_serialize.specs.declared.table_function.table.TableBlock.{TableBlock}
+use Rattle.regalloc2_serialize.specs.TableFunction.Table.{block_of_table}
 
 long-map : {X Y : Type 0} (f : X → Y) (xs : List X) → length (map f xs) ≡ length xs
 long-map f xs = length-map xs f
@@ -59,3 +61,10 @@ read-blocks s view xs hr hs hp hv ha = ext_get_or no_block bs named (long ∙ sy
         (under-at (map (λ k. map vreg_of_bits k.items)) (λ b. b.arguments) (map (λ l. l.items) s.block_params_out.items) bs i [] no_block less
         (map-map (map (λ k. map vreg_of_bits k.items)) (λ l. l.items) s.block_params_out.items ∙ ha ∙ sym (map-map (λ b. b.arguments) view xs)))
         ∙ sym (get_or-map-range_with_len (stored_block s) 0 count i i no_block (omega (arith, less, long)) (omega arith))
+
+-- the block that is read at a number is the function's
+pub block-read : {A : Type 0} (blocks : List (TableBlock A)) (i j : ℕ) (b : TableBlock A) → i < length (map block_of_table blocks) → j ≡ i →
+    b ≡ get_or blocks j b → block_of_table b ≡ get_or (map block_of_table blocks) i no_block
+block-read {A} blocks i j b less same is =
+    let at : b ≡ get_or blocks i b = subst (λ (k : ℕ). b ≡ get_or blocks k b) same is in
+    ap block_of_table at ∙ sym (get_or-map block_of_table blocks i b no_block (rw length-map at less))

@@ -9,7 +9,8 @@ use Rattle.serde_json.specs.Data.{Data}
 use Rattle.regalloc2_function.specs.declared.serialize.StoredFault.{StoredFault}
 use Rattle.regalloc2_function.specs.declared.serialize.StoredFault.TheVariants.{Memory, Shape}
 use Rattle.regalloc2_serialize.specs.FromJson.{byte, word, long, triple, quadruple, or_null, list, member}
-use Rattle.regalloc2_serialize.specs.JsonShape.{machine, output, HasJsonShape, IsFunctionAt, IsRefusal}
+use Rattle.regalloc2_serialize.specs.JsonShape.{inst, machine, opcode, output, HasJsonShape, IsFunctionAt, IsRefusal}
+use Rattle.regalloc2_serialize.specs.declared.data.InstOpcode.{InstOpcode}
 use Rattle.regalloc2_serialize.specs.declared.data.StoredFunction.{StoredFunction}
 
 -- mapping a list by two functions that agree everywhere gives equal lists
@@ -43,6 +44,23 @@ lists-read items o xs h = h ∙ ap Some (lists-shown items xs)
 pub nested-read : {X Y : Type 0} (items : X → List Y) (inner : Y → List ℕ) (o : Option (List (List (List ℕ)))) (xs : List X) →
     o ≡ Some (map (λ v. map (λ w. map (λ n. n) (inner w)) (items v)) xs) → o ≡ Some (map (λ v. map inner (items v)) xs)
 nested-read items inner o xs h = h ∙ ap Some (nested-shown items inner xs)
+
+-- where its three members are read from JSON, an instruction is read that has them
+pub inst-read : (d : Data) (op : InstOpcode) (operands clobbers : List ℕ) → member (codes "op") opcode d ≡ Some op →
+    member (codes "operands") (list long) d ≡ Some (map (λ n. n) operands) → member (codes "clobbers") (list byte) d ≡ Some (map (λ n. n) clobbers) →
+    inst d ≡ Some (record { op = op; operands = operands; clobbers = clobbers })
+inst-read d op operands clobbers a b c = rw (a, plain-read _ operands b, plain-read _ clobbers c) refl
+
+-- and none where one is missing
+pub no-inst-op : (d : Data) → member (codes "op") opcode d ≡ None → inst d ≡ None
+no-inst-op d a = rw a refl
+
+pub no-inst-operands : (d : Data) (op : InstOpcode) → member (codes "op") opcode d ≡ Some op → member (codes "operands") (list long) d ≡ None → inst d ≡ None
+no-inst-operands d op a b = rw (a, b) refl
+
+pub no-inst-clobbers : (d : Data) (op : InstOpcode) (operands : List ℕ) → member (codes "op") opcode d ≡ Some op →
+    member (codes "operands") (list long) d ≡ Some (map (λ n. n) operands) → member (codes "clobbers") (list byte) d ≡ None → inst d ≡ None
+no-inst-clobbers d op operands a b c = rw (a, plain-read _ operands b, c) refl
 
 machine-made : (d : Data) (p n : List (List ℕ)) (s : List (Option ℕ)) (f : List ℕ) →
     member (codes "preferred_regs_by_class") (list (list byte)) d ≡ Some p →

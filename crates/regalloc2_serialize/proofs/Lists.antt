@@ -1,5 +1,5 @@
 -- Lists that are walked side by side.
-use Rattle.std.proofs.Common.{◌≡◌, ◌∙◌, ℕ, ◌+◌, ◌<◌, List, [], ◌∷◌, ◌++◌, length, map, take, get_or, ap, sym, subst, refl}
+use Rattle.std.proofs.Common.{◌≡◌, ◌∙◌, ℕ, ◌+◌, ◌<◌, List, [], ◌∷◌, ◌++◌, length, map, take, get_or, ap, sym, subst, refl, arith}
 use Rattle.std.specs.List.{AllZip}
 use Rattle.std.specs.Prelude.{All}
 use Rattle.std.proofs.lemmas.List.Elements.{All-map}
@@ -26,6 +26,16 @@ pub zip-more : {X Y Z : Type 0} (R : X → Y → Type 0) (f : Z → Y) (xs : Lis
     i < length xs → x ≡ get_or xs i x → AllZip R (take i xs) (map f zs) → R x (f z) → AllZip R (take (i + 1) xs) (map f (zs ++ z ∷ []))
 zip-more R f xs zs i x z less is before here =
     rw (take_more xs i x less, ← is, map-append f zs (z ∷ [])) (all_zipped_more R (take i xs) (map f zs) x (f z) before here)
+
+-- three pairs
+pub three-zipped : {X Y : Type 0} (R : X → Y → Type 0) (xs : List X) (a b c : X) (s t u : Y) → length xs ≡ 3 →
+    a ≡ get_or xs 0 a → b ≡ get_or xs 1 b → c ≡ get_or xs 2 c → R a s → R b t → R c u → AllZip R xs (s ∷ t ∷ u ∷ [])
+three-zipped R [] a b c s t u long ia ib ic ra rb rc = absurd (omega (arith, long))
+three-zipped R (x ∷ []) a b c s t u long ia ib ic ra rb rc = absurd (omega (arith, long))
+three-zipped R (x ∷ y ∷ []) a b c s t u long ia ib ic ra rb rc = absurd (omega (arith, long))
+three-zipped R (x ∷ y ∷ z ∷ []) a b c s t u long ia ib ic ra rb rc =
+    (subst (λ w. R w s) ia ra, (subst (λ w. R w t) ib rb, (subst (λ w. R w u) ic rc, tt)))
+three-zipped R (x ∷ y ∷ z ∷ w ∷ ws) a b c s t u long ia ib ic ra rb rc = absurd (omega (arith, long))
 
 -- what each has under one view, each has under another that gives the same list
 pub all-under : {X Y Z : Type 0} (P : Y → Type 0) (f : X → Y) (h : Z → Y) (xs : List X) (zs : List Z) →

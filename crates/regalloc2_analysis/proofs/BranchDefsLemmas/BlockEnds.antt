@@ -1,7 +1,7 @@
 -- The last instructions of blocks, and how a well-formed function's branches define.
-use Rattle.std.proofs.Common.{ℕ, zero, suc, ◌≡◌, ◌-◌, ◌<◌, ◌≤◌, inl, inr, true, false, List, length, refl, sym, ap, ◌∙◌, subst, arith}
-use Rattle.std.specs.Prelude.{slice_index_or}
-use Rattle.std.proofs.lemmas.Bool.{cases_lt}
+use Rattle.std.proofs.Common.{ℕ, zero, suc, ◌≡◌, ◌-◌, ◌<◌, ◌≤◌, inl, inr, Bool, true, false, List, length, refl, sym, ap, ◌∙◌, subst, arith}
+use Rattle.std.specs.Prelude.{slice_index_or, IsTrue, ◌↔◌}
+use Rattle.std.proofs.lemmas.Bool.{cases_lt, false≢true}
 use Rattle.regalloc2_function.specs.FunctionValue.{FunctionValue, block_at, inst_at, no_operand}
 use Rattle.regalloc2_function.specs.WellFormed.{BlocksFollow, last_of}
 use Rattle.std.proofs.lemmas.List.{get_or_read}
@@ -9,7 +9,7 @@ use Rattle.regalloc2_names.specs.Operand.{OperandValue}
 use Rattle.regalloc2_function.specs.FunctionValue.{op_at}
 use Rattle.regalloc2_semantics.proofs.SingleDef.{DefinesAt}
 use Rattle.regalloc2_semantics.proofs.Order.{ends_within}
-use Rattle.regalloc2_analysis.specs.BranchDefs.BranchDefs.{DefinesNumber, HasDefinitions, IsSite, MayHaveTables}
+use Rattle.regalloc2_analysis.specs.BranchDefs.BranchDefs.{DefinesNumber, EndsInDefinitions, HasDefinitions, IsSite, MayHaveTables}
 
 -- what is read at an index is the operand of that index
 pub read_operand : (ops : List OperandValue) (k : ℕ) (o : OperandValue) → k < length ops → o ≡ slice_index_or ops k o → o ≡ op_at ops k
@@ -23,6 +23,14 @@ within_function f w b lt = ((w.1.follow b lt).0, ends_within f w.1.follow b lt)
 -- and so is its last one
 pub last_within : (f : FunctionValue) → MayHaveTables f → (b : ℕ) → b < length f.blocks → last_of (block_at f b) < length f.insts
 last_within f w b lt = let h = within_function f w b lt in omega (arith, h.0, h.1)
+
+-- a block that doesn't end in a branch doesn't end in definitions
+pub ends_otherwise : (f : FunctionValue) (b i : ℕ) (branches : Bool) → i ≡ last_of (block_at f b) → branches ≡ (inst_at f i).is_branch → branches ≡ false →
+    IsTrue branches ↔ EndsInDefinitions f b
+ends_otherwise f b i branches last is none = (
+  λ t. absurd (false≢true (sym none ∙ t)),
+  λ e. absurd (false≢true (sym none ∙ is ∙ ap (λ (j : ℕ). (inst_at f j).is_branch) last ∙ e.0)),
+)
 
 -- each instruction is in a block
 block_of : (f : FunctionValue) → BlocksFollow f → (b i : ℕ) → b < length f.blocks → i < (block_at f b).range.end → (c : ℕ) × (c < length f.blocks)

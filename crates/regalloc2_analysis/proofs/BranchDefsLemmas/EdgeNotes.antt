@@ -3,7 +3,7 @@ use Rattle.std.proofs.Common.{ℕ, ◌≡◌, ◌+◌, ◌-◌, ◌<◌, ◌≤�
 use Rattle.std.proofs.Common.{length-append, append_assoc, take, drop, length-drop}
 use Rattle.std.specs.Prelude.{Option, None, Some, IsSome, slice_index, slice_index_or, slice_range, Contains, ◌↔◌, ◌||◌}
 use Rattle.std.proofs.lemmas.Bool.{cases_eq, cases_lt, cases_Bool, or_cases, or_left, or_right}
-use Rattle.std.proofs.lemmas.List.{get_or_append_left, get_or-append-add, drop-append-le, take-append-le}
+use Rattle.std.proofs.lemmas.List.{append-nil, get_or_append_left, get_or-append-add, drop-append-le, take-append-le}
 use Rattle.std.proofs.lemmas.List.Elements.{Contains-append_left, Contains-append_right, Contains-append_cases, Contains-get_or}
 use Rattle.std.proofs.Math.Seq.{drop-append_seam}
 use Rattle.std.proofs.lemmas.Grind.{common_steps}
@@ -69,6 +69,15 @@ only x y h = elim (cases_eq h.0 0) [
   | inl same ↦ subst (λ (i : ℕ). slice_index_or (x ∷ []) i y ≡ y) same h.2
   | inr ne ↦ absurd (let lt = h.1 in omega (arith, lt, ne))
 ]
+
+-- of the first none nothing is listed
+pub lists_none : (used : List Bool) (ops : List OperandValue) (old : List ℕ) → ListsStored used ops 0 old old
+lists_none used ops old = record {
+  added = [];
+  is = sym (append-nil old);
+  rising = λ i j less lt. absurd (omega (arith, lt));
+  members = λ k. (λ h. absurd (let lt = h.1 in omega (arith, lt)), λ h. absurd (let lt = h.0 in omega (arith, lt)));
+}
 
 -- one operand more that is listed
 pub lists_more : (used : List Bool) (ops : List OperandValue) (k : ℕ) (old mid : List ℕ) → IsMarkedDefinition used (op_at ops k) →
@@ -192,6 +201,15 @@ edge_at f b p edge listed added h lt = record {
       (subst (λ (m : ℕ). AreStoredOperands f (inst_at f (last_of (block_at f b))).operands (slice_range (listed ++ added) m edge.end)) (sym h.first)
       (subst (λ (m : ℕ). AreStoredOperands f (inst_at f (last_of (block_at f b))).operands (slice_range (listed ++ added) (length listed) m)) (sym h.end)
       (subst (AreStoredOperands f (inst_at f (last_of (block_at f b))).operands) (sym (range_behind listed added)) h.stored)));
+}
+
+-- before the first block there is no edge
+pub edges_none : (f : FunctionValue) (edges : List (Option EdgeInto)) (stored : List ℕ) → length edges ≡ length f.blocks →
+    ((n : ℕ) → slice_index_or edges n None ≡ None) → AreEdges f 0 edges stored
+edges_none f edges stored long none = record {
+  long = long;
+  edge = λ b e is. absurd (let no : None ≡ Some e = sym (none b) ∙ is in cc);
+  no_edge = λ b is from position less. absurd (omega (arith, less));
 }
 
 -- one block more that ends in definitions

@@ -1,6 +1,6 @@
 -- What instructions use is marked: what they read, and what they pass and don't define.
 use Rattle.std.proofs.Common.{ℕ, ◌≡◌, ◌+◌, ◌<◌, ◌⊎◌, inl, inr, Bool, true, false, List, [], length, refl, sym, ap, ◌∙◌, subst, arith}
-use Rattle.std.specs.Prelude.{Option, None, Some, slice_index_or, Contains, ◌↔◌}
+use Rattle.std.specs.Prelude.{Option, None, Some, slice_index_or, Contains}
 use Rattle.std.proofs.lemmas.Bool.{cases_eq}
 use Rattle.std.proofs.lemmas.List.{get_or_default}
 use Rattle.regalloc2_names.specs.declared.OperandPos.{OperandPos}
@@ -21,20 +21,9 @@ use Rattle.regalloc2_analysis.specs.BranchDefs.BranchDefs.{DefinesNumber, IsSite
 use Rattle.regalloc2_analysis.specs.BranchDefs.Notes.{AreUsed, IsSiteAt, PassesAmong, PassesIn, PassesOut, ReadsAmong, ReadsIn}
 use Rattle.regalloc2_analysis.specs.BranchDefs.Tables.{AreDefSites}
 use Rattle.regalloc2_analysis.specs.declared.branch_defs.DefSite.{DefSite}
-use Rattle.regalloc2_analysis.proofs.BranchDefsLemmas.BlockEnds.{goes_on_by_branch, site_defines}
+use Rattle.regalloc2_analysis.proofs.MarkedItems.{marks_then, same_item}
+use Rattle.regalloc2_analysis.proofs.BranchDefsLemmas.BlockEnds.{goes_on_by_branch, read_operand, site_defines}
 use Rattle.regalloc2_analysis.proofs.BranchDefsLemmas.RoomForNumbers.{made_room}
-
--- one kind after another
-pub marks_then : (P Q R : ℕ → Type 0) (old mid new : List Bool) → length mid ≡ length old → Marks P old mid → Marks Q mid new →
-    ((n : ℕ) → R n ↔ (P n ⊎ Q n)) → Marks R old new
-marks_then P Q R old mid new long a b either = record {
-  marked = λ n e. elim (b.marked n e) [
-    | inr now ↦ (let lt = now.0 in inr (omega (arith, lt, long), (either n).1 (inr now.1)))
-    | inl was ↦ elim (a.marked n was) [ inl first ↦ inl first | inr mine ↦ inr (mine.0, (either n).1 (inl mine.1)) ]
-  ];
-  kept = λ n e. b.kept n (a.kept n e);
-  marks = λ n lt r. elim ((either n).0 r) [ inl p ↦ b.kept n (a.marks n lt p) | inr q ↦ b.marks n (omega (arith, lt, long)) q ];
-}
 
 -- one of the first count + 1 is one of the first count, or the last
 last_or_before : (P : ℕ → Type 0) (count : ℕ) → ((k : ℕ) × (k < count + 1) × P k) → ((k : ℕ) × (k < count) × P k) ⊎ P count
@@ -42,6 +31,39 @@ last_or_before P count h = elim (cases_eq h.0 count) [
   | inl same ↦ inr (subst P same h.2)
   | inr ne ↦ (let lt = h.1 in inl (h.0, omega (arith, lt, ne), h.2))
 ]
+
+-- one operand more
+pub reads_more : (ops : List OperandValue) (k : ℕ) (o : OperandValue) (old mid new : List Bool) → k < length ops → o ≡ slice_index_or ops k o →
+    length mid ≡ length old → Marks (ReadsAmong ops k) old mid → Marks (λ n. (is_reading o ≡ true) × (o.vreg.number ≡ n)) mid new →
+    Marks (ReadsAmong ops (k + 1)) old new
+reads_more ops k o old mid new lt is long a m =
+    let Here : ℕ → Type 0 = λ n. (is_reading (op_at ops k) ≡ true) × ((op_at ops k).vreg.number ≡ n) in
+    let here : Marks Here mid new
+    = subst (λ (p : OperandValue). Marks (λ n. (is_reading p ≡ true) × (p.vreg.number ≡ n)) mid new) (read_operand ops k o lt is) m in
+    marks_then (ReadsAmong ops k) Here (ReadsAmong ops (k + 1)) old mid new long a here
+    (λ n. (
+      λ r. elim (last_or_before (λ (x : ℕ). (is_reading (op_at ops x) ≡ true) × ((op_at ops x).vreg.number ≡ n)) k (r.0, r.1, (r.2, r.3))) [
+        | inl p ↦ inl (p.0, p.1, p.2.0, p.2.1)
+        | inr q ↦ inr q
+      ],
+      λ e. elim e [ inl p ↦ (let less = p.1 in (p.0, omega (arith, less), p.2, p.3)) | inr q ↦ (k, omega arith, q.0, q.1) ],
+    ))
+
+-- one argument more
+pub arguments_more : (sites : List (Option DefSite)) (inst : ℕ) (arguments : List VirtualRegister) (j : ℕ) (v : VirtualRegister) (old mid new : List Bool) →
+    j < length arguments → v ≡ slice_index_or arguments j v → length mid ≡ length old → Marks (PassesAmong sites inst arguments j) old mid →
+    Marks (λ n. (v.number ≡ n) × (IsSiteAt sites n inst → ⊥)) mid new → Marks (PassesAmong sites inst arguments (j + 1)) old new
+arguments_more sites inst arguments j v old mid new lt is long a m =
+    marks_then (PassesAmong sites inst arguments j) (λ n. (v.number ≡ n) × (IsSiteAt sites n inst → ⊥)) (PassesAmong sites inst arguments (j + 1)) old mid new
+    long a m
+    (λ n. (
+      λ r. elim (cases_eq r.0 j) [
+        | inl same ↦ (let it = same_item arguments j r.0 v r.1 lt is r.3 same in
+            inr (ap (λ (w : VirtualRegister). w.number) it ∙ r.4, r.5))
+        | inr ne ↦ (let less = r.2 in inl (r.0, r.1, omega (arith, less, ne), r.3, r.4, r.5))
+      ],
+      λ e. elim e [ inl p ↦ (let less = p.2 in (p.0, p.1, omega (arith, less), p.3, p.4, p.5)) | inr q ↦ (j, v, omega arith, sym is, q.0, q.1) ],
+    ))
 
 -- one edge more
 pub edges_more : (f : FunctionValue) (sites : List (Option DefSite)) (b k inst : ℕ) (arguments : List VirtualRegister) (old mid new : List Bool) →

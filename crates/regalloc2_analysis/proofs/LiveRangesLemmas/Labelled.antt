@@ -1,7 +1,8 @@
 -- The numbers that labels name, marked in a table.
-use Rattle.std.proofs.Common.{ℕ, zero, suc, nat_eq, ◌≡◌, ◌<◌, inl, inr, Bool, true, false, not, List, [], ◌∷◌, length, map, refl, sym, ap, ◌∙◌, subst, arith}
-use Rattle.std.specs.Prelude.{Option, slice_index_or, ◌↔◌}
+use Rattle.std.proofs.Common.{ℕ, zero, suc, nat_eq, ◌≡◌, ◌+◌, ◌<◌, inl, inr, Bool, true, false, not, List, [], ◌∷◌, length, map, refl, sym, ap, ◌∙◌, subst, arith}
+use Rattle.std.specs.Prelude.{Option, Result, Ok, Err, Vec, IfOk, slice_index_or, ◌↔◌}
 use Rattle.std.specs.List.{Any}
+use Rattle.std.proofs.lemmas.Bool.{cases_eq, eqb-true}
 use Rattle.regalloc2_names.specs.Register.{VirtualRegister}
 use Rattle.regalloc2_function.specs.FunctionValue.{FunctionValue, Label, label_of}
 use Rattle.regalloc2_function.specs.DebugPoints.{IsFirstPoint}
@@ -9,8 +10,9 @@ use Rattle.regalloc2_function.specs.DebugPoints.IsFirstPoint.{of_definition, of_
 use Rattle.regalloc2_shape.specs.TableLength.{HasRoom}
 use Rattle.regalloc2_shape.specs.MarkedNumbers.{Marks}
 use Rattle.regalloc2_analysis.specs.declared.live_ranges.LiveRange.{LiveRange}
-use Rattle.regalloc2_analysis.specs.LiveRanges.LiveRanges.{AreLiveRanges, IsLabelled, IsSSA, IsWanted}
+use Rattle.regalloc2_analysis.specs.LiveRanges.LiveRanges.{AreLabelsMarked, AreLiveRanges, IsLabelled, IsSSA, IsWanted}
 use Rattle.regalloc2_analysis.specs.LiveRanges.Marks.{NamedAmong}
+use Rattle.regalloc2_analysis.proofs.MarkedItems.{marks_then, same_item}
 use Rattle.regalloc2_analysis.proofs.LiveRangesLemmas.UsesInSSA.{defined_small, parameter_small}
 
 pub none_is : (b : Bool) → (b ≡ true → ⊥) → not b ≡ true
@@ -79,3 +81,31 @@ ranges_of_labelled f ssa wanted t room same are = record {
     small : (v : VirtualRegister) {start : ℕ} → IsFirstPoint f v start → v.number < length wanted
     small v (of_definition i d) = defined_small f ssa (length wanted) room v i d
     small v (of_parameter b lt h) = parameter_small f ssa (length wanted) room v b lt h
+
+-- the number of one label more is marked
+pub named_more : (labels : List Given) (j : ℕ) (l : Given) (old mid new : List Bool) → j < length labels → l ≡ slice_index_or labels j l →
+    length mid ≡ length old → Marks (NamedAmong labels j) old mid → Marks (λ n. l.0.number ≡ n) mid new → Marks (NamedAmong labels (j + 1)) old new
+named_more labels j l old mid new lt is long a m =
+    marks_then (NamedAmong labels j) (λ n. l.0.number ≡ n) (NamedAmong labels (j + 1)) old mid new long a m
+    (λ n. (
+      λ r. elim (cases_eq r.0 j) [
+        | inl same ↦ inr (ap (λ (x : Given). x.0.number) (same_item labels j r.0 l r.1 lt is r.3 same) ∙ r.4)
+        | inr ne ↦ (let less = r.2 in inl (r.0, r.1, omega (arith, less, ne), r.3, r.4))
+      ],
+      λ e. elim e [ inl p ↦ (let less = p.2 in (p.0, p.1, omega (arith, less), p.3, p.4)) | inr q ↦ (j, l, omega arith, sym is, q) ],
+    ))
+
+-- without labels no number is marked, in a table without entries
+pub marked_none : (f : FunctionValue) (items : List Given) (marks : List Bool) → map label_of items ≡ f.labels → nat_eq (length items) 0 ≡ true →
+    marks ≡ [] → AreLabelsMarked f marks
+marked_none f items marks same empty none =
+    let long : length f.labels ≡ length items = ap (λ (ls : List Label). length ls) (sym same) ∙ as_many items in
+    let no : length items ≡ 0 = eqb-true (length items) 0 empty in
+    let nil : length marks ≡ 0 = ap (λ (bs : List Bool). length bs) none in
+    record { room = λ lt. absurd (omega (arith, lt, long, no)); marks = λ n lt. absurd (omega (arith, lt, nil)) }
+
+-- a table that is made has both
+pub marked_some : {A E : Type 0} (f : FunctionValue) (r : Result (Vec Bool A) E) → IfOk r (λ w. HasRoom f (length w.items)) →
+    IfOk r (λ w. (n : ℕ) → n < length w.items → IsWanted w.items n ↔ IsLabelled f n) → IfOk r (λ w. AreLabelsMarked f w.items)
+marked_some f (Ok w) room marks = record { room = λ _. room; marks = marks }
+marked_some f (Err e) room marks = tt

@@ -10,11 +10,12 @@ use Rattle.regalloc2_names.specs.Register.{VirtualRegister}
 use Rattle.regalloc2_names.specs.Operand.{OperandValue, is_position, is_reading, reads_at}
 use Rattle.regalloc2_names.proofs.EqualNames.{is_position-true, is_position-same}
 use Rattle.regalloc2_function.specs.FunctionValue.{FunctionValue, block_at, inst_at}
+use Rattle.regalloc2_function.specs.SourceRun.{arguments_at}
 use Rattle.regalloc2_function.specs.WellFormed.{BlocksFollow}
 use Rattle.regalloc2_function.specs.FunctionValue.{op_at}
 use Rattle.regalloc2_semantics.proofs.Order.{stands_later}
 use Rattle.regalloc2_analysis.specs.declared.live_ranges.ends.RangeEnd.{RangeEnd}
-use Rattle.regalloc2_analysis.specs.LiveRanges.LastUses.{EndsFrom, EndsUse, HasPassed, NotesRangeEnd, NotesPassed, NotesReads, NotesUses}
+use Rattle.regalloc2_analysis.specs.LiveRanges.LastUses.{EndsFrom, EndsUse, HasNumber, HasPassed, NotesArguments, NotesRangeEnd, NotesPassed, NotesReads, NotesUses}
 use Rattle.regalloc2_analysis.specs.LiveRanges.LastUses.{PassesNumber, ReadsFirst, ReadsNumber, UsesNumber, end_at, end_of_argument, end_of_reader}
 use Rattle.regalloc2_analysis_steps.specs.Ends.{read_end}
 use Rattle.regalloc2_analysis.specs.LiveRanges.LastUses.UsesNumber.{reads, passes}
@@ -144,6 +145,23 @@ passed_here f follow b i n lt from upto p =
 pub notes_nothing : (F : Type 0) (S : RangeEnd → Type 0) (o : Option RangeEnd) → (F → ⊥) → NotesRangeEnd F S o o
 notes_nothing F S (Some e) never = refl
 notes_nothing F S None never = never
+
+-- the arguments for one successor more
+pub passed_more : (f : FunctionValue) (b i m n : ℕ) (arguments : List VirtualRegister) (old mid new : Option RangeEnd) → arguments ≡ arguments_at f b m →
+    NotesPassed f b i m n old mid → NotesArguments i arguments (length arguments) n mid new → NotesPassed f b i (m + 1) n old new
+passed_more f b i m n arguments old mid new is h k =
+    let F : Type 0 = HasPassed f b m n in
+    let G : Type 0 = HasNumber (arguments_at f b m) (length (arguments_at f b m)) n in
+    let H : Type 0 = HasPassed f b (m + 1) n in
+    let here : NotesArguments i (arguments_at f b m) (length (arguments_at f b m)) n mid new =
+    subst (λ (vs : List VirtualRegister). NotesArguments i vs (length vs) n mid new) is k in
+    notes_weaker (F ⊎ G) H (λ e. (F × (e ≡ end_of_argument i)) ⊎ ((F → ⊥) × (G × (e ≡ end_of_argument i)))) (λ e. H × (e ≡ end_of_argument i)) old new
+    (λ s. elim (below_or_last s.0 m s.1) [
+      | inl lt ↦ inl (s.0, lt, s.2)
+      | inr same ↦ inr (subst (λ (t : ℕ). HasNumber (arguments_at f b t) (length (arguments_at f b t)) n) same s.2)
+    ])
+    (λ e s. elim s [ inl x ↦ (let lt = x.0.1 in ((x.0.0, omega (arith, lt), x.0.2), x.1)) | inr y ↦ ((m, omega arith, y.1.0), y.1.1) ])
+    (notes_then F G (λ e. F × (e ≡ end_of_argument i)) (λ e. G × (e ≡ end_of_argument i)) old mid new h here)
 
 -- the arguments of an instruction
 abbrev NotesPasses : FunctionValue → ℕ → ℕ → Option RangeEnd → Option RangeEnd → Type 0

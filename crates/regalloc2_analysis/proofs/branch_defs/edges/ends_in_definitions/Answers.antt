@@ -2,7 +2,7 @@ use Rattle.std.proofs.Common.{◌≡◌, ◌<◌, ◌-◌, ◌∙◌, ap, sym, s
 use Rattle.regalloc2_index.specs.Range.{Span}
 use Rattle.regalloc2_function.specs.FunctionValue.{FunctionValue, block_at}
 use Rattle.regalloc2_function.specs.WellFormed.{last_of}
-use Rattle.regalloc2_analysis.proofs.BranchDefsLemmas.BlockEnds.{last_within, within_function}
+use Rattle.regalloc2_analysis.proofs.BranchDefsLemmas.BlockEnds.{ends_otherwise, last_within, within_function}
 use Rattle.regalloc2_analysis.proofs.branch_defs.edges.ends_in_definitions.Goals as goal
 
 pub last-last-requires : goal.last-last-requires
@@ -21,3 +21,8 @@ inst_operands-requires g c =
     let f : FunctionValue = g.F.Function.function c.args.f.now in
     let last : c.last-last.result ≡ last_of (block_at f c.args.block) = c.last-last.ensures ∙ ap (λ (r : Span). r.end - 1) c.block_insns.ensures in
     omega (arith, last, last_within f c.requires.well_formed c.args.block c.requires.block)
+
+pub returns-else-is_branch : goal.returns-else-is_branch
+returns-else-is_branch g c =
+    ends_otherwise (g.F.Function.function c.args.f.now) c.args.block c.last-last.result c.is_branch.result
+    (c.last-last.ensures ∙ ap (λ (r : Span). r.end - 1) c.block_insns.ensures) c.is_branch.ensures c.if-is_branch.false

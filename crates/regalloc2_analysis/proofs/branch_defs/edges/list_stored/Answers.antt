@@ -1,8 +1,9 @@
-use Rattle.std.proofs.Common.{ℕ, List, sym, subst}
+use Rattle.std.proofs.Common.{ℕ, ◌≡◌, List, length, sym, subst, arith}
+use Rattle.std.proofs.lemmas.Result.{err_from_is_err_and}
 use Rattle.regalloc2_names.specs.Operand.{OperandValue}
-use Rattle.regalloc2_analysis.specs.BranchDefs.Notes.{IsMarkedDefinition}
+use Rattle.regalloc2_analysis.specs.BranchDefs.Notes.{IsMarkedDefinition, ListsStored}
 use Rattle.regalloc2_analysis.proofs.BranchDefsLemmas.BlockEnds.{read_operand}
-use Rattle.regalloc2_analysis.proofs.BranchDefsLemmas.EdgeNotes.{lists_more, lists_same}
+use Rattle.regalloc2_analysis.proofs.BranchDefsLemmas.EdgeNotes.{lists_more, lists_none, lists_same}
 use Rattle.regalloc2_analysis.proofs.branch_defs.edges.list_stored.Goals as goal
 use Rattle.regalloc2_analysis.proofs.branch_defs.edges.list_stored.Goals.{then-is_stored+in_ok-push, else-is_stored}
 
@@ -20,3 +21,14 @@ loop-k-preserved g c =
           (lists_same used ops k c.args.stored.now.items c.loop-k.stored.items
           (λ m. let yes = c.is_stored.ensures.1 (subst (IsMarkedDefinition used) (sym is) m) in let no = w.if-is_stored.false in absurd cc) c.loop-k.invariant)
     ]
+
+pub loop-k-init : goal.loop-k-init
+loop-k-init g c = lists_none c.args.used.now c.args.operands.now c.args.stored.now.items
+
+pub returns : goal.returns
+returns g c =
+    let all : c.loop-k.k ≡ length c.args.operands.now = omega (arith, c.loop-k.auto.k-end, c.loop-k-test.false) in
+    subst (λ (n : ℕ). ListsStored c.args.used.now c.args.operands.now n c.args.stored.now.items c.loop-k.stored.items) all c.loop-k.invariant
+
+pub returns-in_err-push : goal.returns-in_err-push
+returns-in_err-push g c = let p = err_from_is_err_and c.from_residual.result c.from_residual.ensures.1 in rw p.1 tt

@@ -1,4 +1,6 @@
-use Rattle.std.proofs.Common.{◌≡◌, length, sym, subst, arith}
+use Rattle.std.proofs.Common.{◌≡◌, ◌∙◌, length, sym, subst, arith}
+use Rattle.std.proofs.lemmas.List.{with_items_is}
+use Rattle.std.proofs.lemmas.Result.{err_from_is_err_and}
 use Rattle.regalloc2_shape.specs.TableLength.{HasRoom}
 use Rattle.regalloc2_analysis.proofs.branch_defs.uses.used_elsewhere.Goals as goal
 
@@ -6,3 +8,18 @@ pub note_uses-requires-clause-room : goal.note_uses-requires-clause-room
 note_uses-requires-clause-room g c =
     let same : length c.as_mut_slice.result.now ≡ c.args.vregs = omega (arith, c.as_mut_slice.ensures.len, c.in_ok-used.ensures.len) in
     subst (HasRoom (g.F.Function.function c.args.f.now)) (sym same) c.requires.room
+
+pub note_uses-requires-clause-well_formed : goal.note_uses-requires-clause-well_formed
+note_uses-requires-clause-well_formed g c = c.requires.well_formed
+
+pub note_uses-requires-clause-sites : goal.note_uses-requires-clause-sites
+note_uses-requires-clause-sites g c = c.requires.sites
+
+pub note_uses-requires-clause-none : goal.note_uses-requires-clause-none
+note_uses-requires-clause-none g c = rw c.as_mut_slice.ensures.value c.in_ok-used.ensures.none
+
+pub returns : goal.returns
+returns g c = rw (with_items_is c.in_ok-used.used c.note_uses.new.used (c.note_uses.auto.used ∙ c.as_mut_slice.ensures.len)) c.note_uses.ensures
+
+pub returns-in_err-used : goal.returns-in_err-used
+returns-in_err-used g c = let p = err_from_is_err_and c.from_residual.result c.from_residual.ensures.1 in rw p.1 tt

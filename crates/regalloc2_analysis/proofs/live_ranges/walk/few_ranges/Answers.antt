@@ -1,11 +1,11 @@
-use Rattle.std.proofs.Common.{List, Option, ℕ, ◌≡◌, ◌∙◌, length, refl, sym, ap, subst, arith}
-use Rattle.std.specs.Prelude.{None, Some}
+use Rattle.std.proofs.Common.{List, Option, ℕ, ◌≡◌, ◌∙◌, length, sym, ap, subst, arith}
 use Rattle.std.proofs.lemmas.List.{with_items_is}
 use Rattle.regalloc2_function.specs.FunctionValue.{FunctionValue}
 use Rattle.regalloc2_shape.specs.TableLength.{HasRoom}
 use Rattle.regalloc2_analysis.specs.declared.live_ranges.LiveRange.{LiveRange}
 use Rattle.regalloc2_analysis.specs.LiveRanges.LiveRanges.{AreLiveRanges, IsWanted}
 use Rattle.regalloc2_analysis.specs.LiveRanges.Slots.{AreSlots, spread}
+use Rattle.regalloc2_analysis.proofs.MadeTables.{only_none}
 use Rattle.regalloc2_analysis.proofs.live_ranges.walk.few_ranges.Goals as goal
 
 pub walk_blocks-requires-clause-room : goal.walk_blocks-requires-clause-room
@@ -39,11 +39,6 @@ returns-clause-ok g c =
 
 pub returns-clause-few : goal.returns-clause-few
 returns-clause-few g c = omega (arith, c.in_ok-slots.ensures.len, c.table_length.ensures.few)
-
--- a value that is no `Some` is `None`
-only_none : {X : Type 0} (H : Option X → Type 0) → ((x : X) → H (Some x) → ⊥) → (y : Option X) → H y → y ≡ None
-only_none H none None h = refl
-only_none H none (Some x) h = absurd (none x h)
 
 pub walk_blocks-requires-clause-no_ends : goal.walk_blocks-requires-clause-no_ends
 walk_blocks-requires-clause-no_ends g c =

@@ -1,4 +1,4 @@
-use Rattle.std.proofs.Common.{◌≡◌, [], length, map, drop, sym, ◌∙◌, arith, below_more}
+use Rattle.std.proofs.Common.{◌≡◌, [], length, map, drop, refl, sym, ◌∙◌, arith, below_more}
 use Rattle.std.proofs.lemmas.List.{append-nil, drop_all, length-map}
 use Rattle.std.proofs.lemmas.Result.{err_from_is_err_and}
 use Rattle.regalloc2_serialize.specs.TableFunction.Table.{block_of_table}
@@ -39,3 +39,19 @@ returns-clause-ok g c =
       others = c.loop-number.invariant.others;
       preds = λ b l. sym (append-nil _) ∙ (rw all at (c.loop-number.invariant.preds b (rw length-map at l)));
     }
+
+pub returns-clause-within : goal.returns-clause-within
+returns-clause-within g c b less =
+    c.loop-number.invariant.within b (omega (arith, less, c.loop-number-test.false, c.len-number-end.ensures, c.args.blocks.now.ok.0))
+
+pub loop-number-init : goal.loop-number-init
+loop-number-init g c = record { others = refl; preds = λ b less. refl; within = λ b less. absurd (omega (arith, less)) }
+
+pub new-requires : goal.new-requires
+new-requires g c = omega (arith, c.loop-number-test.true, c.len-number-end.ensures, c.requires)
+
+pub returns-in_err-link_one-clause-ok : goal.returns-in_err-link_one-clause-ok
+returns-in_err-link_one-clause-ok g c = let p = err_from_is_err_and c.from_residual.result c.from_residual.ensures.1 in rw p.1 tt
+
+pub returns-in_err-link_one-clause-within : goal.returns-in_err-link_one-clause-within
+returns-in_err-link_one-clause-within g c = let p = err_from_is_err_and c.from_residual.result c.from_residual.ensures.1 in rw p.1 tt
