@@ -231,7 +231,9 @@ impl<'a, A: Allocator> State<'a, A> {
     {
         let preg = self.choose_free(inst_regs, request.vreg.class(), request.positions)?;
         match request.requirement {
+            // it is required
             Requirement::AnyReg => granted(preg, true, false),
+            // it may be preferred
             Requirement::AnyPlace => {
                 granted(preg, false, self.prefers_register(inst_regs, request, preg))
             }
