@@ -1,5 +1,5 @@
 -- Chains of tests joined by `&&`.
-use Rattle.std.proofs.Common.{◌≡◌, ◌∙◌, sym, Bool, true, false}
+use Rattle.std.proofs.Common.{◌≡◌, ◌∙◌, sym, Bool, false}
 use Rattle.std.specs.Prelude.{IsTrue, ◌↔◌}
 use Rattle.std.proofs.lemmas.Bool.{false≢true}
 

@@ -1,5 +1,5 @@
 -- Numbers that are no words of 32 bits, among others.
-use Rattle.std.proofs.Common.{ℕ, zero, suc, ◌≡◌, ◌<◌, ◌+◌, List, [], ◌∷◌, ◌++◌, length, slice_index_or, arith, sym, ◌∙◌, ap, append_assoc}
+use Rattle.std.proofs.Common.{ℕ, zero, suc, ◌≡◌, ◌<◌, List, [], ◌∷◌, ◌++◌, length, slice_index_or, arith, sym, ◌∙◌, ap, append_assoc}
 use Rattle.std.proofs.Common.{subst}
 use Rattle.std.specs.List.{flat_map}
 use Rattle.regalloc2_serialize.specs.Flat.Flat.{HasLongWord, words_of_list}

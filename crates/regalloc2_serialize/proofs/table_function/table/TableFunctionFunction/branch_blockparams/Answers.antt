@@ -1,7 +1,5 @@
-use Rattle.std.proofs.Common.{◌≡◌, ◌∙◌, List, [], map, slice_index_or, ap, sym}
+use Rattle.std.proofs.Common.{◌∙◌, [], map, slice_index_or, ap, sym}
 use Rattle.std.proofs.lemmas.List.{get_or_past, length-map}
-use Rattle.std.specs.declared.vec.Vec.{Vec}
-use Rattle.regalloc2_names.specs.Register.{VirtualRegister}
 use Rattle.regalloc2_function.specs.FunctionValue.{BlockValue}
 use Rattle.regalloc2_serialize.proofs.Blocks.{block-read}
 use Rattle.regalloc2_serialize.proofs.Given.{list-read}
