@@ -3,6 +3,7 @@
 -- Depends on regalloc2_function: paths, both runs, faithful outputs, slots; and on the live ranges in `LiveRanges`.
 pub mod Promise
 pub mod ErrorReason
+pub mod BeforeSteps
 pub mod DebugLocations
 pub mod Lending
 pub mod Survey

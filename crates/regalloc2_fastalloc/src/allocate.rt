@@ -1,8 +1,7 @@
 //! The whole walk, and the output.
 
-ghost use Rattle.std.specs.Prelude.{◌≡◌, ◌<◌, ◌^◌, ℕ, length, map, slice_index, slice_index_or, IfOk, IfErr};
-ghost use Rattle.regalloc2_names.specs.Place.{NoPlace};
-ghost use Rattle.regalloc2_function.specs.FunctionValue.{inst_at, operand_count};
+ghost use Rattle.std.specs.Prelude.{◌<◌, ◌^◌, ℕ, length, map, IfOk, IfErr};
+ghost use Rattle.regalloc2_function.specs.FunctionValue.{inst_at};
 ghost use Rattle.regalloc2_function.specs.Stored.{location_of};
 ghost use Rattle.regalloc2_function.specs.Views.{edit_of, machine_of, output_of};
 ghost use Rattle.regalloc2_function.specs.WellFormed.{IsWellFormed};
@@ -12,10 +11,8 @@ ghost use Rattle.regalloc2_fastalloc_state.specs.OutOfResources.{Lacks};
 ghost use Rattle.regalloc2_fastalloc.specs.Promise.{IsAllocation};
 ghost use Rattle.regalloc2_fastalloc.specs.ErrorReason.{SomeDoesNotFit, units_at_most};
 ghost use Rattle.regalloc2_fastalloc.specs.Survey.{IsSurvey};
-ghost use Rattle.regalloc2_analysis.specs.LiveRanges.LiveRanges.{AreLabelsMarked, IsWanted};
-ghost use Rattle.regalloc2_analysis.specs.LiveRanges.WalkInvariant.{AreNamers};
+ghost use Rattle.regalloc2_fastalloc.specs.BeforeSteps.{IsBeforeFilling};
 ghost use Rattle.regalloc2_fastalloc_state.specs.Validate.NoLimits.{AreTaken};
-ghost use Rattle.regalloc2_fastalloc_proofs.specs.BlockSteps.{offset_of};
 
 use super::debug;
 use super::survey::Survey;
@@ -45,16 +42,7 @@ fn fill_places<A: Allocator + Copy, F: Function, B: Allocator>(
     wanted: &[bool],
     named: &[u32],
 ) -> Result<Rest<A>, RegAllocError>
-    requires machine { MachineFits (F.function f.now) (machine_of env.now) }
-    requires taken { AreTaken (F.function f.now) }
-    requires branches { (i : ℕ) → i < length (F.function f.now).insts → BranchDefinesInPlace (inst_at (F.function f.now) i) }
-    requires well_formed { IsWellFormed (machine_of env.now) (F.function f.now) }
-    requires offsets_long { length offsets.now ≡ length (F.function f.now).insts }
-    requires offsets { (i : ℕ) → i < length (F.function f.now).insts → slice_index offsets.now i ≡ offset_of (F.function f.now) i }
-    requires allocs_long { length allocs.old ≡ operand_count (F.function f.now) }
-    requires no_places { (k : ℕ) → slice_index_or allocs.old k NoPlace ≡ NoPlace }
-    requires marked { AreLabelsMarked (F.function f.now) wanted.now }
-    requires listed { AreNamers (F.function f.now) (IsWanted wanted.now) named.now (length named.now) (length (F.function f.now).insts) }
+    requires { IsBeforeFilling (F.function f.now) (machine_of env.now) offsets.now allocs.old wanted.now named.now }
     ensures allocation { IfOk result (λ rest. IsAllocation (F.function f.now) (machine_of env.now)
         (record {
           num_spillslots = rest.num_spillslots;

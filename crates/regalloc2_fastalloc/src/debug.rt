@@ -1,11 +1,8 @@
 //! The debug locations of an output: where the values of labelled vregs are located.
 
-ghost use Rattle.std.specs.Prelude.{◌≡◌, ◌<◌, ℕ, All, IfErr, IfOk, length, map, slice_index};
-ghost use Rattle.regalloc2_function.specs.FunctionValue.{operand_count};
+ghost use Rattle.std.specs.Prelude.{◌≡◌, All, IfErr, IfOk, map};
 ghost use Rattle.regalloc2_function.specs.Stored.{location_of};
-ghost use Rattle.regalloc2_analysis.specs.LiveRanges.LiveRanges.{AreLabelsMarked, IsSSA, IsWanted};
-ghost use Rattle.regalloc2_analysis.specs.LiveRanges.WalkInvariant.{AreNamers};
-ghost use Rattle.regalloc2_fastalloc_proofs.specs.BlockSteps.{DefinesBelow, offset_of};
+ghost use Rattle.regalloc2_fastalloc.specs.BeforeSteps.{IsBeforeLocating};
 ghost use Rattle.regalloc2_fastalloc.specs.DebugLocations.{AreLocated, HasPlace, location_shown, place_shown};
 
 use regalloc2_analysis::live_ranges::{KeptLabel, LiveRange, kept_labels_by};
@@ -76,13 +73,7 @@ pub fn locations<A: Allocator + Copy, F: Function, B: Allocator>(
     wanted: &[bool],
     named: &[u32],
 ) -> Result<Vec<(u32, ProgPoint, ProgPoint, Allocation), A>, RegAllocError>
-    requires ssa { IsSSA (F.function f.now) }
-    requires room { DefinesBelow (F.function f.now) (length slots.now.vreg_spillslots) }
-    requires offsets_long { length offsets.now ≡ length (F.function f.now).insts }
-    requires offsets { (i : ℕ) → i < length (F.function f.now).insts → slice_index offsets.now i ≡ offset_of (F.function f.now) i }
-    requires allocs_long { length allocs.now ≡ operand_count (F.function f.now) }
-    requires marked { AreLabelsMarked (F.function f.now) wanted.now }
-    requires listed { AreNamers (F.function f.now) (IsWanted wanted.now) named.now (length named.now) (length (F.function f.now).insts) }
+    requires { IsBeforeLocating (F.function f.now) slots.now offsets.now allocs.now wanted.now named.now }
     ensures ok { IfOk result (λ ds. AreLocated (F.function f.now) slots.now offsets.now allocs.now (map location_of ds.items)) }
     ensures err { IfErr result (λ e. e ≡ RegAllocError.Memory) }
 {
