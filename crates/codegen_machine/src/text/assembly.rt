@@ -4,8 +4,8 @@ ghost use Rattle.std.specs.Prelude.{◌≡◌, ◌+◌, ◌++◌, codes, length,
 ghost use Rattle.std.specs.Fmt.{decimal};
 ghost use Rattle.codegen_machine.specs.Text.Assembly.{byte_name, condition_letters, division_name, half_name, letter, name_at, operator_name, register_name, shift_name};
 ghost use Rattle.codegen_machine.specs.Text.Assembly.{guard_text, read_name, read_text, word_name, write_text};
-ghost use Rattle.codegen_machine.specs.Text.Assembly.{argument_text, assembly_text, call_text, first_arity, function_text, functions_text};
-ghost use Rattle.codegen_machine.specs.Text.Assembly.{instruction_text, is_next, line_text, lines_text, slot_text, source_text, stub_text, symbol_text, traps_text, word_text};
+ghost use Rattle.codegen_machine.specs.Text.Assembly.{assembly_text, call_text, first_arity, function_text, functions_text};
+ghost use Rattle.codegen_machine.specs.Text.Assembly.{instruction_text, is_next, line_text, lines_text, source_text, stub_text, symbol_text, traps_text};
 
 use super::frame::{
     ArgumentLoadsText, ArgumentText, EntryText, ExitText, FrameWords, LimitText, SlotText,
@@ -299,58 +299,6 @@ impl fmt::Display for WriteText {
     }
 }
 
-/// A 64-bit number into a register.
-#[derive(Clone, Copy)]
-struct ConstantText(u64, usize);
-
-impl fmt::Display for ConstantText {
-    ghost output = { λ t. Some (codes "movabsq $" ++ decimal t.0 ++ codes ", " ++ register_name t.1) };
-
-    fn fmt<W: fmt::Write>(&self, f: &mut fmt::Formatter<W>) -> fmt::Result {
-        let (to, value) = (register_name(self.1), self.0);
-        write!(f, "movabsq ${value}, {to}")
-    }
-}
-
-/// An argument into a register.
-#[derive(Clone, Copy)]
-struct ArgumentMoveText(FrameWords, usize, usize);
-
-impl fmt::Display for ArgumentMoveText {
-    ghost output = { λ t. Some (codes "movq " ++ argument_text t.0 t.1 ++ codes ", " ++ register_name t.2) };
-
-    fn fmt<W: fmt::Write>(&self, f: &mut fmt::Formatter<W>) -> fmt::Result {
-        let (from, to) = (ArgumentText(self.0, self.1), register_name(self.2));
-        write!(f, "movq {from}, {to}")
-    }
-}
-
-/// A register into a slot of a frame with that many outgoing words.
-#[derive(Clone, Copy)]
-struct StoreText(usize, usize, usize);
-
-impl fmt::Display for StoreText {
-    ghost output = { λ t. Some (codes "movq " ++ register_name t.2 ++ codes ", " ++ slot_text t.0 t.1) };
-
-    fn fmt<W: fmt::Write>(&self, f: &mut fmt::Formatter<W>) -> fmt::Result {
-        let (to, from) = (SlotText(self.0, self.1), register_name(self.2));
-        write!(f, "movq {from}, {to}")
-    }
-}
-
-/// A register into an outgoing word of a frame.
-#[derive(Clone, Copy)]
-struct PassText(usize, usize);
-
-impl fmt::Display for PassText {
-    ghost output = { λ t. Some (codes "movq " ++ register_name t.1 ++ codes ", " ++ word_text (decimal t.0)) };
-
-    fn fmt<W: fmt::Write>(&self, f: &mut fmt::Formatter<W>) -> fmt::Result {
-        let (index, from) = (self.0, register_name(self.1));
-        write!(f, "movq {from}, 8*{index}(%rsp)")
-    }
-}
-
 /// An instruction with that name, a source and a register.
 #[derive(Clone, Copy)]
 struct PairText(&'static str, SourceText, usize);
@@ -433,19 +381,6 @@ impl fmt::Display for MoveIfText {
     }
 }
 
-/// A jump under a condition, in the function with that number.
-#[derive(Clone, Copy)]
-struct JumpIfText(Condition, usize, usize);
-
-impl fmt::Display for JumpIfText {
-    ghost output = { λ t. Some (codes "j" ++ condition_letters t.0 ++ codes " .L" ++ decimal t.1 ++ codes "_" ++ decimal t.2) };
-
-    fn fmt<W: fmt::Write>(&self, f: &mut fmt::Formatter<W>) -> fmt::Result {
-        let (letters, function, target) = (condition_letters(self.0), self.1, self.2);
-        write!(f, "j{letters} .L{function}_{target}")
-    }
-}
-
 /// An instruction of a function as assembly: one machine instruction, but two for `Set` and `Guard`.
 #[derive(Clone, Copy)]
 pub struct InstructionText {
@@ -464,15 +399,18 @@ impl fmt::Display for InstructionText {
         let (function, frame) = (self.function, self.frame);
         let outgoing = frame.outgoing;
         match self.instruction {
-            Instruction::Constant { to, value } => fmt::Display::fmt(&ConstantText(value, to), f),
+            Instruction::Constant { to, value } => {
+                let to = register_name(to);
+                write!(f, "movabsq ${value}, {to}")
+            }
             Instruction::Clear { to } => {
                 let from = SourceText(outgoing, Width::Full, Source::Register(to));
                 fmt::Display::fmt(&PairText("xor", from, to), f)
             }
-            Instruction::Argument { to, index } => fmt::Display::fmt(
-                &ArgumentMoveText(frame, index as usize, to),
-                f,
-            ),
+            Instruction::Argument { to, index } => {
+                let (from, to) = (ArgumentText(frame, index as usize), register_name(to));
+                write!(f, "movq {from}, {to}")
+            }
             Instruction::Move { to, from } => {
                 let from = SourceText(outgoing, Width::Full, Source::Register(from));
                 fmt::Display::fmt(&PairText("mov", from, to), f)
@@ -481,10 +419,10 @@ impl fmt::Display for InstructionText {
                 let from = SourceText(outgoing, Width::Full, Source::Slot(slot));
                 fmt::Display::fmt(&PairText("mov", from, to), f)
             }
-            Instruction::Store { slot, from } => fmt::Display::fmt(
-                &StoreText(outgoing, slot, from),
-                f,
-            ),
+            Instruction::Store { slot, from } => {
+                let (from, to) = (register_name(from), SlotText(outgoing, slot));
+                write!(f, "movq {from}, {to}")
+            }
             Instruction::Compute {
                 width,
                 operator,
@@ -543,12 +481,15 @@ impl fmt::Display for InstructionText {
                 from,
             } => fmt::Display::fmt(&WriteText(bytes, from, address), f),
             Instruction::Jump { target } => write!(f, "jmp .L{function}_{target}"),
-            Instruction::JumpIf { condition, target } => fmt::Display::fmt(
-                &JumpIfText(condition, function, target),
-                f,
-            ),
+            Instruction::JumpIf { condition, target } => {
+                let letters = condition_letters(condition);
+                write!(f, "j{letters} .L{function}_{target}")
+            }
             Instruction::Call { function: callee } => write!(f, "call .Lf{callee}"),
-            Instruction::Pass { index, from } => fmt::Display::fmt(&PassText(index, from), f),
+            Instruction::Pass { index, from } => {
+                let from = register_name(from);
+                write!(f, "movq {from}, 8*{index}(%rsp)")
+            }
             Instruction::Return => write!(f, "jmp .L{function}_return"),
         }
     }

@@ -1,3 +1,4 @@
+use Rattle.std.proofs.lemmas.Result.{IfOk-from_err}
 use Rattle.std.proofs.Common.{arith}
 use Rattle.std.proofs.lemmas.List.{take_all}
 use Rattle.regalloc2_serialize.proofs.decode.labels_from.Goals as goal
@@ -7,3 +8,9 @@ from_bits-requires g c = c.requires c.loop-label.label-index (0, 0, 0, 0) c.loop
 
 pub returns : goal.returns
 returns g c = rw (take_all c.loop-label.label-index c.args.labels.now (omega (arith, c.loop-label-test.false))) at c.loop-label.invariant
+
+pub returns-in_err-named : goal.returns-in_err-named
+returns-in_err-named g c = IfOk-from_err c.from_residual.result _ c.from_residual.ensures.0
+
+pub returns-in_err-push : goal.returns-in_err-push
+returns-in_err-push g c = IfOk-from_err c.from_residual-in_err-push.result _ c.from_residual-in_err-push.ensures.0

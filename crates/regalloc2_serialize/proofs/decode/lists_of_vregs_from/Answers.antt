@@ -1,3 +1,4 @@
+use Rattle.std.proofs.lemmas.Result.{IfOk-from_err}
 use Rattle.std.proofs.Common.{arith, ◌≡◌, ◌∙◌, ◌+◌, ◌++◌, ◌∷◌, [], map, take, ap, subst, sym}
 use Rattle.std.specs.Prelude.{All}
 use Rattle.std.proofs.lemmas.List.{take_all}
@@ -23,3 +24,12 @@ loop-list-preserved g c =
 
 pub returns : goal.returns
 returns g c = rw (take_all c.loop-list.list-index c.args.lists.now (omega (arith, c.loop-list-test.false))) at c.loop-list.invariant
+
+pub returns-in_err-vregs : goal.returns-in_err-vregs
+returns-in_err-vregs g c = IfOk-from_err c.from_residual.result _ c.from_residual.ensures.0
+
+pub returns-in_err-vregs_from : goal.returns-in_err-vregs_from
+returns-in_err-vregs_from g c = IfOk-from_err c.from_residual-in_err-vregs_from.result _ c.from_residual-in_err-vregs_from.ensures.0
+
+pub returns-in_err-push : goal.returns-in_err-push
+returns-in_err-push g c = IfOk-from_err c.from_residual-in_err-push.result _ c.from_residual-in_err-push.ensures.0

@@ -1,3 +1,4 @@
+use Rattle.std.proofs.lemmas.Result.{IfOk-from_err}
 use Rattle.std.proofs.Common.{arith, refl, ◌≡◌, ◌∷◌, [], ◌++◌}
 use Rattle.std.proofs.lemmas.List.{map-append, length-append}
 use Rattle.std.proofs.lemmas.List.FromFn.{map-range_with_len_more}
@@ -18,3 +19,21 @@ loop-block-preserved g c =
       ) refl;
       count = rw (e, length-append, c.loop-block.invariant.count) refl;
     }
+
+pub returns-in_err-tables : goal.returns-in_err-tables
+returns-in_err-tables g c = record {
+  count = IfOk-from_err c.from_residual.result _ c.from_residual.ensures.0;
+  blocks = IfOk-from_err c.from_residual.result _ c.from_residual.ensures.0;
+}
+
+pub returns-in_err-block_from : goal.returns-in_err-block_from
+returns-in_err-block_from g c = record {
+  count = IfOk-from_err c.from_residual-in_err-block_from.result _ c.from_residual-in_err-block_from.ensures.0;
+  blocks = IfOk-from_err c.from_residual-in_err-block_from.result _ c.from_residual-in_err-block_from.ensures.0;
+}
+
+pub returns-in_err-push : goal.returns-in_err-push
+returns-in_err-push g c = record {
+  count = IfOk-from_err c.from_residual-in_err-push.result _ c.from_residual-in_err-push.ensures.0;
+  blocks = IfOk-from_err c.from_residual-in_err-push.result _ c.from_residual-in_err-push.ensures.0;
+}

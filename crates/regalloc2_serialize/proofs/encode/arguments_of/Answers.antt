@@ -1,3 +1,4 @@
+use Rattle.std.proofs.lemmas.Result.{IfOk-from_err}
 use Rattle.std.proofs.Common.{◌≡◌, ◌∙◌, ◌∷◌, [], ◌++◌, ◌+◌, ap, sym, subst, take, map, arith}
 use Rattle.std.proofs.lemmas.List.{take_all}
 use Rattle.std.specs.Prelude.{All}
@@ -29,3 +30,21 @@ returns-clause-arguments g c =
 
 pub returns-clause-names : goal.returns-clause-names
 returns-clause-names g c = c.loop-block.invariant.names
+
+pub returns-in_err-arguments : goal.returns-in_err-arguments
+returns-in_err-arguments g c = record {
+  arguments = IfOk-from_err c.from_residual.result _ c.from_residual.ensures.0;
+  names = IfOk-from_err c.from_residual.result _ c.from_residual.ensures.0;
+}
+
+pub returns-in_err-words_of_lists : goal.returns-in_err-words_of_lists
+returns-in_err-words_of_lists g c = record {
+  arguments = IfOk-from_err c.from_residual-in_err-words_of_lists.result _ c.from_residual-in_err-words_of_lists.ensures.0;
+  names = IfOk-from_err c.from_residual-in_err-words_of_lists.result _ c.from_residual-in_err-words_of_lists.ensures.0;
+}
+
+pub returns-in_err-push : goal.returns-in_err-push
+returns-in_err-push g c = record {
+  arguments = IfOk-from_err c.from_residual-in_err-push.result _ c.from_residual-in_err-push.ensures.0;
+  names = IfOk-from_err c.from_residual-in_err-push.result _ c.from_residual-in_err-push.ensures.0;
+}

@@ -1,3 +1,4 @@
+use Rattle.std.proofs.lemmas.Result.{IfOk-from_err}
 use Rattle.std.proofs.Common.{rules, arith, ◌≡◌, ◌∙◌, ap, sym, length, take}
 use Rattle.regalloc2_serialize.proofs.Lists.{image-more}
 use Rattle.regalloc2_names.specs.Packing.{IsRegisterIndex}
@@ -32,3 +33,17 @@ returns-clause-registers g c =
 
 pub returns-clause-names : goal.returns-clause-names
 returns-clause-names g c = c.loop-reg.invariant.names
+
+pub returns-in_err-indexes : goal.returns-in_err-indexes
+returns-in_err-indexes g c = record {
+  registers = IfOk-from_err c.from_residual.result _ c.from_residual.ensures.0;
+  three = IfOk-from_err c.from_residual.result _ c.from_residual.ensures.0;
+  names = IfOk-from_err c.from_residual.result _ c.from_residual.ensures.0;
+}
+
+pub returns-in_err-push : goal.returns-in_err-push
+returns-in_err-push g c = record {
+  registers = IfOk-from_err c.from_residual-in_err-push.result _ c.from_residual-in_err-push.ensures.0;
+  three = IfOk-from_err c.from_residual-in_err-push.result _ c.from_residual-in_err-push.ensures.0;
+  names = IfOk-from_err c.from_residual-in_err-push.result _ c.from_residual-in_err-push.ensures.0;
+}

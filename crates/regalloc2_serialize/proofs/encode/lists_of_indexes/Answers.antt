@@ -1,3 +1,4 @@
+use Rattle.std.proofs.lemmas.Result.{IfOk-from_err}
 use Rattle.std.proofs.Common.{rules, arith, ◌≡◌, ◌∙◌, ◌∷◌, [], ◌++◌, ◌+◌, ◌<◌, ap, sym, subst, length, take, get_or}
 use Rattle.std.specs.List.{AllZip}
 use Rattle.std.specs.Prelude.{All}
@@ -33,3 +34,24 @@ returns-clause-three g c =
     let three : length c.args.sets.now ≡ 3 = search rules in
     sym (AllZip-long (λ v set. HasIndexes v.items set) c.loop-set.lists.items (take c.loop-set.set-index c.args.sets.now) c.loop-set.invariant.same)
     ∙ ap length all ∙ three
+
+pub returns-in_err-lists : goal.returns-in_err-lists
+returns-in_err-lists g c = record {
+  sets = IfOk-from_err c.from_residual.result _ c.from_residual.ensures.0;
+  three = IfOk-from_err c.from_residual.result _ c.from_residual.ensures.0;
+  names = IfOk-from_err c.from_residual.result _ c.from_residual.ensures.0;
+}
+
+pub returns-in_err-indexes_of : goal.returns-in_err-indexes_of
+returns-in_err-indexes_of g c = record {
+  sets = IfOk-from_err c.from_residual-in_err-indexes_of.result _ c.from_residual-in_err-indexes_of.ensures.0;
+  three = IfOk-from_err c.from_residual-in_err-indexes_of.result _ c.from_residual-in_err-indexes_of.ensures.0;
+  names = IfOk-from_err c.from_residual-in_err-indexes_of.result _ c.from_residual-in_err-indexes_of.ensures.0;
+}
+
+pub returns-in_err-push : goal.returns-in_err-push
+returns-in_err-push g c = record {
+  sets = IfOk-from_err c.from_residual-in_err-push.result _ c.from_residual-in_err-push.ensures.0;
+  three = IfOk-from_err c.from_residual-in_err-push.result _ c.from_residual-in_err-push.ensures.0;
+  names = IfOk-from_err c.from_residual-in_err-push.result _ c.from_residual-in_err-push.ensures.0;
+}

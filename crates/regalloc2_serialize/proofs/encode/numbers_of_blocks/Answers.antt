@@ -1,3 +1,4 @@
+use Rattle.std.proofs.lemmas.Result.{IfOk-from_err}
 use Rattle.std.proofs.Common.{arith}
 use Rattle.std.proofs.lemmas.List.{take_all}
 use Rattle.regalloc2_serialize.proofs.Lists.{copy-more}
@@ -10,3 +11,9 @@ loop-block-preserved g c =
 
 pub returns : goal.returns
 returns g c = rw (take_all c.loop-block.block-index c.args.blocks.now (omega (arith, c.loop-block-test.false))) at c.loop-block.invariant
+
+pub returns-in_err-numbers : goal.returns-in_err-numbers
+returns-in_err-numbers g c = IfOk-from_err c.from_residual.result _ c.from_residual.ensures.0
+
+pub returns-in_err-push : goal.returns-in_err-push
+returns-in_err-push g c = IfOk-from_err c.from_residual-in_err-push.result _ c.from_residual-in_err-push.ensures.0

@@ -1,3 +1,4 @@
+use Rattle.std.proofs.lemmas.Result.{IfOk-from_err}
 use Rattle.std.proofs.Common.{arith, ◌≡◌, ◌∙◌, ◌+◌, ◌++◌, ◌∷◌, [], map, take, subst, sym}
 use Rattle.std.proofs.lemmas.List.{take_all}
 use Rattle.regalloc2_serialize.specs.TableFunction.Table.{block_of_table}
@@ -19,3 +20,12 @@ pub returns : goal.returns
 returns g c =
     subst (λ bs. map (λ v. v.items) c.loop-block.preds.items ≡ map (λ b. (block_of_table b).preds) bs)
     (take_all c.loop-block.block-index c.args.blocks.now (omega (arith, c.loop-block-test.false))) c.loop-block.invariant
+
+pub returns-in_err-preds : goal.returns-in_err-preds
+returns-in_err-preds g c = IfOk-from_err c.from_residual.result _ c.from_residual.ensures.0
+
+pub returns-in_err-numbers_of_blocks : goal.returns-in_err-numbers_of_blocks
+returns-in_err-numbers_of_blocks g c = IfOk-from_err c.from_residual-in_err-numbers_of_blocks.result _ c.from_residual-in_err-numbers_of_blocks.ensures.0
+
+pub returns-in_err-push : goal.returns-in_err-push
+returns-in_err-push g c = IfOk-from_err c.from_residual-in_err-push.result _ c.from_residual-in_err-push.ensures.0

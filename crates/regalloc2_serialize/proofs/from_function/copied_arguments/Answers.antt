@@ -1,3 +1,4 @@
+use Rattle.std.proofs.lemmas.Result.{IfOk-from_err}
 use Rattle.std.proofs.Common.{rules, ◌≡◌, ◌∷◌, [], ◌++◌, ◌+◌, List, get_or, sym, subst, map}
 use Rattle.std.specs.List.{range_with_len}
 use Rattle.regalloc2_names.specs.Register.{VirtualRegister}
@@ -12,3 +13,12 @@ loop-k-preserved g c =
     let here : c.in_ok-to_vec.field-0.items ≡ get_or args c.loop-k.k [] = search rules in
     subst (λ xs. map (λ v. v.items) xs ≡ map (λ k. get_or args k []) (range_with_len 0 (c.loop-k.k + 1))) (sym e)
     (map-next (λ v. v.items) (λ k. get_or args k []) c.loop-k.arguments.items c.loop-k.k c.in_ok-to_vec.field-0 here c.loop-k.invariant)
+
+pub returns-in_err-arguments : goal.returns-in_err-arguments
+returns-in_err-arguments g c = IfOk-from_err c.from_residual.result _ c.from_residual.ensures.0
+
+pub returns-in_err-to_vec : goal.returns-in_err-to_vec
+returns-in_err-to_vec g c = IfOk-from_err c.from_residual-in_err-to_vec.result _ c.from_residual-in_err-to_vec.ensures.0
+
+pub returns-in_err-push : goal.returns-in_err-push
+returns-in_err-push g c = IfOk-from_err c.from_residual-in_err-push.result _ c.from_residual-in_err-push.ensures.0

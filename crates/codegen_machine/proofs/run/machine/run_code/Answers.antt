@@ -1,3 +1,4 @@
+use Rattle.std.proofs.lemmas.Result.{IfOk-from_err}
 use Rattle.std.proofs.Common.{◌≡◌, ◌+◌, ◌-◌, refl, ap, ◌∙◌, arith}
 use Rattle.codegen_operation.specs.Numbers.{further}
 use Rattle.codegen_machine.specs.Machine.{code_of, machine_run}
@@ -42,3 +43,6 @@ returns c =
     let none : c.args.steps - c.loop-step._step ≡ 0 = omega (arith, c.loop-step-test.false) in
     let last = machine_state c.loop-step.machine in
     (last, refl, c.loop-step.invariant.1 ∙ ap (λ n. machine_run code args n last) none ∙ machine_none code args last)
+
+pub returns-in_err-machine : goal.returns-in_err-machine
+returns-in_err-machine c = IfOk-from_err c.from_residual.result _ c.from_residual.ensures.0

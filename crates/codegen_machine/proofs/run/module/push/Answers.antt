@@ -1,3 +1,4 @@
+use Rattle.std.proofs.lemmas.Result.{IfOk-from_err}
 use Rattle.std.proofs.Common.{ap, ◌∙◌}
 use Rattle.codegen_machine.specs.Run.States.{frames_of}
 use Rattle.codegen_machine.proofs.RunLemmas.Modules.{frames_pushed}
@@ -5,3 +6,6 @@ use Rattle.codegen_machine.proofs.run.module.push.Goals as goal
 
 pub returns : goal.returns
 returns c = ap frames_of c.in_ok-push.ensures.items ∙ frames_pushed c.args.frames.now.items c.args.frame
+
+pub returns-in_err-push : goal.returns-in_err-push
+returns-in_err-push c = IfOk-from_err c.from_residual.result _ c.from_residual.ensures.0

@@ -1,3 +1,4 @@
+use Rattle.std.proofs.lemmas.Result.{IfOk-from_err}
 use Rattle.std.proofs.Common.{◌≡◌, refl, ap, ◌∙◌, arith}
 use Rattle.codegen_ir.specs.Calls.{module_begun}
 use Rattle.codegen_ir.specs.Modules.{procedures_of}
@@ -39,3 +40,9 @@ returns c =
       refl,
       ap (λ n. module_outcome c.args.m.now c.args.arguments.now c.args.memory.items n) all ∙ c.loop-step.invariant,
     )
+
+pub returns-in_err-frames : goal.returns-in_err-frames
+returns-in_err-frames c = IfOk-from_err c.from_residual.result _ c.from_residual.ensures.0
+
+pub returns-in_err-standing : goal.returns-in_err-standing
+returns-in_err-standing c = IfOk-from_err c.from_residual-in_err-standing.result _ c.from_residual-in_err-standing.ensures.0

@@ -1,3 +1,4 @@
+use Rattle.std.proofs.lemmas.Result.{IfOk-from_err}
 use Rattle.std.proofs.Common.{ℕ, ◌≡◌, ◌+◌, ◌<◌, List, length, map, get_or, drop, sym, ap, ◌∙◌, arith}
 use Rattle.std.proofs.lemmas.List.{length-map}
 use Rattle.regalloc2_semantics.specs.Values.Interpreters.{passed_on}
@@ -31,3 +32,9 @@ returns c =
     let long : length v.items ≡ length qs = ap length made ∙ length-map qs before in
     sym (c.loop-at.invariant ∙ pass_end c.args.params.now qs c.loop-at.at before (numbers_by_vreg c.loop-at.numbers)
     (λ a b. omega (arith, c.loop-at-test.false, c.min-at-end.ensures, c.len.ensures, v.ok.0, long)))
+
+pub returns-in_err-values : goal.returns-in_err-values
+returns-in_err-values c = IfOk-from_err c.from_residual.result _ c.from_residual.ensures.0
+
+pub returns-in_err-put : goal.returns-in_err-put
+returns-in_err-put c = IfOk-from_err c.from_residual-in_err-put.result _ c.from_residual-in_err-put.ensures.0

@@ -1,3 +1,4 @@
+use Rattle.std.proofs.lemmas.Result.{IfOk-from_err}
 use Rattle.std.proofs.Common.{◌≡◌, refl, sym, ap, ◌∙◌, arith}
 use Rattle.codegen_ir.specs.Meaning.{ProcedureState, procedure_run}
 use Rattle.codegen_operation.specs.Numbers.{Running}
@@ -41,3 +42,6 @@ returns c =
       ap (λ n. procedure_run (function_of_procedure p) (operations p) (arguments_of c.args.arguments.now) n (first_state p c.args.memory.items)) all
           ∙ c.loop-step.invariant,
     )
+
+pub returns-in_err-standing : goal.returns-in_err-standing
+returns-in_err-standing c = IfOk-from_err c.from_residual.result _ c.from_residual.ensures.0

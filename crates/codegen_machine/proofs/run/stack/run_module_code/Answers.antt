@@ -1,3 +1,4 @@
+use Rattle.std.proofs.lemmas.Result.{IfOk-from_err}
 use Rattle.std.proofs.Common.{ℕ, ◌≡◌, ◌+◌, ◌-◌, [], List, length, refl, sym, ap, ◌∙◌, subst, arith}
 use Rattle.std.proofs.lemmas.Option.{slice_get_past, slice_get_read}
 use Rattle.std.specs.Prelude.{slice_get, None, Some}
@@ -115,3 +116,15 @@ returns c =
       c.loop-step.invariant.3
           ∙ ap (λ (n : ℕ). stack_run fs (empty_stack c.args.room) n last) none ∙ stack_none fs (empty_stack c.args.room) last,
     )
+
+pub returns-in_err-machine : goal.returns-in_err-machine
+returns-in_err-machine c = IfOk-from_err c.from_residual.result _ c.from_residual.ensures.0
+
+pub returns-in_err-given : goal.returns-in_err-given
+returns-in_err-given c = IfOk-from_err c.from_residual-in_err-given.result _ c.from_residual-in_err-given.ensures.0
+
+pub returns-in_err-outgoing : goal.returns-in_err-outgoing
+returns-in_err-outgoing c = IfOk-from_err c.from_residual-in_err-outgoing.result _ c.from_residual-in_err-outgoing.ensures.0
+
+pub returns-in_err-standing : goal.returns-in_err-standing
+returns-in_err-standing c = IfOk-from_err c.from_residual-in_err-standing.result _ c.from_residual-in_err-standing.ensures.0

@@ -24,3 +24,9 @@ returns-in_err-push g c =
       shape = rw (p.1, p.2) (λ is. absurd (memory-is-not-shape is));
       faults = rw (p.1, p.2) (inr refl);
     }
+
+pub returns-in_err-from_value-clause-ok : goal.returns-in_err-from_value-clause-ok
+returns-in_err-from_value-clause-ok g c = IfOk-from_err c.from_residual.result _ c.from_residual.ensures.0
+
+pub returns-in_err-from_value-clause-faults : goal.returns-in_err-from_value-clause-faults
+returns-in_err-from_value-clause-faults g c = let p = err_from_is_err_and c.from_residual.result c.from_residual.ensures.1 in rw (p.1, p.2) c.in_err-from_value.ensures.faults

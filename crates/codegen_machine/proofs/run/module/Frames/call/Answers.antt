@@ -1,3 +1,4 @@
+use Rattle.std.proofs.lemmas.Result.{IfOk-from_err}
 use Rattle.std.proofs.Common.{◌≡◌, List, length, refl, subst}
 use Rattle.std.proofs.lemmas.Option.{slice_get_read}
 use Rattle.std.specs.Prelude.{slice_get, Some}
@@ -17,3 +18,9 @@ returns c =
     (numbers_by_vreg c.replace-2.new.dest) (frames_of c.push.new.frames.items) at
     (rw c.replace.ensures.after c.in_ok-arguments.ensures) c.first_line-self.ensures (rw c.replace-2.ensures.after c.no_numbers.ensures)
     (rw (c.replace.ensures.value, c.replace-2.ensures.value) at c.in_ok-push.ensures)
+
+pub returns-in_err-arguments : goal.returns-in_err-arguments
+returns-in_err-arguments c = IfOk-from_err c.from_residual.result _ c.from_residual.ensures.0
+
+pub returns-in_err-push : goal.returns-in_err-push
+returns-in_err-push c = IfOk-from_err c.from_residual-in_err-push.result _ c.from_residual-in_err-push.ensures.0

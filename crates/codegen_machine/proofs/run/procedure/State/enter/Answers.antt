@@ -1,3 +1,4 @@
+use Rattle.std.proofs.lemmas.Result.{IfOk-from_err}
 use Rattle.std.proofs.Common.{◌≡◌, length, refl}
 use Rattle.std.proofs.lemmas.Option.{slice_get_read}
 use Rattle.std.specs.Prelude.{slice_get, Some}
@@ -12,3 +13,6 @@ returns c =
     let there = rw (c.block_succs.ensures, c.new-block.ensures) at at in
     let passed = rw (c.params_of.ensures, c.arguments_for-arguments.ensures, c.new-block.ensures) at c.in_ok-pass.ensures in
     rw (there, c.first_line-self.ensures, passed, c.index-succ.ensures) refl
+
+pub returns-in_err-pass : goal.returns-in_err-pass
+returns-in_err-pass c = IfOk-from_err c.from_residual.result _ c.from_residual.ensures.0

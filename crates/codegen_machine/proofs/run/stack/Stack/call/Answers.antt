@@ -1,3 +1,4 @@
+use Rattle.std.proofs.lemmas.Result.{IfOk-from_err}
 use Rattle.std.proofs.Common.{ℕ, ◌≡◌, ◌+◌, ◌∷◌, ◌++◌, List, length, map, refl, sym, ap, ◌∙◌, subst}
 use Rattle.std.proofs.lemmas.Option.{slice_get_read}
 use Rattle.std.specs.Prelude.{slice_get, slice_index, Some}
@@ -75,3 +76,31 @@ returns-clause-step c = λ n.
     ∙ activation_is (functions_of code) g n (arguments_passed (stack_state n old)) (arguments_of c.replace.new.dest.items) _
     (λ k. slice_index c.replace-2.new.dest.items k) (λ k. slice_index c.replace-3.new.dest.items k) old.machine.memory.items _
     (suspensions_of c.push.new.activations.items) old.room (sym given) (zeros_are 16) frame outgoing (sym callers)
+
+pub returns-in_err-arguments : goal.returns-in_err-arguments
+returns-in_err-arguments c = record {
+  sound = IfOk-from_err c.from_residual.result _ c.from_residual.ensures.0;
+  room = IfOk-from_err c.from_residual.result _ c.from_residual.ensures.0;
+  step = IfOk-from_err c.from_residual.result _ c.from_residual.ensures.0;
+}
+
+pub returns-in_err-frame : goal.returns-in_err-frame
+returns-in_err-frame c = record {
+  sound = IfOk-from_err c.from_residual-in_err-frame.result _ c.from_residual-in_err-frame.ensures.0;
+  room = IfOk-from_err c.from_residual-in_err-frame.result _ c.from_residual-in_err-frame.ensures.0;
+  step = IfOk-from_err c.from_residual-in_err-frame.result _ c.from_residual-in_err-frame.ensures.0;
+}
+
+pub returns-in_err-outgoing : goal.returns-in_err-outgoing
+returns-in_err-outgoing c = record {
+  sound = IfOk-from_err c.from_residual-in_err-outgoing.result _ c.from_residual-in_err-outgoing.ensures.0;
+  room = IfOk-from_err c.from_residual-in_err-outgoing.result _ c.from_residual-in_err-outgoing.ensures.0;
+  step = IfOk-from_err c.from_residual-in_err-outgoing.result _ c.from_residual-in_err-outgoing.ensures.0;
+}
+
+pub returns-in_err-push : goal.returns-in_err-push
+returns-in_err-push c = record {
+  sound = IfOk-from_err c.from_residual-in_err-push.result _ c.from_residual-in_err-push.ensures.0;
+  room = IfOk-from_err c.from_residual-in_err-push.result _ c.from_residual-in_err-push.ensures.0;
+  step = IfOk-from_err c.from_residual-in_err-push.result _ c.from_residual-in_err-push.ensures.0;
+}

@@ -1,6 +1,6 @@
 use Rattle.std.proofs.Common.{◌≡◌, arith, refl, rules}
 use Rattle.std.proofs.lemmas.List.{length-map, map-append}
-use Rattle.std.proofs.lemmas.Result.{err_from_is_err_and}
+use Rattle.std.proofs.lemmas.Result.{err_from_is_err_and, IfOk-from_err}
 use Rattle.regalloc2_serialize.proofs.table_function.builder.TableBuilder.block.Goals as goal
 
 pub returns-in_err-to_vec-clause-err : goal.returns-in_err-to_vec-clause-err
@@ -22,3 +22,15 @@ pub returns-clause-ok : goal.returns-clause-ok
 returns-clause-ok g c =
     let params : c.in_ok-to_vec.field-0.items ≡ c.args.params.now = search rules in
     rw (c.in_ok-push.ensures.items, map-append, params, c.new.ensures.items, c.new-2.ensures.items, c.new-3.ensures.items) refl
+
+pub returns-in_err-to_vec-clause-number : goal.returns-in_err-to_vec-clause-number
+returns-in_err-to_vec-clause-number g c = IfOk-from_err c.from_residual.result _ c.from_residual.ensures.0
+
+pub returns-in_err-to_vec-clause-ok : goal.returns-in_err-to_vec-clause-ok
+returns-in_err-to_vec-clause-ok g c = IfOk-from_err c.from_residual.result _ c.from_residual.ensures.0
+
+pub returns-in_err-push-clause-number : goal.returns-in_err-push-clause-number
+returns-in_err-push-clause-number g c = IfOk-from_err c.from_residual-in_err-push.result _ c.from_residual-in_err-push.ensures.0
+
+pub returns-in_err-push-clause-ok : goal.returns-in_err-push-clause-ok
+returns-in_err-push-clause-ok g c = IfOk-from_err c.from_residual-in_err-push.result _ c.from_residual-in_err-push.ensures.0

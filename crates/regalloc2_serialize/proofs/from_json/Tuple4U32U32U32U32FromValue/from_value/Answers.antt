@@ -1,0 +1,26 @@
+use Rattle.std.proofs.lemmas.Result.{IfOk-from_err, err_from_is_err_and}
+use Rattle.regalloc2_serialize.proofs.from_json.Tuple4U32U32U32U32FromValue.from_value.Goals as goal
+
+pub returns-in_err-first-clause-ok : goal.returns-in_err-first-clause-ok
+returns-in_err-first-clause-ok g c = IfOk-from_err c.from_residual.result _ c.from_residual.ensures.0
+
+pub returns-in_err-first-clause-faults : goal.returns-in_err-first-clause-faults
+returns-in_err-first-clause-faults g c = let p = err_from_is_err_and c.from_residual.result c.from_residual.ensures.1 in rw (p.1, p.2) c.in_err-first.ensures.faults
+
+pub returns-in_err-second-clause-ok : goal.returns-in_err-second-clause-ok
+returns-in_err-second-clause-ok g c = IfOk-from_err c.from_residual-in_err-second.result _ c.from_residual-in_err-second.ensures.0
+
+pub returns-in_err-second-clause-faults : goal.returns-in_err-second-clause-faults
+returns-in_err-second-clause-faults g c = let p = err_from_is_err_and c.from_residual-in_err-second.result c.from_residual-in_err-second.ensures.1 in rw (p.1, p.2) c.in_err-second.ensures.faults
+
+pub returns-in_err-third-clause-ok : goal.returns-in_err-third-clause-ok
+returns-in_err-third-clause-ok g c = IfOk-from_err c.from_residual-in_err-third.result _ c.from_residual-in_err-third.ensures.0
+
+pub returns-in_err-third-clause-faults : goal.returns-in_err-third-clause-faults
+returns-in_err-third-clause-faults g c = let p = err_from_is_err_and c.from_residual-in_err-third.result c.from_residual-in_err-third.ensures.1 in rw (p.1, p.2) c.in_err-third.ensures.faults
+
+pub returns-in_err-item_from-clause-ok : goal.returns-in_err-item_from-clause-ok
+returns-in_err-item_from-clause-ok g c = IfOk-from_err c.from_residual-in_err-item_from.result _ c.from_residual-in_err-item_from.ensures.0
+
+pub returns-in_err-item_from-clause-faults : goal.returns-in_err-item_from-clause-faults
+returns-in_err-item_from-clause-faults g c = let p = err_from_is_err_and c.from_residual-in_err-item_from.result c.from_residual-in_err-item_from.ensures.1 in rw (p.1, p.2) c.in_err-item_from.ensures.faults
