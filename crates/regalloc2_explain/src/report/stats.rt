@@ -116,6 +116,20 @@ impl fmt::Display for Stats {
     }
 }
 
+/// The members of a JSON object: names, and the count of each.
+#[derive(Clone, Copy)]
+struct Members<'a>(&'a [&'static str], &'a [u64]);
+
+impl<'a> fmt::Display for Members<'a> {
+    fn fmt<W: fmt::Write>(&self, f: &mut fmt::Formatter<W>) -> fmt::Result {
+        for (k, (name, count)) in self.0.iter().zip(self.1.iter()).enumerate() {
+            let before = if k == 0 { "" } else { ", " };
+            write!(f, "{before}\"{name}\": {count}")?;
+        }
+        Ok(())
+    }
+}
+
 /// Counts as a JSON object on one line.
 #[derive(Clone, Copy)]
 pub struct StatsJson(pub Stats);
@@ -132,17 +146,14 @@ impl fmt::Display for StatsJson {
             stores,
             slots,
         } = self.0;
-        write!(
-            f,
-            "{{\"instructions\": {insts}, \"blocks\": {blocks}, \"vregs\": {vregs}, \"operands\": {{"
-        )?;
-        for (k, (name, count)) in CONSTRAINTS.iter().zip(operands.iter()).enumerate() {
-            let before = if k == 0 { "" } else { ", " };
-            write!(f, "{before}\"{name}\": {count}")?;
-        }
+        let sizes = [insts as u64, blocks as u64, vregs];
+        let sizes = Members(&["instructions", "blocks", "vregs"], &sizes);
+        let operands = Members(&CONSTRAINTS, &operands);
+        let moves = [register_moves, loads, stores];
+        let moves = Members(&["register", "load", "store"], &moves);
         writeln!(
             f,
-            "}}, \"moves\": {{\"register\": {register_moves}, \"load\": {loads}, \"store\": {stores}}}, \"slots\": {slots}}}"
+            "{{{sizes}, \"operands\": {{{operands}}}, \"moves\": {{{moves}}}, \"slots\": {slots}}}"
         )
     }
 }
