@@ -1,11 +1,11 @@
 -- Lemmas on following a chain.
-use Rattle.std.proofs.Common.{◌≡◌, ℕ, ◌+◌, ◌<◌, cond, List, [], ◌∷◌, ◌++◌, length, set, ◌⊎◌, refl, sym, ap, ◌∙◌, inr, ⊎_elim, arith}
+use Rattle.std.proofs.Common.{◌≡◌, ℕ, ◌+◌, ◌<◌, cond, List, [], ◌∷◌, ◌++◌, length, set, ◌⊎◌, refl, sym, ap, ◌∙◌, inl, inr, ⊎_elim, arith}
 use Rattle.std.proofs.lemmas.Bool.{cases_eq}
 use Rattle.std.proofs.lemmas.List.Sums.{sum_by-set}
 use Rattle.std.specs.List.{count_by}
 use Rattle.regalloc2_parts.specs.declared.moves.order.State.{State}
 use Rattle.regalloc2_parts.specs.declared.moves.order.State.TheVariants.{Todo, Pending}
-use Rattle.regalloc2_parts.specs.Giving.{state_at, number_at, IsMoveChain, LeadsTo, HasGoneOn, AreSameDone}
+use Rattle.regalloc2_parts.specs.Giving.{state_at, number_at, IsMoveChain, IsSettled, LeadsTo, HasGoneOn, AreSameDone}
 use Rattle.regalloc2_parts.proofs.Chains.{is_todo, set_here, set_there, at_last, length_push, chain_push, goes_on, todo_pending, todo_done, pending_done}
 
 -- how many moves are still to be done
@@ -28,6 +28,25 @@ pub record IsFollowing (nexts : List ℕ) (old st : List State) (chain : List �
   pub same : AreSameDone old st
   pub on : HasGoneOn old st
   pub begun : (at ≡ start) ⊎ (state_at st start ≡ Todo → ⊥)
+
+-- nothing is followed yet
+pub follows_none : (nexts : List ℕ) (st : List State) (chain : List ℕ) (start : ℕ) → chain ≡ [] → IsSettled st → length st ≡ length nexts →
+    IsFollowing nexts st st chain start start
+follows_none nexts st chain start empty settled many =
+    let none : length chain ≡ 0 = ap length empty in
+    record {
+      is_chain = record {
+        inside = λ i less. absurd (omega (arith, less, none));
+        pending = λ i less. absurd (omega (arith, less, none));
+        differ = λ i j before less. absurd (omega (arith, less, none));
+        linked = λ i less. absurd (omega (arith, less, none));
+        only = λ k less e. absurd (settled k (omega (arith, less, many)) e);
+      };
+      link = λ i e. absurd (omega (arith, e, none));
+      same = record { stays = λ k e. e; was = λ k e. e };
+      on = λ k n. n;
+      begun = inl refl;
+    }
 
 -- a chain followed to a `Todo` move goes on: that move is pushed, and the one that writes its source comes next
 pub follows_more : (nexts : List ℕ) (old st : List State) (chain : List ℕ) (start at : ℕ) → IsFollowing nexts old st chain start at → length st ≡ length nexts →

@@ -11,7 +11,7 @@ use Rattle.std.proofs.lemmas.List.Elements.{Contains-get_or}
 use Rattle.regalloc2_names.specs.Place.{Place}
 use Rattle.regalloc2_names.specs.PlaceBits.{bits_of_place, place_of_bits}
 use Rattle.regalloc2_parts.specs.AtOnce.{Ends, ends, ends_of, IsPlace, no_move}
-use Rattle.regalloc2_parts.specs.Giving.{from_at, to_at, number_at, IsWriterOf, AreProper}
+use Rattle.regalloc2_parts.specs.Giving.{from_at, to_at, number_at, IsWriterOf, AreNexts, AreProper}
 use Rattle.regalloc2_parts.proofs.Chains.{length_push, at_left, at_last}
 use Rattle.regalloc2_parts.proofs.Lists.{length_ends}
 use Rattle.regalloc2_parts.proofs.Places.{same_word}
@@ -96,6 +96,14 @@ module _ {T : Type 0} (ms : List (Place × Place × T)) (proper : AreProper (end
 pub record AreNextsTo (ms : List Ends) (nexts : List ℕ) (end : ℕ) : Type 0 where
   pub as_many : length nexts ≡ end
   pub each : (k : ℕ) → k < end → IsWriterOf ms (from_at ms k) (number_at nexts k)
+
+-- a table of all moves' writers
+pub nexts_all : (ms : List Ends) (nexts : List ℕ) (end : ℕ) → AreNextsTo ms nexts end → end ≡ length ms → AreNexts ms nexts
+nexts_all ms nexts end had all = record {
+  as_many = had.as_many ∙ all;
+  found = λ k less here. (had.each k (omega (arith, less, all))).writes here;
+  absent = λ k less past. (had.each k (omega (arith, less, all))).absent past;
+}
 
 -- finding the writer of one more move's source extends the table of writers by one entry
 pub nexts_more : (ms : List Ends) (nexts : List ℕ) (end next : ℕ) → AreNextsTo ms nexts end → IsWriterOf ms (from_at ms end) next →

@@ -28,8 +28,18 @@ pub struct Stats {
     pub slots: u64,
 }
 
-/// The names of constraints, in the order of [`Stats::operands`].
-static CONSTRAINTS: [&str; 6] = ["any", "reg", "stack", "fixed", "reuse", "limit"];
+/// The counts of operands, each with the name of its constraint.
+fn by_constraint(operands: &[u64; 6]) -> [(&'static str, u64); 6] {
+    let [any, reg, stack, fixed, reuse, limit] = *operands;
+    [
+        ("any", any),
+        ("reg", reg),
+        ("stack", stack),
+        ("fixed", fixed),
+        ("reuse", reuse),
+        ("limit", limit),
+    ]
+}
 
 /// The index of a constraint's count.
 fn index_of(constraint: OperandConstraint) -> usize {
@@ -106,13 +116,28 @@ impl fmt::Display for Stats {
             f,
             "instructions       {insts}\nblocks             {blocks}\nvirtual registers  {vregs}\n"
         )?;
-        for (name, count) in CONSTRAINTS.iter().zip(operands.iter()) {
+        for (name, count) in &by_constraint(operands) {
             writeln!(f, "operands {name:<9} {count}")?;
         }
         writeln!(
             f,
             "moves              {register_moves}\nloads              {loads}\nstores             {stores}\nunits of slots     {slots}"
         )
+    }
+}
+
+/// The members of a JSON object: counts with their names.
+#[derive(Clone, Copy)]
+struct Members<'a>(&'a [(&'static str, u64)]);
+
+impl<'a> fmt::Display for Members<'a> {
+    fn fmt<W: fmt::Write>(&self, f: &mut fmt::Formatter<W>) -> fmt::Result {
+        let mut before = "";
+        for (name, count) in self.0 {
+            write!(f, "{before}\"{name}\": {count}")?;
+            before = ", ";
+        }
+        Ok(())
     }
 }
 
@@ -132,17 +157,21 @@ impl fmt::Display for StatsJson {
             stores,
             slots,
         } = self.0;
-        write!(
-            f,
-            "{{\"instructions\": {insts}, \"blocks\": {blocks}, \"vregs\": {vregs}, \"operands\": {{"
-        )?;
-        for (k, (name, count)) in CONSTRAINTS.iter().zip(operands.iter()).enumerate() {
-            let before = if k == 0 { "" } else { ", " };
-            write!(f, "{before}\"{name}\": {count}")?;
-        }
+        let sizes = [
+            ("instructions", insts as u64),
+            ("blocks", blocks as u64),
+            ("vregs", vregs),
+        ];
+        let moves = [
+            ("register", register_moves),
+            ("load", loads),
+            ("store", stores),
+        ];
+        let operands = by_constraint(&operands);
+        let (sizes, operands, moves) = (Members(&sizes), Members(&operands), Members(&moves));
         writeln!(
             f,
-            "}}, \"moves\": {{\"register\": {register_moves}, \"load\": {loads}, \"store\": {stores}}}, \"slots\": {slots}}}"
+            "{{{sizes}, \"operands\": {{{operands}}}, \"moves\": {{{moves}}}, \"slots\": {slots}}}"
         )
     }
 }

@@ -162,13 +162,14 @@ fn give_all<T: Copy + Default, A: Allocator + Copy>(
     ensures order { IfOk result (λ given. IsOrder (ends_of moves.now) nexts.now (ends_of given.items) × All (IsOfMoves moves.now) given.items) }
 {
     let mut given = SmallVec::with_capacity(alloc, moves.len().saturating_add(1))?;
-    let mut chain: Indexes<'_, A> = SmallVec::new(&alloc);
     let mut states: SmallVec<State, 16, &A> = SmallVec::from_elem(
         &alloc,
         State::Todo,
         moves.len(),
     )?;
     let state = states.as_mut_slice();
+    // made last, since an error would drop it
+    let mut chain: Indexes<'_, A> = SmallVec::new(&alloc);
     for start in 0..moves.len() {
         if matches!(state[start], State::Todo) {
             give_from(moves, nexts, state, &mut chain, &mut given, start)?;

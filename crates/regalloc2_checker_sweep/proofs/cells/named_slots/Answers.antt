@@ -59,3 +59,14 @@ returns-in_err-test_moves-clause-named g c =
 pub returns-in_err-test_moves-clause-fault : goal.returns-in_err-test_moves-clause-fault
 returns-in_err-test_moves-clause-fault g c =
     let p = err_from_is_err_and c.from_residual-in_err-test_moves.result c.from_residual-in_err-test_moves.ensures.1 in rw (p.1, p.2) c.in_err-test_moves.ensures.fault
+
+pub returns-in_err-test_locations-clause-places : goal.returns-in_err-test_locations-clause-places
+returns-in_err-test_locations-clause-places g c =
+    let p = err_from_is_err_and c.from_residual-in_err-test_locations.result c.from_residual-in_err-test_locations.ensures.1 in rw p.1 tt
+
+pub returns-in_err-test_locations-clause-named : goal.returns-in_err-test_locations-clause-named
+returns-in_err-test_locations-clause-named g c =
+    let p = err_from_is_err_and c.from_residual-in_err-test_locations.result c.from_residual-in_err-test_locations.ensures.1 in rw p.1 tt
+
+pub returns-clause-fault : goal.returns-clause-fault
+returns-clause-fault g c = tt

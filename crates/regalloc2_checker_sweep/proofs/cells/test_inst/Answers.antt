@@ -95,3 +95,12 @@ returns-clause-cells g c =
 pub returns-in_err-add_slot-clause-fault : goal.returns-in_err-add_slot-clause-fault
 returns-in_err-add_slot-clause-fault g c =
     let p = err_from_is_err_and c.from_residual.result c.from_residual.ensures.1 in rw (p.1, p.2) tt
+
+pub returns-then-not-is_operand_cell-clause-cells : goal.returns-then-not-is_operand_cell-clause-cells
+returns-then-not-is_operand_cell-clause-cells g c = tt
+
+pub returns-then-not-is_operand_cell-clause-named : goal.returns-then-not-is_operand_cell-clause-named
+returns-then-not-is_operand_cell-clause-named g c = tt
+
+pub returns-clause-fault : goal.returns-clause-fault
+returns-clause-fault g c = tt

@@ -111,3 +111,24 @@ returns-in_err-add_end-clause-fault g c =
 pub returns-in_err-add_end-2-clause-fault : goal.returns-in_err-add_end-2-clause-fault
 returns-in_err-add_end-2-clause-fault g c =
     let p = err_from_is_err_and c.from_residual-in_err-add_end-2.result c.from_residual-in_err-add_end-2.ensures.1 in rw (p.1, p.2) tt
+
+pub returns-then-not-are_move_ends-clause-ends : goal.returns-then-not-are_move_ends-clause-ends
+returns-then-not-are_move_ends-clause-ends g c = tt
+
+pub returns-then-not-are_move_ends-clause-classes : goal.returns-then-not-are_move_ends-clause-classes
+returns-then-not-are_move_ends-clause-classes g c = tt
+
+pub returns-then-not-are_move_ends-clause-named : goal.returns-then-not-are_move_ends-clause-named
+returns-then-not-are_move_ends-clause-named g c = tt
+
+pub returns-then-not-is_within_class-clause-ends : goal.returns-then-not-is_within_class-clause-ends
+returns-then-not-is_within_class-clause-ends g c = tt
+
+pub returns-then-not-is_within_class-clause-classes : goal.returns-then-not-is_within_class-clause-classes
+returns-then-not-is_within_class-clause-classes g c = tt
+
+pub returns-then-not-is_within_class-clause-named : goal.returns-then-not-is_within_class-clause-named
+returns-then-not-is_within_class-clause-named g c = tt
+
+pub returns-clause-fault : goal.returns-clause-fault
+returns-clause-fault g c = tt

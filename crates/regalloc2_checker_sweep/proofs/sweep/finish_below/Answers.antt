@@ -1,8 +1,9 @@
-use Rattle.std.proofs.Common.{ℕ, ◌≡◌, Bool, true, false, List, get_or, ap, refl, sym, subst, ◌∙◌, arith, below_more}
+use Rattle.std.proofs.Common.{ℕ, ◌≡◌, ◌<◌, Bool, true, false, List, get_or, length, ap, refl, sym, subst, ◌∙◌, arith, below_more}
 use Rattle.std.proofs.lemmas.Bool.{OnTrue_at, false≢true}
 use Rattle.regalloc2_checker_facts.specs.Swept.{done_at}
 use Rattle.regalloc2_checker_facts.proofs.Queues.{alike-same}
 use Rattle.regalloc2_checker_facts.proofs.Sweeps.{further-twice}
+use Rattle.regalloc2_checker_facts.proofs.TransferFollowsFacts.{named_same}
 use Rattle.std.proofs.lemmas.Result.{err_from_is_err_and}
 use Rattle.regalloc2_checker_sweep.proofs.sweep.finish_below.Goals as goal
 
@@ -84,3 +85,36 @@ returns-then-not-branch-clause-further g c =
 
 pub returns-then-not-branch-clause-queue : goal.returns-then-not-branch-clause-queue
 returns-then-not-branch-clause-queue g c = c.in_ok-finish.ensures.queue ∙ c.loop-b.invariant.queue
+
+pub finish-requires : goal.finish-requires
+finish-requires g c = λ κs l.
+    let tables = c.requires.1.1.1.1 in
+    let on = c.loop-b.invariant.further in
+    let less : c.new.result < length (g.F.Function.function c.args.by.now.f.now).blocks = omega (arith, c.new.ensures, c.loop-b-test.true, c.loop-b.invariant.within)
+    in (
+      l.0,
+      (
+        l.1,
+        (
+          c.requires.1.1.0,
+          (
+            c.requires.1.1.1.0,
+            (
+              record {
+                named = named_same _ g.o c.args.sweep.now.state.values c.loop-b.sweep.state.values on.alike.places on.alike.vregs tables.named;
+                count = on.alike.count ∙ tables.count;
+                reached = ap length on.reached ∙ tables.reached;
+                done = on.size ∙ tables.done;
+              },
+              less,
+            ),
+          ),
+        ),
+      ),
+    )
+
+pub returns-then-not-branch-clause-swept : goal.returns-then-not-branch-clause-swept
+returns-then-not-branch-clause-swept g c = tt
+
+pub returns-then-not-branch-clause-all : goal.returns-then-not-branch-clause-all
+returns-then-not-branch-clause-all g c = tt

@@ -1,6 +1,7 @@
-use Rattle.std.proofs.Common.{ap, ◌∙◌, Bool, false, List, get_or}
+use Rattle.std.proofs.Common.{ap, ◌∙◌, Bool, false, List, get_or, refl}
 use Rattle.std.proofs.lemmas.Bool.{OnTrue_at}
 use Rattle.regalloc2_function.specs.FunctionValue.{FunctionValue}
+use Rattle.regalloc2_checker_facts.proofs.Queues.{alike-same}
 use Rattle.regalloc2_checker_facts.proofs.Sweeps.{swept-dropped}
 use Rattle.std.proofs.lemmas.Result.{err_from_is_err_and}
 use Rattle.regalloc2_checker_sweep.proofs.sweep.make_room.Goals as goal
@@ -37,3 +38,23 @@ returns-in_err-drop_marked-clause-queue g c =
 pub returns-in_err-drop_marked-clause-swept : goal.returns-in_err-drop_marked-clause-swept
 returns-in_err-drop_marked-clause-swept g c =
     let p = err_from_is_err_and c.from_residual-in_err-drop_marked.result c.from_residual-in_err-drop_marked.ensures.1 in rw p.1 tt
+
+pub returns-clause-further : goal.returns-clause-further
+returns-clause-further g c =
+    let on = c.in_ok-finish_below.ensures.further in
+    let d = c.drop_marked.ensures in
+    record {
+      alike = record { places = d.places ∙ on.alike.places; vregs = d.vregs ∙ on.alike.vregs; count = d.count ∙ on.alike.count };
+      reached = on.reached;
+      size = on.size;
+      kept = on.kept;
+    }
+
+pub finish_below-requires : goal.finish_below-requires
+finish_below-requires g c = λ κs l. (l.0, (l.1, (c.requires.1.1.0, (c.requires.1.1.1.0, c.requires.1.1.1.1))))
+
+pub returns-then-word_count-sweep-clause-further : goal.returns-then-word_count-sweep-clause-further
+returns-then-word_count-sweep-clause-further g c = record { alike = alike-same c.args.sweep.now.state.values; reached = refl; size = refl; kept = λ b done. done }
+
+pub returns-then-not-branch-clause-further : goal.returns-then-not-branch-clause-further
+returns-then-not-branch-clause-further g c = c.in_ok-finish_below.ensures.further

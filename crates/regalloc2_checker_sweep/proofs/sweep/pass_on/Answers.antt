@@ -7,6 +7,7 @@ use Rattle.regalloc2_checker_facts.specs.Swept.{LeadsToNoneDone}
 use Rattle.regalloc2_checker_facts.proofs.Queues.{alike-twice}
 use Rattle.regalloc2_checker_facts.proofs.Sweeps.{sweep-tables, way-swept}
 use Rattle.regalloc2_checker_facts.proofs.TransferFollowsFacts.{named_same}
+use Rattle.std.proofs.lemmas.Result.{err_from_is_err_and}
 use Rattle.regalloc2_checker_sweep.proofs.sweep.pass_on.Goals as goal
 
 pub propagate_block-requires : goal.propagate_block-requires
@@ -63,3 +64,17 @@ returns g c =
       swept = w.1;
       on_way = w.2;
     }
+
+pub returns-in_err-make_room : goal.returns-in_err-make_room
+returns-in_err-make_room g c =
+    let p = err_from_is_err_and c.from_residual.result c.from_residual.ensures.1 in rw p.1 tt
+
+pub returns-in_err-propagate_block : goal.returns-in_err-propagate_block
+returns-in_err-propagate_block g c =
+    let p = err_from_is_err_and c.from_residual-in_err-propagate_block.result c.from_residual-in_err-propagate_block.ensures.1 in rw p.1 tt
+
+pub returns-then-not-branch : goal.returns-then-not-branch
+returns-then-not-branch g c = tt
+
+pub returns-then-leads_to_done : goal.returns-then-leads_to_done
+returns-then-leads_to_done g c = tt

@@ -1,7 +1,8 @@
-use Rattle.std.proofs.Common.{ℕ, ◌≡◌, ◌%◌, List, arith, sym, ap, ◌∙◌, subst, length}
+use Rattle.std.proofs.Common.{ℕ, ◌≡◌, ◌%◌, List, arith, sym, ap, ◌∙◌, subst, length, inl, refl}
 use Rattle.std.proofs.lemmas.Bool.{OnTrue_at}
 use Rattle.regalloc2_checker_sets.specs.SavedNumbers.{NumberCopies, AreWrittenTo}
 use Rattle.regalloc2_checker_sets.proofs.Written.{chunks-whole, anew-none, anew-skip, anew-zero, unsaved-zero, anew-next, anew-all, array-loaded}
+use Rattle.std.proofs.lemmas.Result.{err_from_is_err_and}
 use Rattle.regalloc2_checker_sets.proofs.entries.Entries.without.Goals as goal
 
 pub loop-copy-init : goal.loop-copy-init
@@ -68,3 +69,55 @@ keep_copy-requires g c =
       count = i.as_many ∙ sym i.count;
       same = i.same;
     }
+
+pub returns-in_err-to-clause-without : goal.returns-in_err-to-clause-without
+returns-in_err-to-clause-without g c =
+    let p = err_from_is_err_and c.from_residual.result c.from_residual.ensures.1 in rw p.1 tt
+
+pub returns-in_err-keep_copy-clause-without : goal.returns-in_err-keep_copy-clause-without
+returns-in_err-keep_copy-clause-without g c =
+    let p = err_from_is_err_and c.from_residual-in_err-keep_copy.result c.from_residual-in_err-keep_copy.ensures.1 in rw p.1 tt
+
+pub returns-in_err-to-clause-count : goal.returns-in_err-to-clause-count
+returns-in_err-to-clause-count g c = refl
+
+pub returns-in_err-to-clause-saved : goal.returns-in_err-to-clause-saved
+returns-in_err-to-clause-saved g c = λ k i. refl
+
+pub returns-in_err-to-clause-long : goal.returns-in_err-to-clause-long
+returns-in_err-to-clause-long g c = refl
+
+pub returns-in_err-to-clause-array : goal.returns-in_err-to-clause-array
+returns-in_err-to-clause-array g c = inl (λ i less. refl)
+
+pub returns-in_err-keep_copy-clause-count : goal.returns-in_err-keep_copy-clause-count
+returns-in_err-keep_copy-clause-count g c = c.keep_copy.ensures.count ∙ c.loop-copy.invariant.count
+
+pub returns-in_err-keep_copy-clause-long : goal.returns-in_err-keep_copy-clause-long
+returns-in_err-keep_copy-clause-long g c = c.keep_copy.ensures.long ∙ c.loop-copy.invariant.long
+
+pub returns-then-len-clause-count : goal.returns-then-len-clause-count
+returns-then-len-clause-count g c = c.keep_copy.ensures.count ∙ c.loop-copy.invariant.count
+
+pub returns-then-len-clause-long : goal.returns-then-len-clause-long
+returns-then-len-clause-long g c = c.keep_copy.ensures.long ∙ c.loop-copy.invariant.long
+
+pub returns-then-len-clause-without : goal.returns-then-len-clause-without
+returns-then-len-clause-without g c = tt
+
+pub returns-clause-count : goal.returns-clause-count
+returns-clause-count g c = c.loop-copy.invariant.count
+
+pub returns-clause-saved : goal.returns-clause-saved
+returns-clause-saved g c = c.loop-copy.invariant.saved
+
+pub returns-clause-long : goal.returns-clause-long
+returns-clause-long g c = c.loop-copy.invariant.long
+
+pub returns-clause-array : goal.returns-clause-array
+returns-clause-array g c = c.loop-copy.invariant.array
+
+pub is_unsaved-requires : goal.is_unsaved-requires
+is_unsaved-requires g c =
+    let count = ap (λ (o : NumberCopies). length o.base_rows) c.self.view_is in
+    omega (arith, count, c.loop-copy.invariant.count, c.loop-copy-test.true, c.count-count.ensures)

@@ -22,6 +22,15 @@ bounds-moves-top g c =
     let within : c.in-Some.top < length c.args.nexts.now = last_within c.args.nexts.now c.loop-top.state c.pop.new.self.items c.in-Some.top was.is_chain in
     omega arith
 
+pub offset_bounds-moves-top : goal.offset_bounds-moves-top
+offset_bounds-moves-top g c =
+    let was : IsGiving (ends_of c.args.moves.now) c.args.nexts.now c.loop-top.state (c.pop.new.self.items ++ c.in-Some.top ∷ [])
+    (ends_of c.loop-top.given.items) c.loop-top.cut c.loop-top.first =
+    subst (λ x. IsGiving (ends_of c.args.moves.now) c.args.nexts.now c.loop-top.state x (ends_of c.loop-top.given.items) c.loop-top.cut c.loop-top.first)
+    c.in-Some.ensures.items c.loop-top.invariant.giving in
+    let within : c.in-Some.top < length c.args.nexts.now = last_within c.args.nexts.now c.loop-top.state c.pop.new.self.items c.in-Some.top was.is_chain in
+    omega arith
+
 pub bounds-state-top : goal.bounds-state-top
 bounds-state-top g c =
     let was : IsGiving (ends_of c.args.moves.now) c.args.nexts.now c.loop-top.state (c.pop.new.self.items ++ c.in-Some.top ∷ [])
@@ -33,6 +42,19 @@ bounds-state-top g c =
 
 pub bounds-moves-cut : goal.bounds-moves-cut
 bounds-moves-cut g c =
+    let was : IsGiving (ends_of c.args.moves.now) c.args.nexts.now c.loop-top.state (c.pop.new.self.items ++ c.in-Some.top ∷ [])
+    (ends_of c.loop-top.given.items) c.loop-top.cut c.loop-top.first =
+    subst (λ x. IsGiving (ends_of c.args.moves.now) c.args.nexts.now c.loop-top.state x (ends_of c.loop-top.given.items) c.loop-top.cut c.loop-top.first)
+    c.in-Some.ensures.items c.loop-top.invariant.giving in
+    let within : c.in-Some.top < length c.args.nexts.now = last_within c.args.nexts.now c.loop-top.state c.pop.new.self.items c.in-Some.top was.is_chain in
+    let many : length (ends_of c.args.moves.now) ≡ length c.args.moves.now = length_ends c.args.moves.now in
+    let low : c.loop-top.cut < length (ends_of c.args.moves.now) = cut_within (ends_of c.args.moves.now) c.args.nexts.now c.loop-top.state
+    (c.pop.new.self.items ++ c.in-Some.top ∷ []) (ends_of c.loop-top.given.items) c.loop-top.cut c.loop-top.first was
+    (let e : c.in-Some.top ≡ c.loop-top.first = c.if-top-first.true in omega arith) in
+    omega arith
+
+pub offset_bounds-moves-cut : goal.offset_bounds-moves-cut
+offset_bounds-moves-cut g c =
     let was : IsGiving (ends_of c.args.moves.now) c.args.nexts.now c.loop-top.state (c.pop.new.self.items ++ c.in-Some.top ∷ [])
     (ends_of c.loop-top.given.items) c.loop-top.cut c.loop-top.first =
     subst (λ x. IsGiving (ends_of c.args.moves.now) c.args.nexts.now c.loop-top.state x (ends_of c.loop-top.given.items) c.loop-top.cut c.loop-top.first)

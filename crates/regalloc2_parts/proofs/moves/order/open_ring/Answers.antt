@@ -1,6 +1,7 @@
 use Rattle.std.proofs.Common.{◌≡◌, ℕ, ◌<◌, ◌∷◌, ◌++◌, [], length, slice_set, arith, sym, ap, ◌∙◌, subst, refl}
 use Rattle.std.specs.List.{All}
 use Rattle.std.proofs.lemmas.List.Elements.{All-push}
+use Rattle.std.proofs.lemmas.Result.{err_from_is_err_and}
 use Rattle.regalloc2_names.specs.Place.{Place}
 use Rattle.regalloc2_parts.specs.declared.moves.order.State.TheVariants.{Pending, Done}
 use Rattle.regalloc2_parts.specs.AtOnce.{ends, ends_of, IsOfMoves}
@@ -93,3 +94,6 @@ returns g c =
             (ap (λ (x : Place × Place × g.row.T.Denot). x.2) c.opened.ensures))),
       );
     }
+
+pub returns-in_err-push : goal.returns-in_err-push
+returns-in_err-push g c = let p = err_from_is_err_and c.from_residual.result c.from_residual.ensures.1 in rw p.1 (record { giving = tt })

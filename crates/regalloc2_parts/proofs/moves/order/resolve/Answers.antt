@@ -1,6 +1,7 @@
 use Rattle.std.proofs.Common.{◌≡◌, ℕ, ◌<◌, ◌≤◌, List, length, true, false, rules, arith, sym, subst, ap, ◌∙◌, refl, get_or}
 use Rattle.std.specs.List.{All}
 use Rattle.std.specs.List.Sorted.{IsNonDecreasingBy}
+use Rattle.std.proofs.lemmas.Result.{err_from_is_err_and}
 use Rattle.regalloc2_names.specs.Place.{Place}
 use Rattle.regalloc2_names.specs.PlaceBits.{bits_of_place}
 use Rattle.regalloc2_parts.specs.AtOnce.{ends_of, IsOfMoves}
@@ -113,3 +114,32 @@ returns-then-len-clause-short g c = λ h. refl
 
 pub returns-clause-short : goal.returns-clause-short
 returns-clause-short g c = λ h. refl
+
+pub returns-in_err-nexts-clause-resolved : goal.returns-in_err-nexts-clause-resolved
+returns-in_err-nexts-clause-resolved g c = let p = err_from_is_err_and c.from_residual.result c.from_residual.ensures.1 in rw p.1 tt
+
+pub returns-in_err-nexts-clause-memory : goal.returns-in_err-nexts-clause-memory
+returns-in_err-nexts-clause-memory g c = let p = err_from_is_err_and c.from_residual.result c.from_residual.ensures.1 in rw p.1 p.2
+
+pub returns-in_err-given-clause-resolved : goal.returns-in_err-given-clause-resolved
+returns-in_err-given-clause-resolved g c =
+    let p = err_from_is_err_and c.from_residual-in_err-given.result c.from_residual-in_err-given.ensures.1 in rw p.1 tt
+
+pub returns-in_err-given-clause-memory : goal.returns-in_err-given-clause-memory
+returns-in_err-given-clause-memory g c =
+    let p = err_from_is_err_and c.from_residual-in_err-given.result c.from_residual-in_err-given.ensures.1 in rw p.1 p.2
+
+pub returns-then-len-le1-clause-short : goal.returns-then-len-le1-clause-short
+returns-then-len-le1-clause-short g c = λ h. refl
+
+pub returns-then-len-le1-clause-memory : goal.returns-then-len-le1-clause-memory
+returns-then-len-le1-clause-memory g c = tt
+
+pub returns-then-are_free-clause-memory : goal.returns-then-are_free-clause-memory
+returns-then-are_free-clause-memory g c = tt
+
+pub returns-then-len-clause-memory : goal.returns-then-len-clause-memory
+returns-then-len-clause-memory g c = tt
+
+pub returns-clause-memory : goal.returns-clause-memory
+returns-clause-memory g c = tt

@@ -1,6 +1,7 @@
-use Rattle.std.proofs.Common.{◌≡◌, ◌≢◌, ◌<◌, ◌∙◌, List, ap, arith, length, subst, sym}
+use Rattle.std.proofs.Common.{◌≡◌, ◌≢◌, ◌<◌, ◌∙◌, ◌∷◌, List, ap, arith, length, subst, sym}
 use Rattle.std.specs.Prelude.{All}
 use Rattle.std.proofs.lemmas.List.{with_items_is}
+use Rattle.regalloc2_names.specs.Register.{VirtualRegister}
 use Rattle.regalloc2_parts.specs.declared.vregset.VRegNode.{VRegNode}
 use Rattle.regalloc2_parts.specs.LiveList.{LiveList, NamesEachOnce}
 use Rattle.regalloc2_parts.specs.VRegNodes.{IsVRegList, members_of, vreg_ring_numbers}
@@ -27,3 +28,21 @@ returns-clause-proper g c =
     subst (λ (l : List VRegNode). NamesEachOnce (members_of l c.self.inside.head) c.self.inside.head)
     (sym (with_items_is c.self.inside.nodes c.insert_node.new.nodes (omega (arith, long))))
     (proper c.insert_node.new.nodes c.self.inside.head c.insert_node.ensures.list.list)
+
+pub invariant_of-self : goal.invariant_of-self
+invariant_of-self g c =
+    let long : length c.insert_node.new.nodes ≡ length c.self.inside.nodes.items =
+    c.insert_node.ensures.long ∙ ap (λ l. length l) c.deref_mut.ensures.value in
+    subst (λ (l : List VRegNode). IsVRegList l c.self.inside.head) (sym (with_items_is c.self.inside.nodes c.insert_node.new.nodes (omega (arith, long))))
+    c.insert_node.ensures.list.list
+
+pub returns-clause-inserted : goal.returns-clause-inserted
+returns-clause-inserted g c =
+    let head = c.self.inside.head in
+    let long : length c.insert_node.new.nodes ≡ length c.self.inside.nodes.items =
+    c.insert_node.ensures.long ∙ ap (λ l. length l) c.deref_mut.ensures.value in
+    ap (λ (l : List VRegNode). let value : LiveList = record { members = members_of l head; capacity = head } in value)
+    (with_items_is c.self.inside.nodes c.insert_node.new.nodes (omega (arith, long)))
+    ∙ ap (λ (vs : List VirtualRegister). let value : LiveList = record { members = vs; capacity = head } in value)
+    (c.insert_node.ensures.list.are ∙ ap (λ (l : List VRegNode). c.args.vreg ∷ (members_of l head)) c.deref_mut.ensures.value)
+    ∙ ap (λ (s : LiveList). let value : LiveList = record { members = c.args.vreg ∷ s.members; capacity = s.capacity } in value) c.self.view_is
