@@ -3,7 +3,7 @@
 use clap::error::ErrorKind;
 use clap::{Arg, ArgAction, ArgMatches, Command, Error, value_parser};
 use codegen::program::{Action, ROOM, RunOptions, Task};
-use std::alloc::Global;
+use std::alloc::{AllocError, Global};
 
 /// The help's text about the exit status.
 const STATUSES: &str = "\
@@ -48,9 +48,9 @@ fn quiet<'a>(alloc: Global) -> Arg<'a> {
 }
 
 /// A command, with the options common to all.
-fn with_options<'a>(alloc: Global, command: Command<'a>) -> Result<Command<'a>, Error> {
+fn with_options<'a>(alloc: Global, command: Command<'a>) -> Result<Command<'a>, AllocError> {
     let command = command.after_help(STATUSES).arg(output(alloc))?;
-    Ok(command.arg(quiet(alloc))?)
+    command.arg(quiet(alloc))
 }
 
 /// The arguments of the functions that `run` runs.
@@ -81,7 +81,7 @@ fn memory<'a>(alloc: Global) -> Arg<'a> {
 }
 
 /// The subcommand `run`.
-fn run_command<'a>(alloc: Global) -> Result<Command<'a>, Error> {
+fn run_command<'a>(alloc: Global) -> Result<Command<'a>, AllocError> {
     let command = Command::new(alloc, "run").about(
         "Write what the function and its code return, by interpreters",
     );
@@ -101,7 +101,7 @@ fn seed<'a>(alloc: Global) -> Arg<'a> {
 }
 
 /// The subcommand `random`.
-fn random_command<'a>(alloc: Global) -> Result<Command<'a>, Error> {
+fn random_command<'a>(alloc: Global) -> Result<Command<'a>, AllocError> {
     let command = Command::new(alloc, "random").about(
         "Write the text of up to four functions that look random and end",
     );
@@ -117,7 +117,7 @@ fn header<'a>(alloc: Global) -> Arg<'a> {
 }
 
 /// The command without its subcommands.
-fn own_command<'a>(alloc: Global) -> Result<Command<'a>, Error> {
+fn own_command<'a>(alloc: Global) -> Result<Command<'a>, AllocError> {
     let command = Command::new(alloc, "compile")
         .version("0.1.0")
         .about("Writes a function as assembly for x86-64")
@@ -130,13 +130,16 @@ fn own_command<'a>(alloc: Global) -> Result<Command<'a>, Error> {
 /// A command with one more subcommand, unless that couldn't be made.
 fn with_subcommand<'a>(
     command: Command<'a>,
-    subcommand: Result<Command<'a>, Error>,
-) -> Result<Command<'a>, Error> {
-    Ok(command.subcommand(subcommand?)?)
+    subcommand: Result<Command<'a>, AllocError>,
+) -> Result<Command<'a>, AllocError> {
+    match subcommand {
+        Ok(subcommand) => command.subcommand(subcommand),
+        Err(error) => Err(error),
+    }
 }
 
 /// The whole command.
-fn command<'a>(alloc: Global) -> Result<Command<'a>, Error> {
+fn command<'a>(alloc: Global) -> Result<Command<'a>, AllocError> {
     let command = with_subcommand(own_command(alloc)?, run_command(alloc))?;
     with_subcommand(command, random_command(alloc))
 }

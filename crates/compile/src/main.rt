@@ -9,6 +9,7 @@
 
 mod command;
 
+use clap::Error;
 use codegen::program::{Task, UNUSABLE, answer};
 use command::Request;
 use std::env::{self, Env};
@@ -21,19 +22,13 @@ fn words(rt: &(impl Env + AllocGlobal)) -> io::Result<Vec<String>> {
     Ok(env::args(rt)?.collect(rt.alloc())?)
 }
 
-/// The bytes of a task's file; `-` is standard input. None of `random`.
-fn bytes_of(rt: &HostRuntime, task: &Task<'_>) -> io::Result<Vec<u8>> {
-    let mut bytes = Vec::new(rt.alloc());
+/// Reads the bytes of a task's file; `-` is standard input. None of `random`.
+fn read_bytes(rt: &HostRuntime, task: &Task<'_>, bytes: &mut Vec<u8>) -> io::Result<usize> {
     match task {
-        Task::Random(_) => {}
-        Task::Read("-", _) => {
-            rt.stdin().read_to_end(&mut bytes)?;
-        }
-        Task::Read(path, _) => {
-            File::open(rt, *path)?.read_to_end(&mut bytes)?;
-        }
+        Task::Random(_) => Ok(0),
+        Task::Read("-", _) => rt.stdin().read_to_end(bytes),
+        Task::Read(path, _) => File::open(rt, *path)?.read_to_end(bytes),
     }
-    Ok(bytes)
 }
 
 /// Writes a result to a file, or else to standard output.
@@ -44,46 +39,69 @@ fn write_result(rt: &HostRuntime, output: Option<&str>, bytes: &[u8]) -> io::Res
     }
 }
 
-/// Runs the requested task, writes its errors and its result, and returns the exit status.
+/// Writes the errors and the result of a task, and returns the exit status.
+fn write_answer(rt: &HostRuntime, request: &Request<'_>, status: u8, out: &[u8], err: &[u8]) -> u8 {
+    if request.is_quiet {
+        return status;
+    }
+    let _ = rt.stderr().write_all(err);
+    match write_result(rt, request.output, out) {
+        Ok(()) => status,
+        Err(error) => {
+            let path = request.output.unwrap_or("standard output");
+            let _ = eprintln!(rt; "compile: {path}: {error}");
+            UNUSABLE
+        }
+    }
+}
+
+/// Does a task with the bytes of its file, writes its errors and its result, and returns the exit status.
 ///
 /// The result is written when all of it is made, so the file that is read may be the one that is written.
-fn perform(rt: &HostRuntime, request: &Request<'_>) -> io::Result<u8> {
-    let alloc = rt.alloc();
-    let bytes = bytes_of(rt, &request.task)?;
-    let (mut out, mut err) = (Vec::new(alloc), Vec::new(alloc));
-    let status = answer(alloc, &request.task, bytes.as_slice(), &mut out, &mut err);
-    if request.is_quiet {
-        return Ok(status);
+fn write_done(rt: &HostRuntime, request: &Request<'_>, bytes: &[u8]) -> u8 {
+    let (mut out, mut err) = (Vec::new(rt.alloc()), Vec::new(rt.alloc()));
+    let status = answer(rt.alloc(), &request.task, bytes, &mut out, &mut err);
+    write_answer(rt, request, status, out.as_slice(), err.as_slice())
+}
+
+/// Writes why a task's file can't be read.
+fn write_unread(rt: &HostRuntime, task: &Task<'_>, error: &io::Error) -> u8 {
+    let _ = match task {
+        Task::Read(path, _) => eprintln!(rt; "compile: {path}: {error}"),
+        Task::Random(_) => eprintln!(rt; "compile: {error}"),
+    };
+    UNUSABLE
+}
+
+/// Runs the requested task, and returns the exit status.
+fn perform(rt: &HostRuntime, request: &Request<'_>) -> u8 {
+    let mut bytes = Vec::new(rt.alloc());
+    match read_bytes(rt, &request.task, &mut bytes) {
+        Ok(_) => write_done(rt, request, bytes.as_slice()),
+        Err(error) => write_unread(rt, &request.task, &error),
     }
-    let _ = rt.stderr().write_all(err.as_slice());
-    if let Err(error) = write_result(rt, request.output, out.as_slice()) {
-        let path = request.output.unwrap_or("standard output");
-        let _ = eprintln!(rt; "compile: {path}: {error}");
-        return Ok(UNUSABLE);
+}
+
+/// Writes an error in the arguments, or the help or the version if requested, and returns the exit status.
+fn write_unasked(rt: &HostRuntime, error: &Error) -> u8 {
+    if error.print(rt).is_ok() && !error.use_stderr() {
+        0
+    } else {
+        UNUSABLE
     }
-    Ok(status)
+}
+
+/// Runs what the arguments ask for, and returns the exit status.
+fn run(rt: &HostRuntime, words: &[String]) -> u8 {
+    match Request::of(rt.alloc(), words) {
+        Ok(request) => perform(rt, &request),
+        Err(error) => write_unasked(rt, &error),
+    }
 }
 
 fn main(rt: HostRuntime) -> ExitCode {
-    let Ok(words) = words(&rt) else {
-        return ExitCode::from(UNUSABLE);
-    };
-    let request = match Request::of(rt.alloc(), words.as_slice()) {
-        Ok(request) => request,
-        Err(error) => {
-            let is_shown = error.print(&rt).is_ok();
-            let is_asked_for = is_shown && !error.use_stderr();
-            return ExitCode::from(if is_asked_for { 0 } else { UNUSABLE });
-        }
-    };
-    match perform(&rt, &request) {
-        Ok(status) => ExitCode::from(status),
-        Err(error) => {
-            let _ = match &request.task {
-                Task::Read(path, _) => eprintln!(rt; "compile: {path}: {error}"),
-                Task::Random(_) => eprintln!(rt; "compile: {error}"),
-            };
-            ExitCode::from(UNUSABLE)
-        }
-    }
+    ExitCode::from(match words(&rt) {
+        Ok(words) => run(&rt, words.as_slice()),
+        Err(_) => UNUSABLE,
+    })
 }

@@ -41,41 +41,55 @@ fn value(number: usize) -> VReg
     VReg::new(number, RegClass::Int)
 }
 
-/// A line that overwrites nothing beside its definitions.
-fn line(alloc: Global, kind: Kind, operands: &[Operand]) -> Result<Line, AllocError> {
-    Ok(Line {
+/// Adds a line that overwrites nothing beside its definitions.
+fn add_line(
+    alloc: Global,
+    lines: &mut Vec<Line>,
+    kind: Kind,
+    operands: &[Operand],
+) -> Result<(), AllocError> {
+    lines.push(Line {
         kind,
         operands: operands.to_vec(alloc)?,
         clobbers: PRegSet::empty(),
-    })
+    })?;
+    Ok(())
 }
 
-/// A block of the lines from one up to another.
-fn part(
-    alloc: Global,
-    lines: (usize, usize),
-    preds: &[Block],
-    params: &[VReg],
-    succs: &[(Block, &[VReg])],
-) -> Result<Part, AllocError>
-    requires { lines.0 ≤ lines.1 × lines.1 < 100 }
-{
-    let mut part = Part {
-        range: InstRange::new(Inst::new(lines.0), Inst::new(lines.1)),
-        succs: Vec::new(alloc),
-        preds: preds.to_vec(alloc)?,
-        params: params.to_vec(alloc)?,
-        arguments: Vec::new(alloc),
-    };
+/// Lets a block go on to others, with arguments.
+fn add_succs(alloc: Global, part: &mut Part, succs: &[(Block, &[VReg])]) -> Result<(), AllocError> {
     for (succ, arguments) in succs {
         part.succs.push(*succ)?;
         part.arguments.push(arguments.to_vec(alloc)?)?;
     }
-    Ok(part)
+    Ok(())
 }
 
-/// The lines of `sum`: its start, the head of the loop, its body and its end.
-fn lines_of_sum(alloc: Global, v: &[VReg; 7]) -> Result<Vec<Line>, AllocError> {
+/// Adds a block of the lines from one up to another.
+fn add_part(
+    alloc: Global,
+    parts: &mut Vec<Part>,
+    lines: (usize, usize),
+    preds: &[Block],
+    params: &[VReg],
+    succs: &[(Block, &[VReg])],
+) -> Result<(), AllocError>
+    requires { lines.0 ≤ lines.1 × lines.1 < 100 }
+{
+    let mut part = Part {
+        range: InstRange::new(Inst::new(lines.0), Inst::new(lines.1)),
+        preds: preds.to_vec(alloc)?,
+        params: params.to_vec(alloc)?,
+        succs: Vec::new(alloc),
+        arguments: Vec::new(alloc),
+    };
+    add_succs(alloc, &mut part, succs)?;
+    parts.push(part)?;
+    Ok(())
+}
+
+/// Adds the lines of `sum`: its start, the head of the loop, its body and its end.
+fn add_lines_of_sum(alloc: Global, lines: &mut Vec<Line>, v: &[VReg; 7]) -> Result<(), AllocError> {
     let argument = [Operand::reg_fixed_def(v[0], register_for(v[0], 7))];
     let add = [
         Operand::reg_reuse_def(v[4], 1),
@@ -88,17 +102,27 @@ fn lines_of_sum(alloc: Global, v: &[VReg; 7]) -> Result<Vec<Line>, AllocError> {
         Operand::any_use(v[5]),
     ];
     let answer = [Operand::reg_fixed_use(v[3], register_for(v[3], 0))];
-    let mut lines = Vec::new(alloc);
-    lines.push(line(alloc, Kind::Argument, &argument)?)?;
-    lines.push(line(alloc, Kind::Number(0), &[Operand::reg_def(v[1])])?)?;
-    lines.push(line(alloc, Kind::Jump, &[])?)?;
-    lines.push(line(alloc, Kind::Fork, &[Operand::reg_use(v[2])])?)?;
-    lines.push(line(alloc, Kind::Add, &add)?)?;
-    lines.push(line(alloc, Kind::Number(1), &[Operand::reg_def(v[5])])?)?;
-    lines.push(line(alloc, Kind::Sub, &sub)?)?;
-    lines.push(line(alloc, Kind::Jump, &[])?)?;
-    lines.push(line(alloc, Kind::Return, &answer)?)?;
-    Ok(lines)
+    add_line(alloc, lines, Kind::Argument, &argument)?;
+    add_line(alloc, lines, Kind::Number(0), &[Operand::reg_def(v[1])])?;
+    add_line(alloc, lines, Kind::Jump, &[])?;
+    add_line(alloc, lines, Kind::Fork, &[Operand::reg_use(v[2])])?;
+    add_line(alloc, lines, Kind::Add, &add)?;
+    add_line(alloc, lines, Kind::Number(1), &[Operand::reg_def(v[5])])?;
+    add_line(alloc, lines, Kind::Sub, &sub)?;
+    add_line(alloc, lines, Kind::Jump, &[])?;
+    add_line(alloc, lines, Kind::Return, &answer)
+}
+
+/// Adds the blocks of `sum`.
+fn add_parts_of_sum(alloc: Global, parts: &mut Vec<Part>, v: &[VReg; 7]) -> Result<(), AllocError> {
+    let (start, head, body, end) = (Block::new(0), Block::new(1), Block::new(2), Block::new(3));
+    let into_loop: [(Block, &[VReg]); 1] = [(head, &[v[0], v[1]])];
+    add_part(alloc, parts, (0, 3), &[], &[], &into_loop)?;
+    let ways: [(Block, &[VReg]); 2] = [(body, &[]), (end, &[])];
+    add_part(alloc, parts, (3, 4), &[start, body], &[v[2], v[3]], &ways)?;
+    let back: [(Block, &[VReg]); 1] = [(head, &[v[6], v[4]])];
+    add_part(alloc, parts, (4, 8), &[head], &[], &back)?;
+    add_part(alloc, parts, (8, 9), &[head], &[], &[])
 }
 
 /// The sum of the numbers from 1 to the argument.
@@ -112,16 +136,9 @@ fn sum(alloc: Global) -> Result<Option<Code>, AllocError> {
         value(5),
         value(6),
     ];
-    let lines = lines_of_sum(alloc, &v)?;
-    let (start, head, body, end) = (Block::new(0), Block::new(1), Block::new(2), Block::new(3));
-    let mut parts = Vec::new(alloc);
-    let into_loop: [(Block, &[VReg]); 1] = [(head, &[v[0], v[1]])];
-    parts.push(part(alloc, (0, 3), &[], &[], &into_loop)?)?;
-    let ways: [(Block, &[VReg]); 2] = [(body, &[]), (end, &[])];
-    parts.push(part(alloc, (3, 4), &[start, body], &[v[2], v[3]], &ways)?)?;
-    let back: [(Block, &[VReg]); 1] = [(head, &[v[6], v[4]])];
-    parts.push(part(alloc, (4, 8), &[head], &[], &back)?)?;
-    parts.push(part(alloc, (8, 9), &[head], &[], &[])?)?;
+    let (mut parts, mut lines) = (Vec::new(alloc), Vec::new(alloc));
+    add_lines_of_sum(alloc, &mut lines, &v)?;
+    add_parts_of_sum(alloc, &mut parts, &v)?;
     Ok(Code::new(parts, lines, 7))
 }
 

@@ -3,7 +3,7 @@
 use clap::error::ErrorKind;
 use clap::{Arg, ArgAction, ArgMatches, Command, Error};
 use regalloc2_tool::calls::call::Call;
-use std::alloc::Global;
+use std::alloc::{AllocError, Global};
 
 /// The subcommands, with what their help says.
 static SUBCOMMANDS: [(&str, &str); 10] = [
@@ -134,14 +134,14 @@ fn json<'a>(alloc: Global) -> Arg<'a> {
 }
 
 /// A subcommand with its arguments.
-fn subcommand<'a>(alloc: Global, name: &'a str, about: &'a str) -> Result<Command<'a>, Error> {
+fn subcommand<'a>(alloc: Global, name: &'a str, about: &'a str) -> Result<Command<'a>, AllocError> {
     let command = Command::new(alloc, name).about(about).after_help(STATUSES);
     let command = command.arg(file(alloc))?;
     let command = command.arg(output(alloc))?;
     let command = command.arg(quiet(alloc))?;
     match name {
-        "diff" => Ok(command.arg(other(alloc))?),
-        "stats" => Ok(command.arg(json(alloc))?),
+        "diff" => command.arg(other(alloc)),
+        "stats" => command.arg(json(alloc)),
         _ => Ok(command),
     }
 }
@@ -152,13 +152,12 @@ fn with_subcommand<'a>(
     command: Command<'a>,
     name: &'a str,
     about: &'a str,
-) -> Result<Command<'a>, Error> {
-    let subcommand = subcommand(alloc, name, about)?;
-    Ok(command.subcommand(subcommand)?)
+) -> Result<Command<'a>, AllocError> {
+    command.subcommand(subcommand(alloc, name, about)?)
 }
 
 /// The command with its subcommands.
-fn command<'a>(alloc: Global) -> Result<Command<'a>, Error> {
+fn command<'a>(alloc: Global) -> Result<Command<'a>, AllocError> {
     let mut command = Command::new(alloc, "ra2_text")
         .version("0.1.0")
         .about("Allocates registers to a function that is given as a text or as JSON")

@@ -7,22 +7,56 @@ mod program;
 pub use program::Tally;
 use program::run_file;
 use regalloc2_tool::calls::call::CallError;
+use std::alloc::{AllocError, Global};
 use std::fs;
 use std::io::Write;
 use std::rt::Runtime;
 
+/// Adds the path of a folder's file, if it has cases.
+fn add_path(
+    alloc: Global,
+    folder: &str,
+    name: &str,
+    paths: &mut Vec<String>,
+) -> Result<(), AllocError> {
+    if name.ends_with(".case") {
+        paths.push(format!(in alloc; "{folder}/{name}")?)?;
+    }
+    Ok(())
+}
+
+/// Adds the paths of a folder's files of cases.
+fn add_paths<R: Runtime + AllocGlobal>(
+    rt: &R,
+    folder: &str,
+    paths: &mut Vec<String>,
+) -> Result<(), CallError> {
+    for entry in fs::read_dir(rt, folder)? {
+        add_path(rt.alloc(), folder, entry?.file_name(), paths)?;
+    }
+    Ok(())
+}
+
 /// The paths of a folder's files of cases, sorted.
 fn case_paths<R: Runtime + AllocGlobal>(rt: &R, folder: &str) -> Result<Vec<String>, CallError> {
     let mut paths = Vec::new(rt.alloc());
-    for entry in fs::read_dir(rt, folder)? {
-        let entry = entry?;
-        let name = entry.file_name();
-        if name.ends_with(".case") {
-            paths.push(format!(in rt.alloc(); "{folder}/{name}")?)?;
-        }
-    }
+    add_paths(rt, folder, &mut paths)?;
     paths.sort()?;
     Ok(paths)
+}
+
+/// Runs the files of some paths.
+fn run_paths<R: Runtime + AllocGlobal, O: Write>(
+    rt: &R,
+    paths: &[String],
+    tally: &mut Tally,
+    out: &mut O,
+) -> Result<(), CallError> {
+    for path in paths {
+        let text = fs::read_to_string(rt, path.as_str())?;
+        run_file(rt.alloc(), path.as_str(), text.as_str(), tally, out)?;
+    }
+    Ok(())
 }
 
 /// Runs the files `*.case` of a folder, by name, and writes what differs, and then how many files there are and how
@@ -33,10 +67,7 @@ pub fn run_folder<R: Runtime + AllocGlobal, O: Write>(
     out: &mut O,
 ) -> Result<Tally, CallError> {
     let mut tally = Tally::default();
-    for path in case_paths(rt, folder)?.iter() {
-        let text = fs::read_to_string(rt, path.as_str())?;
-        run_file(rt.alloc(), path.as_str(), text.as_str(), &mut tally, out)?;
-    }
+    run_paths(rt, case_paths(rt, folder)?.as_slice(), &mut tally, out)?;
     writeln!(out, "{tally}")?;
     Ok(tally)
 }

@@ -1,17 +1,15 @@
 //! Large functions, which are allocated in a moment.
 
-use super::calls::run_fitting;
-use super::random::integer_machine;
-use super::rows::{def, read, vreg};
+use super::rows::{allocated, def, read, vreg};
 use regalloc2::Operand;
 use regalloc2_serialize::table_function::{BuildError, TableBuilder, TableFunction};
 use std::alloc::Global;
 
 /// How many places and slots a function gets on so many registers.
 fn size_of(alloc: Global, f: &TableFunction, registers: usize) -> Option<(usize, usize)> {
-    match run_fitting(alloc, f, &integer_machine(alloc, registers)) {
-        Some(Ok(out)) => Some((out.allocs.len(), out.num_spillslots)),
-        _ => None,
+    match allocated(alloc, f, registers) {
+        Some(out) => Some((out.allocs.len(), out.num_spillslots)),
+        None => None,
     }
 }
 

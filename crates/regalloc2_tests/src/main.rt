@@ -31,15 +31,23 @@ mod units;
 use cases::{Tally, run_folder};
 use codegen::program::agrees_at_random;
 use maker::Maker;
-use regalloc2::{MachineEnv, allocate, is_framed, run_tested};
+use regalloc2::{Function, MachineEnv, allocate, is_framed, run_tested};
 use regalloc2_analysis::liveness::decided_by_tree;
-use regalloc2_serialize::table_function::TableFunction;
 use regalloc2_tool::calls::call::CallError;
-use std::alloc::Global;
+use std::alloc::{AllocError, Global};
 use std::env::{self, Env};
 use std::fmt::Debug;
 use std::io::{self, BufWriter, Write};
 use std::process::ExitCode;
+
+/// The words of a command line.
+fn words_of(alloc: Global, line: &str) -> Result<Vec<String>, AllocError> {
+    let mut words = Vec::new(alloc);
+    for word in line.split_whitespace() {
+        words.push(String::from_str(alloc, word)?)?;
+    }
+    Ok(words)
+}
 
 /// Writes what a call returns.
 fn show<W: Write, T: Debug + Drop>(out: &mut W, name: &str, value: T) -> io::Result<()> {
@@ -47,17 +55,17 @@ fn show<W: Write, T: Debug + Drop>(out: &mut W, name: &str, value: T) -> io::Res
 }
 
 /// Whether what is allocated to a function is accepted by the checker.
-fn is_accepted(alloc: Global, f: &TableFunction, env: &MachineEnv) -> bool {
+fn is_accepted<F: Function>(alloc: Global, f: &F, env: &MachineEnv) -> bool {
     allocate(alloc, f, env).is_ok()
 }
 
 /// Whether a function reads nothing unwritten, by the dominator tree.
-fn is_by_tree(alloc: Global, f: &TableFunction) -> bool {
+fn is_by_tree<F: Function>(alloc: Global, f: &F) -> bool {
     is_framed(f) && matches!(decided_by_tree(alloc, f), Ok(Some(true)))
 }
 
 /// Whether a function passes all tests and is allocated.
-fn is_tested(alloc: Global, f: &TableFunction, env: &MachineEnv) -> bool {
+fn is_tested<F: Function>(alloc: Global, f: &F, env: &MachineEnv) -> bool {
     run_tested(alloc, f, env).is_ok()
 }
 

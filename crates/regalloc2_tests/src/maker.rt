@@ -207,20 +207,26 @@ impl Maker {
         self.pass(graph, f, block)
     }
 
+    /// Fills all blocks.
+    fn fill_all(&mut self, graph: &mut Graph, f: &mut TableBuilder) -> Option<()> {
+        f.block(&[]).ok()?;
+        self.add_bases(f)?;
+        self.name_parameters(graph)?;
+        for number in 0..graph.nodes.len() {
+            if number > 0 {
+                f.block(&graph.nodes.get(number)?.params).ok()?;
+                self.enter(graph, number)?;
+            }
+            self.fill(graph, f, number)?;
+        }
+        Some(())
+    }
+
     /// A function of up to twelve blocks.
     pub fn function(&mut self) -> Option<TableFunction> {
         let mut graph = Graph::any(self.alloc, &mut self.random)?;
         let mut f = TableBuilder::new(self.alloc);
-        f.block(&[]).ok()?;
-        self.add_bases(&mut f)?;
-        self.name_parameters(&mut graph)?;
-        for number in 0..graph.nodes.len() {
-            if number > 0 {
-                f.block(&graph.nodes.get(number)?.params).ok()?;
-                self.enter(&graph, number)?;
-            }
-            self.fill(&mut graph, &mut f, number)?;
-        }
+        self.fill_all(&mut graph, &mut f)?;
         let mut f = f.finish(self.num_vregs()).ok()?;
         f.float_slot = SlotUnits::two();
         f.named_by_last_slot = self.random.once_in(2);

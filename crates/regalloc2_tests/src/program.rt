@@ -1,8 +1,9 @@
 //! What `ra2` returns for arguments and texts, and where a read or a write fails.
 
+use super::words_of;
 use regalloc2_test_alloc::Refusing;
 use regalloc2_tool::ra2::answer;
-use std::alloc::{AllocError, Global};
+use std::alloc::Global;
 use std::io::{self, BufWriter, ErrorKind, Read, Write};
 
 /// A definition of a vreg, and a return that reads it, for a machine of ten registers.
@@ -23,6 +24,9 @@ const CHECKED: &str =
     "block0:\n  inst0 op: Def: v0i reg [p9i]\n  inst1 ret: Use: v0i reg [p9i]\nslots 0\nchecked\n";
 
 const UNREADABLE: &str = "ra2: input unreadable\n";
+
+/// How many bytes a buffer usually has.
+const USUAL: usize = 8192;
 
 /// A reader over a text, of which the read that comes after so many others fails.
 #[derive(Drop)]
@@ -102,28 +106,26 @@ impl Write for Faulty {
     }
 }
 
-/// The arguments of a command line.
-fn words(alloc: Global, line: &[&str]) -> Result<Vec<String>, AllocError> {
-    let mut words = Vec::new(alloc);
-    for word in line {
-        words.push(String::from_str(alloc, word)?)?;
-    }
-    Ok(words)
+/// The status that the program returns for a command line and an input, and what it writes over a buffer of so many bytes.
+fn call(
+    alloc: Global,
+    line: &str,
+    input: Failing<'_>,
+    capacity: usize,
+    out: Faulty,
+    err: &mut Faulty,
+) -> io::Result<(u8, Faulty)> {
+    let out = BufWriter::with_capacity(alloc, capacity, out)?;
+    let words = words_of(alloc, line)?;
+    let ample = &Refusing::counting(alloc);
+    Ok(answer(alloc, ample, words.as_slice(), input, out, err))
 }
 
 /// Whether the program reports arguments and an input by just a line on the standard error, with
 /// status 2.
-fn is_refused(
-    alloc: Global,
-    line: &[&str],
-    input: Failing<'_>,
-    err_line: &str,
-) -> io::Result<bool> {
-    let words = words(alloc, line)?;
-    let out = BufWriter::new(alloc, Faulty::sound(alloc))?;
+fn is_refused(alloc: Global, line: &str, input: Failing<'_>, err_line: &str) -> io::Result<bool> {
     let mut err = Faulty::sound(alloc);
-    let ample = &Refusing::counting(alloc);
-    let (status, out) = answer(alloc, ample, words.as_slice(), input, out, &mut err);
+    let (status, out) = call(alloc, line, input, USUAL, Faulty::sound(alloc), &mut err)?;
     let is_told = err.text.as_slice() == err_line.as_bytes();
     Ok(status == 2 && out.text.is_empty() && is_told)
 }
@@ -131,7 +133,7 @@ fn is_refused(
 /// Whether a call without arguments is rejected.
 pub fn no_words(alloc: Global) -> io::Result<bool> {
     let input = Failing::sound(TEXT.as_bytes());
-    is_refused(alloc, &[], input, "ra2: bad words\n")
+    is_refused(alloc, "", input, "ra2: bad words\n")
 }
 
 /// The lengths at which a text that is cut there isn't rejected.
@@ -140,7 +142,7 @@ pub fn unrefused_lengths(alloc: Global) -> io::Result<Vec<usize>> {
     let mut unrefused = Vec::new(alloc);
     for length in 0..whole.len() {
         let input = Failing::sound(&whole[..length]);
-        if !is_refused(alloc, &["run"], input, UNREADABLE)? {
+        if !is_refused(alloc, "run", input, UNREADABLE)? {
             unrefused.push(length)?;
         }
     }
@@ -152,7 +154,7 @@ pub fn unrefused_bytes(alloc: Global) -> io::Result<Vec<&'static [u8]>> {
     let no_function: [&'static [u8]; 4] = [b"{", b"null", &[34, 255, 34], &[195, 40]];
     let mut unrefused = Vec::new(alloc);
     for bytes in no_function {
-        if !is_refused(alloc, &["run"], Failing::sound(bytes), UNREADABLE)? {
+        if !is_refused(alloc, "run", Failing::sound(bytes), UNREADABLE)? {
             unrefused.push(bytes)?;
         }
     }
@@ -167,7 +169,7 @@ pub fn unrefused_reads(alloc: Global) -> io::Result<Vec<u32>> {
             text: TEXT.as_bytes(),
             sound_reads,
         };
-        if !is_refused(alloc, &["run"], input, UNREADABLE)? {
+        if !is_refused(alloc, "run", input, UNREADABLE)? {
             unrefused.push(sound_reads)?;
         }
     }
@@ -177,19 +179,10 @@ pub fn unrefused_reads(alloc: Global) -> io::Result<Vec<u32>> {
 /// What the program writes and returns where the write that comes after so many others fails, over
 /// a buffer of so many bytes.
 fn answer_faulty(alloc: Global, capacity: usize, sound_writes: u32) -> io::Result<(u8, Faulty)> {
-    let words = words(alloc, &["check"])?;
+    let input = Failing::sound(TEXT.as_bytes());
     let out = Faulty::new(alloc, sound_writes, true);
-    let out = BufWriter::with_capacity(alloc, capacity, out)?;
     let mut err = Faulty::sound(alloc);
-    let ample = &Refusing::counting(alloc);
-    let (status, out) = answer(
-        alloc,
-        ample,
-        words.as_slice(),
-        Failing::sound(TEXT.as_bytes()),
-        out,
-        &mut err,
-    );
+    let (status, out) = call(alloc, "check", input, capacity, out, &mut err)?;
     if !err.text.is_empty() {
         return Ok((u8::MAX, out));
     }
@@ -225,24 +218,16 @@ fn up_to_five(count: Option<u32>) -> Option<u32> {
 pub fn writes_up_to_five(alloc: Global) -> io::Result<[Option<u32>; 3]> {
     let unbuffered = fatal_writes(alloc, 0)?;
     let short = fatal_writes(alloc, 16)?;
-    let whole = fatal_writes(alloc, 8192)?;
+    let whole = fatal_writes(alloc, USUAL)?;
     Ok([up_to_five(unbuffered), up_to_five(short), up_to_five(whole)])
 }
 
 /// The status where the flush fails; whether the listing was written, and no line on the standard error.
 pub fn failed_flush(alloc: Global) -> io::Result<(u8, bool, bool)> {
-    let run = words(alloc, &["run"])?;
-    let out = BufWriter::new(alloc, Faulty::new(alloc, u32::MAX, false))?;
+    let input = Failing::sound(TEXT.as_bytes());
+    let out = Faulty::new(alloc, u32::MAX, false);
     let mut err = Faulty::sound(alloc);
-    let ample = &Refusing::counting(alloc);
-    let (status, out) = answer(
-        alloc,
-        ample,
-        run.as_slice(),
-        Failing::sound(TEXT.as_bytes()),
-        out,
-        &mut err,
-    );
+    let (status, out) = call(alloc, "run", input, USUAL, out, &mut err)?;
     let is_listed = out.text.as_slice() == LISTING.as_bytes();
     Ok((status, is_listed, err.text.is_empty()))
 }
@@ -250,17 +235,8 @@ pub fn failed_flush(alloc: Global) -> io::Result<(u8, bool, bool)> {
 /// The status where arguments are rejected, and the line that says so can't be written; whether
 /// nothing else is.
 pub fn shut_error_stream(alloc: Global) -> io::Result<(u8, bool)> {
-    let walk = words(alloc, &["walk"])?;
-    let out = BufWriter::new(alloc, Faulty::sound(alloc))?;
+    let input = Failing::sound(TEXT.as_bytes());
     let mut shut = Faulty::new(alloc, 0, false);
-    let ample = &Refusing::counting(alloc);
-    let (status, out) = answer(
-        alloc,
-        ample,
-        walk.as_slice(),
-        Failing::sound(TEXT.as_bytes()),
-        out,
-        &mut shut,
-    );
+    let (status, out) = call(alloc, "walk", input, USUAL, Faulty::sound(alloc), &mut shut)?;
     Ok((status, out.text.is_empty()))
 }

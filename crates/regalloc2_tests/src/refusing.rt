@@ -9,7 +9,7 @@ mod calls;
 
 use calls::{Given, NAMES, Name};
 use regalloc2::serialize::{FromValue, SerializableFunction, StoredFunction};
-use regalloc2::{Output, allocate_without_checker};
+use regalloc2::{Function, MachineEnv, Output, allocate_without_checker};
 use regalloc2_test_alloc::{Refusing, is_each_told};
 use serde_json::Value;
 use std::alloc::Global;
@@ -23,22 +23,22 @@ fn function_of(alloc: Global, text: &str) -> Option<SerializableFunction> {
 }
 
 /// What is allocated to a function, or nothing.
-fn output_of(alloc: Global, f: &SerializableFunction) -> Output {
-    allocate_without_checker(alloc, f, f.machine_env()).unwrap_or(Output::new(alloc))
+fn output_of<F: Function>(alloc: Global, f: &F, env: &MachineEnv) -> Output {
+    allocate_without_checker(alloc, f, env).unwrap_or(Output::new(alloc))
 }
 
 /// Whether each failed allocation of a call is reported, and whether the call allocates memory at
 /// all. The call's expected result is the one that it returns with ample memory.
-fn is_told(global: Global, given: &mut Given) -> Option<bool> {
+fn is_told<F: Function>(global: Global, given: &mut Given<'_, F>) -> Option<bool> {
     given.wanted = given.answer(&Refusing::counting(global)).ok()?;
     Some(is_each_told(global, given))
 }
 
 /// The result of a call of that name.
-fn answer_of(
+fn answer_of<F: Function>(
     global: Global,
     name: Name,
-    f: &SerializableFunction,
+    (f, env): (&F, &MachineEnv),
     out: &Output,
     without_moves: &Output,
 ) -> &'static str {
@@ -46,6 +46,7 @@ fn answer_of(
         global,
         name,
         f,
+        env,
         out,
         without_moves,
         wanted: String::new(global),
@@ -58,29 +59,39 @@ fn answer_of(
 }
 
 /// Writes of which calls each failed allocation is reported, and of which it isn't.
-fn show_answers<W: Write>(
+fn show_answers<F: Function, W: Write>(
     global: Global,
-    f: &SerializableFunction,
+    given: (&F, &MachineEnv),
     out: &Output,
     without_moves: &Output,
     to: &mut W,
 ) -> io::Result<()> {
     for name in &NAMES {
-        let answer = answer_of(global, *name, f, out, without_moves);
+        let answer = answer_of(global, *name, given, out, without_moves);
         writeln!(to, "  {name:?}: {answer}")?;
     }
     Ok(())
 }
 
 /// Writes of which calls with a function each failed allocation is reported, and of which it isn't.
-fn show<W: Write>(global: Global, text: &str, to: &mut W) -> io::Result<()> {
-    let Some(f) = function_of(global, text) else {
-        return writeln!(to, " no function");
-    };
-    let out = output_of(global, &f);
-    let mut without_moves = output_of(global, &f);
+fn show_of<F: Function, W: Write>(
+    global: Global,
+    f: &F,
+    env: &MachineEnv,
+    to: &mut W,
+) -> io::Result<()> {
+    let out = output_of(global, f, env);
+    let mut without_moves = output_of(global, f, env);
     without_moves.edits.clear();
-    show_answers(global, &f, &out, &without_moves, to)
+    show_answers(global, (f, env), &out, &without_moves, to)
+}
+
+/// Writes of which calls with the function of a JSON text each failed allocation is reported, and of which it isn't.
+fn show<W: Write>(global: Global, text: &str, to: &mut W) -> io::Result<()> {
+    match function_of(global, text) {
+        Some(f) => show_of(global, &f, f.machine_env(), to),
+        None => writeln!(to, " no function"),
+    }
 }
 
 /// Writes the titles, which begin with `#`, and after each function, a JSON text, of which calls

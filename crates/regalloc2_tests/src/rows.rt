@@ -9,7 +9,7 @@ use super::random::integer_machine;
 use regalloc2::cfg::CFGInfo;
 use regalloc2::checker::{Checker, CheckerErrors};
 use regalloc2::ssa::validate_ssa;
-use regalloc2::{Block, Ctx, Operand, Output, RegAllocError, RegClass, VReg, is_framed};
+use regalloc2::{Block, Ctx, Function, Operand, Output, RegAllocError, RegClass, VReg, is_framed};
 use regalloc2_serialize::table_function::{BuildError, TableBuilder, TableFunction};
 use std::alloc::Global;
 
@@ -30,9 +30,8 @@ pub fn read(number: usize) -> Operand {
     Operand::reg_use(vreg(number))
 }
 
-/// A loop whose two parameters change places on each turn; then a return that reads both.
-fn turning_loop(alloc: Global) -> Result<TableFunction, BuildError> {
-    let mut f = TableBuilder::new(alloc);
+/// Adds a loop whose two parameters change places on each turn; then a return that reads both.
+fn add_turning_loop(f: &mut TableBuilder) -> Result<(), BuildError> {
     let (start, head) = (f.block(&[])?, f.block(&[vreg(2), vreg(3)])?);
     let (body, end) = (f.block(&[])?, f.block(&[])?);
     f.op(start, &[def(0)])?;
@@ -45,13 +44,18 @@ fn turning_loop(alloc: Global) -> Result<TableFunction, BuildError> {
     f.succ(head, end, &[])?;
     f.branch(body, &[])?;
     f.succ(body, head, &[vreg(3), vreg(2)])?;
-    f.ret(end, &[read(2), read(3)])?;
+    f.ret(end, &[read(2), read(3)])
+}
+
+/// A function of such a loop.
+fn turning_loop(alloc: Global) -> Result<TableFunction, BuildError> {
+    let mut f = TableBuilder::new(alloc);
+    add_turning_loop(&mut f)?;
     f.finish(4)
 }
 
-/// A fork that passes its value on one edge to a parameter.
-fn fork(alloc: Global) -> Result<TableFunction, BuildError> {
-    let mut f = TableBuilder::new(alloc);
+/// Adds a fork that passes its value on one edge to a parameter.
+fn add_fork(f: &mut TableBuilder) -> Result<(), BuildError> {
     let start = f.block(&[])?;
     let (one, other) = (f.block(&[vreg(1)])?, f.block(&[])?);
     f.op(start, &[def(0)])?;
@@ -59,30 +63,45 @@ fn fork(alloc: Global) -> Result<TableFunction, BuildError> {
     f.succ(start, one, &[vreg(0)])?;
     f.succ(start, other, &[])?;
     f.ret(one, &[read(1)])?;
-    f.ret(other, &[read(1)])?;
+    f.ret(other, &[read(1)])
+}
+
+/// A function of such a fork.
+fn fork(alloc: Global) -> Result<TableFunction, BuildError> {
+    let mut f = TableBuilder::new(alloc);
+    add_fork(&mut f)?;
     f.finish(4)
 }
 
-/// What is allocated to a function on ten registers.
-pub fn allocated(alloc: Global, f: &TableFunction) -> Option<Output> {
-    run_fitting(alloc, f, &integer_machine(alloc, 10))?.ok()
+/// What is allocated to a function on so many registers.
+pub fn allocated<F: Function>(alloc: Global, f: &F, registers: usize) -> Option<Output> {
+    run_fitting(alloc, f, &integer_machine(alloc, registers))?.ok()
 }
 
-/// The tables of the loop, if it passes the tests.
-fn tables_of_loop(alloc: Global) -> Option<CFGInfo> {
-    let f = turning_loop(alloc).ok()?;
-    let info = CFGInfo::new(alloc, &f).ok()?;
-    if validate_ssa(alloc, &f, &info).is_ok() {
+/// The tables of a function, if it passes the tests.
+fn valid_tables<F: Function>(alloc: Global, f: &F) -> Option<CFGInfo> {
+    let info = CFGInfo::new(alloc, f).ok()?;
+    if validate_ssa(alloc, f, &info).is_ok() {
         Some(info)
     } else {
         None
     }
 }
 
+/// The tables of the loop, if it passes the tests.
+fn tables_of_loop(alloc: Global) -> Option<CFGInfo> {
+    match turning_loop(alloc) {
+        Ok(f) => valid_tables(alloc, &f),
+        Err(_) => None,
+    }
+}
+
 /// The tables of the fork.
 fn tables_of_fork(alloc: Global) -> Option<CFGInfo> {
-    let f = fork(alloc).ok()?;
-    CFGInfo::new(alloc, &f).ok()
+    match fork(alloc) {
+        Ok(f) => CFGInfo::new(alloc, &f).ok(),
+        Err(_) => None,
+    }
 }
 
 /// The tables of the loop, which passes the tests, and of the fork.
@@ -92,17 +111,17 @@ pub fn tables(alloc: Global) -> Option<(CFGInfo, CFGInfo)> {
 }
 
 /// How many slots `run` gives a function.
-fn own_slots(alloc: Global, f: &TableFunction) -> Option<usize> {
-    match allocated(alloc, f) {
+fn own_slots<F: Function>(alloc: Global, f: &F) -> Option<usize> {
+    match allocated(alloc, f, 10) {
         Some(out) => Some(out.num_spillslots),
         None => None,
     }
 }
 
 /// How many slots `run_with_ctx` gives a function on so many registers, or how it is rejected.
-fn lent_slots(
+fn lent_slots<F: Function>(
     alloc: Global,
-    f: &TableFunction,
+    f: &F,
     registers: usize,
     ctx: &mut Ctx,
 ) -> Option<Result<usize, RegAllocError>> {
@@ -110,7 +129,7 @@ fn lent_slots(
 }
 
 /// How many slots each call gives a function.
-fn slots(alloc: Global, f: &TableFunction, ctx: &mut Ctx) -> Option<[usize; 2]> {
+fn slots<F: Function>(alloc: Global, f: &F, ctx: &mut Ctx) -> Option<[usize; 2]> {
     let lent = lent_slots(alloc, f, 10, ctx)?.ok()?;
     Some([own_slots(alloc, f)?, lent])
 }
@@ -149,32 +168,23 @@ pub fn slots_and_refusals(
     slots_and_refusals_of(alloc, &mut f, &mut Ctx::new(alloc))
 }
 
-/// Whether a checker takes just the outputs that it should, one after another.
-fn takes(checker: &mut Checker<'_, TableFunction>, given: &[(&Output, bool)]) -> bool {
-    for (out, is_right) in given {
-        if checker.prepare(*out).is_ok() != *is_right {
-            return false;
-        }
-    }
-    true
-}
-
-/// What a checker reports, if it takes just the outputs that it should.
-fn report(
-    mut checker: Checker<'_, TableFunction>,
+/// What a checker reports, if it takes just the outputs that it should, one after another.
+fn report<F: Function>(
+    mut checker: Checker<'_, F>,
     given: &[(&Output, bool)],
 ) -> Option<Result<(), CheckerErrors>> {
-    if takes(&mut checker, given) {
-        Some(checker.run())
-    } else {
-        None
+    for (out, is_right) in given {
+        if checker.prepare(*out).is_ok() != *is_right {
+            return None;
+        }
     }
+    Some(checker.run())
 }
 
 /// What a new checker of a function reports, if it takes just the outputs that it should.
-fn verdict(
+fn verdict<F: Function>(
     alloc: Global,
-    f: &TableFunction,
+    f: &F,
     given: &[(&Output, bool)],
 ) -> Option<Result<(), CheckerErrors>> {
     if !is_framed(f) {
@@ -187,9 +197,9 @@ fn verdict(
 }
 
 /// The verdicts on a right output and a wrong one.
-fn verdicts_on(
+fn verdicts_on<F: Function>(
     alloc: Global,
-    f: &TableFunction,
+    f: &F,
     right: &Output,
     wrong: &Output,
 ) -> Option<[Result<(), CheckerErrors>; 3]> {
@@ -200,9 +210,9 @@ fn verdicts_on(
 }
 
 /// The verdicts on the output of a function and one which isn't well-ordered.
-fn verdicts_of(alloc: Global, f: &TableFunction) -> Option<[Result<(), CheckerErrors>; 3]> {
-    let out = allocated(alloc, f)?;
-    let mut bad = allocated(alloc, f)?;
+fn verdicts_of<F: Function>(alloc: Global, f: &F) -> Option<[Result<(), CheckerErrors>; 3]> {
+    let out = allocated(alloc, f, 10)?;
+    let mut bad = allocated(alloc, f, 10)?;
     bad.inst_alloc_offsets.clear();
     verdicts_on(alloc, f, &out, &bad)
 }

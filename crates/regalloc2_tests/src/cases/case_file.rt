@@ -1,7 +1,6 @@
 //! The cases of a file: each a text, and calls with the results that they must give.
 
 use std::alloc::{AllocError, Global};
-use std::mem;
 
 /// A call of a case, and the result that it must give.
 #[derive(Drop)]
@@ -33,6 +32,17 @@ fn without_comment(line: &str) -> &str {
     shown.trim_end()
 }
 
+impl<'t> Expectation<'t> {
+    /// Takes a line of the result.
+    fn add(&mut self, line: &'t str) -> Result<(), AllocError> {
+        let shown = without_comment(line);
+        if !shown.is_empty() {
+            self.answer.push(shown)?;
+        }
+        Ok(())
+    }
+}
+
 impl<'t> Case<'t> {
     /// A case of no lines yet.
     fn new(alloc: Global, title: &'t str, first_line: usize) -> Case<'t> {
@@ -44,44 +54,50 @@ impl<'t> Case<'t> {
         }
     }
 
+    /// Adds a call of no result yet.
+    fn add_call(&mut self, alloc: Global, line: usize, call: &'t str) -> Result<(), AllocError> {
+        let answer = Vec::new(alloc);
+        self.calls.push(Expectation { line, call, answer })?;
+        Ok(())
+    }
+
     /// Takes the next line, which begins no case: a call, a line of the last call's result, or a line of the text.
     fn add(&mut self, alloc: Global, number: usize, line: &'t str) -> Result<(), AllocError> {
         if let Some(call) = line.strip_prefix("== ") {
-            self.calls.push(Expectation {
-                line: number,
-                call: call.trim(),
-                answer: Vec::new(alloc),
-            })?;
-            return Ok(());
+            return self.add_call(alloc, number, call.trim());
         }
-        let Some(expectation) = self.calls.last_mut() else {
-            self.text.push_str(line)?;
-            return self.text.push('\n');
-        };
-        let shown = without_comment(line);
-        if !shown.is_empty() {
-            expectation.answer.push(shown)?;
+        if let Some(expectation) = self.calls.last_mut() {
+            return expectation.add(line);
         }
-        Ok(())
+        self.text.push_str(line)?;
+        self.text.push('\n')
+    }
+}
+
+/// Takes the next line of a file: it begins a case, or belongs to the last one.
+fn take<'t>(
+    alloc: Global,
+    number: usize,
+    line: &'t str,
+    cases: &mut Vec<Case<'t>>,
+) -> Result<(), AllocError> {
+    if let Some(title) = line.strip_prefix("=== ") {
+        cases.push(Case::new(alloc, title.trim(), number.saturating_add(1)))?;
+        return Ok(());
+    }
+    match cases.last_mut() {
+        Some(case) => case.add(alloc, number, line),
+        None => Ok(()),
     }
 }
 
 /// The cases of a file. What is before the first title is one too; if it is comment alone it has no calls.
 pub fn cases_of<'t>(alloc: Global, file: &'t str) -> Result<Vec<Case<'t>>, AllocError> {
-    let mut cases = Vec::new(alloc);
-    let mut case = Case::new(alloc, "untitled", 1);
+    let mut cases = vec![in alloc; Case::new(alloc, "untitled", 1)]?;
     let mut next = 1usize;
     for line in file.lines() {
-        let number = next;
+        take(alloc, next, line, &mut cases)?;
         next = next.saturating_add(1);
-        match line.strip_prefix("=== ") {
-            Some(title) => {
-                let new = Case::new(alloc, title.trim(), next);
-                cases.push(mem::replace(&mut case, new))?;
-            }
-            None => case.add(alloc, number, line)?,
-        }
     }
-    cases.push(case)?;
     Ok(cases)
 }

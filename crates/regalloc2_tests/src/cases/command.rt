@@ -1,9 +1,11 @@
 //! The programs `ra2_text` and `compile`, called with a case's text in place of a file.
 
+use crate::words_of;
 use codegen::program::{self as compiler, Action, ROOM, RunOptions};
 use ra2_text_program::{Task, answer};
 use regalloc2_tool::calls::call::CallError;
 use std::alloc::{AllocError, Global};
+use std::fmt::Display;
 use std::io::Write;
 
 /// The bytes of a text, in which `%` is written for a byte that is part of no character.
@@ -15,68 +17,91 @@ fn bytes_of(alloc: Global, text: &str) -> Result<Vec<u8>, AllocError> {
     Ok(bytes)
 }
 
-/// The words of a command line, the program's name the first.
-fn words_of(alloc: Global, line: &str) -> Result<Vec<String>, AllocError> {
-    let mut words = Vec::new(alloc);
-    for word in line.split_whitespace() {
-        words.push(String::from_str(alloc, word)?)?;
-    }
-    Ok(words)
+/// Writes the first line of an error's text.
+fn write_first_line<E: Display>(
+    alloc: Global,
+    error: &E,
+    to: &mut Vec<u8>,
+) -> Result<(), CallError> {
+    let shown = format!(in alloc; "{error}")?;
+    let first = shown.as_str().lines().next().unwrap_or("");
+    writeln!(to, "{first}")?;
+    Ok(())
 }
 
-/// What the program writes for a command line, in which the first file is `text` and the other one of `diff` is `before`: what it writes to
-/// standard output, behind that what it writes to standard error, and its status. Of words that name no task the error's first line alone.
-pub fn answer_of_program(
+/// Writes what a program wrote to standard error, and its status.
+fn write_end(err: &[u8], status: u8, to: &mut Vec<u8>) -> Result<(), CallError> {
+    to.extend_from_slice(err)?;
+    writeln!(to, "status {status}")?;
+    Ok(())
+}
+
+/// Writes what `ra2_text` writes for a task, and its status.
+fn write_done(
     alloc: Global,
-    line: &str,
+    task: Task<'_>,
     text: &str,
     before: &str,
-) -> Result<Vec<u8>, CallError> {
-    let mut to = Vec::new(alloc);
-    let words = words_of(alloc, line)?;
-    let task = match Task::of(alloc, words.as_slice()) {
-        Ok(task) => task,
-        Err(error) => {
-            let shown = format!(in alloc; "{error}")?;
-            let first = shown.as_str().lines().next().unwrap_or("");
-            writeln!(&mut to, "{first}")?;
-            return Ok(to);
-        }
-    };
+    to: &mut Vec<u8>,
+) -> Result<(), CallError> {
     let bytes = bytes_of(alloc, text)?;
     let mut err = Vec::new(alloc);
     let other = match task.other {
         Some(name) => Some((name, before.as_bytes())),
         None => None,
     };
-    let status = answer(alloc, task, bytes.as_slice(), other, &mut to, &mut err);
-    to.extend_from_slice(err.as_slice())?;
-    writeln!(&mut to, "status {status}")?;
-    Ok(to)
+    let status = answer(alloc, task, bytes.as_slice(), other, to, &mut err);
+    write_end(err.as_slice(), status, to)
+}
+
+/// Writes what the program writes for a command line, in which the first file is `text` and the other one of `diff` is `before`: what it
+/// writes to standard output, behind that what it writes to standard error, and its status. Of words that name no task the error's first
+/// line alone.
+pub fn write_program(
+    alloc: Global,
+    line: &str,
+    text: &str,
+    before: &str,
+    to: &mut Vec<u8>,
+) -> Result<(), CallError> {
+    let words = words_of(alloc, line)?;
+    match Task::of(alloc, words.as_slice()) {
+        Ok(task) => write_done(alloc, task, text, before, to),
+        Err(error) => write_first_line(alloc, &error, to),
+    }
+}
+
+/// Takes a word of `compile run`. Returns whether it is right.
+fn take(options: &mut RunOptions, word: &str) -> Result<bool, AllocError> {
+    if word == "--memory" {
+        options.shows_memory = true;
+        return Ok(true);
+    }
+    let given = word.strip_prefix("--room=");
+    let Ok(number) = given.unwrap_or(word).parse::<u64>() else {
+        return Ok(false);
+    };
+    if given.is_some() {
+        options.room = number;
+    } else {
+        options.arguments.push(number)?;
+    }
+    Ok(true)
 }
 
 /// The options of `compile run` in its words, the file left out, or nothing where one is wrong.
 fn options_of(alloc: Global, words: &str) -> Result<Option<RunOptions>, AllocError> {
-    let (mut arguments, mut room, mut shows_memory) = (Vec::new(alloc), ROOM, false);
+    let mut options = RunOptions {
+        arguments: Vec::new(alloc),
+        room: ROOM,
+        shows_memory: false,
+    };
     for word in words.split_whitespace() {
-        if word == "--memory" {
-            shows_memory = true;
-            continue;
-        }
-        let given = word.strip_prefix("--room=");
-        let Ok(number) = given.unwrap_or(word).parse::<u64>() else {
+        if !take(&mut options, word)? {
             return Ok(None);
-        };
-        match given {
-            Some(_) => room = number,
-            None => arguments.push(number)?,
         }
     }
-    Ok(Some(RunOptions {
-        arguments,
-        room,
-        shows_memory,
-    }))
+    Ok(Some(options))
 }
 
 /// The action that the words of `compile` name, the file left out, or nothing where one is wrong.
@@ -95,19 +120,20 @@ fn action_of(alloc: Global, words: &str) -> Result<Option<Action>, AllocError> {
     }
 }
 
-/// What `compile` writes for its words, in which the file is left out: what it writes to standard output, behind that
+/// Writes what `compile` writes for its words, in which the file is left out: what it writes to standard output, behind that
 /// what it writes to standard error, and its status.
-pub fn answer_of_compiler(alloc: Global, words: &str, text: &str) -> Result<Vec<u8>, CallError> {
-    let mut to = Vec::new(alloc);
-    let Some(action) = action_of(alloc, words)? else {
-        writeln!(&mut to, "no such words")?;
-        return Ok(to);
-    };
+pub fn write_compiler(
+    alloc: Global,
+    words: &str,
+    text: &str,
+    to: &mut Vec<u8>,
+) -> Result<(), CallError> {
     let bytes = bytes_of(alloc, text)?;
+    let Some(action) = action_of(alloc, words)? else {
+        return Ok(to.extend_from_slice(b"no such words\n")?);
+    };
     let mut err = Vec::new(alloc);
     let task = compiler::Task::Read("text", action);
-    let status = compiler::answer(alloc, &task, bytes.as_slice(), &mut to, &mut err);
-    to.extend_from_slice(err.as_slice())?;
-    writeln!(&mut to, "status {status}")?;
-    Ok(to)
+    let status = compiler::answer(alloc, &task, bytes.as_slice(), to, &mut err);
+    write_end(err.as_slice(), status, to)
 }

@@ -1,14 +1,14 @@
 //! Runs cases, and reports their results.
 
 use super::case_file::{Case, Expectation, cases_of};
-use super::command::{answer_of_compiler, answer_of_program};
+use super::command::{write_compiler, write_program};
 use regalloc2_explain::Source;
-use regalloc2_text::TextError;
+use regalloc2_text::{Text, TextError};
 use regalloc2_tool::calls::call::{Call, CallError, Given, answer};
 use regalloc2_tool::calls::reading::read_text;
 use std::alloc::{AllocError, Global};
 use std::fmt;
-use std::io::Write;
+use std::io::{self, Write};
 
 /// How many files were run, and how many of their calls passed and failed.
 #[derive(Clone, Copy, Debug, Default)]
@@ -60,64 +60,72 @@ impl fmt::Display for Shown<'_> {
     }
 }
 
+/// Does a call with what a case's text gives, and writes the result.
+fn write_answer(
+    alloc: Global,
+    call: Call,
+    text: &Text,
+    source: Option<Source<'_>>,
+    to: &mut Vec<u8>,
+) -> Result<(), CallError> {
+    let given = Given {
+        function: &text.function,
+        output: text.output.as_ref(),
+        source,
+    };
+    let mut err = Vec::new(alloc);
+    answer(alloc, call, &given, to, &mut err)?;
+    Ok(to.extend_from_slice(err.as_slice())?)
+}
+
 /// Does a call with the function in a case's text, and writes the result or what is wrong with the text.
-fn answer_text(
+fn write_call(
     alloc: Global,
     call: Call,
     case: &Case<'_>,
     source: Option<Source<'_>>,
     to: &mut Vec<u8>,
 ) -> Result<(), CallError> {
-    let mut err = Vec::new(alloc);
     match read_text(alloc, case.text.as_str(), case.first_line) {
-        Ok(text) => {
-            let given = Given {
-                function: &text.function,
-                output: text.output.as_ref(),
-                source,
-            };
-            answer(alloc, call, &given, to, &mut err)?;
-            to.extend_from_slice(err.as_slice())?;
-        }
-        Err(TextError::Fault(fault)) => writeln!(to, "bad text {fault}")?,
-        Err(TextError::Memory) => return Err(CallError::Memory),
+        Ok(text) => write_answer(alloc, call, &text, source, to),
+        Err(TextError::Fault(fault)) => Ok(writeln!(to, "bad text {fault}")?),
+        Err(TextError::Memory) => Err(CallError::Memory),
     }
-    Ok(())
 }
 
-/// The result of a call of a case: what is written, and after that the text's error. A name may end in ` why`: then what is
-/// rejected or found is explained. A name of which the first word is `ra2_text` is that program's command line; `before` is
-/// the text of the case before. A name of which it is `compile` is that program's, in which the file is left out.
-fn answer_of(
+/// The call of a name, and the case's text if the name ends in ` why`: then what is rejected or found is explained.
+fn call_of<'t>(case: &'t Case<'_>, name: &str) -> (Option<Call>, Option<Source<'t>>) {
+    let Some(word) = name.strip_suffix(" why") else {
+        return (Call::named(name), None);
+    };
+    let source = Source {
+        name: Some(""),
+        text: case.text.as_str(),
+        first_line: case.first_line,
+    };
+    (Call::named(word), Some(source))
+}
+
+/// Writes the result of a call of a case: what is written, and after that the text's error. A name of which the first word is
+/// `ra2_text` is that program's command line; `before` is the text of the case before. A name of which it is `compile` is
+/// that program's, in which the file is left out.
+fn write_result(
     alloc: Global,
     case: &Case<'_>,
     before: &str,
     name: &str,
-) -> Result<Vec<u8>, CallError> {
+    to: &mut Vec<u8>,
+) -> Result<(), CallError> {
     if name.starts_with("ra2_text") {
-        return answer_of_program(alloc, name, case.text.as_str(), before);
+        return write_program(alloc, name, case.text.as_str(), before, to);
     }
     if let Some(words) = name.strip_prefix("compile") {
-        return answer_of_compiler(alloc, words.trim_start(), case.text.as_str());
+        return write_compiler(alloc, words.trim_start(), case.text.as_str(), to);
     }
-    let mut to = Vec::new(alloc);
-    let (word, source) = match name.strip_suffix(" why") {
-        Some(word) => {
-            let source = Source {
-                name: Some(""),
-                text: case.text.as_str(),
-                first_line: case.first_line,
-            };
-            (word, Some(source))
-        }
-        None => (name, None),
-    };
-    let Some(call) = Call::named(word) else {
-        writeln!(&mut to, "no such call")?;
-        return Ok(to);
-    };
-    answer_text(alloc, call, case, source, &mut to)?;
-    Ok(to)
+    match call_of(case, name) {
+        (Some(call), source) => write_call(alloc, call, case, source, to),
+        (None, _) => Ok(to.extend_from_slice(b"no such call\n")?),
+    }
 }
 
 /// A result without its blank lines.
@@ -145,6 +153,34 @@ fn first_difference<'a>(wanted: &[&'a str], came: &'a str) -> Option<(Shown<'a>,
     Some((Shown(None), Shown(Some(next))))
 }
 
+/// The result of a call of a case, without its blank lines.
+fn result_of(
+    alloc: Global,
+    case: &Case<'_>,
+    before: &str,
+    name: &str,
+) -> Result<String, CallError> {
+    let mut bytes = Vec::new(alloc);
+    write_result(alloc, case, before, name, &mut bytes)?;
+    let came = String::from_utf8_lossy(alloc, bytes.as_slice())?;
+    Ok(without_blank_lines(alloc, came.as_str())?)
+}
+
+/// Writes how a call's result differs from the expected one.
+fn write_difference<O: Write>(
+    path: &str,
+    title: &str,
+    wanted: &Expectation<'_>,
+    (want, got): (Shown<'_>, Shown<'_>),
+    out: &mut O,
+) -> io::Result<()> {
+    let (line, call) = (wanted.line, wanted.call);
+    writeln!(
+        out,
+        "{path}:{line}: {title}: {call}\n  wanted {want}\n  got    {got}"
+    )
+}
+
 /// Runs a call of a case, and writes how its result differs from the expected one. Returns whether it doesn't.
 fn run_call<O: Write>(
     alloc: Global,
@@ -154,19 +190,14 @@ fn run_call<O: Write>(
     wanted: &Expectation<'_>,
     out: &mut O,
 ) -> Result<bool, CallError> {
-    let bytes = answer_of(alloc, case, before, wanted.call)?;
-    let came = String::from_utf8_lossy(alloc, bytes.as_slice())?;
-    let shown = without_blank_lines(alloc, came.as_str())?;
-    let Some((want, got)) = first_difference(wanted.answer.as_slice(), shown.as_str()) else {
-        return Ok(true);
-    };
-    let line = wanted.line;
-    let call = wanted.call;
-    let title = case.title;
-    writeln!(out, "{path}:{line}: {title}: {call}")?;
-    writeln!(out, "  wanted {want}")?;
-    writeln!(out, "  got    {got}")?;
-    Ok(false)
+    let shown = result_of(alloc, case, before, wanted.call)?;
+    match first_difference(wanted.answer.as_slice(), shown.as_str()) {
+        Some(differing) => {
+            write_difference(path, case.title, wanted, differing, out)?;
+            Ok(false)
+        }
+        None => Ok(true),
+    }
 }
 
 /// Runs the calls of a case, and counts them.

@@ -4,11 +4,10 @@ use crate::calls::{run_fitting, run_with_ctx_fitting};
 use regalloc2::cfg::{CFGInfo, CFGInfoCtx};
 use regalloc2::checker::{Checker, CheckerError, CheckerErrors};
 use regalloc2::postorder::calculate;
-use regalloc2::serialize::SerializableFunction;
 use regalloc2::ssa::{reads_written, validate_ssa};
 use regalloc2::{
-    AllocateError, Block, Ctx, Function, Output, RegAllocError, TestedRunError, allocate,
-    is_framed, run_tested,
+    AllocateError, Block, Ctx, Function, MachineEnv, Output, RegAllocError, TestedRunError,
+    allocate, is_framed, run_tested,
 };
 use regalloc2_test_alloc::{Call, Refusing};
 use std::alloc::{AllocError, Allocator, Global};
@@ -44,11 +43,12 @@ pub static NAMES: [Name; 10] = [
 
 /// A call, the function and the output that it is made with, and its expected result.
 #[derive(Drop)]
-pub struct Given<'a> {
+pub struct Given<'a, F: Function> {
     /// Makes the texts.
     pub global: Global,
     pub name: Name,
-    pub f: &'a SerializableFunction,
+    pub f: &'a F,
+    pub env: &'a MachineEnv,
     /// What `run` gives.
     pub out: &'a Output,
     /// The same without moves.
@@ -56,7 +56,7 @@ pub struct Given<'a> {
     pub wanted: String,
 }
 
-impl Call for Given<'_> {
+impl<F: Function> Call for Given<'_, F> {
     fn make(&self, alloc: &Refusing<Global>) -> Result<bool, AllocError> {
         let answer = self.answer(alloc)?;
         Ok(answer == self.wanted)
@@ -98,7 +98,7 @@ fn faults<A: Allocator>(global: Global, errors: &[CheckerError<A>]) -> Result<St
     Ok(text)
 }
 
-impl Given<'_> {
+impl<F: Function> Given<'_, F> {
     /// What the call returns. An error says that the call reported that memory ran out, and left
     /// what it should.
     pub fn answer<A: Allocator + Copy>(&self, alloc: A) -> Result<String, AllocError> {
@@ -122,7 +122,7 @@ impl Given<'_> {
     }
 
     fn run<A: Allocator + Copy>(&self, alloc: A) -> Result<String, AllocError> {
-        match run_fitting(alloc, self.f, self.f.machine_env()) {
+        match run_fitting(alloc, self.f, self.env) {
             Some(Ok(out)) => text_of(self.global, &out),
             Some(Err(error)) => told(self.global, error),
             None => self.words("the machine doesn't fit"),
@@ -132,7 +132,7 @@ impl Given<'_> {
     /// Runs with a context. An error leaves the whole output that it had.
     fn run_once<A: Allocator + Copy>(&self, ctx: &mut Ctx<A>) -> Result<String, AllocError> {
         let had = text_of(self.global, &ctx.output)?;
-        let Some(answer) = run_with_ctx_fitting(self.f, self.f.machine_env(), ctx) else {
+        let Some(answer) = run_with_ctx_fitting(self.f, self.env, ctx) else {
             return self.words("the machine doesn't fit");
         };
         let text = text_of(self.global, &ctx.output)?;
@@ -165,7 +165,7 @@ impl Given<'_> {
     }
 
     fn run_tested<A: Allocator + Copy>(&self, alloc: A) -> Result<String, AllocError> {
-        match run_tested(alloc, self.f, self.f.machine_env()) {
+        match run_tested(alloc, self.f, self.env) {
             Ok(out) => text_of(self.global, &out),
             Err(TestedRunError::Refused(error)) => told(self.global, error),
             Err(error) => format!(in self.global; "{error}"),
@@ -173,7 +173,7 @@ impl Given<'_> {
     }
 
     fn allocate<A: Allocator + Copy>(&self, alloc: A) -> Result<String, AllocError> {
-        match allocate(alloc, self.f, self.f.machine_env()) {
+        match allocate(alloc, self.f, self.env) {
             Ok(out) => text_of(self.global, &out),
             Err(AllocateError::Refused(error)) => told(self.global, error),
             Err(AllocateError::Unjudged) => Err(AllocError),
@@ -227,7 +227,7 @@ impl Given<'_> {
         if !is_framed(self.f) {
             return self.words("not framed");
         }
-        match Checker::new(alloc, self.f, self.f.machine_env()) {
+        match Checker::new(alloc, self.f, self.env) {
             Ok(checker) => self.check_by(checker, out),
             Err(CheckerError::Memory) => Err(AllocError),
             Err(error) => format!(in self.global; "{error}"),
@@ -237,7 +237,7 @@ impl Given<'_> {
     /// The result of a check by a new checker.
     fn check_by<A: Allocator + Copy>(
         &self,
-        mut checker: Checker<'_, SerializableFunction, A>,
+        mut checker: Checker<'_, F, A>,
         out: &Output,
     ) -> Result<String, AllocError> {
         match lacks_memory(&mut checker, out) {
@@ -264,8 +264,8 @@ impl Given<'_> {
 }
 
 /// Whether memory runs out as a checker prepares an output; nothing if it then serves no more.
-fn lacks_memory<A: Allocator + Copy>(
-    checker: &mut Checker<'_, SerializableFunction, A>,
+fn lacks_memory<F: Function, A: Allocator + Copy>(
+    checker: &mut Checker<'_, F, A>,
     out: &Output,
 ) -> Option<bool> {
     match checker.prepare(out) {

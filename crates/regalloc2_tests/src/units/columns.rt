@@ -62,20 +62,31 @@ fn words_with(alloc: Global, at: usize, word: u32) -> Result<Vec<u32>, AllocErro
     Ok(words)
 }
 
-/// Writes what is read of words, and why changed ones are refused.
-pub fn write_all(alloc: Global, out: &mut Report) -> Result<(), AllocError> {
-    let words = words_with(alloc, 0, 2)?;
-    match FlatFunction::read(alloc, &words) {
+/// Writes what is read of words.
+fn write_read(alloc: Global, words: &[u32], out: &mut Report) {
+    match FlatFunction::read(alloc, words) {
         Ok(f) => {
             out.row("machine", f.machine_env());
             write_function(&f, out);
         }
         Err(fault) => out.row("refused", &fault),
     }
+}
+
+/// Writes why changed words are refused.
+fn write_changes(alloc: Global, out: &mut Report) -> Result<(), AllocError> {
     for (name, at, word) in &CHANGES {
         let changed = words_with(alloc, *at, *word)?;
         write_fault(alloc, name, &changed, out);
     }
+    Ok(())
+}
+
+/// Writes what is read of words, and why changed ones are refused.
+pub fn write_all(alloc: Global, out: &mut Report) -> Result<(), AllocError> {
+    let words = words_with(alloc, 0, 2)?;
+    write_read(alloc, &words, out);
+    write_changes(alloc, out)?;
     if let Some((_, less)) = words.as_slice().split_last() {
         write_fault(alloc, "one word less", less, out);
     }

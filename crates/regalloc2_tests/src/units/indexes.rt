@@ -119,7 +119,8 @@ fn write_requests(global: Global, out: &mut Report) -> Result<(), AllocError> {
     let alloc = Refusing::new(global, 1);
     let mut tree = BTreeMap::new(&alloc);
     let is_err = tree.insert(1u8, 2u8).is_err();
-    tree.insert(1u8, 2u8)?;
+    // whether it is done now its length shows
+    let _ = tree.insert(1u8, 2u8);
     out.row("map refused", &(is_err, tree.len()));
     Ok(())
 }

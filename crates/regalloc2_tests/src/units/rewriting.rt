@@ -2,6 +2,7 @@
 
 use crate::units::columns::write_function;
 use crate::units::report::Report;
+use regalloc2_function::Function;
 use regalloc2_index::Block;
 use regalloc2_names::{Operand, RegClass, VReg};
 use regalloc2_rewrite::{renumber, split_critical_edges};
@@ -13,9 +14,8 @@ fn vreg(number: usize) -> VReg {
     VReg::new(number % 2, RegClass::Int)
 }
 
-/// A block that goes to itself and to the end: the first of these edges is critical.
-fn turning(alloc: Global) -> Result<TableFunction, BuildError> {
-    let mut f = TableBuilder::new(alloc);
+/// Adds a block that goes to itself and to the end: the first of these edges is critical.
+fn add_turning(f: &mut TableBuilder) -> Result<(), BuildError> {
     let (start, turn, end) = (f.block(&[])?, f.block(&[vreg(1)])?, f.block(&[])?);
     f.op(start, &[Operand::reg_def(vreg(0))])?;
     f.branch(start, &[])?;
@@ -23,12 +23,18 @@ fn turning(alloc: Global) -> Result<TableFunction, BuildError> {
     f.branch(turn, &[])?;
     f.succ(turn, turn, &[vreg(1)])?;
     f.succ(turn, end, &[])?;
-    f.ret(end, &[Operand::reg_use(vreg(1))])?;
+    f.ret(end, &[Operand::reg_use(vreg(1))])
+}
+
+/// A function of such blocks.
+fn turning(alloc: Global) -> Result<TableFunction, BuildError> {
+    let mut f = TableBuilder::new(alloc);
+    add_turning(&mut f)?;
     f.finish(2)
 }
 
 /// Writes the function with its blocks in an order.
-fn write_renumbered(alloc: Global, f: &TableFunction, order: &[Block], out: &mut Report) {
+fn write_renumbered<F: Function>(alloc: Global, f: &F, order: &[Block], out: &mut Report) {
     match renumber(alloc, f, order) {
         Ok(g) => write_function(&g, out),
         Err(fault) => out.row("refused", &fault),
@@ -36,7 +42,7 @@ fn write_renumbered(alloc: Global, f: &TableFunction, order: &[Block], out: &mut
 }
 
 /// Writes the function with split edges, and that one renumbered.
-fn write_split(alloc: Global, f: &TableFunction, out: &mut Report) {
+fn write_split<F: Function>(alloc: Global, f: &F, out: &mut Report) {
     match split_critical_edges(alloc, f) {
         Ok(g) => {
             write_function(&g, out);

@@ -14,11 +14,12 @@ pub fn write_all(alloc: Global, out: &mut Report) -> Result<(), AllocError> {
     write_changes(alloc, out)?;
     write_counts(out);
     write_ranges(out);
-    write_inline(alloc, out)?;
+    let refusing = Refusing::new(alloc, 1);
+    write_inline(out, &refusing, &mut IndexSet::new(&refusing))?;
     let ample = Refusing::counting(alloc);
     write_left(out, &ample, &Refusing::new(alloc, 1), true)?;
     write_left(out, &ample, &Refusing::new(alloc, 1), false)?;
-    write_members(alloc, out)
+    write_members(out, &mut IndexSet::new(alloc), &mut IndexSet::new(alloc))
 }
 
 /// Writes sets with the results of all their queries.
@@ -105,28 +106,58 @@ pub fn count_and_sum<A: Allocator + Copy>(set: &IndexSet<A>) -> (usize, usize) {
     (count, sum)
 }
 
-/// Writes a set that stays within its twelve words, where the first allocation fails, and then goes
-/// past them.
-fn write_inline(global: Global, out: &mut Report) -> Result<(), AllocError> {
-    let alloc = Refusing::new(global, 1);
-    let mut set = IndexSet::new(&alloc);
-    for word in 0..12usize {
-        set.set(64 * word, true)?;
+/// Adds the first multiples of a number to a set, 0 the first of them, each taken below 2^20.
+pub fn add_multiples<A: Allocator + Copy>(
+    set: &mut IndexSet<A>,
+    of: usize,
+    count: usize,
+) -> Result<(), AllocError> {
+    for multiple in 0..count {
+        set.set(of.wrapping_mul(multiple) % 1_048_576, true)?;
     }
+    Ok(())
+}
+
+/// Writes an empty set that stays within its twelve words, where the first allocation fails, and then goes
+/// past them.
+fn write_inline<A: Allocator + Copy>(
+    out: &mut Report,
+    refusing: &Refusing<Global>,
+    set: &mut IndexSet<A>,
+) -> Result<(), AllocError> {
+    add_multiples(set, 64, 12)?;
     set.set(64 * 5, false)?;
     set.set(64 * 100, true)?;
-    let row = (count_and_sum(&set), alloc.has_refused());
+    let row = (count_and_sum(set), refusing.has_refused());
     out.row("twelve words", &row);
     let is_refused = set.set(64 * 200, true).is_err();
-    let row = (is_refused, count_and_sum(&set));
+    let row = (is_refused, count_and_sum(set));
     out.row("the thirteenth refused", &row);
     set.set(64 * 200, true)?;
-    out.row("thirteen", &(count_and_sum(&set), set.get(64 * 200)));
+    out.row("thirteen", &(count_and_sum(set), set.get(64 * 200)));
+    Ok(())
+}
+
+/// Writes what is left of an empty set to which a member is added, and then a set is assigned or added, if
+/// an allocation fails. Of a union the words for which there is room are left.
+fn write_left_in<A: Allocator + Copy>(
+    out: &mut Report,
+    other: &IndexSet<A>,
+    set: &mut IndexSet<A>,
+    assigns: bool,
+) -> Result<(), AllocError> {
+    set.set(7, true)?;
+    let is_refused = if assigns {
+        set.assign(other).is_err()
+    } else {
+        set.union_with(other).is_err()
+    };
+    out.row("left", &(is_refused, count_and_sum(set)));
     Ok(())
 }
 
 /// Writes what is left of a set of one member, to which a set of 40 words is assigned or added, if
-/// an allocation of its own allocator fails. Of a union the words for which there is room are left.
+/// an allocation of its own allocator fails.
 fn write_left<'a>(
     out: &mut Report,
     ample: &'a Refusing<Global>,
@@ -134,32 +165,22 @@ fn write_left<'a>(
     assigns: bool,
 ) -> Result<(), AllocError> {
     let mut other = IndexSet::new(ample);
-    for word in 0..40usize {
-        other.set(64 * word, true)?;
-    }
-    let mut set = IndexSet::new(short);
-    set.set(7, true)?;
-    let is_refused = if assigns {
-        set.assign(&other).is_err()
-    } else {
-        set.union_with(&other).is_err()
-    };
-    out.row("left", &(is_refused, count_and_sum(&set)));
-    Ok(())
+    add_multiples(&mut other, 64, 40)?;
+    write_left_in(out, &other, &mut IndexSet::new(short), assigns)
 }
 
-/// Writes the multiples of 17, a union, and the bits of a word.
-fn write_members(alloc: Global, out: &mut Report) -> Result<(), AllocError> {
-    let mut set = IndexSet::new(alloc);
-    for multiple in 0..61usize {
-        set.set(17 * multiple, true)?;
-    }
-    let row = (count_and_sum(&set), set.get(17), set.get(18));
+/// Writes the multiples of 17, which are added to an empty set, their union with another one, and the bits of a word.
+fn write_members<A: Allocator + Copy>(
+    out: &mut Report,
+    set: &mut IndexSet<A>,
+    small: &mut IndexSet<A>,
+) -> Result<(), AllocError> {
+    add_multiples(set, 17, 61)?;
+    let row = (count_and_sum(set), set.get(17), set.get(18));
     out.row("multiples of 17", &row);
-    let mut small = IndexSet::new(alloc);
     small.set(17, true)?;
-    let added = (small.union_with(&set).ok(), small.union_with(&set).ok());
-    out.row("added", &(added, count_and_sum(&small)));
+    let added = (small.union_with(set).ok(), small.union_with(set).ok());
+    out.row("added", &(added, count_and_sum(small)));
     for bit in SetBitsIter::new(1 << 63 | 0b101) {
         out.row("bit", &bit);
     }

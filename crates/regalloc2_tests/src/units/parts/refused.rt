@@ -3,6 +3,7 @@
 use super::listed::{SLOT, resolved};
 use super::structures::three_rings;
 use crate::units::report::Report;
+use crate::units::sets::add_multiples;
 use regalloc2_function::{MachineEnv, Output, StoredFault, StoredOutput, is_framed};
 use regalloc2_names::{PRegSet, RegAllocError};
 use regalloc2_parts::moves::MoveFault;
@@ -60,12 +61,9 @@ fn make_parts(global: Global, alloc: &Refusing<Global>) -> Result<(), RegAllocEr
 /// Fills a set past its twelve words, assigns it and adds it to another one.
 fn make_sets(alloc: &Refusing<Global>) -> Result<(), RegAllocError> {
     let mut set = IndexSet::new(alloc);
-    for word in 0..40usize {
-        set.set(64 * word, true)?;
-    }
-    let (mut assigned, mut added) = (IndexSet::new(alloc), IndexSet::new(alloc));
-    assigned.assign(&set)?;
-    added.union_with(&set)?;
+    add_multiples(&mut set, 64, 40)?;
+    IndexSet::new(alloc).assign(&set)?;
+    IndexSet::new(alloc).union_with(&set)?;
     Ok(())
 }
 
@@ -172,11 +170,9 @@ fn stored<A: Allocator + Copy>(
 pub fn write_all(global: Global, text: &str, out: &mut Report) {
     let texts = text.split_once('\n').unwrap_or(("", ""));
     out.row("stored", &stored(global, global, texts).ok());
-    for (name, call) in [
-        ("rings, list, moves", Made::Parts(global)),
-        ("sets", Made::Sets),
-        ("a stored function and output", Made::Stored(global, texts)),
-    ] {
-        out.row(name, &is_each_told(global, &call));
-    }
+    let parts = is_each_told(global, &Made::Parts(global));
+    out.row("rings, list, moves", &parts);
+    out.row("sets", &is_each_told(global, &Made::Sets));
+    let stored = is_each_told(global, &Made::Stored(global, texts));
+    out.row("a stored function and output", &stored);
 }
