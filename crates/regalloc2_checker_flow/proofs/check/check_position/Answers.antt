@@ -1,3 +1,4 @@
+use Rattle.std.proofs.lemmas.Result.{IfOk-from_err}
 use Rattle.std.proofs.Common.{◌≡◌, sym, arith}
 use Rattle.std.specs.Prelude.{true}
 use Rattle.regalloc2_names.specs.Register.{VirtualRegister}
@@ -31,3 +32,6 @@ loop-k-preserved g c = λ env h.
 
 pub returns : goal.returns
 returns g c = λ env h k less at. c.loop-k.invariant env h k (omega (arith, less, c.loop-k-test.false)) at
+
+pub returns-in_err-fault : goal.returns-in_err-fault
+returns-in_err-fault g c = IfOk-from_err c.from_residual.result _ c.from_residual.ensures.0

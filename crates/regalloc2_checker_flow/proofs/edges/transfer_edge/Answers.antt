@@ -1,3 +1,4 @@
+use Rattle.std.proofs.lemmas.Result.{IfOk-from_err}
 use Rattle.std.proofs.Common.{◌≡◌, ◌<◌, ℕ, List, length, slice_index, ◌∙◌, ap, sym, subst}
 use Rattle.std.specs.Prelude.{All}
 use Rattle.regalloc2_names.specs.Register.{VirtualRegister}
@@ -43,3 +44,9 @@ edge_arguments-arguments-requires-clause-block g c = c.requires.block
 
 pub edge_arguments-arguments-requires-clause-position : goal.edge_arguments-arguments-requires-clause-position
 edge_arguments-arguments-requires-clause-position g c = c.requires.position
+
+pub returns-in_err-take_arguments : goal.returns-in_err-take_arguments
+returns-in_err-take_arguments g c = record {
+  kept = IfOk-from_err c.from_residual.result _ c.from_residual.ensures.0;
+  now = IfOk-from_err c.from_residual.result _ c.from_residual.ensures.0;
+}
