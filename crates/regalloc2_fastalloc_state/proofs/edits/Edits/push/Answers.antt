@@ -1,3 +1,4 @@
+use Rattle.std.proofs.lemmas.Result.{IfOk-from_err}
 use Rattle.std.proofs.Common.{ℕ, ◌≡◌, [], ◌∷◌, ◌++◌, ◌∙◌, flat_map, ap, map, sym, subst, arith}
 use Rattle.regalloc2_function.specs.OutputValue.{MoveValue}
 use Rattle.regalloc2_fastalloc_state.specs.StateParts.{PointsDescend, AllAtOrAfter, kept_move}
@@ -55,3 +56,9 @@ returns-clause-later g c =
 
 pub returns-in_err-push-clause-later : goal.returns-in_err-push-clause-later
 returns-in_err-push-clause-later g c = subst (AllAtOrAfter c.args.point) (sym (kept g c)) c.requires
+
+pub returns-in_err-begin_chunk-clause-ok : goal.returns-in_err-begin_chunk-clause-ok
+returns-in_err-begin_chunk-clause-ok g c = IfOk-from_err c.from_residual.result _ c.from_residual.ensures.0
+
+pub returns-in_err-push-clause-ok : goal.returns-in_err-push-clause-ok
+returns-in_err-push-clause-ok g c = IfOk-from_err c.from_residual-in_err-push.result _ c.from_residual-in_err-push.ensures.0

@@ -1,5 +1,5 @@
 use Rattle.std.proofs.Common.{refl, inr, ◌∙◌}
-use Rattle.std.proofs.lemmas.Result.{err_from_is_err_and}
+use Rattle.std.proofs.lemmas.Result.{err_from_is_err_and, IfOk-from_err}
 use Rattle.regalloc2_fastalloc_state.proofs.validate.constraints.validate_fixed.Goals as goal
 
 pub returns-in_err-validate_clobbers-clause-refused : goal.returns-in_err-validate_clobbers-clause-refused
@@ -10,3 +10,15 @@ returns-in_err-validate_clobbers-clause-refused g c =
 
 pub returns-clause-reuses : goal.returns-clause-reuses
 returns-clause-reuses g c = c.in_ok-validate_reuses.ensures.ok.0 refl
+
+pub returns-in_err-validate_reuses-clause-reuses : goal.returns-in_err-validate_reuses-clause-reuses
+returns-in_err-validate_reuses-clause-reuses g c = IfOk-from_err c.from_residual.result _ c.from_residual.ensures.0
+
+pub returns-in_err-validate_reuses-clause-fixed : goal.returns-in_err-validate_reuses-clause-fixed
+returns-in_err-validate_reuses-clause-fixed g c = IfOk-from_err c.from_residual.result _ c.from_residual.ensures.0
+
+pub returns-in_err-validate_clobbers-clause-reuses : goal.returns-in_err-validate_clobbers-clause-reuses
+returns-in_err-validate_clobbers-clause-reuses g c = IfOk-from_err c.from_residual-in_err-validate_clobbers.result _ c.from_residual-in_err-validate_clobbers.ensures.0
+
+pub returns-in_err-validate_clobbers-clause-fixed : goal.returns-in_err-validate_clobbers-clause-fixed
+returns-in_err-validate_clobbers-clause-fixed g c = IfOk-from_err c.from_residual-in_err-validate_clobbers.result _ c.from_residual-in_err-validate_clobbers.ensures.0
