@@ -1,3 +1,4 @@
+use Rattle.std.proofs.lemmas.Result.{IfOk-from_err}
 use Rattle.std.proofs.Common.{ℕ, ap, sym, ◌∙◌, refl, subst}
 use Rattle.std.proofs.lemmas.Bool.{eqb-true}
 use Rattle.regalloc2_index.proofs.Bools.{not_both}
@@ -38,3 +39,6 @@ returns-in-Some-two-clause-noted g c =
     on_ok_of_both _ _ _ c.note_two.result
     (λ first second y is. either_member (IsHome c.args.vregs.now c.note_two.new.homes c.args.place) c.in-Some-two.pair.0 c.in-Some-two.pair.1 y
     (sym (members y) ∙ is) first second) c.note_two.ensures.first c.note_two.ensures.second
+
+pub returns-in_err-members-clause-noted : goal.returns-in_err-members-clause-noted
+returns-in_err-members-clause-noted g c = IfOk-from_err c.from_residual.result _ c.from_residual.ensures.0
