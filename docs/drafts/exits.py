@@ -3,7 +3,7 @@
 
 An exit whose clauses have no written answer costs 0.1 to 0.5 s of search. For each function all of whose clauses about a success are `IfOk` or
 `OnOk` it adds `IfOk-from_err` for each exit that has no answer yet, and prints the function. Names of exits are guessed from the source, inner calls
-first: prove the crate after it, and take back the answers of functions that aren't proved (four of five crates had one at most).
+first: prove the crate after it, and take back the answers of functions that aren't proved (in four crates there was one at most).
 """
 import os, re, sys
 
