@@ -1,16 +1,19 @@
 -- Each error of the tests and of the walk has its reason.
-use Rattle.std.proofs.Common.{◌≡◌, ◌^◌, ◌<◌, ◌≤◌, Bool, true, Err, refl, subst, inl, arith}
+use Rattle.std.proofs.Common.{ℕ, length, inr, sym, ◌⊎◌, ◌≡◌, ◌^◌, ◌<◌, ◌≤◌, Bool, true, Err, refl, subst, inl, arith}
 use Rattle.std.specs.Prelude.{◌↔◌, IfErr, Result}
+use Rattle.std.proofs.lemmas.List.Elements.{All-get_or}
 use Rattle.regalloc2_names.specs.declared.RegAllocError.{RegAllocError}
 use Rattle.regalloc2_names.specs.declared.RegAllocError.TheVariants.{TooManyLiveRegs, TooManyOperands, TooManySpillSlots, Memory}
-use Rattle.regalloc2_function.specs.FunctionValue.{FunctionValue, operand_count}
+use Rattle.regalloc2_function.specs.FunctionValue.{FunctionValue, inst_at, no_operand, operand_count}
 use Rattle.regalloc2_function.specs.Machine.{MachineValue}
 use Rattle.regalloc2_function.specs.Reasons.{HasShape, IsShapeFault, IsSound, IsSoundnessFault}
 use Rattle.regalloc2_function.specs.Reasons.IsShapeFault.{apart, critical, operands, outside, unlisted}
 use Rattle.regalloc2_function.specs.Reasons.IsSoundnessFault.{arguments, definitions, elsewhere, livein, open_end}
-use Rattle.regalloc2_fastalloc_state.specs.Validate.Constraints.{IsFixedFault}
+use Rattle.regalloc2_fastalloc_state.specs.Validate.Constraints.{AreUnlimited, IsFixedFault}
+use Rattle.regalloc2_fastalloc_state.specs.Validate.NoLimits.{IsTakenOperand}
+use Rattle.regalloc2_fastalloc_walk.specs.Findings.{AllPassTests}
 use Rattle.regalloc2_fastalloc_state.specs.OutOfResources.{Lacks, IsResourceError}
-use Rattle.regalloc2_fastalloc.specs.ErrorReason.{HasFewOperands, PassesAllChecks, IsReason, SomeDoesNotFit, units_at_most}
+use Rattle.regalloc2_fastalloc.specs.ErrorReason.{HasFewOperands, IsValidIfChecked, LacksIfPassed, PassesAllChecks, IsReason, IsRefusal, SomeDoesNotFit, units_at_most}
 use Rattle.regalloc2_fastalloc_state.specs.Validate.Validated.{IsFunctionFault}
 use Rattle.regalloc2_fastalloc_state.specs.Validate.Validated.IsFunctionFault.{memory, misshapen, unsound, clashing}
 
@@ -55,6 +58,23 @@ lack_is_a_reason f env asked p TooManyLiveRegs h = (p, h)
 lack_is_a_reason f env asked p TooManySpillSlots h = (p, h)
 lack_is_a_reason f env asked p Memory h = p.first
 lack_is_a_reason f env asked p e h = absurd h
+
+-- operands that pass their tests have no limit
+pub passed_unlimited : (f : FunctionValue) → AllPassTests f → (i : ℕ) → i < length f.insts → AreUnlimited (inst_at f i)
+passed_unlimited f all i lt k less = (All-get_or IsTakenOperand (inst_at f i).operands k no_operand less (all i lt).taken).unlimited
+
+-- where all instructions pass, no test refuses one
+pub passed_not_refused : (f : FunctionValue) (e : RegAllocError) → AllPassTests f → IsRefusal f e → ⊥
+passed_not_refused f e all (i, is, inl limited) = limited.fails (passed_unlimited f all i limited.there)
+passed_not_refused f e all (i, is, inr (unlimited, branch)) = branch.fails (all i branch.there).branch
+
+-- then what may be lacking is a reason; and else the refusal is
+pub allocation_reason : (f : FunctionValue) (env : MachineValue) (asked : Bool) → HasFewOperands f → IsValidIfChecked f env asked → (error e : RegAllocError) →
+    LacksIfPassed f env error → IsRefusal f e ⊎ ((e ≡ error) × AllPassTests f) → IsReason f env asked e
+allocation_reason f env asked few owed error e lacks (inl r) = subst (IsReason f env asked) (sym r.1) (inr (few, owed, r.2))
+allocation_reason f env asked few owed error e lacks (inr (is, all)) = subst (IsReason f env asked) (sym is)
+    (lack_is_a_reason f env asked
+    (record { first = few; well_formed = owed; unlimited = passed_unlimited f all; branches = λ i lt. (all i lt).branch }) error (lacks all))
 
 -- where operands are few, no error says that they are too many
 pub counted_alone : {T : Type 0} (f : FunctionValue) (env : MachineValue) (asked : Bool) (r : Result T RegAllocError) → HasFewOperands f →

@@ -18,4 +18,4 @@ pub mod UnitsNeeded
 pub mod UsesReadNumbers
 pub mod ErrorsHaveReasons
 pub mod RegistersForAll
-pub mod PassOverOperands
+pub mod PassOverInsts

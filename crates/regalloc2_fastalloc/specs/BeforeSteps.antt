@@ -1,33 +1,27 @@
 -- What the steps of an allocation require of what was found before them.
 use Rattle.std.specs.Prelude.{ℕ, ◌≡◌, ◌<◌, Bool, List, length, slice_index, slice_index_or}
 use Rattle.regalloc2_names.specs.Place.{Place, NoPlace}
-use Rattle.regalloc2_function.specs.FunctionValue.{FunctionValue, inst_at, operand_count}
+use Rattle.regalloc2_function.specs.FunctionValue.{FunctionValue, operand_count}
 use Rattle.regalloc2_function.specs.Machine.{MachineValue}
 use Rattle.regalloc2_function.specs.WellFormed.{IsWellFormed}
 use Rattle.regalloc2_function.specs.Fitting.{MachineFits}
 use Rattle.regalloc2_analysis.specs.LiveRanges.LiveRanges.{AreLabelsMarked, IsSSA, IsWanted}
-use Rattle.regalloc2_analysis.specs.LiveRanges.WalkInvariant.{AreNamers}
+use Rattle.regalloc2_analysis.specs.LiveRanges.WalkInvariant.{ListsAdding}
 use Rattle.regalloc2_fastalloc_state.specs.StateParts.{SpillSlotsValue}
-use Rattle.regalloc2_fastalloc_state.specs.Validate.Constraints.{BranchDefinesInPlace}
-use Rattle.regalloc2_fastalloc_state.specs.Validate.NoLimits.{AreTaken}
 use Rattle.regalloc2_fastalloc_proofs.specs.BlockSteps.{DefinesBelow, offset_of}
 
--- a tested function is next to be walked; no operand has a place yet, and the labelled vregs and the instructions that name some are listed
-pub record IsBeforeFilling (f : FunctionValue) (env : MachineValue) (starts : List ℕ) (places : List Place) (wanted : List Bool) (named : List ℕ)
-    : Type 0 where
+-- a function is next to be walked; no operand has a place yet, and the labelled vregs are marked
+pub record IsBeforeFilling (f : FunctionValue) (env : MachineValue) (starts : List ℕ) (places : List Place) (wanted : List Bool) : Type 0 where
   pub machine : MachineFits f env
-  pub taken : AreTaken f
-  pub branches : (i : ℕ) → i < length f.insts → BranchDefinesInPlace (inst_at f i)
   pub well_formed : IsWellFormed env f
   pub offsets_long : length starts ≡ length f.insts
   pub offsets : (i : ℕ) → i < length f.insts → slice_index starts i ≡ offset_of f i
   pub allocs_long : length places ≡ operand_count f
   pub no_places : (k : ℕ) → slice_index_or places k NoPlace ≡ NoPlace
   pub marked : AreLabelsMarked f wanted
-  pub listed : AreNamers f (IsWanted wanted) named (length named) (length f.insts)
 
--- labels are next to be located, once all operands have places
-pub record IsBeforeLocating (f : FunctionValue) (slots : SpillSlotsValue) (starts : List ℕ) (places : List Place) (wanted : List Bool) (named : List ℕ)
+-- labels are next to be located, once all operands have places; the instructions are listed that may add to the labelled vregs' live ranges
+pub record IsBeforeLocating (f : FunctionValue) (slots : SpillSlotsValue) (starts : List ℕ) (places : List Place) (wanted : List Bool) (adding : List ℕ)
     : Type 0 where
   pub ssa : IsSSA f
   pub room : DefinesBelow f (length slots.vreg_spillslots)
@@ -35,4 +29,4 @@ pub record IsBeforeLocating (f : FunctionValue) (slots : SpillSlotsValue) (start
   pub offsets : (i : ℕ) → i < length f.insts → slice_index starts i ≡ offset_of f i
   pub allocs_long : length places ≡ operand_count f
   pub marked : AreLabelsMarked f wanted
-  pub listed : AreNamers f (IsWanted wanted) named (length named) (length f.insts)
+  pub listed : ListsAdding f (IsWanted wanted) adding (length adding) (length f.insts)

@@ -10,6 +10,8 @@ use Rattle.regalloc2_function.specs.Fitting.{Fits}
 use Rattle.regalloc2_function.specs.Machine.{MachineValue}
 use Rattle.regalloc2_function.specs.WellFormed.{IsWellFormed}
 use Rattle.regalloc2_fastalloc_state.specs.Validate.Constraints.{AreUnlimited, BranchDefinesInPlace, IsUnsupported}
+use Rattle.regalloc2_fastalloc_state.specs.OutOfResources.{Lacks}
+use Rattle.regalloc2_fastalloc_walk.specs.Findings.{AllPassTests}
 use Rattle.regalloc2_fastalloc_state.specs.Validate.Validated.{IsFunctionFault}
 
 -- The first test needs no memory: fewer than 2^32 operands.
@@ -42,6 +44,14 @@ greatest_slot f = max (slot_size f.slot_sizes Int) (max (slot_size f.slot_sizes 
 -- How many units slots may take: each less than twice its size, since it is aligned; there is one at most for each vreg, and six for the moves of each block.
 abbrev pub units_at_most : FunctionValue → ℕ
 units_at_most f = 2 * greatest_slot f * (f.num_vregs + 6 * length f.blocks)
+
+-- an operand test fails, at the first instruction where one does
+abbrev pub IsRefusal : FunctionValue → RegAllocError → Type 0
+IsRefusal f e = (i : ℕ) × (e ≡ Unsupported i) × IsUnsupported f i
+
+-- what an allocation lacks, if all instructions pass their tests
+abbrev pub LacksIfPassed : FunctionValue → MachineValue → RegAllocError → Type 0
+LacksIfPassed f env e = AllPassTests f → Lacks (SomeDoesNotFit f env) (2 ^ 24 < units_at_most f) e
 
 -- The reason that an error gives. Not guaranteed: that `Memory` is returned only if memory ran out (it says which tests pass); nor that
 -- `TooManyLiveRegs` is returned wherever an instruction doesn't fit.

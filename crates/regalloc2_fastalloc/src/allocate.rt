@@ -1,21 +1,18 @@
 //! The whole walk, and the output.
 
-ghost use Rattle.std.specs.Prelude.{◌<◌, ◌^◌, ℕ, length, map, IfOk, IfErr};
-ghost use Rattle.regalloc2_function.specs.FunctionValue.{inst_at};
+ghost use Rattle.std.specs.Prelude.{map, IfOk, IfErr, OnOk};
 ghost use Rattle.regalloc2_function.specs.Stored.{location_of};
 ghost use Rattle.regalloc2_function.specs.Views.{edit_of, machine_of, output_of};
 ghost use Rattle.regalloc2_function.specs.WellFormed.{IsWellFormed};
 ghost use Rattle.regalloc2_function.specs.Fitting.{MachineFits};
-ghost use Rattle.regalloc2_fastalloc_state.specs.Validate.Constraints.{BranchDefinesInPlace};
-ghost use Rattle.regalloc2_fastalloc_state.specs.OutOfResources.{Lacks};
 ghost use Rattle.regalloc2_fastalloc.specs.Promise.{IsAllocation};
-ghost use Rattle.regalloc2_fastalloc.specs.ErrorReason.{SomeDoesNotFit, units_at_most};
+ghost use Rattle.regalloc2_fastalloc.specs.ErrorReason.{LacksIfPassed};
 ghost use Rattle.regalloc2_fastalloc.specs.Survey.{IsSurvey};
 ghost use Rattle.regalloc2_fastalloc.specs.BeforeSteps.{IsBeforeFilling};
-ghost use Rattle.regalloc2_fastalloc_state.specs.Validate.NoLimits.{AreTaken};
+ghost use Rattle.regalloc2_fastalloc_walk.specs.Findings.{AllPassTests};
 
 use super::debug;
-use super::survey::Survey;
+use super::survey::{Survey, validate_unless_passed};
 use regalloc2_fastalloc_walk::state::State;
 use regalloc2_function::{Edit, Function, MachineEnv, Output, reads_the_same_numbers};
 use regalloc2_names::{Allocation, ProgPoint, RegAllocError};
@@ -40,9 +37,8 @@ fn fill_places<A: Allocator + Copy, F: Function, B: Allocator>(
     offsets: &[u32],
     allocs: &mut [Allocation],
     wanted: &[bool],
-    named: &[u32],
 ) -> Result<Rest<A>, RegAllocError>
-    requires { IsBeforeFilling (F.function f.now) (machine_of env.now) offsets.now allocs.old wanted.now named.now }
+    requires { IsBeforeFilling (F.function f.now) (machine_of env.now) offsets.now allocs.old wanted.now }
     ensures allocation { IfOk result (λ rest. IsAllocation (F.function f.now) (machine_of env.now)
         (record {
           num_spillslots = rest.num_spillslots;
@@ -51,16 +47,29 @@ fn fill_places<A: Allocator + Copy, F: Function, B: Allocator>(
           offsets = offsets.now;
           debug_locations = map location_of rest.debug_locations.items;
         })) }
-    ensures err { IfErr result (Lacks (SomeDoesNotFit (F.function f.now) (machine_of env.now)) (2 ^ 24 < units_at_most (F.function f.now))) }
+    ensures passes { OnOk result (AllPassTests (F.function f.now)) }
+    ensures err { IfErr result (LacksIfPassed (F.function f.now) (machine_of env.now)) }
 {
     let vregs = table_length(f);
-    let mut state = State::new(&alloc, f, env, vregs)?;
-    state.alloc_blocks(&alloc, f, offsets, allocs)?;
+    let mut state = State::new(&alloc, f, env, vregs, wanted)?;
+    let mut found = state.alloc_blocks(alloc, f, offsets, allocs)?;
+    validate_unless_passed(f, found.passes)?;
     // what only the walk needs is freed first: locating labels takes tables by vreg, too
     drop(state.places);
     drop(state.registers);
-    let debug_locations = debug::locations(alloc, f, &state.slots, offsets, allocs, wanted, named)?;
+    // the walk goes backward
+    found.changed.reverse();
+    let debug_locations = debug::locations(
+        alloc,
+        f,
+        &state.slots,
+        offsets,
+        allocs,
+        wanted,
+        &found.changed,
+    )?;
     let num_spillslots = state.slots.num_units();
+    drop(found);
     // and so are the slots, since a move that is listed takes more than one that is kept
     drop(state.slots);
     let edits = state.edits.listed(alloc)?;
@@ -73,8 +82,8 @@ fn fill_places<A: Allocator + Copy, F: Function, B: Allocator>(
     })
 }
 
-/// Allocates registers to the operands of a well-formed function, of every kind but `Limit`, after
-/// the pass over them.
+/// Allocates registers to the operands of a well-formed function, after the pass over it. If some
+/// instruction fails an operand test, an error is returned, which may be of another reason.
 pub fn allocate<A: Allocator + Copy, F: Function, B: Allocator>(
     alloc: A,
     f: &F,
@@ -82,22 +91,19 @@ pub fn allocate<A: Allocator + Copy, F: Function, B: Allocator>(
     found: Survey<A>,
 ) -> Result<Output<A>, RegAllocError>
     requires machine { MachineFits (F.function f.now) (machine_of env.now) }
-    requires taken { AreTaken (F.function f.now) }
-    requires branches { (i : ℕ) → i < length (F.function f.now).insts → BranchDefinesInPlace (inst_at (F.function f.now) i) }
     requires well_formed { IsWellFormed (machine_of env.now) (F.function f.now) }
-    requires found { IsSurvey (F.function f.now) found.offsets.items found.total found.passes found.wanted.items found.named.items }
+    requires found { IsSurvey (F.function f.now) found.offsets.items found.total found.wanted.items }
     ensures allocation { IfOk result (λ out. IsAllocation (F.function f.now) (machine_of env.now) (output_of out)) }
-    ensures err { IfErr result (Lacks (SomeDoesNotFit (F.function f.now) (machine_of env.now)) (2 ^ 24 < units_at_most (F.function f.now))) }
+    ensures passes { OnOk result (AllPassTests (F.function f.now)) }
+    ensures err { IfErr result (LacksIfPassed (F.function f.now) (machine_of env.now)) }
 {
     let Survey {
         offsets,
         total,
-        passes: _,
         wanted,
-        named,
     } = found;
     let mut allocs = vec![in alloc; Allocation::none(); total as usize]?;
-    let rest = fill_places(alloc, f, env, &offsets, &mut allocs, &wanted, &named)?;
+    let rest = fill_places(alloc, f, env, &offsets, &mut allocs, &wanted)?;
     Ok(Output {
         num_spillslots: rest.num_spillslots,
         edits: rest.edits,

@@ -71,13 +71,13 @@ pub fn locations<A: Allocator + Copy, F: Function, B: Allocator>(
     offsets: &[u32],
     allocs: &[Allocation],
     wanted: &[bool],
-    named: &[u32],
+    listed: &[u32],
 ) -> Result<Vec<(u32, ProgPoint, ProgPoint, Allocation), A>, RegAllocError>
-    requires { IsBeforeLocating (F.function f.now) slots.now offsets.now allocs.now wanted.now named.now }
+    requires { IsBeforeLocating (F.function f.now) slots.now offsets.now allocs.now wanted.now listed.now }
     ensures ok { IfOk result (λ ds. AreLocated (F.function f.now) slots.now offsets.now allocs.now (map location_of ds.items)) }
     ensures err { IfErr result (λ e. e ≡ RegAllocError.Memory) }
 {
-    let kept = kept_labels_by(alloc, f, wanted, named)?;
+    let kept = kept_labels_by(alloc, f, wanted, listed)?;
     let mut locations = locate(alloc, &kept, slots, offsets, allocs)?;
     locations.sort_by_key(|location| location.0)?;
     Ok(locations)

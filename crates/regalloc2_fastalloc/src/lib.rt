@@ -162,8 +162,10 @@ pub fn run<A: Allocator + Copy, F: Function, B: Allocator>(
     if options.validate_ssa {
         validate_function(alloc, f, env)?;
     }
-    survey::validate_unless_passed(f, found.passes)?;
-    allocate::allocate(alloc, f, env, found)
+    match allocate::allocate(alloc, f, env, found) {
+        Ok(output) => Ok(output),
+        Err(error) => Err(survey::first_error(f, error)),
+    }
 }
 
 /// Allocates registers to a function, and puts the output into `ctx.output`.

@@ -13,6 +13,8 @@
 -- `LocationBeforeFirstRead`, `InstWithinWalk`, `BlockWithinWalk`, `DefStoresIntoSlot`, `DefLeavesValueInSlot`) and of
 -- paths (`InstOnPath`, `PathStepLeaves`, `WellFormedPaths`, `SlotHoldsValueOnPaths`).
 pub mod UnnamedStaysUnlocated
+pub mod LocatedVRegsAreUsed
+pub mod ChangesCounted
 pub mod SlotHoldsDefinedValue
 pub mod InstOnPath
 pub mod PathStepLeaves

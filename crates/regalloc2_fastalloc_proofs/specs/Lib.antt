@@ -7,6 +7,7 @@ pub mod BlockSteps
 pub mod BranchSteps
 pub mod Debug
 pub mod InstSteps
+pub mod Located
 pub mod Pressure
 pub mod Safety
 pub mod SlotLayout

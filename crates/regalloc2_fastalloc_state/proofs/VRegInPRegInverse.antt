@@ -13,7 +13,7 @@ use Rattle.regalloc2_names.specs.Place.{Place, NoPlace, InRegister, InSlot, is_i
 use Rattle.regalloc2_semantics.proofs.Cells.{is_place-true, is_place-same, is_place-other}
 use Rattle.regalloc2_semantics.proofs.Plain.{chosen, no_some}
 use Rattle.regalloc2_fastalloc_state.specs.StateParts.{VRegAllocsValue, IsInverse, SetsAlloc, SetsVRegInPReg, HasIf, IsNewest, alloc_of, vreg_of_preg}
-use Rattle.regalloc2_fastalloc_state.specs.StateParts.{without, in_front_if}
+use Rattle.regalloc2_fastalloc_state.specs.StateParts.{without, in_front_if, count_after}
 use Rattle.regalloc2_fastalloc_state.proofs.TakenOut.{left_in, in_front, front_or_rest, member_kept, passes_other}
 
 -- two equal options that have values have equal values
@@ -139,13 +139,17 @@ pub record Marks : Type 0 where
   pub empties : SetsVRegInPReg held emptied left None
   pub fills : SetsVRegInPReg emptied filled place (Some vreg)
   pub order : now_listed ≡ in_front_if (is_in_register place) vreg (without number listed)
+  pub watched : List Bool
+  pub changes : ℕ
+  pub now_changes : ℕ
+  pub counts : now_changes ≡ count_after watched changes number left place
 
 -- before and after
 abbrev pub unmarked : Marks → VRegAllocsValue
-unmarked m = record { vreg_allocs = m.vreg_allocs; vreg_in_preg = m.held; in_registers = m.listed }
+unmarked m = record { vreg_allocs = m.vreg_allocs; vreg_in_preg = m.held; in_registers = m.listed; watched = m.watched; changes = m.changes }
 
 abbrev pub marked : Marks → VRegAllocsValue
-marked m = record { vreg_allocs = set m.vreg_allocs m.number m.place; vreg_in_preg = m.filled; in_registers = m.now_listed }
+marked m = record { vreg_allocs = set m.vreg_allocs m.number m.place; vreg_in_preg = m.filled; in_registers = m.now_listed; watched = m.watched; changes = m.now_changes }
 
 -- one register is emptied, and another filled
 pub sets_alloc_by_marks : (m : Marks) → SetsAlloc (unmarked m) (marked m) m.vreg m.place
@@ -162,6 +166,9 @@ sets_alloc_by_marks m =
           (m.empties.each r lt ∙ ap (λ (x : Place). cond (is_place x (InRegister r)) None (slice_index_or m.held (bits_of_register r) None))
           (m.was_left ∙ ap (λ (k : ℕ). slice_index_or T k NoPlace) e));
       order = m.order ∙ ap (λ (k : ℕ). in_front_if (is_in_register p) m.vreg (without k m.listed)) e;
+      watched = refl;
+      changes = m.counts ∙ ap (λ (x : Place). count_after m.watched m.changes n x p) m.was_left
+          ∙ ap (λ (k : ℕ). count_after m.watched m.changes k (slice_index_or T k NoPlace) p) e;
     }
 
 -- so the tables stay inverse

@@ -1,7 +1,7 @@
 -- The allocator's tables, as contracts see them.
 use Rattle.std.specs.Prelude.{ℕ, ◌≡◌, ◌≢◌, ◌+◌, ◌-◌, ◌*◌, ◌<◌, ◌≤◌, Bool, true, false, not, List, [], ◌∷◌, All, Any, Contains, filter}
 use Rattle.std.specs.Prelude.{length, replicate, slice_index}
-use Rattle.std.specs.Prelude.{slice_index_or, Option, None, Some, if◌then◌else◌, ◌&&◌, ◌↔◌, ◌==◌, nat_lt, is_none}
+use Rattle.std.specs.Prelude.{slice_index_or, Option, None, Some, if◌then◌else◌, ◌&&◌, ◌||◌, ◌↔◌, ◌==◌, ◌^◌, min, nat_lt, is_none}
 use Rattle.std.specs.Int.{next_multiple_of}
 use Rattle.std.specs.List.{count_by}
 use Rattle.regalloc2_names.specs.declared.RegClass.{RegClass}
@@ -17,11 +17,14 @@ use Rattle.regalloc2_names.specs.declared.sets.PRegSet.{PRegSet}
 use Rattle.regalloc2_names.specs.RegisterSet.{has_register}
 use Rattle.regalloc2_names.specs.Place.{Place, NoPlace, InRegister, InSlot, is_place, is_in_register, is_no_place}
 
--- where the vregs are located, by number; which vreg is in each register, by index; and the vregs in registers, the last filled register's first
+-- where the vregs are located, by number; which vreg is in each register, by index; the vregs in registers, the last filled register's first; by
+-- number, which vregs are watched; and how often a watched vreg got its location or was left without one
 pub record VRegAllocsValue : Type 0 where
   pub vreg_allocs : List Place
   pub vreg_in_preg : List (Option VirtualRegister)
   pub in_registers : List VirtualRegister
+  pub watched : List Bool
+  pub changes : ℕ
 
 -- the place where the vreg of a number is located
 abbrev pub alloc_of : VRegAllocsValue → ℕ → Place
@@ -61,9 +64,14 @@ pub record HasIf (b : Bool) (vregs : List VirtualRegister) (n : ℕ) : Type 0 wh
   pub has : b ≡ true → Any (λ v. v.number ≡ n) vregs
   pub absent : b ≡ false → All (λ v. v.number ≢ n) vregs
 
--- no vreg has a location, of so many vregs
-abbrev pub no_allocs : ℕ → VRegAllocsValue
-no_allocs n = record { vreg_allocs = replicate n NoPlace; vreg_in_preg = replicate 256 None; in_registers = [] }
+-- no vreg has a location, of so many vregs, and no change is counted of those that are watched
+abbrev pub no_allocs : ℕ → List Bool → VRegAllocsValue
+no_allocs n watched = record { vreg_allocs = replicate n NoPlace; vreg_in_preg = replicate 256 None; in_registers = []; watched = watched; changes = 0 }
+
+-- the count of changes once the vreg of a number leaves a place for another: one more if it is watched and one of them is none, up to the greatest `usize`
+abbrev pub count_after : List Bool → ℕ → ℕ → Place → Place → ℕ
+count_after watched changes n left place = if (is_no_place left || is_no_place place) && slice_index_or watched n false then min (changes + 1) (2 ^ 64 - 1)
+    else changes
 
 -- the place is the vreg's only location from now on; if it is a register, it is the last filled one
 pub record SetsAlloc (old new : VRegAllocsValue) (v : VirtualRegister) (p : Place) : Type 0 where
@@ -73,6 +81,8 @@ pub record SetsAlloc (old new : VRegAllocsValue) (v : VirtualRegister) (p : Plac
   pub holders : (r : Register) → r.number < 64 →
       vreg_of_preg new r ≡ (if is_place p (InRegister r) then Some v else if is_place (alloc_of old v.number) (InRegister r) then None else vreg_of_preg old r)
   pub order : new.in_registers ≡ in_front_if (is_in_register p) v (without v.number old.in_registers)
+  pub watched : new.watched ≡ old.watched
+  pub changes : new.changes ≡ count_after old.watched old.changes v.number (alloc_of old v.number) p
 
 -- a register of the table is given a vreg, or none; another place changes nothing
 pub record SetsVRegInPReg (old new : List (Option VirtualRegister)) (p : Place) (v : Option VirtualRegister) : Type 0 where

@@ -1,10 +1,10 @@
 //! The locations of vregs.
 
-ghost use Rattle.std.specs.Prelude.{◌≡◌, ◌≢◌, ◌↔◌, ◌<◌, ◌≤◌, ◌⊎◌, [], true, All, length, IfOk, IfErr, IfSome, IfNone, Option, Some};
+ghost use Rattle.std.specs.Prelude.{◌≡◌, ◌≢◌, ◌↔◌, ◌<◌, ◌≤◌, ◌⊎◌, ◌-◌, ◌^◌, [], true, IsTrue, All, length, IfOk, IfErr, IfSome, IfNone, Option, Some};
 ghost use Rattle.regalloc2_names.specs.Place.{InRegister, is_in_register};
 ghost use Rattle.regalloc2_names.specs.Register.{Register, VirtualRegister};
 ghost use Rattle.regalloc2_names.specs.RegisterSet.{has_register};
-ghost use Rattle.regalloc2_fastalloc_state.specs.StateParts.{IsInverse, IsNewest, alloc_of, vreg_of_preg, SetsAlloc, SetsVRegInPReg, no_allocs};
+ghost use Rattle.regalloc2_fastalloc_state.specs.StateParts.{IsInverse, IsNewest, alloc_of, vreg_of_preg, SetsAlloc, SetsVRegInPReg, no_allocs, count_after};
 ghost use Rattle.regalloc2_fastalloc_state.specs.StateParts.{HasIf, in_front_if, without};
 ghost use Rattle.regalloc2_fastalloc_state.specs.FilledRegs.{AreRegistersOf};
 
@@ -16,33 +16,37 @@ use std::marker::Model;
 /// Where the part of the block that was walked expects each vreg, and which vreg is expected in each register: two
 /// tables, each the exact inverse of the other.
 #[derive(Drop)]
-pub struct VRegAllocs<A: Allocator> {
+pub struct VRegAllocs<'a, A: Allocator> {
     /// By vreg number.
     vreg_allocs: Vec<Allocation, A>,
     /// By register index.
     vreg_in_preg: Vec<Option<VReg>, A>,
     /// The vregs that are in registers, the last filled register's first.
     in_registers: VRegSet<A>,
+    /// By vreg number, whether it is counted that the vreg gets or loses its location.
+    watched: &'a [bool],
+    /// How often a watched vreg got its location or was left without one, up to the greatest `usize`.
+    changes: usize,
 }
 
-impl<A: Allocator> Model for VRegAllocs<A> {
+impl<'a, A: Allocator> Model for VRegAllocs<'a, A> {
     ghost use Rattle.std.specs.Prelude.{◌≡◌, length};
     ghost use Rattle.regalloc2_fastalloc_state.specs.StateParts.{VRegAllocsValue, IsInverse};
 
     ghost Value = { VRegAllocsValue };
 
-    ghost view = { λ t. record { vreg_allocs = t.vreg_allocs.items; vreg_in_preg = t.vreg_in_preg.items; in_registers = t.in_registers.members } };
+    ghost view = { λ t. record { vreg_allocs = t.vreg_allocs.items; vreg_in_preg = t.vreg_in_preg.items; in_registers = t.in_registers.members; watched = t.watched.now; changes = t.changes } };
 
     ghost invariant = { λ t.
-        IsInverse (record { vreg_allocs = t.vreg_allocs.items; vreg_in_preg = t.vreg_in_preg.items; in_registers = t.in_registers.members })
+        IsInverse (record { vreg_allocs = t.vreg_allocs.items; vreg_in_preg = t.vreg_in_preg.items; in_registers = t.in_registers.members; watched = t.watched.now; changes = t.changes })
         × (t.in_registers.capacity ≡ length t.vreg_allocs.items) };
 }
 
-impl<A: Allocator + Copy> VRegAllocs<A> {
-    /// Tables for so many vregs, in which no vreg has a location.
-    pub fn new(alloc: A, vregs: usize) -> Result<Self, RegAllocError>
+impl<'a, A: Allocator + Copy> VRegAllocs<'a, A> {
+    /// Tables for so many vregs, in which no vreg has a location, and no change is counted.
+    pub fn new(alloc: A, vregs: usize, watched: &'a [bool]) -> Result<Self, RegAllocError>
         requires { vregs ≤ 1073741824 }
-        ensures empty { IfOk result (λ t. t ≡ no_allocs vregs) }
+        ensures empty { IfOk result (λ t. t ≡ no_allocs vregs watched.now) }
         ensures err { IfErr result (λ e. e ≡ RegAllocError.Memory) }
     {
         let vreg_allocs = vec![in alloc; Allocation::none(); vregs]?;
@@ -52,8 +56,31 @@ impl<A: Allocator + Copy> VRegAllocs<A> {
             vreg_allocs,
             vreg_in_preg,
             in_registers,
+            watched,
+            changes: 0,
         })
     }
+}
+
+/// The count of changes once the vreg with this number leaves a place for another: one more if it is
+/// watched and one of the places is none.
+#[inline(always)]
+fn count_after(
+    watched: &[bool],
+    changes: usize,
+    number: usize,
+    left: Allocation,
+    place: Allocation,
+) -> usize
+    ensures { result ≡ count_after watched.now changes number left place }
+{
+    if left.is_some() && place.is_some() {
+        return changes;
+    }
+    if number < watched.len() && watched[number] {
+        return changes.saturating_add(1);
+    }
+    changes
 }
 
 /// Records that the vreg is in the place from now on, if that is a register.
@@ -110,7 +137,7 @@ fn registers_of_vregs<A: Allocator>(vregs: &VRegSet<A>, vreg_allocs: &Vec<Alloca
     found
 }
 
-impl<A: Allocator> VRegAllocs<A> {
+impl<'a, A: Allocator> VRegAllocs<'a, A> {
     /// The place where the vreg is located, or none.
     pub fn current_alloc(&self, vreg: VReg) -> Allocation
         requires { vreg.number < length self.now.vreg_allocs }
@@ -147,6 +174,20 @@ impl<A: Allocator> VRegAllocs<A> {
         self.vreg_allocs[vreg.vreg()].as_reg()
     }
 
+    /// How often a watched vreg got its location or was left without one, up to the greatest `usize`.
+    pub fn changes(&self) -> usize
+        ensures { result ≡ self.now.changes }
+    {
+        self.changes
+    }
+
+    /// Whether that is still so, and the count can rise.
+    pub fn is_unchanged(&self, changes: usize) -> bool
+        ensures { IsTrue result ↔ ((self.now.changes ≡ changes) × (changes < 2 ^ 64 - 1)) }
+    {
+        self.changes == changes && changes < usize::MAX
+    }
+
     /// Makes the place the vreg's only location.
     pub fn set_alloc(&mut self, vreg: VReg, place: Allocation)
         requires vreg { vreg.number < length self.old.vreg_allocs }
@@ -161,5 +202,6 @@ impl<A: Allocator> VRegAllocs<A> {
         set_vreg_in_preg(&mut self.vreg_in_preg, place, Some(vreg));
         put_in_front(&mut self.in_registers, place, vreg);
         self.vreg_allocs[number] = place;
+        self.changes = count_after(self.watched, self.changes, number, left, place);
     }
 }

@@ -16,6 +16,7 @@
 pub mod AvailableCount
 pub mod CountedOnce
 pub mod FilledClobbers
+pub mod Findings
 pub mod Granted
 pub mod InstPlaced
 pub mod RegOperands

@@ -1,10 +1,11 @@
 -- What a pass over operands, from the last to the first, finds.
 use Rattle.std.proofs.Common.{ℕ, zero, suc, ◌≡◌, ◌+◌, ◌-◌, ◌/◌, ◌%◌, ◌<◌, ◌≤◌, ◌⊎◌, inl, inr, Bool, true, false, List, [], ◌∷◌, length, refl}
 use Rattle.std.proofs.Common.{arith, eq-eqb, sym, ap, ◌∙◌, subst}
-use Rattle.std.specs.Prelude.{bit_or, drop, IsTrue, ◌↔◌, ◌&&◌, if◌then◌else◌, nat_eq, nat_le, nat_lt, slice_index, slice_set}
+use Rattle.std.specs.Prelude.{All, bit_or, drop, IsTrue, ◌↔◌, ◌&&◌, if◌then◌else◌, nat_eq, nat_le, nat_lt, slice_index, slice_set}
 use Rattle.std.proofs.lemmas.Bool.{cases_Bool, cases_eq, cases_lt}
 use Rattle.std.proofs.lemmas.Bool.Decides.{nat_tests}
 use Rattle.std.proofs.lemmas.List.{drop_all, drop_more, get_or-set_other, get_or-set_same, length-set}
+use Rattle.std.proofs.lemmas.List.Elements.{All-cons, All-head, All-nil, All-tail}
 use Rattle.std.proofs.lemmas.List.Sums.{sum_by-cons}
 use Rattle.std.proofs.lemmas.Nat.{le_or_l, le_or_r, or_lt}
 use Rattle.regalloc2_names.specs.declared.RegClass.{RegClass}
@@ -13,11 +14,13 @@ use Rattle.regalloc2_names.specs.declared.OperandConstraint.{OperandConstraint}
 use Rattle.regalloc2_names.specs.declared.OperandConstraint.TheVariants.{Any, Reg, Stack, Limit, Reuse, FixedReg}
 use Rattle.regalloc2_names.specs.Register.{Register, class_code, class_of_code}
 use Rattle.regalloc2_names.specs.Operand.{OperandValue}
-use Rattle.regalloc2_names.specs.Packing.{bits_of_operand, constraint_code, constraint_of_code, operand_of_bits}
+use Rattle.regalloc2_names.specs.Packing.{IsConstraintOf, bits_of_operand, constraint_code, constraint_of_code, operand_of_bits}
 use Rattle.regalloc2_fastalloc_state.specs.declared.inst_regs.InstRegs.{InstRegs}
 use Rattle.regalloc2_fastalloc_state.specs.declared.masks.Masks.{Masks}
 use Rattle.regalloc2_fastalloc_state.specs.InstRegs.{SameAvailable, awaited_of}
 use Rattle.regalloc2_fastalloc_state.specs.Masks.{AreMasks}
+use Rattle.regalloc2_fastalloc_state.specs.Validate.Constraints.{IsUnlimited}
+use Rattle.regalloc2_fastalloc_state.specs.Validate.NoLimits.{IsTakenOperand}
 use Rattle.regalloc2_fastalloc_state.proofs.ArraysByClass.{zeros}
 use Rattle.regalloc2_function.specs.FunctionValue.{op_at, no_operand}
 use Rattle.regalloc2_function.specs.Fitting.{is_under_reg}
@@ -51,8 +54,17 @@ either_reaches a b le = elim (cases_lt a 4398046511104) [
   | inl x ↦ elim (cases_lt b 4398046511104) [ inr y ↦ inr y | inl y ↦ absurd (omega (arith, or_lt 42 a b x y)) ]
 ]
 
+-- no operand has a limit if neither the first nor one of the rest has
+unlimited_more : (o : OperandValue) (rest : List OperandValue) (a b : Bool) → ((a ≡ true) ↔ All IsTakenOperand rest) → (IsTrue b ↔ IsUnlimited o) →
+    IsConstraintOf o.vreg.class o.constraint → ((a && b) ≡ true) ↔ All IsTakenOperand (o ∷ rest)
+unlimited_more o rest true b h one class = (
+  λ e. All-cons IsTakenOperand o rest (record { of_class = class; unlimited = one.0 e }) (h.0 refl),
+  λ all. one.1 (All-head IsTakenOperand o rest all).unlimited,
+)
+unlimited_more o rest false b h one class = (λ e. absurd cc, λ all. h.1 (All-tail IsTakenOperand o rest all))
+
 -- what was found among the operands from the index k on
-pub record Sorting (ops : List OperandValue) (k : ℕ) (t u : InstRegs) (masks : Masks) (bits : ℕ) : Type 0 where
+pub record Sorting (ops : List OperandValue) (k : ℕ) (t u : InstRegs) (masks : Masks) (bits : ℕ) (no_limits : Bool) : Type 0 where
   pub inside : k ≤ length ops
   pub available : SameAvailable t u
   pub long : length u.awaited ≡ 3
@@ -60,10 +72,11 @@ pub record Sorting (ops : List OperandValue) (k : ℕ) (t u : InstRegs) (masks :
   pub masked : length (drop k ops) ≤ 63 → AreMasks (drop k ops) masks
   pub some : 4398046511104 ≤ bits → (j : ℕ) × (r : Register) × (j < length ops) × ((op_at ops j).constraint ≡ FixedReg r)
   pub none : bits < 4398046511104 → (j : ℕ) → k ≤ j → j < length ops → (r : Register) → (op_at ops j).constraint ≡ FixedReg r → ⊥
+  pub unlimited : (no_limits ≡ true) ↔ All IsTakenOperand (drop k ops)
 
 -- behind the last operand nothing was found
 pub sorting_none : (ops : List OperandValue) (t : InstRegs) (masks : Masks) → t.awaited ≡ 0 ∷ 0 ∷ 0 ∷ [] → AreMasks [] masks →
-    Sorting ops (length ops) t t masks 0
+    Sorting ops (length ops) t t masks 0 true
 sorting_none ops t masks e m =
     let all : drop (length ops) ops ≡ [] = drop_all (length ops) ops (omega arith) in
     record {
@@ -74,6 +87,7 @@ sorting_none ops t masks e m =
       masked = λ few. subst (λ (xs : List OperandValue). AreMasks xs masks) (sym all) m;
       some = λ le. absurd (omega (arith, le));
       none = λ lt j le less r is. absurd (omega (arith, le, less));
+      unlimited = (λ yes. subst (All IsTakenOperand) (sym all) (All-nil IsTakenOperand), λ taken. refl);
     }
 
 -- there is a count for each class
@@ -100,8 +114,8 @@ and_fails : (a b : Bool) → b ≡ false → (a && b) ≡ false
 and_fails true b q = q
 and_fails false b q = refl
 
-module _ (ops : List OperandValue) (k : ℕ) (t u w : InstRegs) (m p : Masks) (bits b : ℕ) (o : OperandValue) (asks : Bool)
-    (h : Sorting ops (k + 1) t u m bits) (is : o ≡ op_at ops k) where
+module _ (ops : List OperandValue) (k : ℕ) (t u w : InstRegs) (m p : Masks) (bits b : ℕ) (o : OperandValue) (asks no_limits one : Bool)
+    (h : Sorting ops (k + 1) t u m bits no_limits) (is : o ≡ op_at ops k) where
   -- the operand k is in front of those after it
   before : drop k ops ≡ o ∷ drop (k + 1) ops
   before = drop_more ops k no_operand (let i = h.inside in omega (arith, i)) ∙ ap (λ (x : OperandValue). x ∷ drop (k + 1) ops) (sym is)
@@ -142,8 +156,8 @@ module _ (ops : List OperandValue) (k : ℕ) (t u w : InstRegs) (m p : Masks) (b
   pub sorting_more : SameAvailable u w → (IsTrue asks ↔ (o.constraint ≡ Reg)) →
       w.awaited ≡ slice_set u.awaited (class_code o.vreg.class) (awaited_of u o.vreg.class + (if asks then 1 else 0)) →
       ((xs : List OperandValue) → length xs < 63 → AreMasks xs m → AreMasks (o ∷ xs) p) → b ≡ bits_of_operand o → operand_of_bits b ≡ o →
-      Sorting ops k t w p (bit_or bits b)
-  sorting_more same any e masks packed unpacked = record {
+      (IsTrue one ↔ IsUnlimited o) → IsConstraintOf o.vreg.class o.constraint → Sorting ops k t w p (bit_or bits b) (no_limits && one)
+  sorting_more same any e masks packed unpacked unlimited class = record {
     inside = (let i = h.inside in omega (arith, i));
     available = record {
       early = same.early ∙ h.available.early;
@@ -167,14 +181,17 @@ module _ (ops : List OperandValue) (k : ℕ) (t u w : InstRegs) (m p : Masks) (b
           omega (arith, fixed_reaches o r here, packed, le_or_r bits b, lt))
       | inr ne ↦ h.none (omega (arith, le_or_l bits b, lt)) j (omega (arith, le, ne)) less r fixed
     ];
+    unlimited = subst (λ (xs : List OperandValue). ((no_limits && one) ≡ true) ↔ All IsTakenOperand xs) (sym before)
+        (unlimited_more o (drop (k + 1) ops) no_limits one h.unlimited unlimited class);
   }
 
 -- once the first operand is passed, that is what one pass finds
-pub sorted_all : (ops : List OperandValue) (k : ℕ) (t u : InstRegs) (masks : Masks) (bits : ℕ) → k ≡ 0 → Sorting ops k t u masks bits →
-    AreSorted ops (record { masks = masks; any_fixed = nat_le 4398046511104 bits })
-sorted_all ops zero t u masks bits e h = record {
+pub sorted_all : (ops : List OperandValue) (k : ℕ) (t u : InstRegs) (masks : Masks) (bits : ℕ) (no_limits : Bool) → k ≡ 0 →
+    Sorting ops k t u masks bits no_limits → AreSorted ops (record { masks = masks; any_fixed = nat_le 4398046511104 bits; unlimited = no_limits })
+sorted_all ops zero t u masks bits no_limits e h = record {
   masks = h.masked;
   some = λ yes. h.some (grind (arith, nat_tests));
   none = λ no j less r fixed. h.none (grind (arith, nat_tests)) j (omega arith) less r fixed;
+  unlimited = h.unlimited;
 }
-sorted_all ops (suc k) t u masks bits e h = absurd (omega (arith, e))
+sorted_all ops (suc k) t u masks bits no_limits e h = absurd (omega (arith, e))

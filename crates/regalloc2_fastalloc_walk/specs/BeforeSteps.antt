@@ -8,13 +8,17 @@ use Rattle.regalloc2_function.specs.FunctionValue.{FunctionValue, block_at, inst
 use Rattle.regalloc2_analysis.specs.declared.branch_defs.BranchDefs.{BranchDefs}
 use Rattle.regalloc2_analysis.specs.declared.branch_defs.EdgeInto.{EdgeInto}
 use Rattle.regalloc2_analysis.specs.BranchDefs.Tables.{AreBranchDefsOf, IsEdgeOf}
-use Rattle.regalloc2_fastalloc_state.specs.StateParts.{AllAtOrAfter}
+use Rattle.regalloc2_fastalloc_state.specs.StateParts.{AllAtOrAfter, no_allocs}
 use Rattle.regalloc2_fastalloc_state.specs.declared.inst_regs.InstRegs.{InstRegs}
 use Rattle.regalloc2_fastalloc_proofs.specs.InstSteps.{InTables, IsFresh}
 use Rattle.regalloc2_fastalloc_proofs.specs.BranchSteps.{RegsAvoidStack, AreVRegsInTables, MayBeParallel, MayBranch, ParametersDiffer}
 use Rattle.regalloc2_fastalloc_state.specs.ScratchPool.{Moves}
+use Rattle.regalloc2_fastalloc_proofs.specs.Located.{LocatedAreUsed}
 use Rattle.regalloc2_fastalloc_proofs.specs.BlockSteps.{MayBeAllocated, DefinesBelow, offset_of}
+use Rattle.regalloc2_analysis.specs.LiveRanges.LiveRanges.{IsWanted}
+use Rattle.regalloc2_fastalloc_walk.specs.Findings.{IsFound}
 use Rattle.regalloc2_fastalloc_walk.specs.declared.state.State.{State}
+use Rattle.regalloc2_fastalloc_walk.specs.declared.walk.Found.{Found}
 use Rattle.regalloc2_fastalloc_walk.specs.StateView.{tables_of}
 
 -- the instruction i, which has these operands, is next, with fresh instruction registers; the places of the operands begin at an index of the list of
@@ -82,9 +86,17 @@ pub record IsBeforeInst {A C : Type 0} (f : FunctionValue) (d : BranchDefs C) (b
   pub allocs_long : length places ≡ operand_count f
   pub no_places : (k : ℕ) → k < offset_of f (i + 1) → slice_index_or places k NoPlace ≡ NoPlace
 
--- the block b is next, from its last instruction; the list of offsets says where the places of each instruction's operands begin
-pub record IsBeforeBlock {A C : Type 0} (f : FunctionValue) (d : BranchDefs C) (b : ℕ) (starts : List ℕ) (places : List Place) (s : State A)
+-- the instruction i of the block b is next, and those after it are noted
+pub record IsBeforeNoting {A B C : Type 0} (f : FunctionValue) (d : BranchDefs C) (b i at : ℕ) (places : List Place) (s : State A) (noted : Found B)
     : Type 0 where
+  pub inst : IsBeforeInst f d b i at places s
+  pub located : LocatedAreUsed f (i + 1) (tables_of s)
+  pub found : IsFound f (IsWanted s.places.watched) (i + 1) noted
+
+-- the block b is next, from its last instruction, and those after it are noted; the list of offsets says where the places of each instruction's
+-- operands begin
+pub record IsBeforeBlock {A B C : Type 0} (f : FunctionValue) (d : BranchDefs C) (b : ℕ) (starts : List ℕ) (places : List Place) (s : State A)
+    (noted : Found B) : Type 0 where
   pub block : b < length f.blocks
   pub well_formed : MayBeAllocated f
   pub defs : AreBranchDefsOf f d
@@ -95,6 +107,8 @@ pub record IsBeforeBlock {A C : Type 0} (f : FunctionValue) (d : BranchDefs C) (
   pub offsets : (i : ℕ) → i < length f.insts → slice_index starts i ≡ offset_of f i
   pub allocs_long : length places ≡ operand_count f
   pub no_places : (k : ℕ) → k < offset_of f (block_at f b).range.end → slice_index_or places k NoPlace ≡ NoPlace
+  pub located : LocatedAreUsed f (block_at f b).range.end (tables_of s)
+  pub found : IsFound f (IsWanted s.places.watched) (block_at f b).range.end noted
 
 -- the beginning of the block b is next, once its instructions are allocated
 pub record IsBeforeBeginning {A C : Type 0} (f : FunctionValue) (d : BranchDefs C) (b : ℕ) (s : State A) : Type 0 where
@@ -124,6 +138,7 @@ pub record IsBeforeListing {C : Type 0} (f : FunctionValue) (d : BranchDefs C) (
 -- the last block is next, from a fresh state
 pub record IsBeforeWalk {A : Type 0} (f : FunctionValue) (starts : List ℕ) (places : List Place) (s : State A) : Type 0 where
   pub fresh : s.edits ≡ []
+  pub nowhere : (n : ℕ) × (s.places ≡ no_allocs n s.places.watched)
   pub well_formed : MayBeAllocated f
   pub room : DefinesBelow f (length s.places.vreg_allocs)
   pub apart : RegsAvoidStack (tables_of s)

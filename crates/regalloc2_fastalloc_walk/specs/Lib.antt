@@ -3,6 +3,7 @@
 -- Depends on regalloc2_fastalloc_proofs (relations), regalloc2_fastalloc_state (tables) and the branch definitions.
 pub mod BeforeSteps
 pub mod BranchStores
+pub mod Findings
 pub mod OperandsAt
 pub mod OwnDefs
 pub mod PlaceChoice

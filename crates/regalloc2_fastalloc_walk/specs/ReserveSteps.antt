@@ -1,5 +1,5 @@
 -- What one operand reserves before operands are allocated.
-use Rattle.std.specs.Prelude.{ℕ, ◌≡◌, ◌<◌, ◌≤◌, ◌⊎◌, ◌&&◌, ◌||◌, true, false, List, [], ◌∷◌, length}
+use Rattle.std.specs.Prelude.{ℕ, ◌≡◌, ◌<◌, ◌≤◌, ◌⊎◌, ◌&&◌, ◌||◌, ◌↔◌, true, false, All, List, [], ◌∷◌, length}
 use Rattle.regalloc2_names.specs.declared.RegClass.{RegClass}
 use Rattle.regalloc2_names.specs.declared.OperandConstraint.TheVariants.{FixedReg}
 use Rattle.regalloc2_names.specs.Register.{Register, is_register}
@@ -9,6 +9,7 @@ use Rattle.regalloc2_steps.specs.declared.positions.Positions.{Positions}
 use Rattle.regalloc2_fastalloc_state.specs.declared.inst_regs.InstRegs.{InstRegs}
 use Rattle.regalloc2_fastalloc_state.specs.InstRegs.{SameAvailable, awaited_of, is_free_throughout}
 use Rattle.regalloc2_fastalloc_state.specs.Masks.{AreMasks}
+use Rattle.regalloc2_fastalloc_state.specs.Validate.NoLimits.{IsTakenOperand}
 use Rattle.regalloc2_function.specs.FunctionValue.{op_at}
 use Rattle.regalloc2_fastalloc_walk.specs.declared.reserve_regs.ReservedRegs.{ReservedRegs}
 use Rattle.regalloc2_fastalloc_walk.specs.declared.reserve_regs.Sorted.{Sorted}
@@ -95,3 +96,4 @@ pub record AreSorted (operands : List OperandValue) (s : Sorted) : Type 0 where
   pub masks : length operands ≤ 63 → AreMasks operands s.masks
   pub some : s.any_fixed ≡ true → (k : ℕ) × (r : Register) × (k < length operands) × ((op_at operands k).constraint ≡ FixedReg r)
   pub none : s.any_fixed ≡ false → (k : ℕ) → k < length operands → (r : Register) → (op_at operands k).constraint ≡ FixedReg r → ⊥
+  pub unlimited : (s.unlimited ≡ true) ↔ All IsTakenOperand operands

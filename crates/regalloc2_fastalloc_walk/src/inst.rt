@@ -1,14 +1,15 @@
-//! The operands of one instruction, of every kind but `Limit`.
+//! The operands of one instruction. An operand under `Limit` requires any register, as under `Reg`.
 
 ghost use Rattle.regalloc2_names.specs.Register.{Register};
 ghost use Rattle.std.specs.Prelude.{◌≡◌, ◌<◌, ◌≤◌, ◌+◌, ◌↔◌, length, not, false, true, slice_set, slice_index_or, ℕ, IfSome, IfNone, IfOk};
-ghost use Rattle.std.specs.Prelude.{IsNone, IsTrue};
+ghost use Rattle.std.specs.Prelude.{IsNone, IsTrue, All};
 ghost use Rattle.regalloc2_names.specs.Point.{after, before, inst_limit};
 ghost use Rattle.regalloc2_names.specs.Place.{NoPlace, is_place, is_in_slot};
 ghost use Rattle.regalloc2_names.specs.Operand.{is_def, is_late, is_reading};
 ghost use Rattle.regalloc2_parts.specs.Picked.{picked};
 ghost use Rattle.regalloc2_fastalloc_walk.specs.OperandsAt.{is_at};
 ghost use Rattle.regalloc2_fastalloc_state.specs.Masks.{AreMasks};
+ghost use Rattle.regalloc2_fastalloc_state.specs.Validate.NoLimits.{IsTakenOperand};
 ghost use Rattle.regalloc2_fastalloc_state.specs.StateParts.{AllAtOrAfter, alloc_of};
 ghost use Rattle.regalloc2_function.specs.FunctionValue.{op_at};
 ghost use Rattle.regalloc2_fastalloc_proofs.specs.InstSteps.{IsFresh, reuse_requirement_of, requirement_of, def_request, reuse_request, ProcessOperand};
@@ -559,12 +560,14 @@ impl<'a, A: Allocator> State<'a, A> {
     }
 
     /// Allocates an instruction: `allocs`, which has no place yet, gets those of its operands.
+    ///
+    /// Returns whether no operand has `Limit`. An operand that has it requires any register, as under `Reg`.
     pub fn alloc_inst(
         &mut self,
         inst_regs: &mut InstRegs,
         cx: &InstCx<'_>,
         allocs: &mut [Allocation],
-    ) -> Result<(), RegAllocError>
+    ) -> Result<bool, RegAllocError>
         requires inst { cx.now.inst < inst_limit }
         requires later { AllAtOrAfter (after cx.now.inst) self.old.edits }
         requires in_tables { InTables cx.now.operands.now (tables_of self.old) }
@@ -574,11 +577,13 @@ impl<'a, A: Allocator> State<'a, A> {
         ensures outcome { ComesTo (AllocInst cx.now.inst cx.now.operands.now cx.now.clobbers cx.now.ends_block allocs.old inst_regs.old)
             (allocs.new, inst_regs.new) result self.old self.new }
         ensures step { IsStepAt (before cx.now.inst) result self.old self.new }
+        ensures unlimited { IfOk result (λ b. IsTrue b ↔ All IsTakenOperand cx.now.operands.now) }
     {
         let sorted = self.prepare_regs(inst_regs, cx)?;
         let masks = &sorted.masks;
         if cx.operands.len() > 63 {
-            return self.place_each(inst_regs, cx, allocs);
+            self.place_each(inst_regs, cx, allocs)?;
+            return Ok(sorted.unlimited);
         }
         self.process_operands_at(inst_regs, OperandPos::Late, cx, masks, allocs)?;
         self.process_operands_at(inst_regs, OperandPos::Early, cx, masks, allocs)?;
@@ -589,24 +594,25 @@ impl<'a, A: Allocator> State<'a, A> {
             masks,
             allocs,
         )?;
-        Ok(())
+        Ok(sorted.unlimited)
     }
 
-    /// Allocates an instruction whose operands' places begin at `start`.
+    /// Allocates an instruction whose operands' places begin at `start`. Returns whether no operand has `Limit`.
     pub fn alloc_inst_at(
         &mut self,
         inst_regs: &mut InstRegs,
         cx: &InstCx<'_>,
         start: usize,
         allocs: &mut [Allocation],
-    ) -> Result<(), RegAllocError>
+    ) -> Result<bool, RegAllocError>
         requires { IsBeforeOperands cx.now.inst cx.now.operands.now start inst_regs.old allocs.old self.old }
         ensures outcome { ComesTo (AllocInstAt cx.now.inst cx.now.operands.now cx.now.clobbers cx.now.ends_block start allocs.old inst_regs.old)
             (allocs.new, inst_regs.new) result self.old self.new }
         ensures step { IsStepAt (before cx.now.inst) result self.old self.new }
+        ensures unlimited { IfOk result (λ b. IsTrue b ↔ All IsTakenOperand cx.now.operands.now) }
     {
         let end = start + cx.operands.len();
-        self.alloc_inst(inst_regs, cx, &mut allocs[start..end])?;
-        Ok(())
+        let unlimited = self.alloc_inst(inst_regs, cx, &mut allocs[start..end])?;
+        Ok(unlimited)
     }
 }

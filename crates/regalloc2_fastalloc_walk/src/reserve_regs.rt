@@ -17,6 +17,7 @@ ghost use Rattle.regalloc2_fastalloc_walk.specs.ReserveSteps.{KeepsReserved, Shr
 use super::state::State;
 use regalloc2_fastalloc_state::inst_regs::{InstRegs, Positions};
 use regalloc2_fastalloc_state::masks::Masks;
+use regalloc2_fastalloc_state::validate::constraints::is_unlimited;
 use regalloc2_names::{Operand, OperandConstraint, PReg, PRegSet, ProgPoint, RegAllocError};
 use regalloc2_steps::clobbers::held_clobbers;
 use std::alloc::Allocator;
@@ -73,6 +74,8 @@ pub struct Sorted {
     pub masks: Masks,
     /// Whether any is fixed to a register.
     pub any_fixed: bool,
+    /// Whether no operand has `Limit`.
+    pub unlimited: bool,
 }
 
 /// Makes that pass, without a branch for each operand, and counts those that require any register.
@@ -86,6 +89,7 @@ fn sort(inst_regs: &mut InstRegs, operands: &[Operand]) -> Sorted
     let mut masks = Masks::none();
     // only the bits of fixed operands reach 2^42
     let mut bits = 0u64;
+    let mut unlimited = true;
     let mut k = operands.len();
     while k > 0 {
         k -= 1;
@@ -93,9 +97,14 @@ fn sort(inst_regs: &mut InstRegs, operands: &[Operand]) -> Sorted
         inst_regs.add_any_reg_op(operand.class(), operand.is_any_reg());
         masks = masks.before(operand);
         bits |= operand.bits();
+        unlimited &= is_unlimited(operand);
     }
     let any_fixed = bits >= 1 << 42;
-    Sorted { masks, any_fixed }
+    Sorted {
+        masks,
+        any_fixed,
+        unlimited,
+    }
 }
 
 /// The register that an operand is fixed to.

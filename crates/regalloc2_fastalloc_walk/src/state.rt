@@ -20,7 +20,7 @@ use std::alloc::Allocator;
 /// The state of the walk over the instructions, which goes from the last to the first.
 #[derive(Drop)]
 pub struct State<'a, A: Allocator> {
-    pub places: VRegAllocs<&'a A>,
+    pub places: VRegAllocs<'a, &'a A>,
     pub slots: SpillSlots<&'a A>,
     pub edits: Edits<&'a A>,
     pub registers: AllocatableRegs<&'a A>,
@@ -36,10 +36,11 @@ impl<'a, A: Allocator> State<'a, A> {
         f: &F,
         env: &MachineEnv<B>,
         vregs: usize,
+        watched: &'a [bool],
     ) -> Result<Self, RegAllocError>
         requires machine { MachineFits (F.function f.now) (machine_of env.now) }
         requires few { vregs ≤ (F.function f.now).num_vregs }
-        ensures places { IfOk result (λ s. s.places ≡ no_allocs vregs) }
+        ensures places { IfOk result (λ s. s.places ≡ no_allocs vregs watched.now) }
         ensures slots { IfOk result (λ s. (let sizes = (F.function f.now).slot_sizes in
             s.slots ≡ no_slots vregs (slot_size sizes RegClass.Int ∷ slot_size sizes RegClass.Float ∷ slot_size sizes RegClass.Vector ∷
             []) (F.function f.now).named_by_last_slot)) }
@@ -59,7 +60,7 @@ impl<'a, A: Allocator> State<'a, A> {
             f.spillslot_size(RegClass::Float),
             f.spillslot_size(RegClass::Vector),
         ];
-        let places = VRegAllocs::new(alloc, vregs)?;
+        let places = VRegAllocs::new(alloc, vregs, watched)?;
         let slots = SpillSlots::new(alloc, vregs, sizes, f.multi_spillslot_named_by_last_slot())?;
         let registers = AllocatableRegs::new(alloc, env)?;
         let edits = Edits::with_capacity(alloc, f.num_insts())?;

@@ -6,6 +6,7 @@ use Rattle.std.proofs.lemmas.Bool.{cases_Bool, cases_eq, cases_lt}
 use Rattle.std.proofs.lemmas.Bool.Decides.{Decides-eqb}
 use Rattle.std.proofs.lemmas.List.{get_or_default}
 use Rattle.regalloc2_index.proofs.Numbers.{below_or_last}
+use Rattle.regalloc2_names.specs.declared.OperandPos.{OperandPos}
 use Rattle.regalloc2_names.specs.Register.{VirtualRegister, no_vreg}
 use Rattle.regalloc2_function.specs.FunctionValue.{FunctionValue, block_at, inst_at}
 use Rattle.regalloc2_names.specs.Operand.{OperandValue, is_def}
@@ -20,14 +21,14 @@ use Rattle.regalloc2_shape.specs.TableLength.{HasRoom}
 use Rattle.regalloc2_analysis.specs.declared.live_ranges.LiveRange.{LiveRange}
 use Rattle.regalloc2_analysis.specs.declared.live_ranges.ends.RangeEnd.{RangeEnd}
 use Rattle.regalloc2_analysis.specs.LiveRanges.LiveRanges.{AreLiveRanges, IsDefiner, IsLiveRange, IsSSA, range_at}
-use Rattle.regalloc2_analysis.specs.LiveRanges.LastUses.{EndsFrom, EndsUse, NotesPassed, NotesUses, UsesNumber, end_at, end_behind}
+use Rattle.regalloc2_analysis.specs.LiveRanges.LastUses.{EndsFrom, NotesPassed, NotesUses, ReadsNumber, UsesNumber, end_at, end_behind}
 use Rattle.regalloc2_analysis.specs.LiveRanges.LastUses.UsesNumber.{reads, passes}
 use Rattle.regalloc2_analysis.specs.LiveRanges.Slots.{spread}
-use Rattle.regalloc2_analysis.specs.LiveRanges.WalkInvariant.{AreEndsFrom, AreRight, AreRangesWalked, NamesNoAsked, Stay, begin_of}
+use Rattle.regalloc2_analysis.specs.LiveRanges.WalkInvariant.{AddsNothing, AreEndsFrom, AreRight, AreRangesWalked, Stay, begin_of}
 use Rattle.regalloc2_analysis.proofs.LiveRangesLemmas.ItemsPastEnd.{op_is}
 use Rattle.regalloc2_analysis.proofs.LiveRangesLemmas.Spread.{spread_length, spread_nothing}
-use Rattle.regalloc2_analysis.proofs.LiveRangesLemmas.UsesNoted.{ends_more, notes_nothing, passed_here, uses_passed}
-use Rattle.regalloc2_analysis.proofs.LiveRangesLemmas.UsesInSSA.{definer_small, defines_number, made_by_definition, made_by_parameter, parameter_small}
+use Rattle.regalloc2_analysis.proofs.LiveRangesLemmas.UsesNoted.{ends_more, ends_same, passed_here, uses_passed}
+use Rattle.regalloc2_analysis.proofs.LiveRangesLemmas.UsesInSSA.{definer_small, made_by_definition, made_by_parameter, parameter_small}
 use Rattle.regalloc2_analysis.proofs.LiveRangesLemmas.FirstAndLastPoints.{is_used, range_of_definition, range_of_parameter, used_ends}
 
 -- an entry is written
@@ -190,26 +191,21 @@ walked_inst f Asked i b ends ends' ranges ranges' w long longs noted right stay 
   taken = λ v c j le lt asked has used. stay v.number (w.taken v c j le lt asked has used);
 }
 
--- nothing requested is used or defined by an instruction whose operands name none, unless it is the last one of its block
-unused_here : (f : FunctionValue) → BlocksFollow f → (Asked : ℕ → Type 0) (b i n : ℕ) → b < length f.blocks → (block_at f b).range.first ≤ i →
-    i < (block_at f b).range.end → i + 1 ≢ (block_at f b).range.end → NamesNoAsked f Asked i → Asked n → UsesNumber f n i → ⊥
-unused_here f follow Asked b i n lt from upto inside none asked (reads at k less r) =
-    none k r.within (subst Asked (sym r.number) asked)
-unused_here f follow Asked b i n lt from upto inside none asked (passes p) = inside (passed_here f follow b i n lt from upto p).0
-
-undefined_here : (f : FunctionValue) (Asked : ℕ → Type 0) (i : ℕ) (v : VirtualRegister) → NamesNoAsked f Asked i → Asked v.number → DefinesAt f v i → ⊥
-undefined_here f Asked i v none asked d =
-    let n = defines_number f v i d in none d.1.0 n.operand (subst Asked (sym n.number) asked)
+-- an instruction that adds nothing uses a requested number only if a later one does, unless it is the last one of its block
+used_later : (f : FunctionValue) → BlocksFollow f → (Asked : ℕ → Type 0) (b i n : ℕ) → b < length f.blocks → (block_at f b).range.first ≤ i →
+    i < (block_at f b).range.end → i + 1 ≢ (block_at f b).range.end → AddsNothing f Asked i → Asked n →
+    ((j : ℕ) → i < j → UsesNumber f n j → ⊥) → UsesNumber f n i → ⊥
+used_later f follow Asked b i n lt from upto inside adds asked none (reads at k less r) = adds.reads n at k asked r none
+used_later f follow Asked b i n lt from upto inside adds asked none (passes p) = inside (passed_here f follow b i n lt from upto p).0
 
 -- so the walk passes over it
 pub walked_over : (f : FunctionValue) → BlocksFollow f → (Asked : ℕ → Type 0) (b c i : ℕ) (ends : List (Option RangeEnd)) (ranges : List (Option LiveRange)) →
-    b < length f.blocks → (block_at f b).range.first ≤ i → i < (block_at f b).range.end → i + 1 ≢ (block_at f b).range.end → NamesNoAsked f Asked i →
+    b < length f.blocks → (block_at f b).range.first ≤ i → i < (block_at f b).range.end → i + 1 ≢ (block_at f b).range.end → AddsNothing f Asked i →
     AreRangesWalked f Asked (i + 1) c ends ranges → AreRangesWalked f Asked i c ends ranges
-walked_over f follow Asked b c i ends ranges lt from upto inside none w =
+walked_over f follow Asked b c i ends ranges lt from upto inside adds w =
     walked_inst f Asked i c ends ends ranges ranges w refl refl
-    (λ n less asked. ends_more f i n (end_at ends n) (end_at ends n) (w.noted n less asked)
-    (notes_nothing (UsesNumber f n i) (EndsUse f n i) (end_at ends n) (unused_here f follow Asked b i n lt from upto inside none asked)))
-    w.right (λ n some. some) (λ v asked d. absurd (undefined_here f Asked i v none asked d))
+    (λ n less asked. ends_same f i n (end_at ends n) (used_later f follow Asked b i n lt from upto inside adds asked) (w.noted n less asked))
+    w.right (λ n some. some) (λ v asked d. absurd (adds.defines v asked d))
 
 -- its uses are noted
 pub noted_more : (f : FunctionValue) (Asked : ℕ → Type 0) (i : ℕ) (ends ends' : List (Option RangeEnd)) → AreEndsFrom f Asked (i + 1) ends →
@@ -217,18 +213,25 @@ pub noted_more : (f : FunctionValue) (Asked : ℕ → Type 0) (i : ℕ) (ends en
 noted_more f Asked i ends ends' h long uses n lt asked = let less : n < length ends = omega (arith, lt, long) in
     ends_more f i n (end_at ends n) (end_at ends' n) (h n less asked) (uses n less asked)
 
--- the last instruction of a block, whose operands name nothing requested: only what it passes is noted
+-- an instruction that adds nothing reads no requested number that has no later use
+unread_here : (f : FunctionValue) (Asked : ℕ → Type 0) (i n : ℕ) (o : Option RangeEnd) → AddsNothing f Asked i → Asked n → EndsFrom f (i + 1) n o → o ≡ None →
+    (at : OperandPos) (k : ℕ) → ReadsNumber (inst_at f i).operands n at k → ⊥
+unread_here f Asked i n o adds asked ends none at k r =
+    let past : EndsFrom f (i + 1) n None = subst (EndsFrom f (i + 1) n) none ends in
+    adds.reads n at k asked r (λ j lt u. past j (omega (arith, lt)) u)
+
+-- the last instruction of a block, which adds nothing but what it passes: only that is noted
 pub walked_last : (f : FunctionValue) → BlocksFollow f → (Asked : ℕ → Type 0) (b c i : ℕ) (ends ends' : List (Option RangeEnd))
     (ranges : List (Option LiveRange)) → b < length f.blocks → (block_at f b).range.first ≤ i → i < length f.insts → i + 1 ≡ (block_at f b).range.end →
-    NamesNoAsked f Asked i → length ends' ≡ length ends
+    AddsNothing f Asked i → length ends' ≡ length ends
     → ((n : ℕ) → n < length ends → Asked n → NotesPassed f b i (length (block_at f b).succs) n (end_at ends n) (end_at ends' n)) →
     AreRangesWalked f Asked (i + 1) c ends ranges → AreRangesWalked f Asked i c ends' ranges
-walked_last f follow Asked b c i ends ends' ranges lt from within end none long passed w =
+walked_last f follow Asked b c i ends ends' ranges lt from within end adds long passed w =
     walked_inst f Asked i c ends ends' ranges ranges w long refl
     (noted_more f Asked i ends ends' w.noted long (λ n less asked. uses_passed f follow b i n
     (record { block = lt; from = from; upto = omega (arith, end); inst = within }) (end_at ends n) (end_at ends' n) end
-    (λ at k r. none k r.within (subst Asked (sym r.number) asked)) (passed n less asked)))
-    w.right (λ n some. some) (λ v asked d. absurd (undefined_here f Asked i v none asked d))
+    (unread_here f Asked i n (end_at ends n) adds asked (w.noted n less asked)) (passed n less asked)))
+    w.right (λ n some. some) (λ v asked d. absurd (adds.defines v asked d))
 
 -- one block's beginning more
 pub walked_block : (f : FunctionValue) (Asked : ℕ → Type 0) (i b : ℕ) (ends : List (Option RangeEnd)) (ranges ranges' : List (Option LiveRange)) →

@@ -225,17 +225,15 @@ module _ (f : FunctionValue) (follow : BlocksFollow f) (b i n : ℕ) (stands : S
       (notes_nothing (PassesNumber f n i) (λ e. PassesNumber f n i × (e ≡ end_of_argument i)) new
       (λ s. never (passed_here f follow b i n stands.block stands.from stands.upto s).0))
 
-  -- at a block's last instruction, if no operand reads the number
+  -- at a block's last instruction, if no operand reads the number or a later use is noted
   pub uses_passed : (old new : Option RangeEnd) → i + 1 ≡ (block_at f b).range.end →
-      ((at : OperandPos) (k : ℕ) → ReadsNumber (inst_at f i).operands n at k → ⊥) → NotesPassed f b i (length (block_at f b).succs) n old new →
-      NotesUses f i n old new
-  uses_passed old new end unread p = uses_last old old old new end (unnoted Late) (unnoted Early) p
+      (old ≡ None → (at : OperandPos) (k : ℕ) → ReadsNumber (inst_at f i).operands n at k → ⊥) →
+      NotesPassed f b i (length (block_at f b).succs) n old new → NotesUses f i n old new
+  uses_passed (Some e) new end unread p = p
+  uses_passed None new end unread p = uses_last None None None new end (unnoted Late) (unnoted Early) p
     where
-      unnoted : (at : OperandPos) → NotesReads at i (inst_at f i).operands (length (inst_at f i).operands) n old old
-      unnoted at =
-          notes_nothing ((k : ℕ) × (k < length (inst_at f i).operands) × ReadsNumber (inst_at f i).operands n at k)
-          (λ e. (k : ℕ) × (k < length (inst_at f i).operands) × ReadsFirst (inst_at f i).operands n at k × (e ≡ end_of_reader at i k)) old
-          (λ s. unread at s.0 s.2)
+      unnoted : (at : OperandPos) → NotesReads at i (inst_at f i).operands (length (inst_at f i).operands) n None None
+      unnoted at s = unread refl at s.0 s.2
 
 from_or_here : (i j : ℕ) → i ≤ j → (i ≡ j) ⊎ (i + 1 ≤ j)
 from_or_here i j le = grind arith
@@ -245,3 +243,9 @@ pub ends_more : (f : FunctionValue) (i n : ℕ) (old new : Option RangeEnd) → 
 ends_more f i n None None h k = λ j le u. elim (from_or_here i j le) [ inl same ↦ k (subst (UsesNumber f n) (sym same) u) | inr later ↦ h j later u ]
 ends_more f i n None (Some e) h k = (i, omega arith, k, λ m lt u. h m (omega (arith, lt)) u)
 ends_more f i n (Some d) new h k = subst (EndsFrom f i n) (sym k) (h.0, omega (arith, h.1), h.2, h.3)
+
+-- an instruction more that uses the number only if a later one does
+pub ends_same : (f : FunctionValue) (i n : ℕ) (o : Option RangeEnd) → (((j : ℕ) → i < j → UsesNumber f n j → ⊥) → UsesNumber f n i → ⊥) →
+    EndsFrom f (i + 1) n o → EndsFrom f i n o
+ends_same f i n None later h = ends_more f i n None None h (later (λ j lt u. h j (omega (arith, lt)) u))
+ends_same f i n (Some e) later h = (h.0, let past = h.1 in omega (arith, past), h.2, h.3)

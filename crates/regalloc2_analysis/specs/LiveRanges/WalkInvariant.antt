@@ -1,5 +1,6 @@
 -- What holds of both tables while the walk goes backward.
 use Rattle.std.specs.Prelude.{ℕ, ◌≡◌, ◌≢◌, ◌<◌, ◌≤◌, ◌⊎◌, List, length, slice_index_or, Contains, Option, None, Some, nat_eq, if◌then◌else◌}
+use Rattle.regalloc2_names.specs.declared.OperandPos.{OperandPos}
 use Rattle.regalloc2_names.specs.Register.{VirtualRegister}
 use Rattle.regalloc2_function.specs.FunctionValue.{FunctionValue, block_at, inst_at}
 use Rattle.regalloc2_function.specs.DebugPoints.{DefinesAt, UsesAt}
@@ -8,7 +9,7 @@ use Rattle.regalloc2_function.specs.FunctionValue.{op_at}
 use Rattle.regalloc2_analysis.specs.declared.live_ranges.ends.RangeEnd.{RangeEnd}
 use Rattle.regalloc2_analysis.specs.declared.live_ranges.LiveRange.{LiveRange}
 use Rattle.regalloc2_analysis.specs.LiveRanges.LiveRanges.{IsLiveRange, range_at}
-use Rattle.regalloc2_analysis.specs.LiveRanges.LastUses.{EndsFrom, end_at}
+use Rattle.regalloc2_analysis.specs.LiveRanges.LastUses.{EndsFrom, ReadsNumber, UsesNumber, end_at}
 
 -- each entry is the live range of a vreg of its number
 abbrev pub AreRight : FunctionValue → List (Option LiveRange) → Type 0
@@ -43,6 +44,18 @@ pub record AreNamers (f : FunctionValue) (Asked : ℕ → Type 0) (named : List 
   pub below : (j : ℕ) → j < many → slice_index_or named j 0 < i
   pub names : (j : ℕ) → j < many → NamesNoAsked f Asked (slice_index_or named j 0) → ⊥
   pub all : (k : ℕ) → k < i → NamesNoAsked f Asked k ⊎ ((j : ℕ) × (j < many) × (slice_index_or named j 0 ≡ k))
+
+-- an instruction adds nothing to the live ranges of requested numbers: it defines none of them, and each that its operands read is used later, too
+pub record AddsNothing (f : FunctionValue) (Asked : ℕ → Type 0) (i : ℕ) : Type 0 where
+  pub defines : (v : VirtualRegister) → Asked v.number → DefinesAt f v i → ⊥
+  pub reads : (n : ℕ) (at : OperandPos) (k : ℕ) → Asked n → ReadsNumber (inst_at f i).operands n at k → ((j : ℕ) → i < j → UsesNumber f n j → ⊥) → ⊥
+
+-- of the instructions below one, those that may add something are among the first so many of a list, in order; others may be among them
+pub record ListsAdding (f : FunctionValue) (Asked : ℕ → Type 0) (named : List ℕ) (many i : ℕ) : Type 0 where
+  pub within : many ≤ length named
+  pub rising : (j k : ℕ) → j < k → k < many → slice_index_or named j 0 < slice_index_or named k 0
+  pub below : (j : ℕ) → j < many → slice_index_or named j 0 < i
+  pub all : (k : ℕ) → k < i → AddsNothing f Asked k ⊎ ((j : ℕ) × (j < many) × (slice_index_or named j 0 ≡ k))
 
 -- where a block begins, and past the last block where the instructions end
 abbrev pub begin_of : FunctionValue → ℕ → ℕ

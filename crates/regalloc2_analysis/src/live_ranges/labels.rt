@@ -5,7 +5,7 @@ ghost use Rattle.regalloc2_function.specs.FunctionValue.{label_of};
 ghost use Rattle.regalloc2_function.specs.DebugPoints.{IsKept};
 ghost use Rattle.regalloc2_analysis.specs.LiveRanges.LiveRanges.{AreKeptLabels, AreLabelsMarked, AreLiveRanges, IsKeptRange, IsLabelled, IsSSA, IsWanted};
 ghost use Rattle.regalloc2_analysis.specs.LiveRanges.Slots.{spread};
-ghost use Rattle.regalloc2_analysis.specs.LiveRanges.WalkInvariant.{AreNamers};
+ghost use Rattle.regalloc2_analysis.specs.LiveRanges.WalkInvariant.{ListsAdding};
 
 use super::slots::entry;
 use super::walk::few_ranges;
@@ -64,21 +64,23 @@ fn keep_labels<A: Allocator + Copy, F: Function>(
 }
 
 /// Returns what [`kept_labels`] returns, from a table of the labelled vregs and a list of the
-/// instructions whose operands name some, in order.
+/// instructions that may add something to their live ranges, in order.
 ///
-/// For callers that pass over all operands anyway. `wanted` is that of [`marked_labels`]. Only the
-/// listed instructions and the last one of each block are read.
+/// For callers that pass over all operands anyway. `wanted` is that of [`marked_labels`]. `listed`
+/// has each instruction that defines a labelled vreg, and each whose operands read one that no
+/// later instruction reads or passes as an argument. It may have more. Only the listed instructions
+/// and the last one of each block are read.
 ///
 /// [`marked_labels`]: super::marked_labels
 pub fn kept_labels_by<A: Allocator + Copy, F: Function>(
     alloc: A,
     f: &F,
     wanted: &[bool],
-    named: &[u32],
+    listed: &[u32],
 ) -> Result<Vec<KeptLabel, A>, RegAllocError>
     requires ssa { IsSSA (F.function f.now) }
     requires marked { AreLabelsMarked (F.function f.now) wanted.now }
-    requires named { AreNamers (F.function f.now) (IsWanted wanted.now) named.now (length named.now) (length (F.function f.now).insts) }
+    requires listed { ListsAdding (F.function f.now) (IsWanted wanted.now) listed.now (length listed.now) (length (F.function f.now).insts) }
     ensures ok { IfOk result (λ ks. AreKeptLabels (F.function f.now) (F.function f.now).labels ks.items) }
     ensures none { (F.function f.now).labels ≡ [] → IsOk result }
     ensures err { IfErr result (λ e. e ≡ RegAllocError.Memory) }
@@ -86,7 +88,7 @@ pub fn kept_labels_by<A: Allocator + Copy, F: Function>(
     if f.debug_value_labels().is_empty() {
         return Ok(Vec::new(alloc));
     }
-    let few = few_ranges(alloc, f, wanted, named)?;
+    let few = few_ranges(alloc, f, wanted, listed)?;
     keep_labels(alloc, f, few.slots.as_slice(), few.entries.as_slice())
 }
 

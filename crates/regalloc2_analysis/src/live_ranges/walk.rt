@@ -5,7 +5,7 @@ ghost use Rattle.regalloc2_function.specs.FunctionValue.{block_at};
 ghost use Rattle.regalloc2_shape.specs.TableLength.{HasRoom};
 ghost use Rattle.regalloc2_analysis.specs.LiveRanges.LiveRanges.{AreLiveRanges, IsSSA, IsWanted};
 ghost use Rattle.regalloc2_analysis.specs.LiveRanges.Slots.{AreSlots, spread};
-ghost use Rattle.regalloc2_analysis.specs.LiveRanges.WalkInvariant.{AreNamers, AreRangesWalked};
+ghost use Rattle.regalloc2_analysis.specs.LiveRanges.WalkInvariant.{AreRangesWalked, ListsAdding};
 
 use super::LiveRange;
 use super::ends::{RangeEnd, note_passed, note_uses};
@@ -27,19 +27,19 @@ pub struct FewRanges<A: Allocator> {
 }
 
 // Whether an instruction is the last of so many that are listed.
-fn is_next(named: &[u32], many: usize, inst: Inst) -> bool
-    requires { many ≤ length named.now }
-    ensures { IsTrue result ↔ ((0 < many) × (slice_index_or named.now (many - 1) 0 ≡ inst)) }
+fn is_next(listed: &[u32], many: usize, inst: Inst) -> bool
+    requires { many ≤ length listed.now }
+    ensures { IsTrue result ↔ ((0 < many) × (slice_index_or listed.now (many - 1) 0 ≡ inst)) }
 {
-    many > 0 && named[many - 1] as usize == inst.index()
+    many > 0 && listed[many - 1] as usize == inst.index()
 }
 
 // Whether the last of so many listed instructions is another or comes after it.
-fn is_left(named: &[u32], many: usize, inst: Inst) -> bool
-    requires { many ≤ length named.now }
-    ensures { IsTrue result ↔ ((0 < many) × (inst ≤ slice_index_or named.now (many - 1) 0)) }
+fn is_left(listed: &[u32], many: usize, inst: Inst) -> bool
+    requires { many ≤ length listed.now }
+    ensures { IsTrue result ↔ ((0 < many) × (inst ≤ slice_index_or listed.now (many - 1) 0)) }
 {
-    many > 0 && named[many - 1] as usize >= inst.index()
+    many > 0 && listed[many - 1] as usize >= inst.index()
 }
 
 // Walks an instruction of a block: what it uses, then what it defines.
@@ -67,15 +67,15 @@ fn walk_inst<F: Function>(
     begin_at_defs(ranges, ends, slots, f, wanted, inst);
 }
 
-// Walks the last instruction of a block, whose operands may name no requested vreg. Returns how many
-// instructions are left of those that name some.
+// Walks the last instruction of a block. If it isn't listed, only the arguments that it passes are
+// noted. Returns how many listed instructions are left.
 fn walk_last<F: Function>(
     ends: &mut [Option<RangeEnd>],
     ranges: &mut [Option<LiveRange>],
     slots: &[u32],
     f: &F,
     wanted: &[bool],
-    named: &[u32],
+    listed: &[u32],
     many: usize,
     block: Block,
     last: Inst,
@@ -85,14 +85,14 @@ fn walk_last<F: Function>(
     requires last { last + 1 ≡ (block_at (F.function f.now) block).range.end }
     requires ends_slots { AreSlots wanted.now slots.now (length ends.old) }
     requires ranges_slots { AreSlots wanted.now slots.now (length ranges.old) }
-    requires named { AreNamers (F.function f.now) (IsWanted wanted.now) named.now many (last + 1) }
+    requires listed { ListsAdding (F.function f.now) (IsWanted wanted.now) listed.now many (last + 1) }
     requires walked { AreRangesWalked (F.function f.now) (IsWanted wanted.now) (last + 1) (block + 1)
         (spread slots.now ends.old) (spread slots.now ranges.old) }
-    ensures named { AreNamers (F.function f.now) (IsWanted wanted.now) named.now result last }
+    ensures listed { ListsAdding (F.function f.now) (IsWanted wanted.now) listed.now result last }
     ensures walked { AreRangesWalked (F.function f.now) (IsWanted wanted.now) last (block + 1)
         (spread slots.now ends.new) (spread slots.now ranges.new) }
 {
-    if is_next(named, many, last) {
+    if is_next(listed, many, last) {
         walk_inst(ends, ranges, slots, f, wanted, block, last);
         return many - 1;
     }
@@ -100,15 +100,15 @@ fn walk_last<F: Function>(
     many
 }
 
-// Walks the instructions of a block that name a requested vreg, and the last one. Returns how many
-// are left of those that name some.
+// Walks the listed instructions of a block, and the last one. Returns how many listed instructions
+// are left.
 fn walk_insts<F: Function>(
     ends: &mut [Option<RangeEnd>],
     ranges: &mut [Option<LiveRange>],
     slots: &[u32],
     f: &F,
     wanted: &[bool],
-    named: &[u32],
+    listed: &[u32],
     many: usize,
     block: Block,
 ) -> usize
@@ -116,20 +116,20 @@ fn walk_insts<F: Function>(
     requires block { block < length (F.function f.now).blocks }
     requires ends_slots { AreSlots wanted.now slots.now (length ends.old) }
     requires ranges_slots { AreSlots wanted.now slots.now (length ranges.old) }
-    requires named { AreNamers (F.function f.now) (IsWanted wanted.now) named.now many (block_at (F.function f.now) block).range.end }
+    requires listed { ListsAdding (F.function f.now) (IsWanted wanted.now) listed.now many (block_at (F.function f.now) block).range.end }
     requires walked { AreRangesWalked (F.function f.now) (IsWanted wanted.now) (block_at (F.function f.now) block).range.end (block + 1)
         (spread slots.now ends.old) (spread slots.now ranges.old) }
-    ensures named { AreNamers (F.function f.now) (IsWanted wanted.now) named.now result (block_at (F.function f.now) block).range.first }
+    ensures listed { ListsAdding (F.function f.now) (IsWanted wanted.now) listed.now result (block_at (F.function f.now) block).range.first }
     ensures walked { AreRangesWalked (F.function f.now) (IsWanted wanted.now) (block_at (F.function f.now) block).range.first (block + 1)
         (spread slots.now ends.new) (spread slots.now ranges.new) }
 {
     let range = f.block_insns(block);
     let first = range.first();
     let last = Inst::new(range.end().index() - 1);
-    let mut left = walk_last(ends, ranges, slots, f, wanted, named, many, block, last);
-    while is_left(named, left, first) {
+    let mut left = walk_last(ends, ranges, slots, f, wanted, listed, many, block, last);
+    while is_left(listed, left, first) {
         left -= 1;
-        let inst = Inst::new(named[left] as usize);
+        let inst = Inst::new(listed[left] as usize);
         walk_inst(ends, ranges, slots, f, wanted, block, inst);
     }
     left
@@ -142,35 +142,39 @@ fn walk_blocks<F: Function>(
     slots: &[u32],
     f: &F,
     wanted: &[bool],
-    named: &[u32],
+    listed: &[u32],
 )
     requires ssa { IsSSA (F.function f.now) }
     requires room { HasRoom (F.function f.now) (length slots.now) }
     requires slots { AreSlots wanted.now slots.now (length ends.old) }
-    requires named { AreNamers (F.function f.now) (IsWanted wanted.now) named.now (length named.now) (length (F.function f.now).insts) }
+    requires listed { ListsAdding (F.function f.now) (IsWanted wanted.now) listed.now (length listed.now) (length (F.function f.now).insts) }
     requires no_ends { ends.old ≡ replicate (length ends.old) None }
     requires no_ranges { ranges.old ≡ replicate (length ends.old) None }
     ensures { AreLiveRanges (F.function f.now) (IsWanted wanted.now) (spread slots.now ranges.new) }
 {
     let mut b = f.num_blocks();
-    let mut many = named.len();
+    let mut many = listed.len();
     while b > 0 {
         b -= 1;
         let block = Block::new(b);
-        many = walk_insts(ends, ranges, slots, f, wanted, named, many, block);
+        many = walk_insts(ends, ranges, slots, f, wanted, listed, many, block);
         begin_at_params(ranges, ends, slots, f, wanted, block);
     }
 }
 
 /// The live ranges of the requested vregs, in tables as long as the number of these vregs.
+///
+/// Only the listed instructions and the last one of each block are read. An instruction that isn't
+/// listed adds nothing: it defines no requested vreg, and each that its operands read is used later,
+/// too.
 pub fn few_ranges<A: Allocator + Copy, F: Function>(
     alloc: A,
     f: &F,
     wanted: &[bool],
-    named: &[u32],
+    listed: &[u32],
 ) -> Result<FewRanges<A>, AllocError>
     requires ssa { IsSSA (F.function f.now) }
-    requires named { AreNamers (F.function f.now) (IsWanted wanted.now) named.now (length named.now) (length (F.function f.now).insts) }
+    requires listed { ListsAdding (F.function f.now) (IsWanted wanted.now) listed.now (length listed.now) (length (F.function f.now).insts) }
     ensures ok { IfOk result (λ r. AreLiveRanges (F.function f.now) (IsWanted wanted.now) (spread r.slots.items r.entries.items)) }
     ensures few { IfOk result (λ r. length r.slots.items ≤ (F.function f.now).num_vregs) }
 {
@@ -183,7 +187,7 @@ pub fn few_ranges<A: Allocator + Copy, F: Function>(
         slots.as_slice(),
         f,
         wanted,
-        named,
+        listed,
     );
     Ok(FewRanges { slots, entries })
 }

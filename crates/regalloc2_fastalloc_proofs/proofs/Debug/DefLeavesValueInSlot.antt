@@ -32,7 +32,8 @@ use Rattle.regalloc2_fastalloc_proofs.proofs.Operands.AllOperands.{LaidAt, laid_
 use Rattle.regalloc2_fastalloc_proofs.proofs.Moves.StepsAppendEdits.{Pushes, none_pushed, pushes_then}
 use Rattle.regalloc2_fastalloc_proofs.proofs.Slots.StepsKeepSlots.{Grown, grown_then, changes_grow, AnyPlace}
 use Rattle.regalloc2_fastalloc_proofs.proofs.Changes.InstChanges.{free_operand, adds_move_if_changes, processes_operand_changes, frees_alloc_changes}
-use Rattle.regalloc2_fastalloc_proofs.proofs.Debug.UnnamedStaysUnlocated.{Absent, processes_operand_out, changes_out, whole_absent, defined_absent}
+use Rattle.regalloc2_fastalloc_proofs.specs.Located.{Absent}
+use Rattle.regalloc2_fastalloc_proofs.proofs.Debug.UnnamedStaysUnlocated.{processes_operand_out, changes_out, whole_absent, defined_absent}
 use Rattle.regalloc2_fastalloc_proofs.proofs.Debug.DefStoresIntoSlot.{Off, allocs_operand_whole, allocs_operand_off, locates_use_off, frees_alloc_off, frees_alloc_into}
 use Rattle.regalloc2_fastalloc_proofs.proofs.Debug.DefStoresIntoSlot.{off_none, moves_of}
 use Rattle.regalloc2_fastalloc_proofs.proofs.Operands.BlockTail.{tail_of}

@@ -29,7 +29,8 @@ use Rattle.regalloc2_fastalloc_proofs.proofs.Moves.StepsAppendEdits.{pushes_then
 use Rattle.regalloc2_fastalloc_proofs.proofs.Slots.StepsKeepSlots.{Grown, grown_then, changes_grow, AnyPlace}
 use Rattle.regalloc2_fastalloc_proofs.proofs.Changes.InstChanges.{free_operand, processes_operands_at_changes, moves_uses_changes}
 use Rattle.regalloc2_fastalloc_proofs.proofs.Inst.OneInstCarries.{Between, Alone, alone, carried_nil, Needed}
-use Rattle.regalloc2_fastalloc_proofs.proofs.Debug.UnnamedStaysUnlocated.{Absent, out_then, processes_operands_at_out, changes_out, whole_absent}
+use Rattle.regalloc2_fastalloc_proofs.specs.Located.{Absent}
+use Rattle.regalloc2_fastalloc_proofs.proofs.Debug.UnnamedStaysUnlocated.{out_then, processes_operands_at_out, changes_out, whole_absent}
 use Rattle.regalloc2_fastalloc_proofs.proofs.Debug.DefStoresIntoSlot.{Off, evicts_fixed_off, evicts_each_off, off_none}
 use Rattle.regalloc2_fastalloc_proofs.proofs.Debug.DefLeavesValueInSlot.{Into, Bare, Full, before_off, pass_into, other_number, slotted}
 use Rattle.regalloc2_fastalloc_proofs.proofs.Operands.BlockTail.{tail_of}

@@ -18,7 +18,8 @@ use Rattle.regalloc2_fastalloc_proofs.specs.InstSteps.LocatesUse.{stays as use_s
 use Rattle.regalloc2_fastalloc_proofs.proofs.Safety.StepsKeepState.{place_in, slot_in}
 use Rattle.regalloc2_fastalloc_proofs.proofs.Operands.RecordOfInst.{Orderly}
 use Rattle.regalloc2_fastalloc_proofs.proofs.Operands.UsesAndPlainDefs.{reads_no_fixed, use_number}
-use Rattle.regalloc2_fastalloc_proofs.proofs.Debug.UnnamedStaysUnlocated.{Absent, out_then, changes_absent, changes_out, processes_operands_at_out}
+use Rattle.regalloc2_fastalloc_proofs.specs.Located.{Absent}
+use Rattle.regalloc2_fastalloc_proofs.proofs.Debug.UnnamedStaysUnlocated.{out_then, changes_absent, changes_out, processes_operands_at_out}
 use Rattle.regalloc2_fastalloc_proofs.proofs.Debug.LocatedStaysOrHasSlot.{Holds, changes_hold, processes_operand_hold}
 use Rattle.regalloc2_fastalloc_proofs.proofs.Changes.InstChanges.{allocs_operand_changes, moves_uses_changes, evicts_fixed_changes, evicts_each_changes}
 

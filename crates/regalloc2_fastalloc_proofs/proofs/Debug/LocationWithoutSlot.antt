@@ -19,7 +19,8 @@ use Rattle.regalloc2_fastalloc_proofs.proofs.Slots.StepsKeepSlots.{Grown, grown_
 use Rattle.regalloc2_fastalloc_proofs.proofs.Safety.StateKept.{ends_in_branch}
 use Rattle.regalloc2_fastalloc_proofs.proofs.Walk.InstBoundaries.{IsEdge, grown_weaken, edge_next}
 use Rattle.regalloc2_fastalloc_proofs.proofs.Walk.LastInstAndRest.{listed_behind}
-use Rattle.regalloc2_fastalloc_proofs.proofs.Debug.UnnamedStaysUnlocated.{Absent, IsUnpassed, allocs_inst_in_block_out, begins_block_absent}
+use Rattle.regalloc2_fastalloc_proofs.specs.Located.{Absent}
+use Rattle.regalloc2_fastalloc_proofs.proofs.Debug.UnnamedStaysUnlocated.{IsUnpassed, allocs_inst_in_block_out, begins_block_absent}
 use Rattle.regalloc2_fastalloc_proofs.proofs.Debug.LocatedStaysOrHasSlot.{Holds, hold_then, allocs_inst_hold, branch_hold}
 use Rattle.regalloc2_fastalloc_proofs.proofs.Debug.InstWithinWalk.{Met, IsBefore}
 use Rattle.regalloc2_fastalloc_proofs.proofs.Debug.LocationBeforeFirstRead.{ComesFirst, reads_at}

@@ -35,7 +35,7 @@ use Rattle.regalloc2_fastalloc_proofs.proofs.Safety.BranchArgsKeepState.{process
 use Rattle.regalloc2_fastalloc_proofs.proofs.Walk.InstForOneVReg.{needed_parts, parts_needed}
 use Rattle.regalloc2_fastalloc_proofs.proofs.Inst.ProperInsts.{all_proper, proper_of}
 use Rattle.regalloc2_fastalloc_proofs.specs.Debug.SlotHoldsValue.{ShowsAt}
-use Rattle.regalloc2_fastalloc_proofs.proofs.Debug.UnnamedStaysUnlocated.{Absent}
+use Rattle.regalloc2_fastalloc_proofs.specs.Located.{Absent}
 use Rattle.regalloc2_fastalloc_proofs.proofs.Debug.SlotHoldsDefinedValue.{branch, rising, met_at, listed_at, allocated, by_itself, from_nowhere, front_of}
 use Rattle.regalloc2_fastalloc_proofs.proofs.Debug.InstOnPath.{Fronts, front, onward_front, carried_on, behind, moves_on}
 use Rattle.regalloc2_fastalloc_proofs.proofs.Debug.SlotHoldsToUses.{IsPlain, start_path, goes_live, goes_source}

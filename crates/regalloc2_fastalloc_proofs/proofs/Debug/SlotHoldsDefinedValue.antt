@@ -47,7 +47,8 @@ use Rattle.regalloc2_fastalloc_proofs.proofs.Safety.BranchArgsKeepState.{process
 use Rattle.regalloc2_fastalloc_proofs.proofs.Walk.AllBlocksCarry.{begin_between, first_edge}
 use Rattle.regalloc2_fastalloc_proofs.proofs.Inst.ProperInsts.{all_proper, proper_of}
 use Rattle.regalloc2_fastalloc_proofs.specs.Debug.SlotHoldsValue.{ShowsAt}
-use Rattle.regalloc2_fastalloc_proofs.proofs.Debug.UnnamedStaysUnlocated.{Absent, whole_absent}
+use Rattle.regalloc2_fastalloc_proofs.specs.Located.{Absent}
+use Rattle.regalloc2_fastalloc_proofs.proofs.Debug.UnnamedStaysUnlocated.{whole_absent}
 use Rattle.regalloc2_fastalloc_proofs.proofs.Debug.InstOnPath.{Fronts, entered_front, onward_front, carried_on, behind, front, moves_on}
 use Rattle.regalloc2_fastalloc_proofs.proofs.Debug.PathStepLeaves.{read_shows}
 use Rattle.regalloc2_fastalloc_proofs.proofs.Debug.SlotAfterWalk.{DefinedShows, moves_where, own_alone}

@@ -1,7 +1,7 @@
 -- A number that has no location, and that nothing in the walked part names, stays without a location, and its slot stays.
 use Rattle.std.proofs.Common.{ℕ, ◌≡◌, ◌≢◌, ◌<◌, ◌≤◌, inl, inr, Bool, true, List, length, refl, sym, ap, ◌∙◌, arith}
 use Rattle.std.specs.Prelude.{None, Some, slice_index_or}
-use Rattle.regalloc2_names.specs.Register.{Register, VirtualRegister, no_vreg}
+use Rattle.regalloc2_names.specs.Register.{VirtualRegister, no_vreg}
 use Rattle.regalloc2_names.specs.Operand.{OperandValue, is_late}
 use Rattle.regalloc2_names.specs.Place.{Place, NoPlace, InRegister}
 use Rattle.regalloc2_function.specs.FunctionValue.{FunctionValue, block_at, inst_at, op_at}
@@ -13,6 +13,7 @@ use Rattle.regalloc2_fastalloc_state.specs.declared.inst_regs.InstRegs.{InstRegs
 use Rattle.regalloc2_fastalloc_proofs.specs.InstSteps.{StateValue, FreesAlloc, ProcessesOperand, ProcessesOperandsAt}
 use Rattle.regalloc2_fastalloc_proofs.specs.StoreSteps.{IsConcerned}
 use Rattle.regalloc2_fastalloc_proofs.specs.BlockSteps.{AllocsInstInBlock, BeginsBlock}
+use Rattle.regalloc2_fastalloc_proofs.specs.Located.{Absent}
 use Rattle.regalloc2_analysis.specs.BranchDefs.BranchDefs.{IsEdgeInto}
 use Rattle.regalloc2_fastalloc_proofs.proofs.Evictions.PushedAndRemoved.{sets_alloc_empties}
 use Rattle.regalloc2_fastalloc_proofs.specs.Safety.{IsWhole}
@@ -24,14 +25,9 @@ use Rattle.regalloc2_fastalloc_proofs.proofs.Changes.InstChanges.{MayBePlaced, p
 use Rattle.regalloc2_fastalloc_proofs.proofs.Changes.WalkChanges.{allocs_inst_in_block_changes, begins_block_changes}
 
 module _ (x : ℕ) where
-  -- the number has no location, and no register holds it
-  pub record Absent (t : StateValue) : Type 0 where
-    pub nowhere : alloc_of t.places x ≡ NoPlace
-    pub unheld : (r : Register) (v : VirtualRegister) → r.number < 64 → vreg_of_preg t.places r ≡ Some v → v.number ≢ x
-
   -- the number is still absent, and its slot is unchanged
   abbrev pub StaysOut : StateValue → StateValue → Type 0
-  StaysOut old new = Absent old → Absent new × (slot_name new.slots x ≡ slot_name old.slots x)
+  StaysOut old new = Absent x old → Absent x new × (slot_name new.slots x ≡ slot_name old.slots x)
 
   -- vregs other than x
   abbrev pub Other : VirtualRegister → Type 0
@@ -61,14 +57,14 @@ module _ (x : ℕ) where
   names_set (move e) h = tt
 
   -- locations stay
-  absent_still : (old new : StateValue) → new.places ≡ old.places → Absent old → Absent new
+  absent_still : (old new : StateValue) → new.places ≡ old.places → Absent x old → Absent x new
   absent_still old new places a = record {
     nowhere = ap (λ (p : VRegAllocsValue). alloc_of p x) places ∙ a.nowhere;
     unheld = λ r v small held. a.unheld r v small (ap (λ (p : VRegAllocsValue). vreg_of_preg p r) (sym places) ∙ held);
   }
 
   -- another one's location is set
-  absent_settled : (old new : StateValue) (v : VirtualRegister) (p : Place) → SetsAlloc old.places new.places v p → Other v → Absent old → Absent new
+  absent_settled : (old new : StateValue) (v : VirtualRegister) (p : Place) → SetsAlloc old.places new.places v p → Other v → Absent x old → Absent x new
   absent_settled old new v p z ne a = record {
     nowhere = z.others x (λ e. ne (sym e)) ∙ a.nowhere;
     unheld = λ r w small held. elim (settled_holder old.places new.places v w p r small z held) [
@@ -78,7 +74,7 @@ module _ (x : ℕ) where
   }
 
   -- any change that doesn't give it a location keeps it absent
-  one_absent : (old new : StateValue) → Change Sets old new → Absent old → Absent new
+  one_absent : (old new : StateValue) → Change Sets old new → Absent x old → Absent x new
   one_absent old new (evicted r v s lt held gives settles edits machine) a = absent_settled old new v s settles (a.unheld r v lt held) a
   one_absent old new (slot_given v s may gives places edits machine) a = absent_still old new places a
   one_absent old new (spilled v s may away gives settles edits machine) a = absent_settled old new v s settles may a
@@ -93,7 +89,7 @@ module _ (x : ℕ) where
   other_slot old new v s g ne = g.others x (λ e. ne (sym e))
 
   -- and keeps its slot, if it doesn't give it one
-  one_slot : (old new : StateValue) → Change Names old new → Absent old → slot_name new.slots x ≡ slot_name old.slots x
+  one_slot : (old new : StateValue) → Change Names old new → Absent x old → slot_name new.slots x ≡ slot_name old.slots x
   one_slot old new (evicted r v s lt held gives settles edits machine) a = other_slot old.slots new.slots v s gives (a.unheld r v lt held)
   one_slot old new (slot_given v s may gives places edits machine) a = other_slot old.slots new.slots v s gives may
   one_slot old new (spilled v s may away gives settles edits machine) a = other_slot old.slots new.slots v s gives may
@@ -104,7 +100,7 @@ module _ (x : ℕ) where
   one_slot old new (temps_added inst_regs class given made o) a = ap (λ (l : List Place). slice_index_or l x NoPlace) o.lends.2.vreg_spillslots
   one_slot old new (registers_used e) a = ap (λ (t : StateValue). slot_name t.slots x) e
 
-  pub changes_absent : {old new : StateValue} → Changes Sets old new → Absent old → Absent new
+  pub changes_absent : {old new : StateValue} → Changes Sets old new → Absent x old → Absent x new
   changes_absent = changes_keep (record { same = λ t a. a; over = λ a b c f g h. g (f h); each = one_absent })
 
   -- two steps keep x absent if each does
@@ -146,8 +142,8 @@ module _ (x : ℕ) where
 
   -- it stays absent over a block's start, whatever is stored
   pub begins_block_absent : (f : FunctionValue) (b : ℕ) (old new : StateValue) →
-      ((k : ℕ) → k < length (block_at f b).params → (slice_index_or (block_at f b).params k no_vreg).number ≢ x) → BeginsBlock f b old new → Absent old
-      → Absent new
+      ((k : ℕ) → k < length (block_at f b).params → (slice_index_or (block_at f b).params k no_vreg).number ≢ x) → BeginsBlock f b old new → Absent x old
+      → Absent x new
   begins_block_absent f b old new ne h = changes_absent (begins_block_changes (record { moves = λ p q. tt; params = ne; stored = λ e k v edge is. tt }) h)
 
   -- an instruction of a block, and what a branch passes
@@ -168,7 +164,7 @@ module _ (x : ℕ) where
   processes_operand_out i ret ops k here there t u old new lt ne h = changes_out (processes_operand_changes (λ p q. tt) (other_placed ops k lt ne) h)
 
   -- a vreg that has no location in whole tables is absent
-  pub whole_absent : (t : StateValue) → IsWhole t → alloc_of t.places x ≡ NoPlace → Absent t
+  pub whole_absent : (t : StateValue) → IsWhole t → alloc_of t.places x ≡ NoPlace → Absent x t
   whole_absent t w none = record {
     nowhere = none;
     unheld = λ r v small held e. (let y : NoPlace ≡ InRegister r = sym none ∙ ap (alloc_of t.places) (sym e) ∙ w.holds r v small held in cc);
@@ -176,7 +172,7 @@ module _ (x : ℕ) where
 
   -- a vreg that is defined is absent from then on
   pub defined_absent : (point : ℕ) (v : VirtualRegister) (ret : Bool) (p : Place) (t u : InstRegs) (old new : StateValue) → v.number ≡ x →
-      (d : FreesAlloc point v ret p t u old new) → IsWhole old → Absent d.left
+      (d : FreesAlloc point v ret p t u old new) → IsWhole old → Absent x d.left
   defined_absent point v ret p t u old new same d w = record {
     nowhere = ap (alloc_of d.left.places) (sym same) ∙ d.settles.here;
     unheld = λ r y small held e. elim (settled_holder old.places d.left.places v y NoPlace r small d.settles held) [

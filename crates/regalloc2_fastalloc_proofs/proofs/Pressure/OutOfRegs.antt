@@ -183,7 +183,8 @@ pub record AreFresh (env : MachineValue) (old : StateValue) : Type 0 where
   pub owners : ℕ
   pub sizes : List ℕ
   pub by_last : Bool
-  pub nobody : old.places ≡ no_allocs vregs
+  pub watched : List Bool
+  pub nobody : old.places ≡ no_allocs vregs watched
   pub slots : old.slots ≡ no_slots owners sizes by_last
   pub none : old.edits ≡ []
   pub units : (c : RegClass) → 0 < units_of (no_slots owners sizes by_last) c

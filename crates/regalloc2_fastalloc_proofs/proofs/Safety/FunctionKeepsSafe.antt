@@ -74,7 +74,8 @@ pub record FreshWalk : Type 0 where
   pub m : ℕ
   pub sizes : List ℕ
   pub by_last : Bool
-  pub nobody : begin.places ≡ no_allocs n
+  pub watched : List Bool
+  pub nobody : begin.places ≡ no_allocs n watched
   pub slots : begin.slots ≡ no_slots m sizes by_last
   pub none : begin.edits ≡ []
   pub units : (c : RegClass) → 0 < units_of (no_slots m sizes by_last) c

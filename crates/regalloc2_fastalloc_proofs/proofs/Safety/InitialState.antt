@@ -15,7 +15,7 @@ use Rattle.regalloc2_semantics.proofs.Plain.{always, no_some}
 use Rattle.regalloc2_fastalloc_proofs.proofs.BlockEnd.NoMoveForOperand.{IsEmpty}
 
 -- no vreg has a location
-pub begun_empty : (t : StateValue) (n : ℕ) → t.places ≡ no_allocs n → IsEmpty t
+pub begun_empty : (t : StateValue) (n : ℕ) {watched : List Bool} → t.places ≡ no_allocs n watched → IsEmpty t
 begun_empty t n places = record {
   nowhere = λ k. ap (λ (p : VRegAllocsValue). alloc_of p k) places ∙ always n k NoPlace;
   nobody = λ r small. ap (λ (p : VRegAllocsValue). vreg_of_preg p r) places ∙ always 256 (bits_of_register r) None;
@@ -35,7 +35,7 @@ begun_machine env t allocatable fixed memory dedicated_scratch = record {
 
 -- no vreg has a location, no vreg has a slot, and no move is pushed
 pub begun_safe : (env : MachineValue) (Known : VirtualRegister → Type 0) (Writes : ℕ → VirtualRegister → ℕ → Type 0) (May : ℕ → Type 0) (t : StateValue)
-    (n m : ℕ) (sizes : List ℕ) (by_last : Bool) → t.places ≡ no_allocs n → t.slots ≡ no_slots m sizes by_last → t.edits ≡ [] →
+    (n m : ℕ) (sizes : List ℕ) (by_last : Bool) {watched : List Bool} → t.places ≡ no_allocs n watched → t.slots ≡ no_slots m sizes by_last → t.edits ≡ [] →
     ((c : RegClass) → 0 < units_of (no_slots m sizes by_last) c) → HasMachine env t → IsSafe env Known Writes May t
 begun_safe env Known Writes May t n m sizes by_last places slots none units machine =
     let e : IsEmpty t = begun_empty t n places in

@@ -85,7 +85,7 @@ module _ (f : FunctionValue) (Known : VirtualRegister → Type 0) (same : (v w :
 
 -- the initial tables
 begun_classed : (f : FunctionValue) (env : MachineValue) (Known : VirtualRegister → Type 0) (named : Bool) → KeepsOfClass env →
-    (t : StateValue) (n m : ℕ) (sizes : List ℕ) → t.places ≡ no_allocs n → t.slots ≡ no_slots m sizes named → t.edits ≡ []
+    (t : StateValue) (n m : ℕ) (sizes : List ℕ) {watched : List Bool} → t.places ≡ no_allocs n watched → t.slots ≡ no_slots m sizes named → t.edits ≡ []
     → ((c : RegClass) → 0 < units_of (no_slots m sizes named) c) → HasMachine env t → (Met : ℕ → RegClass → Type 0) → IsClassed Known named Met t
 begun_classed f env Known named kept t n m sizes places slots edits units machine Met =
     let e = begun_empty t n places in
@@ -106,7 +106,7 @@ begun_classed f env Known named kept t n m sizes places slots edits units machin
 -- the final state of the walk over a well-formed function
 pub walk_classed : {env : MachineValue} {f : FunctionValue} → KeepsOfClass env → IsLimited f → IsWellFormed env f → AreTaken f →
     {blank places : List Place} {begin last : StateValue} (n m : ℕ) (sizes : List ℕ) {named : Bool}
-    → begin.places ≡ no_allocs n → begin.slots ≡ no_slots m sizes named → begin.edits ≡ [] → ((c : RegClass) → 0 < units_of (no_slots m sizes named) c) →
+    → {watched : List Bool} → begin.places ≡ no_allocs n watched → begin.slots ≡ no_slots m sizes named → begin.edits ≡ [] → ((c : RegClass) → 0 < units_of (no_slots m sizes named) c) →
     HasMachine env begin → AllocsBlocks f blank begin 0 places last
     → IsClassed (Made f) named (BranchesFrom f 0) last
 walk_classed {env} {f} kept limited ok taken {blank} {places} {begin} {last} n m sizes {named} nobody slots none units machine walks =

@@ -26,7 +26,7 @@ use Rattle.regalloc2_fastalloc_proofs.proofs.Safety.StateKept.{made_below}
 use Rattle.regalloc2_fastalloc_proofs.proofs.Walk.InstsCarry.{Blank}
 
 -- fresh tables
-pub fresh_blank : (t : StateValue) (n : ℕ) (sizes : List ℕ) (by_last : Bool) → t.places ≡ no_allocs n → t.slots ≡ no_slots n sizes by_last → t.edits ≡ [] →
+pub fresh_blank : (t : StateValue) (n : ℕ) (sizes : List ℕ) (by_last : Bool) {watched : List Bool} → t.places ≡ no_allocs n watched → t.slots ≡ no_slots n sizes by_last → t.edits ≡ [] →
     ((c : RegClass) → 0 < units_of (no_slots n sizes by_last) c) → Blank t
 fresh_blank t n sizes by_last places slots none units = record {
   nowhere = λ k. ap (λ (p : VRegAllocsValue). alloc_of p k) places ∙ always n k NoPlace;

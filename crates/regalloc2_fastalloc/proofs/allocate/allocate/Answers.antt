@@ -1,4 +1,4 @@
-use Rattle.std.proofs.Common.{ℕ, ◌≡◌, Bool, List, map, length, sym, ap, ◌∙◌, subst, slice_index, slice_index_or}
+use Rattle.std.proofs.Common.{ℕ, ◌≡◌, List, map, length, sym, ap, ◌∙◌, subst, slice_index, slice_index_or}
 use Rattle.std.specs.Prelude.{replicate}
 use Rattle.std.specs.Vec.{with_items}
 use Rattle.std.proofs.lemmas.List.{with_items_is}
@@ -8,8 +8,7 @@ use Rattle.regalloc2_function.specs.Machine.{MachineValue}
 use Rattle.regalloc2_function.specs.OutputValue.{DebugLocation, MoveValue, OutputValue}
 use Rattle.regalloc2_function.specs.Stored.{location_of}
 use Rattle.regalloc2_function.specs.Views.{edit_of, machine_of}
-use Rattle.regalloc2_analysis.specs.LiveRanges.LiveRanges.{AreLabelsMarked, IsWanted}
-use Rattle.regalloc2_analysis.specs.LiveRanges.WalkInvariant.{AreNamers}
+use Rattle.regalloc2_analysis.specs.LiveRanges.LiveRanges.{AreLabelsMarked}
 use Rattle.regalloc2_fastalloc.specs.Promise.{IsAllocation}
 use Rattle.regalloc2_semantics.proofs.Plain.{always}
 use Rattle.regalloc2_fastalloc.proofs.allocate.allocate.Goals as goal
@@ -19,8 +18,6 @@ fill_places-requires g c =
     let f : FunctionValue = g.F.Function.function c.args.f.now in
     record {
       machine = c.requires.machine;
-      taken = c.requires.taken;
-      branches = c.requires.branches;
       well_formed = c.requires.well_formed;
       offsets_long = ap length c.deref.ensures.value ∙ c.requires.found.offsets_long;
       offsets = λ i lt. ap (λ xs. slice_index xs i) c.deref.ensures.value ∙ c.requires.found.offsets_each i lt;
@@ -29,10 +26,6 @@ fill_places-requires g c =
           (c.deref_mut.ensures.value ∙ c.in_ok-allocs.ensures.items_if_clones_equal (λ y h. h))
           ∙ ap (λ (p : Place). slice_index_or (replicate c.args.found.total p) k NoPlace) c.none.ensures ∙ always c.args.found.total k NoPlace;
       marked = subst (AreLabelsMarked f) (sym c.deref-2.ensures.value) c.requires.found.marked;
-      listed = subst (λ (ws : List Bool). AreNamers f (IsWanted ws) c.deref-3.result.now (length c.deref-3.result.now) (length f.insts))
-          (sym c.deref-2.ensures.value)
-          (subst (λ (ns : List ℕ). AreNamers f (IsWanted c.args.found.wanted.items) ns (length ns) (length f.insts)) (sym c.deref-3.ensures.value)
-          c.requires.found.listed);
     }
 
 -- the output with the places in their list

@@ -1,12 +1,12 @@
 use Rattle.std.proofs.Common.{ℕ, ◌≡◌, ◌≢◌, ◌+◌, ◌*◌, ◌<◌, ◌≤◌, ◌^◌, map, length, sym, ap, ◌∙◌, subst, arith, rules, [], refl}
-use Rattle.std.specs.Prelude.{Bool, reverse}
+use Rattle.std.specs.Prelude.{Bool, List, reverse}
 use Rattle.std.proofs.lemmas.List.{length-replicate}
 use Rattle.std.proofs.lemmas.Result.{err_from_is_err_and}
 use Rattle.regalloc2_names.specs.declared.RegClass.{RegClass}
 use Rattle.regalloc2_names.specs.declared.RegClass.TheVariants.{Int, Float, Vector}
 use Rattle.regalloc2_names.specs.Place.{NoPlace}
 use Rattle.regalloc2_names.specs.Register.{VirtualRegister}
-use Rattle.regalloc2_function.specs.FunctionValue.{FunctionValue, IsLimited, slot_size}
+use Rattle.regalloc2_function.specs.FunctionValue.{FunctionValue, IsLimited, inst_at, slot_size}
 use Rattle.regalloc2_function.specs.Machine.{MachineValue}
 use Rattle.regalloc2_function.specs.OutputValue.{OutputValue}
 use Rattle.regalloc2_function.specs.SourceRun.{IsWrittenFirst}
@@ -25,7 +25,7 @@ use Rattle.regalloc2_fastalloc_walk.specs.StateView.{tables_of}
 use Rattle.regalloc2_fastalloc_proofs.specs.BranchSteps.{AddsTempSlotsAtMost}
 use Rattle.regalloc2_fastalloc_proofs.specs.BlockSteps.{DefinesBelow}
 use Rattle.regalloc2_fastalloc_proofs.specs.Safety.{HasMachine}
-use Rattle.regalloc2_fastalloc_state.specs.StateParts.{VRegAllocsValue, SpillSlotsValue, no_slots, slot_name, units_of}
+use Rattle.regalloc2_fastalloc_state.specs.StateParts.{VRegAllocsValue, SpillSlotsValue, no_allocs, no_slots, slot_name, units_of}
 use Rattle.regalloc2_fastalloc.proofs.ReadsAgree.{made_blocks_agree, made_in_slots, made_label_shown, walk_kept_through, walk_safe_through}
 use Rattle.regalloc2_fastalloc.proofs.DebugLocationPlaces.{locations_stand, shows_labels}
 use Rattle.regalloc2_fastalloc.proofs.BranchSlots.{branch_slots_serve}
@@ -40,7 +40,13 @@ use Rattle.regalloc2_fastalloc_proofs.proofs.Slots.WalkKeepsSlotsApart.{Branches
 use Rattle.regalloc2_fastalloc_proofs.proofs.Slots.OutputOwnsSlots.{fits_keeps, made_slots_owned}
 use Rattle.regalloc2_fastalloc_proofs.proofs.Slots.ApartSlotsAreOwned.{OwnsSlots}
 use Rattle.regalloc2_fastalloc_proofs.proofs.Pressure.OutOfRegs.{AreFresh, walk_stops}
-use Rattle.regalloc2_fastalloc.proofs.ErrorsHaveReasons.{lacks_where}
+use Rattle.regalloc2_analysis.specs.LiveRanges.LiveRanges.{IsWanted}
+use Rattle.regalloc2_analysis.specs.LiveRanges.WalkInvariant.{ListsAdding}
+use Rattle.regalloc2_fastalloc_state.specs.Validate.Constraints.{BranchDefinesInPlace}
+use Rattle.regalloc2_fastalloc_state.specs.Validate.NoLimits.{AreTaken}
+use Rattle.regalloc2_fastalloc_walk.specs.Findings.{ListsAddingFrom}
+use Rattle.regalloc2_fastalloc_walk.proofs.Findings.{lists_reversed}
+use Rattle.regalloc2_fastalloc.proofs.ErrorsHaveReasons.{lacks_where, passed_not_refused}
 use Rattle.regalloc2_fastalloc.proofs.UsesReadNumbers.{reads_numbers}
 use Rattle.regalloc2_fastalloc.proofs.UnitsNeeded.{sizes_of, sizes_agree, few_slots, full_needs}
 use Rattle.regalloc2_fastalloc_proofs.proofs.Walk.InstsCarry.{Blank, blank_whole}
@@ -72,6 +78,7 @@ alloc_blocks-requires g c =
       search rules,
       record {
         fresh = e.edits;
+        nowhere = (n, e.places ∙ sym (ap (no_allocs n) (ap (λ (p : VRegAllocsValue). p.watched) e.places)));
         well_formed = (env, c.requires.well_formed);
         room = subst (DefinesBelow f) (sym long) (has_room f c.requires.well_formed.defined_once n c.table_length-vregs.ensures.room);
         apart = fit_apart t (fresh_fit f env t c.requires.machine machine e.small);
@@ -108,8 +115,32 @@ locations-requires g c =
       offsets = λ i lt. c.requires.offsets i lt;
       allocs_long = c.alloc_blocks.auto.allocs ∙ c.requires.allocs_long;
       marked = c.requires.marked;
-      listed = c.requires.listed;
+      listed = subst (λ (ns : List ℕ). ListsAdding f (IsWanted c.args.wanted.now) ns (length ns) (length f.insts))
+          (sym (c.deref.ensures.value ∙ c.reverse.ensures.items))
+          (lists_reversed f (IsWanted c.args.wanted.now) c.in_ok-found.found.changed.items
+          (subst (λ (w : List Bool). ListsAddingFrom f (IsWanted w) 0 c.in_ok-found.found.changed.items)
+          (ap (λ (p : VRegAllocsValue). p.watched) c.in_ok-state.ensures.places) c.in_ok-found.ensures.found.changed));
     }
+
+-- the walk found that all instructions pass their tests, or the tests did
+taken_is : (g : Over) (c : goal.After-reads_the_same_numbers g) → AreTaken (g.F.Function.function c.args.f.now)
+taken_is g c i lt = (c.in_ok-validate_unless_passed.ensures.passes i lt).taken
+
+branches_are : (g : Over) (c : goal.After-reads_the_same_numbers g) (i : ℕ) → i < length (g.F.Function.function c.args.f.now).insts →
+    BranchDefinesInPlace (inst_at (g.F.Function.function c.args.f.now) i)
+branches_are g c i lt = (c.in_ok-validate_unless_passed.ensures.passes i lt).branch
+
+pub validate_unless_passed-requires : goal.validate_unless_passed-requires
+validate_unless_passed-requires g c = λ t i lt. c.in_ok-found.ensures.found.passes.0 t i (omega arith) lt
+
+pub returns-clause-passes : goal.returns-clause-passes
+returns-clause-passes g c = c.in_ok-validate_unless_passed.ensures.passes
+
+pub returns-in_err-validate_unless_passed-clause-err : goal.returns-in_err-validate_unless_passed-clause-err
+returns-in_err-validate_unless_passed-clause-err g c =
+    let f : FunctionValue = g.F.Function.function c.args.f.now in
+    let p = err_from_is_err_and c.from_residual-in_err-validate_unless_passed.result c.from_residual-in_err-validate_unless_passed.ensures.1 in
+    rw p.1 (λ all. absurd (passed_not_refused f _ all c.in_err-validate_unless_passed.ensures.refused))
 
 -- the output as contracts see it
 abbrev out_of : (g : Over) (c : goal.After-reads_the_same_numbers g) → OutputValue
@@ -156,7 +187,7 @@ fit_is g c = fresh_fit (g.F.Function.function c.args.f.now) (machine_of c.args.e
 -- the whole walk
 abbrev whole_is : (g : Over) (c : goal.After-reads_the_same_numbers g) → WholeWalk
 whole_is g c = whole_walk (machine_of c.args.env.now) (g.F.Function.function c.args.f.now) (g.met.F.Function.limited c.args.f.now) c.requires.well_formed
-    c.args.allocs.now (begun g c) (left g c) (out_of g c) (blank_is g c) (fit_is g c) c.in_ok-alloc_blocks.ensures.outcome
+    c.args.allocs.now (begun g c) (left g c) (out_of g c) (blank_is g c) (fit_is g c) c.in_ok-found.ensures.outcome
 
 -- and from which tables it began
 abbrev fresh_is : (g : Over) (c : goal.After-reads_the_same_numbers g) → FreshWalk
@@ -166,7 +197,7 @@ fresh_is g c = record {
   fits = c.requires.machine;
   limited = g.met.F.Function.limited c.args.f.now;
   ok = c.requires.well_formed;
-  taken = c.requires.taken;
+  taken = taken_is g c;
   blank = c.args.allocs.now;
   places = c.alloc_blocks.new.allocs;
   begin = begun g c;
@@ -175,12 +206,13 @@ fresh_is g c = record {
   m = c.table_length-vregs.result;
   sizes = sizes_of (g.F.Function.function c.args.f.now);
   by_last = (g.F.Function.function c.args.f.now).named_by_last_slot;
+  watched = c.args.wanted.now;
   nobody = c.in_ok-state.ensures.places;
   slots = c.in_ok-state.ensures.slots;
   none = c.in_ok-state.ensures.edits;
   units = units_are g c;
   machine = machine_is g c;
-  walks = c.in_ok-alloc_blocks.ensures.outcome;
+  walks = c.in_ok-found.ensures.outcome;
 }
 
 -- what the walk left
@@ -229,15 +261,15 @@ faithful_is g c = λ written.
     let m : IsMade f env (Made f) (MayInBlocks f) (left g c) (out_of g c) = made g c in
     faithful f env (out_of g c) (made_constraints f env (Made f) (MayInBlocks f) (left g c) (out_of g c) m)
     (made_in_registers f env (Made f) (MayInBlocks f) (left g c) (out_of g c) m)
-    (made_blocks_agree (whole_is g c) c.requires.taken c.requires.branches (safe_is g c) m written)
+    (made_blocks_agree (whole_is g c) (taken_is g c) (branches_are g c) (safe_is g c) m written)
 
 live_is : (g : Over) (c : goal.After-reads_the_same_numbers g) → IsWrittenFirst (g.F.Function.function c.args.f.now) →
     LiveInSlots (g.F.Function.function c.args.f.now) (out_of g c)
 live_is g c =
     let f : FunctionValue = g.F.Function.function c.args.f.now in
     let env : MachineValue = machine_of c.args.env.now in
-    made_in_slots (whole_is g c) c.requires.taken c.requires.branches (safe_is g c) (made g c)
-    c.num_units-num_spillslots.ensures.owned (tame_at env f (g.met.F.Function.limited c.args.f.now) c.requires.well_formed c.requires.taken)
+    made_in_slots (whole_is g c) (taken_is g c) (branches_are g c) (safe_is g c) (made g c)
+    c.num_units-num_spillslots.ensures.owned (tame_at env f (g.met.F.Function.limited c.args.f.now) c.requires.well_formed (taken_is g c))
 
 -- each slot has its owner
 slots_owned_are : (g : Over) (c : goal.After-reads_the_same_numbers g) →
@@ -250,10 +282,10 @@ slots_owned_are g c =
     let last : StateValue = left g c in
     let n : ℕ = c.table_length-vregs.result in
     let e = c.in_ok-state.ensures in
-    let classed = walk_classed (fits_keeps f env c.requires.machine) limited c.requires.well_formed c.requires.taken {begin = begin} {last = last} n n
-    (sizes_of f) e.places e.slots e.edits (units_are g c) (machine_is g c) c.in_ok-alloc_blocks.ensures.outcome in
+    let classed = walk_classed (fits_keeps f env c.requires.machine) limited c.requires.well_formed (taken_is g c) {begin = begin} {last = last} n n
+    (sizes_of f) e.places e.slots e.edits (units_are g c) (machine_is g c) c.in_ok-found.ensures.outcome in
     made_slots_owned f env (Made f) (MayInBlocks f) last (out_of g c) (made g c) c.num_units-num_spillslots.ensures.owned
-    (tame_at env f limited c.requires.well_formed c.requires.taken) f.named_by_last_slot (BranchesFrom f 0) classed
+    (tame_at env f limited c.requires.well_formed (taken_is g c)) f.named_by_last_slot (BranchesFrom f 0) classed
     (sizes_agree f last.slots (sizes_kept f begin last n f.named_by_last_slot _ e.slots c.alloc_blocks.ensures.machine)) refl (λ i class m. (m.1, m.2))
 
 -- and debug locations name places of their vregs, which hold their values
@@ -263,9 +295,9 @@ labels_are g c =
     let f : FunctionValue = g.F.Function.function c.args.f.now in
     let env : MachineValue = machine_of c.args.env.now in
     let limited : IsLimited f = g.met.F.Function.limited c.args.f.now in
-    let tame = tame_at env f limited c.requires.well_formed c.requires.taken in
+    let tame = tame_at env f limited c.requires.well_formed (taken_is g c) in
     shows_labels env f limited c.requires.well_formed (MayInBlocks f) (left g c) (out_of g c) (made g c) (handed_is g c) (slots_owned_are g c)
-    (made_label_shown (whole_is g c) c.requires.taken c.requires.branches (safe_is g c) (made g c)
+    (made_label_shown (whole_is g c) (taken_is g c) (branches_are g c) (safe_is g c) (made g c)
     c.requires.machine c.num_units-num_spillslots.ensures.owned tame) c.in_ok-debug_locations.ensures.ok
 
 -- there are few temporary slots
@@ -299,7 +331,7 @@ unspilled_is g c = λ h.
     let none = unspilled f (machine_of c.args.env.now) c.requires.well_formed (names_in f.insts) (asks_for_registers f (machine_of c.args.env.now) h) 0
     c.args.allocs.now c.alloc_blocks.new.allocs begin (left g c) refl (are_few f (machine_of c.args.env.now) begin.allocatable h e.all)
     (begins_uncrowded f (names_in f.insts) begin b.nowhere b.no_move b.no_slot (ap (λ (s : SpillSlotsValue). s.count) e.slots)
-    (blank_whole begin b) (fit_apart begin (fit_is g c)) e.lrus) c.in_ok-alloc_blocks.ensures.outcome in
+    (blank_whole begin b) (fit_apart begin (fit_is g c)) e.lrus) c.in_ok-found.ensures.outcome in
     (c.in_ok-edits.ensures.listed ∙ ap reverse none.0, c.num_units-num_spillslots.ensures.count ∙ none.1)
 
 pub returns-clause-allocation : goal.returns-clause-allocation
@@ -326,15 +358,15 @@ returns-clause-allocation g c =
       labels = labels_are g c;
     }
 
-pub returns-in_err-alloc_blocks-clause-err : goal.returns-in_err-alloc_blocks-clause-err
-returns-in_err-alloc_blocks-clause-err g c =
+pub returns-in_err-found-clause-err : goal.returns-in_err-found-clause-err
+returns-in_err-found-clause-err g c =
     let f : FunctionValue = g.F.Function.function c.args.f.now in
     let begin : StateValue = tables_of c.in_ok-state.state in
     let slots = c.in_ok-state.ensures.slots in
     let most : ℕ = begin.slots.num_temp_slots + 6 * length f.blocks in
     let none : begin.slots.num_temp_slots ≡ 0 = ap (λ (s : SpillSlotsValue). s.num_temp_slots) slots in
     let same : AddsTempSlotsAtMost 0 begin begin = none_lends 0 begin in
-    let p = err_from_is_err_and c.from_residual-in_err-alloc_blocks.result c.from_residual-in_err-alloc_blocks.ensures.1 in
+    let p = err_from_is_err_and c.from_residual-in_err-found.result c.from_residual-in_err-found.ensures.1 in
     let n : ℕ = c.table_length-vregs.result in
     let more : SlotsExhaustedWith begin.slots most → 2 ^ 24 < units_at_most f = full_needs f begin.slots most
     (sizes_kept f begin begin n f.named_by_last_slot 0 slots same) (vregs_few f begin begin n f.named_by_last_slot 0 slots same
@@ -348,6 +380,7 @@ returns-in_err-alloc_blocks-clause-err g c =
       owners = n;
       sizes = sizes_of f;
       by_last = f.named_by_last_slot;
+      watched = c.args.wanted.now;
       nobody = e.places;
       slots = e.slots;
       none = e.edits;
@@ -358,6 +391,6 @@ returns-in_err-alloc_blocks-clause-err g c =
       allocatable = e.all;
       dedicated_scratch = e.dedicated_scratch;
     } in
-    rw p.1 (subst (Lacks (SomeDoesNotFit f env) (2 ^ 24 < units_at_most f)) (sym p.2)
-    (lacks_where (SomeDoesNotFit f env) (SlotsExhaustedWith begin.slots most) (2 ^ 24 < units_at_most f) more _ c.in_err-alloc_blocks.ensures.err
-    (λ lacks. walk_stops c.requires.machine limited c.requires.well_formed c.requires.taken fresh (c.in_err-alloc_blocks.ensures.outcome lacks))))
+    rw p.1 (λ all. subst (Lacks (SomeDoesNotFit f env) (2 ^ 24 < units_at_most f)) (sym p.2)
+    (lacks_where (SomeDoesNotFit f env) (SlotsExhaustedWith begin.slots most) (2 ^ 24 < units_at_most f) more _ c.in_err-found.ensures.err
+    (λ lacks. walk_stops c.requires.machine limited c.requires.well_formed (λ i lt. (all i lt).taken) fresh (c.in_err-found.ensures.outcome lacks))))

@@ -5,6 +5,7 @@ use Rattle.regalloc2_analysis.specs.LiveRanges.LiveRanges.AreKeptLabels.{none}
 use Rattle.regalloc2_analysis.specs.LiveRanges.WalkInvariant.{AreNamers}
 use Rattle.regalloc2_analysis.proofs.LiveRangesLemmas.KeptLabels.{nothing_mapped}
 use Rattle.regalloc2_analysis.proofs.LiveRangesLemmas.Labelled.{some_given}
+use Rattle.regalloc2_analysis.proofs.LiveRangesLemmas.Named.{lists_adding}
 use Rattle.regalloc2_analysis.proofs.live_ranges.labels.kept_labels.Goals as goal
 
 pub returns-then-is_empty-clause-ok : goal.returns-then-is_empty-clause-ok
@@ -35,12 +36,14 @@ pub kept_labels_by-requires-clause-marked : goal.kept_labels_by-requires-clause-
 kept_labels_by-requires-clause-marked g c =
     subst (AreLabelsMarked (g.F.Function.function c.args.f.now)) (sym c.as_slice-2.ensures.value) c.in_ok-wanted.ensures
 
-pub kept_labels_by-requires-clause-named : goal.kept_labels_by-requires-clause-named
-kept_labels_by-requires-clause-named g c =
+pub kept_labels_by-requires-clause-listed : goal.kept_labels_by-requires-clause-listed
+kept_labels_by-requires-clause-listed g c =
     let f : FunctionValue = g.F.Function.function c.args.f.now in
-    subst (λ (ns : List ℕ). AreNamers f (IsWanted c.as_slice-2.result.now) ns (length ns) (length f.insts)) (sym c.as_slice-3.ensures.value)
+    let named : List ℕ = c.as_slice-3.result.now in
+    lists_adding f (IsWanted c.as_slice-2.result.now) named (length named) (length f.insts)
+    (subst (λ (ns : List ℕ). AreNamers f (IsWanted c.as_slice-2.result.now) ns (length ns) (length f.insts)) (sym c.as_slice-3.ensures.value)
     (subst (λ (ws : List Bool). AreNamers f (IsWanted ws) c.in_ok-named.named.items (length c.in_ok-named.named.items) (length f.insts))
-    (c.as_slice.ensures.value ∙ sym c.as_slice-2.ensures.value) c.in_ok-named.ensures)
+    (c.as_slice.ensures.value ∙ sym c.as_slice-2.ensures.value) c.in_ok-named.ensures))
 
 pub returns-clause-ok : goal.returns-clause-ok
 returns-clause-ok g c = c.kept_labels_by.ensures.ok

@@ -32,8 +32,8 @@ keep_labels-requires-clause-ranges g c =
 pub few_ranges-requires-clause-ssa : goal.few_ranges-requires-clause-ssa
 few_ranges-requires-clause-ssa g c = c.requires.ssa
 
-pub few_ranges-requires-clause-named : goal.few_ranges-requires-clause-named
-few_ranges-requires-clause-named g c = c.requires.named
+pub few_ranges-requires-clause-listed : goal.few_ranges-requires-clause-listed
+few_ranges-requires-clause-listed g c = c.requires.listed
 
 pub keep_labels-requires-clause-ssa : goal.keep_labels-requires-clause-ssa
 keep_labels-requires-clause-ssa g c = c.requires.ssa

@@ -26,8 +26,8 @@ walk_blocks-requires-clause-slots g c =
     subst (AreSlots c.args.wanted.now c.as_slice.result.now) (sym long)
     (subst (λ (ss : List ℕ). AreSlots c.args.wanted.now ss c.in_ok-slots.count) (sym c.as_slice.ensures.value) c.in_ok-slots.ensures.slots)
 
-pub walk_blocks-requires-clause-named : goal.walk_blocks-requires-clause-named
-walk_blocks-requires-clause-named g c = c.requires.named
+pub walk_blocks-requires-clause-listed : goal.walk_blocks-requires-clause-listed
+walk_blocks-requires-clause-listed g c = c.requires.listed
 
 pub returns-clause-ok : goal.returns-clause-ok
 returns-clause-ok g c =

@@ -3,16 +3,20 @@ use Rattle.regalloc2_function.specs.FunctionValue.{FunctionValue}
 use Rattle.regalloc2_analysis.specs.declared.live_ranges.LiveRange.{LiveRange}
 use Rattle.regalloc2_analysis.specs.LiveRanges.LiveRanges.{IsWanted}
 use Rattle.regalloc2_analysis.specs.LiveRanges.WalkInvariant.{AreNamers}
+use Rattle.regalloc2_analysis.proofs.LiveRangesLemmas.Named.{lists_adding}
 use Rattle.regalloc2_analysis.proofs.LiveRangesLemmas.Spread.{spread_length}
 use Rattle.regalloc2_analysis.proofs.live_ranges.walk.live_ranges.Goals as goal
 
 pub few_ranges-requires-clause-ssa : goal.few_ranges-requires-clause-ssa
 few_ranges-requires-clause-ssa g c = c.requires
 
-pub few_ranges-requires-clause-named : goal.few_ranges-requires-clause-named
-few_ranges-requires-clause-named g c =
+pub few_ranges-requires-clause-listed : goal.few_ranges-requires-clause-listed
+few_ranges-requires-clause-listed g c =
     let f : FunctionValue = g.F.Function.function c.args.f.now in
-    subst (λ (ns : List ℕ). AreNamers f (IsWanted c.args.wanted.now) ns (length ns) (length f.insts)) (sym c.as_slice.ensures.value) c.in_ok-named.ensures
+    let W : ℕ → Type 0 = IsWanted c.args.wanted.now in
+    let named : List ℕ = c.as_slice.result.now in
+    lists_adding f W named (length named) (length f.insts)
+    (subst (λ (ns : List ℕ). AreNamers f W ns (length ns) (length f.insts)) (sym c.as_slice.ensures.value) c.in_ok-named.ensures)
 
 pub returns-clause-ok : goal.returns-clause-ok
 returns-clause-ok g c = rw (c.in_ok-spread_out.ensures, c.as_slice-2.ensures.value, c.as_slice-3.ensures.value) c.in_ok-few.ensures.ok

@@ -6,7 +6,7 @@ use Rattle.regalloc2_analysis.specs.declared.live_ranges.LiveRange.{LiveRange}
 use Rattle.regalloc2_analysis.specs.declared.live_ranges.ends.RangeEnd.{RangeEnd}
 use Rattle.regalloc2_analysis.specs.LiveRanges.LiveRanges.{IsWanted}
 use Rattle.regalloc2_analysis.specs.LiveRanges.Slots.{AreSlots, spread}
-use Rattle.regalloc2_analysis.specs.LiveRanges.WalkInvariant.{AreNamers, AreRangesWalked, begin_of}
+use Rattle.regalloc2_analysis.specs.LiveRanges.WalkInvariant.{AreRangesWalked, ListsAdding, begin_of}
 use Rattle.regalloc2_analysis.proofs.LiveRangesLemmas.LiveRangeTable.{begins_at, begins_next, begins_past, walked_all, walked_block, walked_none}
 use Rattle.regalloc2_analysis.proofs.LiveRangesLemmas.Spread.{spread_length}
 use Rattle.regalloc2_analysis.proofs.live_ranges.walk.walk_blocks.Goals as goal
@@ -19,7 +19,7 @@ loop-b-init g c =
     let count : c.num_blocks-b.result ≡ length f.blocks = c.num_blocks-b.ensures.count in
     record {
       within = omega (arith, count);
-      named = rw (begins_past f c.num_blocks-b.result count) c.requires.named;
+      listed = rw (begins_past f c.num_blocks-b.result count) c.requires.listed;
       walked = rw (begins_past f c.num_blocks-b.result count, count)
           (subst (λ (t : List (Option RangeEnd)). AreRangesWalked f W (length f.insts) (length f.blocks) (spread slots t) (spread slots c.args.ranges.now))
           (sym c.requires.no_ends)
@@ -41,14 +41,14 @@ walk_insts-many-requires-clause-walked g c =
     subst (λ (n : ℕ). AreRangesWalked f W (block_at f b).range.end n (spread slots c.loop-b.ends) (spread slots c.loop-b.ranges)) next
     (subst (λ (n : ℕ). AreRangesWalked f W n c.loop-b.b (spread slots c.loop-b.ends) (spread slots c.loop-b.ranges)) begin c.loop-b.invariant.walked)
 
-pub walk_insts-many-requires-clause-named : goal.walk_insts-many-requires-clause-named
-walk_insts-many-requires-clause-named g c =
+pub walk_insts-many-requires-clause-listed : goal.walk_insts-many-requires-clause-listed
+walk_insts-many-requires-clause-listed g c =
     let f : FunctionValue = g.F.Function.function c.args.f.now in
     let b : ℕ = c.new-block.result in
     let next : c.loop-b.b ≡ b + 1 = omega (arith, c.new-block.ensures, c.loop-b-test.true) in
     let lt : b < length f.blocks = omega (arith, next, c.loop-b.invariant.within) in
     let begin : begin_of f c.loop-b.b ≡ (block_at f b).range.end = ap (begin_of f) next ∙ begins_next f c.requires.ssa.follow b lt in
-    subst (AreNamers f (IsWanted c.args.wanted.now) c.args.named.now c.loop-b.many) begin c.loop-b.invariant.named
+    subst (ListsAdding f (IsWanted c.args.wanted.now) c.args.listed.now c.loop-b.many) begin c.loop-b.invariant.listed
 
 pub loop-b-preserved : goal.loop-b-preserved
 loop-b-preserved g c =
@@ -66,8 +66,8 @@ loop-b-preserved g c =
     c.begin_at_params.ensures.right c.begin_at_params.ensures.stay c.begin_at_params.ensures.taken in
     record {
       within = omega (arith, c.loop-b.invariant.within);
-      named = subst (λ (n : ℕ). AreNamers f W c.args.named.now c.walk_insts-many.result (begin_of f n)) at
-          (subst (AreNamers f W c.args.named.now c.walk_insts-many.result) (sym (begins_at f b lt)) c.walk_insts-many.ensures.named);
+      listed = subst (λ (n : ℕ). ListsAdding f W c.args.listed.now c.walk_insts-many.result (begin_of f n)) at
+          (subst (ListsAdding f W c.args.listed.now c.walk_insts-many.result) (sym (begins_at f b lt)) c.walk_insts-many.ensures.listed);
       walked = subst (λ (n : ℕ). AreRangesWalked f W (begin_of f n) n (spread slots c.walk_insts-many.new.ends) (spread slots c.begin_at_params.new.ranges)) at
           (subst (λ (n : ℕ). AreRangesWalked f W n b (spread slots c.walk_insts-many.new.ends) (spread slots c.begin_at_params.new.ranges)) (sym (begins_at f b lt))
           walked);

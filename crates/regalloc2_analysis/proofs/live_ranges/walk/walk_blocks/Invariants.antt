@@ -1,14 +1,14 @@
 use Rattle.std.proofs.Common.{◌≤◌, length}
 use Rattle.regalloc2_analysis.specs.LiveRanges.LiveRanges.{IsWanted}
 use Rattle.regalloc2_analysis.specs.LiveRanges.Slots.{spread}
-use Rattle.regalloc2_analysis.specs.LiveRanges.WalkInvariant.{AreNamers, AreRangesWalked, begin_of}
+use Rattle.regalloc2_analysis.specs.LiveRanges.WalkInvariant.{AreRangesWalked, ListsAdding, begin_of}
 use Rattle.regalloc2_analysis.proofs.live_ranges.walk.walk_blocks.Given as goal
 
 -- the blocks from b on are walked
 abbrev pub invariant-loop-b : goal.invariant-loop-b
 invariant-loop-b g l = record {
   within : l.b ≤ length (g.F.Function.function l.f).blocks;
-  named : AreNamers (g.F.Function.function l.f) (IsWanted l.wanted) l.named l.many (begin_of (g.F.Function.function l.f) l.b);
+  listed : ListsAdding (g.F.Function.function l.f) (IsWanted l.wanted) l.listed l.many (begin_of (g.F.Function.function l.f) l.b);
   walked : AreRangesWalked (g.F.Function.function l.f) (IsWanted l.wanted) (begin_of (g.F.Function.function l.f) l.b) l.b
       (spread l.slots l.ends) (spread l.slots l.ranges);
 }

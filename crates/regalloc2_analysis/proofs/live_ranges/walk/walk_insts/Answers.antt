@@ -6,8 +6,8 @@ use Rattle.regalloc2_function.specs.FunctionValue.{FunctionValue, block_at}
 use Rattle.regalloc2_semantics.proofs.Order.{ends_within}
 use Rattle.regalloc2_analysis.specs.LiveRanges.LiveRanges.{IsWanted}
 use Rattle.regalloc2_analysis.specs.LiveRanges.Slots.{AreSlots, spread}
-use Rattle.regalloc2_analysis.specs.LiveRanges.WalkInvariant.{AreNamers, AreRangesWalked}
-use Rattle.regalloc2_analysis.proofs.LiveRangesLemmas.Named.{named_fewer, named_to, walked_to}
+use Rattle.regalloc2_analysis.specs.LiveRanges.WalkInvariant.{AreRangesWalked, ListsAdding}
+use Rattle.regalloc2_analysis.proofs.LiveRangesLemmas.Listed.{listed_fewer, listed_to, walked_to}
 use Rattle.regalloc2_analysis.proofs.live_ranges.walk.walk_insts.Goals as goal
 
 pub block_insns-range-requires : goal.block_insns-range-requires
@@ -49,13 +49,13 @@ walk_last-left-requires-clause-ends_slots g c = c.requires.ends_slots
 pub walk_last-left-requires-clause-ranges_slots : goal.walk_last-left-requires-clause-ranges_slots
 walk_last-left-requires-clause-ranges_slots g c = c.requires.ranges_slots
 
-pub walk_last-left-requires-clause-named : goal.walk_last-left-requires-clause-named
-walk_last-left-requires-clause-named g c =
+pub walk_last-left-requires-clause-listed : goal.walk_last-left-requires-clause-listed
+walk_last-left-requires-clause-listed g c =
     let f : FunctionValue = g.F.Function.function c.args.f.now in
     let some = (c.requires.ssa.follow c.args.block c.requires.block).0 in
     let end = c.index.ensures ∙ c.end.ensures ∙ ap (λ (r : Span). r.end) c.block_insns-range.ensures in
     let last : (block_at f c.args.block).range.end ≡ c.new-last.result + 1 = omega (arith, some, end, c.new-last.ensures) in
-    subst (AreNamers f (IsWanted c.args.wanted.now) c.args.named.now c.args.many) last c.requires.named
+    subst (ListsAdding f (IsWanted c.args.wanted.now) c.args.listed.now c.args.many) last c.requires.listed
 
 pub walk_last-left-requires-clause-walked : goal.walk_last-left-requires-clause-walked
 walk_last-left-requires-clause-walked g c =
@@ -78,7 +78,7 @@ loop-block-init g c =
         c.new-last.result,
         omega (arith, some, first, end, c.new-last.ensures),
         omega (arith, some, end, c.new-last.ensures),
-        c.walk_last-left.ensures.named,
+        c.walk_last-left.ensures.listed,
         c.walk_last-left.ensures.walked,
       );
     }
@@ -89,8 +89,8 @@ is_left-requires g c = c.loop-block.invariant.walked.3.within
 pub overflow_sub-left : goal.overflow_sub-left
 overflow_sub-left g c = let some = (c.is_left.ensures.0 c.loop-block-test.true).0 in omega (arith, some)
 
-pub bounds-named-left : goal.bounds-named-left
-bounds-named-left g c =
+pub bounds-listed-left : goal.bounds-listed-left
+bounds-listed-left g c =
     let some = (c.is_left.ensures.0 c.loop-block-test.true).0 in
     omega (arith, some, c.loop-block.invariant.walked.3.within)
 
@@ -129,25 +129,25 @@ pub walk_inst-requires-clause-walked : goal.walk_inst-requires-clause-walked
 walk_inst-requires-clause-walked g c =
     let f : FunctionValue = g.F.Function.function c.args.f.now in
     let slots : List ℕ = c.args.slots.now in
-    let named : List ℕ = c.args.named.now in
+    let listed : List ℕ = c.args.listed.now in
     let W : ℕ → Type 0 = IsWanted c.args.wanted.now in
     let left : ℕ = c.loop-block.left in
-    let at : c.new-inst.result ≡ slice_index_or named (left - 1) 0 = c.new-inst.ensures in
+    let at : c.new-inst.result ≡ slice_index_or listed (left - 1) 0 = c.new-inst.ensures in
     let is = c.is_left.ensures.0 c.loop-block-test.true in
     let from = is.1 in
     let state = c.loop-block.invariant.walked in
     let below = state.3.below (left - 1) (let some = is.0 in omega (arith, some)) in
-    walked_to f c.requires.ssa.follow W named left c.args.block (c.args.block + 1) state.0 (c.new-inst.result + 1) (spread slots c.loop-block.ends)
+    walked_to f c.requires.ssa.follow W listed left c.args.block (c.args.block + 1) state.0 (c.new-inst.result + 1) (spread slots c.loop-block.ends)
     (spread slots c.loop-block.ranges) c.requires.block (omega (arith, at, from, c.loop-block.invariant.first)) (omega (arith, at, below)) state.2
     state.3 (λ some. omega (arith, at)) state.4
 
 pub loop-block-preserved : goal.loop-block-preserved
 loop-block-preserved g c =
     let f : FunctionValue = g.F.Function.function c.args.f.now in
-    let named : List ℕ = c.args.named.now in
+    let listed : List ℕ = c.args.listed.now in
     let W : ℕ → Type 0 = IsWanted c.args.wanted.now in
     let left : ℕ = c.loop-block.left in
-    let at : c.new-inst.result ≡ slice_index_or named (left - 1) 0 = c.new-inst.ensures in
+    let at : c.new-inst.result ≡ slice_index_or listed (left - 1) 0 = c.new-inst.ensures in
     let is = c.is_left.ensures.0 c.loop-block-test.true in
     let from = is.1 in
     let state = c.loop-block.invariant.walked in
@@ -159,23 +159,23 @@ loop-block-preserved g c =
         c.new-inst.result,
         omega (arith, at, from),
         omega (arith, at, below, upto),
-        subst (AreNamers f W named (left - 1)) (sym at)
-            (named_fewer f W named left state.0 is.0 state.3),
+        subst (ListsAdding f W listed (left - 1)) (sym at)
+            (listed_fewer f W listed left state.0 is.0 state.3),
         c.walk_inst.ensures,
       );
     }
 
 -- none that is left is at or after the block's first
-pub returns-clause-named : goal.returns-clause-named
-returns-clause-named g c =
+pub returns-clause-listed : goal.returns-clause-listed
+returns-clause-listed g c =
     let f : FunctionValue = g.F.Function.function c.args.f.now in
-    let named : List ℕ = c.args.named.now in
+    let listed : List ℕ = c.args.listed.now in
     let left : ℕ = c.loop-block.left in
     let state = c.loop-block.invariant.walked in
     let from = state.1 in
     let first : c.first-first.result ≡ (block_at f c.args.block).range.first = c.loop-block.invariant.first in
-    named_to f (IsWanted c.args.wanted.now) named left state.0 (block_at f c.args.block).range.first (omega (arith, from, first))
-    (λ some. elim (cases_lt (slice_index_or named (left - 1) 0) c.first-first.result) [
+    listed_to f (IsWanted c.args.wanted.now) listed left state.0 (block_at f c.args.block).range.first (omega (arith, from, first))
+    (λ some. elim (cases_lt (slice_index_or listed (left - 1) 0) c.first-first.result) [
       | inl less ↦ omega (arith, less, first)
       | inr ge ↦ absurd (not_both c.is_left.result (c.is_left.ensures.1 (some, ge)) c.loop-block-test.false)
     ]) state.3
@@ -184,14 +184,14 @@ pub returns-clause-walked : goal.returns-clause-walked
 returns-clause-walked g c =
     let f : FunctionValue = g.F.Function.function c.args.f.now in
     let slots : List ℕ = c.args.slots.now in
-    let named : List ℕ = c.args.named.now in
+    let listed : List ℕ = c.args.listed.now in
     let left : ℕ = c.loop-block.left in
     let state = c.loop-block.invariant.walked in
     let from = state.1 in
     let first : c.first-first.result ≡ (block_at f c.args.block).range.first = c.loop-block.invariant.first in
-    walked_to f c.requires.ssa.follow (IsWanted c.args.wanted.now) named left c.args.block (c.args.block + 1) state.0 (block_at f c.args.block).range.first
+    walked_to f c.requires.ssa.follow (IsWanted c.args.wanted.now) listed left c.args.block (c.args.block + 1) state.0 (block_at f c.args.block).range.first
     (spread slots c.loop-block.ends) (spread slots c.loop-block.ranges) c.requires.block (omega arith) (omega (arith, from, first)) state.2 state.3
-    (λ some. elim (cases_lt (slice_index_or named (left - 1) 0) c.first-first.result) [
+    (λ some. elim (cases_lt (slice_index_or listed (left - 1) 0) c.first-first.result) [
       | inl less ↦ omega (arith, less, first)
       | inr ge ↦ absurd (not_both c.is_left.result (c.is_left.ensures.1 (some, ge)) c.loop-block-test.false)
     ]) state.4

@@ -2,7 +2,7 @@ use Rattle.std.proofs.Common.{ℕ, ◌≡◌, ◌+◌, ◌<◌, ◌≤◌}
 use Rattle.regalloc2_function.specs.FunctionValue.{block_at}
 use Rattle.regalloc2_analysis.specs.LiveRanges.LiveRanges.{IsWanted}
 use Rattle.regalloc2_analysis.specs.LiveRanges.Slots.{spread}
-use Rattle.regalloc2_analysis.specs.LiveRanges.WalkInvariant.{AreNamers, AreRangesWalked}
+use Rattle.regalloc2_analysis.specs.LiveRanges.WalkInvariant.{AreRangesWalked, ListsAdding}
 use Rattle.regalloc2_analysis.proofs.live_ranges.walk.walk_insts.Given as goal
 
 -- the instructions from some one of the block on are walked, and so many are left below it
@@ -10,7 +10,7 @@ abbrev pub invariant-loop-block : goal.invariant-loop-block
 invariant-loop-block g l = record {
   first : l.first ≡ (block_at (g.F.Function.function l.f) l.block).range.first;
   walked : (i : ℕ) × (l.first ≤ i) × (i < (block_at (g.F.Function.function l.f) l.block).range.end) ×
-      AreNamers (g.F.Function.function l.f) (IsWanted l.wanted) l.named l.left i ×
+      ListsAdding (g.F.Function.function l.f) (IsWanted l.wanted) l.listed l.left i ×
       AreRangesWalked (g.F.Function.function l.f) (IsWanted l.wanted) i (l.block + 1) (spread l.slots l.ends) (spread l.slots l.ranges);
 }
 

@@ -4,19 +4,19 @@ use Rattle.regalloc2_function.specs.FunctionValue.{FunctionValue}
 use Rattle.regalloc2_semantics.proofs.Order.{ends_within}
 use Rattle.regalloc2_analysis.specs.LiveRanges.LiveRanges.{IsWanted}
 use Rattle.regalloc2_analysis.specs.LiveRanges.Slots.{spread}
-use Rattle.regalloc2_analysis.specs.LiveRanges.WalkInvariant.{AreNamers, NamesNoAsked}
+use Rattle.regalloc2_analysis.specs.LiveRanges.WalkInvariant.{AddsNothing, ListsAdding}
 use Rattle.regalloc2_analysis.proofs.LiveRangesLemmas.LiveRangeTable.{walked_last}
-use Rattle.regalloc2_analysis.proofs.LiveRangesLemmas.Named.{named_below, named_fewer, unnamed_above}
+use Rattle.regalloc2_analysis.proofs.LiveRangesLemmas.Listed.{listed_below, listed_fewer, nothing_above}
 use Rattle.regalloc2_analysis.proofs.LiveRangesLemmas.Spread.{spread_length}
 use Rattle.regalloc2_analysis.proofs.live_ranges.walk.walk_last.Goals as goal
 
-pub returns-then-is_next-clause-named : goal.returns-then-is_next-clause-named
-returns-then-is_next-clause-named g c =
+pub returns-then-is_next-clause-listed : goal.returns-then-is_next-clause-listed
+returns-then-is_next-clause-listed g c =
     let f : FunctionValue = g.F.Function.function c.args.f.now in
     let W : ℕ → Type 0 = IsWanted c.args.wanted.now in
     let is = c.is_next.ensures.0 c.if-is_next.true in
-    subst (λ (n : ℕ). AreNamers f W c.args.named.now (c.args.many - 1) n) is.1
-    (named_fewer f W c.args.named.now c.args.many (c.args.last + 1) is.0 c.requires.named)
+    subst (λ (n : ℕ). ListsAdding f W c.args.listed.now (c.args.many - 1) n) is.1
+    (listed_fewer f W c.args.listed.now c.args.many (c.args.last + 1) is.0 c.requires.listed)
 
 pub note_passed-requires-clause-small : goal.note_passed-requires-clause-small
 note_passed-requires-clause-small g c =
@@ -24,11 +24,11 @@ note_passed-requires-clause-small g c =
     let limit = (g.met.F.Function.limited c.args.f.now).insts in
     omega (arith, within, limit, c.requires.last)
 
-pub returns-clause-named : goal.returns-clause-named
-returns-clause-named g c =
+pub returns-clause-listed : goal.returns-clause-listed
+returns-clause-listed g c =
     let f : FunctionValue = g.F.Function.function c.args.f.now in
-    named_below f (IsWanted c.args.wanted.now) c.args.named.now c.args.many c.args.last
-    (λ some e. not_both c.is_next.result (c.is_next.ensures.1 (some, e)) c.if-is_next.false) c.requires.named
+    listed_below f (IsWanted c.args.wanted.now) c.args.listed.now c.args.many c.args.last
+    (λ some e. not_both c.is_next.result (c.is_next.ensures.1 (some, e)) c.if-is_next.false) c.requires.listed
 
 pub returns-clause-walked : goal.returns-clause-walked
 returns-clause-walked g c =
@@ -40,16 +40,16 @@ returns-clause-walked g c =
     let same : length (spread slots c.args.ends.now) ≡ length slots = spread_length slots c.args.ends.now in
     let long : length (spread slots c.note_passed.new.ends) ≡ length (spread slots c.args.ends.now) =
     spread_length slots c.note_passed.new.ends ∙ sym same in
-    let fewer : AreNamers f W c.args.named.now c.args.many c.args.last = named_below f W c.args.named.now c.args.many c.args.last
-    (λ some e. not_both c.is_next.result (c.is_next.ensures.1 (some, e)) c.if-is_next.false) c.requires.named in
-    let none : NamesNoAsked f W c.args.last = unnamed_above f W c.args.named.now c.args.many (c.args.last + 1) c.args.last c.requires.named (omega arith)
+    let fewer : ListsAdding f W c.args.listed.now c.args.many c.args.last = listed_below f W c.args.listed.now c.args.many c.args.last
+    (λ some e. not_both c.is_next.result (c.is_next.ensures.1 (some, e)) c.if-is_next.false) c.requires.listed in
+    let adds : AddsNothing f W c.args.last = nothing_above f W c.args.listed.now c.args.many (c.args.last + 1) c.args.last c.requires.listed (omega arith)
     (λ some. fewer.below (c.args.many - 1) (omega (arith, some))) in
     walked_last f c.requires.ssa.follow W c.args.block (c.args.block + 1) c.args.last (spread slots c.args.ends.now) (spread slots c.note_passed.new.ends)
-    (spread slots c.args.ranges.now) c.requires.block (omega (arith, some, c.requires.last)) (omega (arith, within, c.requires.last)) c.requires.last none long
+    (spread slots c.args.ranges.now) c.requires.block (omega (arith, some, c.requires.last)) (omega (arith, within, c.requires.last)) c.requires.last adds long
     (λ n lt asked. c.note_passed.ensures n (c.requires.ends_slots.theirs n (omega (arith, lt, same)) asked)) c.requires.walked
 
 pub is_next-requires : goal.is_next-requires
-is_next-requires g c = c.requires.named.within
+is_next-requires g c = c.requires.listed.within
 
 pub walk_inst-requires : goal.walk_inst-requires
 walk_inst-requires g c =

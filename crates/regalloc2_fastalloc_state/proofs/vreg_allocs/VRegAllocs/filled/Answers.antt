@@ -19,6 +19,8 @@ returns g c =
       vreg_allocs = c.self.inside.vreg_allocs.items;
       vreg_in_preg = c.self.inside.vreg_in_preg.items;
       in_registers = c.self.inside.in_registers.members;
+      watched = c.self.inside.watched.now;
+      changes = c.self.inside.changes;
     } in
     subst (λ (u : VRegAllocsValue). (r : Register) → r.number < 64 → (has_register c.registers_of_vregs.result r ≡ true) ↔ ((v : VirtualRegister)
     × (vreg_of_preg u r ≡ Some v))) c.self.view_is (filled_are t c.registers_of_vregs.result c.self.invariant.0 c.registers_of_vregs.ensures)

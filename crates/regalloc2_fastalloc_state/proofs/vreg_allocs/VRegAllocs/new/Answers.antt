@@ -1,4 +1,4 @@
-use Rattle.std.proofs.Common.{ℕ, zero, suc, ◌≡◌, ◌∙◌, ap, sym, arith, length, replicate, refl, slice_index_or}
+use Rattle.std.proofs.Common.{Bool, List, ℕ, zero, suc, ◌≡◌, ◌∙◌, ap, sym, arith, length, replicate, refl, slice_index_or}
 use Rattle.std.specs.Prelude.{Option, None, Some}
 use Rattle.std.proofs.lemmas.List.{length-replicate}
 use Rattle.regalloc2_names.specs.Place.{NoPlace, InRegister}
@@ -20,8 +20,8 @@ reads_same x (suc n) zero = refl
 reads_same x (suc n) (suc k) = reads_same x n k
 
 -- no vreg has a location, so each table is the inverse of the other
-inverse : (n : ℕ) → IsInverse (no_allocs n)
-inverse n = record {
+inverse : (n : ℕ) (watched : List Bool) → IsInverse (no_allocs n watched)
+inverse n watched = record {
   registers = refl;
   small = λ k r h. absurd (nowhere k r h);
   known = λ r v small h. absurd (nothing r v h);
@@ -43,7 +43,7 @@ invariant_of-result g c =
     ∙ ap (replicate c.args.vregs) c.none.ensures in
     let b : c.in_ok-vreg_in_preg.vreg_in_preg.items ≡ replicate 256 None = c.in_ok-vreg_in_preg.ensures.items_if_clones_equal (only_none _ (λ v k. k)) in
     let made = c.in_ok-in_registers.ensures.made in (
-      rw (a, b, ap (λ (l : LiveList). l.members) made) (inverse c.args.vregs),
+      rw (a, b, ap (λ (l : LiveList). l.members) made) (inverse c.args.vregs c.args.watched.now),
       ap (λ (l : LiveList). l.capacity) made ∙ sym (ap length a ∙ length-replicate c.args.vregs NoPlace),
     )
 

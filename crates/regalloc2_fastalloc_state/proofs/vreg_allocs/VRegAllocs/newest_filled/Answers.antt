@@ -11,6 +11,8 @@ returns-clause-some g c =
       vreg_allocs = c.self.inside.vreg_allocs.items;
       vreg_in_preg = c.self.inside.vreg_in_preg.items;
       in_registers = c.self.inside.in_registers.members;
+      watched = c.self.inside.watched.now;
+      changes = c.self.inside.changes;
     } in
     let i = c.self.invariant.0 in
     let first = sym c.iter.ensures.members ∙ c.in_ok-vreg.ensures.steps in
@@ -27,6 +29,8 @@ returns-clause-none g c =
       vreg_allocs = c.self.inside.vreg_allocs.items;
       vreg_in_preg = c.self.inside.vreg_in_preg.items;
       in_registers = c.self.inside.in_registers.members;
+      watched = c.self.inside.watched.now;
+      changes = c.self.inside.changes;
     } in
     let i = c.self.invariant.0 in
     let first = sym c.iter.ensures.members ∙ c.in_ok-vreg.ensures.steps in

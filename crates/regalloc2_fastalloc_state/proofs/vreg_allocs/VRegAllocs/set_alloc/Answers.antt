@@ -19,6 +19,8 @@ take_out-requires g c =
       vreg_allocs = c.self.inside.vreg_allocs.items;
       vreg_in_preg = c.self.inside.vreg_in_preg.items;
       in_registers = c.self.inside.in_registers.members;
+      watched = c.self.inside.watched.now;
+      changes = c.self.inside.changes;
     } in
     let known : c.vreg-number.result < length c.self.inside.vreg_allocs.items = (let e = ap (λ (t : VRegAllocsValue). length t.vreg_allocs) c.self.view_is in
     omega (arith, c.requires.vreg, c.vreg-number.ensures.number, e)) in
@@ -32,7 +34,7 @@ put_in_front-requires-clause-absent g c =
     (subst (λ (vs : List VirtualRegister). All (λ v. v.number ≢ c.vreg-number.result) vs) (sym out) (all_other c.vreg-number.result L))
 
 -- what is written
-abbrev marks : (g : Over) (c : goal.After-self-1 g) → Marks
+abbrev marks : (g : Over) (c : goal.After-self-2-1 g) → Marks
 marks g c =
     let known : c.vreg-number.result < length c.self.inside.vreg_allocs.items = (let e = ap (λ (t : VRegAllocsValue). length t.vreg_allocs) c.self.view_is in
     omega (arith, c.requires.vreg, c.vreg-number.ensures.number, e)) in
@@ -55,6 +57,10 @@ marks g c =
       empties = c.set_vreg_in_preg.ensures.marks;
       fills = c.set_vreg_in_preg-2.ensures.marks;
       order = ap (λ (l : LiveList). l.members) c.put_in_front.ensures ∙ ap (in_front_if (is_in_register c.args.place) c.args.vreg) out;
+      watched = c.self.inside.watched.now;
+      changes = c.self.inside.changes;
+      now_changes = c.count_after-self-inside.result;
+      counts = c.count_after-self-inside.ensures;
     }
 
 pub returns-clause-inverse : goal.returns-clause-inverse

@@ -1,4 +1,4 @@
-use Rattle.std.proofs.Common.{ℕ, ◌≡◌, ◌+◌, ◌-◌, ◌*◌, ◌<◌, List, length, refl, sym, ap, ◌∙◌, subst, arith}
+use Rattle.std.proofs.Common.{Bool, ℕ, ◌≡◌, ◌+◌, ◌-◌, ◌*◌, ◌<◌, List, length, refl, sym, ap, ◌∙◌, subst, arith}
 use Rattle.std.proofs.lemmas.Result.{err_from_is_err_and}
 use Rattle.std.specs.Prelude.{Result, Err, IfErr, MatchResult}
 use Rattle.regalloc2_names.specs.declared.RegAllocError.{RegAllocError}
@@ -13,6 +13,15 @@ use Rattle.regalloc2_fastalloc_proofs.specs.BlockSteps.{AllocBlock, BeginBlock, 
 use Rattle.regalloc2_fastalloc_walk.specs.StateView.{tables_of}
 use Rattle.regalloc2_fastalloc_proofs.specs.BlockSteps.{AllocsBlockInsts, AllocsBlocks, BeginsBlock, DefinesBelow, all_left, one_block, offset_of}
 use Rattle.regalloc2_fastalloc_proofs.proofs.Safety.StateKept.{none_lends, same_lends, lends_then, apart_kept, lacks_all, lack_all, joins_at}
+use Rattle.regalloc2_function.specs.Following.{end_within}
+use Rattle.regalloc2_analysis.specs.LiveRanges.LiveRanges.{IsWanted}
+use Rattle.regalloc2_analysis.specs.LiveRanges.WalkInvariant.{begin_of}
+use Rattle.regalloc2_analysis.proofs.LiveRangesLemmas.LiveRangeTable.{begins_at, begins_next, begins_past}
+use Rattle.regalloc2_fastalloc_proofs.specs.Located.{LocatedAreUsed}
+use Rattle.regalloc2_fastalloc_proofs.proofs.Debug.ChangesCounted.{blocks_watched}
+use Rattle.regalloc2_fastalloc_proofs.proofs.Debug.LocatedVRegsAreUsed.{begin_located, insts_located, none_located}
+use Rattle.regalloc2_fastalloc_walk.specs.Findings.{IsFound}
+use Rattle.regalloc2_fastalloc_walk.proofs.Findings.{none_fail, none_listed}
 use Rattle.regalloc2_fastalloc_walk.proofs.state.State.alloc_blocks.Goals as goal
 
 -- an error is what was returned
@@ -29,6 +38,9 @@ loop-b-init g c =
     let t : StateValue = tables_of c.args.self.now in
     let P : ℕ → Type 0 = λ n. AllocsBlocks f c.args.allocs.now t n c.args.allocs.now t in
     let Q : List (ℕ × MoveValue) → Type 0 = λ es. AllAtOrAfter (before (block_at f (c.num_blocks-b.result - 1)).range.end) es in
+    let n : ℕ = c.num_blocks-b.result in
+    let W : ℕ → Type 0 = IsWanted c.args.self.now.places.watched in
+    let past : begin_of f n ≡ length f.insts = begins_past f n c.num_blocks-b.ensures.count in
     record {
       within = omega (arith, c.num_blocks-b.ensures.count);
       walks = subst P (sym c.num_blocks-b.ensures.count) all_left;
@@ -36,6 +48,8 @@ loop-b-init g c =
       later = λ some. subst Q (sym c.requires.fresh) (λ k d lt. absurd (omega arith));
       long = refl;
       machine = none_lends _ t;
+      located = none_located f (begin_of f n) c.requires.nowhere.0 c.args.self.now.places.watched t c.requires.nowhere.1;
+      found = record { passes = none_fail f (begin_of f n) past; changed = rw c.new.ensures.items (none_listed f W (begin_of f n) past) };
     }
 
 pub alloc_block-requires : goal.alloc_block-requires
@@ -44,6 +58,9 @@ alloc_block-requires g c =
     let same : c.new-block.result ≡ c.loop-b.b - 1 = c.new-block.ensures in
     let lt : c.new-block.result < length f.blocks = omega (arith, same, c.loop-b-test.true, c.loop-b.invariant.within) in
     let some : 0 < c.loop-b.b = omega (arith, c.loop-b-test.true) in
+    let next : c.loop-b.b ≡ c.new-block.result + 1 = omega (arith, some, same) in
+    let end : begin_of f c.loop-b.b ≡ (block_at f c.new-block.result).range.end =
+    ap (begin_of f) next ∙ begins_next f c.requires.well_formed.1.follow c.new-block.result lt in
     let Q : ℕ → Type 0 = λ n. AllAtOrAfter (before (block_at f n).range.end) c.loop-b.self.edits in (
       omega arith,
       record {
@@ -53,6 +70,10 @@ alloc_block-requires g c =
         room = subst (DefinesBelow f) (sym c.loop-b.invariant.long) c.requires.room;
         apart = apart_kept _ (tables_of c.args.self.now) (tables_of c.loop-b.self) c.loop-b.invariant.machine c.requires.apart;
         later = subst Q (sym same) (c.loop-b.invariant.later some);
+        located = subst (λ (n : ℕ). LocatedAreUsed f n (tables_of c.loop-b.self)) end c.loop-b.invariant.located;
+        found = subst (λ (n : ℕ). IsFound f (IsWanted c.loop-b.self.places.watched) n c.loop-b.found) end
+            (subst (λ (w : List Bool). IsFound f (IsWanted w) (begin_of f c.loop-b.b) c.loop-b.found) (sym (blocks_watched c.loop-b.invariant.walks))
+            c.loop-b.invariant.found);
         offsets_long = c.requires.offsets_long;
         offsets = c.requires.offsets;
         allocs_long = c.loop-b.auto.allocs ∙ c.requires.allocs_long;
@@ -96,17 +117,28 @@ loop-b-preserved g c =
     let first : (block_at f d).range.first ≡ (block_at f b).range.first = ap (λ (n : ℕ). (block_at f n).range.first) same in
     let begins : BeginsBlock f b u w = subst (λ (n : ℕ). BeginsBlock f n u w) same c.in_ok-begin_block.ensures.outcome in
     let joins : 0 < b → (block_at f (b - 1)).range.end ≡ (block_at f b).range.first = joins_at f c.requires.well_formed.1.follow b lt in
+    let well = c.requires.well_formed.1 in
+    let insts : I b = subst I same c.in_ok-alloc_block.ensures.outcome in
+    let begin : begin_of f b ≡ (block_at f b).range.first = begins_at f b lt in
+    let end : begin_of f c.loop-b.b ≡ (block_at f b).range.end = ap (begin_of f) next ∙ begins_next f well.follow b lt in
     let N : ℕ → Type 0 = λ n. AllAtOrAfter (before n) c.begin_block.new.self.edits in
     record {
       within = omega (arith, c.loop-b.invariant.within);
       walks = one_block b c.loop-b.allocs c.alloc_block.new.allocs t u w lt (subst P next c.loop-b.invariant.walks)
-          (subst I same c.in_ok-alloc_block.ensures.outcome) begins;
+          insts begins;
       blank = λ some k less. c.in_ok-alloc_block.ensures.no_places k
           (let e = ap (offset_of f) (joins some) in let h = ap (λ (n : ℕ). offset_of f (block_at f n).range.first) same in omega (arith, less, e, h));
       later = λ some. subst N (first ∙ sym (joins some)) c.in_ok-begin_block.ensures.step.later;
       long = c.in_ok-begin_block.ensures.step.long ∙ c.in_ok-alloc_block.ensures.step.long ∙ c.loop-b.invariant.long;
       machine = lends_then (6 * (length f.blocks - c.loop-b.b)) 6 _ a t w (omega (arith, next, lt)) c.loop-b.invariant.machine
           (lends_then 6 0 6 t u w (omega arith) c.alloc_block.ensures.step.machine (same_lends 0 u w c.begin_block.ensures.step.machine));
+      located = subst (λ (n : ℕ). LocatedAreUsed f n w) (sym begin)
+          (begin_located f well.follow well.end well.counted b lt (block_at f b).range.first u w begins
+          (insts_located f well.follow well.end well.counted b lt (end_within f well.follow b lt) insts
+          (subst (λ (n : ℕ). LocatedAreUsed f n t) end c.loop-b.invariant.located)));
+      found = subst (λ (n : ℕ). IsFound f (IsWanted c.args.self.now.places.watched) n c.alloc_block.new.found) (first ∙ sym begin)
+          (subst (λ (x : List Bool). IsFound f (IsWanted x) (block_at f d).range.first c.alloc_block.new.found) (blocks_watched c.loop-b.invariant.walks)
+          c.in_ok-alloc_block.ensures.found);
     }
 
 pub returns-in_err-alloc_block-clause-machine : goal.returns-in_err-alloc_block-clause-machine
@@ -205,3 +237,11 @@ pub returns-in_err-defs-clause-outcome : goal.returns-in_err-defs-clause-outcome
 returns-in_err-defs-clause-outcome g c =
     let p = err_from_is_err_and c.from_residual.result c.from_residual.ensures.1 in
     stops_as _ _ c.from_residual.result p.1 (p.2 ∙ c.in_err-defs.ensures.memory) (λ lacks. absurd cc)
+
+pub returns-clause-found : goal.returns-clause-found
+returns-clause-found g c =
+    let f : FunctionValue = g.F.Function.function c.args.f.now in
+    let e : c.loop-b.b ≡ 0 = omega (arith, c.loop-b-test.false) in
+    let some : 0 < length f.blocks = (let entry = c.requires.well_formed.1.successors.0 in omega (arith, entry)) in
+    let begin : begin_of f c.loop-b.b ≡ 0 = ap (begin_of f) e ∙ begins_at f 0 some ∙ (c.requires.well_formed.1.follow 0 some).1 refl in
+    subst (λ (n : ℕ). IsFound f (IsWanted c.args.self.now.places.watched) n c.loop-b.found) begin c.loop-b.invariant.found

@@ -5,7 +5,7 @@ use Rattle.regalloc2_fastalloc_proofs.specs.InstSteps.{in_prepare}
 use Rattle.regalloc2_fastalloc_walk.specs.PlaceSteps.{in_lates, in_earlies}
 use Rattle.regalloc2_fastalloc_walk.specs.StateView.{tables_of}
 use Rattle.regalloc2_fastalloc_walk.proofs.InstPlaced.{allocs_inst, stops_inst, placed, not_placed, still_in_tables}
-use Rattle.regalloc2_fastalloc_walk.proofs.Steps.{fails_with, outcome_more, step_ok, step_then, step_then_fails}
+use Rattle.regalloc2_fastalloc_walk.proofs.Steps.{fails_with, step_ok, step_then, step_then_fails}
 use Rattle.regalloc2_fastalloc_walk.proofs.state.State.alloc_inst.Goals as goal
 
 pub process_operands_at-requires : goal.process_operands_at-requires
@@ -79,9 +79,13 @@ returns-clause-outcome g c = allocs_inst c.in_ok-sorted.ensures.outcome c.requir
 
 -- more than 63 operands
 pub returns-then-cx-gt63-clause-outcome : goal.returns-then-cx-gt63-clause-outcome
-returns-then-cx-gt63-clause-outcome g c = outcome_more c.place_each.result
-    (allocs_inst c.in_ok-sorted.ensures.outcome c.requires.allocs_long c.requires.no_places c.requires.fresh)
-    (λ e stops lacks. stops_inst c.in_ok-sorted.ensures.outcome (stops lacks)) c.place_each.ensures.outcome
+returns-then-cx-gt63-clause-outcome g c = allocs_inst c.in_ok-sorted.ensures.outcome c.requires.allocs_long c.requires.no_places c.requires.fresh
+    c.in_ok-place_each.ensures.outcome
+
+pub returns-in_err-place_each-clause-outcome : goal.returns-in_err-place_each-clause-outcome
+returns-in_err-place_each-clause-outcome g c =
+    let e = err_from_is_err_and c.from_residual-in_err-place_each.result c.from_residual-in_err-place_each.ensures.1 in
+    rw e.1 (λ lacks. stops_inst c.in_ok-sorted.ensures.outcome (c.in_err-place_each.ensures.outcome (sym e.2 ∙ lacks)))
 
 -- the machine stays, wherever the walk stops
 pub returns-in_err-sorted-clause-step : goal.returns-in_err-sorted-clause-step

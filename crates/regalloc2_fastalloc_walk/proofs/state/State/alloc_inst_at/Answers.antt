@@ -39,7 +39,7 @@ returns-clause-outcome g c =
       record {
         blank = take k (drop a xs);
         here = c.alloc_inst.new.allocs;
-        allocates = c.in_ok-alloc_inst.ensures.outcome.0;
+        allocates = c.in_ok-unlimited.ensures.outcome.0;
         long = length_part a k xs c.alloc_inst.new.allocs (omega (arith, c.requires.room)) (allocs ∙ sym same);
         inside = λ j lt. inside_part a k j xs c.alloc_inst.new.allocs NoPlace le (omega arith);
         outside = λ j o. ⊎_elim
@@ -47,11 +47,11 @@ returns-clause-outcome g c =
             (λ (ge : a + n ≤ j). above_part a k j xs c.alloc_inst.new.allocs NoPlace le (allocs ∙ sym same) (omega arith))
             o;
       },
-      c.in_ok-alloc_inst.ensures.outcome.1,
+      c.in_ok-unlimited.ensures.outcome.1,
     )
 
-pub returns-in_err-alloc_inst-clause-outcome : goal.returns-in_err-alloc_inst-clause-outcome
-returns-in_err-alloc_inst-clause-outcome g c =
+pub returns-in_err-unlimited-clause-outcome : goal.returns-in_err-unlimited-clause-outcome
+returns-in_err-unlimited-clause-outcome g c =
     let xs : List Place = c.args.allocs.now in
     let a : ℕ = c.args.start in
     let n : ℕ = length c.args.cx.now.operands.now in
@@ -62,5 +62,5 @@ returns-in_err-alloc_inst-clause-outcome g c =
       take k (drop a xs),
       blank,
       blank_part xs a k NoPlace (λ j lt. c.requires.no_places j (omega arith)),
-      c.in_err-alloc_inst.ensures.outcome (sym e.2 ∙ lacks),
+      c.in_err-unlimited.ensures.outcome (sym e.2 ∙ lacks),
     ))

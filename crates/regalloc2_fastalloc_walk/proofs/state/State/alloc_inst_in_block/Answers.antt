@@ -1,7 +1,7 @@
 use Rattle.std.proofs.Common.{ℕ, ◌≡◌, ◌+◌, List, Bool, true, false, length, refl, sym, ap, ◌∙◌, subst, arith}
 use Rattle.std.proofs.lemmas.List.Sums.{sum_by_more, sum_by_more_le}
 use Rattle.std.proofs.lemmas.Result.{err_from_is_err_and}
-use Rattle.std.specs.Prelude.{Result, Err}
+use Rattle.std.specs.Prelude.{Result, Err, All, ◌↔◌}
 use Rattle.regalloc2_names.specs.declared.RegAllocError.{RegAllocError}
 use Rattle.regalloc2_names.specs.declared.sets.PRegSet.{PRegSet}
 use Rattle.regalloc2_names.specs.Operand.{OperandValue}
@@ -18,6 +18,8 @@ use Rattle.regalloc2_fastalloc_proofs.specs.BlockSteps.{AllocInstAt, in_inst, in
 use Rattle.regalloc2_fastalloc_proofs.proofs.Safety.StateKept.{same_lends, lends_then, apart_kept, ends_in_branch, lack_all, lacks_all, lent_six, to_inst}
 use Rattle.regalloc2_fastalloc_proofs.proofs.Walk.UsesReadOwnDefs.{all_in_tables}
 use Rattle.regalloc2_fastalloc_proofs.proofs.Branches.WellFormedMayBranch.{may_pass, parameters_differ}
+use Rattle.regalloc2_fastalloc_state.specs.Validate.NoLimits.{IsTakenOperand}
+use Rattle.regalloc2_fastalloc_walk.proofs.Findings.{passes_branch, passes_inst}
 use Rattle.regalloc2_fastalloc_walk.proofs.state.State.alloc_inst_in_block.Goals as goal
 
 pub alloc_inst_at-requires : goal.alloc_inst_at-requires
@@ -49,7 +51,7 @@ alloc_inst_at-requires g c =
 pub returns-then-not-is_branch-clause-outcome : goal.returns-then-not-is_branch-clause-outcome
 returns-then-not-is_branch-clause-outcome g c =
     let h = to_inst (inst_at (g.F.Function.function c.args.cx.now.f.now) c.args.at.inst) c.inst_operands-operands.ensures c.inst_clobbers-clobbers.ensures
-    c.ends_block-ends_block.ensures c.requires.start c.in_ok-alloc_inst_at.ensures.outcome in
+    c.ends_block-ends_block.ensures c.requires.start c.in_ok-unlimited.ensures.outcome in
     let no : c.is_branch.result ≡ false = c.if-not-is_branch.true in
     record {
       middle = tables_of c.alloc_inst_at.new.self;
@@ -64,7 +66,7 @@ pub returns-clause-outcome : goal.returns-clause-outcome
 returns-clause-outcome g c =
     let f : FunctionValue = g.F.Function.function c.args.cx.now.f.now in
     let h = to_inst (inst_at (g.F.Function.function c.args.cx.now.f.now) c.args.at.inst) c.inst_operands-operands.ensures c.inst_clobbers-clobbers.ensures
-    c.ends_block-ends_block.ensures c.requires.start c.in_ok-alloc_inst_at.ensures.outcome in
+    c.ends_block-ends_block.ensures c.requires.start c.in_ok-unlimited.ensures.outcome in
     let on : c.is_branch.result ≡ true = c.if-not-is_branch.false in
     let Q : InstRegs → Type 0 = λ t. ProcessesBranch f c.args.block c.args.at.inst t c.process_branch.new.inst_regs (tables_of c.alloc_inst_at.new.self)
     (tables_of c.process_branch.new.self) in
@@ -94,9 +96,9 @@ process_branch-requires g c =
           well_formed = c.requires.well_formed;
           branch = sym c.is_branch.ensures ∙ on;
           defs = c.requires.defs;
-          later = c.in_ok-alloc_inst_at.ensures.step.later;
+          later = c.in_ok-unlimited.ensures.step.later;
           may_pass = may_pass env f c.requires.well_formed.1 c.args.block c.requires.block (tables_of c.alloc_inst_at.new.self)
-              (subst (DefinesBelow f) (sym c.in_ok-alloc_inst_at.ensures.step.long) c.requires.room);
+              (subst (DefinesBelow f) (sym c.in_ok-unlimited.ensures.step.long) c.requires.room);
         };
         differ = parameters_differ env f c.requires.well_formed.1 c.args.block c.requires.block;
         apart = apart_kept 0 (tables_of c.args.self.now) (tables_of c.alloc_inst_at.new.self)
@@ -111,14 +113,14 @@ branch_fails : {A T : Type 0} {at more : ℕ} {e d : RegAllocError} (r : Result 
 branch_fails r a b is same kept lacks = rw is (rw same (record { machine = kept; later = tt; long = tt; err = lacks }))
 
 -- the machine stays but for the temporary slots of a branch
-pub returns-in_err-alloc_inst_at-clause-step : goal.returns-in_err-alloc_inst_at-clause-step
-returns-in_err-alloc_inst_at-clause-step g c =
+pub returns-in_err-unlimited-clause-step : goal.returns-in_err-unlimited-clause-step
+returns-in_err-unlimited-clause-step g c =
     let n : ℕ = temp_slots_at (g.F.Function.function c.args.cx.now.f.now) c.args.at.inst in
     let a : StateValue = tables_of c.args.self.now in
     let m : StateValue = tables_of c.alloc_inst_at.new.self in
     let p = err_from_is_err_and c.from_residual.result c.from_residual.ensures.1 in
     branch_fails c.from_residual.result c.args.self.now c.alloc_inst_at.new.self p.1 p.2 (same_lends n a m c.alloc_inst_at.ensures.step.machine)
-    (lack_all 0 n a m (same_lends 0 a m c.alloc_inst_at.ensures.step.machine) (omega arith) _ c.in_err-alloc_inst_at.ensures.step.err)
+    (lack_all 0 n a m (same_lends 0 a m c.alloc_inst_at.ensures.step.machine) (omega arith) _ c.in_err-unlimited.ensures.step.err)
 
 pub returns-in_err-process_branch-clause-step : goal.returns-in_err-process_branch-clause-step
 returns-in_err-process_branch-clause-step g c =
@@ -135,8 +137,8 @@ returns-in_err-process_branch-clause-step g c =
 pub returns-then-not-is_branch-clause-step : goal.returns-then-not-is_branch-clause-step
 returns-then-not-is_branch-clause-step g c = record {
   machine = same_lends _ (tables_of c.args.self.now) (tables_of c.alloc_inst_at.new.self) c.alloc_inst_at.ensures.step.machine;
-  later = c.in_ok-alloc_inst_at.ensures.step.later;
-  long = c.in_ok-alloc_inst_at.ensures.step.long;
+  later = c.in_ok-unlimited.ensures.step.later;
+  long = c.in_ok-unlimited.ensures.step.long;
   err = tt;
 }
 
@@ -150,13 +152,13 @@ returns-clause-step g c =
           (arith, few))
           (same_lends 0 a m c.alloc_inst_at.ensures.step.machine) c.process_branch.ensures.step.machine;
       later = c.in_ok-process_branch.ensures.step.later;
-      long = c.in_ok-process_branch.ensures.step.long ∙ c.in_ok-alloc_inst_at.ensures.step.long;
+      long = c.in_ok-process_branch.ensures.step.long ∙ c.in_ok-unlimited.ensures.step.long;
       err = tt;
     }
 
 -- where it stops
-pub returns-in_err-alloc_inst_at-clause-outcome : goal.returns-in_err-alloc_inst_at-clause-outcome
-returns-in_err-alloc_inst_at-clause-outcome g c =
+pub returns-in_err-unlimited-clause-outcome : goal.returns-in_err-unlimited-clause-outcome
+returns-in_err-unlimited-clause-outcome g c =
     let f : FunctionValue = g.F.Function.function c.args.cx.now.f.now in
     let v : InstValue = inst_at f c.args.at.inst in
     let e = err_from_is_err_and c.from_residual.result c.from_residual.ensures.1 in
@@ -172,7 +174,7 @@ returns-in_err-alloc_inst_at-clause-outcome g c =
     (subst (λ (b : Bool). X v.operands v.clobbers b c.args.at.start) c.ends_block-ends_block.ensures
     (subst (λ (k : PRegSet). X v.operands k c.ends_block-ends_block.result c.args.at.start) c.inst_clobbers-clobbers.ensures
     (subst (λ (o : List OperandValue). X o c.inst_clobbers-clobbers.result c.ends_block-ends_block.result c.args.at.start) c.inst_operands-operands.ensures
-    (c.in_err-alloc_inst_at.ensures.outcome (sym e.2 ∙ lacks)))))))
+    (c.in_err-unlimited.ensures.outcome (sym e.2 ∙ lacks)))))))
 
 pub returns-in_err-process_branch-clause-outcome : goal.returns-in_err-process_branch-clause-outcome
 returns-in_err-process_branch-clause-outcome g c =
@@ -180,7 +182,7 @@ returns-in_err-process_branch-clause-outcome g c =
     let i : ℕ = c.args.at.inst in
     let m : StateValue = tables_of c.alloc_inst_at.new.self in
     let h = to_inst (inst_at (g.F.Function.function c.args.cx.now.f.now) c.args.at.inst) c.inst_operands-operands.ensures c.inst_clobbers-clobbers.ensures
-    c.ends_block-ends_block.ensures c.requires.start c.in_ok-alloc_inst_at.ensures.outcome in
+    c.ends_block-ends_block.ensures c.requires.start c.in_ok-unlimited.ensures.outcome in
     let on : c.is_branch.result ≡ true = c.if-not-is_branch.false in
     let e = err_from_is_err_and c.from_residual-in_err-process_branch.result c.from_residual-in_err-process_branch.ensures.1 in
     rw e.1 (λ lacks. in_pass c.alloc_inst_at.new.allocs m h.0 (sym c.is_branch.ensures ∙ on)
@@ -188,3 +190,17 @@ returns-in_err-process_branch-clause-outcome g c =
 
 pub is_branch-requires : goal.is_branch-requires
 is_branch-requires g c = c.requires.inst
+
+-- the operands are the instruction's
+pub returns-then-not-is_branch-clause-passes : goal.returns-then-not-is_branch-clause-passes
+returns-then-not-is_branch-clause-passes g c =
+    passes_inst (inst_at (g.F.Function.function c.args.cx.now.f.now) c.args.at.inst) c.in_ok-unlimited.unlimited
+    (sym c.is_branch.ensures ∙ c.if-not-is_branch.true)
+    (subst (λ (os : List OperandValue). (c.in_ok-unlimited.unlimited ≡ true) ↔ All IsTakenOperand os) c.inst_operands-operands.ensures
+    c.in_ok-unlimited.ensures.unlimited)
+
+pub returns-clause-passes : goal.returns-clause-passes
+returns-clause-passes g c =
+    passes_branch (inst_at (g.F.Function.function c.args.cx.now.f.now) c.args.at.inst) c.in_ok-unlimited.unlimited c.is_sound_branch-is_sound.result
+    (subst (λ (os : List OperandValue). (c.in_ok-unlimited.unlimited ≡ true) ↔ All IsTakenOperand os) c.inst_operands-operands.ensures
+    c.in_ok-unlimited.ensures.unlimited) c.is_sound_branch-is_sound.ensures

@@ -1,4 +1,4 @@
-use Rattle.std.proofs.Common.{◌≡◌, [], refl, sym, ◌∙◌, subst, inl, inr, ⊎_elim, ℕ, ◌+◌, rules}
+use Rattle.std.proofs.Common.{◌≡◌, [], refl, sym, ◌∙◌, subst, inl, inr, ⊎_elim, ◌+◌, rules}
 use Rattle.regalloc2_fastalloc_walk.proofs.Steps.{outcome_of}
 use Rattle.regalloc2_names.specs.declared.RegAllocError.TheVariants.{Memory, TooManyLiveRegs}
 use Rattle.regalloc2_names.specs.Register.{Register}

@@ -1,6 +1,5 @@
-use Rattle.std.proofs.Common.{Bool, ◌≡◌, true, refl, sym, ◌∙◌, ap, subst, inl, inr}
-use Rattle.std.specs.Prelude.{Option, None, Some, IfNone}
-use Rattle.regalloc2_names.specs.Register.{Register}
+use Rattle.std.proofs.Common.{◌≡◌, true, sym, ◌∙◌, subst, inl, inr}
+use Rattle.std.specs.Prelude.{Some}
 use Rattle.regalloc2_names.specs.declared.RegClass.{RegClass}
 use Rattle.regalloc2_fastalloc_state.specs.Choice.{chosen}
 use Rattle.regalloc2_fastalloc_state.specs.InstRegs.{is_available_at}

@@ -1,5 +1,5 @@
 -- What the pass before the walk finds grows with each instruction.
-use Rattle.std.proofs.Common.{ℕ, ◌≡◌, ◌+◌, ◌<◌, ◌≤◌, ◌^◌, Bool, true, false, List, [], ◌∷◌, ◌++◌, length, Err, sym, ap, ◌∙◌, below_more, arith, nat_eq, eqb-true}
+use Rattle.std.proofs.Common.{ℕ, ◌≡◌, ◌+◌, ◌<◌, ◌≤◌, ◌^◌, Bool, List, [], ◌∷◌, ◌++◌, length, Err, sym, ap, ◌∙◌, below_more, arith}
 use Rattle.std.proofs.lemmas.List.{get_or_append_left, take_all}
 use Rattle.std.proofs.lemmas.List.Sums.{sum_by_more}
 use Rattle.std.proofs.Math.Seq.{get_or-append_seam}
@@ -8,36 +8,10 @@ use Rattle.regalloc2_names.specs.declared.RegAllocError.{RegAllocError}
 use Rattle.regalloc2_names.specs.declared.RegAllocError.TheVariants.{TooManyOperands}
 use Rattle.regalloc2_function.specs.FunctionValue.{FunctionValue, InstValue, inst_at, no_inst, operand_count}
 use Rattle.regalloc2_function.specs.Machine.{MachineValue}
-use Rattle.regalloc2_analysis.specs.LiveRanges.LiveRanges.{IsWanted}
 use Rattle.regalloc2_fastalloc_proofs.specs.BlockSteps.{offset_of}
 use Rattle.regalloc2_fastalloc.specs.ErrorReason.{IsReason}
 use Rattle.regalloc2_fastalloc.specs.Survey.{IsSurveyError}
 use Rattle.regalloc2_fastalloc.specs.Survey.IsSurveyError.{out_of_memory, uncounted}
-
--- one more passes a test
-pub all_more : (P : ℕ → Type 0) (i : ℕ) (was here now : Bool) → (now ≡ true) ↔ ((was ≡ true) × (here ≡ true)) → (here ≡ true) ↔ P i →
-    (was ≡ true) ↔ ((k : ℕ) → k < i → P k) → (now ≡ true) ↔ ((k : ℕ) → k < i + 1 → P k)
-all_more P i was here now both one so_far = (
-  λ t. let b = both.0 t in below_more P i (so_far.0 b.0) (one.0 b.1),
-  λ all. both.1 (so_far.1 (λ k l. all k (omega (arith, l))), one.1 (all i (omega arith))),
-)
-
--- a flag that is cleared where a test fails holds where it held and the test passes
-pub cleared : (was here now : Bool) → here ≡ false → now ≡ false → (now ≡ true) ↔ ((was ≡ true) × (here ≡ true))
-cleared was here now fails e = (λ t. let x = sym e ∙ t in absurd cc, λ b. let x = sym fails ∙ b.1 in absurd cc)
-
-pub uncleared : (was here now : Bool) → here ≡ true → now ≡ was → (now ≡ true) ↔ ((was ≡ true) × (here ≡ true))
-uncleared was here now passes e = (λ t. (sym e ∙ t, passes), λ b. e ∙ b.0)
-
--- an empty table asks for none
-pub none_wanted : (wanted : List Bool) → nat_eq (length wanted) 0 ≡ true → (n : ℕ) → IsWanted wanted n → ⊥
-none_wanted [] e n w = absurd cc
-none_wanted (b ∷ wanted) e n w = let none : length (b ∷ wanted) ≡ 0 = eqb-true _ _ e in absurd (omega (arith, none))
-
--- and so does what follows from it
-pub taken_more : (P : ℕ → Type 0) (i : ℕ) (was here now : Bool) → (now ≡ true) ↔ ((was ≡ true) × (here ≡ true)) → (here ≡ true → P i) →
-    (was ≡ true → (k : ℕ) → k < i → P k) → now ≡ true → (k : ℕ) → k < i + 1 → P k
-taken_more P i was here now both one so_far t = let b = both.0 t in below_more P i (so_far b.0) (one b.1)
 
 -- the places of one instruction more begin where those of the one before end
 pub offset_more : (f : FunctionValue) (i total n : ℕ) → i < length f.insts → total ≡ offset_of f i → n ≡ length (inst_at f i).operands →
