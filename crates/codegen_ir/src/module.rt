@@ -35,7 +35,7 @@ pub struct Module {
 }
 
 /// Why functions are no module.
-#[derive(Clone, Copy, Debug)]
+#[derive(Clone, Copy, Debug, PartialEq, Eq)]
 pub enum Refusal {
     /// There is no function.
     NoFunction,

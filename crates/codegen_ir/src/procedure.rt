@@ -47,7 +47,7 @@ pub struct Procedure {
 }
 
 /// Why blocks and lines are rejected.
-#[derive(Clone, Copy, Debug)]
+#[derive(Clone, Copy, Debug, PartialEq, Eq)]
 pub enum Malformed {
     /// There are more than a million blocks, lines or vregs.
     TooLarge,
