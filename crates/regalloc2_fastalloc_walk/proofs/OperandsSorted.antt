@@ -1,20 +1,23 @@
 -- What a pass over operands, from the last to the first, finds.
 use Rattle.std.proofs.Common.{ℕ, zero, suc, ◌≡◌, ◌+◌, ◌-◌, ◌/◌, ◌%◌, ◌<◌, ◌≤◌, ◌⊎◌, inl, inr, Bool, true, false, List, [], ◌∷◌, length, refl}
-use Rattle.std.proofs.Common.{arith, eq-eqb, sym, ap, ◌∙◌, subst}
+use Rattle.std.proofs.Common.{arith, bit_and, eq-eqb, sym, ap, ◌∙◌, subst}
 use Rattle.std.specs.Prelude.{All, bit_or, drop, IsTrue, ◌↔◌, ◌&&◌, if◌then◌else◌, nat_eq, nat_le, nat_lt, slice_index, slice_set}
+use Rattle.std.specs.Int.{bit_at}
 use Rattle.std.proofs.lemmas.Bool.{cases_Bool, cases_eq, cases_lt}
 use Rattle.std.proofs.lemmas.Bool.Decides.{nat_tests}
 use Rattle.std.proofs.lemmas.List.{drop_all, drop_more, get_or-set_other, get_or-set_same, length-set}
-use Rattle.std.proofs.lemmas.List.Elements.{All-cons, All-head, All-nil, All-tail}
+use Rattle.std.proofs.lemmas.List.Elements.{All-cons, All-nil}
 use Rattle.std.proofs.lemmas.List.Sums.{sum_by-cons}
 use Rattle.std.proofs.lemmas.Nat.{le_or_l, le_or_r, or_lt}
+use Rattle.std.proofs.lemmas.Nat.Bits.{and_pow, bit_at_or}
 use Rattle.regalloc2_names.specs.declared.RegClass.{RegClass}
 use Rattle.regalloc2_names.specs.declared.RegClass.TheVariants.{Int, Float, Vector}
 use Rattle.regalloc2_names.specs.declared.OperandConstraint.{OperandConstraint}
 use Rattle.regalloc2_names.specs.declared.OperandConstraint.TheVariants.{Any, Reg, Stack, Limit, Reuse, FixedReg}
 use Rattle.regalloc2_names.specs.Register.{Register, class_code, class_of_code}
 use Rattle.regalloc2_names.specs.Operand.{OperandValue}
-use Rattle.regalloc2_names.specs.Packing.{IsConstraintOf, bits_of_operand, constraint_code, constraint_of_code, operand_of_bits}
+use Rattle.regalloc2_names.specs.Packing.{IsConstraintOf, IsOperandBits, IsOperand-operand_of_bits, bits_of_operand, constraint_code, constraint_of_code}
+use Rattle.regalloc2_names.specs.Packing.{operand_of_bits, plain_constraint}
 use Rattle.regalloc2_fastalloc_state.specs.declared.inst_regs.InstRegs.{InstRegs}
 use Rattle.regalloc2_fastalloc_state.specs.declared.masks.Masks.{Masks}
 use Rattle.regalloc2_fastalloc_state.specs.InstRegs.{SameAvailable, awaited_of}
@@ -54,17 +57,57 @@ either_reaches a b le = elim (cases_lt a 4398046511104) [
   | inl x ↦ elim (cases_lt b 4398046511104) [ inr y ↦ inr y | inl y ↦ absurd (omega (arith, or_lt 42 a b x y)) ]
 ]
 
--- no operand has a limit if neither the first nor one of the rest has
-unlimited_more : (o : OperandValue) (rest : List OperandValue) (a b : Bool) → ((a ≡ true) ↔ All IsTakenOperand rest) → (IsTrue b ↔ IsUnlimited o) →
-    IsConstraintOf o.vreg.class o.constraint → ((a && b) ≡ true) ↔ All IsTakenOperand (o ∷ rest)
-unlimited_more o rest true b h one class = (
-  λ e. All-cons IsTakenOperand o rest (record { of_class = class; unlimited = one.0 e }) (h.0 refl),
-  λ all. one.1 (All-head IsTakenOperand o rest all).unlimited,
-)
-unlimited_more o rest false b h one class = (λ e. absurd cc, λ all. h.1 (All-tail IsTakenOperand o rest all))
+-- a code that stands for a limit is from 16 to 31
+plain_is_unlimited : (c n : ℕ) → plain_constraint c ≡ Limit n → ⊥
+plain_is_unlimited zero n e = absurd cc
+plain_is_unlimited (suc zero) n e = absurd cc
+plain_is_unlimited (suc (suc c)) n e = absurd cc
+
+limit_from_16 : (class : RegClass) (c n : ℕ) → constraint_of_code class c ≡ Limit n → 16 ≤ c
+limit_from_16 class c n e = elim (cases_lt c 16) [
+  | inr x ↦ x
+  | inl x ↦ absurd (
+      let a : nat_lt c 16 ≡ true = grind (arith, nat_tests) in
+      let plain : constraint_of_code class c ≡ plain_constraint c = rw a refl in
+      plain_is_unlimited c n (sym plain ∙ e))
+]
+
+limit_below_32 : (class : RegClass) (c n : ℕ) → constraint_of_code class c ≡ Limit n → c < 32
+limit_below_32 class c n e = elim (cases_lt c 32) [
+  | inl x ↦ x
+  | inr x ↦ absurd (
+      let a : nat_lt c 16 ≡ false = grind (arith, nat_tests) in
+      let b : nat_lt c 32 ≡ false = grind (arith, nat_tests) in
+      elim (cases_lt c 64) [
+        | inl y ↦ (
+            let d : nat_lt c 64 ≡ true = grind (arith, nat_tests) in
+            let reuse : constraint_of_code class c ≡ Reuse (c - 32) = rw (a, b, d) refl in
+            cc)
+        | inr y ↦ (let fixed = code_is_fixed class c y in cc)
+      ])
+]
+
+-- so an operand whose word has bit 40 clear has no limit
+unlimited_by_bit : (o : OperandValue) (b : ℕ) → operand_of_bits b ≡ o → bit_at b 40 ≡ 0 → IsUnlimited o
+unfolding operand_of_bits
+unlimited_by_bit o b e none n limit =
+    let class : RegClass = class_of_code (b / 4294967296 % 4) in
+    let c : constraint_of_code class (b / 68719476736) ≡ Limit n = ap (λ (x : OperandValue). x.constraint) e ∙ limit in
+    omega (arith, none, limit_from_16 class (b / 68719476736) n c, limit_below_32 class (b / 68719476736) n c)
+
+-- the walk takes an operand whose word has bit 40 clear
+taken : (o : OperandValue) (b : ℕ) → IsOperandBits b → operand_of_bits b ≡ o → bit_at b 40 ≡ 0 → IsTakenOperand o
+taken o b word e none = record {
+  of_class = subst (λ (x : OperandValue). IsConstraintOf x.vreg.class x.constraint) e (IsOperand-operand_of_bits b word).1;
+  unlimited = unlimited_by_bit o b e none;
+}
+
+-- a bit that is clear in two words' bits together is clear in each
+clear_in_both : (a b i : ℕ) → bit_at (bit_or a b) i ≡ 0 → (bit_at a i ≡ 0) × (bit_at b i ≡ 0)
+clear_in_both a b i e = (let m = sym (bit_at_or a b i) ∙ e in (omega (arith, m), omega (arith, m)))
 
 -- what was found among the operands from the index k on
-pub record Sorting (ops : List OperandValue) (k : ℕ) (t u : InstRegs) (masks : Masks) (bits : ℕ) (no_limits : Bool) : Type 0 where
+pub record Sorting (ops : List OperandValue) (k : ℕ) (t u : InstRegs) (masks : Masks) (bits : ℕ) : Type 0 where
   pub inside : k ≤ length ops
   pub available : SameAvailable t u
   pub long : length u.awaited ≡ 3
@@ -72,11 +115,11 @@ pub record Sorting (ops : List OperandValue) (k : ℕ) (t u : InstRegs) (masks :
   pub masked : length (drop k ops) ≤ 63 → AreMasks (drop k ops) masks
   pub some : 4398046511104 ≤ bits → (j : ℕ) × (r : Register) × (j < length ops) × ((op_at ops j).constraint ≡ FixedReg r)
   pub none : bits < 4398046511104 → (j : ℕ) → k ≤ j → j < length ops → (r : Register) → (op_at ops j).constraint ≡ FixedReg r → ⊥
-  pub unlimited : (no_limits ≡ true) ↔ All IsTakenOperand (drop k ops)
+  pub unlimited : bit_at bits 40 ≡ 0 → All IsTakenOperand (drop k ops)
 
 -- behind the last operand nothing was found
 pub sorting_none : (ops : List OperandValue) (t : InstRegs) (masks : Masks) → t.awaited ≡ 0 ∷ 0 ∷ 0 ∷ [] → AreMasks [] masks →
-    Sorting ops (length ops) t t masks 0 true
+    Sorting ops (length ops) t t masks 0
 sorting_none ops t masks e m =
     let all : drop (length ops) ops ≡ [] = drop_all (length ops) ops (omega arith) in
     record {
@@ -87,7 +130,7 @@ sorting_none ops t masks e m =
       masked = λ few. subst (λ (xs : List OperandValue). AreMasks xs masks) (sym all) m;
       some = λ le. absurd (omega (arith, le));
       none = λ lt j le less r is. absurd (omega (arith, le, less));
-      unlimited = (λ yes. subst (All IsTakenOperand) (sym all) (All-nil IsTakenOperand), λ taken. refl);
+      unlimited = λ none. subst (All IsTakenOperand) (sym all) (All-nil IsTakenOperand);
     }
 
 -- there is a count for each class
@@ -114,8 +157,8 @@ and_fails : (a b : Bool) → b ≡ false → (a && b) ≡ false
 and_fails true b q = q
 and_fails false b q = refl
 
-module _ (ops : List OperandValue) (k : ℕ) (t u w : InstRegs) (m p : Masks) (bits b : ℕ) (o : OperandValue) (asks no_limits one : Bool)
-    (h : Sorting ops (k + 1) t u m bits no_limits) (is : o ≡ op_at ops k) where
+module _ (ops : List OperandValue) (k : ℕ) (t u w : InstRegs) (m p : Masks) (bits b : ℕ) (o : OperandValue) (asks : Bool)
+    (h : Sorting ops (k + 1) t u m bits) (is : o ≡ op_at ops k) where
   -- the operand k is in front of those after it
   before : drop k ops ≡ o ∷ drop (k + 1) ops
   before = drop_more ops k no_operand (let i = h.inside in omega (arith, i)) ∙ ap (λ (x : OperandValue). x ∷ drop (k + 1) ops) (sym is)
@@ -155,9 +198,9 @@ module _ (ops : List OperandValue) (k : ℕ) (t u w : InstRegs) (m p : Masks) (b
   -- with it, what was found is what there is from the index k on
   pub sorting_more : SameAvailable u w → (IsTrue asks ↔ (o.constraint ≡ Reg)) →
       w.awaited ≡ slice_set u.awaited (class_code o.vreg.class) (awaited_of u o.vreg.class + (if asks then 1 else 0)) →
-      ((xs : List OperandValue) → length xs < 63 → AreMasks xs m → AreMasks (o ∷ xs) p) → b ≡ bits_of_operand o → operand_of_bits b ≡ o →
-      (IsTrue one ↔ IsUnlimited o) → IsConstraintOf o.vreg.class o.constraint → Sorting ops k t w p (bit_or bits b) (no_limits && one)
-  sorting_more same any e masks packed unpacked unlimited class = record {
+      ((xs : List OperandValue) → length xs < 63 → AreMasks xs m → AreMasks (o ∷ xs) p) → b ≡ bits_of_operand o → IsOperandBits b →
+      operand_of_bits b ≡ o → Sorting ops k t w p (bit_or bits b)
+  sorting_more same any e masks packed word unpacked = record {
     inside = (let i = h.inside in omega (arith, i));
     available = record {
       early = same.early ∙ h.available.early;
@@ -181,17 +224,27 @@ module _ (ops : List OperandValue) (k : ℕ) (t u w : InstRegs) (m p : Masks) (b
           omega (arith, fixed_reaches o r here, packed, le_or_r bits b, lt))
       | inr ne ↦ h.none (omega (arith, le_or_l bits b, lt)) j (omega (arith, le, ne)) less r fixed
     ];
-    unlimited = subst (λ (xs : List OperandValue). ((no_limits && one) ≡ true) ↔ All IsTakenOperand xs) (sym before)
-        (unlimited_more o (drop (k + 1) ops) no_limits one h.unlimited unlimited class);
+    unlimited = λ none.
+        let apart = clear_in_both bits b 40 none in
+        subst (All IsTakenOperand) (sym before)
+        (All-cons IsTakenOperand o (drop (k + 1) ops) (taken o b word unpacked apart.1) (h.unlimited apart.0));
   }
 
 -- once the first operand is passed, that is what one pass finds
 pub sorted_all : (ops : List OperandValue) (k : ℕ) (t u : InstRegs) (masks : Masks) (bits : ℕ) (no_limits : Bool) → k ≡ 0 →
-    Sorting ops k t u masks bits no_limits → AreSorted ops (record { masks = masks; any_fixed = nat_le 4398046511104 bits; unlimited = no_limits })
-sorted_all ops zero t u masks bits no_limits e h = record {
+    Sorting ops k t u masks bits → ((no_limits ≡ true) ↔ All IsTakenOperand ops) →
+    AreSorted ops (record { masks = masks; any_fixed = nat_le 4398046511104 bits; unlimited = no_limits })
+sorted_all ops zero t u masks bits no_limits e h unlimited = record {
   masks = h.masked;
   some = λ yes. h.some (grind (arith, nat_tests));
   none = λ no j less r fixed. h.none (grind (arith, nat_tests)) j (omega arith) less r fixed;
-  unlimited = h.unlimited;
+  unlimited = unlimited;
 }
-sorted_all ops (suc k) t u masks bits no_limits e h = absurd (omega (arith, e))
+sorted_all ops (suc k) t u masks bits no_limits e h unlimited = absurd (omega (arith, e))
+
+-- if bit 40 is clear in the operands' words together, no operand has a limit
+pub none_limited : (ops : List OperandValue) (k : ℕ) (t u : InstRegs) (masks : Masks) (bits : ℕ) → k ≡ 0 → Sorting ops k t u masks bits →
+    bit_and bits 1099511627776 ≡ 0 → (nat_eq (bit_and bits 1099511627776) 0 ≡ true) ↔ All IsTakenOperand ops
+none_limited ops zero t u masks bits e h no_bit =
+    (λ yes. h.unlimited (let by = and_pow bits 40 in omega (arith, no_bit, by)), λ all. eq-eqb _ _ no_bit)
+none_limited ops (suc k) t u masks bits e h no_bit = absurd (omega (arith, e))

@@ -1,12 +1,13 @@
 //! What an instruction claims before its operands are allocated: fixed registers and clobbers.
 
-ghost use Rattle.std.specs.Prelude.{ℕ, ◌≡◌, ◌<◌, ◌⊎◌, ◌||◌, ◌↔◌, ◌∷◌, [], length, true, false, IsTrue, OnOk, IfOk, IfSome, IfNone, IfErr, Some, MatchResult};
+ghost use Rattle.std.specs.Prelude.{All, ℕ, ◌≡◌, ◌<◌, ◌⊎◌, ◌||◌, ◌↔◌, ◌∷◌, [], length, true, false, IsTrue, OnOk, IfOk, IfSome, IfNone, IfErr, Some, MatchResult};
 ghost use Rattle.regalloc2_names.specs.Register.{Register};
 ghost use Rattle.regalloc2_names.specs.RegisterSet.{has_register, registers_of};
 ghost use Rattle.regalloc2_steps.specs.Positions.{positions_of};
 ghost use Rattle.regalloc2_fastalloc_state.specs.InstRegs.{SameAvailable, RemovesAvailable, is_free_throughout};
 ghost use Rattle.regalloc2_fastalloc_state.specs.StateParts.{AllAtOrAfter};
 ghost use Rattle.regalloc2_fastalloc_state.specs.OutOfResources.{IsResourceErrorIn};
+ghost use Rattle.regalloc2_fastalloc_state.specs.Validate.NoLimits.{IsTakenOperand};
 ghost use Rattle.regalloc2_function.specs.FunctionValue.{op_at};
 ghost use Rattle.regalloc2_fastalloc_proofs.specs.InstSteps.{NeedsFixedReg, NoneUsed, RegsAreNotReserved, RemovesClobbers, ReserveRegs};
 ghost use Rattle.regalloc2_fastalloc_proofs.specs.InstSteps.{EvictFixed, EvictEach, SameButOrder};
@@ -87,9 +88,8 @@ fn sort(inst_regs: &mut InstRegs, operands: &[Operand]) -> Sorted
     ensures awaited { AwaitsAll operands.now inst_regs.old inst_regs.new }
 {
     let mut masks = Masks::none();
-    // only the bits of fixed operands reach 2^42
+    // only words of fixed operands reach 2^42; each word of an operand with `Limit` has bit 40 set, as some other words have
     let mut bits = 0u64;
-    let mut unlimited = true;
     let mut k = operands.len();
     while k > 0 {
         k -= 1;
@@ -97,14 +97,27 @@ fn sort(inst_regs: &mut InstRegs, operands: &[Operand]) -> Sorted
         inst_regs.add_any_reg_op(operand.class(), operand.is_any_reg());
         masks = masks.before(operand);
         bits |= operand.bits();
-        unlimited &= is_unlimited(operand);
     }
     let any_fixed = bits >= 1 << 42;
+    let unlimited = bits & (1 << 40) == 0 || are_unlimited(operands);
     Sorted {
         masks,
         any_fixed,
         unlimited,
     }
+}
+
+/// Whether no operand has `Limit`.
+#[inline(never)]
+fn are_unlimited(operands: &[Operand]) -> bool
+    ensures { IsTrue result ↔ All IsTakenOperand operands.now }
+{
+    for k in 0..operands.len() {
+        if !is_unlimited(operands[k]) {
+            return false;
+        }
+    }
+    true
 }
 
 /// The register that an operand is fixed to.

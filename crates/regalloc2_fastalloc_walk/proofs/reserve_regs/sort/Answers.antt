@@ -5,7 +5,7 @@ use Rattle.regalloc2_names.specs.Register.{class_code}
 use Rattle.regalloc2_names.specs.Operand.{OperandValue}
 use Rattle.regalloc2_fastalloc_state.specs.InstRegs.{awaited_of}
 use Rattle.regalloc2_fastalloc_state.proofs.ValidateLemmas.OperandReads.{read_operand}
-use Rattle.regalloc2_fastalloc_walk.proofs.OperandsSorted.{Sorting, sorted_all, sorting_more, sorting_none}
+use Rattle.regalloc2_fastalloc_walk.proofs.OperandsSorted.{Sorting, none_limited, sorted_all, sorting_more, sorting_none}
 use Rattle.regalloc2_fastalloc_walk.proofs.reserve_regs.sort.Goals as goal
 
 pub loop-k-init : goal.loop-k-init
@@ -18,15 +18,20 @@ loop-k-preserved c =
     let back : c.loop-k.k ≡ k + 1 = omega arith in
     let inside : k < length ops = (let i = c.loop-k.invariant.inside in omega (arith, i)) in
     sorting_more ops k c.args.inst_regs.now c.loop-k.inst_regs c.add_any_reg_op.new.self c.loop-k.masks c.before-masks.result c.loop-k.bits c.bits-bits.result
-    c.index-operands-k.result c.is_any_reg.result c.loop-k.unlimited c.is_unlimited-unlimited.result
-    (subst (λ (n : ℕ). Sorting ops n c.args.inst_regs.now c.loop-k.inst_regs c.loop-k.masks c.loop-k.bits c.loop-k.unlimited) back c.loop-k.invariant)
+    c.index-operands-k.result c.is_any_reg.result
+    (subst (λ (n : ℕ). Sorting ops n c.args.inst_regs.now c.loop-k.inst_regs c.loop-k.masks c.loop-k.bits) back c.loop-k.invariant)
     (read_operand ops k c.index-operands-k.result inside c.index-operands-k.is) c.add_any_reg_op.ensures.sets c.is_any_reg.ensures
     (subst (λ (x : RegClass). c.add_any_reg_op.new.self.awaited ≡ slice_set c.loop-k.inst_regs.awaited (class_code x)
     (awaited_of c.loop-k.inst_regs x + (if c.is_any_reg.result then 1 else 0))) c.class.ensures c.add_any_reg_op.ensures.awaited)
-    c.before-masks.ensures c.bits-bits.ensures.bits c.bits-bits.ensures.operand
-    c.is_unlimited-unlimited.ensures.unlimited c.is_unlimited-unlimited.ensures.of_class
+    c.before-masks.ensures c.bits-bits.ensures.bits c.bits-bits.ensures.word c.bits-bits.ensures.operand
 
-pub returns-clause-sorted : goal.returns-clause-sorted
-returns-clause-sorted c =
-    sorted_all c.args.operands.now c.loop-k.k c.args.inst_regs.now c.loop-k.inst_regs c.loop-k.masks c.loop-k.bits c.loop-k.unlimited
-    (omega arith) c.loop-k.invariant
+pub returns-then-bits-eq0-clause-sorted : goal.returns-then-bits-eq0-clause-sorted
+returns-then-bits-eq0-clause-sorted c =
+    sorted_all c.args.operands.now c.loop-k.k c.args.inst_regs.now c.loop-k.inst_regs c.loop-k.masks c.loop-k.bits _ (omega arith) c.loop-k.invariant
+    (none_limited c.args.operands.now c.loop-k.k c.args.inst_regs.now c.loop-k.inst_regs c.loop-k.masks c.loop-k.bits (omega arith) c.loop-k.invariant
+    c.if-bits-eq0.true)
+
+pub returns-else-bits-eq0-clause-sorted : goal.returns-else-bits-eq0-clause-sorted
+returns-else-bits-eq0-clause-sorted c =
+    sorted_all c.args.operands.now c.loop-k.k c.args.inst_regs.now c.loop-k.inst_regs c.loop-k.masks c.loop-k.bits c.are_unlimited-unlimited.result
+    (omega arith) c.loop-k.invariant c.are_unlimited-unlimited.ensures
