@@ -28,8 +28,8 @@ pub struct State<'a, A: Allocator> {
 }
 
 impl<'a, A: Allocator> State<'a, A> {
-    /// The state before the walk, with tables for the numbers below `vregs`. It isn't inlined, so that the compiler
-    /// has more registers for the walk, which is.
+    /// The state before the walk, with tables for the numbers below `vregs`, in which changes of vregs that are marked in
+    /// `watched` are counted. It isn't inlined, so that the compiler has more registers for the walk, which is.
     #[inline(never)]
     pub fn new<F: Function, B: Allocator>(
         alloc: &'a A,
