@@ -79,6 +79,25 @@ lists_none used ops old = record {
   members = λ k. (λ h. absurd (let lt = h.1 in omega (arith, lt)), λ h. absurd (let lt = h.0 in omega (arith, lt)));
 }
 
+-- what is fixed is fixed to a register
+fixed_to : (o : Option Register) → IsSome o → ((r : Register) → o ≡ Some r → ⊥) → ⊥
+fixed_to None h none = absurd cc
+fixed_to (Some r) h none = none r refl
+
+-- where no register is held, nothing is listed
+pub lists_nothing : (used : List Bool) (ops : List OperandValue) (held : PRegSet) → ((r : Register) → (has_register held r ≡ true) ↔ IsHeld ops r) →
+    ((r : Register) → has_register held r ≡ false) → (old : List ℕ) → ListsStored used ops (length ops) old old
+lists_nothing used ops held is none old = record {
+  added = [];
+  is = sym (append-nil old);
+  rising = λ i j less lt. absurd (omega (arith, lt));
+  members = λ k. (
+    λ h. absurd (let lt = h.1 in omega (arith, lt)),
+    λ h. absurd (fixed_to (fixed_definition (op_at ops k)) h.1.0
+        (λ r e. let yes : has_register held r ≡ true = (is r).1 (k, h.0, e) in let no = none r in absurd cc)),
+  );
+}
+
 -- one operand more that is listed
 pub lists_more : (used : List Bool) (ops : List OperandValue) (k : ℕ) (old mid : List ℕ) → IsMarkedDefinition used (op_at ops k) →
     ListsStored used ops k old mid → ListsStored used ops (k + 1) old (mid ++ k ∷ [])

@@ -1,6 +1,6 @@
 //! The edges out of blocks whose branches define, and which of those definitions are stored behind them.
 
-ghost use Rattle.std.specs.Prelude.{◌≡◌, ◌<◌, ◌+◌, ◌↔◌, true, ℕ, None, length, slice_index_or, IsTrue, IfOk, OnOk};
+ghost use Rattle.std.specs.Prelude.{◌≡◌, ◌<◌, ◌+◌, ◌↔◌, true, false, ℕ, None, length, slice_index_or, IsTrue, IfOk, OnOk};
 ghost use Rattle.regalloc2_names.specs.Register.{Register};
 ghost use Rattle.regalloc2_names.specs.RegisterSet.{has_register};
 ghost use Rattle.regalloc2_analysis.specs.BranchDefs.BranchDefs.{DefinesNumber, EndsInDefinitions, HasDefinitions, IsHeld, MayHaveTables};
@@ -12,7 +12,7 @@ use regalloc2_analysis_steps::edges::{EdgeInto, note_positions};
 use regalloc2_analysis_steps::marks::is_marked;
 use regalloc2_function::Function;
 use regalloc2_index::Block;
-use regalloc2_names::{Operand, PRegSet};
+use regalloc2_names::{Operand, PRegSet, RegClass};
 use std::alloc::{AllocError, Allocator};
 
 // Whether some operand defines.
@@ -86,6 +86,31 @@ fn list_stored<A: Allocator>(
     Ok(())
 }
 
+// Whether a set holds no register.
+fn is_none_held(held: PRegSet) -> bool
+    ensures { IsTrue result ↔ ((r : Register) → has_register held r ≡ false) }
+{
+    held.is_empty(RegClass::Int)
+        && held.is_empty(RegClass::Float)
+        && held.is_empty(RegClass::Vector)
+}
+
+// Lists them, given the registers to which definitions are fixed: where there is none, no operand is read.
+fn list_held<A: Allocator>(
+    stored: &mut Vec<usize, A>,
+    used: &[bool],
+    operands: &[Operand],
+    held: PRegSet,
+) -> Result<(), AllocError>
+    requires held { (r : Register) → (has_register held r ≡ true) ↔ IsHeld operands.now r }
+    ensures { OnOk result (ListsStored used.now operands.now (length operands.now) stored.old.items stored.new.items) }
+{
+    if is_none_held(held) {
+        return Ok(());
+    }
+    list_stored(stored, used, operands)
+}
+
 // Notes the edges out of a block, if its branch defines.
 fn note_edges_of<A: Allocator, F: Function>(
     edges: &mut [Option<EdgeInto>],
@@ -105,13 +130,14 @@ fn note_edges_of<A: Allocator, F: Function>(
     }
     let branch = f.block_insns(from).last();
     let operands = f.inst_operands(branch);
+    let held = held_by(operands);
     let first = stored.len();
-    list_stored(stored, used, operands)?;
+    list_held(stored, used, operands, held)?;
     let edge = EdgeInto {
         from,
         branch,
         position: 0,
-        held: held_by(operands),
+        held,
         first,
         end: stored.len(),
     };

@@ -1,3 +1,4 @@
+use Rattle.std.proofs.lemmas.Result.{IfOk-from_err}
 use Rattle.std.proofs.Common.{ℕ, ◌≡◌, ◌-◌, ◌<◌, List, Bool, true, length, ap, ◌∙◌, sym, subst, refl, arith, inl, inr}
 use Rattle.std.specs.Prelude.{◌↔◌}
 use Rattle.regalloc2_index.proofs.Bools.{false_refutes}
@@ -22,18 +23,18 @@ returns g c =
     let i : ℕ = last_of (block_at f b) in
     let used : List Bool = c.args.used.now in
     let old : List ℕ = c.args.stored.now.items in
-    let new : List ℕ = c.list_stored.new.stored.items in
+    let new : List ℕ = c.list_held.new.stored.items in
     let last : c.last-branch.result ≡ i = c.last-branch.ensures ∙ ap (λ (r : Span). r.end - 1) c.block_insns.ensures in
     let operands : c.inst_operands-operands.result.now ≡ (inst_at f i).operands = c.inst_operands-operands.ensures
     ∙ ap (λ (n : ℕ). (inst_at f n).operands) last in
     let lists : ListsStored used (inst_at f i).operands (length (inst_at f i).operands) old new
-    = subst (λ (ops : List OperandValue). ListsStored used ops (length ops) old new) operands c.in_ok-list_stored.ensures in
+    = subst (λ (ops : List OperandValue). ListsStored used ops (length ops) old new) operands c.in_ok-list_held.ensures in
     let definitions : EndsInDefinitions f b = c.ends_in_definitions.ensures.0 c.if-not-ends_in_definitions.false in
     let edge : EdgeInto = record {
       from = b;
       branch = c.last-branch.result;
       position = 0;
-      held = c.held_by.result;
+      held = c.held_by-held.result;
       first = c.len-first.result;
       end = c.len.result;
     } in
@@ -42,9 +43,9 @@ returns g c =
       definitions = definitions;
       from = refl;
       branch = last;
-      held = subst (λ (ops : List OperandValue). (r : Register) → (has_register c.held_by.result r ≡ true) ↔ IsHeld ops r) operands c.held_by.ensures;
+      held = subst (λ (ops : List OperandValue). (r : Register) → (has_register c.held_by-held.result r ≡ true) ↔ IsHeld ops r) operands c.held_by-held.ensures;
       first = omega (arith, c.len-first.ensures, c.args.stored.now.ok.0);
-      end = let l = ap (λ (xs : List ℕ). length xs) lists.is in omega (arith, c.len.ensures, c.list_stored.new.stored.ok.0, l);
+      end = let l = ap (λ (xs : List ℕ). length xs) lists.is in omega (arith, c.len.ensures, c.list_held.new.stored.ok.0, l);
       stored = lists_stored f c.requires.well_formed used c.requires.used i (last_within f c.requires.well_formed b c.requires.block) old new lists;
     } in
     edges_more f b c.block_succs.result.now edge c.args.edges.now c.note_positions.new.edges old lists.added new c.block_succs.ensures
@@ -73,3 +74,6 @@ returns-then-not-ends_in_definitions g c =
             c.ends_in_definitions.ensures.1 (subst (EndsInDefinitions f) last edge.definitions)
       ];
     }
+
+pub returns-in_err-list_held : goal.returns-in_err-list_held
+returns-in_err-list_held g c = IfOk-from_err c.from_residual.result _ c.from_residual.ensures.0

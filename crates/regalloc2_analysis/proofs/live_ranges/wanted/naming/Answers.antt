@@ -1,3 +1,4 @@
+use Rattle.std.proofs.lemmas.Result.{IfOk-from_err}
 use Rattle.std.proofs.Common.{ℕ, [], sym, subst}
 use Rattle.regalloc2_index.proofs.Bools.{not_both}
 use Rattle.regalloc2_function.specs.FunctionValue.{FunctionValue}
@@ -21,3 +22,6 @@ loop-i-preserved g c =
       | else-not-names_none w ↦ rw w.named-is (named_same f W c.loop-i.named.items c.loop-i.i
           (subst (NamesNoAsked f W) c.new-inst.ensures (c.names_none.ensures.0 w.if-not-names_none.false)) c.loop-i.invariant)
     ]
+
+pub returns-in_err-push : goal.returns-in_err-push
+returns-in_err-push g c = IfOk-from_err c.from_residual.result _ c.from_residual.ensures.0

@@ -1,3 +1,4 @@
+use Rattle.std.proofs.lemmas.Result.{IfOk-from_err}
 use Rattle.std.proofs.Common.{◌∙◌, ◌+◌, [], sym, take, List, length, ◌≤◌, subst, arith}
 use Rattle.std.proofs.lemmas.List.{take_all}
 use Rattle.std.specs.Prelude.{◌&&◌, not}
@@ -37,3 +38,6 @@ returns g c =
     let all : length c.args.operands.now ≤ c.loop-operand.operand-index = omega arith in
     subst (λ (xs : List OperandValue). Grows c.args.block (λ v. reads c.args.pos v xs && not (holds c.args.written.now (c.args.block, v))) c.args.needs.now
     c.loop-operand.needs) (take_all c.loop-operand.operand-index c.args.operands.now all) c.loop-operand.invariant
+
+pub returns-in_err-ask : goal.returns-in_err-ask
+returns-in_err-ask g c = IfOk-from_err c.from_residual.result _ c.from_residual.ensures.0

@@ -1,3 +1,4 @@
+use Rattle.std.proofs.lemmas.Result.{IfOk-from_err}
 use Rattle.std.proofs.Common.{◌+◌, [], take, List, length, ◌≤◌, subst, arith}
 use Rattle.std.proofs.lemmas.List.{take_all}
 use Rattle.regalloc2_names.specs.Register.{VirtualRegister, is_vreg}
@@ -22,3 +23,6 @@ returns g c =
     let all : length c.args.params.now ≤ c.loop-param.param-index = omega arith in
     subst (λ (xs : List VirtualRegister). Gains c.args.block (λ v. names v xs) (holds c.args.noted.now) (holds c.loop-param.noted))
     (take_all c.loop-param.param-index c.args.params.now all) c.loop-param.invariant
+
+pub returns-in_err-add : goal.returns-in_err-add
+returns-in_err-add g c = IfOk-from_err c.from_residual.result _ c.from_residual.ensures.0

@@ -1,3 +1,4 @@
+use Rattle.std.proofs.lemmas.Result.{IfOk-from_err}
 use Rattle.std.proofs.Common.{◌∙◌, ◌+◌, [], sym, take, List, length, ◌≤◌, subst, arith}
 use Rattle.std.proofs.lemmas.List.{take_all}
 use Rattle.regalloc2_names.specs.Register.{is_vreg}
@@ -33,3 +34,6 @@ returns g c =
     let all : length c.args.operands.now ≤ c.loop-operand.operand-index = omega arith in
     subst (λ (xs : List OperandValue). Gains c.args.block (λ v. defines v xs) (holds c.args.written.now) (holds c.loop-operand.written))
     (take_all c.loop-operand.operand-index c.args.operands.now all) c.loop-operand.invariant
+
+pub returns-in_err-add : goal.returns-in_err-add
+returns-in_err-add g c = IfOk-from_err c.from_residual.result _ c.from_residual.ensures.0
