@@ -47,6 +47,7 @@ FLOORS = [
         ("regalloc2_explain", "causes of errors"),
         ("regalloc2_tool", "listings, pictures, calls")]),
      ("C library", [
+         ("regalloc2_c_steps", "one status, one fault"),
          ("regalloc2_c_words", "statuses, words"),
          ("regalloc2_c", "calls")])],
     [("Programs", [

@@ -1,5 +1,5 @@
 -- The words of the faults of an output, and which faults they are.
-use Rattle.std.specs.Prelude.{ℕ, ◌≡◌, ◌⊎◌, ◌/◌, ◌%◌, ◌^◌, List, [], ◌∷◌, ◌++◌, map, length, zero, suc, Bool, ◌&&◌, nat_eq, nat_lt, slice_index_or, if◌then◌else◌}
+use Rattle.std.specs.Prelude.{ℕ, ◌≡◌, ◌⊎◌, List, [], ◌∷◌, ◌++◌, map, length, zero, suc, Bool, ◌&&◌, nat_eq, nat_lt, slice_index_or, if◌then◌else◌}
 use Rattle.std.specs.List.{flat_map}
 use Rattle.std.specs.Global.{Vec}
 use Rattle.std.specs.declared.alloc.Global.{Global}
@@ -23,6 +23,7 @@ use Rattle.regalloc2_checker_facts.specs.declared.errors.CheckerError.TheVariant
 use Rattle.regalloc2_checker_facts.specs.declared.errors.CheckerError.TheVariants.{IncorrectValuesInAllocation, ConstraintViolated, AllocationIsNotReg}
 use Rattle.regalloc2_checker_facts.specs.declared.errors.CheckerError.TheVariants.{AllocationIsNotFixedReg, AllocationIsNotReuse, AllocationIsNotStack}
 use Rattle.regalloc2_checker_facts.specs.declared.errors.CheckerError.TheVariants.{StackToStackMove, AllocationOutsideLimit, MalformedOutput, Memory}
+use Rattle.regalloc2_c_steps.specs.Faults.{operand_words}
 use Rattle.regalloc2_c_words.specs.Payload.{none, as_word}
 use Rattle.regalloc2_c_words.specs.declared.failure.Failure.{Failure}
 use Rattle.regalloc2_c_words.specs.declared.failure.Failure.TheVariants.{Faults, NoMemory}
@@ -42,10 +43,9 @@ abbrev pub operand_index : FunctionValue → OutputValue → ℕ → OperandValu
 operand_index f out i op p = if nat_lt i (length f.insts)
     then first_index (is_placed (inst_at f i).operands (allocs_of out i) op p) 0 (length (inst_at f i).operands) else none
 
--- a fault of an operand: its number, the instruction, the operand's index, its word, the lower half first, its place, another place, and a bound
+-- a fault of an operand, with the operand's index
 abbrev pub operand_head : FunctionValue → OutputValue → ℕ → ℕ → OperandValue → Place → Place → ℕ → List ℕ
-operand_head f out number inst op p other bound = number ∷ inst ∷ operand_index f out inst op p ∷ bits_of_operand op % 2 ^ 32
-    ∷ bits_of_operand op / 2 ^ 32 ∷ bits_of_place p ∷ bits_of_place other ∷ bound ∷ []
+operand_head f out number inst op p other bound = operand_words number inst (operand_index f out inst op p) op p other bound
 
 -- a fault up to its list of vregs; the numbers are those of the checker's texts
 abbrev pub fault_head : {A : Type 0} → FunctionValue → OutputValue → CheckerError A → List ℕ

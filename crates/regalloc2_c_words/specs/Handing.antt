@@ -1,6 +1,7 @@
 -- What is handed out: a status, words if there is room for them, and how many there are.
-use Rattle.std.specs.Prelude.{ℕ, ◌≡◌, ◌<◌, ◌≤◌, ◌⊎◌, List, length, take, Result, Ok, Err}
+use Rattle.std.specs.Prelude.{ℕ, ◌≡◌, List, length, Result, Ok, Err}
 use Rattle.std.specs.Global.{Vec}
+use Rattle.regalloc2_c_steps.specs.Giving.{IsWrittenOut}
 use Rattle.regalloc2_c_words.specs.Status.{failure_number}
 use Rattle.regalloc2_c_words.specs.Payload.{failure_words}
 use Rattle.regalloc2_c_words.specs.declared.failure.Failure.{Failure}
@@ -15,12 +16,8 @@ abbrev pub result_of : Result (Vec ℕ) Failure → List ℕ
 result_of (Ok v) = v.items
 result_of (Err e) = failure_words e
 
--- a status and its words are handed out if there is room for the words; else nothing is written, and the status says so
-abbrev pub IsWrittenOut : ℕ → List ℕ → List ℕ → List ℕ → ℕ → Type 0
-IsWrittenOut status words old now got = ((length words ≤ length old) × (got ≡ status) × (take (length words) now ≡ words))
-    ⊎ ((length old < length words) × (got ≡ failure_number NoRoom) × (now ≡ old))
-
--- how many words there are is reported whether or not there is room for them
+-- a status and its words are handed out if there is room for the words; else nothing is written, and the status says so; how many words there
+-- are is reported in either case
 pub record IsHandedOut (found : Result (Vec ℕ) Failure) (old now : List ℕ) (needed got : ℕ) : Type 0 where
   pub needed_words : needed ≡ length (result_of found)
-  pub given : IsWrittenOut (status_of found) (result_of found) old now got
+  pub given : IsWrittenOut (failure_number NoRoom) (status_of found) (result_of found) old now got

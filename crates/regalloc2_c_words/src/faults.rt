@@ -11,6 +11,7 @@ use super::failure::Failure;
 use super::words::{NONE, word_of};
 use regalloc2::checker::CheckerError;
 use regalloc2::{Allocation, Function, Inst, Operand, Output, VReg};
+use regalloc2_c_steps::faults::words_of_operand;
 use regalloc2_checker::CellFault;
 use regalloc2_checker_facts::lookup::place_at;
 use std::alloc::{AllocError, Global};
@@ -76,17 +77,8 @@ fn of_operand<F: Function>(
     requires { IsInOrder (F.function judged.now.f.now) (output_of judged.now.output.now) }
     ensures { result ≡ operand_head (F.function judged.now.f.now) (output_of judged.now.output.now) number inst op place other bound }
 {
-    let bits = op.bits();
-    [
-        number,
-        inst.0,
-        index_in(judged.f, judged.output, inst, op, place),
-        (bits % 4_294_967_296) as u32,
-        (bits / 4_294_967_296) as u32,
-        place.bits(),
-        other.bits(),
-        bound,
-    ]
+    let index = index_in(judged.f, judged.output, inst, op, place);
+    words_of_operand(number, inst, index, op, place, other, bound)
 }
 
 /// The words of a fault up to the list of vregs.
