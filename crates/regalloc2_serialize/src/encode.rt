@@ -85,11 +85,12 @@ fn indexes_of_scratch<A: Allocator>(
     ensures three { IfOk result (λ indexes. length indexes.items ≡ 3) }
     ensures names { IfOk result (λ indexes. All (λ o. IfSome o IsRegisterIndex) indexes.items) }
 {
-    let mut indexes = Vec::with_capacity(alloc, scratch.len())?;
-    for reg in scratch {
-        indexes.push(index_of(*reg))?;
-    }
-    Ok(indexes)
+    let indexes = [
+        index_of(scratch[0]),
+        index_of(scratch[1]),
+        index_of(scratch[2]),
+    ];
+    Ok(Vec::from_array(alloc, indexes)?)
 }
 
 /// The words of vregs.
@@ -170,11 +171,12 @@ fn numbers_of_sizes<A: Allocator, B: Allocator>(
     ensures three { IfOk result (λ numbers. length numbers.items ≡ 3) }
     ensures limits { IfOk result (λ numbers. All IsSlotSize numbers.items) }
 {
-    let mut numbers = Vec::with_capacity(alloc, 3)?;
-    numbers.push(f.int_slot.units as u64)?;
-    numbers.push(f.float_slot.units as u64)?;
-    numbers.push(f.vector_slot.units as u64)?;
-    Ok(numbers)
+    let numbers = [
+        f.int_slot.units as u64,
+        f.float_slot.units as u64,
+        f.vector_slot.units as u64,
+    ];
+    Ok(Vec::from_array(alloc, numbers)?)
 }
 
 /// The numbers of a machine.

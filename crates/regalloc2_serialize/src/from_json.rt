@@ -3,7 +3,7 @@
 ghost use Rattle.std.specs.Prelude.{◌≡◌, ◌⊎◌, Some, None, Option, IfOk, IfErr};
 ghost use Rattle.serde_json.specs.Data.{Data};
 ghost use Rattle.serde_json.specs.View.{view};
-ghost use Rattle.regalloc2_serialize.specs.FromJson.{member, item_at};
+ghost use Rattle.regalloc2_serialize.specs.FromJson.{member, item_at, word};
 
 use regalloc2_function::StoredFault;
 use serde_json::Value;
@@ -151,20 +151,12 @@ pub(crate) fn member_from<T: FromValue<A>, A: Allocator>(
     T::from_value(alloc, found)
 }
 
-/// The item at an index of an array.
-fn item_from<T: FromValue<A>, A: Allocator>(
-    alloc: A,
-    value: &Value,
-    index: usize,
-) -> Result<T, StoredFault>
-    ensures ok { IfOk result (λ x. item_at index T.reads (view value.now) ≡ Some (T.shows x)) }
-    ensures shape { IfErr result (λ e. e ≡ StoredFault.Shape → item_at index T.reads (view value.now) ≡ None) }
-    ensures faults { IfErr result (λ e. (e ≡ StoredFault.Shape) ⊎ (e ≡ StoredFault.Memory)) }
+/// The word at an index of an array, if the item there is one.
+fn word_at(value: &Value, index: usize) -> Option<u32>
+    ensures { result ≡ item_at index word (view value.now) }
 {
-    let Some(found) = value.get(index) else {
-        return Err(StoredFault::Shape);
-    };
-    T::from_value(alloc, found)
+    let number = value.get(index)?.as_u64()?;
+    u32::try_from(number).ok()
 }
 
 impl<A: Allocator + Copy> FromValue<A> for (u32, u32) {
@@ -177,11 +169,11 @@ impl<A: Allocator + Copy> FromValue<A> for (u32, u32) {
 
     ghost reads = { pair };
 
-    fn from_value(alloc: A, value: &Value) -> Result<(u32, u32), StoredFault> {
-        if value.get(2).is_some() {
-            return Err(StoredFault::Shape);
+    fn from_value(_alloc: A, value: &Value) -> Result<(u32, u32), StoredFault> {
+        match (word_at(value, 0), word_at(value, 1), value.get(2)) {
+            (Some(first), Some(second), None) => Ok((first, second)),
+            _ => Err(StoredFault::Shape),
         }
-        Ok((item_from(alloc, value, 0)?, item_from(alloc, value, 1)?))
     }
 }
 
@@ -195,13 +187,12 @@ impl<A: Allocator + Copy> FromValue<A> for (u32, u32, u32) {
 
     ghost reads = { triple };
 
-    fn from_value(alloc: A, value: &Value) -> Result<(u32, u32, u32), StoredFault> {
-        if value.get(3).is_some() {
-            return Err(StoredFault::Shape);
+    fn from_value(_alloc: A, value: &Value) -> Result<(u32, u32, u32), StoredFault> {
+        let pair = (word_at(value, 0), word_at(value, 1));
+        match (pair, word_at(value, 2), value.get(3)) {
+            ((Some(first), Some(second)), Some(third), None) => Ok((first, second, third)),
+            _ => Err(StoredFault::Shape),
         }
-        let first = item_from(alloc, value, 0)?;
-        let second = item_from(alloc, value, 1)?;
-        Ok((first, second, item_from(alloc, value, 2)?))
     }
 }
 
@@ -215,13 +206,12 @@ impl<A: Allocator + Copy> FromValue<A> for (u32, u32, u32, u32) {
 
     ghost reads = { quadruple };
 
-    fn from_value(alloc: A, value: &Value) -> Result<(u32, u32, u32, u32), StoredFault> {
-        if value.get(4).is_some() {
-            return Err(StoredFault::Shape);
+    fn from_value(_alloc: A, value: &Value) -> Result<(u32, u32, u32, u32), StoredFault> {
+        let first = (word_at(value, 0), word_at(value, 1));
+        let last = (word_at(value, 2), word_at(value, 3));
+        match (first, last, value.get(4)) {
+            ((Some(a), Some(b)), (Some(c), Some(d)), None) => Ok((a, b, c, d)),
+            _ => Err(StoredFault::Shape),
         }
-        let first = item_from(alloc, value, 0)?;
-        let second = item_from(alloc, value, 1)?;
-        let third = item_from(alloc, value, 2)?;
-        Ok((first, second, third, item_from(alloc, value, 3)?))
     }
 }

@@ -18,7 +18,7 @@ use regalloc2_names::{Operand, PRegSet, RegClass, VReg};
 use std::alloc::{Allocator, Global};
 
 /// A function that was laid out in columns, with the machine that it is for. Each list is one of its parts.
-#[derive(Debug, Drop)]
+#[derive(Drop)]
 pub struct FlatFunction<A: Allocator = Global> {
     pub(crate) machine: MachineEnv<A>,
     pub(crate) kinds: Vec<u32, A>,

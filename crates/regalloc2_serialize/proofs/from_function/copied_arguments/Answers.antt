@@ -1,5 +1,5 @@
 use Rattle.std.proofs.lemmas.Result.{IfOk-from_err}
-use Rattle.std.proofs.Common.{rules, ◌≡◌, ◌∷◌, [], ◌++◌, ◌+◌, List, get_or, sym, subst, map}
+use Rattle.std.proofs.Common.{rules, ◌≡◌, ◌∷◌, [], ◌++◌, ◌+◌, List, get_or, sym, subst, map, length, ap, arith, refl}
 use Rattle.std.specs.List.{range_with_len}
 use Rattle.regalloc2_names.specs.Register.{VirtualRegister}
 use Rattle.regalloc2_function.specs.FunctionValue.{block_at}
@@ -22,3 +22,15 @@ returns-in_err-to_vec g c = IfOk-from_err c.from_residual-in_err-to_vec.result _
 
 pub returns-in_err-push : goal.returns-in_err-push
 returns-in_err-push g c = IfOk-from_err c.from_residual-in_err-push.result _ c.from_residual-in_err-push.ensures.0
+
+pub branch_blockparams-requires-clause-block : goal.branch_blockparams-requires-clause-block
+branch_blockparams-requires-clause-block g c = c.requires.block
+
+pub loop-k-init : goal.loop-k-init
+loop-k-init g c = rw c.in_ok-arguments.ensures.items refl
+
+pub returns : goal.returns
+returns g c =
+    let e : c.loop-k.k ≡ length (block_at (g.F.Function.function c.args.f.now) c.args.block).succs =
+    omega (arith, ap length c.block_succs-count.ensures, c.loop-k-test.false, c.loop-k.auto.k-end) in
+    rw e at c.loop-k.invariant

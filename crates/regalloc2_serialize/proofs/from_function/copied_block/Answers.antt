@@ -12,3 +12,9 @@ returns-in_err-to_vec-3 g c = IfOk-from_err c.from_residual-in_err-to_vec-3.resu
 
 pub returns-in_err-copied_arguments : goal.returns-in_err-copied_arguments
 returns-in_err-copied_arguments g c = IfOk-from_err c.from_residual-in_err-copied_arguments.result _ c.from_residual-in_err-copied_arguments.ensures.0
+
+pub copied_arguments-requires-clause-block : goal.copied_arguments-requires-clause-block
+copied_arguments-requires-clause-block g c = c.requires.block
+
+pub copied_arguments-requires-clause-nonempty : goal.copied_arguments-requires-clause-nonempty
+copied_arguments-requires-clause-nonempty g c = c.requires.nonempty

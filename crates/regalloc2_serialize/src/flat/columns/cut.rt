@@ -6,7 +6,7 @@ ghost use Rattle.regalloc2_serialize.specs.Flat.Columns.Layout.{preferred_words,
 ghost use Rattle.regalloc2_serialize.specs.Flat.Columns.Layout.{pred_ends, succ_ends, param_ends, pred_words, succ_words, param_words, argument_ends, argument_words, label_words};
 
 /// The numbers at the head of the words, without the first, which is the layout's.
-#[derive(Clone, Copy, Debug)]
+#[derive(Clone, Copy)]
 pub struct Header {
     /// The block at which the function starts.
     pub entry: u32,
@@ -107,7 +107,7 @@ fn starts_of(widths: [usize; 19]) -> [usize; 20]
 }
 
 /// Words that are cut into columns.
-#[derive(Debug, Drop)]
+#[derive(Drop)]
 pub struct Cut<'a> {
     pub(super) words: &'a [u32],
     header: Header,

@@ -6,7 +6,7 @@ ghost use Rattle.regalloc2_serialize.specs.Flat.Columns.Value.{part};
 use std::alloc::{Allocator, Global};
 
 /// The lists of several owners, one after another: those of number `k` lie from bound `k` up to bound `k + 1`.
-#[derive(Debug, Drop)]
+#[derive(Drop)]
 pub struct Pieces<T, A: Allocator = Global> {
     /// All members.
     pub items: Vec<T, A>,

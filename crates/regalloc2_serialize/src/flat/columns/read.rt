@@ -14,8 +14,8 @@ use super::FlatFunction;
 use super::cut::Cut;
 use super::pieces::Pieces;
 use super::typed::{
-    bounds_of, class_sets, labels_of, numbered_sets, numbers_of, operands_of, pieces_of,
-    registers_of, scratches_of, sizes_of,
+    bounds_of, class_sets, labels_of, numbered_sets, operands_of, pieces_of, registers_of,
+    scratches_of, sizes_of,
 };
 use crate::decode::{blocks_from, vregs_from};
 use regalloc2_function::{MachineEnv, StoredFault};
@@ -122,7 +122,7 @@ fn insts_from<A: Allocator + Copy>(alloc: A, cut: &Cut<'_>) -> Result<InstTables
     requires { AreSoundColumns cut.now.words.now }
     ensures { IfOk result (λ t. AreInstTables cut.now.words.now t) }
 {
-    let kinds = numbers_of(alloc, cut.kinds())?;
+    let kinds = Vec::from_slice(alloc, cut.kinds())?;
     let sets = numbered_sets(alloc, cut.sets(), cut.header().sets as usize)?;
     let operands = operands_from(alloc, cut)?;
     Ok(InstTables {

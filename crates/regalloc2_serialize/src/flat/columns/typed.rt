@@ -127,15 +127,6 @@ pub fn labels_of<A: Allocator>(
     Ok(labels)
 }
 
-/// The same numbers.
-pub fn numbers_of<A: Allocator>(alloc: A, words: &[u32]) -> Result<Vec<u32, A>, AllocError>
-    ensures { IfOk result (λ numbers. numbers.items ≡ words.now) }
-{
-    let mut numbers = Vec::with_capacity(alloc, words.len())?;
-    numbers.extend_from_slice(words)?;
-    Ok(numbers)
-}
-
 /// The bounds of parts that end there.
 pub fn bounds_of<A: Allocator>(alloc: A, ends: &[u32]) -> Result<Vec<u32, A>, AllocError>
     ensures { IfOk result (λ bounds. bounds.items ≡ 0 ∷ ends.now) }

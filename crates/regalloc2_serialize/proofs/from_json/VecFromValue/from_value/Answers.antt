@@ -30,3 +30,9 @@ returns-in_err-from_value-clause-ok g c = IfOk-from_err c.from_residual.result _
 
 pub returns-in_err-from_value-clause-faults : goal.returns-in_err-from_value-clause-faults
 returns-in_err-from_value-clause-faults g c = let p = err_from_is_err_and c.from_residual.result c.from_residual.ensures.1 in rw (p.1, p.2) c.in_err-from_value.ensures.faults
+
+pub returns-clause-faults : goal.returns-clause-faults
+returns-clause-faults g c = tt
+
+pub returns-clause-shape : goal.returns-clause-shape
+returns-clause-shape g c = tt

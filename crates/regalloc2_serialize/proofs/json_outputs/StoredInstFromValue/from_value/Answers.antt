@@ -40,3 +40,9 @@ returns-in_err-clobbers-clause-ok g c = IfOk-from_err c.from_residual-in_err-clo
 
 pub returns-in_err-clobbers-clause-faults : goal.returns-in_err-clobbers-clause-faults
 returns-in_err-clobbers-clause-faults g c = let p = err_from_is_err_and c.from_residual-in_err-clobbers.result c.from_residual-in_err-clobbers.ensures.1 in rw (p.1, p.2) c.in_err-clobbers.ensures.faults
+
+pub returns-clause-faults : goal.returns-clause-faults
+returns-clause-faults g c = tt
+
+pub returns-clause-shape : goal.returns-clause-shape
+returns-clause-shape g c = tt

@@ -55,3 +55,6 @@ returns-in_err-link_one-clause-ok g c = let p = err_from_is_err_and c.from_resid
 
 pub returns-in_err-link_one-clause-within : goal.returns-in_err-link_one-clause-within
 returns-in_err-link_one-clause-within g c = let p = err_from_is_err_and c.from_residual.result c.from_residual.ensures.1 in rw p.1 tt
+
+pub returns-clause-err : goal.returns-clause-err
+returns-clause-err g c = tt

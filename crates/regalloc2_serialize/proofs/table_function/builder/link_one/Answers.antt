@@ -65,3 +65,6 @@ loop-k-init g c =
       within = All-nil (λ s. s < length c.args.blocks.now.items);
       all = omega (arith, ap length here, c.len-k-end.ensures, c.index-2.result.now.succs.ok.0);
     }
+
+pub returns-clause-err : goal.returns-clause-err
+returns-clause-err g c = tt

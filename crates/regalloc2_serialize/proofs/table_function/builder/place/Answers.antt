@@ -58,3 +58,18 @@ returns-in_err-push-clause-few g c = IfOk-from_err c.from_residual-in_err-push.r
 
 pub returns-in_err-push-clause-err : goal.returns-in_err-push-clause-err
 returns-in_err-push-clause-err g c = let p = err_from_is_err_and c.from_residual-in_err-push.result c.from_residual-in_err-push.ensures.1 in rw (p.1, p.2) tt
+
+pub returns-clause-err : goal.returns-clause-err
+returns-clause-err g c = tt
+
+pub returns-then-len-ge-LIMIT-clause-blocks : goal.returns-then-len-ge-LIMIT-clause-blocks
+returns-then-len-ge-LIMIT-clause-blocks g c = tt
+
+pub returns-then-len-ge-LIMIT-clause-few : goal.returns-then-len-ge-LIMIT-clause-few
+returns-then-len-ge-LIMIT-clause-few g c = tt
+
+pub returns-then-len-ge-LIMIT-clause-insts : goal.returns-then-len-ge-LIMIT-clause-insts
+returns-then-len-ge-LIMIT-clause-insts g c = tt
+
+pub returns-clause-few : goal.returns-clause-few
+returns-clause-few g c = omega (arith, c.if-len-ge-LIMIT.false, c.len-2.ensures)

@@ -155,3 +155,6 @@ returns-in_err-edges g c =
       machine = IfOk-from_err r _ c.from_residual-in_err-edges.ensures.0;
       memory = rw p.1 p.2;
     }
+
+pub returns-clause-memory : goal.returns-clause-memory
+returns-clause-memory g c = tt

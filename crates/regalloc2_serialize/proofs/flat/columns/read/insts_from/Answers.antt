@@ -12,7 +12,7 @@ numbered_sets-requires g c = c.sets.ensures.count ∙ ap (λ h. 6 * h.sets) (sym
 
 pub returns : goal.returns
 returns g c = record {
-  kinds = c.in_ok-kinds.ensures ∙ c.kinds.ensures.column;
+  kinds = c.in_ok-kinds.ensures.items ∙ c.kinds.ensures.column;
   sets = subst (λ ws. AreNumbered ws (header_of c.args.cut.now.words.now).sets c.in_ok-sets.sets.items) c.sets.ensures.column
       (subst (λ h. AreNumbered c.sets.result.now h.sets c.in_ok-sets.sets.items) c.header.ensures c.in_ok-sets.ensures);
   operands = c.in_ok-operands.ensures.items;

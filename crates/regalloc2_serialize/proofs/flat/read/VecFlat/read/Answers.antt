@@ -1,6 +1,6 @@
 use Rattle.std.proofs.lemmas.Result.{err_from_is_err_and, IfOk-from_err}
 use Rattle.regalloc2_serialize.proofs.FlatLemmas.NoValue.{no_list}
-use Rattle.std.proofs.Common.{◌<◌, length, arith, inr, refl, inl}
+use Rattle.std.proofs.Common.{◌<◌, length, arith, inr, refl, inl, ◌≡◌}
 use Rattle.regalloc2_serialize.proofs.flat.read.VecFlat.read.Goals as goal
 
 pub returns-in_err-read-clause-shape : goal.returns-in_err-read-clause-shape
@@ -27,3 +27,18 @@ returns-in_err-push-clause-ok g c = IfOk-from_err c.from_residual-in_err-push.re
 
 pub returns-in_err-push-clause-faults : goal.returns-in_err-push-clause-faults
 returns-in_err-push-clause-faults g c = let p = err_from_is_err_and c.from_residual-in_err-push.result c.from_residual-in_err-push.ensures.1 in rw (p.1, p.2) (inr refl)
+
+pub returns-clause-faults : goal.returns-clause-faults
+returns-clause-faults g c = tt
+
+pub returns-clause-shape : goal.returns-clause-shape
+returns-clause-shape g c = tt
+
+pub returns-clause-ok : goal.returns-clause-ok
+returns-clause-ok g c =
+    let e : c.in_ok-count.count ≡ length c.loop-index.items.items =
+    omega (arith, c.loop-index.invariant.count, c.loop-index-test.false, c.loop-index.auto.index-end) in
+    rw e at c.loop-index.invariant.read
+
+pub loop-index-init : goal.loop-index-init
+loop-index-init g c = record { read = rw c.new-items.ensures.items c.in_ok-count.ensures.ok; count = rw c.new-items.ensures.items refl }

@@ -1,4 +1,4 @@
-use Rattle.std.proofs.Common.{subst, ap, ◌∙◌, ◌≡◌, ◌+◌, ◌<◌, ◌++◌, ◌∷◌, [], ℕ, List, length, take, get_or, append_assoc, arith, inr, refl}
+use Rattle.std.proofs.Common.{subst, ap, ◌∙◌, ◌≡◌, ◌+◌, ◌<◌, ◌++◌, ◌∷◌, [], ℕ, List, length, take, get_or, append_assoc, arith, inr, refl, inl}
 use Rattle.std.proofs.lemmas.List.{flat_map_more, take_all, take_more}
 use Rattle.std.specs.List.{flat_map}
 use Rattle.regalloc2_serialize.specs.Flat.Flat.{HasLongWord}
@@ -47,3 +47,15 @@ returns-in_err-write-clause-ok g c = IfOk-from_err c.from_residual-in_err-write.
 
 pub returns-in_err-write-clause-faults : goal.returns-in_err-write-clause-faults
 returns-in_err-write-clause-faults g c = let p = err_from_is_err_and c.from_residual-in_err-write.result c.from_residual-in_err-write.ensures.1 in rw (p.1, p.2) c.in_err-write.ensures.faults
+
+pub returns-clause-faults : goal.returns-clause-faults
+returns-clause-faults g c = tt
+
+pub returns-clause-limit : goal.returns-clause-limit
+returns-clause-limit g c = tt
+
+pub returns-in_default-clause-ok : goal.returns-in_default-clause-ok
+returns-in_default-clause-ok g c = tt
+
+pub returns-in_default-clause-faults : goal.returns-in_default-clause-faults
+returns-in_default-clause-faults g c = inl refl

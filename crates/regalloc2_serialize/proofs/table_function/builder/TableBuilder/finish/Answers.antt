@@ -53,3 +53,24 @@ returns-in_err-blocks-clause-ok g c = IfOk-from_err c.from_residual.result _ c.f
 
 pub returns-in_err-link-clause-ok : goal.returns-in_err-link-clause-ok
 returns-in_err-link-clause-ok g c = IfOk-from_err c.from_residual-in_err-link.result _ c.from_residual-in_err-link.ensures.0
+
+pub returns-clause-err : goal.returns-clause-err
+returns-clause-err g c = tt
+
+pub returns-then-len-ge-BLOCK_LIMIT-clause-ok : goal.returns-then-len-ge-BLOCK_LIMIT-clause-ok
+returns-then-len-ge-BLOCK_LIMIT-clause-ok g c = tt
+
+pub returns-then-num_vregs-ge-LIMIT-clause-ok : goal.returns-then-num_vregs-ge-LIMIT-clause-ok
+returns-then-num_vregs-ge-LIMIT-clause-ok g c = tt
+
+pub of_blocks-requires-clause-insts : goal.of_blocks-requires-clause-insts
+of_blocks-requires-clause-insts g c = c.in_ok-blocks.ensures.few
+
+pub of_blocks-requires-clause-vregs : goal.of_blocks-requires-clause-vregs
+of_blocks-requires-clause-vregs g c = c.if-num_vregs-ge-LIMIT.false
+
+pub returns-then-len-ge-BLOCK_LIMIT-clause-err : goal.returns-then-len-ge-BLOCK_LIMIT-clause-err
+returns-then-len-ge-BLOCK_LIMIT-clause-err g c = rw length-map (omega (arith, c.if-len-ge-BLOCK_LIMIT.true, c.len.ensures, c.args.self.blocks.ok.0))
+
+pub returns-then-num_vregs-ge-LIMIT-clause-err : goal.returns-then-num_vregs-ge-LIMIT-clause-err
+returns-then-num_vregs-ge-LIMIT-clause-err g c = c.if-num_vregs-ge-LIMIT.true
