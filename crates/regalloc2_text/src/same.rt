@@ -22,8 +22,8 @@ fn same_insts<A: Allocator>(one: &[StoredInst<A>], other: &[StoredInst<A>]) -> b
     if one.len() != other.len() {
         return false;
     }
-    for (first, second) in one.iter().zip(other.iter()) {
-        if !same_inst(first, second) {
+    for k in 0..one.len() {
+        if !same_inst(&one[k], &other[k]) {
             return false;
         }
     }

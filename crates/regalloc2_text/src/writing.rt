@@ -22,8 +22,8 @@ pub enum WriteError {
 impl fmt::Display for WriteError {
     fn fmt<W: fmt::Write>(&self, f: &mut fmt::Formatter<W>) -> fmt::Result {
         match self {
-            WriteError::Memory => write!(f, "out of memory"),
-            WriteError::Differs => write!(f, "the text reads back as another function or output"),
+            WriteError::Memory => f.write_str("out of memory"),
+            WriteError::Differs => f.write_str("the text reads back as another function or output"),
         }
     }
 }

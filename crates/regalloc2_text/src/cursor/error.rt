@@ -111,7 +111,7 @@ pub enum TextError<'t> {
 impl fmt::Display for TextError<'_> {
     fn fmt<W: fmt::Write>(&self, f: &mut fmt::Formatter<W>) -> fmt::Result {
         match self {
-            TextError::Fault(fault) => write!(f, "{fault}"),
+            TextError::Fault(fault) => fmt::Display::fmt(fault, f),
             TextError::Memory => f.write_str("out of memory"),
         }
     }
@@ -132,7 +132,7 @@ impl<T: Drop> From<AllocFailed<T>> for TextError<'_> {
 }
 
 /// Why a line can't be read.
-#[derive(Clone, Copy, Debug)]
+#[derive(Clone, Copy)]
 pub enum Flaw<'t> {
     /// A token doesn't fit.
     Misfit(Misfit<'t>),
@@ -141,7 +141,7 @@ pub enum Flaw<'t> {
 }
 
 /// The first token of a line that doesn't fit.
-#[derive(Clone, Copy, Debug)]
+#[derive(Clone, Copy)]
 pub struct Misfit<'t> {
     /// The column in bytes, counted from 1.
     pub column: usize,

@@ -6,7 +6,7 @@ use super::error::{Expected, Flaw, Found};
 use std::alloc::Allocator;
 
 /// What a token is.
-#[derive(Clone, Copy, Debug, PartialEq, Eq)]
+#[derive(Clone, Copy, PartialEq, Eq)]
 pub enum TokenKind {
     /// A letter or `_`, and letters, digits, `_` and `@` after it.
     Word,
@@ -19,7 +19,7 @@ pub enum TokenKind {
 }
 
 /// A word, a number or a sign of a line.
-#[derive(Clone, Copy, Debug)]
+#[derive(Clone, Copy)]
 pub struct Token<'t> {
     /// What it is.
     pub kind: TokenKind,

@@ -26,10 +26,10 @@ fn write_targets<A: Allocator, W: fmt::Write>(
     to: &mut Page<'_, W>,
 ) {
     let (succs, params) = targets;
-    for (k, (block, words)) in succs.iter().zip(params.iter()).enumerate() {
+    for k in 0..succs.len().min(params.len()) {
         let before = if k == 0 { before } else { ", " };
-        to.put(&format_args!("{before}{}(", BlockText(*block)));
-        write_list(words.as_slice(), VRegText, to);
+        to.put(&format_args!("{before}{}(", BlockText(succs[k])));
+        write_list(params[k].as_slice(), VRegText, to);
         to.words(")");
     }
 }

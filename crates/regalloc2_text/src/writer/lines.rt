@@ -1,6 +1,6 @@
 //! The lines of a text, in order: the machine, what isn't as usual, the blocks, the labels, and what has no line of its own.
 
-use super::machine::{CLASSES, write_machine, write_stored, write_stored_machine};
+use super::machine::{CLASSES, write_machine, write_misfit, write_stored, write_stored_machine};
 use super::moves::Moves;
 use super::places::{Places, ShownOutput};
 use super::shown::{Shown, targets_disagree};
@@ -56,18 +56,10 @@ fn write_stored_lists<A: Allocator, W: fmt::Write>(
     to: &mut Page<'_, W>,
 ) {
     let blocks = function.blocks.len();
-    if function.block_preds.len() != blocks {
-        write_stored("block_preds", &function.block_preds, to);
-    }
-    if function.block_succs.len() != blocks {
-        write_stored("block_succs", &function.block_succs, to);
-    }
-    if function.block_params_in.len() != blocks {
-        write_stored("block_params_in", &function.block_params_in, to);
-    }
-    if function.block_params_out.len() != blocks {
-        write_stored("block_params_out", &function.block_params_out, to);
-    }
+    write_misfit("block_preds", &function.block_preds, blocks, to);
+    write_misfit("block_succs", &function.block_succs, blocks, to);
+    write_misfit("block_params_in", &function.block_params_in, blocks, to);
+    write_misfit("block_params_out", &function.block_params_out, blocks, to);
 }
 
 /// Writes as numbers successors and arguments by block that can't be shown together.
@@ -93,9 +85,7 @@ fn write_stored_lines<A: Allocator, W: fmt::Write>(
     to: &mut Page<'_, W>,
 ) {
     write_stored_machine(&function.machine_env, to);
-    if function.spillslot_size.len() != CLASSES {
-        write_stored("spillslot_size", &function.spillslot_size, to);
-    }
+    write_misfit("spillslot_size", &function.spillslot_size, CLASSES, to);
     write_stored_lists(function, to);
     write_stored_targets(function, to);
 }
@@ -109,13 +99,13 @@ fn write_lines<A: Allocator + Copy, W: fmt::Write>(
     let function = shown.function;
     write_machine(&function.machine_env, to);
     write_settings(shown, to);
-    let (places, mut moves) = match output {
+    let (places, mut moves) = match &output {
         Some(output) => (output.places(), output.moves()),
         None => (Places::none(), Moves::new(&[])),
     };
     shown.write_body(&places, &mut moves, to);
     write_labels(function.debug_value_labels.as_slice(), to);
-    if let Some(output) = output {
+    if let Some(output) = &output {
         output.write(to);
     }
     write_stored_lines(function, to);

@@ -54,36 +54,41 @@ impl<T: JsonText> JsonText for Option<T> {
     }
 }
 
+/// Writes values in brackets.
+fn write_items<T: JsonText, W: fmt::Write>(items: &[T], to: &mut Page<'_, W>) {
+    to.words("[");
+    for (k, item) in items.iter().enumerate() {
+        if k > 0 {
+            to.words(", ");
+        }
+        item.write_json(to);
+    }
+    to.words("]");
+}
+
 impl JsonText for (u32, u32) {
     fn write_json<W: fmt::Write>(&self, to: &mut Page<'_, W>) {
         let (first, second) = *self;
-        to.put(&format_args!("[{first}, {second}]"));
+        write_items(&[first, second], to);
     }
 }
 
 impl JsonText for (u32, u32, u32) {
     fn write_json<W: fmt::Write>(&self, to: &mut Page<'_, W>) {
         let (first, second, third) = *self;
-        to.put(&format_args!("[{first}, {second}, {third}]"));
+        write_items(&[first, second, third], to);
     }
 }
 
 impl JsonText for (u32, u32, u32, u32) {
     fn write_json<W: fmt::Write>(&self, to: &mut Page<'_, W>) {
         let (first, second, third, fourth) = *self;
-        to.put(&format_args!("[{first}, {second}, {third}, {fourth}]"));
+        write_items(&[first, second, third, fourth], to);
     }
 }
 
 impl<T: JsonText, A: Allocator> JsonText for Vec<T, A> {
     fn write_json<W: fmt::Write>(&self, to: &mut Page<'_, W>) {
-        to.words("[");
-        for (k, item) in self.as_slice().iter().enumerate() {
-            if k > 0 {
-                to.words(", ");
-            }
-            item.write_json(to);
-        }
-        to.words("]");
+        write_items(self.as_slice(), to);
     }
 }

@@ -97,21 +97,26 @@ pub(crate) fn write_stored<T: JsonText, W: fmt::Write>(name: &str, list: &T, to:
     to.words("\n");
 }
 
+/// Writes a list as a `stored` line, if it doesn't have that many items.
+pub(crate) fn write_misfit<T: JsonText, A: Allocator, W: fmt::Write>(
+    name: &str,
+    list: &Vec<T, A>,
+    wanted: usize,
+    to: &mut Page<'_, W>,
+) {
+    if list.len() != wanted {
+        write_stored(name, list, to);
+    }
+}
+
 /// Writes the lists by class that don't have an item for each class.
 pub(crate) fn write_stored_machine<A: Allocator, W: fmt::Write>(
     machine: &StoredMachine<A>,
     to: &mut Page<'_, W>,
 ) {
     let preferred = &machine.preferred_regs_by_class;
-    if preferred.len() != CLASSES {
-        write_stored("preferred_regs_by_class", preferred, to);
-    }
     let others = &machine.non_preferred_regs_by_class;
-    if others.len() != CLASSES {
-        write_stored("non_preferred_regs_by_class", others, to);
-    }
-    let scratch = &machine.scratch_by_class;
-    if scratch.len() != CLASSES {
-        write_stored("scratch_by_class", scratch, to);
-    }
+    write_misfit("preferred_regs_by_class", preferred, CLASSES, to);
+    write_misfit("non_preferred_regs_by_class", others, CLASSES, to);
+    write_misfit("scratch_by_class", &machine.scratch_by_class, CLASSES, to);
 }

@@ -21,6 +21,11 @@ pub(crate) fn run_in_order(moves: &[Move], insts: usize) -> bool {
     true
 }
 
+/// Writes the places of a move.
+pub(crate) fn write_move<W: fmt::Write>(from: u32, into: u32, to: &mut Page<'_, W>) {
+    to.put(&format_args!("move {} -> {}", PlaceText(from), PlaceText(into)));
+}
+
 /// Moves that are still to be written, each beside its instruction.
 #[derive(Drop)]
 pub(crate) struct Moves<'a> {
@@ -48,14 +53,17 @@ impl<'a> Moves<'a> {
     /// Writes the next moves that are before an instruction.
     pub(crate) fn write_before<W: fmt::Write>(&mut self, inst: usize, to: &mut Page<'_, W>) {
         while let Some((_, from, into)) = self.next_at(inst, false) {
-            to.put(&format_args!("  move {} -> {}\n", PlaceText(from), PlaceText(into)));
+            to.words("  ");
+            write_move(from, into, to);
+            to.words("\n");
         }
     }
 
     /// Writes the next moves that are after an instruction, each with its point.
     pub(crate) fn write_after<W: fmt::Write>(&mut self, inst: usize, to: &mut Page<'_, W>) {
         while let Some((_, from, into)) = self.next_at(inst, true) {
-            to.put(&format_args!("  move {} -> {}", PlaceText(from), PlaceText(into)));
+            to.words("  ");
+            write_move(from, into, to);
             to.put(&format_args!(" at inst{inst}-post\n"));
         }
     }

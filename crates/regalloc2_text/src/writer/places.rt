@@ -1,7 +1,7 @@
 //! An output's places by instruction, and its own lines.
 
 use super::machine::write_stored;
-use super::moves::{Moves, run_in_order};
+use super::moves::{Moves, run_in_order, write_move};
 use crate::writer::page::Page;
 use crate::writer::spell::{PlaceText, PointText};
 use regalloc2_function::StoredOutput;
@@ -54,7 +54,7 @@ impl<'a> Places<'a> {
 }
 
 /// An output with what of it stands beside the instructions.
-#[derive(Clone, Copy)]
+#[derive(Drop)]
 pub(crate) struct ShownOutput<'a, A: Allocator> {
     output: &'a StoredOutput<A>,
     has_places: bool,
@@ -78,7 +78,7 @@ impl<'a, A: Allocator + Copy> ShownOutput<'a, A> {
     }
 
     /// The places that stand beside their instructions.
-    pub(crate) fn places(self) -> Places<'a> {
+    pub(crate) fn places(&self) -> Places<'a> {
         if !self.has_places {
             return Places::none();
         }
@@ -89,7 +89,7 @@ impl<'a, A: Allocator + Copy> ShownOutput<'a, A> {
     }
 
     /// The moves that stand beside their instructions.
-    pub(crate) fn moves(self) -> Moves<'a> {
+    pub(crate) fn moves(&self) -> Moves<'a> {
         if self.has_moves {
             Moves::new(self.output.edits.as_slice())
         } else {
@@ -98,18 +98,18 @@ impl<'a, A: Allocator + Copy> ShownOutput<'a, A> {
     }
 
     /// Writes the moves that don't stand beside their instructions, each with its point.
-    fn write_moves<W: fmt::Write>(self, to: &mut Page<'_, W>) {
+    fn write_moves<W: fmt::Write>(&self, to: &mut Page<'_, W>) {
         if self.has_moves {
             return;
         }
         for (point, from, into) in &self.output.edits {
-            to.put(&format_args!("move {} -> {}", PlaceText(*from), PlaceText(*into)));
+            write_move(*from, *into, to);
             to.put(&format_args!(" at {}\n", PointText(*point)));
         }
     }
 
     /// Writes the places that don't stand beside their instructions.
-    fn write_places<W: fmt::Write>(self, to: &mut Page<'_, W>) {
+    fn write_places<W: fmt::Write>(&self, to: &mut Page<'_, W>) {
         if self.has_places {
             return;
         }
@@ -119,7 +119,7 @@ impl<'a, A: Allocator + Copy> ShownOutput<'a, A> {
 
     /// Writes an output's own lines: the size of the slots, what doesn't stand beside the instructions, and the debug
     /// locations.
-    pub(crate) fn write<W: fmt::Write>(self, to: &mut Page<'_, W>) {
+    pub(crate) fn write<W: fmt::Write>(&self, to: &mut Page<'_, W>) {
         let slots = self.output.num_spillslots;
         to.put(&format_args!("slots {slots}\n"));
         self.write_moves(to);

@@ -26,8 +26,8 @@ pub(crate) struct Shown<'a, A: Allocator> {
 
 /// Whether each block has as many lists of arguments as successors, so far as both lists go.
 fn agree<A: Allocator>(succs: &[Vec<u32, A>], params_out: &[Vec<Vec<u32, A>, A>]) -> bool {
-    for (targets, lists) in succs.iter().zip(params_out.iter()) {
-        if targets.len() != lists.len() {
+    for k in 0..succs.len().min(params_out.len()) {
+        if succs[k].len() != params_out[k].len() {
             return false;
         }
     }

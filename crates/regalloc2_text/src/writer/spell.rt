@@ -5,6 +5,11 @@ use regalloc2_names::{
 };
 use std::fmt;
 
+/// Writes a number that names nothing.
+fn write_bits<W: fmt::Write>(bits: u64, f: &mut fmt::Formatter<W>) -> fmt::Result {
+    write!(f, "bits({bits})")
+}
+
 /// A register's index, as `p3i`.
 #[derive(Clone, Copy)]
 pub(crate) struct RegisterText(pub u8);
@@ -13,10 +18,9 @@ impl fmt::Display for RegisterText {
     fn fmt<W: fmt::Write>(&self, f: &mut fmt::Formatter<W>) -> fmt::Result {
         let index = usize::from(self.0);
         if !PReg::is_index(index) {
-            return write!(f, "bits({index})");
+            return write_bits(u64::from(self.0), f);
         }
-        let register = PReg::from_index(index);
-        write!(f, "{register}")
+        fmt::Display::fmt(&PReg::from_index(index), f)
     }
 }
 
@@ -37,7 +41,7 @@ impl fmt::Display for VRegText {
     fn fmt<W: fmt::Write>(&self, f: &mut fmt::Formatter<W>) -> fmt::Result {
         let bits = self.0;
         if !VReg::is_bits(bits) {
-            return write!(f, "bits({bits})");
+            return write_bits(u64::from(bits), f);
         }
         let vreg = VReg::from_bits(bits);
         let class = class_letter(vreg.class());
@@ -89,12 +93,12 @@ impl fmt::Display for OperandText {
     fn fmt<W: fmt::Write>(&self, f: &mut fmt::Formatter<W>) -> fmt::Result {
         let bits = self.0;
         if !Operand::is_bits(bits) {
-            return write!(f, "bits({bits})");
+            return write_bits(bits, f);
         }
         let operand = Operand::from_bits(bits);
         match operand.as_fixed_nonallocatable() {
             Some(register) if !is_early_use(operand) => write_fixed(operand, register, f),
-            _ => write!(f, "{operand}"),
+            _ => fmt::Display::fmt(&operand, f),
         }
     }
 }
@@ -121,10 +125,9 @@ impl fmt::Display for PlaceText {
     fn fmt<W: fmt::Write>(&self, f: &mut fmt::Formatter<W>) -> fmt::Result {
         let bits = self.0;
         if !Allocation::is_bits(bits) {
-            return write!(f, "bits({bits})");
+            return write_bits(u64::from(bits), f);
         }
-        let place = Allocation::from_bits(bits);
-        write!(f, "{place}")
+        fmt::Display::fmt(&Allocation::from_bits(bits), f)
     }
 }
 
@@ -136,7 +139,7 @@ impl fmt::Display for PointText {
     fn fmt<W: fmt::Write>(&self, f: &mut fmt::Formatter<W>) -> fmt::Result {
         let number = self.0;
         if !ProgPoint::is_index(number) {
-            return write!(f, "bits({number})");
+            return write_bits(u64::from(number), f);
         }
         let point = ProgPoint::from_index(number);
         let inst = point.inst().index();
