@@ -161,8 +161,8 @@ fn of_passed(succ: usize, arguments: &[u32], params: &[u32]) -> Option<Cause> {
             wanted: params.len(),
         });
     }
-    for (argument, param) in arguments.iter().zip(params.iter()) {
-        if let (Some(passed), Some(wanted)) = (vreg_of(*argument), vreg_of(*param)) {
+    for k in 0..arguments.len() {
+        if let (Some(passed), Some(wanted)) = (vreg_of(arguments[k]), vreg_of(params[k])) {
             if passed.class() != wanted.class() {
                 return Some(Cause::ArgumentClass {
                     succ,

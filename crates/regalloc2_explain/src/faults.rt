@@ -300,12 +300,9 @@ impl fmt::Display for StoredCause {
 
 /// The first block that has another number of lists of arguments than successors.
 fn of_arguments(function: &StoredFunction) -> Option<StoredCause> {
-    let pairs = function
-        .block_params_out
-        .iter()
-        .zip(function.block_succs.iter());
-    for (block, (arguments, succs)) in pairs.enumerate() {
-        let (lists, succs) = (arguments.len(), succs.len());
+    let (arguments, succs) = (&function.block_params_out, &function.block_succs);
+    for block in 0..arguments.len().min(succs.len()) {
+        let (lists, succs) = (arguments[block].len(), succs[block].len());
         if lists != succs {
             return Some(StoredCause::ArgumentLists {
                 block,

@@ -21,6 +21,11 @@ pub(crate) fn is_memory(machine: &StoredMachine, bits: u32) -> bool {
     }
 }
 
+/// Writes a number that names nothing.
+fn write_bits<W: fmt::Write>(bits: u64, f: &mut fmt::Formatter<W>) -> fmt::Result {
+    write!(f, "bits({bits})")
+}
+
 /// A place's text, as `p3i`, `stack5` or `none`.
 #[derive(Clone, Copy)]
 pub(crate) struct PlaceText(pub u32);
@@ -29,10 +34,9 @@ impl fmt::Display for PlaceText {
     fn fmt<W: fmt::Write>(&self, f: &mut fmt::Formatter<W>) -> fmt::Result {
         let bits = self.0;
         if !Allocation::is_bits(bits) {
-            return write!(f, "bits({bits})");
+            return write_bits(u64::from(bits), f);
         }
-        let place = Allocation::from_bits(bits);
-        write!(f, "{place}")
+        fmt::Display::fmt(&Allocation::from_bits(bits), f)
     }
 }
 
@@ -43,11 +47,8 @@ pub(crate) struct OperandText(pub u64);
 impl fmt::Display for OperandText {
     fn fmt<W: fmt::Write>(&self, f: &mut fmt::Formatter<W>) -> fmt::Result {
         match operand_of(self.0) {
-            Some(operand) => write!(f, "{operand}"),
-            None => {
-                let bits = self.0;
-                write!(f, "bits({bits})")
-            }
+            Some(operand) => fmt::Display::fmt(&operand, f),
+            None => write_bits(self.0, f),
         }
     }
 }
@@ -60,10 +61,9 @@ impl fmt::Display for RegisterText {
     fn fmt<W: fmt::Write>(&self, f: &mut fmt::Formatter<W>) -> fmt::Result {
         let index = usize::from(self.0);
         if !PReg::is_index(index) {
-            return write!(f, "bits({index})");
+            return write_bits(u64::from(self.0), f);
         }
-        let register = PReg::from_index(index);
-        write!(f, "{register}")
+        fmt::Display::fmt(&PReg::from_index(index), f)
     }
 }
 
@@ -75,7 +75,7 @@ impl fmt::Display for PointText {
     fn fmt<W: fmt::Write>(&self, f: &mut fmt::Formatter<W>) -> fmt::Result {
         let number = self.0;
         if !ProgPoint::is_index(number) {
-            return write!(f, "bits({number})");
+            return write_bits(u64::from(number), f);
         }
         let inst = number >> 1;
         let ending = if number & 1 == 0 { "pre" } else { "post" };
