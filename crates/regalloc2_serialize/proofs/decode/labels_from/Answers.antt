@@ -1,5 +1,5 @@
 use Rattle.std.proofs.lemmas.Result.{IfOk-from_err}
-use Rattle.std.proofs.Common.{arith}
+use Rattle.std.proofs.Common.{arith, refl}
 use Rattle.std.proofs.lemmas.List.{take_all}
 use Rattle.regalloc2_serialize.proofs.decode.labels_from.Goals as goal
 
@@ -14,3 +14,6 @@ returns-in_err-named g c = IfOk-from_err c.from_residual.result _ c.from_residua
 
 pub returns-in_err-push : goal.returns-in_err-push
 returns-in_err-push g c = IfOk-from_err c.from_residual-in_err-push.result _ c.from_residual-in_err-push.ensures.0
+
+pub loop-label-init : goal.loop-label-init
+loop-label-init g c = rw c.in_ok-named.ensures.items refl

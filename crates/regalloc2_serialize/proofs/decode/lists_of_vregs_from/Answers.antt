@@ -1,5 +1,5 @@
 use Rattle.std.proofs.lemmas.Result.{IfOk-from_err}
-use Rattle.std.proofs.Common.{arith, ◌≡◌, ◌∙◌, ◌+◌, ◌++◌, ◌∷◌, [], map, take, ap, subst, sym}
+use Rattle.std.proofs.Common.{arith, ◌≡◌, ◌∙◌, ◌+◌, ◌++◌, ◌∷◌, [], map, take, ap, subst, sym, refl}
 use Rattle.std.specs.Prelude.{All}
 use Rattle.std.proofs.lemmas.List.{take_all}
 use Rattle.regalloc2_names.specs.Packing.{IsVRegBits}
@@ -33,3 +33,6 @@ returns-in_err-vregs_from g c = IfOk-from_err c.from_residual-in_err-vregs_from.
 
 pub returns-in_err-push : goal.returns-in_err-push
 returns-in_err-push g c = IfOk-from_err c.from_residual-in_err-push.result _ c.from_residual-in_err-push.ensures.0
+
+pub loop-list-init : goal.loop-list-init
+loop-list-init g c = rw c.in_ok-vregs.ensures.items refl

@@ -1,5 +1,5 @@
 use Rattle.std.proofs.lemmas.Result.{IfOk-from_err}
-use Rattle.std.proofs.Common.{arith}
+use Rattle.std.proofs.Common.{arith, refl}
 use Rattle.std.proofs.lemmas.List.{take_all}
 use Rattle.regalloc2_names.specs.Packing.{vreg_of_bits}
 use Rattle.regalloc2_serialize.proofs.Lists.{more-of-image}
@@ -18,3 +18,6 @@ returns-in_err-vregs g c = IfOk-from_err c.from_residual.result _ c.from_residua
 
 pub returns-in_err-push : goal.returns-in_err-push
 returns-in_err-push g c = IfOk-from_err c.from_residual-in_err-push.result _ c.from_residual-in_err-push.ensures.0
+
+pub loop-word-init : goal.loop-word-init
+loop-word-init g c = rw c.in_ok-vregs.ensures.items refl

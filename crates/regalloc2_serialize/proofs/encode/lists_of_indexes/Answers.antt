@@ -55,3 +55,6 @@ returns-in_err-push g c = record {
   three = IfOk-from_err c.from_residual-in_err-push.result _ c.from_residual-in_err-push.ensures.0;
   names = IfOk-from_err c.from_residual-in_err-push.result _ c.from_residual-in_err-push.ensures.0;
 }
+
+pub returns-clause-names : goal.returns-clause-names
+returns-clause-names g c = c.loop-set.invariant.names

@@ -1,5 +1,5 @@
 use Rattle.std.proofs.lemmas.Result.{IfOk-from_err}
-use Rattle.std.proofs.Common.{arith}
+use Rattle.std.proofs.Common.{arith, refl}
 use Rattle.std.proofs.lemmas.List.{take_all}
 use Rattle.regalloc2_serialize.proofs.Lists.{copy-more}
 use Rattle.regalloc2_serialize.proofs.encode.numbers_of_blocks.Goals as goal
@@ -17,3 +17,6 @@ returns-in_err-numbers g c = IfOk-from_err c.from_residual.result _ c.from_resid
 
 pub returns-in_err-push : goal.returns-in_err-push
 returns-in_err-push g c = IfOk-from_err c.from_residual-in_err-push.result _ c.from_residual-in_err-push.ensures.0
+
+pub loop-block-init : goal.loop-block-init
+loop-block-init g c = rw c.in_ok-numbers.ensures.items refl

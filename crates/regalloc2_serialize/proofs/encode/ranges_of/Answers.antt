@@ -1,5 +1,5 @@
 use Rattle.std.proofs.lemmas.Result.{IfOk-from_err}
-use Rattle.std.proofs.Common.{arith, ◌≡◌, ◌+◌, ◌++◌, ◌∷◌, [], map, take, subst, sym}
+use Rattle.std.proofs.Common.{arith, ◌≡◌, ◌+◌, ◌++◌, ◌∷◌, [], map, take, subst, sym, refl}
 use Rattle.std.proofs.lemmas.List.{take_all}
 use Rattle.regalloc2_serialize.specs.Decoded.{stored_range}
 use Rattle.regalloc2_serialize.specs.TableFunction.Table.{block_of_table}
@@ -27,3 +27,6 @@ returns-in_err-ranges g c = IfOk-from_err c.from_residual.result _ c.from_residu
 
 pub returns-in_err-push : goal.returns-in_err-push
 returns-in_err-push g c = IfOk-from_err c.from_residual-in_err-push.result _ c.from_residual-in_err-push.ensures.0
+
+pub loop-block-init : goal.loop-block-init
+loop-block-init g c = rw c.in_ok-ranges.ensures.items refl

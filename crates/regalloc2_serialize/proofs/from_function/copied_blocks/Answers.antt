@@ -56,3 +56,6 @@ returns-in_err-push g c = record {
   blocks = IfOk-from_err c.from_residual-in_err-push.result _ c.from_residual-in_err-push.ensures.0;
   count = IfOk-from_err c.from_residual-in_err-push.result _ c.from_residual-in_err-push.ensures.0;
 }
+
+pub loop-block-init : goal.loop-block-init
+loop-block-init g c = record { blocks = rw c.in_ok-tables.ensures.items refl; count = rw c.in_ok-tables.ensures.items refl }

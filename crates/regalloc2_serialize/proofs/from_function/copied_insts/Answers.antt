@@ -50,3 +50,6 @@ returns-in_err-push g c = record {
   insts = IfOk-from_err c.from_residual-in_err-push.result _ c.from_residual-in_err-push.ensures.0;
   count = IfOk-from_err c.from_residual-in_err-push.result _ c.from_residual-in_err-push.ensures.0;
 }
+
+pub loop-inst-init : goal.loop-inst-init
+loop-inst-init g c = record { insts = rw c.in_ok-tables.ensures.items refl; count = rw c.in_ok-tables.ensures.items refl }

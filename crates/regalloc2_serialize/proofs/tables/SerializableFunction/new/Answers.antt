@@ -84,3 +84,21 @@ returns-in_err-labels-clause-machine g c = IfOk-from_err c.from_residual-in_err-
 
 pub returns-in_err-labels-clause-memory : goal.returns-in_err-labels-clause-memory
 returns-in_err-labels-clause-memory g c = let p = err_from_is_err_and c.from_residual-in_err-labels.result c.from_residual-in_err-labels.ensures.1 in rw (p.1, p.2) refl
+
+pub returns-clause-memory : goal.returns-clause-memory
+returns-clause-memory g c = tt
+
+pub returns-clause-machine : goal.returns-clause-machine
+returns-clause-machine g c = refl
+
+pub copied_blocks-requires : goal.copied_blocks-requires
+copied_blocks-requires g c = c.requires
+
+pub returns-in_err-blocks-clause-whole : goal.returns-in_err-blocks-clause-whole
+returns-in_err-blocks-clause-whole g c = λ _. IfOk-from_err c.from_residual.result _ c.from_residual.ensures.0
+
+pub returns-in_err-insts-clause-whole : goal.returns-in_err-insts-clause-whole
+returns-in_err-insts-clause-whole g c = λ _. IfOk-from_err c.from_residual-in_err-insts.result _ c.from_residual-in_err-insts.ensures.0
+
+pub returns-in_err-labels-clause-whole : goal.returns-in_err-labels-clause-whole
+returns-in_err-labels-clause-whole g c = λ _. IfOk-from_err c.from_residual-in_err-labels.result _ c.from_residual-in_err-labels.ensures.0

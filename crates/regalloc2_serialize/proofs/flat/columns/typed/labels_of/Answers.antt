@@ -1,5 +1,5 @@
 use Rattle.std.proofs.lemmas.Result.{IfOk-from_err}
-use Rattle.std.proofs.Common.{◌≡◌, ◌∙◌, [], ◌∷◌, ◌++◌, ◌+◌, ◌*◌, ℕ, ap, map, refl}
+use Rattle.std.proofs.Common.{◌≡◌, ◌∙◌, [], ◌∷◌, ◌++◌, ◌+◌, ◌*◌, ℕ, ap, map, refl, arith}
 use Rattle.std.specs.Prelude.{slice_index}
 use Rattle.regalloc2_names.specs.Register.{VirtualRegister}
 use Rattle.regalloc2_function.specs.FunctionValue.{label_of}
@@ -21,3 +21,11 @@ returns-in_err-labels g c = IfOk-from_err c.from_residual.result _ c.from_residu
 
 pub returns-in_err-push : goal.returns-in_err-push
 returns-in_err-push g c = IfOk-from_err c.from_residual-in_err-push.result _ c.from_residual-in_err-push.ensures.0
+
+pub loop-k-init : goal.loop-k-init
+loop-k-init g c = rw c.in_ok-labels.ensures.items refl
+
+pub returns : goal.returns
+returns g c =
+    let e : c.loop-k.k ≡ c.args.count = omega (arith, c.loop-k-test.false, c.loop-k.auto.k-end) in
+    rw e at c.loop-k.invariant

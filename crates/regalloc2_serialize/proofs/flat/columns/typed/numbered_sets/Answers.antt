@@ -32,3 +32,8 @@ returns-in_err-push g c = IfOk-from_err c.from_residual-in_err-push.result _ c.f
 
 pub returns-in_err-push-2 : goal.returns-in_err-push-2
 returns-in_err-push-2 g c = IfOk-from_err c.from_residual-in_err-push-2.result _ c.from_residual-in_err-push-2.ensures.0
+
+pub returns : goal.returns
+returns g c =
+    let e : c.loop-k.k ≡ c.args.count = omega (arith, c.loop-k-test.false, c.loop-k.auto.k-end) in
+    rw e at c.loop-k.invariant

@@ -1,5 +1,5 @@
 use Rattle.std.proofs.lemmas.Result.{IfOk-from_err}
-use Rattle.std.proofs.Common.{◌≡◌, ◌∙◌, [], ◌∷◌, ◌++◌, ap}
+use Rattle.std.proofs.Common.{◌≡◌, ◌∙◌, [], ◌∷◌, ◌++◌, ap, refl, arith}
 use Rattle.regalloc2_names.specs.Packing.{operand_of_bits}
 use Rattle.regalloc2_serialize.specs.Flat.Columns.Value.{long_at}
 use Rattle.regalloc2_serialize.proofs.ColumnsLemmas.More.{made-more}
@@ -19,3 +19,11 @@ returns-in_err-push g c = IfOk-from_err c.from_residual-in_err-push.result _ c.f
 
 pub from_bits-requires : goal.from_bits-requires
 from_bits-requires g c = rw c.long.ensures (c.requires.operands c.loop-k.k c.loop-k-test.true)
+
+pub loop-k-init : goal.loop-k-init
+loop-k-init g c = rw c.in_ok-operands.ensures.items refl
+
+pub returns : goal.returns
+returns g c =
+    let e : c.loop-k.k ≡ c.args.count = omega (arith, c.loop-k-test.false, c.loop-k.auto.k-end) in
+    rw e at c.loop-k.invariant

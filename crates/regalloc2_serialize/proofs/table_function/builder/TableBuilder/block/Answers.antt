@@ -34,3 +34,18 @@ returns-in_err-push-clause-number g c = IfOk-from_err c.from_residual-in_err-pus
 
 pub returns-in_err-push-clause-ok : goal.returns-in_err-push-clause-ok
 returns-in_err-push-clause-ok g c = IfOk-from_err c.from_residual-in_err-push.result _ c.from_residual-in_err-push.ensures.0
+
+pub returns-clause-err : goal.returns-clause-err
+returns-clause-err g c = tt
+
+pub returns-clause-unchanged : goal.returns-clause-unchanged
+returns-clause-unchanged g c = tt
+
+pub returns-then-number-ge-BLOCK_LIMIT-clause-ok : goal.returns-then-number-ge-BLOCK_LIMIT-clause-ok
+returns-then-number-ge-BLOCK_LIMIT-clause-ok g c = tt
+
+pub returns-then-number-ge-BLOCK_LIMIT-clause-number : goal.returns-then-number-ge-BLOCK_LIMIT-clause-number
+returns-then-number-ge-BLOCK_LIMIT-clause-number g c = tt
+
+pub returns-then-number-ge-BLOCK_LIMIT-clause-unchanged : goal.returns-then-number-ge-BLOCK_LIMIT-clause-unchanged
+returns-then-number-ge-BLOCK_LIMIT-clause-unchanged g c = refl

@@ -21,3 +21,15 @@ returns-in_err-push-clause-ok g c = IfOk-from_err c.from_residual.result _ c.fro
 
 pub returns-in_err-push-clause-err : goal.returns-in_err-push-clause-err
 returns-in_err-push-clause-err g c = let p = err_from_is_err_and c.from_residual.result c.from_residual.ensures.1 in rw (p.1, p.2) tt
+
+pub returns-clause-err : goal.returns-clause-err
+returns-clause-err g c = tt
+
+pub returns-clause-unchanged : goal.returns-clause-unchanged
+returns-clause-unchanged g c = tt
+
+pub returns-then-index-len-clause-ok : goal.returns-then-index-len-clause-ok
+returns-then-index-len-clause-ok g c = tt
+
+pub returns-then-index-len-clause-unchanged : goal.returns-then-index-len-clause-unchanged
+returns-then-index-len-clause-unchanged g c = refl

@@ -42,3 +42,21 @@ returns-in_err-push-clause-err g c = let p = err_from_is_err_and c.from_residual
 
 pub returns-in_err-arguments-clause-unchanged : goal.returns-in_err-arguments-clause-unchanged
 returns-in_err-arguments-clause-unchanged g c = let p = err_from_is_err_and c.from_residual.result c.from_residual.ensures.1 in rw p.1 refl
+
+pub returns-clause-err : goal.returns-clause-err
+returns-clause-err g c = tt
+
+pub returns-clause-unchanged : goal.returns-clause-unchanged
+returns-clause-unchanged g c = tt
+
+pub returns-in-Err-clause-err : goal.returns-in-Err-clause-err
+returns-in-Err-clause-err g c = tt
+
+pub returns-in-Err-clause-ok : goal.returns-in-Err-clause-ok
+returns-in-Err-clause-ok g c = tt
+
+pub returns-then-index-len-clause-ok : goal.returns-then-index-len-clause-ok
+returns-then-index-len-clause-ok g c = tt
+
+pub returns-then-index-len-clause-unchanged : goal.returns-then-index-len-clause-unchanged
+returns-then-index-len-clause-unchanged g c = refl
