@@ -1,5 +1,8 @@
 -- Lemmas on tests that return true exactly if a fact holds.
-use Rattle.std.proofs.Common.{◌≡◌, Bool, true, false}
+use Rattle.std.proofs.Common.{◌≡◌, ◌<◌, ℕ, List, [], ◌∷◌, length, Bool, true, false, refl, IsTrue, ◌↔◌, MatchBool, arith}
+use Rattle.std.specs.Prelude.{All}
+use Rattle.std.specs.List.{AllWithin, HoldsAt}
+use Rattle.std.proofs.lemmas.Bool.{false≢true}
 use Rattle.regalloc2_names.specs.declared.RegClass.{RegClass}
 use Rattle.regalloc2_names.specs.declared.RegClass.TheVariants.{Int, Float, Vector}
 use Rattle.std.specs.Bool.{OnFalse}
@@ -22,3 +25,10 @@ same_some x y e = cc
 
 pub none_is_not_some : {X : Type 0} (x : X) → None ≡ Some x → ⊥
 none_is_not_some x e = cc
+
+-- whether `all` returns true exactly if each element has P, where it tests P
+pub all_or_not : {X : Type 0} (P : X → Type 0) (r : Bool) (xs : List X) →
+    MatchBool r (AllWithin P xs 0 (length xs)) ((k : ℕ) × (k < length xs) × HoldsAt (λ x. P x → ⊥) xs k) → IsTrue r ↔ All P xs
+all_or_not P true xs h = (λ _ k d less. h k d (omega arith) less, λ _. refl)
+all_or_not P false [] h = (λ t. absurd (false≢true t), λ all. absurd (omega (arith, h.1)))
+all_or_not P false (x ∷ xs) h = (λ t. absurd (false≢true t), λ all. absurd (h.2 x (all h.0 x h.1)))

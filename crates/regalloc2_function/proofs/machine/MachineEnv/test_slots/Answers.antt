@@ -23,3 +23,34 @@ returns-clause-ok g c =
     All-same P items c.as_slice-slot-items.result.now (sym c.loop-slot.invariant.slots)
     (All-same P c.as_slice-slot-items.result.now _ (sym (take_all c.loop-slot.slot-index c.as_slice-slot-items.result.now c.loop-slot-test.false))
     c.loop-slot.invariant.apart)
+
+pub returns-then-contains-clause-ok : goal.returns-then-contains-clause-ok
+returns-then-contains-clause-ok g c = tt
+
+pub returns-then-contains-clause-misfit : goal.returns-then-contains-clause-misfit
+returns-then-contains-clause-misfit g c = λ f passes. (
+  passes,
+  (
+    c.loop-slot.slot-index,
+    rw c.loop-slot.invariant.slots at c.loop-slot-test.true,
+    sym (rw c.loop-slot.invariant.slots at c.slot-item.is),
+    rw c.loop-slot.invariant.slots at c.loop-slot.invariant.apart,
+  ),
+  sym (c.allocatable.ensures c.slot-item.result) ∙ sym c.contains.ensures.member ∙ c.if-contains.true,
+)
+
+pub returns-then-is_scratch-clause-ok : goal.returns-then-is_scratch-clause-ok
+returns-then-is_scratch-clause-ok g c = tt
+
+pub returns-then-is_scratch-clause-misfit : goal.returns-then-is_scratch-clause-misfit
+returns-then-is_scratch-clause-misfit g c = λ f passes. (
+  passes,
+  (
+    c.loop-slot.slot-index,
+    rw c.loop-slot.invariant.slots at c.loop-slot-test.true,
+    sym (rw c.loop-slot.invariant.slots at c.slot-item.is),
+    rw c.loop-slot.invariant.slots at c.loop-slot.invariant.apart,
+  ),
+  sym (c.allocatable.ensures c.slot-item.result) ∙ sym c.contains.ensures.member ∙ c.if-contains.false,
+  c.is_scratch.ensures.0 c.if-is_scratch.true,
+)
