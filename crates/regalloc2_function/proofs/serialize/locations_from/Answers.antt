@@ -22,3 +22,12 @@ returns-in_err-locations g c = IfOk-from_err c.from_residual.result _ c.from_res
 
 pub returns-in_err-push : goal.returns-in_err-push
 returns-in_err-push g c = IfOk-from_err c.from_residual-in_err-push.result _ c.from_residual-in_err-push.ensures.0
+
+pub from_index-from-requires : goal.from_index-from-requires
+from_index-from-requires g c = (c.requires c.loop-word.word-index (0, 0, 0, 0) c.loop-word-test.true).0
+
+pub from_index-to-requires : goal.from_index-to-requires
+from_index-to-requires g c = (c.requires c.loop-word.word-index (0, 0, 0, 0) c.loop-word-test.true).1
+
+pub from_bits-requires : goal.from_bits-requires
+from_bits-requires g c = (c.requires c.loop-word.word-index (0, 0, 0, 0) c.loop-word-test.true).2

@@ -24,3 +24,12 @@ returns-in_err-edits g c = IfOk-from_err c.from_residual.result _ c.from_residua
 
 pub returns-in_err-push : goal.returns-in_err-push
 returns-in_err-push g c = IfOk-from_err c.from_residual-in_err-push.result _ c.from_residual-in_err-push.ensures.0
+
+pub from_index-requires : goal.from_index-requires
+from_index-requires g c = (c.requires c.loop-word.word-index (0, 0, 0) c.loop-word-test.true).0
+
+pub from_bits-from-requires : goal.from_bits-from-requires
+from_bits-from-requires g c = (c.requires c.loop-word.word-index (0, 0, 0) c.loop-word-test.true).1
+
+pub from_bits-to-requires : goal.from_bits-to-requires
+from_bits-to-requires g c = (c.requires c.loop-word.word-index (0, 0, 0) c.loop-word-test.true).2

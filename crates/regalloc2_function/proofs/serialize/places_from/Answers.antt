@@ -13,3 +13,6 @@ returns-in_err-places g c = IfOk-from_err c.from_residual.result _ c.from_residu
 
 pub returns-in_err-push : goal.returns-in_err-push
 returns-in_err-push g c = IfOk-from_err c.from_residual-in_err-push.result _ c.from_residual-in_err-push.ensures.0
+
+pub from_bits-requires : goal.from_bits-requires
+from_bits-requires g c = c.requires c.loop-bits.bits-index 0 c.loop-bits-test.true
