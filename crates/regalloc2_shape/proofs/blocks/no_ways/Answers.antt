@@ -1,3 +1,4 @@
+use Rattle.std.proofs.lemmas.Result.{IfOk-from_err}
 use Rattle.std.proofs.Common.{ℕ, zero, suc, ◌≡◌, ◌+◌, ◌∙◌, List, [], ◌∷◌, ◌++◌, get_or, length, length-append, map, ap, refl, subst, sym, arith}
 use Rattle.std.proofs.lemmas.List.{map-append}
 use Rattle.std.specs.declared.vec.Vec.{Vec}
@@ -30,4 +31,16 @@ pub returns : goal.returns
 returns g c = record {
   len = omega arith;
   none = c.loop.invariant.none;
+}
+
+pub returns-in_err-ways : goal.returns-in_err-ways
+returns-in_err-ways g c = record {
+  len = IfOk-from_err c.from_residual.result _ c.from_residual.ensures.0;
+  none = IfOk-from_err c.from_residual.result _ c.from_residual.ensures.0;
+}
+
+pub returns-in_err-push : goal.returns-in_err-push
+returns-in_err-push g c = record {
+  len = IfOk-from_err c.from_residual-in_err-push.result _ c.from_residual-in_err-push.ensures.0;
+  none = IfOk-from_err c.from_residual-in_err-push.result _ c.from_residual-in_err-push.ensures.0;
 }

@@ -1,3 +1,4 @@
+use Rattle.std.proofs.lemmas.Result.{IfOk-from_err}
 use Rattle.std.proofs.Common.{◌≡◌, ◌<◌, ◌∙◌, length, refl, ap, subst, arith}
 use Rattle.regalloc2_function.specs.FunctionValue.{FunctionValue, block_at}
 use Rattle.regalloc2_shape.specs.Tables.{HaveBlocks}
@@ -33,3 +34,9 @@ returns-clause-blocks g c =
     let f : FunctionValue = g.F.Function.function c.args.f.now in
     let all : c.loop-b.b ≡ length f.blocks = omega (arith, c.loop-b.invariant.whole) in
     subst (λ n. HaveBlocks f n c.loop-b.insn_block.items) all c.loop-b.invariant.so_far
+
+pub returns-in_err-resize : goal.returns-in_err-resize
+returns-in_err-resize g c = record {
+  insts = IfOk-from_err c.from_residual.result _ c.from_residual.ensures.0;
+  blocks = IfOk-from_err c.from_residual.result _ c.from_residual.ensures.0;
+}
