@@ -11,7 +11,7 @@
 -- The order: `leaves_once` and `leaves_reached` in `LeavesReached`; `walked_end` in `DepthFirstWalk`, whose invariant
 -- is `Walked`; `NamedBlocks` for what has to be a block.
 -- Sets: `NumberSets`, over `NumberMaps` and `NumberPlaces` (words by key), `NumberBits` (members of a word) and
--- `NumberUnions`.
+-- `NumberUnions`; `WordsWritten`, what a write does to two lists of words.
 pub mod ListsInParts
 pub mod NotedInParts
 pub mod BlockRanges
@@ -34,3 +34,4 @@ pub mod NumberBits
 pub mod NumberMaps
 pub mod NumberSets
 pub mod NumberUnions
+pub mod WordsWritten

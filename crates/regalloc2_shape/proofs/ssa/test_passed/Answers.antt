@@ -1,6 +1,6 @@
 use Rattle.std.proofs.Common.{◌≡◌, ◌+◌, ◌-◌, ◌<◌, length, refl, ap, arith}
 use Rattle.std.specs.Prelude.{flat_map}
-use Rattle.std.proofs.lemmas.List.Elements.{All-append, All-same}
+use Rattle.std.proofs.lemmas.List.Elements.{All-append, All-nil, All-same}
 use Rattle.std.proofs.lemmas.Result.{err_from_is_err_and, IfOk-from_err}
 use Rattle.regalloc2_index.specs.Range.{numbers_from}
 use Rattle.regalloc2_function.specs.FunctionValue.{BlockValue, block_at}
@@ -48,3 +48,24 @@ returns-clause-ok g c =
 
 pub returns-in_err-test_arguments-clause-ok : goal.returns-in_err-test_arguments-clause-ok
 returns-in_err-test_arguments-clause-ok g c = IfOk-from_err c.from_residual.result _ c.from_residual.ensures.0
+
+pub last-last-requires : goal.last-last-requires
+last-last-requires g c = rw c.block_insns.ensures c.requires.nonempty
+
+pub loop-k-init : goal.loop-k-init
+loop-k-init g c = All-nil _
+
+pub branch_blockparams-requires-clause-last : goal.branch_blockparams-requires-clause-last
+branch_blockparams-requires-clause-last g c =
+    let b : BlockValue = block_at (g.F.Function.function c.args.f.now) c.args.block in
+    let last : c.last-last.result ≡ last_of b = rw (c.last-last.ensures, c.block_insns.ensures) refl in
+    omega (arith, last, c.requires.nonempty)
+
+pub branch_blockparams-requires-clause-nonempty : goal.branch_blockparams-requires-clause-nonempty
+branch_blockparams-requires-clause-nonempty g c =
+    let b : BlockValue = block_at (g.F.Function.function c.args.f.now) c.args.block in
+    let last : c.last-last.result ≡ last_of b = rw (c.last-last.ensures, c.block_insns.ensures) refl in
+    omega (arith, last, c.requires.nonempty)
+
+pub branch_blockparams-requires-clause-position : goal.branch_blockparams-requires-clause-position
+branch_blockparams-requires-clause-position g c = rw (← c.block_succs-k-end.ensures) (omega arith)
