@@ -88,7 +88,6 @@ impl<'a> Iterator for OutputIter<'a> {
 
     ghost remaining = { item_count rest_of };
 
-    #[tactic(auto, using(crate::proofs::Steps::listing_done, crate::proofs::Steps::listing_last, crate::proofs::Steps::listing_inst, crate::proofs::Steps::listing_move))]
     fn next(&mut self) -> Option<InstOrEdit<'a>> {
         if self.inst_range.len() == 0 {
             return None;

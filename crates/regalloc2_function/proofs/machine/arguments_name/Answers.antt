@@ -22,12 +22,12 @@ pub returns-then-len-eq0 : goal.returns-then-len-eq0
 returns-then-len-eq0 g c = (
   λ t. absurd (false_is_not_true t),
   λ h. let first = ap (λ (r : Span). r.first) c.block_insns-range.ensures in
-  let end = ap (λ (r : Span). r.end) c.block_insns-range.ensures in
-  elim c.then-len-eq0.branch [
-    | then-len-eq0-via-then-len-eq0 w ↦ absurd (omega (arith, h.1, c.len.ensures.len, w.if-len-eq0.true, first, end))
-    | then-len-eq0-via-else-len-eq0+then-index-num_insts w ↦ absurd
-        (omega (arith, h.1, h.2, w.if-index-num_insts.true, w.index.ensures, w.last.ensures, w.num_insts.ensures.count, first, end))
-  ],
+      let end = ap (λ (r : Span). r.end) c.block_insns-range.ensures in
+      elim c.then-len-eq0.branch [
+        | then-len-eq0-via-then-len-eq0 w ↦ absurd (omega (arith, h.1, c.len.ensures.len, w.if-len-eq0.true, first, end))
+        | then-len-eq0-via-else-len-eq0+then-index-num_insts w ↦ absurd
+            (omega (arith, h.1, h.2, w.if-index-num_insts.true, w.index.ensures, w.last.ensures, w.num_insts.ensures.count, first, end))
+      ],
 )
 
 pub loop-k-init : goal.loop-k-init

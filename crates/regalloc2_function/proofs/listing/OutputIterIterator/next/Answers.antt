@@ -1,8 +1,9 @@
-use Rattle.std.proofs.Common.{◌≡◌, ◌<◌, ◌≤◌, List, [], ◌∷◌, length, arith}
+use Rattle.std.proofs.Common.{◌≡◌, ◌<◌, List, ◌∷◌, length, arith}
 use Rattle.regalloc2_index.proofs.Bools.{false_refutes}
 use Rattle.regalloc2_function.proofs.Steps.{listing_done, listing_last, listing_inst, listing_move}
 use Rattle.regalloc2_function.proofs.listing.OutputIterIterator.next.Goals as goal
 
+-- a list without its first element
 shorter : {X : Type 0} {xs ys : List X} {x : X} → xs ≡ x ∷ ys → length ys < length xs
 shorter e = rw e (omega arith)
 
