@@ -1,0 +1,9 @@
+use Rattle.std.proofs.Common.{rules, tests}
+use Rattle.std.proofs.lemmas.Iterator.{cases_from_all, YieldsList-from_slice}
+use Rattle.regalloc2_function.specs.Stored.{NamesLocation}
+use Rattle.regalloc2_function.proofs.Tests.{all_or_not}
+use Rattle.regalloc2_function.proofs.serialize.are_locations.Goals as goal
+
+pub returns : goal.returns
+returns c = all_or_not NamesLocation _ c.args.locations.now (cases_from_all _ _ _ NamesLocation (λ e. NamesLocation e → ⊥) c.all.ensures.ran
+    (YieldsList-from_slice c.args.locations.now cc) (λ x q k. search (rules, tests)) (λ x q k. search (rules, tests)))
