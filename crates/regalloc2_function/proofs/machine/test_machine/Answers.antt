@@ -1,4 +1,4 @@
-use Rattle.std.proofs.lemmas.Result.{IfOk-weaker, IfOk-from_err}
+use Rattle.std.proofs.lemmas.Result.{IfOk-weaker, IfOk-from_err, err_from_is_err_and}
 use Rattle.regalloc2_function.specs.Fitting.{ClassFits, MachineFits}
 use Rattle.regalloc2_function.specs.Misfit.{IsMisfit}
 use Rattle.regalloc2_function.specs.Views.{machine_of}
@@ -42,3 +42,35 @@ returns-in_err-test_class-clause-ok g c = IfOk-from_err c.from_residual.result _
 
 pub returns-in_err-test_class-2-clause-ok : goal.returns-in_err-test_class-2-clause-ok
 returns-in_err-test_class-2-clause-ok g c = IfOk-from_err c.from_residual-in_err-test_class-2.result _ c.from_residual-in_err-test_class-2.ensures.0
+
+pub returns-then-has_invalid_slot-clause-misfit : goal.returns-then-has_invalid_slot-clause-misfit
+returns-then-has_invalid_slot-clause-misfit g c = c.if-has_invalid_slot.ensures.some
+
+pub test_class-requires-clause-valid : goal.test_class-requires-clause-valid
+test_class-requires-clause-valid g c = c.if-has_invalid_slot.ensures.none
+
+pub test_class-requires-clause-before : goal.test_class-requires-clause-before
+test_class-requires-clause-before g c = c.if-has_invalid_slot.ensures.none
+
+pub returns-in_err-test_class-clause-misfit : goal.returns-in_err-test_class-clause-misfit
+returns-in_err-test_class-clause-misfit g c =
+    let p = err_from_is_err_and c.from_residual.result c.from_residual.ensures.1 in rw (p.1, p.2) c.in_err-test_class.ensures.misfit
+
+pub test_class-requires-2-clause-valid : goal.test_class-requires-2-clause-valid
+test_class-requires-2-clause-valid g c = c.if-has_invalid_slot.ensures.none
+
+pub test_class-requires-2-clause-before : goal.test_class-requires-2-clause-before
+test_class-requires-2-clause-before g c = c.in_ok-test_class.ensures.ok
+
+pub returns-in_err-test_class-2-clause-misfit : goal.returns-in_err-test_class-2-clause-misfit
+returns-in_err-test_class-2-clause-misfit g c =
+    let p = err_from_is_err_and c.from_residual-in_err-test_class-2.result c.from_residual-in_err-test_class-2.ensures.1 in rw (p.1, p.2) c.in_err-test_class-2.ensures.misfit
+
+pub test_class-requires-3-clause-valid : goal.test_class-requires-3-clause-valid
+test_class-requires-3-clause-valid g c = c.if-has_invalid_slot.ensures.none
+
+pub test_class-requires-3-clause-before : goal.test_class-requires-3-clause-before
+test_class-requires-3-clause-before g c = (c.in_ok-test_class.ensures.ok, c.in_ok-test_class-2.ensures.ok)
+
+pub returns-clause-misfit : goal.returns-clause-misfit
+returns-clause-misfit g c = c.test_class-3.ensures.misfit

@@ -1,6 +1,6 @@
 use Rattle.std.proofs.lemmas.Result.{IfOk-from_err}
-use Rattle.std.proofs.Common.{◌≡◌, ℕ, [], ◌∷◌, map, get_or, refl}
-use Rattle.std.proofs.lemmas.List.{map-append}
+use Rattle.std.proofs.Common.{◌≡◌, ℕ, [], ◌∷◌, map, get_or, refl, arith}
+use Rattle.std.proofs.lemmas.List.{map-append, take_all}
 use Rattle.regalloc2_names.specs.Place.{Place}
 use Rattle.regalloc2_function.specs.Stored.{location_of, stored_location}
 use Rattle.regalloc2_function.proofs.Copies.{more-of-image}
@@ -31,3 +31,6 @@ from_index-to-requires g c = (c.requires c.loop-word.word-index (0, 0, 0, 0) c.l
 
 pub from_bits-requires : goal.from_bits-requires
 from_bits-requires g c = (c.requires c.loop-word.word-index (0, 0, 0, 0) c.loop-word-test.true).2
+
+pub returns : goal.returns
+returns g c = rw (take_all c.loop-word.word-index c.args.words.now (omega (arith, c.loop-word-test.false))) at c.loop-word.invariant

@@ -1,6 +1,6 @@
 use Rattle.std.proofs.lemmas.Result.{IfOk-from_err}
-use Rattle.std.proofs.Common.{◌≡◌, ℕ, [], ◌∷◌, map, get_or, refl}
-use Rattle.std.proofs.lemmas.List.{map-append}
+use Rattle.std.proofs.Common.{◌≡◌, ℕ, [], ◌∷◌, map, get_or, refl, arith}
+use Rattle.std.proofs.lemmas.List.{map-append, take_all}
 use Rattle.regalloc2_function.specs.Stored.{stored_move}
 use Rattle.regalloc2_function.specs.Views.{edit_of}
 use Rattle.regalloc2_function.specs.declared.listing.Edit.{Edit}
@@ -33,3 +33,6 @@ from_bits-from-requires g c = (c.requires c.loop-word.word-index (0, 0, 0) c.loo
 
 pub from_bits-to-requires : goal.from_bits-to-requires
 from_bits-to-requires g c = (c.requires c.loop-word.word-index (0, 0, 0) c.loop-word-test.true).2
+
+pub returns : goal.returns
+returns g c = rw (take_all c.loop-word.word-index c.args.words.now (omega (arith, c.loop-word-test.false))) at c.loop-word.invariant

@@ -1,4 +1,6 @@
 use Rattle.std.proofs.lemmas.Result.{IfOk-from_err}
+use Rattle.std.proofs.Common.{arith}
+use Rattle.std.proofs.lemmas.List.{take_all}
 use Rattle.regalloc2_names.specs.PlaceBits.{place_of_bits}
 use Rattle.regalloc2_function.proofs.Copies.{more-of-image}
 use Rattle.regalloc2_function.proofs.serialize.places_from.Goals as goal
@@ -16,3 +18,6 @@ returns-in_err-push g c = IfOk-from_err c.from_residual-in_err-push.result _ c.f
 
 pub from_bits-requires : goal.from_bits-requires
 from_bits-requires g c = c.requires c.loop-bits.bits-index 0 c.loop-bits-test.true
+
+pub returns : goal.returns
+returns g c = rw (take_all c.loop-bits.bits-index c.args.words.now (omega (arith, c.loop-bits-test.false))) at c.loop-bits.invariant
