@@ -1,3 +1,4 @@
+use borrow.Author.Count.{falls}
 use Rattle.std.proofs.Common.{sym, ap, ◌∙◌, below_more, arith}
 use Rattle.std.specs.Prelude.{◌||◌}
 use Rattle.regalloc2_names.specs.Register.{Register, is_register}
@@ -21,3 +22,12 @@ returns-then-contains g c = (
       (sym (c.contains.ensures.member ∙ ap (has_register c.loop-at.taken) c.free_reg-preg.ensures) ∙ c.if-contains.true),
   c.loop-at.invariant.1,
 )
+
+pub free_reg-preg-requires : goal.free_reg-preg-requires
+free_reg-preg-requires g c = omega (arith, c.loop-at-test.true, c.len-at-end.ensures)
+
+pub loop-at-smaller : goal.loop-at-smaller
+loop-at-smaller g c = falls c.len-at-end.result c.loop-at.at c.loop-at-test.true
+
+pub returns : goal.returns
+returns g c = λ k lt. c.loop-at.invariant.1 k (omega (arith, lt, c.len-at-end.ensures, c.loop-at-test.false))

@@ -1,4 +1,5 @@
-use Rattle.std.proofs.Common.{◌≡◌, false, true, below_more, arith, sym, ◌∙◌}
+use borrow.Author.Count.{falls}
+use Rattle.std.proofs.Common.{◌≡◌, false, true, below_more, arith, sym, ◌∙◌, ap}
 use Rattle.regalloc2_parts.proofs.callmoves.fault.is_free.Goals as goal
 
 pub loop-at-init : goal.loop-at-init
@@ -9,3 +10,12 @@ loop-at-preserved g c = below_more _ _ c.loop-at.invariant (λ e. let no : false
 
 pub returns-clause-no : goal.returns-clause-no
 returns-clause-no g c = λ e x. c.loop-at.invariant x.0 (omega (arith, x.1)) x.2
+
+pub free_reg-requires : goal.free_reg-requires
+free_reg-requires g c = omega (arith, c.loop-at-test.true, c.len-at-end.ensures)
+
+pub returns-then-is_same-clause-yes : goal.returns-then-is_same-clause-yes
+returns-then-is_same-clause-yes g c = let same = c.is_same.ensures.same.0 c.if-is_same.true in λ e. (c.loop-at.at, omega (arith, c.loop-at-test.true, c.len-at-end.ensures), cc)
+
+pub loop-at-smaller : goal.loop-at-smaller
+loop-at-smaller g c = falls c.len-at-end.result c.loop-at.at c.loop-at-test.true

@@ -1,0 +1,24 @@
+use Rattle.std.proofs.Common.{refl, arith}
+use Rattle.regalloc2_parts.proofs.callmoves.frame.scratch_pool.Goals as goal
+
+pub slot_at-requires-clause-range : goal.slot_at-requires-clause-range
+slot_at-requires-clause-range g c = c.requires.range
+
+pub slot_at-requires-clause-small : goal.slot_at-requires-clause-small
+slot_at-requires-clause-small g c = c.requires.small
+
+pub slot_at-requires-2-clause-range : goal.slot_at-requires-2-clause-range
+slot_at-requires-2-clause-range g c = c.requires.range
+
+pub slot_at-requires-2-clause-small : goal.slot_at-requires-2-clause-small
+slot_at-requires-2-clause-small g c = c.requires.small
+
+pub returns : goal.returns
+returns g c = record {
+      first_register = c.free_pair-first.ensures.first;
+      second_register = c.free_pair-first.ensures.second;
+      first_slot = c.slot_at.ensures;
+      second_slot = c.slot_at-2.ensures;
+      fixed_stack = refl;
+      borrowed = refl;
+    }
