@@ -1,4 +1,4 @@
-use Rattle.std.proofs.Common.{◌≡◌, ◌∷◌, ◌++◌, [], slice_set, arith, sym, ◌∙◌, subst}
+use Rattle.std.proofs.Common.{◌≡◌, ◌∷◌, ◌++◌, [], slice_set, arith, sym, ◌∙◌, subst, inl, ⊎_elim}
 use Rattle.std.proofs.lemmas.List.{length-set}
 use Rattle.std.proofs.lemmas.Result.{err_from_is_err_and}
 use Rattle.regalloc2_parts.specs.declared.moves.order.State.TheVariants.{Todo, Pending}
@@ -47,3 +47,39 @@ returns-in_err-push-clause-goes_on g c = let p = err_from_is_err_and c.from_resi
 
 pub returns-in_err-push-clause-begun : goal.returns-in_err-push-clause-begun
 returns-in_err-push-clause-begun g c = let p = err_from_is_err_and c.from_residual.result c.from_residual.ensures.1 in rw p.1 tt
+
+pub bounds : goal.bounds
+bounds g c = omega (arith, c.loop-at-test.true, c.loop-at.invariant.0, c.requires.as_many)
+
+pub bounds-nexts-at : goal.bounds-nexts-at
+bounds-nexts-at g c = c.loop-at-test.true
+
+pub bounds-state-at : goal.bounds-state-at
+bounds-state-at g c = omega (arith, c.loop-at-test.true, c.loop-at.invariant.0, c.requires.as_many)
+
+pub returns-after-loop-at-clause-chain : goal.returns-after-loop-at-clause-chain
+returns-after-loop-at-clause-chain g c = c.loop-at.invariant.1.is_chain
+
+pub returns-after-loop-at-clause-link : goal.returns-after-loop-at-clause-link
+returns-after-loop-at-clause-link g c = c.loop-at.invariant.1.link
+
+pub returns-after-loop-at-clause-same : goal.returns-after-loop-at-clause-same
+returns-after-loop-at-clause-same g c = c.loop-at.invariant.1.same
+
+pub returns-after-loop-at-clause-goes_on : goal.returns-after-loop-at-clause-goes_on
+returns-after-loop-at-clause-goes_on g c = c.loop-at.invariant.1.on
+
+pub returns-after-loop-at-clause-stops : goal.returns-after-loop-at-clause-stops
+returns-after-loop-at-clause-stops g c = λ low. absurd (omega (arith, low, c.loop-at-test.false))
+
+pub returns-else-matches-clause-chain : goal.returns-else-matches-clause-chain
+returns-else-matches-clause-chain g c = c.loop-at.invariant.1.is_chain
+
+pub returns-else-matches-clause-link : goal.returns-else-matches-clause-link
+returns-else-matches-clause-link g c = c.loop-at.invariant.1.link
+
+pub returns-else-matches-clause-same : goal.returns-else-matches-clause-same
+returns-else-matches-clause-same g c = c.loop-at.invariant.1.same
+
+pub returns-else-matches-clause-goes_on : goal.returns-else-matches-clause-goes_on
+returns-else-matches-clause-goes_on g c = c.loop-at.invariant.1.on

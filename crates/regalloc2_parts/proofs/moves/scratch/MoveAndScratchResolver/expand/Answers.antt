@@ -1,3 +1,4 @@
+use borrow.Author.Count.{falls}
 use Rattle.std.proofs.Common.{◌≡◌, ◌≢◌, ◌<◌, ◌≤◌, Bool, true, length, arith, sym, subst}
 use Rattle.std.specs.Prelude.{Contains}
 use Rattle.std.specs.List.{All}
@@ -84,3 +85,12 @@ returns g c =
           c.in_ok-_held.ensures.added;
     } in
     record { expanded = subst (λ xs. IsExpanded stack r s ms xs) (sym c.from_vec.ensures.items) expanded }
+
+pub bounds-moves-m-index : goal.bounds-moves-m-index
+bounds-moves-m-index g c = c.loop-m-test.true
+
+pub loop-m-smaller : goal.loop-m-smaller
+loop-m-smaller g c = falls (length c.args.moves.now) c.loop-m.m-index c.loop-m-test.true
+
+pub is_stack_to_stack-is_passing-requires : goal.is_stack_to_stack-is_passing-requires
+is_stack_to_stack-is_passing-requires g c = record { callable = c.requires.callable }
