@@ -326,15 +326,19 @@ pub(super) fn resolve<T: Copy + Default, A: Allocator + Copy>(
     }
     tidy(&mut moves);
     let alloc = *moves.allocator();
-    let nexts = find_nexts(&alloc, moves.as_slice())?;
-    if are_free(nexts.as_slice()) {
+    let list = moves.as_slice();
+    let nexts = find_nexts(&alloc, list)?;
+    let links = nexts.as_slice();
+    if are_free(links) {
         return Ok(MoveVecWithScratch::NoScratch(moves));
     }
-    let mut given = give_all(alloc, moves.as_slice(), nexts.as_slice())?;
+    let mut given = give_all(alloc, list, links)?;
     turn_round(&mut given);
     // each cycle added one move
-    if given.len() > moves.len() {
-        return Ok(MoveVecWithScratch::Scratch(given));
-    }
-    Ok(MoveVecWithScratch::NoScratch(given))
+    let has_cycle = given.len() > list.len();
+    Ok(if has_cycle {
+        MoveVecWithScratch::Scratch(given)
+    } else {
+        MoveVecWithScratch::NoScratch(given)
+    })
 }
