@@ -328,11 +328,10 @@ pub(super) fn resolve<T: Copy + Default, A: Allocator + Copy>(
     let alloc = *moves.allocator();
     let list = moves.as_slice();
     let nexts = find_nexts(&alloc, list)?;
-    let links = nexts.as_slice();
-    if are_free(links) {
+    if are_free(nexts.as_slice()) {
         return Ok(MoveVecWithScratch::NoScratch(moves));
     }
-    let mut given = give_all(alloc, list, links)?;
+    let mut given = give_all(alloc, list, nexts.as_slice())?;
     turn_round(&mut given);
     // each cycle added one move
     let has_cycle = given.len() > list.len();

@@ -1,5 +1,5 @@
 use borrow.Author.Count.{falls}
-use Rattle.std.proofs.Common.{◌≡◌, false, true, below_more, arith, sym, ◌∙◌, ap}
+use Rattle.std.proofs.Common.{◌≡◌, false, true, below_more, arith, sym, ◌∙◌}
 use Rattle.regalloc2_parts.proofs.callmoves.fault.is_free.Goals as goal
 
 pub loop-at-init : goal.loop-at-init

@@ -18,10 +18,10 @@ returns-clause-lower g c = λ k lt x. c.loop-at.invariant.none k x.0 lt (x.1.0, 
 
 pub loop-at-init : goal.loop-at-init
 loop-at-init g c = record {
-      within = omega arith;
-      named = λ lt. absurd (omega arith);
-      none = λ k low lt x. absurd (omega (arith, x.1));
-    }
+  within = omega arith;
+  named = λ lt. absurd (omega arith);
+  none = λ k low lt x. absurd (omega (arith, x.1));
+}
 
 pub source_at-requires : goal.source_at-requires
 source_at-requires g c = c.loop-at-test.true

@@ -1,4 +1,4 @@
-use Rattle.std.proofs.Common.{refl, arith}
+use Rattle.std.proofs.Common.{refl}
 use Rattle.regalloc2_parts.proofs.callmoves.frame.scratch_pool.Goals as goal
 
 pub slot_at-requires-clause-range : goal.slot_at-requires-clause-range
@@ -15,10 +15,10 @@ slot_at-requires-2-clause-small g c = c.requires.small
 
 pub returns : goal.returns
 returns g c = record {
-      first_register = c.free_pair-first.ensures.first;
-      second_register = c.free_pair-first.ensures.second;
-      first_slot = c.slot_at.ensures;
-      second_slot = c.slot_at-2.ensures;
-      fixed_stack = refl;
-      borrowed = refl;
-    }
+  first_register = c.free_pair-first.ensures.first;
+  second_register = c.free_pair-first.ensures.second;
+  first_slot = c.slot_at.ensures;
+  second_slot = c.slot_at-2.ensures;
+  fixed_stack = refl;
+  borrowed = refl;
+}

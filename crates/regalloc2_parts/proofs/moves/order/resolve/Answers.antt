@@ -40,10 +40,10 @@ returns-then-are_free-clause-resolved g c =
     let nexts = c.in_ok-nexts.nexts.items in
     let ns : AreNexts (ends_of new) nexts = subst (λ (xs : List (Place × Place × g.row.T.Denot)). AreNexts (ends_of xs) nexts) c.as_slice-list.ensures
     c.in_ok-nexts.ensures.ok in
-    let free : (k : ℕ) → k < length c.as_slice-links.result.now → length c.as_slice-links.result.now ≤ get_or c.as_slice-links.result.now k 0 = c.if-are_free.ensures.0
+    let free : (k : ℕ) → k < length c.as_slice.result.now → length c.as_slice.result.now ≤ get_or c.as_slice.result.now k 0 = c.if-are_free.ensures.0
     refl in
     let r = resolves_free old new nexts c.requires.one_source c.requires.real (omega arith) c.tidy.ensures.tidied c.tidy.ensures.given ns
-    (subst (λ (xs : List ℕ). (k : ℕ) → k < length xs → length xs ≤ get_or xs k 0) c.as_slice-links.ensures free) in
+    (subst (λ (xs : List ℕ). (k : ℕ) → k < length xs → length xs ≤ get_or xs k 0) c.as_slice.ensures free) in
     record { resolved = r; runnable = r.plain refl }
 
 pub give_all-requires : goal.give_all-requires
@@ -60,9 +60,9 @@ give_all-requires g c =
       (
         subst (λ (xs : List (Place × Place × g.row.T.Denot)). AreMovesApart (ends_of xs)) (sym c.as_slice-list.ensures) apart,
         (
-          subst (λ (xs : List (Place × Place × g.row.T.Denot)). AreNexts (ends_of xs) c.as_slice-links.result.now) (sym c.as_slice-list.ensures)
-              (subst (λ (ks : List ℕ). AreNexts (ends_of new) ks) (sym c.as_slice-links.ensures) ns),
-          ap length c.as_slice-links.ensures ∙ ns.as_many ∙ many ∙ sym (ap length c.as_slice-list.ensures),
+          subst (λ (xs : List (Place × Place × g.row.T.Denot)). AreNexts (ends_of xs) c.as_slice-2.result.now) (sym c.as_slice-list.ensures)
+              (subst (λ (ks : List ℕ). AreNexts (ends_of new) ks) (sym c.as_slice-2.ensures) ns),
+          ap length c.as_slice-2.ensures ∙ ns.as_many ∙ many ∙ sym (ap length c.as_slice-list.ensures),
         ),
       ),
     )
@@ -108,8 +108,8 @@ returns-clause-resolved g c =
     let ns : AreNexts (ends_of new) nexts = subst (λ (xs : List (Place × Place × g.row.T.Denot)). AreNexts (ends_of xs) nexts) c.as_slice-list.ensures
     c.in_ok-nexts.ensures.ok in
     let order : IsOrder (ends_of new) nexts (ends_of given) =
-    subst (λ (ks : List ℕ). IsOrder (ends_of new) ks (ends_of given)) c.as_slice-links.ensures
-    (subst (λ (xs : List (Place × Place × g.row.T.Denot)). IsOrder (ends_of xs) c.as_slice-links.result.now (ends_of given)) c.as_slice-list.ensures
+    subst (λ (ks : List ℕ). IsOrder (ends_of new) ks (ends_of given)) c.as_slice-2.ensures
+    (subst (λ (xs : List (Place × Place × g.row.T.Denot)). IsOrder (ends_of xs) c.as_slice-2.result.now (ends_of given)) c.as_slice-list.ensures
     c.in_ok-given.ensures.order.0) in
     let of_moves : All (IsOfMoves new) given = subst (λ (xs : List (Place × Place × g.row.T.Denot)). All (IsOfMoves xs) given) c.as_slice-list.ensures
     c.in_ok-given.ensures.order.1 in
