@@ -1,3 +1,4 @@
+use Rattle.std.proofs.lemmas.Bool.{false≢true}
 use Rattle.std.proofs.Common.{◌≡◌, ℕ, ◌<◌, ◌∷◌, ◌++◌, [], length, slice_set, arith, sym, ap, ◌∙◌, subst, refl}
 use Rattle.std.specs.List.{All}
 use Rattle.std.proofs.lemmas.List.Elements.{All-push}
@@ -97,3 +98,8 @@ returns g c =
 
 pub returns-in_err-push : goal.returns-in_err-push
 returns-in_err-push g c = let p = err_from_is_err_and c.from_residual.result c.from_residual.ensures.1 in rw p.1 (record { giving = tt })
+
+pub returns-in_default : goal.returns-in_default
+returns-in_default g c = let here = c.is_pending.ensures.yes c.if-not-is_pending.false in
+    let x = c.requires.chain.only c.args.stop (omega (arith, here.0, c.requires.as_many, c.requires.indexed)) here.1 in
+    absurd (false≢true (c.in_default.ensures.variant.1 (omega (arith, x.1))))
