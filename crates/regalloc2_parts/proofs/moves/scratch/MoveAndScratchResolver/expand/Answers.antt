@@ -94,3 +94,6 @@ loop-m-smaller g c = falls (length c.args.moves.now) c.loop-m.m-index c.loop-m-t
 
 pub is_stack_to_stack-is_passing-requires : goal.is_stack_to_stack-is_passing-requires
 is_stack_to_stack-is_passing-requires g c = record { callable = c.requires.callable }
+
+pub offset_bounds-moves-m-index : goal.offset_bounds-moves-m-index
+offset_bounds-moves-m-index g c = omega (arith, c.loop-m-test.true)
