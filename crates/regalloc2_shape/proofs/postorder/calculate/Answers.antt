@@ -90,12 +90,3 @@ returns-in_err-resize-clause-empty g c =
 
 pub returns-in-Ok-clause-blocks : goal.returns-in-Ok-clause-blocks
 returns-in-Ok-clause-blocks g c = λ succs same. c.in_ok-test_named.ensures.ok succs same
-
-pub test_named-requires : goal.test_named-requires
-test_named-requires g c = λ k. ((refl, tt), (c.requires.few, c.requires.callable))
-
-pub returns-in-Ok-clause-refused : goal.returns-in-Ok-clause-refused
-returns-in-Ok-clause-refused g c = λ succs same. tt
-
-pub returns-in-Ok-clause-accepted : goal.returns-in-Ok-clause-accepted
-returns-in-Ok-clause-accepted g c = λ succs same blocks. tt

@@ -1,5 +1,5 @@
 use Rattle.std.proofs.Common.{◌≡◌, ◌<◌, ◌^◌, ◌∙◌, ◌||◌, true, false, sym, ap, refl, rules, Bool}
-use Rattle.std.proofs.lemmas.Result.{IfOk-from_err, err_from_is_err_and}
+use Rattle.std.proofs.lemmas.Result.{err_from_is_err_and}
 use Rattle.regalloc2_shape.specs.Numbers.{word_of, has_number, in_some_word}
 use Rattle.regalloc2_shape.proofs.NumberUnions.{start, one_on, all_given, some_has, has_joined, has_already, new_bit, joined_more, some_later}
 use Rattle.regalloc2_shape.proofs.NumberUnions.{some_last, within_union}
@@ -67,12 +67,3 @@ returns-clause-added g c added =
     let e = all_given c.args.other.now c.loop-key.yielded c.loop-key.key-iterator c.loop-key.invariant.all c.in-None.ensures.steps.0 in
     let w = c.loop-key.invariant.added added in
     (w.0, w.1, sym (ap (λ ys. in_some_word ys w.0) e ∙ some_has c.args.other.now c.words-key-items.ensures.members w.0) ∙ w.2)
-
-pub returns-in_err-put-clause-ok : goal.returns-in_err-put-clause-ok
-returns-in_err-put-clause-ok g c = IfOk-from_err c.from_residual.result _ c.from_residual.ensures.0
-
-pub returns-in_err-put-clause-added : goal.returns-in_err-put-clause-added
-returns-in_err-put-clause-added g c = IfOk-from_err c.from_residual.result _ c.from_residual.ensures.0
-
-pub returns-in_err-put-clause-none_added : goal.returns-in_err-put-clause-none_added
-returns-in_err-put-clause-none_added g c = IfOk-from_err c.from_residual.result _ c.from_residual.ensures.0
