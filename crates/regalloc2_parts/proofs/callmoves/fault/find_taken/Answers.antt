@@ -1,6 +1,5 @@
-use Rattle.std.proofs.lemmas.Bool.{or_cases, or_left, or_right}
 use borrow.Author.Count.{falls}
-use Rattle.std.proofs.Common.{sym, ap, ◌∙◌, below_more, arith, ⊎_elim, inl, inr}
+use Rattle.std.proofs.Common.{sym, ap, ◌∙◌, below_more, arith}
 use Rattle.std.specs.Prelude.{◌||◌}
 use Rattle.regalloc2_names.specs.Register.{Register, is_register}
 use Rattle.regalloc2_names.specs.RegisterSet.{has_register}
@@ -32,17 +31,3 @@ loop-at-smaller g c = falls c.len-at-end.result c.loop-at.at c.loop-at-test.true
 
 pub returns : goal.returns
 returns g c = λ k lt. c.loop-at.invariant.1 k (omega (arith, lt, c.len-at-end.ensures, c.loop-at-test.false))
-
-pub loop-at-init : goal.loop-at-init
-loop-at-init g c = let named = c.named_registers-taken.result in
-    let stack = c.args.frame.now.stack_pregs in (
-      record {
-        yes = λ r e. ⊎_elim (λ a. inl (c.named_registers-taken.ensures.yes r a)) (λ b. inr (inr b))
-            (or_cases (has_register named r) (has_register stack r) (sym (c.union_from.ensures r) ∙ e));
-        no = λ r x. ⊎_elim
-            (λ a. c.union_from.ensures r ∙ or_left (has_register named r) (has_register stack r) (c.named_registers-taken.ensures.no r a))
-            (λ y. ⊎_elim (λ j. absurd (omega (arith, j.1))) (λ b. c.union_from.ensures r ∙ or_right (has_register named r) (has_register stack r) b) y)
-            x;
-      },
-      λ k lt x. absurd (omega (arith, lt)),
-    )

@@ -1,4 +1,3 @@
-use borrow.Author.Count.{falls}
 use Rattle.std.proofs.Common.{◌≡◌, ℕ, ◌≤◌, ◌++◌, List, length, map, take, drop, arith, ap, ◌∙◌, slice_set, refl}
 use Rattle.std.proofs.lemmas.List.{append-nil, drop_all, take_all}
 use Rattle.std.proofs.lemmas.List.Edits.{map_over_more}
@@ -26,9 +25,3 @@ returns g c = c.loop-at.invariant ∙ filled_all (filled c.args.scratch) c.loop-
 
 pub bounds-moves-at : goal.bounds-moves-at
 bounds-moves-at g c = omega (arith, c.loop-at-test.true, c.loop-at.auto.moves)
-
-pub bounds-moves-at-in-loop-at : goal.bounds-moves-at-in-loop-at
-bounds-moves-at-in-loop-at g c = omega (arith, c.loop-at-test.true, c.loop-at.auto.moves)
-
-pub loop-at-smaller : goal.loop-at-smaller
-loop-at-smaller g c = falls (length c.args.moves.now) c.loop-at.at c.loop-at-test.true
