@@ -1,5 +1,5 @@
 -- Lemmas on an output that is made of its parts.
-use Rattle.std.proofs.Common.{ℕ, ◌≡◌, ◌<◌, ◌≤◌, ◌*◌, ◌^◌, ◌⊎◌, inl, inr, suc, ◌∷◌, List, [], length, map, refl, sym, ap, ◌∙◌, subst, arith}
+use Rattle.std.proofs.Common.{ℕ, ◌≡◌, ◌<◌, ◌^◌, ◌⊎◌, inl, inr, suc, ◌∷◌, List, [], length, map, refl, sym, ap, ◌∙◌, subst, arith}
 use Rattle.std.specs.List.{flat_map}
 use Rattle.std.specs.Prelude.{All}
 use Rattle.std.specs.Global.{Vec, Global}
@@ -7,16 +7,16 @@ use Rattle.std.proofs.lemmas.List.Elements.{All-map}
 use denote.RawPtr.{null_ptr}
 use Rattle.regalloc2.specs.Place.{Place}
 use Rattle.regalloc2.specs.PlaceBits.{IsPlaceBits, place_of_bits, bits_of_place}
-use Rattle.regalloc2.specs.Views.{edit_of, output_of}
+use Rattle.regalloc2.specs.Views.{edit_of}
 use Rattle.regalloc2.specs.OutputValue.{OutputValue, MoveValue}
-use Rattle.regalloc2.specs.Stored.{NamesMove, NamesValues, stored_move, output_of_stored}
+use Rattle.regalloc2.specs.Stored.{NamesMove, stored_move}
 use Rattle.regalloc2_function.specs.declared.listing.Edit.{Edit}
 use Rattle.regalloc2_function.specs.declared.listing.Edit.TheVariants.{Move}
 use Rattle.regalloc2_function.specs.declared.serialize.StoredOutput.{StoredOutput}
 use Rattle.regalloc2_serialize.specs.Flat.Flat.{words_of_triple}
 use Rattle.regalloc2_c.specs.Outcome.{AreMovesOf, ArePartsOf, IsOutput, NamesNoMoves, NamesNoOutput}
 use Rattle.regalloc2_c_words.specs.declared.failure.Failure.{Failure}
-use Rattle.regalloc2_c_words.specs.declared.failure.Failure.TheVariants.{Unreadable, NoMemory, BadOutput}
+use Rattle.regalloc2_c_words.specs.declared.failure.Failure.TheVariants.{NoMemory, BadOutput}
 use Rattle.regalloc2_c.proofs.Triples.{length_triples}
 
 -- the numbers of a move, which name it

@@ -23,7 +23,7 @@ use crate::cell_registers::{CellRegisters, allocatable};
 use regalloc2_checker_facts::lookup::place_at;
 use regalloc2_checker_facts::named_slots::NamedSlots;
 use regalloc2_checker_flow::slots::add_slot;
-use regalloc2_function::{Edit, Function, MachineEnv, Output};
+use regalloc2_function::{Function, MachineEnv, Output};
 use regalloc2_index::Inst;
 use regalloc2_names::{Allocation, Operand, PReg, PRegSet, RegClass, VReg};
 use std::alloc::{AllocError, Allocator};

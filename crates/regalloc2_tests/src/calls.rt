@@ -4,7 +4,7 @@ use regalloc2::{
     Algorithm, Ctx, Function, MachineEnv, Output, RegAllocError, RegallocOptions, machine_fits,
     run, run_with_ctx,
 };
-use std::alloc::{Allocator, Global};
+use std::alloc::Allocator;
 
 /// The options, with all tests of the function.
 const OPTIONS: RegallocOptions = RegallocOptions {

@@ -11,7 +11,7 @@ ghost use Rattle.codegen_machine.specs.Run.Runs.{arguments_of, IsModuleRun, modu
 ghost use Rattle.codegen_machine.specs.Run.States.{call_value, frame_of, frames_of, frames_outcome, frames_state, state_of};
 
 use super::frame::Frame;
-use super::procedure::{Numbers, State, first_line, no_numbers, numbers_at, put};
+use super::procedure::{State, first_line, no_numbers, numbers_at, put};
 use super::standing::{Run, Standing};
 use codegen_ir::{Module, Procedure};
 use codegen_operation::Operation;

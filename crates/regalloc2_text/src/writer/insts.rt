@@ -2,7 +2,7 @@
 
 use super::moves::Moves;
 use super::places::Places;
-use super::registers::{separator, write_list, write_registers};
+use super::registers::{write_list, write_registers};
 use super::shown::{Shown, list_at};
 use crate::writer::page::Page;
 use crate::writer::spell::{BlockText, OperandText, PlaceText, VRegText};

@@ -1,5 +1,5 @@
 use Rattle.std.proofs.Common.{map, refl, ap, arith}
-use Rattle.regalloc2.specs.Views.{edit_of, output_of}
+use Rattle.regalloc2.specs.Views.{edit_of}
 use Rattle.regalloc2_c.proofs.Parts.{moves_unnamed, output_made, places_unnamed}
 use Rattle.regalloc2_c.proofs.judging.output_from_parts.Goals as goal
 
