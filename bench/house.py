@@ -48,8 +48,7 @@ FLOORS = [
         ("regalloc2_tool", "listings, pictures, calls")]),
      ("C library", [
          ("regalloc2_c_steps", "one status, one fault"),
-         ("regalloc2_c_words", "statuses, words"),
-         ("regalloc2_c", "calls")])],
+         ("regalloc2_c", "calls, statuses, words")])],
     [("Programs", [
         ("ra2", "JSON"),
         ("ra2_text_program", "subcommands, text or JSON"),

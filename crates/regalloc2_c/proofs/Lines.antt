@@ -4,7 +4,7 @@ use Rattle.regalloc2_text.specs.Cursor.Lines.{IsOnLineBetween}
 use Rattle.regalloc2_text.specs.declared.cursor.error.TextError.{TextError}
 use Rattle.regalloc2_text.specs.declared.cursor.error.TextError.TheVariants.{Fault as TextFault, Memory as TextMemory}
 use Rattle.regalloc2_c.specs.Outcome.{IsTextInput, IsTextFailure, HasNoNumbers}
-use Rattle.regalloc2_c_words.specs.declared.failure.Failure.{Failure}
+use Rattle.regalloc2_c.specs.declared.failure.Failure.{Failure}
 
 pub text_unread : (bytes text : List ℕ) → text ≡ bytes → (e : TextError) → IsOnLineBetween 1 (1 + length text) e → (failure : Failure) →
     IsTextFailure e failure → HasNoNumbers (IsTextInput bytes) (1 + length bytes) failure

@@ -22,11 +22,11 @@ use Rattle.regalloc2_function.specs.declared.serialize.StoredFault.{StoredFault}
 use Rattle.regalloc2_function.specs.declared.serialize.StoredFault.TheVariants.{Lengths, Index, Bits, Limit, Memory, Shape}
 use Rattle.regalloc2_serialize.specs.Flat.Flat.{HasLongWord, output_words}
 use Rattle.regalloc2_checker_facts.specs.declared.errors.CheckerError.{CheckerError}
-use Rattle.regalloc2_c_words.specs.Faults.{IsCheckerVerdict, faults_words, malformed_words}
-use Rattle.regalloc2_c_words.specs.Status.{allocate_failure, run_failure, write_failure}
+use Rattle.regalloc2_c.specs.Faults.{IsCheckerVerdict, faults_words, malformed_words}
+use Rattle.regalloc2_c.specs.Status.{allocate_failure, run_failure, write_failure}
 use Rattle.regalloc2_c.specs.Outcome.{IsAllocatedOutput, IsAllocateFailure, IsTestedOutput, IsRunFailure, ResultsIn}
-use Rattle.regalloc2_c_words.specs.declared.failure.Failure.{Failure}
-use Rattle.regalloc2_c_words.specs.declared.failure.Failure.TheVariants.{Faults}
+use Rattle.regalloc2_c.specs.declared.failure.Failure.{Failure}
+use Rattle.regalloc2_c.specs.declared.failure.Failure.TheVariants.{Faults}
 
 -- the words of an output that was allocated
 pub allocated_words : (f : FunctionValue) (env : MachineValue) (out : OutputValue) (numbers : StoredOutput Global) → IsWellFormed env f →

@@ -15,8 +15,8 @@ use Rattle.regalloc2_function.specs.declared.listing.Edit.TheVariants.{Move}
 use Rattle.regalloc2_function.specs.declared.serialize.StoredOutput.{StoredOutput}
 use Rattle.regalloc2_serialize.specs.Flat.Flat.{words_of_triple}
 use Rattle.regalloc2_c.specs.Outcome.{AreMovesOf, ArePartsOf, IsOutput, NamesNoMoves, NamesNoOutput}
-use Rattle.regalloc2_c_words.specs.declared.failure.Failure.{Failure}
-use Rattle.regalloc2_c_words.specs.declared.failure.Failure.TheVariants.{NoMemory, BadOutput}
+use Rattle.regalloc2_c.specs.declared.failure.Failure.{Failure}
+use Rattle.regalloc2_c.specs.declared.failure.Failure.TheVariants.{NoMemory, BadOutput}
 use Rattle.regalloc2_c.proofs.Triples.{length_triples}
 
 -- the numbers of a move, which name it

@@ -16,11 +16,11 @@ use Rattle.regalloc2_checker_sweep.specs.declared.cells.CellFault.TheVariants.{O
 use Rattle.regalloc2_checker_facts.specs.declared.errors.CheckerError.{CheckerError}
 use Rattle.regalloc2_checker_facts.specs.declared.errors.CheckerError.TheVariants.{MalformedOutput, Memory as CheckerMemory}
 use Rattle.regalloc2_function.specs.declared.serialize.StoredOutput.{StoredOutput}
-use Rattle.regalloc2_c_words.specs.Faults.{IsFaultsTold, IsPrepareFailure, IsErrorsFailure, IsCellsTold, IsCheckerVerdict, IsVerdict, faults_words, malformed_words}
+use Rattle.regalloc2_c.specs.Faults.{IsFaultsTold, IsPrepareFailure, IsErrorsFailure, IsCellsTold, IsCheckerVerdict, IsVerdict, faults_words, malformed_words}
 use Rattle.regalloc2_c.specs.Outcome.{NumbersNameOutput, IsOutput, IsAcceptedOutput, IsCheckFailure, IsNoStoredOutput, NamesNoOutput}
-use Rattle.regalloc2_c_words.specs.declared.failure.Failure.{Failure}
-use Rattle.regalloc2_c_words.specs.declared.failure.Failure.TheVariants.{Unreadable, BadMachine, NoRoom, Faults, NoMemory, NotFramed, BadOutput}
-use Rattle.regalloc2_c_words.specs.declared.failure.Failure.TheVariants.{ReadBeforeWritten, BadText, BadFunction, Refused}
+use Rattle.regalloc2_c.specs.declared.failure.Failure.{Failure}
+use Rattle.regalloc2_c.specs.declared.failure.Failure.TheVariants.{Unreadable, BadMachine, NoRoom, Faults, NoMemory, NotFramed, BadOutput}
+use Rattle.regalloc2_c.specs.declared.failure.Failure.TheVariants.{ReadBeforeWritten, BadText, BadFunction, Refused}
 
 -- a list of errors is empty, or isn't, by a test of its length
 pub no_errors : {X : Type 0} (xs : List X) (n : ℕ) → length xs ≡ n → nat_eq n 0 ≡ true → xs ≡ []

@@ -27,17 +27,17 @@ use Rattle.regalloc2_function.specs.declared.serialize.StoredFault.{StoredFault}
 use Rattle.regalloc2_serialize.specs.Flat.Columns.Sound.{AreSoundColumns, IsColumnsFault}
 use Rattle.regalloc2_serialize.specs.Flat.Columns.Value.{IsLaidOutAs, IsMachineOf}
 use Rattle.regalloc2_serialize.specs.Flat.Flat.{HasLongWord, output_words, words_of_triple}
-use Rattle.regalloc2_c_words.specs.Status.{failure_number, columns_failure}
-use Rattle.regalloc2_c_words.specs.Handing.{IsHandedOut}
-use Rattle.regalloc2_c_words.specs.Faults.{AreFaultsOf, faults_words}
+use Rattle.regalloc2_c.specs.Status.{failure_number, columns_failure}
+use Rattle.regalloc2_c.specs.Handing.{IsHandedOut}
+use Rattle.regalloc2_c.specs.Faults.{AreFaultsOf, faults_words}
 use Rattle.regalloc2.specs.Report.{IsReport}
 use Rattle.regalloc2_checker_facts.specs.declared.errors.CheckerError.{CheckerError}
 use Rattle.regalloc2_text.specs.declared.cursor.error.TextError.{TextError}
 use Rattle.regalloc2_text.specs.declared.cursor.error.TextError.TheVariants.{Fault as TextFault, Memory as TextMemory}
-use Rattle.regalloc2_c_words.specs.Payload.{as_word}
-use Rattle.regalloc2_c_words.specs.declared.failure.Failure.{Failure}
-use Rattle.regalloc2_c_words.specs.declared.failure.Failure.TheVariants.{Unreadable, BadMachine, NoRoom, Faults, NoMemory, NotFramed, BadOutput}
-use Rattle.regalloc2_c_words.specs.declared.failure.Failure.TheVariants.{ReadBeforeWritten, BadText, BadFunction, Refused}
+use Rattle.regalloc2_c.specs.Payload.{as_word}
+use Rattle.regalloc2_c.specs.declared.failure.Failure.{Failure}
+use Rattle.regalloc2_c.specs.declared.failure.Failure.TheVariants.{Unreadable, BadMachine, NoRoom, Faults, NoMemory, NotFramed, BadOutput}
+use Rattle.regalloc2_c.specs.declared.failure.Failure.TheVariants.{ReadBeforeWritten, BadText, BadFunction, Refused}
 
 -- words lay out a function and a machine in columns
 pub record AreWordsOf (words : List ℕ) (f : FunctionValue) (env : MachineValue) : Type 0 where

@@ -5,10 +5,10 @@ ghost use Rattle.regalloc2.specs.Views.{machine_of};
 ghost use Rattle.regalloc2_c.specs.Outcome.{AreWordsOf, AreUnreadWords, IsJsonOf, IsTextInput, NumbersName, NumbersNameNone};
 ghost use Rattle.regalloc2_c.specs.Outcome.{IsAllocatedOutput, IsAllocateFailure, IsTestedOutput, IsRunFailure, IsAllocationFound, IsRunFound};
 
+use super::failure::{Failure, failure_of, failure_of_run, failure_to_write};
 use super::judging::checked;
 use super::reading::{function_from_json, function_from_text, function_from_words};
 use regalloc2::{Function, MachineEnv, allocate_without_checker, run_tested};
-use regalloc2_c_words::failure::{Failure, failure_of, failure_of_run, failure_to_write};
 use regalloc2_serialize::flat::words_of;
 use std::alloc::Global;
 

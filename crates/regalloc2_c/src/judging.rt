@@ -8,15 +8,15 @@ ghost use Rattle.regalloc2.specs.Faithful.{IsFaithful};
 ghost use Rattle.regalloc2.specs.Stored.{NamesMove, NamesValues};
 ghost use Rattle.regalloc2.specs.WellFormed.{IsFramed};
 ghost use Rattle.regalloc2_checker_sweep.specs.Cells.{AreCells};
-ghost use Rattle.regalloc2_c_words.specs.Faults.{IsCheckerVerdict, IsVerdict};
+ghost use Rattle.regalloc2_c.specs.Faults.{IsCheckerVerdict, IsVerdict};
 ghost use Rattle.regalloc2_c.specs.Outcome.{AreOutputWords, AreMovesOf, ArePartsOf, IsOutput, NumbersNameOutput, NamesNoMoves, NamesNoOutput};
 ghost use Rattle.regalloc2_c.specs.Outcome.{IsNoStoredOutput, IsAcceptedOutput, IsCheckFailure, IsJudgeFound};
 
+use super::failure::{Failure, failure_to_read};
+use super::faults::{Judged, failure_of_cells, failure_of_errors, failure_to_prepare};
 use super::reading::function_from_words;
 use regalloc2::serialize::{StoredFault, StoredOutput};
 use regalloc2::{Allocation, Edit, Function, MachineEnv, Output, ProgPoint, is_framed};
-use regalloc2_c_words::failure::{Failure, failure_to_read};
-use regalloc2_c_words::faults::{Judged, failure_of_cells, failure_of_errors, failure_to_prepare};
 use regalloc2_checker::{check_output, test_cells};
 use regalloc2_serialize::flat::value_of;
 use std::alloc::Global;

@@ -10,15 +10,20 @@ ghost use Rattle.regalloc2_c.specs.Outcome.{IsAllocateOutcome, IsRunOutcome, IsJ
 ghost use Rattle.regalloc2_c.specs.Texts.{text_of_status, text_of_fault, IsTold};
 
 mod calls;
+mod failure;
+mod faults;
+mod handing;
 mod judging;
+mod payload;
 mod reading;
 mod texts;
+mod words;
 
 use calls::{allocated_of_json, allocated_of_text, allocated_of_words, tested_of_words};
+use failure::number_of;
+use handing::hand_out;
 use judging::{Parts, judged, judged_of_words};
 use reading::function_from_words;
-use regalloc2_c_words::failure::number_of;
-use regalloc2_c_words::handing::hand_out;
 use std::alloc::Global;
 use texts::{fault_words, status_words, tell};
 

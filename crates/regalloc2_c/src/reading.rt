@@ -7,9 +7,9 @@ ghost use Rattle.regalloc2_serialize.specs.Tables.{function_of_serializable};
 ghost use Rattle.regalloc2_c.specs.Outcome.{AreWordsOf, AreUnreadWords, IsJsonOf, IsTextInput, IsTextFailure, HasNoNumbers};
 ghost use Rattle.regalloc2_c.specs.Outcome.{NumbersNameFunction, NumbersName, IsBadFunction, NumbersNameNone};
 
+use super::failure::{Failure, failure_of_columns, failure_to_read};
+use super::words::word_of;
 use regalloc2::serialize::{SerializableFunction, StoredFunction};
-use regalloc2_c_words::failure::{Failure, failure_of_columns, failure_to_read};
-use regalloc2_c_words::words::word_of;
 use regalloc2_serialize::flat::FlatFunction;
 use regalloc2_text::{TextError, read};
 use serde_json::Value;

@@ -1,4 +1,4 @@
-//! Small steps of `regalloc2_c_words`, which mutants change: what is written out beside a status, and the words of a fault of an
+//! Small steps of `regalloc2_c`, which mutants change: what is written out beside a status, and the words of a fault of an
 //! operand.
 #![tactic(auto)]
 

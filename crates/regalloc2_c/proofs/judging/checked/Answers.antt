@@ -1,6 +1,6 @@
 use Rattle.regalloc2.specs.Views.{machine_of, output_of}
 use Rattle.std.proofs.Common.{◌∙◌, sym, inr, subst}
-use Rattle.regalloc2_c_words.specs.Faults.{IsErrorsFailure}
+use Rattle.regalloc2_c.specs.Faults.{IsErrorsFailure}
 use Rattle.regalloc2_c.proofs.Verdicts.{no_errors, some_errors, told, unprepared}
 use Rattle.regalloc2_c.proofs.judging.checked.Goals as goal
 

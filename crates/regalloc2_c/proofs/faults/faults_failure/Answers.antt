@@ -1,7 +1,7 @@
 use Rattle.std.proofs.Common.{inr, refl, ap, ◌∙◌, ◌++◌}
 use Rattle.regalloc2.specs.Views.{output_of}
-use Rattle.regalloc2_c_words.specs.Faults.{faults_words}
-use Rattle.regalloc2_c_words.proofs.faults.faults_failure.Goals as goal
+use Rattle.regalloc2_c.specs.Faults.{faults_words}
+use Rattle.regalloc2_c.proofs.faults.faults_failure.Goals as goal
 
 pub returns-in-Ok : goal.returns-in-Ok
 returns-in-Ok g c =

@@ -3,7 +3,7 @@
 ghost use Rattle.std.specs.Prelude.{◌≡◌, ◌∷◌, []};
 ghost use Rattle.regalloc2_names.specs.Register.{class_code};
 ghost use Rattle.regalloc2_names.specs.RegisterBits.{bits_of_register};
-ghost use Rattle.regalloc2_c_words.specs.Payload.{misfit_words, refusal_payload};
+ghost use Rattle.regalloc2_c.specs.Payload.{misfit_words, refusal_payload};
 
 use super::words::NONE;
 use regalloc2::{PReg, RegAllocError, RegClass};

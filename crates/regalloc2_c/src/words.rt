@@ -1,7 +1,7 @@
 //! Numbers as words.
 
 ghost use Rattle.std.specs.Prelude.{◌≡◌};
-ghost use Rattle.regalloc2_c_words.specs.Payload.{as_word};
+ghost use Rattle.regalloc2_c.specs.Payload.{as_word};
 
 /// The word of what isn't named.
 pub const NONE: u32 = 0xffff_ffff;

@@ -9,9 +9,9 @@ use Rattle.regalloc2_function.specs.declared.serialize.StoredFault.{StoredFault}
 use Rattle.regalloc2_function.specs.declared.serialize.StoredFault.TheVariants.{Lengths, Index, Bits, Limit, Memory, Shape}
 use Rattle.regalloc2_tool.specs.Fault.{fault_number}
 use Rattle.regalloc2_tool.specs.Refusal.{refusal_number}
-use Rattle.regalloc2_c_words.specs.declared.failure.Failure.{Failure}
-use Rattle.regalloc2_c_words.specs.declared.failure.Failure.TheVariants.{Unreadable, BadMachine, NoRoom, Faults, NoMemory, NotFramed, BadOutput}
-use Rattle.regalloc2_c_words.specs.declared.failure.Failure.TheVariants.{ReadBeforeWritten, BadText, BadFunction, Refused}
+use Rattle.regalloc2_c.specs.declared.failure.Failure.{Failure}
+use Rattle.regalloc2_c.specs.declared.failure.Failure.TheVariants.{Unreadable, BadMachine, NoRoom, Faults, NoMemory, NotFramed, BadOutput}
+use Rattle.regalloc2_c.specs.declared.failure.Failure.TheVariants.{ReadBeforeWritten, BadText, BadFunction, Refused}
 
 abbrev pub failure_number : Failure → ℕ
 failure_number Unreadable = 1

@@ -1,7 +1,7 @@
 //! Why a call gives nothing.
 
 ghost use Rattle.std.specs.Prelude.{◌≡◌};
-ghost use Rattle.regalloc2_c_words.specs.Status.{failure_number, allocate_failure, run_failure, columns_failure, read_failure, write_failure};
+ghost use Rattle.regalloc2_c.specs.Status.{failure_number, allocate_failure, run_failure, columns_failure, read_failure, write_failure};
 
 use regalloc2::serialize::StoredFault;
 use regalloc2::{AllocateError, RegAllocError, TestedRunError};

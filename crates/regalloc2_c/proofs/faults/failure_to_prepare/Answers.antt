@@ -1,6 +1,6 @@
 use Rattle.std.proofs.Common.{inr, refl, ap, ◌∙◌, ◌++◌}
-use Rattle.regalloc2_c_words.specs.Faults.{malformed_words}
-use Rattle.regalloc2_c_words.proofs.faults.failure_to_prepare.Goals as goal
+use Rattle.regalloc2_c.specs.Faults.{malformed_words}
+use Rattle.regalloc2_c.proofs.faults.failure_to_prepare.Goals as goal
 
 pub returns-in-Ok : goal.returns-in-Ok
 returns-in-Ok c =

@@ -1,5 +1,5 @@
 use Rattle.std.proofs.Common.{inr, refl, ap, ◌∙◌, ◌++◌}
-use Rattle.regalloc2_c_words.proofs.faults.failure_of_cells.Goals as goal
+use Rattle.regalloc2_c.proofs.faults.failure_of_cells.Goals as goal
 
 pub returns-in-Ok : goal.returns-in-Ok
 returns-in-Ok c =

@@ -2,10 +2,10 @@
 use Rattle.std.specs.Prelude.{ℕ, ◌≡◌, List, length, Result, Ok, Err}
 use Rattle.std.specs.Global.{Vec}
 use Rattle.regalloc2_c_steps.specs.Giving.{IsWrittenOut}
-use Rattle.regalloc2_c_words.specs.Status.{failure_number}
-use Rattle.regalloc2_c_words.specs.Payload.{failure_words}
-use Rattle.regalloc2_c_words.specs.declared.failure.Failure.{Failure}
-use Rattle.regalloc2_c_words.specs.declared.failure.Failure.TheVariants.{NoRoom}
+use Rattle.regalloc2_c.specs.Status.{failure_number}
+use Rattle.regalloc2_c.specs.Payload.{failure_words}
+use Rattle.regalloc2_c.specs.declared.failure.Failure.{Failure}
+use Rattle.regalloc2_c.specs.declared.failure.Failure.TheVariants.{NoRoom}
 
 -- the status and the words of what is found
 abbrev pub status_of : Result (Vec ℕ) Failure → ℕ

@@ -24,9 +24,9 @@ use Rattle.regalloc2_checker_facts.specs.declared.errors.CheckerError.TheVariant
 use Rattle.regalloc2_checker_facts.specs.declared.errors.CheckerError.TheVariants.{AllocationIsNotFixedReg, AllocationIsNotReuse, AllocationIsNotStack}
 use Rattle.regalloc2_checker_facts.specs.declared.errors.CheckerError.TheVariants.{StackToStackMove, AllocationOutsideLimit, MalformedOutput, Memory}
 use Rattle.regalloc2_c_steps.specs.Faults.{operand_words}
-use Rattle.regalloc2_c_words.specs.Payload.{none, as_word}
-use Rattle.regalloc2_c_words.specs.declared.failure.Failure.{Failure}
-use Rattle.regalloc2_c_words.specs.declared.failure.Failure.TheVariants.{Faults, NoMemory}
+use Rattle.regalloc2_c.specs.Payload.{none, as_word}
+use Rattle.regalloc2_c.specs.declared.failure.Failure.{Failure}
+use Rattle.regalloc2_c.specs.declared.failure.Failure.TheVariants.{Faults, NoMemory}
 
 -- the first number from k on, of n, that passes a test, as a word
 abbrev pub first_index : (ℕ → Bool) → ℕ → ℕ → ℕ

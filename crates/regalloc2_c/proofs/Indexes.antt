@@ -1,7 +1,7 @@
 -- Lemmas on the first number that passes a test.
 use Rattle.std.proofs.Common.{ℕ, ◌≡◌, ◌<◌, ◌+◌, ◌-◌, suc, Bool, true, false, if◌then◌else◌, refl, sym, subst, arith}
-use Rattle.regalloc2_c_words.specs.Payload.{as_word, none}
-use Rattle.regalloc2_c_words.specs.Faults.{first_index}
+use Rattle.regalloc2_c.specs.Payload.{as_word, none}
+use Rattle.regalloc2_c.specs.Faults.{first_index}
 
 -- one that fails is passed over
 pub first_skipped : (test : ℕ → Bool) (k n : ℕ) → k < n → test k ≡ false → first_index test k (n - k) ≡ first_index test (k + 1) (n - (k + 1))

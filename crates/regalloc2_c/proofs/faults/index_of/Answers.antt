@@ -1,7 +1,7 @@
 use Rattle.std.proofs.Common.{◌∙◌, sym, length, arith}
-use Rattle.regalloc2_c_words.specs.Faults.{is_placed}
-use Rattle.regalloc2_c_words.proofs.Indexes.{first_skipped}
-use Rattle.regalloc2_c_words.proofs.faults.index_of.Goals as goal
+use Rattle.regalloc2_c.specs.Faults.{is_placed}
+use Rattle.regalloc2_c.proofs.Indexes.{first_skipped}
+use Rattle.regalloc2_c.proofs.faults.index_of.Goals as goal
 
 pub loop-k-preserved : goal.loop-k-preserved
 loop-k-preserved c =

@@ -1,7 +1,7 @@
 //! Hands out a result: a status, words if there is room for them, and how many there are.
 
 ghost use Rattle.std.specs.Prelude.{◌≤◌, Err};
-ghost use Rattle.regalloc2_c_words.specs.Handing.{IsHandedOut};
+ghost use Rattle.regalloc2_c.specs.Handing.{IsHandedOut};
 
 use super::failure::{Failure, number_of};
 use super::payload::{words_of_misfit, words_of_refusal};

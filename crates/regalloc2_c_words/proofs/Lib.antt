@@ -1,2 +1,0 @@
--- Lemmas for an operand's index among an instruction's.
-pub mod Indexes
