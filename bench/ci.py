@@ -4,10 +4,11 @@
     python3 bench/ci.py [--lanes N]
     python3 bench/ci.py --functions CRATE [--most N]
 
-The first form runs `rt ci --anew` with N checks side by side (one for each processor, if N isn't given), and before and after it proves
+The first form runs `rt ci --anew` with N checks side by side (two, if N isn't given, as on CI's machine), and before and after it proves
 `regalloc2_names` twice by two jobs, since a virtual machine may become half as fast within an hour. It prints processor seconds for proofs, second
 proofs (with which mutants begin) and mutants, and the ratio: core-minutes of the run for each second of `regalloc2_names`, the mean of all four. Run
-it with nothing beside it: other work makes each check cost more. The status is that of `rt ci`.
+it with nothing beside it: other work makes each check cost more, and so do more checks side by side (with four on four processors, `regalloc2_names`
+took a tenth more than alone, and a small crate, which mostly reads what is below it, two fifths). The status is that of `rt ci`.
 
 The second form proves a crate by `rt check --jobs 1` in its folder, from nothing unless another checkout on this machine has kept work of it, and
 prints for each function the seconds between the time stamps of its modules, most first: `Lts`, `Tie` and others are the borrow checker's part, which
@@ -103,7 +104,7 @@ def whole(lanes):
     with tempfile.TemporaryDirectory() as room:
         rt, first = loaded(room), seconds_of_names()
         os.chdir(ROOT)
-        os.environ["RT_JOBS"] = str(lanes or rt.processors())
+        os.environ["RT_JOBS"] = str(lanes)
         begun, before = time.time(), sum(os.times()[:4])
         status = rt.main(["ci", "--anew"])
         minutes, cores = (time.time() - begun) / 60, (sum(os.times()[:4]) - before) / 60
@@ -140,7 +141,7 @@ def functions(crate, most):
 
 def main():
     parser = argparse.ArgumentParser(description=__doc__, formatter_class=argparse.RawDescriptionHelpFormatter)
-    parser.add_argument("--lanes", type=int, default=0)
+    parser.add_argument("--lanes", type=int, default=2)
     parser.add_argument("--functions", metavar="CRATE")
     parser.add_argument("--names", action="store_true", help="prove regalloc2_names alone")
     parser.add_argument("--most", type=int, default=30)
