@@ -11,9 +11,10 @@ it with nothing beside it: other work makes each check cost more, and so do more
 took a tenth more than alone, and a small crate, which mostly reads what is below it, two fifths). The status is that of `rt ci`.
 
 The second form proves a crate by `rt check --jobs 1` in its folder, from nothing unless another checkout on this machine has kept work of it, and
-prints for each function the seconds between the time stamps of its modules, most first: `Lts`, `Tie` and others are the borrow checker's part, which
-grows with compiled steps; `Proof` has the goals without an answer, `Answers` those with one. A file of lemmas, and loading a library's modules, count
-for the function that comes first to them. Run it with nothing beside it, since these are seconds by the clock.
+prints for each function the seconds between the time stamps of its modules, most first, and the megabytes of its module `Lts`: `Lts`, `Tie` and others
+are the borrow checker's part, which grows with compiled steps; `Proof` has the goals without an answer, `Answers` those with one. A file of lemmas, and
+loading a library's modules, count for the function that comes first to them. Run it with nothing beside it, since these are seconds by the clock; the
+megabytes, about one for each second on a slow machine, don't depend on what else runs.
 
 It reads the toolchain's layout (the folder of `rt doc`), which another release may change.
 """
@@ -130,12 +131,15 @@ def functions(crate, most):
     status = subprocess.run(["rt", "check", "--jobs", "1"], cwd=folder).returncode
     files = glob.glob(f"{glob.escape(folder)}/out/incremental/**/*.oantt", recursive=True)
     stamps = sorted((os.stat(path).st_mtime, path) for path in files)
-    found = collections.defaultdict(collections.Counter)
+    found, sizes = collections.defaultdict(collections.Counter), collections.Counter()
     for (before, _), (after, path) in zip(stamps, stamps[1:]):
         function, kind = module(path)
         found[function][kind] += after - before
+        if kind == "Lts" and not path.endswith(".decls.oantt"):
+            sizes[function] += os.path.getsize(path)
     for name, kinds in sorted(found.items(), key=lambda it: -sum(it[1].values()))[:most]:
-        print(f"{sum(kinds.values()):7.1f} {name}: " + ", ".join(f"{kind} {used:.1f}" for kind, used in kinds.most_common(4)))
+        parts = ", ".join(f"{kind} {used:.1f}" for kind, used in kinds.most_common(4))
+        print(f"{sum(kinds.values()):7.1f} s {sizes[name] / 1e6:5.1f} MB {name}: {parts}")
     return status
 
 
