@@ -32,22 +32,19 @@ FLOORS = [
         ("regalloc2_checker_sets", "sets, saved copies"),
         ("regalloc2_checker_steps", "one place, move, edge"),
         ("regalloc2_checker_tables", "vregs of places"),
-        ("regalloc2_checker_facts", "facts, reports, names"),
-        ("regalloc2_checker_flow", "instructions, edges"),
-        ("regalloc2_checker_sweep", "all blocks, test_cells")])],
+        ("regalloc2_checker_facts", "facts, reports, names")])],
     [("Allocator", [
         ("regalloc2_fastalloc_state", "tests, tables of the walk"),
         ("regalloc2_fastalloc_proofs", "steps as relations"),
         ("regalloc2_fastalloc_walk", "the walk"),
         ("regalloc2_fastalloc", "run, the output")]),
      ("Checker", [
-         ("regalloc2_checker", "Checker")])],
+         ("regalloc2_checker", "Checker, test_cells")])],
     [("Front", [("regalloc2", "allocate, run_tested, run_checked, and all items under upstream's paths")])],
     [("Tools", [
         ("regalloc2_explain", "causes of errors"),
         ("regalloc2_tool", "listings, pictures, calls")]),
      ("C library", [
-         ("regalloc2_c_steps", "one status, one fault"),
          ("regalloc2_c", "calls, statuses, words")])],
     [("Programs", [
         ("ra2", "JSON"),

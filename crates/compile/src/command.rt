@@ -21,127 +21,182 @@ pub struct Request<'a> {
     pub is_quiet: bool,
 }
 
-/// The argument that names the function's file.
-fn file<'a>(alloc: Global) -> Arg<'a> {
-    Arg::new(alloc, "FILE")
-        .action(ArgAction::Set)
-        .help("A function or several, as a text; - is standard input")
+/// How an argument is given.
+#[derive(Clone, Copy)]
+enum Form {
+    /// A word in its place.
+    Word,
+    /// All words that are left.
+    Words,
+    /// An option with its long name and no value.
+    Flag,
+    /// An option with its long name and a value, which the help calls so.
+    Valued(&'static str),
 }
 
-/// The option of the file that is written.
-fn output<'a>(alloc: Global) -> Arg<'a> {
-    Arg::new(alloc, "output")
-        .short('o')
-        .long("output")
-        .value_name("OUT")
-        .action(ArgAction::Set)
-        .help("Write the answer to the file OUT")
+/// An argument of a command.
+struct Row {
+    /// The command that takes it; empty if each does.
+    command: &'static str,
+    id: &'static str,
+    form: Form,
+    short: Option<char>,
+    is_required: bool,
+    is_number: bool,
+    help: &'static str,
 }
 
-/// The option to write nothing.
-fn quiet<'a>(alloc: Global) -> Arg<'a> {
-    Arg::new(alloc, "quiet")
-        .short('q')
-        .long("quiet")
-        .action(ArgAction::SetTrue)
-        .help("Write neither answer nor rejection nor what is wrong with a text: the status tells")
-}
+/// The arguments of the commands, in the order of the help.
+static ROWS: [Row; 9] = [
+    Row {
+        command: "compile",
+        id: "FILE",
+        form: Form::Word,
+        short: None,
+        is_required: false,
+        is_number: false,
+        help: "A function or several, as a text; - is standard input",
+    },
+    Row {
+        command: "compile",
+        id: "header",
+        form: Form::Flag,
+        short: None,
+        is_required: false,
+        is_number: false,
+        help: "Write a header for C in place of the assembly",
+    },
+    Row {
+        command: "run",
+        id: "FILE",
+        form: Form::Word,
+        short: None,
+        is_required: true,
+        is_number: false,
+        help: "A function or several, as a text; - is standard input",
+    },
+    Row {
+        command: "run",
+        id: "NUMBER",
+        form: Form::Words,
+        short: None,
+        is_required: false,
+        is_number: true,
+        help: "The arguments; those past them are 0",
+    },
+    Row {
+        command: "run",
+        id: "room",
+        form: Form::Valued("WORDS"),
+        short: None,
+        is_required: false,
+        is_number: true,
+        help: "How many words the code may take on the stack, 131072 unless given",
+    },
+    Row {
+        command: "run",
+        id: "memory",
+        form: Form::Flag,
+        short: None,
+        is_required: false,
+        is_number: false,
+        help: "Write the hash of the memory that the code leaves (FNV-1a, 64 bits)",
+    },
+    Row {
+        command: "random",
+        id: "SEED",
+        form: Form::Word,
+        short: None,
+        is_required: true,
+        is_number: true,
+        help: "A number; the same one gives the same functions",
+    },
+    Row {
+        command: "",
+        id: "output",
+        form: Form::Valued("OUT"),
+        short: Some('o'),
+        is_required: false,
+        is_number: false,
+        help: "Write the answer to the file OUT",
+    },
+    Row {
+        command: "",
+        id: "quiet",
+        form: Form::Flag,
+        short: Some('q'),
+        is_required: false,
+        is_number: false,
+        help: "Write neither answer nor rejection nor what is wrong with a text: the status tells",
+    },
+];
 
-/// A command, with the options common to all.
-fn with_options<'a>(alloc: Global, command: Command<'a>) -> Result<Command<'a>, AllocError> {
-    let command = command.after_help(STATUSES).arg(output(alloc))?;
-    command.arg(quiet(alloc))
-}
-
-/// The arguments of the functions that `run` runs.
-fn numbers<'a>(alloc: Global) -> Arg<'a> {
-    Arg::new(alloc, "NUMBER")
-        .action(ArgAction::Append)
-        .num_args(0..)
-        .value_parser(value_parser!(u64))
-        .help("The arguments; those past them are 0")
-}
-
-/// The option of `run` for room on the stack.
-fn room<'a>(alloc: Global) -> Arg<'a> {
-    Arg::new(alloc, "room")
-        .long("room")
-        .value_name("WORDS")
-        .value_parser(value_parser!(u64))
-        .action(ArgAction::Set)
-        .help("How many words the code may take on the stack, 131072 unless given")
-}
-
-/// The option of `run` for the memory's hash.
-fn memory<'a>(alloc: Global) -> Arg<'a> {
-    Arg::new(alloc, "memory")
-        .long("memory")
-        .action(ArgAction::SetTrue)
-        .help("Write the hash of the memory that the code leaves (FNV-1a, 64 bits)")
-}
-
-/// The subcommand `run`.
-fn run_command<'a>(alloc: Global) -> Result<Command<'a>, AllocError> {
-    let command = Command::new(alloc, "run").about(
+/// The subcommands, with what their help says.
+static SUBCOMMANDS: [(&str, &str); 2] = [
+    (
+        "run",
         "Write what the function and its code return, by interpreters",
-    );
-    let command = command.arg(file(alloc).required(true))?;
-    let command = command.arg(numbers(alloc))?;
-    let command = command.arg(room(alloc))?;
-    with_options(alloc, command.arg(memory(alloc))?)
-}
-
-/// The argument of `random`.
-fn seed<'a>(alloc: Global) -> Arg<'a> {
-    Arg::new(alloc, "SEED")
-        .required(true)
-        .action(ArgAction::Set)
-        .value_parser(value_parser!(u64))
-        .help("A number; the same one gives the same functions")
-}
-
-/// The subcommand `random`.
-fn random_command<'a>(alloc: Global) -> Result<Command<'a>, AllocError> {
-    let command = Command::new(alloc, "random").about(
+    ),
+    (
+        "random",
         "Write the text of up to four functions that look random and end",
-    );
-    with_options(alloc, command.arg(seed(alloc))?)
-}
+    ),
+];
 
-/// The option for a header.
-fn header<'a>(alloc: Global) -> Arg<'a> {
-    Arg::new(alloc, "header")
-        .long("header")
-        .action(ArgAction::SetTrue)
-        .help("Write a header for C in place of the assembly")
-}
-
-/// The command without its subcommands.
-fn own_command<'a>(alloc: Global) -> Result<Command<'a>, AllocError> {
-    let command = Command::new(alloc, "compile")
-        .version("0.1.0")
-        .about("Writes a function as assembly for x86-64")
-        .arg_required_else_help(true)
-        .args_conflicts_with_subcommands(true);
-    let command = command.arg(file(alloc))?;
-    with_options(alloc, command.arg(header(alloc))?)
-}
-
-/// A command with one more subcommand, unless that couldn't be made.
-fn with_subcommand<'a>(
-    command: Command<'a>,
-    subcommand: Result<Command<'a>, AllocError>,
-) -> Result<Command<'a>, AllocError> {
-    match subcommand {
-        Ok(subcommand) => command.subcommand(subcommand),
-        Err(error) => Err(error),
+/// The argument of a row.
+fn argument<'a>(alloc: Global, row: &Row) -> Arg<'a> {
+    let arg = Arg::new(alloc, row.id)
+        .help(row.help)
+        .required(row.is_required);
+    let arg = match row.form {
+        Form::Word => arg.action(ArgAction::Set),
+        Form::Words => arg.action(ArgAction::Append).num_args(0..),
+        Form::Flag => arg.action(ArgAction::SetTrue).long(row.id),
+        Form::Valued(name) => arg.action(ArgAction::Set).long(row.id).value_name(name),
+    };
+    let arg = match row.short {
+        Some(short) => arg.short(short),
+        None => arg,
+    };
+    if row.is_number {
+        arg.value_parser(value_parser!(u64))
+    } else {
+        arg
     }
+}
+
+/// A command with its arguments, without subcommands.
+fn command_of<'a>(
+    alloc: Global,
+    name: &'static str,
+    about: &'static str,
+) -> Result<Command<'a>, AllocError> {
+    let mut command = Command::new(alloc, name).about(about).after_help(STATUSES);
+    for row in &ROWS {
+        if row.command.is_empty() || row.command == name {
+            command = command.arg(argument(alloc, row))?;
+        }
+    }
+    Ok(command)
+}
+
+/// The subcommands.
+fn subcommands<'a>(alloc: Global) -> Result<Vec<Command<'a>>, AllocError> {
+    let mut commands = Vec::new(alloc);
+    for (name, about) in &SUBCOMMANDS {
+        commands.push(command_of(alloc, *name, *about)?)?;
+    }
+    Ok(commands)
 }
 
 /// The whole command.
 fn command<'a>(alloc: Global) -> Result<Command<'a>, AllocError> {
-    let command = with_subcommand(own_command(alloc)?, run_command(alloc))?;
-    with_subcommand(command, random_command(alloc))
+    let subcommands = subcommands(alloc)?;
+    command_of(alloc, "compile", "Writes a function as assembly for x86-64")?
+        .version("0.1.0")
+        .arg_required_else_help(true)
+        .args_conflicts_with_subcommands(true)
+        .subcommands(subcommands)
 }
 
 /// The arguments of `run`.
@@ -158,51 +213,36 @@ fn numbers_of(alloc: Global, given: &ArgMatches<'_>) -> Result<Vec<u64>, Error> 
     Ok(numbers)
 }
 
-/// The task in the matches of a command.
+/// What `run` is to do.
+fn run_of(alloc: Global, given: &ArgMatches<'_>) -> Result<Action, Error> {
+    Ok(Action::Run(RunOptions {
+        arguments: numbers_of(alloc, given)?,
+        room: given.get_one::<u64>("room").unwrap_or(ROOM),
+        shows_memory: given.get_flag("memory"),
+    }))
+}
+
+/// The task in the matches of a command, unless it names no file.
 fn task_of<'a>(
     alloc: Global,
     name: &str,
     given: &ArgMatches<'a>,
 ) -> Result<Option<Task<'a>>, Error> {
     if name == "random" {
-        let Some(seed) = given.get_one::<u64>("SEED") else {
-            return Ok(None);
-        };
-        return Ok(Some(Task::Random(seed)));
+        return Ok(match given.get_one::<u64>("SEED") {
+            Some(seed) => Some(Task::Random(seed)),
+            None => None,
+        });
     }
     let Some(path) = given.get_str("FILE") else {
         return Ok(None);
     };
-    if name == "run" {
-        let options = RunOptions {
-            arguments: numbers_of(alloc, given)?,
-            room: given.get_one::<u64>("room").unwrap_or(ROOM),
-            shows_memory: given.get_flag("memory"),
-        };
-        return Ok(Some(Task::Read(path, Action::Run(options))));
-    }
-    let action = if given.get_flag("header") {
-        Action::Header
-    } else {
-        Action::Write
+    let action = match name {
+        "run" => run_of(alloc, given)?,
+        _ if given.get_flag("header") => Action::Header,
+        _ => Action::Write,
     };
     Ok(Some(Task::Read(path, action)))
-}
-
-/// The request in the matches of a command, unless it names no file.
-fn request_of<'a>(
-    alloc: Global,
-    name: &str,
-    given: &ArgMatches<'a>,
-) -> Result<Option<Request<'a>>, Error> {
-    let Some(task) = task_of(alloc, name, given)? else {
-        return Ok(None);
-    };
-    Ok(Some(Request {
-        task,
-        output: given.get_str("output"),
-        is_quiet: given.get_flag("quiet"),
-    }))
 }
 
 /// The request in the matches of the whole command, or the error that there is none.
@@ -212,18 +252,30 @@ fn request_in<'a>(
     matches: &ArgMatches<'a>,
 ) -> Result<Request<'a>, Error> {
     let (name, given) = matches.subcommand().unwrap_or(("", matches));
-    match request_of(alloc, name, given)? {
-        Some(request) => Ok(request),
+    match task_of(alloc, name, given)? {
+        Some(task) => Ok(Request {
+            task,
+            output: given.get_str("output"),
+            is_quiet: given.get_flag("quiet"),
+        }),
         None => Err(command.error(ErrorKind::MissingRequiredArgument, "a file is wanted")?),
     }
+}
+
+/// Parses the program's arguments by its command.
+fn parsed<'a>(
+    alloc: Global,
+    command: &mut Command<'a>,
+    words: &'a [String],
+) -> Result<Request<'a>, Error> {
+    let matches = command.try_get_matches_from_mut(words)?;
+    request_in(alloc, command, &matches)
 }
 
 impl<'a> Request<'a> {
     /// Parses the program's arguments, the first of which is its own name. The error's text is for
     /// the user: the error in the arguments, or the help or the version if requested.
     pub fn of(alloc: Global, words: &'a [String]) -> Result<Request<'a>, Error> {
-        let mut command = command(alloc)?;
-        let matches = command.try_get_matches_from_mut(words)?;
-        request_in(alloc, &mut command, &matches)
+        parsed(alloc, &mut command(alloc)?, words)
     }
 }

@@ -23,8 +23,7 @@ struct PlaceText(Allocation);
 impl fmt::Display for PlaceText {
     fn fmt<W: fmt::Write>(&self, f: &mut fmt::Formatter<W>) -> fmt::Result {
         if let Some(reg) = self.0.as_reg() {
-            let name = NAMES.get(reg.hw_enc()).copied().unwrap_or("?");
-            return write!(f, "{name}");
+            return f.write_str(NAMES.get(reg.hw_enc()).copied().unwrap_or("?"));
         }
         let slot = self.0.index();
         write!(f, "[rsp + 8 * {slot}]")
@@ -54,14 +53,13 @@ fn write_line<W: Write>(
         Kind::Sub => writeln!(w, "  sub {}, {}", place(0), place(2)),
         Kind::Jump => writeln!(w, "  jmp .L{}", label(0)),
         Kind::Fork => {
-            writeln!(w, "  test {}, {}", place(0), place(0))?;
-            writeln!(w, "  jnz .L{}", label(0))?;
-            writeln!(w, "  jmp .L{}", label(1))
+            let (tested, then, other) = (place(0), label(0), label(1));
+            writeln!(
+                w,
+                "  test {tested}, {tested}\n  jnz .L{then}\n  jmp .L{other}"
+            )
         }
-        Kind::Return => {
-            writeln!(w, "  add rsp, 8 * {}", output.num_spillslots)?;
-            writeln!(w, "  ret")
-        }
+        Kind::Return => writeln!(w, "  add rsp, 8 * {}\n  ret", output.num_spillslots),
     }
 }
 
@@ -70,8 +68,11 @@ fn write_line<W: Write>(
 pub fn write_assembly<W: Write>(code: &Code, output: &Output, w: &mut W) -> io::Result<()>
     requires in_order { IsInOrder (function_of code.now) (output_of output.now) }
 {
-    writeln!(w, ".intel_syntax noprefix\n.globl toy\ntoy:")?;
-    writeln!(w, "  sub rsp, 8 * {}", output.num_spillslots)?;
+    let slots = output.num_spillslots;
+    writeln!(
+        w,
+        ".intel_syntax noprefix\n.globl toy\ntoy:\n  sub rsp, 8 * {slots}"
+    )?;
     for b in 0..code.num_blocks() {
         let block = Block::new(b);
         writeln!(w, ".L{b}:")?;
@@ -92,5 +93,5 @@ pub fn write_assembly<W: Write>(code: &Code, output: &Output, w: &mut W) -> io::
             }
         }
     }
-    writeln!(w, ".section .note.GNU-stack,\"\",@progbits")
+    w.write_all(b".section .note.GNU-stack,\"\",@progbits\n")
 }

@@ -113,6 +113,40 @@ struct Other<'p, 't, 'i> {
     input: &'i Input,
 }
 
+/// What a call is given of an input with that name before line numbers.
+fn given_of<'a>(input: &'a Input, text: &'a str, name: &'a str) -> Given<'a, 'a, 'a> {
+    Given {
+        function: &input.text.function,
+        output: input.text.output.as_ref(),
+        source: Some(source_of(text, input.shown.as_ref(), name)),
+    }
+}
+
+/// Whether two texts are the same; else `err` gets the lines in which they differ.
+fn are_same(one: &str, other: &str, err: &mut Vec<u8>) -> Result<bool, CallError> {
+    if one == other {
+        return Ok(true);
+    }
+    let (here, there) = first_difference(one, other);
+    writeln!(
+        err,
+        "the files give different functions: `{here}` and `{there}`"
+    )?;
+    Ok(false)
+}
+
+/// Whether two functions are the same; else `err` gets the lines in which their texts differ.
+fn are_same_functions(
+    alloc: Global,
+    one: &StoredFunction,
+    other: &StoredFunction,
+    err: &mut Vec<u8>,
+) -> Result<bool, CallError> {
+    let one = write(alloc, one, None)?;
+    let other = write(alloc, other, None)?;
+    are_same(one.as_str(), other.as_str(), err)
+}
+
 /// Writes how the outputs of two inputs differ.
 fn act_diff(
     alloc: Global,
@@ -122,25 +156,13 @@ fn act_diff(
     err: &mut Vec<u8>,
 ) -> Result<Verdict, CallError> {
     let Other { path, text, input } = other;
-    let one = write(alloc, given.function, None)?;
-    let another = write(alloc, &input.text.function, None)?;
-    if one.as_str() != another.as_str() {
-        let (here, there) = first_difference(one.as_str(), another.as_str());
-        writeln!(
-            err,
-            "the files give different functions: `{here}` and `{there}`"
-        )?;
+    if !are_same_functions(alloc, given.function, &input.text.function, err)? {
         return Ok(Verdict::Unusable);
     }
     let Ok(name) = format!(in alloc; "{path}:") else {
         return Err(CallError::Memory);
     };
-    let source = source_of(text, input.shown.as_ref(), name.as_str());
-    let second = Given {
-        function: &input.text.function,
-        output: input.text.output.as_ref(),
-        source: Some(source),
-    };
+    let second = given_of(input, text, name.as_str());
     answer_diff(alloc, given, &second, out, err)
 }
 
@@ -152,6 +174,30 @@ struct Inputs<'t, 'i, 'p, 'u, 'o> {
     other: Option<Other<'p, 'u, 'o>>,
 }
 
+/// Does an action with what a call is given.
+fn act_on(
+    alloc: Global,
+    task: Task<'_>,
+    given: &Given<'_, '_, '_>,
+    other: Option<Other<'_, '_, '_>>,
+    out: &mut Vec<u8>,
+    err: &mut Vec<u8>,
+) -> Result<Verdict, CallError> {
+    match (task.action, other) {
+        (Action::Json, _) => {
+            write_function(alloc, given.function, out)?;
+            Ok(Verdict::Accepted)
+        }
+        (Action::Answer(Call::Diff), Some(other)) => act_diff(alloc, given, other, out, err),
+        (Action::Answer(call), _) => {
+            if !matches!(call, Call::Text) {
+                warn(task.path, given.function, err)?;
+            }
+            answer_call(alloc, call, given, out, err)
+        }
+    }
+}
+
 /// Does an action with an input.
 fn act(
     alloc: Global,
@@ -160,29 +206,12 @@ fn act(
     out: &mut Vec<u8>,
     err: &mut Vec<u8>,
 ) -> Result<Verdict, CallError> {
-    let Inputs { text, input, other } = inputs;
     let path = task.path;
     let Ok(name) = format!(in alloc; "{path}:") else {
         return Err(CallError::Memory);
     };
-    let source = source_of(text, input.shown.as_ref(), name.as_str());
-    let given = Given {
-        function: &input.text.function,
-        output: input.text.output.as_ref(),
-        source: Some(source),
-    };
-    match (task.action, other) {
-        (Action::Json, _) => {
-            write_function(alloc, given.function, out)?;
-            Ok(Verdict::Accepted)
-        }
-        (Action::Answer(Call::Diff), Some(other)) => act_diff(alloc, &given, other, out, err),
-        (Action::Answer(Call::Text), _) => answer_call(alloc, Call::Text, &given, out, err),
-        (Action::Answer(call), _) => {
-            warn(path, given.function, err)?;
-            answer_call(alloc, call, &given, out, err)
-        }
-    }
+    let given = given_of(inputs.input, inputs.text, name.as_str());
+    act_on(alloc, task, &given, inputs.other, out, err)
 }
 
 /// Does an action with an input, and writes nothing if the task is to be quiet.

@@ -89,85 +89,122 @@ pub struct Task<'a> {
     pub is_quiet: bool,
 }
 
-/// The argument that names the file.
-fn file<'a>(alloc: Global) -> Arg<'a> {
-    Arg::new(alloc, "FILE")
-        .required(true)
-        .action(ArgAction::Set)
-        .help(
-            "A function with its machine, as a text, as JSON or as upstream prints it; - is standard input",
-        )
+/// How an argument is given.
+#[derive(Clone, Copy)]
+enum Form {
+    /// A word in its place.
+    Word,
+    /// An option with its long name and no value.
+    Flag,
+    /// An option with its long name and a value, which the help calls so.
+    Valued(&'static str),
 }
 
-/// The option of the file that is written.
-fn output<'a>(alloc: Global) -> Arg<'a> {
-    Arg::new(alloc, "output")
-        .short('o')
-        .long("output")
-        .value_name("OUT")
-        .action(ArgAction::Set)
-        .help("Write the answer to the file OUT")
+/// An argument of a subcommand.
+struct Row {
+    /// The subcommand that takes it; empty if each does.
+    command: &'static str,
+    id: &'static str,
+    form: Form,
+    short: Option<char>,
+    is_required: bool,
+    help: &'static str,
 }
 
-/// The option to write nothing.
-fn quiet<'a>(alloc: Global) -> Arg<'a> {
-    Arg::new(alloc, "quiet")
-        .short('q')
-        .long("quiet")
-        .action(ArgAction::SetTrue)
-        .help("Write neither answer nor rejection: the status tells")
-}
+/// The arguments of the subcommands, in the order of the help.
+static ROWS: [Row; 5] = [
+    Row {
+        command: "",
+        id: "FILE",
+        form: Form::Word,
+        short: None,
+        is_required: true,
+        help: "A function with its machine, as a text, as JSON or as upstream prints it; - is standard input",
+    },
+    Row {
+        command: "",
+        id: "output",
+        form: Form::Valued("OUT"),
+        short: Some('o'),
+        is_required: false,
+        help: "Write the answer to the file OUT",
+    },
+    Row {
+        command: "",
+        id: "quiet",
+        form: Form::Flag,
+        short: Some('q'),
+        is_required: false,
+        help: "Write neither answer nor rejection: the status tells",
+    },
+    Row {
+        command: "diff",
+        id: "OTHER",
+        form: Form::Word,
+        short: None,
+        is_required: false,
+        help: "The same function with another output; without it, the allocator's",
+    },
+    Row {
+        command: "stats",
+        id: "json",
+        form: Form::Flag,
+        short: None,
+        is_required: false,
+        help: "Write the counts as JSON",
+    },
+];
 
-/// The argument of `diff` that names the other file.
-fn other<'a>(alloc: Global) -> Arg<'a> {
-    Arg::new(alloc, "OTHER").action(ArgAction::Set).help(
-        "The same function with another output; without it, the allocator's",
-    )
-}
-
-/// The option of `stats` for JSON.
-fn json<'a>(alloc: Global) -> Arg<'a> {
-    Arg::new(alloc, "json")
-        .long("json")
-        .action(ArgAction::SetTrue)
-        .help("Write the counts as JSON")
-}
-
-/// A subcommand with its arguments.
-fn subcommand<'a>(alloc: Global, name: &'a str, about: &'a str) -> Result<Command<'a>, AllocError> {
-    let command = Command::new(alloc, name).about(about).after_help(STATUSES);
-    let command = command.arg(file(alloc))?;
-    let command = command.arg(output(alloc))?;
-    let command = command.arg(quiet(alloc))?;
-    match name {
-        "diff" => command.arg(other(alloc)),
-        "stats" => command.arg(json(alloc)),
-        _ => Ok(command),
+/// The argument of a row.
+fn argument<'a>(alloc: Global, row: &Row) -> Arg<'a> {
+    let arg = Arg::new(alloc, row.id)
+        .help(row.help)
+        .required(row.is_required);
+    let arg = match row.form {
+        Form::Word => arg.action(ArgAction::Set),
+        Form::Flag => arg.action(ArgAction::SetTrue).long(row.id),
+        Form::Valued(name) => arg.action(ArgAction::Set).long(row.id).value_name(name),
+    };
+    match row.short {
+        Some(short) => arg.short(short),
+        None => arg,
     }
 }
 
-/// A command with one more subcommand.
-fn with_subcommand<'a>(
+/// A subcommand with its arguments.
+fn subcommand<'a>(
     alloc: Global,
-    command: Command<'a>,
-    name: &'a str,
-    about: &'a str,
+    name: &'static str,
+    about: &'static str,
 ) -> Result<Command<'a>, AllocError> {
-    command.subcommand(subcommand(alloc, name, about)?)
+    let mut command = Command::new(alloc, name).about(about).after_help(STATUSES);
+    for row in &ROWS {
+        if row.command.is_empty() || row.command == name {
+            command = command.arg(argument(alloc, row))?;
+        }
+    }
+    Ok(command)
+}
+
+/// The subcommands.
+fn subcommands<'a>(alloc: Global) -> Result<Vec<Command<'a>>, AllocError> {
+    let mut commands = Vec::new(alloc);
+    for (name, about) in &SUBCOMMANDS {
+        commands.push(subcommand(alloc, *name, *about)?)?;
+    }
+    Ok(commands)
 }
 
 /// The command with its subcommands.
 fn command<'a>(alloc: Global) -> Result<Command<'a>, AllocError> {
-    let mut command = Command::new(alloc, "ra2_text")
+    let subcommands = subcommands(alloc)?;
+    Command::new(alloc, "ra2_text")
         .version("0.1.0")
         .about("Allocates registers to a function that is given as a text or as JSON")
         .after_help(STATUSES)
         .subcommand_required(true)
-        .arg_required_else_help(true);
-    for (name, about) in &SUBCOMMANDS {
-        command = with_subcommand(alloc, command, *name, *about)?;
-    }
-    Ok(command)
+        .arg_required_else_help(true)
+        .subcommands(subcommands)
 }
 
 /// The task in the matches of a subcommand.
@@ -194,12 +231,16 @@ fn task_in<'a>(command: &mut Command<'a>, matches: &ArgMatches<'a>) -> Result<Ta
     )?)
 }
 
+/// The task that the program's words name to its command.
+fn parsed<'a>(command: &mut Command<'a>, words: &'a [String]) -> Result<Task<'a>, Error> {
+    let matches = command.try_get_matches_from_mut(words)?;
+    task_in(command, &matches)
+}
+
 impl<'a> Task<'a> {
     /// The task that the program's words name, of which the first is its own name. The error's text is for the user: that the
     /// arguments are wrong, or the help or the version if that is requested.
     pub fn of(alloc: Global, words: &'a [String]) -> Result<Task<'a>, Error> {
-        let mut command = command(alloc)?;
-        let matches = command.try_get_matches_from_mut(words)?;
-        task_in(&mut command, &matches)
+        parsed(&mut command(alloc)?, words)
     }
 }

@@ -9,10 +9,10 @@ use Rattle.regalloc2.specs.OutputValue.{OutputValue, IsInOrder}
 use Rattle.regalloc2.specs.Faithful.{IsFaithful}
 use Rattle.regalloc2.specs.Report.{IsReport}
 use Rattle.regalloc2.specs.Stored.{NamesValues}
-use Rattle.regalloc2_checker_sweep.specs.Cells.{AreCells}
-use Rattle.regalloc2_checker_sweep.specs.CellFaults.{IsCellFault}
-use Rattle.regalloc2_checker_sweep.specs.declared.cells.CellFault.{CellFault}
-use Rattle.regalloc2_checker_sweep.specs.declared.cells.CellFault.TheVariants.{Operand, MoveEnd, OtherClass, Location, Slot, Shared, Memory as CellMemory}
+use Rattle.regalloc2_checker.specs.Cells.{AreCells}
+use Rattle.regalloc2_checker.specs.CellFaults.{IsCellFault}
+use Rattle.regalloc2_checker.specs.declared.cells.CellFault.{CellFault}
+use Rattle.regalloc2_checker.specs.declared.cells.CellFault.TheVariants.{Operand, MoveEnd, OtherClass, Location, Slot, Shared, Memory as CellMemory}
 use Rattle.regalloc2_checker_facts.specs.declared.errors.CheckerError.{CheckerError}
 use Rattle.regalloc2_checker_facts.specs.declared.errors.CheckerError.TheVariants.{MalformedOutput, Memory as CheckerMemory}
 use Rattle.regalloc2_function.specs.declared.serialize.StoredOutput.{StoredOutput}

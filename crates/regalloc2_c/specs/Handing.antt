@@ -1,7 +1,7 @@
 -- What is handed out: a status, words if there is room for them, and how many there are.
 use Rattle.std.specs.Prelude.{ℕ, ◌≡◌, List, length, Result, Ok, Err}
 use Rattle.std.specs.Global.{Vec}
-use Rattle.regalloc2_c_steps.specs.Giving.{IsWrittenOut}
+use Rattle.regalloc2_steps.specs.Giving.{IsWrittenOut}
 use Rattle.regalloc2_c.specs.Status.{failure_number}
 use Rattle.regalloc2_c.specs.Payload.{failure_words}
 use Rattle.regalloc2_c.specs.declared.failure.Failure.{Failure}

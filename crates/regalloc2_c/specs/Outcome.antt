@@ -13,7 +13,7 @@ use Rattle.regalloc2_function.specs.Misfit.{IsMisfit}
 use Rattle.regalloc2.specs.OutputValue.{OutputValue, MoveValue, IsInOrder}
 use Rattle.regalloc2.specs.Stored.{NamesMove, NamesValues, stored_move, output_of_stored}
 use Rattle.regalloc2.specs.Faithful.{IsFaithful}
-use Rattle.regalloc2_checker_sweep.specs.Cells.{AreCells}
+use Rattle.regalloc2_checker.specs.Cells.{AreCells}
 use Rattle.regalloc2.specs.WellFormed.{IsWellFormed, IsFramed}
 use Rattle.regalloc2.specs.Promise.{IsAllocation, RunsAsTheFunction, LiveInSlots}
 use Rattle.regalloc2.specs.SourceRun.{IsWrittenFirst}

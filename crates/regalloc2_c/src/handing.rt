@@ -5,7 +5,7 @@ ghost use Rattle.regalloc2_c.specs.Handing.{IsHandedOut};
 
 use super::failure::{Failure, number_of};
 use super::payload::{words_of_misfit, words_of_refusal};
-use regalloc2_c_steps::giving::{give, give_position};
+use regalloc2_steps::giving::{give, give_position};
 
 /// Hands out a failure: its number, and the words that say what it is about.
 fn hand_out_failure(failure: Failure, out: &mut [u32], needed: &mut usize) -> u32

@@ -7,7 +7,7 @@ ghost use Rattle.regalloc2.specs.OutputValue.{IsInOrder};
 ghost use Rattle.regalloc2.specs.Faithful.{IsFaithful};
 ghost use Rattle.regalloc2.specs.Stored.{NamesMove, NamesValues};
 ghost use Rattle.regalloc2.specs.WellFormed.{IsFramed};
-ghost use Rattle.regalloc2_checker_sweep.specs.Cells.{AreCells};
+ghost use Rattle.regalloc2_checker.specs.Cells.{AreCells};
 ghost use Rattle.regalloc2_c.specs.Faults.{IsCheckerVerdict, IsVerdict};
 ghost use Rattle.regalloc2_c.specs.Outcome.{AreOutputWords, AreMovesOf, ArePartsOf, IsOutput, NumbersNameOutput, NamesNoMoves, NamesNoOutput};
 ghost use Rattle.regalloc2_c.specs.Outcome.{IsNoStoredOutput, IsAcceptedOutput, IsCheckFailure, IsJudgeFound};

@@ -41,37 +41,30 @@ impl Explanation {
 /// Linear in the function, except for a block with wrong predecessors: each of them is counted
 /// among the block's.
 pub fn explain(function: &StoredFunction, error: &RegAllocError) -> Explanation {
-    match error {
-        RegAllocError::CritEdge(from, to) => {
-            Explanation::of(blocks::of_edge(function, from.index(), to.index()))
-        }
+    let found = match error {
         RegAllocError::SSA(vreg, inst) => {
             let (cause, site, against) = definitions::of_vreg(function, *vreg, *inst);
-            Explanation {
+            return Explanation {
                 cause,
                 site,
                 against,
-            }
+            };
         }
-        RegAllocError::BB(block) => Explanation::of(blocks::of_block(function, block.index())),
-        RegAllocError::Branch(inst) => {
-            Explanation::of(blocks::of_arguments(function, inst.index()))
-        }
-        RegAllocError::EntryLivein => Explanation::of(blocks::of_entry(function)),
-        RegAllocError::DisallowedBranchArg(inst) => {
-            Explanation::of(blocks::of_branch(function, inst.index()))
-        }
-        RegAllocError::TooManyLiveRegs => Explanation::of(of_registers(function)),
-        RegAllocError::TooManyOperands => Explanation::of((Cause::ManyOperands, Site::Function)),
-        RegAllocError::Unsupported(inst) => {
-            Explanation::of(operands::of_operand(function, inst.index()))
-        }
+        RegAllocError::CritEdge(from, to) => blocks::of_edge(function, from.index(), to.index()),
+        RegAllocError::BB(block) => blocks::of_block(function, block.index()),
+        RegAllocError::Branch(inst) => blocks::of_arguments(function, inst.index()),
+        RegAllocError::EntryLivein => blocks::of_entry(function),
+        RegAllocError::DisallowedBranchArg(inst) => blocks::of_branch(function, inst.index()),
+        RegAllocError::TooManyLiveRegs => of_registers(function),
+        RegAllocError::TooManyOperands => (Cause::ManyOperands, Site::Function),
+        RegAllocError::Unsupported(inst) => operands::of_operand(function, inst.index()),
         RegAllocError::TooManySpillSlots => {
             let vregs = function.num_vregs;
-            Explanation::of((Cause::ManySlots { vregs }, Site::Function))
+            (Cause::ManySlots { vregs }, Site::Function)
         }
-        RegAllocError::Memory => Explanation::of((Cause::Other, Site::Function)),
-    }
+        RegAllocError::Memory => (Cause::Other, Site::Function),
+    };
+    Explanation::of(found)
 }
 
 /// The first operand of the class that a machine has no register for, if that is why the machine doesn't fit.
@@ -135,6 +128,11 @@ impl fmt::Display for Named<'_> {
     }
 }
 
+/// Writes a line with a value behind words.
+fn write_line<T: fmt::Display, W: Write>(words: &str, value: &T, to: &mut W) -> io::Result<()> {
+    writeln!(to, "  {words}{value}")
+}
+
 /// Writes the operands and clobbers for which an instruction needs registers of a class, a line for
 /// each kind.
 fn write_needs<W: Write>(
@@ -150,7 +148,7 @@ fn write_needs<W: Write>(
         class: number,
     };
     if count_in_any(operands, number) > 0 {
-        writeln!(to, "  in any register: {in_any}")?;
+        write_line("in any register: ", &in_any, to)?;
     }
     let named = Named {
         function,
@@ -158,16 +156,16 @@ fn write_needs<W: Write>(
         class: number,
     };
     if count_named(function, inst, number) > 0 {
-        writeln!(to, "  fixed or clobbered: {named}")?;
+        write_line("fixed or clobbered: ", &named, to)?;
     }
-    if spare(function, number) > 0 {
-        let class = ClassName(class);
-        writeln!(
-            to,
-            "  one register is kept for moves between stack places of the class {class}"
-        )?;
+    if spare(function, number) == 0 {
+        return Ok(());
     }
-    Ok(())
+    write_line(
+        "one register is kept for moves between stack places of the class ",
+        &ClassName(class),
+        to,
+    )
 }
 
 impl Explanation {
@@ -183,14 +181,14 @@ impl Explanation {
         let cause = self.cause;
         writeln!(to, "{before}{cause}")?;
         if let Some(line) = source.find(self.site) {
-            writeln!(to, "  {line}")?;
+            write_line("", &line, to)?;
         }
         if let Cause::Registers { inst, class, .. } = cause {
             write_needs(function, inst, class, to)?;
         }
         if let Some(site) = self.against {
             if let Some(line) = source.find(site) {
-                writeln!(to, "  defined: {line}")?;
+                return write_line("defined: ", &line, to);
             }
         }
         Ok(())

@@ -5,7 +5,8 @@
 //! which positions an operand holds its register, whether it gets one, what clobbers take and empty, the moves of a
 //! definition and between slots, where a branch passes its arguments, what a block's beginning stores, which units a new
 //! spill slot takes, and the refusal of an instruction that fails a test. Of the rewriting of functions: successors under
-//! new numbers, and the only edge of a block that is put on a critical edge.
+//! new numbers, and the only edge of a block that is put on a critical edge. Of the C library: what is written out beside a
+//! status, and the words of a fault of an operand.
 #![tactic(auto)]
 
 pub mod borrowed;
@@ -13,7 +14,9 @@ pub mod choice;
 pub mod clobbers;
 pub mod cycle;
 pub mod edges;
+pub mod faults;
 pub mod frame;
+pub mod giving;
 pub mod moved;
 pub mod numbers;
 pub mod positions;

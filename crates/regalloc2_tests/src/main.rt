@@ -69,21 +69,25 @@ fn is_tested<F: Function>(alloc: Global, f: &F, env: &MachineEnv) -> bool {
     run_tested(alloc, f, env).is_ok()
 }
 
-/// Whether the function of a seed is allocated, reads nothing unwritten, by the dominator tree, and what comes out is accepted by the
-/// checker.
-fn is_right(alloc: Global, seed: u64) -> Option<bool> {
+/// Whether a function is allocated, reads nothing unwritten, by the dominator tree, and what comes out is accepted by the checker.
+fn is_right<F: Function>(alloc: Global, f: &F, env: &MachineEnv) -> bool {
+    let is_accepted = is_accepted(alloc, f, env);
+    let is_by_tree = is_by_tree(alloc, f);
+    is_accepted && is_by_tree && is_tested(alloc, f, env)
+}
+
+/// [`is_right`] of the function of a seed.
+fn is_seed_right(alloc: Global, seed: u64) -> Option<bool> {
     let mut maker = Maker::new(alloc, seed)?;
     let f = maker.function()?;
-    let is_accepted = is_accepted(alloc, &f, &maker.env);
-    let is_by_tree = is_by_tree(alloc, &f);
-    Some(is_accepted && is_by_tree && is_tested(alloc, &f, &maker.env))
+    Some(is_right(alloc, &f, &maker.env))
 }
 
 /// How many of so many randomly generated functions fail.
 fn failures(alloc: Global, count: u64) -> usize {
     let mut failed = 0usize;
     for seed in 0..count {
-        if is_right(alloc, seed) != Some(true) {
+        if is_seed_right(alloc, seed) != Some(true) {
             failed = failed.saturating_add(1);
         }
     }

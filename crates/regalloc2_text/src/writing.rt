@@ -53,7 +53,10 @@ fn test_text<A: Allocator + Copy>(
     output: Option<&StoredOutput<A>>,
 ) -> Result<(), WriteError> {
     let back = read(alloc, text, 1)?;
-    if same_function(&back.function, function) && same_outputs(back.output.as_ref(), output) {
+    let is_same = same_function(&back.function, function)
+        && same_outputs(back.output.as_ref(), output);
+    drop(back);
+    if is_same {
         Ok(())
     } else {
         Err(WriteError::Differs)

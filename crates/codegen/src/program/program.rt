@@ -8,7 +8,7 @@ use super::task::{Action, RunOptions, Task};
 use crate::{CompileError, compile, target};
 use codegen_ir::Module;
 use codegen_machine::ModuleCode;
-use codegen_machine::run::Standing;
+use codegen_machine::run::{Run, Standing};
 use codegen_machine::text::{AssemblyText, HeaderText, TextError, read_module};
 use regalloc2::{RegAllocError, TestedRunError, run_tested};
 use regalloc2_tool::refusal::RefusalText;
@@ -55,29 +55,33 @@ impl From<io::Error> for TaskError {
     }
 }
 
+/// The name of the first function that the allocator rejects; empty if there is none.
+fn rejected_name(alloc: Global, module: &Module) -> &str {
+    let env = target(alloc);
+    for function in module.procedures.as_slice() {
+        if run_tested(alloc, &function.procedure, &env).is_err() {
+            return function.name.as_str();
+        }
+    }
+    ""
+}
+
 /// Writes the name of the function that the allocator rejects, and why.
 fn refuse<E: Write>(
     alloc: Global,
     module: &Module,
     error: TestedRunError,
     err: &mut E,
-) -> Result<(), TaskError> {
-    let (functions, env) = (module.procedures.as_slice(), target(alloc));
-    let rejected = functions
-        .iter()
-        .find(|f| run_tested(alloc, &f.procedure, &env).is_err());
-    if let Some(function) = rejected.filter(|f| !f.name.is_empty()) {
-        let name = &function.name;
-        write!(err, "{name}: ")?;
-    }
+) -> io::Result<()> {
+    let name = rejected_name(alloc, module);
+    let mark = if name.is_empty() { "" } else { ": " };
     match error {
         TestedRunError::Refused(error) => {
             let refusal = RefusalText(error);
-            writeln!(err, "{refusal}")?;
+            writeln!(err, "{name}{mark}{refusal}")
         }
-        error => writeln!(err, "{error}")?,
+        error => writeln!(err, "{name}{mark}{error}"),
     }
-    Ok(())
 }
 
 /// The code of a module; if a function is rejected, nothing, and a line on `err`.
@@ -108,6 +112,24 @@ fn hash_of(bytes: &[u8]) -> u64 {
         })
 }
 
+/// Writes the outcomes of the runs of a module and of its code, and returns the exit status.
+fn write_outcomes<O: Write>(
+    source: &Run,
+    target: &Run,
+    shows_memory: bool,
+    out: &mut O,
+) -> Result<u8, TaskError>
+    ensures { IfOk result (λ status. status ≤ 2) }
+{
+    let (first, second) = (source.standing, target.standing);
+    writeln!(out, "the function: {first}\nits code: {second}")?;
+    if shows_memory && second != Standing::Overflowed {
+        let hash = hash_of(target.memory.as_slice());
+        writeln!(out, "memory: {hash}")?;
+    }
+    Ok(if agree(source, target) { 0 } else { REFUSED })
+}
+
 /// Runs a module and its code, writes their outcomes, and returns the exit status.
 fn run<O: Write>(
     alloc: Global,
@@ -120,13 +142,7 @@ fn run<O: Write>(
 {
     let (arguments, room) = (options.arguments.as_slice(), options.room);
     let (source, target) = run_both(alloc, module, code, arguments, room)?;
-    let (first, second) = (source.standing, target.standing);
-    writeln!(out, "the function: {first}\nits code: {second}")?;
-    if options.shows_memory && second != Standing::Overflowed {
-        let hash = hash_of(target.memory.as_slice());
-        writeln!(out, "memory: {hash}")?;
-    }
-    Ok(if agree(&source, &target) { 0 } else { REFUSED })
+    write_outcomes(&source, &target, options.shows_memory, out)
 }
 
 /// Applies an action to a module, and returns the exit status.
@@ -182,6 +198,12 @@ fn perform<O: Write, E: Write>(
     }
 }
 
+/// Writes the module generated from a seed.
+fn write_random<O: Write>(alloc: Global, seed: u64, out: &mut O) -> Result<(), TaskError> {
+    let text = random_program(alloc, seed)?;
+    Ok(out.write_all(text.as_bytes())?)
+}
+
 /// Runs a task, and returns the exit status.
 fn fulfil<R: Read + Drop, O: Write, E: Write>(
     alloc: Global,
@@ -194,8 +216,7 @@ fn fulfil<R: Read + Drop, O: Write, E: Write>(
 {
     let status = match task {
         Task::Random(seed) => {
-            let text = random_program(alloc, *seed)?;
-            write!(out, "{text}")?;
+            write_random(alloc, *seed, out)?;
             0
         }
         Task::Read(path, action) => {

@@ -55,6 +55,37 @@ const ARGUMENTS: usize = 3;
 /// passed on less by one.
 const LAST_DEPTH: u32 = 3;
 
+/// The head of a loop, and its body's start.
+const LOOP_HEAD: &str = "\
+block#(v#, v#, v#):
+  branch_if v# block#(), block#()
+block#():
+";
+
+/// The end of a loop's body, and the start of the block after it.
+const LOOP_END: &str = "  \
+  v# = constant 1
+  v# = sub v#, v#
+  jump block#(v#, v#, v#)
+block#():
+";
+
+/// The start of a call.
+const CALL: &str = "  \
+  branch_if v# block#(), block#()
+block#():
+  v# = sub v#, 1
+  v# = call \
+";
+
+/// The end of a call, the way without it, and the block where both join.
+const CALL_END: &str = ")
+  jump block#(v#)
+block#():
+  jump block#(v#)
+block#(v#):
+";
+
 /// A module that is being written, and its current function.
 #[derive(Drop)]
 struct Draft {
@@ -80,11 +111,32 @@ impl Draft {
         number
     }
 
+    /// The numbers of three new vregs.
+    fn new_vregs(&mut self) -> [u32; 3] {
+        [self.new_vreg(), self.new_vreg(), self.new_vreg()]
+    }
+
     /// The number of a new block.
     fn new_block(&mut self) -> u32 {
         let number = self.num_blocks;
         self.num_blocks = number.saturating_add(1);
         number
+    }
+
+    /// The numbers of three new blocks.
+    fn new_blocks(&mut self) -> [u32; 3] {
+        [self.new_block(), self.new_block(), self.new_block()]
+    }
+
+    /// Writes a form, with the next of as many numbers in place of each `#`.
+    fn fill(&mut self, form: &str, numbers: &[u32]) -> Result<(), AllocError> {
+        let mut pieces = form.split('#');
+        self.text.push_str(pieces.next().unwrap_or(""))?;
+        for number in numbers {
+            let piece = pieces.next().unwrap_or("");
+            write!(self.text, "{number}{piece}")?;
+        }
+        Ok(())
     }
 
     /// One of the vregs that are written, later ones more often.
@@ -102,49 +154,39 @@ impl Draft {
     /// Writes an operation of two numbers; one time in three the second is a constant.
     fn write_pair(&mut self, name: &str) -> Result<(), AllocError> {
         let (ending, left) = (self.ending(), self.pick());
-        if self.random.below(3) == 0 {
+        let (mark, right) = if self.random.below(3) == 0 {
             let number = self.random.next() >> 33 >> (self.random.next() >> 59);
-            write!(self.text, "{name}{ending} v{left}, {number}")?;
+            ("", number)
         } else {
-            let right = self.pick();
-            write!(self.text, "{name}{ending} v{left}, v{right}")?;
-        }
-        Ok(())
+            ("v", u64::from(self.pick()))
+        };
+        write!(self.text, "{name}{ending} v{left}, {mark}{right}")
     }
 
     /// Writes a shift, by a constant or by a vreg.
     fn write_shift(&mut self, name: &str) -> Result<(), AllocError> {
         let (ending, left) = (self.ending(), self.pick());
-        if self.random.below(2) == 0 {
+        let (mark, right) = if self.random.below(2) == 0 {
             let places = if ending.is_empty() {
                 self.random.below(64)
             } else {
                 self.random.below(32)
             };
-            write!(self.text, "{name}{ending} v{left}, {places}")?;
+            ("", places)
         } else {
-            let count = self.pick();
-            write!(self.text, "{name}{ending} v{left}, v{count}")?;
-        }
-        Ok(())
+            ("v", self.pick() as usize)
+        };
+        write!(self.text, "{name}{ending} v{left}, {mark}{right}")
     }
 
     /// Writes a division of odd numbers, which doesn't trap.
     fn write_division(&mut self, to: u32) -> Result<(), AllocError> {
         let (left, right) = (self.pick(), self.pick());
         let (dividend, divisor) = (self.new_vreg(), self.new_vreg());
-        writeln!(
-            self.text,
-            "  v{dividend} = or v{left}, 1\n  v{divisor} = or v{right}, 1"
-        )?;
-        let at = self.random.below(DIVISIONS.len());
-        let name = DIVISIONS.get(at).copied().unwrap_or("div");
-        let ending = self.ending();
-        write!(
-            self.text,
-            "  v{to} = {name}{ending} v{dividend}, v{divisor}"
-        )?;
-        Ok(())
+        let numbers = [dividend, left, divisor, right, to];
+        self.fill("  v# = or v#, 1\n  v# = or v#, 1\n  v# = ", &numbers)?;
+        let (name, ending) = (self.choose(&DIVISIONS), self.ending());
+        write!(self.text, "{name}{ending} v{dividend}, v{divisor}")
     }
 
     /// Writes an address from the lower bits of a number, and returns it. It is seldom outside
@@ -156,29 +198,27 @@ impl Draft {
         } else {
             LAST_ADDRESS
         };
-        writeln!(self.text, "  v{address} = and v{from}, {last}")?;
+        self.fill("  v# = and v#, #\n", &[address, from, last])?;
         Ok(address)
     }
 
-    /// The end of the name of an access to memory.
-    fn access(&mut self) -> &'static str {
-        let at = self.random.below(ACCESSES.len());
-        ACCESSES.get(at).copied().unwrap_or("")
+    /// One of several names, or ends of names.
+    fn choose(&mut self, names: &[&'static str; 4]) -> &'static str {
+        let at = self.random.below(names.len());
+        names.get(at).copied().unwrap_or("")
     }
 
     /// Writes a read of memory.
     fn write_load(&mut self, to: u32) -> Result<(), AllocError> {
-        let (address, ending) = (self.write_address()?, self.access());
-        write!(self.text, "  v{to} = load{ending} v{address}")?;
-        Ok(())
+        let (address, ending) = (self.write_address()?, self.choose(&ACCESSES));
+        write!(self.text, "  v{to} = load{ending} v{address}")
     }
 
     /// Writes a write to memory.
     fn write_store(&mut self) -> Result<(), AllocError> {
-        let (address, ending) = (self.write_address()?, self.access());
+        let (address, ending) = (self.write_address()?, self.choose(&ACCESSES));
         let value = self.pick();
-        writeln!(self.text, "  store{ending} v{address}, v{value}")?;
-        Ok(())
+        writeln!(self.text, "  store{ending} v{address}, v{value}")
     }
 
     /// Writes an operation.
@@ -194,30 +234,29 @@ impl Draft {
         } else {
             self.write_plain(to)?;
         }
-        writeln!(self.text)?;
+        self.text.push_str("\n")?;
         self.known.push(to)?;
         Ok(())
     }
 
     /// Writes an operation that neither divides nor reads memory.
     fn write_plain(&mut self, to: u32) -> Result<(), AllocError> {
-        write!(self.text, "  v{to} = ")?;
+        self.fill("  v# = ", &[to])?;
         let at = self.random.below(24);
         if let Some(name) = OPERATIONS.get(at) {
-            self.write_pair(name)?;
+            self.write_pair(name)
         } else if at == 18 {
             let from = self.pick();
-            write!(self.text, "copy v{from}")?;
+            self.fill("copy v#", &[from])
         } else if at == 19 {
-            let (test, left, right) = (self.pick(), self.pick(), self.pick());
-            write!(self.text, "select v{test}, v{left}, v{right}")?;
+            let operands = [self.pick(), self.pick(), self.pick()];
+            self.fill("select v#, v#, v#", &operands)
         } else if let Some(name) = SHIFTS.get(at.saturating_sub(20)) {
-            self.write_shift(name)?;
+            self.write_shift(name)
         } else {
             let number = self.random.next();
-            write!(self.text, "constant {number}")?;
+            write!(self.text, "constant {number}")
         }
-        Ok(())
     }
 
     /// Writes at least one and at most that many operations.
@@ -235,13 +274,12 @@ impl Draft {
     fn write_side(&mut self, block: u32, join: u32) -> Result<(), AllocError> {
         let before = self.known.len();
         let param = self.new_vreg();
-        writeln!(self.text, "block{block}(v{param}):")?;
+        self.fill("block#(v#):\n", &[block, param])?;
         self.known.push(param)?;
         self.write_operations(6)?;
         let (left, right) = (self.pick(), self.pick());
-        writeln!(self.text, "  jump block{join}(v{left}, v{right})")?;
         self.known.truncate(before);
-        Ok(())
+        self.fill("  jump block#(v#, v#)\n", &[join, left, right])
     }
 
     /// Writes the deciding part of a branch: a number, or a condition of two.
@@ -251,40 +289,36 @@ impl Draft {
             return self.write_pair(name);
         }
         let test = self.pick();
-        write!(self.text, "v{test}")?;
-        Ok(())
+        self.fill("v#", &[test])
     }
 
     /// Writes a branch to two blocks, and the block where they join.
     fn write_fork(&mut self) -> Result<(), AllocError> {
-        let (first, second, join) = (self.new_block(), self.new_block(), self.new_block());
-        write!(self.text, "  branch_if ")?;
+        let [first, second, join] = self.new_blocks();
+        self.text.push_str("  branch_if ")?;
         self.write_test()?;
         let (left, right) = (self.pick(), self.pick());
-        writeln!(self.text, " block{first}(v{left}), block{second}(v{right})")?;
+        let numbers = [first, left, second, right];
+        self.fill(" block#(v#), block#(v#)\n", &numbers)?;
         self.write_side(first, join)?;
         self.write_side(second, join)?;
-        let (left, right) = (self.new_vreg(), self.new_vreg());
-        writeln!(self.text, "block{join}(v{left}, v{right}):")?;
-        self.known.push(left)?;
-        self.known.push(right)?;
-        Ok(())
+        let params = [self.new_vreg(), self.new_vreg()];
+        let [left, right] = params;
+        self.fill("block#(v#, v#):\n", &[join, left, right])?;
+        self.known.extend_from_slice(&params)
     }
 
     /// Writes the head of a loop of a few iterations, with three parameters, the first of which
-    /// counts the remaining iterations.
+    /// counts the remaining iterations, and the start of its body.
     fn write_head(&mut self, head: u32, body: u32, end: u32) -> Result<[u32; 3], AllocError> {
-        let (turns, left, right) = (self.random.below(7), self.pick(), self.pick());
-        let count = self.new_vreg();
-        writeln!(self.text, "  v{count} = constant {turns}")?;
-        writeln!(self.text, "  jump block{head}(v{count}, v{left}, v{right})")?;
-        let params = [self.new_vreg(), self.new_vreg(), self.new_vreg()];
+        let turns = self.random.below(7) as u32;
+        let (left, right, first) = (self.pick(), self.pick(), self.new_vreg());
+        let jump = [first, turns, head, first, left, right];
+        self.fill("  v# = constant #\n  jump block#(v#, v#, v#)\n", &jump)?;
+        let params = self.new_vregs();
         let [count, left, right] = params;
-        writeln!(self.text, "block{head}(v{count}, v{left}, v{right}):")?;
-        writeln!(
-            self.text,
-            "  branch_if v{count} block{body}(), block{end}()"
-        )?;
+        let block = [head, count, left, right, count, body, end, body];
+        self.fill(LOOP_HEAD, &block)?;
         self.known.extend_from_slice(&params)?;
         Ok(params)
     }
@@ -292,10 +326,7 @@ impl Draft {
     /// The numbers of the blocks of a call, if the function makes calls.
     fn new_call(&mut self) -> Option<(u32, [u32; 3])> {
         let depth = self.depth?;
-        Some((
-            depth,
-            [self.new_block(), self.new_block(), self.new_block()],
-        ))
+        Some((depth, self.new_blocks()))
     }
 
     /// Writes a call of any function, unless calls are at their greatest depth, and the block where
@@ -303,31 +334,28 @@ impl Draft {
     fn write_call(&mut self, (depth, blocks): (u32, [u32; 3])) -> Result<(), AllocError> {
         let ([taken, other, join], count) = (blocks, self.arities.len().max(1));
         let callee = self.random.below(count);
-        writeln!(
-            self.text,
-            "  branch_if v{depth} block{taken}(), block{other}()\nblock{taken}():"
-        )?;
         let (less, result, instead) = (self.new_vreg(), self.new_vreg(), self.pick());
-        writeln!(self.text, "  v{less} = sub v{depth}, 1")?;
-        write!(self.text, "  v{result} = call f{callee}(")?;
+        let numbers = [depth, taken, other, taken, less, depth, result];
+        self.fill(CALL, &numbers)?;
+        self.write_callee(callee, less)?;
+        let param = self.new_vreg();
+        let numbers = [join, result, other, join, instead, join, param];
+        self.fill(CALL_END, &numbers)?;
+        self.known.push(param)?;
+        Ok(())
+    }
+
+    /// Writes the called function and the arguments of a call, the first of which is given.
+    fn write_callee(&mut self, callee: usize, first: u32) -> Result<(), AllocError> {
+        write!(self.text, "f{callee}(")?;
         let arity = self.arities.get(callee).copied().unwrap_or(0);
         if arity > 0 {
-            write!(self.text, "v{less}")?;
+            self.fill("v#", &[first])?;
         }
         for _ in 1..arity {
             let number = self.pick();
-            write!(self.text, ", v{number}")?;
+            self.fill(", v#", &[number])?;
         }
-        writeln!(
-            self.text,
-            ")\n  jump block{join}(v{result})\nblock{other}():"
-        )?;
-        let param = self.new_vreg();
-        writeln!(
-            self.text,
-            "  jump block{join}(v{instead})\nblock{join}(v{param}):"
-        )?;
-        self.known.push(param)?;
         Ok(())
     }
 
@@ -343,54 +371,46 @@ impl Draft {
         let end = self.new_block();
         let [count, _, right] = self.write_head(head, body, end)?;
         let before = self.known.len();
-        writeln!(self.text, "block{body}():")?;
         self.write_operations(8)?;
         if let Some(call) = call {
             self.write_call(call)?;
         }
         let (one, next, last) = (self.new_vreg(), self.new_vreg(), self.pick());
-        writeln!(self.text, "  v{one} = constant 1")?;
-        writeln!(self.text, "  v{next} = sub v{count}, v{one}")?;
-        writeln!(self.text, "  jump block{head}(v{next}, v{right}, v{last})")?;
         self.known.truncate(before);
-        writeln!(self.text, "block{end}():")?;
-        Ok(())
+        let numbers = [one, next, count, one, head, next, right, last, end];
+        self.fill(LOOP_END, &numbers)
     }
 
     /// Writes the return of a number to which each of the written vregs contributes.
     fn write_return(&mut self) -> Result<(), AllocError> {
         let (mut sum, factor) = (self.new_vreg(), self.new_vreg());
-        writeln!(
-            self.text,
-            "  v{sum} = constant 1\n  v{factor} = constant 31"
-        )?;
+        self.fill("  v# = constant 1\n  v# = constant 31\n", &[sum, factor])?;
         for at in 0..self.known.len() {
             let number = self.known.get(at).copied().unwrap_or(0);
             let (product, next) = (self.new_vreg(), self.new_vreg());
-            writeln!(self.text, "  v{product} = mul v{sum}, v{factor}")?;
-            writeln!(self.text, "  v{next} = add v{product}, v{number}")?;
+            let numbers = [product, sum, factor, next, product, number];
+            self.fill("  v# = mul v#, v#\n  v# = add v#, v#\n", &numbers)?;
             sum = next;
         }
-        writeln!(self.text, "  return v{sum}")?;
-        Ok(())
+        self.fill("  return v#\n", &[sum])
     }
 
-    /// Writes the first block's start: the arguments, and the depth of calls if the function has
-    /// one to give.
+    /// Writes the first block's start: the arguments, which are the vregs of the same numbers, and
+    /// the depth of calls if the function has one to give.
     fn write_arguments(&mut self, arity: usize) -> Result<(), AllocError> {
-        writeln!(self.text, "block0:")?;
-        for index in 0..arity {
+        self.text.push_str("block0:\n")?;
+        for _ in 0..arity {
             let to = self.new_vreg();
-            writeln!(self.text, "  v{to} = argument {index}")?;
+            self.fill("  v# = argument #\n", &[to, to])?;
             self.known.push(to)?;
         }
         if arity == 0 {
             let to = self.new_vreg();
-            writeln!(self.text, "  v{to} = constant 7")?;
+            self.fill("  v# = constant 7\n", &[to])?;
             self.known.push(to)?;
         } else if self.arities.len() > 1 {
             let depth = self.new_vreg();
-            writeln!(self.text, "  v{depth} = and v0, {LAST_DEPTH}")?;
+            self.fill("  v# = and v0, #\n", &[depth, LAST_DEPTH])?;
             self.depth = Some(depth);
         }
         Ok(())
@@ -423,6 +443,32 @@ impl Draft {
         }
         self.write_return()
     }
+
+    /// Chooses how many arguments each function has.
+    fn choose_arities(&mut self) -> Result<(), AllocError> {
+        self.arities.push(ARGUMENTS)?;
+        for _ in 0..self.random.below(4) {
+            let arity = self.random.below(10);
+            self.arities.push(arity)?;
+        }
+        Ok(())
+    }
+
+    /// Writes the module.
+    fn write_module(&mut self) -> Result<(), AllocError> {
+        self.fill("memory #\n", &[MEMORY])?;
+        self.choose_arities()?;
+        let count = self.arities.len();
+        let sections = if count == 1 { 6 } else { 3 };
+        for at in 0..count {
+            let arity = self.arities.get(at).copied().unwrap_or(0);
+            if count > 1 {
+                writeln!(self.text, "function f{at}({arity}):")?;
+            }
+            self.write_function(arity, sections)?;
+        }
+        Ok(())
+    }
 }
 
 /// Returns the text of a randomly generated module with memory, the same for the same seed: up to
@@ -431,27 +477,13 @@ impl Draft {
 pub fn random_program(alloc: Global, seed: u64) -> Result<String, AllocError> {
     let mut draft = Draft {
         random: Random::new(seed),
-        text: format!(in alloc; "memory {MEMORY}\n")?,
+        text: String::new(alloc),
         arities: Vec::new(alloc),
         known: Vec::new(alloc),
         depth: None,
         num_vregs: 0,
         num_blocks: 0,
     };
-    draft.arities.push(ARGUMENTS)?;
-    for _ in 0..draft.random.below(4) {
-        let arity = draft.random.below(10);
-        draft.arities.push(arity)?;
-    }
-    let count = draft.arities.len();
-    if count == 1 {
-        draft.write_function(ARGUMENTS, 6)?;
-        return Ok(draft.text);
-    }
-    for at in 0..count {
-        let arity = draft.arities.get(at).copied().unwrap_or(0);
-        writeln!(draft.text, "function f{at}({arity}):")?;
-        draft.write_function(arity, 3)?;
-    }
+    draft.write_module()?;
     Ok(draft.text)
 }

@@ -140,14 +140,33 @@ kept_text f k = word_text (codes "(" ++ (decimal f.outgoing ++ (codes "+" ++ (de
 abbrev pub argument_text : FrameWords → ℕ → List ℕ
 argument_text f k = if nat_lt k 6 then kept_text f k else word_text (codes "(" ++ (frame_text f ++ (codes "+" ++ (decimal k ++ codes ")"))))
 
+-- an instruction that only sets a register or a word of the stack, in a function with that frame; nothing for another
+abbrev pub move_text : FrameWords → Instruction → List ℕ
+move_text f (variant.Constant to n) = codes "movabsq $" ++ decimal n ++ codes ", " ++ register_name to
+move_text f (variant.Clear to) = codes "xorq " ++ register_name to ++ codes ", " ++ register_name to
+move_text f (variant.Argument to k) = codes "movq " ++ argument_text f k ++ codes ", " ++ register_name to
+move_text f (variant.Move to from) = codes "movq " ++ register_name from ++ codes ", " ++ register_name to
+move_text f (variant.Load to k) = codes "movq " ++ slot_text f.outgoing k ++ codes ", " ++ register_name to
+move_text f (variant.Store k from) = codes "movq " ++ register_name from ++ codes ", " ++ slot_text f.outgoing k
+move_text f (variant.Pass k from) = codes "movq " ++ register_name from ++ codes ", " ++ word_text (decimal k)
+move_text f i = []
+
+-- an instruction that continues elsewhere, in a function with that number; nothing for another
+abbrev pub transfer_text : ℕ → Instruction → List ℕ
+transfer_text g (variant.Jump target) = codes "jmp .L" ++ decimal g ++ codes "_" ++ decimal target
+transfer_text g (variant.JumpIf c target) = codes "j" ++ condition_letters c ++ codes " .L" ++ decimal g ++ codes "_" ++ decimal target
+transfer_text g (variant.Call callee) = codes "call .Lf" ++ decimal callee
+transfer_text g variant.Return = codes "jmp .L" ++ decimal g ++ codes "_return"
+transfer_text g i = []
+
 -- an instruction of a function with that number and that frame, as addq %rcx, %rax
 abbrev pub instruction_text : ℕ → FrameWords → Instruction → List ℕ
-instruction_text g f (variant.Constant to n) = codes "movabsq $" ++ decimal n ++ codes ", " ++ register_name to
-instruction_text g f (variant.Clear to) = codes "xorq " ++ register_name to ++ codes ", " ++ register_name to
-instruction_text g f (variant.Argument to k) = codes "movq " ++ argument_text f k ++ codes ", " ++ register_name to
-instruction_text g f (variant.Move to from) = codes "movq " ++ register_name from ++ codes ", " ++ register_name to
-instruction_text g f (variant.Load to k) = codes "movq " ++ slot_text f.outgoing k ++ codes ", " ++ register_name to
-instruction_text g f (variant.Store k from) = codes "movq " ++ register_name from ++ codes ", " ++ slot_text f.outgoing k
+instruction_text g f (variant.Constant to n) = move_text f (variant.Constant to n)
+instruction_text g f (variant.Clear to) = move_text f (variant.Clear to)
+instruction_text g f (variant.Argument to k) = move_text f (variant.Argument to k)
+instruction_text g f (variant.Move to from) = move_text f (variant.Move to from)
+instruction_text g f (variant.Load to k) = move_text f (variant.Load to k)
+instruction_text g f (variant.Store k from) = move_text f (variant.Store k from)
 instruction_text g f (variant.Compute w o to from) = operator_name o ++ letter w ++ codes " " ++ source_text f.outgoing w from ++ codes ", " ++ name_at w to
 instruction_text g f (variant.Shift w o to) = shift_name o ++ letter w ++ codes " %cl, " ++ name_at w to
 instruction_text g f (variant.ShiftBy w o to n) = shift_name o ++ letter w ++ codes " $" ++ decimal n ++ codes ", " ++ name_at w to
@@ -162,11 +181,11 @@ instruction_text g f (variant.Test from) = codes "cmpq $0, " ++ source_text f.ou
 instruction_text g f (variant.Guard a limit) = guard_text a limit
 instruction_text g f (variant.Read bytes to a) = read_text bytes a ++ read_name bytes to
 instruction_text g f (variant.Write bytes a from) = write_text bytes from ++ codes ", (%r15," ++ register_name a ++ codes ")"
-instruction_text g f (variant.Jump target) = codes "jmp .L" ++ decimal g ++ codes "_" ++ decimal target
-instruction_text g f (variant.JumpIf c target) = codes "j" ++ condition_letters c ++ codes " .L" ++ decimal g ++ codes "_" ++ decimal target
-instruction_text g f (variant.Call callee) = codes "call .Lf" ++ decimal callee
-instruction_text g f (variant.Pass k from) = codes "movq " ++ register_name from ++ codes ", " ++ word_text (decimal k)
-instruction_text g f variant.Return = codes "jmp .L" ++ decimal g ++ codes "_return"
+instruction_text g f (variant.Jump target) = transfer_text g (variant.Jump target)
+instruction_text g f (variant.JumpIf c target) = transfer_text g (variant.JumpIf c target)
+instruction_text g f (variant.Call callee) = transfer_text g (variant.Call callee)
+instruction_text g f (variant.Pass k from) = move_text f (variant.Pass k from)
+instruction_text g f variant.Return = transfer_text g variant.Return
 
 -- whether an instruction with that number, of that many, is only a jump to the next line
 abbrev pub is_next : ℕ → ℕ → Instruction → Bool

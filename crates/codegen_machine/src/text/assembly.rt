@@ -5,7 +5,7 @@ ghost use Rattle.std.specs.Fmt.{decimal};
 ghost use Rattle.codegen_machine.specs.Text.Assembly.{byte_name, condition_letters, division_name, half_name, letter, name_at, operator_name, register_name, shift_name};
 ghost use Rattle.codegen_machine.specs.Text.Assembly.{guard_text, read_name, read_text, word_name, write_text};
 ghost use Rattle.codegen_machine.specs.Text.Assembly.{assembly_text, call_text, first_arity, function_text, functions_text};
-ghost use Rattle.codegen_machine.specs.Text.Assembly.{instruction_text, is_next, line_text, lines_text, source_text, stub_text, symbol_text, traps_text};
+ghost use Rattle.codegen_machine.specs.Text.Assembly.{instruction_text, is_next, line_text, lines_text, move_text, source_text, stub_text, symbol_text, traps_text, transfer_text};
 
 use super::frame::{
     ArgumentLoadsText, ArgumentText, EntryText, ExitText, FrameWords, LimitText, SlotText,
@@ -381,6 +381,71 @@ impl fmt::Display for MoveIfText {
     }
 }
 
+/// An instruction of a function with that frame that only sets a register or a word of the stack;
+/// nothing for another.
+#[derive(Clone, Copy)]
+struct MoveText(FrameWords, Instruction);
+
+impl fmt::Display for MoveText {
+    ghost output = { λ t. Some (move_text t.0 t.1) };
+
+    fn fmt<W: fmt::Write>(&self, f: &mut fmt::Formatter<W>) -> fmt::Result {
+        match self.1 {
+            Instruction::Constant { to, value } => {
+                let to = register_name(to);
+                write!(f, "movabsq ${value}, {to}")
+            }
+            Instruction::Clear { to } => {
+                let from = SourceText(self.0.outgoing, Width::Full, Source::Register(to));
+                fmt::Display::fmt(&PairText("xor", from, to), f)
+            }
+            Instruction::Argument { to, index } => {
+                let (from, to) = (ArgumentText(self.0, index as usize), register_name(to));
+                write!(f, "movq {from}, {to}")
+            }
+            Instruction::Move { to, from } => {
+                let from = SourceText(self.0.outgoing, Width::Full, Source::Register(from));
+                fmt::Display::fmt(&PairText("mov", from, to), f)
+            }
+            Instruction::Load { to, slot } => {
+                let from = SourceText(self.0.outgoing, Width::Full, Source::Slot(slot));
+                fmt::Display::fmt(&PairText("mov", from, to), f)
+            }
+            Instruction::Store { slot, from } => {
+                let (from, to) = (register_name(from), SlotText(self.0.outgoing, slot));
+                write!(f, "movq {from}, {to}")
+            }
+            Instruction::Pass { index, from } => {
+                let from = register_name(from);
+                write!(f, "movq {from}, 8*{index}(%rsp)")
+            }
+            _ => f.write_str(""),
+        }
+    }
+}
+
+/// An instruction of the function with that number that continues elsewhere; nothing for another.
+#[derive(Clone, Copy)]
+struct TransferText(usize, Instruction);
+
+impl fmt::Display for TransferText {
+    ghost output = { λ t. Some (transfer_text t.0 t.1) };
+
+    fn fmt<W: fmt::Write>(&self, f: &mut fmt::Formatter<W>) -> fmt::Result {
+        let function = self.0;
+        match self.1 {
+            Instruction::Jump { target } => write!(f, "jmp .L{function}_{target}"),
+            Instruction::JumpIf { condition, target } => {
+                let letters = condition_letters(condition);
+                write!(f, "j{letters} .L{function}_{target}")
+            }
+            Instruction::Call { function: callee } => write!(f, "call .Lf{callee}"),
+            Instruction::Return => write!(f, "jmp .L{function}_return"),
+            _ => f.write_str(""),
+        }
+    }
+}
+
 /// An instruction of a function as assembly: one machine instruction, but two for `Set` and `Guard`.
 #[derive(Clone, Copy)]
 pub struct InstructionText {
@@ -396,32 +461,22 @@ impl fmt::Display for InstructionText {
     ghost output = { λ t. Some (instruction_text t.function t.frame t.instruction) };
 
     fn fmt<W: fmt::Write>(&self, f: &mut fmt::Formatter<W>) -> fmt::Result {
-        let (function, frame) = (self.function, self.frame);
-        let outgoing = frame.outgoing;
+        let outgoing = self.frame.outgoing;
         match self.instruction {
-            Instruction::Constant { to, value } => {
-                let to = register_name(to);
-                write!(f, "movabsq ${value}, {to}")
+            Instruction::Constant { .. }
+            | Instruction::Clear { .. }
+            | Instruction::Argument { .. }
+            | Instruction::Move { .. }
+            | Instruction::Load { .. }
+            | Instruction::Store { .. }
+            | Instruction::Pass { .. } => {
+                fmt::Display::fmt(&MoveText(self.frame, self.instruction), f)
             }
-            Instruction::Clear { to } => {
-                let from = SourceText(outgoing, Width::Full, Source::Register(to));
-                fmt::Display::fmt(&PairText("xor", from, to), f)
-            }
-            Instruction::Argument { to, index } => {
-                let (from, to) = (ArgumentText(frame, index as usize), register_name(to));
-                write!(f, "movq {from}, {to}")
-            }
-            Instruction::Move { to, from } => {
-                let from = SourceText(outgoing, Width::Full, Source::Register(from));
-                fmt::Display::fmt(&PairText("mov", from, to), f)
-            }
-            Instruction::Load { to, slot } => {
-                let from = SourceText(outgoing, Width::Full, Source::Slot(slot));
-                fmt::Display::fmt(&PairText("mov", from, to), f)
-            }
-            Instruction::Store { slot, from } => {
-                let (from, to) = (register_name(from), SlotText(outgoing, slot));
-                write!(f, "movq {from}, {to}")
+            Instruction::Jump { .. }
+            | Instruction::JumpIf { .. }
+            | Instruction::Call { .. }
+            | Instruction::Return => {
+                fmt::Display::fmt(&TransferText(self.function, self.instruction), f)
             }
             Instruction::Compute {
                 width,
@@ -480,17 +535,6 @@ impl fmt::Display for InstructionText {
                 address,
                 from,
             } => fmt::Display::fmt(&WriteText(bytes, from, address), f),
-            Instruction::Jump { target } => write!(f, "jmp .L{function}_{target}"),
-            Instruction::JumpIf { condition, target } => {
-                let letters = condition_letters(condition);
-                write!(f, "j{letters} .L{function}_{target}")
-            }
-            Instruction::Call { function: callee } => write!(f, "call .Lf{callee}"),
-            Instruction::Pass { index, from } => {
-                let from = register_name(from);
-                write!(f, "movq {from}, 8*{index}(%rsp)")
-            }
-            Instruction::Return => write!(f, "jmp .L{function}_return"),
         }
     }
 }

@@ -269,7 +269,12 @@ fn parts(
     preds: Vec<Vec<Block>>,
 ) -> Vec<Part> {
     let mut parts = Vec::new(alloc);
-    for (block, preds) in blocks.into_iter().zip(preds) {
+    let mut lists = preds.into_iter();
+    for block in blocks {
+        let preds = match lists.next() {
+            Some(preds) => preds,
+            None => Vec::new(alloc),
+        };
         let DraftBlock {
             range: (first, end),
             params,

@@ -99,21 +99,32 @@ impl<'t> Functions<'t> {
         }
         tokenize(content, tokens)?;
         let mut cursor = Cursor::new(tokens.as_slice(), 0);
-        if !cursor.has("function") {
-            return Ok(());
+        if cursor.has("function") {
+            self.read_function(cursor)
+        } else {
+            Ok(())
         }
+    }
+
+    /// Reads a function's name and the number of its arguments, from the name on.
+    fn read_function(&mut self, mut cursor: Cursor<'_, 't>) -> Result<(), Flaw<'t>> {
         let name = read_name(&mut cursor);
-        if self.by_name.contains_key(name) {
+        if self.named(name).is_some() {
             cursor.misfit_before("a name that no function before it has");
         }
-        let function = self.by_name.len();
-        let most = if function == 0 {
+        let most = if self.is_empty() {
             FIRST_ARGUMENTS
         } else {
             MOST_ARGUMENTS
         };
         let arity = read_arity(&mut cursor, most);
         cursor.finish()?;
+        self.add(name, arity)
+    }
+
+    /// Adds a function with that name and that many arguments.
+    fn add(&mut self, name: &'t str, arity: usize) -> Result<(), Flaw<'t>> {
+        let function = self.by_name.len();
         self.by_name.insert(name, Callee { function, arity })?;
         Ok(())
     }

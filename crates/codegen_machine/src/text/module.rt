@@ -41,10 +41,10 @@ impl<'t> ModuleDraft<'t> {
 
     /// Reads a line from its tokens.
     pub fn read_line(&mut self, alloc: Global, tokens: &[Token<'t>]) -> Result<(), Flaw<'t>> {
-        let mut cursor = Cursor::new(tokens, 0);
         if tokens.is_empty() {
             return Ok(());
         }
+        let mut cursor = Cursor::new(tokens, 0);
         if cursor.has("function") {
             return self.begin(alloc, cursor.peek().unwrap_or(""));
         }
@@ -52,15 +52,17 @@ impl<'t> ModuleDraft<'t> {
             self.memory_size = Some(cursor.number(LAST_MEMORY));
             return cursor.finish();
         }
+        self.read_inner_line(alloc, tokens)
+    }
+
+    /// Reads a line of the function that is read.
+    fn read_inner_line(&mut self, alloc: Global, tokens: &[Token<'t>]) -> Result<(), Flaw<'t>> {
         if self.drafts.is_empty() && self.functions.is_empty() {
             self.drafts.push(unnamed(alloc))?;
         }
         match self.drafts.last_mut() {
             Some(draft) => draft.read_line(alloc, tokens, &self.functions),
-            None => {
-                cursor.misfit("a line `function`, as the text has one");
-                cursor.finish()
-            }
+            None => refuse_line(tokens),
         }
     }
 
@@ -90,6 +92,13 @@ impl<'t> ModuleDraft<'t> {
             Err(refusal) => Err(flaw_of(refusal)),
         }
     }
+}
+
+/// The flaw of a line before the text's first function.
+fn refuse_line<'t>(tokens: &[Token<'t>]) -> Result<(), Flaw<'t>> {
+    let mut cursor = Cursor::new(tokens, 0);
+    cursor.misfit("a line `function`, as the text has one");
+    cursor.finish()
 }
 
 /// The functions of drafts, with a memory of that many bytes.

@@ -126,20 +126,22 @@ fn read_right(cursor: &mut Cursor<'_, '_>) -> Right {
     }
 }
 
-/// A vreg and a second number, with a comma between them.
+/// A vreg and a second number, with a comma between them, after an operation's name.
 fn read_pair(cursor: &mut Cursor<'_, '_>) -> (VReg, Right) {
+    cursor.advance();
     let left = read_vreg(cursor);
     cursor.want(",");
     (left, read_right(cursor))
 }
 
-/// A shift, from its first number on: the number and the count, with a comma between them.
+/// A shift, from its name on: the number and the count, with a comma between them.
 fn read_shift(
     cursor: &mut Cursor<'_, '_>,
     width: Width,
     operator: ShiftOperator,
     to: VReg,
 ) -> Operation {
+    cursor.advance();
     let left = read_vreg(cursor);
     cursor.want(",");
     let count = if cursor.begins("v") {
@@ -156,13 +158,14 @@ fn read_shift(
     }
 }
 
-/// A division, from its dividend on: the dividend and the divisor, with a comma between them.
+/// A division, from its name on: the dividend and the divisor, with a comma between them.
 fn read_division(
     cursor: &mut Cursor<'_, '_>,
     width: Width,
     (part, is_signed): (DivisionPart, bool),
     to: VReg,
 ) -> Operation {
+    cursor.advance();
     let left = read_vreg(cursor);
     cursor.want(",");
     let right = read_vreg(cursor);
@@ -213,7 +216,6 @@ pub fn read_branch(cursor: &mut Cursor<'_, '_>) -> Operation {
         let value = read_vreg(cursor);
         return Operation::BranchIf { value };
     };
-    cursor.advance();
     let (left, right) = read_pair(cursor);
     Operation::BranchIfHolds {
         width,
@@ -227,7 +229,6 @@ pub fn read_branch(cursor: &mut Cursor<'_, '_>) -> Operation {
 fn read_named(cursor: &mut Cursor<'_, '_>, to: VReg) -> Option<Operation> {
     let (name, width) = split_width(cursor.peek().unwrap_or(""));
     if let Some(operator) = operator_named(name) {
-        cursor.advance();
         let (left, right) = read_pair(cursor);
         return Some(Operation::Compute {
             width,
@@ -238,7 +239,6 @@ fn read_named(cursor: &mut Cursor<'_, '_>, to: VReg) -> Option<Operation> {
         });
     }
     if let Some(condition) = condition_named(name) {
-        cursor.advance();
         let (left, right) = read_pair(cursor);
         return Some(Operation::Compare {
             width,
@@ -249,11 +249,9 @@ fn read_named(cursor: &mut Cursor<'_, '_>, to: VReg) -> Option<Operation> {
         });
     }
     if let Some(operator) = shift_named(name) {
-        cursor.advance();
         return Some(read_shift(cursor, width, operator, to));
     }
     let division = division_named(name)?;
-    cursor.advance();
     Some(read_division(cursor, width, division, to))
 }
 

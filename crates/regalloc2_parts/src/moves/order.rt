@@ -14,7 +14,7 @@
 //! move.
 
 ghost use Rattle.std.specs.Prelude.{◌≡◌, ◌≢◌, ◌↔◌, true, false, ◌+◌, ◌<◌, ◌≤◌, length, reverse, slice_index, Contains, EachIndex, IsTrue, IsOk};
-ghost use Rattle.std.specs.Prelude.{ℕ, ◌-◌, IfOk, IfErr, IsFalse, OnOk, slice_index_or};
+ghost use Rattle.std.specs.Prelude.{ℕ, ◌-◌, [], IfOk, IfErr, IsFalse, OnOk, replicate, slice_index_or};
 ghost use Rattle.std.specs.List.{All};
 ghost use Rattle.std.specs.List.Sorted.{IsPermutation, IsNonDecreasingBy};
 ghost use Rattle.regalloc2_names.specs.Place.{Place};
@@ -150,6 +150,30 @@ fn give_from<'a, T: Copy + Default, A: Allocator + Copy>(
     give_chain(moves, nexts, state, chain, given, ring)
 }
 
+/// The emitted moves, from the last to the first, with marks that are all `Todo` and an empty chain.
+fn give_chains<'a, T: Copy + Default, A: Allocator + Copy>(
+    alloc: A,
+    moves: &[(Allocation, Allocation, T)],
+    nexts: &[usize],
+    state: &mut [State],
+    chain: &mut Indexes<'a, A>,
+) -> Result<MoveVec<T, A>, AllocError>
+    requires apart { AreMovesApart (ends_of moves.now) }
+    requires nexts { AreNexts (ends_of moves.now) nexts.now }
+    requires indexed { length nexts.now ≡ length moves.now }
+    requires todo { state.old ≡ replicate (length moves.now) Todo }
+    requires empty { chain.old.items ≡ [] }
+    ensures order { IfOk result (λ given. IsOrder (ends_of moves.now) nexts.now (ends_of given.items) × All (IsOfMoves moves.now) given.items) }
+{
+    let mut given = SmallVec::with_capacity(alloc, moves.len().saturating_add(1))?;
+    for start in 0..moves.len() {
+        if matches!(state[start], State::Todo) {
+            give_from(moves, nexts, state, chain, &mut given, start)?;
+        }
+    }
+    Ok(given)
+}
+
 /// The emitted moves, from the last to the first.
 fn give_all<T: Copy + Default, A: Allocator + Copy>(
     alloc: A,
@@ -161,21 +185,13 @@ fn give_all<T: Copy + Default, A: Allocator + Copy>(
     requires indexed { length nexts.now ≡ length moves.now }
     ensures order { IfOk result (λ given. IsOrder (ends_of moves.now) nexts.now (ends_of given.items) × All (IsOfMoves moves.now) given.items) }
 {
-    let mut given = SmallVec::with_capacity(alloc, moves.len().saturating_add(1))?;
     let mut states: SmallVec<State, 16, &A> = SmallVec::from_elem(
         &alloc,
         State::Todo,
         moves.len(),
     )?;
-    let state = states.as_mut_slice();
-    // made last, since an error would drop it
     let mut chain: Indexes<'_, A> = SmallVec::new(&alloc);
-    for start in 0..moves.len() {
-        if matches!(state[start], State::Todo) {
-            give_from(moves, nexts, state, &mut chain, &mut given, start)?;
-        }
-    }
-    Ok(given)
+    give_chains(alloc, moves, nexts, states.as_mut_slice(), &mut chain)
 }
 
 /// Whether a place's encoding is below those of all destinations, or above them. The moves are

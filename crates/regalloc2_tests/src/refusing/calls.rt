@@ -144,11 +144,9 @@ impl<F: Function> Given<'_, F> {
     }
 
     /// Runs three times with a context, so that the second call finds an output, and the third one shows that the context still serves.
-    fn run_with_ctx<A: Allocator + Copy>(&self, alloc: A) -> Result<String, AllocError> {
-        let mut ctx = Ctx::new(alloc);
-        ctx.output.num_spillslots = 7;
-        let (first, second) = (self.run_once(&mut ctx), self.run_once(&mut ctx));
-        let third = self.run_once(&mut ctx)?;
+    fn run_thrice<A: Allocator + Copy>(&self, ctx: &mut Ctx<A>) -> Result<String, AllocError> {
+        let (first, second) = (self.run_once(ctx), self.run_once(ctx));
+        let third = self.run_once(ctx)?;
         let mut is_refused = false;
         for run in [first, second] {
             match run {
@@ -162,6 +160,13 @@ impl<F: Function> Given<'_, F> {
             return Err(AllocError);
         }
         Ok(third)
+    }
+
+    /// [`Self::run_thrice`] with a context whose output isn't empty.
+    fn run_with_ctx<A: Allocator + Copy>(&self, alloc: A) -> Result<String, AllocError> {
+        let mut ctx = Ctx::new(alloc);
+        ctx.output.num_spillslots = 7;
+        self.run_thrice(&mut ctx)
     }
 
     fn run_tested<A: Allocator + Copy>(&self, alloc: A) -> Result<String, AllocError> {

@@ -1,5 +1,7 @@
 //! Functions laid out in columns: what is read of one, and why others are refused.
 
+ghost use Rattle.std.specs.Prelude.{◌<◌, length};
+
 use crate::units::report::Report;
 use regalloc2_function::Function;
 use regalloc2_index::{Block, Inst};
@@ -112,20 +114,32 @@ fn write_refusals(alloc: Global, words: &[u32], out: &mut Report) {
     }
 }
 
+/// Writes what all calls about a block give.
+fn write_block<F: Function>(f: &F, block: Block, out: &mut Report)
+    requires { block < length (F.function f.now).blocks }
+{
+    out.row("block", &(f.block_insns(block), f.block_preds(block)));
+    out.row("succs", &(f.block_succs(block), f.block_params(block)));
+}
+
+/// Writes what all calls about an instruction give.
+fn write_inst<F: Function>(f: &F, inst: Inst, out: &mut Report)
+    requires { inst < length (F.function f.now).insts }
+{
+    out.row("inst", &(f.is_ret(inst), f.is_branch(inst)));
+    out.row("operands", &f.inst_operands(inst));
+    out.row("clobbers", &f.inst_clobbers(inst));
+}
+
 /// Writes what all calls give.
 pub fn write_function<F: Function>(f: &F, out: &mut Report) {
     out.row("counts", &(f.num_insts(), f.num_blocks(), f.num_vregs()));
     out.row("entry", &f.entry_block());
     for b in 0..f.num_blocks() {
-        let block = Block::new(b);
-        out.row("block", &(f.block_insns(block), f.block_preds(block)));
-        out.row("succs", &(f.block_succs(block), f.block_params(block)));
+        write_block(f, Block::new(b), out);
     }
     for i in 0..f.num_insts() {
-        let inst = Inst::new(i);
-        out.row("inst", &(f.is_ret(inst), f.is_branch(inst)));
-        out.row("operands", &f.inst_operands(inst));
-        out.row("clobbers", &f.inst_clobbers(inst));
+        write_inst(f, Inst::new(i), out);
     }
     out.row("labels", &f.debug_value_labels());
     let (int, float) = (

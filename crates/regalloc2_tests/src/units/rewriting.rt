@@ -41,16 +41,19 @@ fn write_renumbered<F: Function>(alloc: Global, f: &F, order: &[Block], out: &mu
     }
 }
 
+/// Writes a function, and renumbered by two orders of its blocks, of which one names a block twice.
+fn write_with_orders<F: Function>(alloc: Global, f: &F, out: &mut Report) {
+    write_function(f, out);
+    let (first, second) = (Block::new(0), Block::new(1));
+    let (third, last) = (Block::new(2), Block::new(3));
+    write_renumbered(alloc, f, &[first, second, last, third], out);
+    write_renumbered(alloc, f, &[first, second, last, last], out);
+}
+
 /// Writes the function with split edges, and that one renumbered.
 fn write_split<F: Function>(alloc: Global, f: &F, out: &mut Report) {
     match split_critical_edges(alloc, f) {
-        Ok(g) => {
-            write_function(&g, out);
-            let (first, second) = (Block::new(0), Block::new(1));
-            let (third, last) = (Block::new(2), Block::new(3));
-            write_renumbered(alloc, &g, &[first, second, last, third], out);
-            write_renumbered(alloc, &g, &[first, second, last, last], out);
-        }
+        Ok(g) => write_with_orders(alloc, &g, out),
         Err(fault) => out.row("refused", &fault),
     }
 }

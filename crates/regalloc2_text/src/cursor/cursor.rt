@@ -182,6 +182,14 @@ impl<'a, 't> Cursor<'a, 't> {
         }
     }
 
+    /// That value, where the line ends here and no flaw was found in it.
+    pub(crate) fn finish_with<T: Drop>(self, value: T) -> Result<T, Flaw<'t>> {
+        match self.finish() {
+            Ok(()) => Ok(value),
+            Err(flaw) => Err(flaw),
+        }
+    }
+
     /// A number up to `max`, as a token of its own.
     pub fn number(&mut self, max: u64) -> u64
         ensures left { tokens_left self.new ≤ tokens_left self.old }

@@ -64,22 +64,31 @@ pub(crate) fn are_digits(bytes: &[u8]) -> bool {
     digits_len(bytes) == bytes.len()
 }
 
+/// Of how many bytes the sign is made that begins with those.
+fn sign_len(first: u8, after: &[u8]) -> Option<usize>
+    ensures { IfSome result (λ len. 1 ≤ len) }
+{
+    match after {
+        [b'.', b'=', ..] if first == b'.' => Some(3),
+        [b'.', ..] if first == b'.' => Some(2),
+        [b'>', ..] if first == b'-' => Some(2),
+        _ if b":;,=()[]-".contains(&first) => Some(1),
+        _ => None,
+    }
+}
+
 /// What begins the bytes, and of how many it is made.
 fn measured(bytes: &[u8]) -> Option<(TokenKind, usize)>
     ensures { IfSome result (λ found. 1 ≤ found.1) }
 {
-    match bytes {
-        [b' ' | b'\t', ..] => Some((TokenKind::Blank, 1)),
-        [first, after @ ..] if first.is_ascii_alphabetic() || *first == b'_' => {
-            Some((TokenKind::Word, 1 + word_len(after)))
-        }
-        [first, after @ ..] if first.is_ascii_digit() => {
-            Some((TokenKind::Number, 1 + digits_len(after)))
-        }
-        [b'.', b'.', b'=', ..] => Some((TokenKind::Sign, 3)),
-        [b'.', b'.', ..] | [b'-', b'>', ..] => Some((TokenKind::Sign, 2)),
-        [first, ..] if b":;,=()[]-".contains(first) => Some((TokenKind::Sign, 1)),
-        _ => None,
+    let [first, after @ ..] = bytes else {
+        return None;
+    };
+    match *first {
+        b' ' | b'\t' => Some((TokenKind::Blank, 1)),
+        b'_' | b'a'..=b'z' | b'A'..=b'Z' => Some((TokenKind::Word, 1 + word_len(after))),
+        b'0'..=b'9' => Some((TokenKind::Number, 1 + digits_len(after))),
+        _ => Some((TokenKind::Sign, sign_len(*first, after)?)),
     }
 }
 

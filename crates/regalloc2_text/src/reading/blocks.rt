@@ -108,21 +108,23 @@ impl<A: Allocator + Copy> DraftBlock<A> {
             cursor.misfit_before("each part once");
         }
         self.has_succs = true;
+        let open = "[";
+        let close = "]";
         cursor.want("succs");
-        cursor.want("[");
-        if !cursor.has("]") {
+        cursor.want(open);
+        if !cursor.has(close) {
             self.read_numbered_targets(alloc, cursor);
-            cursor.want("]");
+            cursor.want(close);
         }
         cursor.want("preds");
-        cursor.want("[");
+        cursor.want(open);
         let mut preds = Vec::new(alloc);
-        if !cursor.has("]") {
+        if !cursor.has(close) {
             read_numbers(cursor, &mut preds);
-            cursor.want("]");
+            cursor.want(close);
         }
         self.preds = Some(preds);
-        cursor.want("]");
+        cursor.want(close);
     }
 
     /// Reads the numbers of successors, each perhaps with its arguments.

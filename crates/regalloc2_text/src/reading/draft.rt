@@ -61,8 +61,7 @@ impl<A: Allocator + Copy> Draft<A> {
         };
         let effect = self.read_kind(alloc, first.text, sign, &mut cursor);
         self.function.num_vregs = cursor.num_vregs();
-        cursor.finish()?;
-        Ok(effect)
+        cursor.finish_with(effect)
     }
 
     /// Reads the line of an instruction or of a point, whose first word is one of an instruction and has `sign` behind it.
@@ -132,17 +131,11 @@ impl<A: Allocator + Copy> Draft<A> {
 
     /// What the lines of the whole text say.
     pub(super) fn finish<'t>(self, alloc: A) -> Result<Text<A>, Flaw<'t>> {
-        let Draft {
-            function,
-            output,
-            lists,
-        } = self;
         let no_tokens: [Token<'t>; 0] = [];
         let mut cursor = Cursor::new(&no_tokens, 0);
-        let mut function = function.finish(alloc, &mut cursor);
-        let (allocs, offsets) = lists.replace(&mut function);
-        let output = output.finish(&mut cursor, allocs, offsets);
-        cursor.finish()?;
-        Ok(Text { function, output })
+        let mut function = self.function.finish(alloc, &mut cursor);
+        let (allocs, offsets) = self.lists.replace(&mut function);
+        let output = self.output.finish(&mut cursor, allocs, offsets);
+        cursor.finish_with(Text { function, output })
     }
 }

@@ -118,40 +118,22 @@ impl<A: Allocator + Copy> DraftFunction<A> {
 
     /// The function, with what follows from the lines where they don't say it.
     pub(super) fn finish(self, alloc: A, cursor: &mut Cursor<'_, '_>) -> StoredFunction<A> {
-        let DraftFunction {
-            machine,
-            settings,
-            num_vregs,
-            insts,
-            blocks,
-            labels,
-        } = self;
-        let BlockLists {
-            ranges,
-            preds,
-            succs,
-            params_in,
-            params_out,
-        } = BlockLists::new(alloc, cursor, blocks);
-        let Settings {
-            entry_block,
-            num_vregs: said_num_vregs,
-            sizes,
-            flags,
-        } = settings;
-        let flags = flags.unwrap_or(Flags::NONE);
+        let lists = BlockLists::new(alloc, cursor, self.blocks);
+        let settings = self.settings;
+        let flags = settings.flags.unwrap_or(Flags::NONE);
         StoredFunction {
-            machine_env: machine.finish(alloc, cursor),
-            entry_block: entry_block.unwrap_or(0),
-            insts,
-            blocks: ranges,
-            block_preds: preds,
-            block_succs: succs,
-            block_params_in: params_in,
-            block_params_out: params_out,
-            num_vregs: said_num_vregs.unwrap_or(num_vregs),
-            debug_value_labels: labels,
-            spillslot_size: sizes
+            machine_env: self.machine.finish(alloc, cursor),
+            entry_block: settings.entry_block.unwrap_or(0),
+            insts: self.insts,
+            blocks: lists.ranges,
+            block_preds: lists.preds,
+            block_succs: lists.succs,
+            block_params_in: lists.params_in,
+            block_params_out: lists.params_out,
+            num_vregs: settings.num_vregs.unwrap_or(self.num_vregs),
+            debug_value_labels: self.labels,
+            spillslot_size: settings
+                .sizes
                 .unwrap_or(ByClass::new(1, 1, 1))
                 .into_vec(alloc, cursor),
             multi_spillslot_named_by_last_slot: flags.named_by_last,

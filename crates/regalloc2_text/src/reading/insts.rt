@@ -158,18 +158,11 @@ impl<A: Allocator + Copy> DraftInst<A> {
 
     /// The instruction with that opcode, and the places.
     pub(super) fn into_parts(self, alloc: A, op: InstOpcode) -> (StoredInst<A>, Vec<u32, A>) {
-        let DraftInst {
-            operands,
-            places,
-            clobbers,
-            has_more: _,
-        } = self;
-        let clobbers = clobbers.unwrap_or(Vec::new(alloc));
         let inst = StoredInst {
             op,
-            operands,
-            clobbers,
+            operands: self.operands,
+            clobbers: self.clobbers.unwrap_or(Vec::new(alloc)),
         };
-        (inst, places)
+        (inst, self.places)
     }
 }

@@ -35,11 +35,10 @@ impl<T> ByClass<T> {
 impl<T: Drop> ByClass<T> {
     /// The values of the classes in order.
     pub(super) fn into_vec<A: Allocator>(self, alloc: A, cursor: &mut Cursor<'_, '_>) -> Vec<T, A> {
-        let ByClass { int, float, vector } = self;
         let mut list = Vec::new(alloc);
-        cursor.push(&mut list, int);
-        cursor.push(&mut list, float);
-        cursor.push(&mut list, vector);
+        cursor.push(&mut list, self.int);
+        cursor.push(&mut list, self.float);
+        cursor.push(&mut list, self.vector);
         list
     }
 }
@@ -206,15 +205,8 @@ impl<A: Allocator + Copy> DraftMachine<A> {
 
     /// The machine, with the registers that it has where no line names any.
     pub(super) fn finish(self, alloc: A, cursor: &mut Cursor<'_, '_>) -> StoredMachine<A> {
-        let DraftMachine {
-            is_named,
-            preferred,
-            others,
-            scratch,
-            fixed_stack_slots,
-        } = self;
-        let mut preferred = preferred;
-        if !is_named {
+        let mut preferred = self.preferred;
+        if !self.is_named {
             let class = RegClass::Int;
             let span = Span {
                 class,
@@ -225,9 +217,9 @@ impl<A: Allocator + Copy> DraftMachine<A> {
         }
         StoredMachine {
             preferred_regs_by_class: preferred.into_vec(alloc, cursor),
-            non_preferred_regs_by_class: others.into_vec(alloc, cursor),
-            scratch_by_class: scratch.into_vec(alloc, cursor),
-            fixed_stack_slots,
+            non_preferred_regs_by_class: self.others.into_vec(alloc, cursor),
+            scratch_by_class: self.scratch.into_vec(alloc, cursor),
+            fixed_stack_slots: self.fixed_stack_slots,
         }
     }
 }

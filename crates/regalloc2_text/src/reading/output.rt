@@ -123,23 +123,14 @@ impl<A: Allocator + Copy> DraftOutput<A> {
         stored_allocs: Option<Vec<u32, A>>,
         stored_offsets: Option<Vec<u32, A>>,
     ) -> Option<StoredOutput<A>> {
-        let DraftOutput {
-            is_named,
-            is_dump,
-            num_spillslots,
-            edits,
-            allocs,
-            inst_alloc_offsets,
-            debug_locations,
-        } = self;
-        let num_spillslots = match num_spillslots {
-            None if is_dump => {
-                Some(slots_named(allocs.as_slice()).max(slots_moved(edits.as_slice())))
+        let num_spillslots = match self.num_spillslots {
+            None if self.is_dump => {
+                Some(slots_named(self.allocs.as_slice()).max(slots_moved(self.edits.as_slice())))
             }
             said => said,
         };
         let Some(num_spillslots) = num_spillslots else {
-            if is_named || stored_allocs.is_some() || stored_offsets.is_some() {
+            if self.is_named || stored_allocs.is_some() || stored_offsets.is_some() {
                 let expected = Expected::Words("a line `slots N`, since the text has places");
                 cursor.fail(Flaw::new(1, expected, Found::TextEnd));
             }
@@ -147,10 +138,10 @@ impl<A: Allocator + Copy> DraftOutput<A> {
         };
         Some(StoredOutput {
             num_spillslots,
-            edits,
-            allocs: stored_allocs.unwrap_or(allocs),
-            inst_alloc_offsets: stored_offsets.unwrap_or(inst_alloc_offsets),
-            debug_locations,
+            edits: self.edits,
+            allocs: stored_allocs.unwrap_or(self.allocs),
+            inst_alloc_offsets: stored_offsets.unwrap_or(self.inst_alloc_offsets),
+            debug_locations: self.debug_locations,
         })
     }
 }

@@ -200,33 +200,21 @@ impl<A: Allocator + Copy> StoredLists<A> {
         self,
         function: &mut StoredFunction<A>,
     ) -> (Option<Vec<u32, A>>, Option<Vec<u32, A>>) {
-        let StoredLists {
-            block_preds,
-            block_succs,
-            block_params_in,
-            block_params_out,
-            preferred_regs_by_class,
-            non_preferred_regs_by_class,
-            scratch_by_class,
-            spillslot_size,
-            allocs,
-            inst_alloc_offsets,
-        } = self;
-        put(&mut function.block_preds, block_preds);
-        put(&mut function.block_succs, block_succs);
-        put(&mut function.block_params_in, block_params_in);
-        put(&mut function.block_params_out, block_params_out);
-        put(&mut function.spillslot_size, spillslot_size);
+        put(&mut function.block_preds, self.block_preds);
+        put(&mut function.block_succs, self.block_succs);
+        put(&mut function.block_params_in, self.block_params_in);
+        put(&mut function.block_params_out, self.block_params_out);
+        put(&mut function.spillslot_size, self.spillslot_size);
         let machine = &mut function.machine_env;
         put(
             &mut machine.preferred_regs_by_class,
-            preferred_regs_by_class,
+            self.preferred_regs_by_class,
         );
         put(
             &mut machine.non_preferred_regs_by_class,
-            non_preferred_regs_by_class,
+            self.non_preferred_regs_by_class,
         );
-        put(&mut machine.scratch_by_class, scratch_by_class);
-        (allocs, inst_alloc_offsets)
+        put(&mut machine.scratch_by_class, self.scratch_by_class);
+        (self.allocs, self.inst_alloc_offsets)
     }
 }

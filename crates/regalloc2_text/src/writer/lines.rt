@@ -45,8 +45,8 @@ fn write_settings<A: Allocator + Copy, W: fmt::Write>(shown: &Shown<'_, A>, to: 
 /// Writes the labels.
 fn write_labels<W: fmt::Write>(labels: &[(u32, u32, u32, u32)], to: &mut Page<'_, W>) {
     for (vreg, first, end, label) in labels {
-        to.put(&format_args!("label {label}: {}", VRegText(*vreg)));
-        to.put(&format_args!(" from inst{first} until inst{end}\n"));
+        let vreg = VRegText(*vreg);
+        to.put(&format_args!("label {label}: {vreg} from inst{first} until inst{end}\n"));
     }
 }
 

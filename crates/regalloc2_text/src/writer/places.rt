@@ -125,8 +125,9 @@ impl<'a, A: Allocator + Copy> ShownOutput<'a, A> {
         self.write_moves(to);
         self.write_places(to);
         for (label, from, until, place) in &self.output.debug_locations {
-            to.put(&format_args!("debug {label} {} {}", PointText(*from), PointText(*until)));
-            to.put(&format_args!(" {}\n", PlaceText(*place)));
+            let (from, until) = (PointText(*from), PointText(*until));
+            let place = PlaceText(*place);
+            to.put(&format_args!("debug {label} {from} {until} {place}\n"));
         }
     }
 }

@@ -143,10 +143,11 @@ impl fmt::Display for PointText {
         }
         let point = ProgPoint::from_index(number);
         let inst = point.inst().index();
-        match point.pos() {
-            InstPosition::Before => write!(f, "inst{inst}-pre"),
-            InstPosition::After => write!(f, "inst{inst}-post"),
-        }
+        let position = match point.pos() {
+            InstPosition::Before => "pre",
+            InstPosition::After => "post",
+        };
+        write!(f, "inst{inst}-{position}")
     }
 }
 

@@ -11,31 +11,42 @@ use Rattle.regalloc2_function.specs.declared.serialize.StoredFault.TheVariants.{
 use Rattle.regalloc2_function.specs.declared.serialize.StoredOutput.{StoredOutput}
 use Rattle.regalloc2_serialize.specs.JsonShape.{IsFunctionAt}
 use Rattle.regalloc2_serialize.specs.declared.data.StoredFunction.{StoredFunction}
-use Rattle.regalloc2_tool.specs.Ra2.Input.{IsOutputFault, IsPairAt, IsTextOf, IsTextOfPair}
+use Rattle.regalloc2_tool.specs.Ra2.Input.{IsOutputFault, IsPairAt, IsTextOf, IsTextOfPair, IsTextOfValue}
 
 -- the value in a successful result
 pub taken : {A E : Type 0} (P : A → Type 0) (r : Result A E) (x : A) → Some x ≡ result_ok r → IfOk r P → P x
 taken P (Ok y) x e h = let same : y ≡ x = cc in subst P same h
 taken P (Err y) x e h = absurd cc
 
--- a value that was read from a text, and a function that was read from the value
-pub text_of : {A E : Type 0} (bytes : Option (List ℕ)) (text : List ℕ) (d : Data) (r : Result (StoredFunction A) E) (o : Option (StoredFunction A)) →
-    IfSome bytes (λ xs. text ≡ xs) → read text ≡ Some d → o ≡ result_ok r → IfOk r (λ s. IsFunctionAt d s) → IfSome o (IsTextOf bytes)
-text_of bytes text d (Ok s) o w h e k = rw e (known bytes w)
+-- a value that was read from a text
+pub value_of : {V E : Type 0} (view : V → Data) (bytes : Option (List ℕ)) (text : List ℕ) (r : Result V E) (o : Option V) →
+    IfSome bytes (λ xs. text ≡ xs) → o ≡ result_ok r → IfOk r (λ v. read text ≡ Some (view v)) → IfSome o (λ v. IsTextOfValue bytes (view v))
+value_of view bytes text (Ok v) o w e h = rw e (known bytes w)
   where
-    known : (b : Option (List ℕ)) → IfSome b (λ xs. text ≡ xs) → IsTextOf b s
-    known None v = tt
-    known (Some xs) v = (d, rw (← v) h, k)
-text_of bytes text d (Err x) o w h e k = rw e tt
+    known : (b : Option (List ℕ)) → IfSome b (λ xs. text ≡ xs) → IsTextOfValue b (view v)
+    known None u = tt
+    known (Some xs) u = rw (← u) h
+value_of view bytes text (Err x) o w e h = rw e tt
 
--- a pair of a function and an output, at a value that was read from a text
-pub pair_of : {A : Type 0} (bytes : Option (List ℕ)) (text : List ℕ) (d : Data) (s : StoredFunction A) (o : StoredOutput A) →
-    IfSome bytes (λ xs. text ≡ xs) → read text ≡ Some d → IsPairAt d s o → IsTextOfPair bytes s o
-pair_of bytes text d s o w h pair = known bytes w
+-- a function that was read from the value of a text
+pub function_of_text : {A E : Type 0} (bytes : Option (List ℕ)) (d : Data) (r : Result (StoredFunction A) E) (o : Option (StoredFunction A)) →
+    IsTextOfValue bytes d → o ≡ result_ok r → IfOk r (λ s. IsFunctionAt d s) → IfSome o (IsTextOf bytes)
+function_of_text bytes d (Ok s) o w e k = rw e (known bytes w)
   where
-    known : (b : Option (List ℕ)) → IfSome b (λ xs. text ≡ xs) → IsTextOfPair b s o
-    known None v = tt
-    known (Some xs) v = (d, rw (← v) h, pair)
+    known : (b : Option (List ℕ)) → IsTextOfValue b d → IsTextOf b s
+    known None u = tt
+    known (Some xs) u = (d, u, k)
+function_of_text bytes d (Err x) o w e k = rw e tt
+
+-- a function and an output that were read from the value of a text
+pub pair_of_text : {A : Type 0} (bytes : Option (List ℕ)) (d : Data) (o : Option (StoredFunction A × StoredOutput A)) →
+    IsTextOfValue bytes d → IfSome o (λ p. IsPairAt d p.0 p.1) → IfSome o (λ p. IsTextOfPair bytes p.0 p.1)
+pair_of_text bytes d None w h = tt
+pair_of_text bytes d (Some p) w h = known bytes w
+  where
+    known : (b : Option (List ℕ)) → IsTextOfValue b d → IsTextOfPair b p.0 p.1
+    known None u = tt
+    known (Some xs) u = (d, u, h)
 
 -- nothing is found if a test of what is found says so
 pub absent : {X Y : Type 0} (f : X → Y) (r : Option X) (a : Option Y) (b : Bool) → option_map f r ≡ a → b ≡ is_some r → b ≡ false → a ≡ None

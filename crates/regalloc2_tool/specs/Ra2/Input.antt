@@ -19,6 +19,10 @@ use Rattle.regalloc2_serialize.specs.declared.data.StoredFunction.{StoredFunctio
 use Rattle.regalloc2_tool.specs.declared.ra2.reading.InputError.{InputError}
 use Rattle.regalloc2_tool.specs.declared.ra2.reading.InputError.TheVariants.{Unreadable, BadFunction, BadMachine, BadOutput, NotFramed}
 
+-- the bytes, if they are known, are the text of a JSON value
+abbrev pub IsTextOfValue : Option (List ℕ) → Data → Type 0
+IsTextOfValue bytes d = IfSome bytes (λ text. read text ≡ Some d)
+
 -- the bytes, if they are known, are a JSON text of the stored numbers
 abbrev pub IsTextOf : {A : Type 0} → Option (List ℕ) → StoredFunction A → Type 0
 IsTextOf bytes s = IfSome bytes (λ text. (d : Data) × (read text ≡ Some d) × IsFunctionAt d s)

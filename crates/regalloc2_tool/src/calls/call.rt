@@ -1,19 +1,20 @@
 //! The calls about a stored function, and their results as text.
 
-ghost use Rattle.std.specs.Prelude.{◌≡◌, true, IfOk};
-ghost use Rattle.regalloc2_checker_sweep.specs.Cells.{AreCells};
+ghost use Rattle.std.specs.Prelude.{◌≡◌, true, false, IfOk};
+ghost use Rattle.regalloc2_checker.specs.Cells.{AreCells};
 ghost use Rattle.regalloc2_function.specs.Faithful.{IsFaithful};
 ghost use Rattle.regalloc2_function.specs.OutputValue.{IsInOrder};
 ghost use Rattle.regalloc2_function.specs.SourceRun.{IsWrittenFirst};
 ghost use Rattle.regalloc2_function.specs.Views.{machine_of, output_of};
 ghost use Rattle.regalloc2_function.specs.WellFormed.{IsFramed};
+ghost use Rattle.regalloc2_tool.specs.Framed.{BlocksAreWithin};
 
 use crate::listing::write_listing;
 use crate::refusal::{RefusalText, number_of};
 use crate::stored_fault::FaultText;
 use crate::svg::Picture;
 use regalloc2_analysis::liveness::reads_written;
-use regalloc2_checker::{CellFault, Checker, CheckerError, test_cells};
+use regalloc2_checker::{CellFault, CheckerError, check_output, test_cells};
 use regalloc2_explain::report::{Stats, StatsJson, write_diff, write_dump};
 use regalloc2_explain::{
     Site, Source, explain, explain_function, explain_output, find_unwritten_read, last_writes,
@@ -284,13 +285,15 @@ fn explain_finding<W: Write>(
 }
 
 /// Writes a line for each error, unless it is a failed memory allocation, and explains the first
-/// errors if there is a text.
+/// errors if there is a text. The output isn't accepted.
 fn write_findings<W: Write>(
     alloc: Global,
     errors: &[CheckerError],
     given: &Given<'_, '_, '_>,
     to: &mut W,
-) -> Result<(), CallError> {
+) -> Result<bool, CallError>
+    ensures { IfOk result (λ b. b ≡ false) }
+{
     for (k, error) in errors.iter().enumerate() {
         if let CheckerError::Memory = error {
             return Err(CallError::Memory);
@@ -300,7 +303,32 @@ fn write_findings<W: Write>(
             explain_finding(alloc, error, given, source, to)?;
         }
     }
-    Ok(())
+    Ok(false)
+}
+
+/// Writes `checked`, or the first error in an output's places as cells. Returns whether there is
+/// none.
+fn judge_cells<F: Function, W: Write>(
+    alloc: Global,
+    f: &F,
+    env: &MachineEnv,
+    output: &Output,
+    to: &mut W,
+) -> Result<bool, CallError>
+    requires order { IsInOrder (F.function f.now) (output_of output.now) }
+    ensures cells { IfOk result (λ b. b ≡ true → AreCells (F.function f.now) (machine_of env.now) (output_of output.now)) }
+{
+    match test_cells(alloc, f, env, output) {
+        Ok(()) => {
+            to.write_all(b"checked\n")?;
+            Ok(true)
+        }
+        Err(CellFault::Memory) => Err(CallError::Memory),
+        Err(fault) => {
+            writeln!(to, "{fault}")?;
+            Ok(false)
+        }
+    }
 }
 
 /// Writes `checked`, or the errors that the checker finds in an output, or else the first error in
@@ -318,28 +346,52 @@ fn judge<F: Function, W: Write>(
         × IsFaithful (F.function f.now) (machine_of env.now) (output_of output.now)
         × AreCells (F.function f.now) (machine_of env.now) (output_of output.now)) }
 {
-    let Ok(mut checker) = Checker::new(alloc, f, env) else {
-        return Err(CallError::Memory);
-    };
-    if let Err(error) = checker.prepare(output) {
-        write_findings(alloc, &[error], given, to)?;
-        return Ok(false);
+    match check_output(alloc, f, env, output) {
+        Ok(errors) => {
+            if errors.is_empty() {
+                return judge_cells(alloc, f, env, output, to);
+            }
+            write_findings(alloc, &errors, given, to)
+        }
+        Err(error) => write_findings(alloc, &[error], given, to),
     }
-    match checker.run() {
-        Ok(()) => match test_cells(alloc, f, env, output) {
-            Ok(()) => {
-                writeln!(to, "checked")?;
-                Ok(true)
-            }
-            Err(CellFault::Memory) => Err(CallError::Memory),
-            Err(fault) => {
-                writeln!(to, "{fault}")?;
-                Ok(false)
-            }
-        },
-        Err(errors) => {
-            write_findings(alloc, errors.errors(), given, to)?;
-            Ok(false)
+}
+
+/// Checks an output, if the function is structurally valid.
+fn judge_framed<F: Function, W: Write, E: Write>(
+    alloc: Global,
+    f: &F,
+    env: &MachineEnv,
+    output: &Output,
+    given: &Given<'_, '_, '_>,
+    to: &mut W,
+    err: &mut E,
+) -> Result<Verdict, CallError> {
+    if !is_framed(f) {
+        err.write_all(b"not framed\n")?;
+        return Ok(Verdict::Unusable);
+    }
+    let is_accepted = judge(alloc, f, env, output, given, to)?;
+    Ok(Verdict::of(is_accepted))
+}
+
+/// The output that the stored numbers name; nothing if they name none, which a line on `err` then
+/// reports.
+fn output_given<E: Write>(
+    alloc: Global,
+    stored: &StoredOutput,
+    given: &Given<'_, '_, '_>,
+    err: &mut E,
+) -> Result<Option<Output>, CallError> {
+    match Output::from_stored(alloc, stored) {
+        Ok(output) => Ok(Some(output)),
+        Err(StoredFault::Memory) => Err(CallError::Memory),
+        Err(fault) => {
+            let cause = explain_output(stored, fault);
+            let fault = FaultText(fault, cause);
+            writeln!(err, "bad output {fault}")?;
+            write_fault_site(cause.output_site(stored), given, err)?;
+            Ok(None)
         }
     }
 }
@@ -354,26 +406,13 @@ fn replay<F: Function, W: Write, E: Write>(
     err: &mut E,
 ) -> Result<Verdict, CallError> {
     let Some(stored) = given.output else {
-        writeln!(err, "bad input: no output")?;
+        err.write_all(b"bad input: no output\n")?;
         return Ok(Verdict::Unusable);
     };
-    let output = match Output::from_stored(alloc, stored) {
-        Ok(output) => output,
-        Err(StoredFault::Memory) => return Err(CallError::Memory),
-        Err(fault) => {
-            let cause = explain_output(stored, fault);
-            let fault = FaultText(fault, cause);
-            writeln!(err, "bad output {fault}")?;
-            write_fault_site(cause.output_site(stored), given, err)?;
-            return Ok(Verdict::Unusable);
-        }
-    };
-    if !is_framed(f) {
-        writeln!(err, "not framed")?;
-        return Ok(Verdict::Unusable);
+    match output_given(alloc, stored, given, err)? {
+        Some(output) => judge_framed(alloc, f, env, &output, given, to, err),
+        None => Ok(Verdict::Unusable),
     }
-    let is_accepted = judge(alloc, f, env, &output, given, to)?;
-    Ok(Verdict::of(is_accepted))
 }
 
 /// Writes a path on which a vreg is read before it is written.
@@ -405,13 +444,13 @@ fn judge_reads<F: Function, W: Write>(
         return Err(CallError::Memory);
     };
     if !are_written {
-        writeln!(to, "read before written")?;
+        to.write_all(b"read before written\n")?;
         if let Some(source) = &given.source {
             write_path(alloc, given.function, source, to)?;
         }
         return Ok(false);
     }
-    writeln!(to, "written first")?;
+    to.write_all(b"written first\n")?;
     Ok(true)
 }
 
@@ -424,7 +463,7 @@ fn test_reads<F: Function, W: Write, E: Write>(
     err: &mut E,
 ) -> Result<Verdict, CallError> {
     if !is_framed(f) {
-        writeln!(err, "not framed")?;
+        err.write_all(b"not framed\n")?;
         return Ok(Verdict::Unusable);
     }
     let is_accepted = judge_reads(alloc, f, given, to)?;
@@ -474,13 +513,13 @@ fn compare<F: Function, W: Write, E: Write>(
     err: &mut E,
 ) -> Result<Verdict, CallError> {
     let (Some(output), Some(another)) = (given.output, other.output) else {
-        writeln!(err, "bad input: no output")?;
+        err.write_all(b"bad input: no output\n")?;
         return Ok(Verdict::Unusable);
     };
     let differs = write_diff(given.function, output, another, to)?;
-    write!(to, "first: ")?;
+    to.write_all(b"first: ")?;
     let first = replay(alloc, f, env, given, to, err)?;
-    write!(to, "second: ")?;
+    to.write_all(b"second: ")?;
     let last = replay(alloc, f, env, other, to, err)?;
     if first == Verdict::Unusable || last == Verdict::Unusable {
         return Ok(Verdict::Unusable);
@@ -526,7 +565,7 @@ fn write_misfit<F: Function, E: Write>(
     err: &mut E,
 ) -> Result<(), CallError> {
     let Some(source) = &given.source else {
-        writeln!(err, "bad machine")?;
+        err.write_all(b"bad machine\n")?;
         return Ok(());
     };
     let Err(misfit) = test_machine(f, env) else {
@@ -539,8 +578,34 @@ fn write_misfit<F: Function, E: Write>(
     }
 }
 
-/// Allocates registers to a function, and performs a call; `Replay` and `Reads` are performed as a
-/// `Check` of the allocator's output.
+/// Performs a call about the allocator's output; `Replay` and `Reads` are performed as a `Check`.
+fn show<F: Function, W: Write, E: Write>(
+    alloc: Global,
+    call: Call,
+    f: &F,
+    env: &MachineEnv,
+    output: &Output,
+    given: &Given<'_, '_, '_>,
+    to: &mut W,
+    err: &mut E,
+) -> Result<Verdict, CallError>
+    requires framed { IsFramed (F.function f.now) }
+    requires order { IsInOrder (F.function f.now) (output_of output.now) }
+    requires blocks { BlocksAreWithin (F.function f.now) }
+{
+    match call {
+        Call::Run => write_listing(f, output, to)?,
+        Call::Svg => Picture::new(alloc).draw(f, output, to)?,
+        Call::Check | Call::Replay | Call::Reads => {
+            let is_accepted = judge(alloc, f, env, output, given, to)?;
+            return Ok(Verdict::of(is_accepted));
+        }
+        _ => return answer_stored(alloc, call, f, env, output, given, to, err),
+    }
+    Ok(Verdict::Accepted)
+}
+
+/// Allocates registers to a function, and performs a call about the output.
 fn allocate<F: Function, W: Write, E: Write>(
     alloc: Global,
     call: Call,
@@ -554,24 +619,14 @@ fn allocate<F: Function, W: Write, E: Write>(
         write_misfit(f, env, given, err)?;
         return Ok(Verdict::Unusable);
     }
-    let output = match run(alloc, f, env, &OPTIONS) {
-        Ok(output) => output,
-        Err(RegAllocError::Memory) => return Err(CallError::Memory),
+    match run(alloc, f, env, &OPTIONS) {
+        Ok(output) => show(alloc, call, f, env, &output, given, to, err),
+        Err(RegAllocError::Memory) => Err(CallError::Memory),
         Err(error) => {
             write_refusal(error, given, err)?;
-            return Ok(Verdict::Rejected);
+            Ok(Verdict::Rejected)
         }
-    };
-    match call {
-        Call::Run => write_listing(f, &output, to)?,
-        Call::Svg => Picture::new(alloc).draw(f, &output, to)?,
-        Call::Check | Call::Replay | Call::Reads => {
-            let is_accepted = judge(alloc, f, env, &output, given, to)?;
-            return Ok(Verdict::of(is_accepted));
-        }
-        _ => return answer_stored(alloc, call, f, env, &output, given, to, err),
     }
-    Ok(Verdict::Accepted)
 }
 
 /// The function that the stored numbers name; nothing if they name none, which a line on `err` then
@@ -608,6 +663,27 @@ pub fn answer_diff<W: Write, E: Write>(
     }
 }
 
+/// Performs a call, except `Text`, about a function that its numbers name.
+fn perform<F: Function, W: Write, E: Write>(
+    alloc: Global,
+    call: Call,
+    f: &F,
+    env: &MachineEnv,
+    given: &Given<'_, '_, '_>,
+    to: &mut W,
+    err: &mut E,
+) -> Result<Verdict, CallError> {
+    match (call, given.output) {
+        (Call::Replay, _) | (Call::Check, Some(_)) => replay(alloc, f, env, given, to, err),
+        (Call::Reads, _) => test_reads(alloc, f, given, to, err),
+        (Call::Stats | Call::StatsJson | Call::Dump, Some(output)) => {
+            report(call, given.function, output, to)?;
+            Ok(Verdict::Accepted)
+        }
+        _ => allocate(alloc, call, f, env, given, to, err),
+    }
+}
+
 /// Performs a call, and writes the result.
 ///
 /// The result is the listing, the text, the picture, counts, upstream's form, the differences
@@ -631,18 +707,8 @@ pub fn answer<W: Write, E: Write>(
         write_text(alloc, given.function, given.output, to)?;
         return Ok(Verdict::Accepted);
     }
-    let Some(f) = function_of(alloc, given, err)? else {
-        return Ok(Verdict::Unusable);
-    };
-    match (call, given.output) {
-        (Call::Replay, _) | (Call::Check, Some(_)) => {
-            replay(alloc, &f, f.machine_env(), given, to, err)
-        }
-        (Call::Reads, _) => test_reads(alloc, &f, given, to, err),
-        (Call::Stats | Call::StatsJson | Call::Dump, Some(output)) => {
-            report(call, given.function, output, to)?;
-            Ok(Verdict::Accepted)
-        }
-        _ => allocate(alloc, call, &f, f.machine_env(), given, to, err),
+    match function_of(alloc, given, err)? {
+        Some(f) => perform(alloc, call, &f, f.machine_env(), given, to, err),
+        None => Ok(Verdict::Unusable),
     }
 }

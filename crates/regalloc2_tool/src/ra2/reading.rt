@@ -1,9 +1,10 @@
 //! Reads the function, the machine and the output from the program's input.
 
 ghost use Rattle.std.specs.Prelude.{Some, IfOk, IfErr, IfSome};
+ghost use Rattle.serde_json.specs.View.{view};
 ghost use Rattle.regalloc2_function.specs.Views.{machine_of, output_of};
 ghost use Rattle.regalloc2_serialize.specs.Tables.{function_of_serializable};
-ghost use Rattle.regalloc2_tool.specs.Ra2.Input.{AreGiven, IsTextOf, IsTextOfPair, TextNamesFitting, IsInputFault, IsPairFault};
+ghost use Rattle.regalloc2_tool.specs.Ra2.Input.{AreGiven, IsPairAt, IsTextOf, IsTextOfPair, IsTextOfValue, TextNamesFitting, IsInputFault, IsPairFault};
 ghost use Rattle.regalloc2_tool.specs.Ra2.Text.{input_text};
 
 use crate::stored_fault::number_of;
@@ -52,6 +53,18 @@ impl fmt::Display for InputError {
     }
 }
 
+/// Reads a JSON value from its text.
+fn value_from<A: Allocator + Copy, R: Read + Drop>(
+    global: Global,
+    alloc: A,
+    input: R,
+) -> Option<Value>
+    ensures { IfSome result (λ v. IsTextOfValue (R.remaining input) (view v)) }
+{
+    let text = io::read_to_string(alloc, input).ok()?;
+    Value::from_str(global, &text).ok()
+}
+
 /// Reads a stored function from its JSON text.
 fn stored_from<A: Allocator + Copy, R: Read + Drop>(
     global: Global,
@@ -60,8 +73,7 @@ fn stored_from<A: Allocator + Copy, R: Read + Drop>(
 ) -> Option<StoredFunction<A>>
     ensures { IfSome result (IsTextOf (R.remaining input)) }
 {
-    let text = io::read_to_string(alloc, input).ok()?;
-    let value = Value::from_str(global, &text).ok()?;
+    let value = value_from(global, alloc, input)?;
     StoredFunction::from_value(alloc, &value).ok()
 }
 
@@ -88,6 +100,22 @@ pub fn function_from<A: Allocator + Copy, R: Read + Drop>(
     Ok(f)
 }
 
+/// The stored function and the stored output of a JSON array of exactly these two.
+fn stored_pair<A: Allocator + Copy>(
+    alloc: A,
+    value: &Value,
+) -> Option<(StoredFunction<A>, StoredOutput<A>)>
+    ensures { IfSome result (λ pair. IsPairAt (view value.now) pair.0 pair.1) }
+{
+    if value.get(2).is_some() {
+        return None;
+    }
+    let (first, second) = (value.get(0)?, value.get(1)?);
+    let output = StoredOutput::from_value(alloc, second).ok()?;
+    let function = StoredFunction::from_value(alloc, first).ok()?;
+    Some((function, output))
+}
+
 /// Reads a stored function and a stored output from the JSON text of an array of exactly these two.
 fn stored_pair_from<A: Allocator + Copy, R: Read + Drop>(
     global: Global,
@@ -96,14 +124,8 @@ fn stored_pair_from<A: Allocator + Copy, R: Read + Drop>(
 ) -> Option<(StoredFunction<A>, StoredOutput<A>)>
     ensures { IfSome result (λ pair. IsTextOfPair (R.remaining input) pair.0 pair.1) }
 {
-    let text = io::read_to_string(alloc, input).ok()?;
-    let value = Value::from_str(global, &text).ok()?;
-    if value.get(2).is_some() {
-        return None;
-    }
-    let output = StoredOutput::from_value(alloc, value.get(1)?).ok()?;
-    let function = StoredFunction::from_value(alloc, value.get(0)?).ok()?;
-    Some((function, output))
+    let value = value_from(global, alloc, input)?;
+    stored_pair(alloc, &value)
 }
 
 /// Reads a function, its machine and an output from the JSON text of an array of exactly a stored

@@ -4,7 +4,7 @@ use super::listed::{SLOT, resolved};
 use super::structures::three_rings;
 use crate::units::report::Report;
 use crate::units::sets::add_multiples;
-use regalloc2_function::{MachineEnv, Output, StoredFault, StoredOutput, is_framed};
+use regalloc2_function::{Function, MachineEnv, Output, StoredFault, StoredOutput, is_framed};
 use regalloc2_names::{PRegSet, RegAllocError};
 use regalloc2_parts::moves::MoveFault;
 use regalloc2_parts::moves::MoveVecWithScratch::{NoScratch, Scratch};
@@ -95,9 +95,9 @@ fn value_of(global: Global, text: &str) -> Result<Value, RegAllocError> {
 }
 
 /// A copy of a function that is structurally valid (`IsFramed`), with a machine without registers.
-fn copied<A: Allocator + Copy>(
+fn copied<A: Allocator + Copy, F: Function>(
     alloc: A,
-    f: &SerializableFunction<A>,
+    f: &F,
 ) -> Result<SerializableFunction<A>, RegAllocError> {
     if !is_framed(f) {
         return Err(RegAllocError::EntryLivein);

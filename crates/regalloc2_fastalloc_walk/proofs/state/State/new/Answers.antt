@@ -6,16 +6,16 @@ use Rattle.std.specs.Prelude.{Err}
 use Rattle.std.proofs.lemmas.Result.{err_from_is_err_and}
 use Rattle.regalloc2_fastalloc_walk.proofs.state.State.new.Goals as goal
 
-pub new-requires-2 : goal.new-requires-2
-new-requires-2 g c = record {
+pub new-requires : goal.new-requires
+new-requires g c = record {
   sizes = each_of_three (λ n. (0 < n) × (n ≤ most_units)) _ _ _
       (omega (arith, c.spillslot_size.ensures.limit.0), omega (arith, c.spillslot_size.ensures.limit.1))
       (omega (arith, c.spillslot_size-2.ensures.limit.0), omega (arith, c.spillslot_size-2.ensures.limit.1))
       (omega (arith, c.spillslot_size-3.ensures.limit.0), omega (arith, c.spillslot_size-3.ensures.limit.1));
 }
 
-pub new-requires-3 : goal.new-requires-3
-new-requires-3 g c = (search rules, λ k r h. (c.requires.machine k).of_class r h)
+pub new-requires-2 : goal.new-requires-2
+new-requires-2 g c = (search rules, λ k r h. (c.requires.machine k).of_class r h)
 
 pub returns-clause-lrus : goal.returns-clause-lrus
 returns-clause-lrus g c = λ class. ring_is c.in_ok-registers.registers c.in_ok-registers.ensures.lrus class
@@ -23,7 +23,7 @@ returns-clause-lrus g c = λ class. ring_is c.in_ok-registers.registers c.in_ok-
 -- memory is out
 pub returns-in_err-places : goal.returns-in_err-places
 returns-in_err-places g c =
-    let e = err_from_is_err_and c.from_residual.result c.from_residual.ensures.1 in
+    let e = err_from_is_err_and c.from_residual-in_err-places.result c.from_residual-in_err-places.ensures.1 in
     record {
       places = rw e.1 tt;
       slots = rw e.1 tt;
@@ -71,7 +71,7 @@ returns-in_err-registers g c =
 
 pub returns-in_err-edits : goal.returns-in_err-edits
 returns-in_err-edits g c =
-    let e = err_from_is_err_and c.from_residual-in_err-edits.result c.from_residual-in_err-edits.ensures.1 in
+    let e = err_from_is_err_and c.from_residual.result c.from_residual.ensures.1 in
     record {
       places = rw e.1 tt;
       slots = rw e.1 tt;

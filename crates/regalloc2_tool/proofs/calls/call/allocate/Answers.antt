@@ -5,12 +5,7 @@ use Rattle.regalloc2_tool.proofs.calls.call.allocate.Goals as goal
 pub run-requires-clause-machine : goal.run-requires-clause-machine
 run-requires-clause-machine g c = c.if-not-machine_fits.ensures.0 refl
 
-pub write_listing-requires-clause-blocks : goal.write_listing-requires-clause-blocks
-write_listing-requires-clause-blocks g c =
-    let tested = c.in-Ok.ensures.tested in
-    λ b less. ((tested.follow b less).0, end_within (g.F.Function.function c.args.f.now) tested.follow b less)
-
-pub draw-requires-clause-blocks : goal.draw-requires-clause-blocks
-draw-requires-clause-blocks g c =
+pub show-requires-clause-blocks : goal.show-requires-clause-blocks
+show-requires-clause-blocks g c =
     let tested = c.in-Ok.ensures.tested in
     λ b less. ((tested.follow b less).0, end_within (g.F.Function.function c.args.f.now) tested.follow b less)

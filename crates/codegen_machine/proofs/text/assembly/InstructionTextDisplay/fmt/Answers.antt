@@ -1,15 +1,6 @@
-use Rattle.std.proofs.Common.{append_assoc, refl}
+use Rattle.std.proofs.Common.{refl}
 use Rattle.std.proofs.Output.{has_written_of_eq}
 use Rattle.codegen_machine.proofs.text.assembly.InstructionTextDisplay.fmt.Goals as goal
-
-pub returns-in-Clear : goal.returns-in-Clear
-returns-in-Clear c = λ c'. record { writes = λ plain ok. rw c'.in-Clear.is (c'.fmt.ensures.writes plain ok); styled = tt }
-
-pub returns-in-Move : goal.returns-in-Move
-returns-in-Move c = λ c'. record { writes = λ plain ok. rw c'.in-Move.is (c'.fmt-in-Move.ensures.writes plain ok); styled = tt }
-
-pub returns-in-Load : goal.returns-in-Load
-returns-in-Load c = λ c'. record { writes = λ plain ok. rw c'.in-Load.is (c'.fmt-in-Load.ensures.writes plain ok); styled = tt }
 
 pub returns-in-Compute : goal.returns-in-Compute
 returns-in-Compute c = λ c'. record { writes = λ plain ok. rw (c'.in-Compute.is, ← c'.operator_name-name.ensures) (c'.fmt-in-Compute.ensures.writes plain ok); styled = tt }
@@ -41,11 +32,5 @@ returns-in-Write c = λ c'. record { writes = λ plain ok. rw c'.in-Write.is (c'
 pub returns-in-Guard : goal.returns-in-Guard
 returns-in-Guard c = λ c'. record { writes = λ plain ok. rw c'.in-Guard.is (c'.fmt-in-Guard.ensures.writes plain ok); styled = tt }
 
-pub returns-in-Jump : goal.returns-in-Jump
-returns-in-Jump c = λ c'. record { writes = λ plain ok. has_written_of_eq _ _ _ _ _ (rw c'.in-Jump.is (simp append_assoc)) (c'.write-in-Jump.ensures.writes plain ok); styled = tt }
-
-pub returns-in-Return : goal.returns-in-Return
-returns-in-Return c = λ c'. record { writes = λ plain ok. has_written_of_eq _ _ _ _ _ (rw c'.in-Return.is (simp append_assoc)) (c'.write-in-Return.ensures.writes plain ok); styled = tt }
-
 pub returns-in-Test : goal.returns-in-Test
-returns-in-Test c = λ c'. record { writes = λ plain ok. has_written_of_eq _ _ _ _ _ (rw c'.in-Test.is refl) (c'.write-in-Test.ensures.writes plain ok); styled = tt }
+returns-in-Test c = λ c'. record { writes = λ plain ok. has_written_of_eq _ _ _ _ _ (rw c'.in-Test.is refl) (c'.write.ensures.writes plain ok); styled = tt }

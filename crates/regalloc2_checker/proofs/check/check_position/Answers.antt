@@ -1,0 +1,37 @@
+use Rattle.std.proofs.lemmas.Result.{IfOk-from_err}
+use Rattle.std.proofs.Common.{◌≡◌, sym, arith}
+use Rattle.std.specs.Prelude.{true}
+use Rattle.regalloc2_names.specs.Register.{VirtualRegister}
+use Rattle.regalloc2_names.specs.Place.{Place}
+use Rattle.regalloc2_checker_facts.specs.TableFacts.{facts_now}
+use Rattle.regalloc2_checker_facts.specs.Report.{invalid_operand}
+use Rattle.regalloc2_checker_facts.proofs.OperandErrors.{fine_more, fine_of, judged_some, not_so}
+use Rattle.regalloc2_checker.proofs.check.check_position.Goals as goal
+
+pub loop-k-init : goal.loop-k-init
+loop-k-init g c = λ env h j less at. absurd (omega (arith, less))
+
+pub loop-k-preserved-then-not-is_judged_at : goal.loop-k-preserved-then-not-is_judged_at
+loop-k-preserved-then-not-is_judged_at g c = λ env h.
+    fine_more env c.args.at.now.operands.now c.args.at.now.places.now c.args.position
+    (λ (p : Place) (v : VirtualRegister). facts_now c.args.values.now p v ≡ true) c.loop-k.k (c.loop-k.invariant env h)
+    (λ at. absurd (not_so _ _ (c.is_judged_at.ensures invalid_operand) c.if-not-is_judged_at.true at))
+
+pub returns-then-is_some : goal.returns-then-is_some
+returns-then-is_some g c = λ env h.
+    judged_some env c.args.at.now.inst c.args.at.now.operands.now c.args.at.now.places.now c.args.position
+    (λ (p : Place) (v : VirtualRegister). facts_now c.args.values.now p v ≡ true) c.loop-k.k c.in_ok-fault.fault (sym c.if-is_some.ensures)
+    c.loop-k-test.true ((c.is_judged_at.ensures invalid_operand).0 c.if-not-is_judged_at.false) (c.loop-k.invariant env h)
+    (c.in_ok-fault.ensures env h)
+
+pub loop-k-preserved : goal.loop-k-preserved
+loop-k-preserved g c = λ env h.
+    fine_more env c.args.at.now.operands.now c.args.at.now.places.now c.args.position
+    (λ (p : Place) (v : VirtualRegister). facts_now c.args.values.now p v ≡ true) c.loop-k.k (c.loop-k.invariant env h)
+    (λ at. fine_of _ _ c.in_ok-fault.fault (sym c.if-is_some.ensures) (c.in_ok-fault.ensures env h))
+
+pub returns : goal.returns
+returns g c = λ env h k less at. c.loop-k.invariant env h k (omega (arith, less, c.loop-k-test.false)) at
+
+pub returns-in_err-fault : goal.returns-in_err-fault
+returns-in_err-fault g c = IfOk-from_err c.from_residual.result _ c.from_residual.ensures.0

@@ -1,0 +1,87 @@
+use Rattle.std.proofs.Common.{◌≡◌, map, sym, subst, List, ℕ}
+use Rattle.std.specs.Prelude.{All}
+use Rattle.regalloc2_names.specs.Operand.{OperandValue}
+use Rattle.regalloc2_names.specs.Place.{Place}
+use Rattle.regalloc2_function.specs.FunctionValue.{FunctionValue}
+use Rattle.regalloc2_function.specs.OutputValue.{MoveValue}
+use Rattle.regalloc2_function.specs.AllocatedRun.{moves_at}
+use Rattle.regalloc2_checker_facts.specs.Listing.{listed_move}
+use Rattle.regalloc2_checker_facts.specs.TableFacts.{facts_now, IsListed, IsListedVReg, IsMissingUnlisted}
+use Rattle.regalloc2_checker_facts.proofs.NamedPlaces.{no-missing, moves-listed, operands-listed}
+use Rattle.regalloc2_checker_facts.proofs.TransferFollowsFacts.{IsReadAt, after_run, listed_moves, listed_places}
+use Rattle.std.proofs.lemmas.Result.{err_from_is_err_and}
+use Rattle.regalloc2_checker.proofs.transfer_block.transfer_inst.Goals as goal
+
+pub returns-clause-now : goal.returns-clause-now
+returns-clause-now g c =
+    let f : FunctionValue = g.F.Function.function c.args.f.now in
+    let here : IsReadAt f g.o (record { block = c.args.block; inst = c.args.inst }) (map listed_move c.moves-moves.result.now)
+    c.places-places.result.now c.inst_operands-operands.result.now = record {
+      moves = listed_moves f g.o c.args.listing.now c.args.block c.args.inst c.moves-moves.result.now c.requires.1.1.0 c.moves-moves.ensures c.requires.1.1.1.1.0
+          c.requires.1.1.1.1.1.0 c.requires.1.1.1.1.1.1.0;
+      places = listed_places f g.o c.args.listing.now c.args.inst c.places-places.result.now c.requires.1.1.0 c.places-places.ensures;
+      operands = c.inst_operands-operands.ensures;
+    } in
+    after_run f g.o (record { block = c.args.block; inst = c.args.inst }) (facts_now c.args.values.now) (facts_now c.go_to_early.new.values)
+    (facts_now c.go_to_late.new.values) (map listed_move c.moves-moves.result.now) c.places-places.result.now
+    c.inst_operands-operands.result.now c.inst_clobbers.result here c.inst_clobbers.ensures c.in_ok-go_to_early.ensures.now
+    c.in_ok-go_to_late.ensures.now
+
+pub go_to_early-requires-clause-missing : goal.go_to_early-requires-clause-missing
+go_to_early-requires-clause-missing g c = no-missing (g.F.Function.function c.args.f.now) g.o c.args.values.now.places c.requires.1.1.1.0.places
+
+pub go_to_early-requires-clause-listed : goal.go_to_early-requires-clause-listed
+go_to_early-requires-clause-listed g c =
+    let f : FunctionValue = g.F.Function.function c.args.f.now in
+    let moves : map listed_move c.moves-moves.result.now ≡ moves_at f g.o (record { block = c.args.block; inst = c.args.inst }) =
+    listed_moves f g.o c.args.listing.now c.args.block c.args.inst c.moves-moves.result.now c.requires.1.1.0 c.moves-moves.ensures c.requires.1.1.1.1.0
+    c.requires.1.1.1.1.1.0 c.requires.1.1.1.1.1.1.0 in
+    subst (λ (ms : List MoveValue). All (λ m. IsListed c.args.values.now.places m.to) ms) (sym moves)
+    (moves-listed f g.o c.args.values.now.places (record { block = c.args.block; inst = c.args.inst }) c.requires.1.1.1.0.places)
+
+pub inst_operands-operands-requires : goal.inst_operands-operands-requires
+inst_operands-operands-requires g c = c.requires.1.1.1.1.1.1.1
+
+pub inst_clobbers-requires : goal.inst_clobbers-requires
+inst_clobbers-requires g c = c.requires.1.1.1.1.1.1.1
+
+pub go_to_late-requires-clause-listed : goal.go_to_late-requires-clause-listed
+go_to_late-requires-clause-listed g c =
+    subst (λ (ps : List ℕ). All (IsListed ps) c.places-places.result.now) (sym c.in_ok-go_to_early.ensures.kept.places)
+    (subst (λ (qs : List Place). All (IsListed c.args.values.now.places) qs)
+    (sym (listed_places (g.F.Function.function c.args.f.now) g.o c.args.listing.now c.args.inst c.places-places.result.now c.requires.1.1.0 c.places-places.ensures))
+    (operands-listed (g.F.Function.function c.args.f.now) g.o c.args.values.now.places c.args.inst c.requires.1.1.1.0.places))
+
+pub go_to_late-requires-clause-vregs : goal.go_to_late-requires-clause-vregs
+go_to_late-requires-clause-vregs g c =
+    subst (λ (vs : List ℕ). All (λ (op : OperandValue). IsListedVReg vs op.vreg) c.inst_operands-operands.result.now)
+    (sym c.in_ok-go_to_early.ensures.kept.vregs)
+    (subst (λ (os : List OperandValue). All (λ (op : OperandValue). IsListedVReg c.args.values.now.vregs op.vreg) os) (sym c.inst_operands-operands.ensures)
+    (c.requires.1.1.1.0.vregs.operands c.args.inst c.requires.1.1.1.1.1.1.1))
+
+pub go_to_late-requires-clause-missing : goal.go_to_late-requires-clause-missing
+go_to_late-requires-clause-missing g c =
+    subst IsMissingUnlisted (sym c.in_ok-go_to_early.ensures.kept.places)
+    (no-missing (g.F.Function.function c.args.f.now) g.o c.args.values.now.places c.requires.1.1.1.0.places)
+
+pub moves-moves-requires-clause-inst : goal.moves-moves-requires-clause-inst
+moves-moves-requires-clause-inst g c = rw c.requires.1.1.0.moves.size c.requires.1.1.1.1.1.1.1
+
+pub places-places-requires-clause-inst : goal.places-places-requires-clause-inst
+places-places-requires-clause-inst g c = rw c.requires.1.1.0.one_offset_each c.requires.1.1.1.1.1.1.1
+
+pub returns-in_err-go_to_early-clause-kept : goal.returns-in_err-go_to_early-clause-kept
+returns-in_err-go_to_early-clause-kept g c =
+    let p = err_from_is_err_and c.from_residual.result c.from_residual.ensures.1 in rw p.1 tt
+
+pub returns-in_err-go_to_early-clause-now : goal.returns-in_err-go_to_early-clause-now
+returns-in_err-go_to_early-clause-now g c =
+    let p = err_from_is_err_and c.from_residual.result c.from_residual.ensures.1 in rw p.1 tt
+
+pub returns-in_err-go_to_late-clause-kept : goal.returns-in_err-go_to_late-clause-kept
+returns-in_err-go_to_late-clause-kept g c =
+    let p = err_from_is_err_and c.from_residual-in_err-go_to_late.result c.from_residual-in_err-go_to_late.ensures.1 in rw p.1 tt
+
+pub returns-in_err-go_to_late-clause-now : goal.returns-in_err-go_to_late-clause-now
+returns-in_err-go_to_late-clause-now g c =
+    let p = err_from_is_err_and c.from_residual-in_err-go_to_late.result c.from_residual-in_err-go_to_late.ensures.1 in rw p.1 tt

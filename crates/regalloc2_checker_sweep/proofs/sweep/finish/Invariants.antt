@@ -1,4 +1,0 @@
-use Rattle.regalloc2_checker_sweep.proofs.sweep.finish.Given as goal
-
-abbrev pub ghost-check_block : goal.ghost-check_block
-ghost-check_block g a = g.o
