@@ -7,11 +7,11 @@ use Rattle.regalloc2_function.specs.OutputValue.{OutputValue}
 use Rattle.regalloc2_function.specs.Faithful.{IsFaithful}
 use Rattle.regalloc2_fastalloc.specs.Promise.{IsAllocation}
 use Rattle.regalloc2_fastalloc.specs.ErrorReason.{PassesAllChecks}
-use Rattle.regalloc2_checker_facts.specs.declared.errors.CheckerError.{CheckerError}
-use Rattle.regalloc2_checker_facts.specs.declared.errors.CheckerError.TheVariants.{Memory}
+use Rattle.regalloc2_checker.specs.declared.errors.CheckerError.{CheckerError}
+use Rattle.regalloc2_checker.specs.declared.errors.CheckerError.TheVariants.{Memory}
 use Rattle.regalloc2_checker.specs.declared.errors.CheckerErrors.{CheckerErrors}
 use Rattle.regalloc2_checker.specs.ErrorsFound.{errors_of}
-use Rattle.regalloc2_checker_facts.specs.Report.{IsReport}
+use Rattle.regalloc2_checker.specs.Report.{IsReport}
 use Rattle.regalloc2.specs.declared.checked.CheckedRunError.{CheckedRunError}
 use Rattle.regalloc2.specs.declared.checked.CheckedRunError.TheVariants.{Faults, Unjudged}
 use Rattle.regalloc2.specs.Judged.{IsCheckedReason, IsFault}

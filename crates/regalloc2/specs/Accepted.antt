@@ -7,8 +7,8 @@ use Rattle.regalloc2_function.specs.SourceRun.{IsWrittenFirst}
 use Rattle.regalloc2_function.specs.Faithful.{IsFaithful}
 use Rattle.regalloc2_function.specs.WellFormed.{IsWellFormed}
 use Rattle.regalloc2_fastalloc.specs.Promise.{RunsAsTheFunction}
-use Rattle.regalloc2_checker_facts.specs.declared.errors.CheckerError.{CheckerError}
-use Rattle.regalloc2_checker_facts.specs.Report.{IsReport}
+use Rattle.regalloc2_checker.specs.declared.errors.CheckerError.{CheckerError}
+use Rattle.regalloc2_checker.specs.Report.{IsReport}
 
 -- what `run` guarantees of an output, as far as the checker requires it
 pub record IsPromised (f : FunctionValue) (env : MachineValue) (out : OutputValue) : Type 0 where

@@ -7,7 +7,7 @@ use Rattle.regalloc2_function.specs.Faithful.{IsFaithful}
 use Rattle.regalloc2_fastalloc.specs.Promise.{IsAllocation}
 use Rattle.regalloc2_fastalloc.specs.ErrorReason.{IsReason, PassesAllChecks}
 use Rattle.regalloc2_checker.specs.ErrorsFound.{errors_of}
-use Rattle.regalloc2_checker_facts.specs.Report.{IsReport}
+use Rattle.regalloc2_checker.specs.Report.{IsReport}
 use Rattle.regalloc2.specs.declared.checked.CheckedRunError.{CheckedRunError}
 use Rattle.regalloc2.specs.declared.checked.CheckedRunError.TheVariants.{Refused, Faults, Unjudged}
 

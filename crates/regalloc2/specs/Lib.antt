@@ -45,18 +45,18 @@ pub use Rattle.regalloc2_fastalloc_state.specs.Validate.Validated
 pub use Rattle.regalloc2_fastalloc.specs.Promise
 pub use Rattle.regalloc2_fastalloc.specs.ErrorReason
 pub use Rattle.regalloc2_fastalloc.specs.Lending
-pub use Rattle.regalloc2_checker_facts.specs.Facts
-pub use Rattle.regalloc2_checker_facts.specs.Fixpoint
+pub use Rattle.regalloc2_checker.specs.Facts
+pub use Rattle.regalloc2_checker.specs.Fixpoint
 pub use Rattle.regalloc2_checker.specs.ErrorsFound
 pub use Rattle.regalloc2_checker.specs.Prepared
-pub use Rattle.regalloc2_checker_facts.specs.Report
-pub use Rattle.regalloc2_checker_facts.specs.Text as FaultText
-pub use Rattle.regalloc2_shape.specs.Definitions
-pub use Rattle.regalloc2_shape.specs.Leaves
-pub use Rattle.regalloc2_shape.specs.Listed as ListedBlocks
-pub use Rattle.regalloc2_shape.specs.Numbers
-pub use Rattle.regalloc2_shape.specs.Tables
-pub use Rattle.regalloc2_shape.specs.Ways
+pub use Rattle.regalloc2_checker.specs.Report
+pub use Rattle.regalloc2_checker.specs.Text as FaultText
+pub use Rattle.regalloc2_function.specs.Definitions
+pub use Rattle.regalloc2_function.specs.Leaves
+pub use Rattle.regalloc2_function.specs.Listed as ListedBlocks
+pub use Rattle.regalloc2_function.specs.Numbers
+pub use Rattle.regalloc2_function.specs.Tables
+pub use Rattle.regalloc2_function.specs.Ways
 pub use Rattle.regalloc2_parts.specs.Computed
 pub use Rattle.regalloc2_parts.specs.Giving
 pub use Rattle.regalloc2_parts.specs.LiveList
@@ -83,5 +83,5 @@ pub use Rattle.regalloc2_names.specs.declared.sets.PRegSet
 pub use Rattle.regalloc2_function.specs.declared.machine.MachineEnv
 pub use Rattle.regalloc2_function.specs.declared.misfit.MachineMisfit
 pub use Rattle.regalloc2_function.specs.declared.listing.Output
-pub use Rattle.regalloc2_checker_facts.specs.declared.errors.CheckerError
+pub use Rattle.regalloc2_checker.specs.declared.errors.CheckerError
 pub use Rattle.regalloc2_checker.specs.declared.errors.CheckerErrors

@@ -10,7 +10,7 @@ ghost use Rattle.regalloc2_function.specs.WellFormed.{IsFramed, IsWellFormed};
 ghost use Rattle.regalloc2_fastalloc.specs.Promise.{IsAllocation};
 ghost use Rattle.regalloc2_fastalloc.specs.ErrorReason.{PassesAllChecks};
 ghost use Rattle.regalloc2_checker.specs.ErrorsFound.{errors_of};
-ghost use Rattle.regalloc2_checker_facts.specs.Report.{IsReport};
+ghost use Rattle.regalloc2_checker.specs.Report.{IsReport};
 ghost use Rattle.regalloc2.specs.Judged.{IsCheckedReason, IsFault};
 
 use regalloc2_checker::{Checker, CheckerError, CheckerErrors};

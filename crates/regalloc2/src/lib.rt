@@ -31,7 +31,7 @@ pub use regalloc2_names::{
     PReg, PRegSet, PRegSetIter, ProgPoint, RegAllocError, RegClass, SpillSlot, VReg,
 };
 pub use regalloc2_parts::moves;
-pub use regalloc2_shape::{cfg, indexset, postorder};
+pub use regalloc2_function::{cfg, indexset, postorder};
 pub use tested::{AllocateError, TestedRunError, allocate, allocate_without_checker, run_tested};
 
 /// The moves of one call.
@@ -55,7 +55,7 @@ pub mod fastalloc {
 /// Tests of what a function defines and reads.
 pub mod ssa {
     pub use regalloc2_analysis::liveness::reads_written;
-    pub use regalloc2_shape::ssa::{test_definitions, validate_ssa};
+    pub use regalloc2_function::ssa::{test_definitions, validate_ssa};
 }
 
 /// A function that is kept in tables, and its builder, for clients that have no type of their own for one.

@@ -9,7 +9,7 @@ use Rattle.regalloc2_names.specs.declared.RegClass.{RegClass}
 use Rattle.regalloc2_names.specs.declared.RegClass.TheVariants.{Int, Float, Vector}
 use Rattle.regalloc2_names.specs.Register.{VirtualRegister, is_vreg, class_code, class_of_code}
 use Rattle.regalloc2_names.specs.RegisterBits.{bits_of_vreg, vreg_of_bits}
-use Rattle.regalloc2_shape.specs.Numbers.{NumberSet, has_number}
+use Rattle.regalloc2_function.specs.Numbers.{NumberSet, has_number}
 use Rattle.regalloc2_semantics.proofs.Cells.{is_vreg-true, is_vreg-same}
 use Rattle.regalloc2_analysis_steps.specs.BlockVRegPairs.{Pair, BlockSets, holds, Gains}
 

@@ -1,7 +1,7 @@
 //! Marks of vregs, by number.
 
 ghost use Rattle.std.specs.Prelude.{◌≡◌, ◌<◌, true, false, slice_index_or};
-ghost use Rattle.regalloc2_shape.specs.MarkedNumbers.{Marks};
+ghost use Rattle.regalloc2_function.specs.MarkedNumbers.{Marks};
 
 use regalloc2_names::VReg;
 

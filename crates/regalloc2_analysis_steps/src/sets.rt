@@ -6,7 +6,7 @@ ghost use Rattle.regalloc2_analysis_steps.specs.BlockVRegPairs.{Gains, Pair, hol
 
 use regalloc2_index::Block;
 use regalloc2_names::VReg;
-use regalloc2_shape::indexset::IndexSet;
+use regalloc2_function::indexset::IndexSet;
 use std::alloc::{AllocError, Allocator};
 use std::marker::Model;
 

@@ -21,7 +21,7 @@ use Rattle.regalloc2_function.specs.declared.serialize.StoredOutput.{StoredOutpu
 use Rattle.regalloc2_function.specs.declared.serialize.StoredFault.{StoredFault}
 use Rattle.regalloc2_function.specs.declared.serialize.StoredFault.TheVariants.{Lengths, Index, Bits, Limit, Memory, Shape}
 use Rattle.regalloc2_serialize.specs.Flat.Flat.{HasLongWord, output_words}
-use Rattle.regalloc2_checker_facts.specs.declared.errors.CheckerError.{CheckerError}
+use Rattle.regalloc2_checker.specs.declared.errors.CheckerError.{CheckerError}
 use Rattle.regalloc2_c.specs.Faults.{IsCheckerVerdict, faults_words, malformed_words}
 use Rattle.regalloc2_c.specs.Status.{allocate_failure, run_failure, write_failure}
 use Rattle.regalloc2_c.specs.Outcome.{IsAllocatedOutput, IsAllocateFailure, IsTestedOutput, IsRunFailure, ResultsIn}

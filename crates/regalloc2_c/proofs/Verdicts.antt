@@ -13,8 +13,8 @@ use Rattle.regalloc2_checker.specs.Cells.{AreCells}
 use Rattle.regalloc2_checker.specs.CellFaults.{IsCellFault}
 use Rattle.regalloc2_checker.specs.declared.cells.CellFault.{CellFault}
 use Rattle.regalloc2_checker.specs.declared.cells.CellFault.TheVariants.{Operand, MoveEnd, OtherClass, Location, Slot, Shared, Memory as CellMemory}
-use Rattle.regalloc2_checker_facts.specs.declared.errors.CheckerError.{CheckerError}
-use Rattle.regalloc2_checker_facts.specs.declared.errors.CheckerError.TheVariants.{MalformedOutput, Memory as CheckerMemory}
+use Rattle.regalloc2_checker.specs.declared.errors.CheckerError.{CheckerError}
+use Rattle.regalloc2_checker.specs.declared.errors.CheckerError.TheVariants.{MalformedOutput, Memory as CheckerMemory}
 use Rattle.regalloc2_function.specs.declared.serialize.StoredOutput.{StoredOutput}
 use Rattle.regalloc2_c.specs.Faults.{IsFaultsTold, IsPrepareFailure, IsErrorsFailure, IsCellsTold, IsCheckerVerdict, IsVerdict, faults_words, malformed_words}
 use Rattle.regalloc2_c.specs.Outcome.{NumbersNameOutput, IsOutput, IsAcceptedOutput, IsCheckFailure, IsNoStoredOutput, NamesNoOutput}

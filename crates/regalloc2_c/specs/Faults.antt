@@ -15,14 +15,14 @@ use Rattle.regalloc2_function.specs.OutputValue.{OutputValue, IsInOrder, place_a
 use Rattle.regalloc2_function.specs.Faithful.{IsFaithful}
 use Rattle.regalloc2_checker.specs.Cells.{AreCells}
 use Rattle.regalloc2_checker.specs.CellFaults.{IsCellFault}
-use Rattle.regalloc2_checker_facts.specs.Report.{IsReport, invalid_operand}
+use Rattle.regalloc2_checker.specs.Report.{IsReport, invalid_operand}
 use Rattle.regalloc2_checker.specs.declared.cells.CellFault.{CellFault}
 use Rattle.regalloc2_checker.specs.declared.cells.CellFault.TheVariants.{Operand, MoveEnd, OtherClass, Location, Slot, Shared, Memory as CellMemory}
-use Rattle.regalloc2_checker_facts.specs.declared.errors.CheckerError.{CheckerError}
-use Rattle.regalloc2_checker_facts.specs.declared.errors.CheckerError.TheVariants.{MissingAllocation, UnknownValueInAllocation, ConflictedValueInAllocation}
-use Rattle.regalloc2_checker_facts.specs.declared.errors.CheckerError.TheVariants.{IncorrectValuesInAllocation, ConstraintViolated, AllocationIsNotReg}
-use Rattle.regalloc2_checker_facts.specs.declared.errors.CheckerError.TheVariants.{AllocationIsNotFixedReg, AllocationIsNotReuse, AllocationIsNotStack}
-use Rattle.regalloc2_checker_facts.specs.declared.errors.CheckerError.TheVariants.{StackToStackMove, AllocationOutsideLimit, MalformedOutput, Memory}
+use Rattle.regalloc2_checker.specs.declared.errors.CheckerError.{CheckerError}
+use Rattle.regalloc2_checker.specs.declared.errors.CheckerError.TheVariants.{MissingAllocation, UnknownValueInAllocation, ConflictedValueInAllocation}
+use Rattle.regalloc2_checker.specs.declared.errors.CheckerError.TheVariants.{IncorrectValuesInAllocation, ConstraintViolated, AllocationIsNotReg}
+use Rattle.regalloc2_checker.specs.declared.errors.CheckerError.TheVariants.{AllocationIsNotFixedReg, AllocationIsNotReuse, AllocationIsNotStack}
+use Rattle.regalloc2_checker.specs.declared.errors.CheckerError.TheVariants.{StackToStackMove, AllocationOutsideLimit, MalformedOutput, Memory}
 use Rattle.regalloc2_steps.specs.Faults.{operand_words}
 use Rattle.regalloc2_c.specs.Payload.{none, as_word}
 use Rattle.regalloc2_c.specs.declared.failure.Failure.{Failure}

@@ -31,7 +31,7 @@ use Rattle.regalloc2_c.specs.Status.{failure_number, columns_failure}
 use Rattle.regalloc2_c.specs.Handing.{IsHandedOut}
 use Rattle.regalloc2_c.specs.Faults.{AreFaultsOf, faults_words}
 use Rattle.regalloc2.specs.Report.{IsReport}
-use Rattle.regalloc2_checker_facts.specs.declared.errors.CheckerError.{CheckerError}
+use Rattle.regalloc2_checker.specs.declared.errors.CheckerError.{CheckerError}
 use Rattle.regalloc2_text.specs.declared.cursor.error.TextError.{TextError}
 use Rattle.regalloc2_text.specs.declared.cursor.error.TextError.TheVariants.{Fault as TextFault, Memory as TextMemory}
 use Rattle.regalloc2_c.specs.Payload.{as_word}

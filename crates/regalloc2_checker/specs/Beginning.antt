@@ -2,7 +2,7 @@
 use Rattle.std.specs.Prelude.{ℕ, ◌≡◌, ◌<◌, ◌⊎◌, ◌∷◌, [], Bool, List, IsPermutation, length, get_or, nat_eq}
 use Rattle.std.specs.declared.cmp.Reverse.{Reverse}
 use Rattle.regalloc2_function.specs.FunctionValue.{FunctionValue}
-use Rattle.regalloc2_checker_facts.specs.Propagation.{IsQueue, queued_block}
+use Rattle.regalloc2_checker.specs.Propagation.{IsQueue, queued_block}
 
 -- the entry alone is marked as reached and as queued, and at most its entry is in the queue
 pub record IsEntryQueued (f : FunctionValue) (reached marks : List Bool) (queued : List (Reverse (ℕ × ℕ))) : Type 0 where

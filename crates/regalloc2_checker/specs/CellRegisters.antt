@@ -6,7 +6,7 @@ use Rattle.regalloc2_names.specs.Register.{Register, class_code}
 use Rattle.regalloc2_names.specs.RegisterSet.{has_register}
 use Rattle.regalloc2_names.specs.Place.{Place, NoPlace, InRegister, InSlot}
 use Rattle.regalloc2_function.specs.Machine.{MachineValue, empty_set, is_allocatable}
-use Rattle.regalloc2_checker_facts.specs.CheckInputs.{AreStackSlots}
+use Rattle.regalloc2_checker.specs.CheckInputs.{AreStackSlots}
 use Rattle.regalloc2_checker.specs.declared.cell_registers.CellRegisters.{CellRegisters}
 
 -- a place is one of some registers

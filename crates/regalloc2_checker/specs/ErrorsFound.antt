@@ -1,6 +1,6 @@
 -- What a check found.
 use Rattle.std.specs.Prelude.{List}
-use Rattle.regalloc2_checker_facts.specs.declared.errors.CheckerError.{CheckerError}
+use Rattle.regalloc2_checker.specs.declared.errors.CheckerError.{CheckerError}
 use Rattle.regalloc2_checker.specs.declared.errors.CheckerErrors.{CheckerErrors}
 
 -- the errors, in their order

@@ -7,13 +7,13 @@ ghost use Rattle.regalloc2_function.specs.OutputValue.{OutputValue, IsInOrder};
 ghost use Rattle.regalloc2_function.specs.Views.{output_of, machine_of};
 ghost use Rattle.regalloc2_function.specs.WellFormed.{IsFramed};
 ghost use Rattle.regalloc2_function.specs.Faithful.{IsFaithful};
-ghost use Rattle.regalloc2_checker_facts.specs.Report.{IsReport};
+ghost use Rattle.regalloc2_checker.specs.Report.{IsReport};
 ghost use Rattle.regalloc2_checker.specs.FramedIsProp.{framed-once};
 
 use crate::errors::CheckerErrors;
 use crate::find_errors::find_errors;
-use regalloc2_checker_facts::errors::CheckerError;
-use regalloc2_checker_facts::handle::handle_output;
+use crate::errors::CheckerError;
+use crate::handle::handle_output;
 use regalloc2_checker_steps::verdict::{alone, refuse_unless, verdict};
 use regalloc2_function::{Function, MachineEnv, Output};
 use std::alloc::{Allocator, Global};

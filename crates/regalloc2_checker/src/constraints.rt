@@ -5,11 +5,11 @@ ghost use Rattle.regalloc2_names.specs.Place.{Place, NoPlace};
 ghost use Rattle.regalloc2_function.specs.Machine.{MachineValue, IsStackPlace, IsPlainRegister};
 ghost use Rattle.regalloc2_function.specs.Faithful.{Meets, IsNumberedBelow};
 ghost use Rattle.regalloc2_function.specs.Views.{machine_of};
-ghost use Rattle.regalloc2_checker_facts.specs.CheckInputs.{AreStackSlots};
-ghost use Rattle.regalloc2_checker_facts.specs.Report.{IsConstraintFault};
+ghost use Rattle.regalloc2_checker.specs.CheckInputs.{AreStackSlots};
+ghost use Rattle.regalloc2_checker.specs.Report.{IsConstraintFault};
 
-use regalloc2_checker_facts::errors::CheckerError;
-use regalloc2_checker_facts::lookup::place_at;
+use crate::errors::CheckerError;
+use crate::lookup::place_at;
 use regalloc2_checker_steps::operands::is_reused;
 use regalloc2_function::MachineEnv;
 use regalloc2_index::Inst;

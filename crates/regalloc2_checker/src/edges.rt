@@ -4,17 +4,17 @@ ghost use Rattle.std.specs.Prelude.{◌≡◌, ◌≢◌, ◌<◌, ◌≤◌, �
 ghost use Rattle.std.specs.BinaryHeap.{heap_items, heap_len};
 ghost use Rattle.regalloc2_function.specs.FunctionValue.{block_at};
 ghost use Rattle.regalloc2_function.specs.WellFormed.{IsFramed};
-ghost use Rattle.regalloc2_checker_tables.specs.Showing.{table_count, AreTablesKept};
-ghost use Rattle.regalloc2_checker_facts.specs.Propagation.{IsQueue, AreSized};
-ghost use Rattle.regalloc2_checker_facts.specs.Swept.{done_at, IsPassedOver};
-ghost use Rattle.regalloc2_checker_facts.specs.TableFacts.{facts_now, facts_table, AreNamedVRegs};
-ghost use Rattle.regalloc2_checker_facts.specs.Tables.{BlockView, weight, ListTheSame, IsMeet, views};
-ghost use Rattle.regalloc2_checker_facts.specs.Propagation.{over};
+ghost use Rattle.regalloc2_checker.specs.Showing.{table_count, AreTablesKept};
+ghost use Rattle.regalloc2_checker.specs.Propagation.{IsQueue, AreSized};
+ghost use Rattle.regalloc2_checker.specs.Swept.{done_at, IsPassedOver};
+ghost use Rattle.regalloc2_checker.specs.TableFacts.{facts_now, facts_table, AreNamedVRegs};
+ghost use Rattle.regalloc2_checker.specs.Tables.{BlockView, weight, ListTheSame, IsMeet, views};
+ghost use Rattle.regalloc2_checker.specs.Propagation.{over};
 
 use crate::transfer::take_arguments;
-use regalloc2_checker_facts::queue::Queue;
+use crate::queue::Queue;
 use regalloc2_checker_steps::edges::edge_arguments;
-use regalloc2_checker_tables::PassingTables;
+use crate::PassingTables;
 use regalloc2_function::Function;
 use regalloc2_index::Block;
 use std::alloc::{AllocError, Allocator};

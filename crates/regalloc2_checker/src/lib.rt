@@ -1,5 +1,5 @@
-//! A checker of register allocations: the facts after each instruction and edge, the errors of all blocks that a path reaches, and
-//! the faults of the places that an output names.
+//! A checker of register allocations: which vregs each place holds, by block; the facts after each instruction and edge; the errors
+//! of all blocks that a path reaches; and the faults of the places that an output names.
 #![tactic(auto)]
 
 mod analyze;
@@ -11,15 +11,28 @@ mod constraints;
 mod edges;
 mod errors;
 mod find_errors;
+mod handle;
+mod laws;
+mod listing;
+pub mod lookup;
+mod named_slots;
+mod names;
+mod number_list;
+mod order;
+mod passing;
+mod place_list;
+mod queue;
 mod slots;
 mod sweep;
+mod tables;
+mod texts;
 mod transfer;
 mod transfer_block;
+mod vregs_in;
 
 pub use cells::{CellFault, places_are_cells, test_cells};
 pub use checker::{Checker, check_output};
-pub use errors::CheckerErrors;
-pub use regalloc2_checker_facts::errors::CheckerError;
-pub use regalloc2_checker_facts::{
-    FaultLine, finds_no_error_where_faithful, stands_for_every_path,
-};
+pub use errors::{CheckerError, CheckerErrors};
+pub use laws::{finds_no_error_where_faithful, stands_for_every_path};
+pub use passing::PassingTables;
+pub use texts::FaultLine;

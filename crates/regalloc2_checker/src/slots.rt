@@ -2,9 +2,9 @@
 
 ghost use Rattle.std.specs.Prelude.{◌≡◌, OnOk};
 ghost use Rattle.regalloc2_names.specs.Place.{InSlot};
-ghost use Rattle.regalloc2_checker_facts.specs.NamedSlots.{AddsSlots};
+ghost use Rattle.regalloc2_checker.specs.NamedSlots.{AddsSlots};
 
-use regalloc2_checker_facts::named_slots::NamedSlots;
+use crate::named_slots::NamedSlots;
 use regalloc2_checker_steps::slots::slot_of;
 use regalloc2_names::Allocation;
 use std::alloc::{AllocError, Allocator};

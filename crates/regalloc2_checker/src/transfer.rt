@@ -3,16 +3,16 @@
 ghost use Rattle.std.specs.Prelude.{◌≡◌, ◌<◌, ◌↔◌, ◌∷◌, [], ℕ, OnOk, IfOk, All, true, false, map, not, ◌&&◌, if◌then◌else◌, length, min, take, ◌≤◌};
 ghost use Rattle.regalloc2_names.specs.Operand.{is_def, is_late};
 ghost use Rattle.regalloc2_function.specs.OutputValue.{place_at};
-ghost use Rattle.regalloc2_checker_tables.specs.Holding.{is_in};
-ghost use Rattle.regalloc2_checker_tables.specs.Showing.{shows_now, AreTablesKept};
-ghost use Rattle.regalloc2_checker_facts.specs.Facts.{placed, defined, facts_after_moves, facts_after_early_defs, facts_after_defs, facts_after_clobbers};
-ghost use Rattle.regalloc2_checker_facts.specs.TableFacts.{facts_now, IsMissingUnlisted, IsListed, IsListedVReg};
-ghost use Rattle.regalloc2_checker_facts.specs.Listing.{listed_move};
-ghost use Rattle.regalloc2_checker_facts.specs.Renamed.{facts_renamed, HoldersAre, AreHoldersOf, AreOthersKept, given_to, facts_forgotten, facts_without};
+ghost use Rattle.regalloc2_checker.specs.Holding.{is_in};
+ghost use Rattle.regalloc2_checker.specs.Showing.{shows_now, AreTablesKept};
+ghost use Rattle.regalloc2_checker.specs.Facts.{placed, defined, facts_after_moves, facts_after_early_defs, facts_after_defs, facts_after_clobbers};
+ghost use Rattle.regalloc2_checker.specs.TableFacts.{facts_now, IsMissingUnlisted, IsListed, IsListedVReg};
+ghost use Rattle.regalloc2_checker.specs.Listing.{listed_move};
+ghost use Rattle.regalloc2_checker.specs.Renamed.{facts_renamed, HoldersAre, AreHoldersOf, AreOthersKept, given_to, facts_forgotten, facts_without};
 
-use regalloc2_checker_facts::lookup::{place_at, position, vreg_position};
+use crate::lookup::{place_at, position, vreg_position};
 use regalloc2_checker_steps::moves::{MoveEffect, move_effect};
-use regalloc2_checker_tables::PassingTables;
+use crate::PassingTables;
 use regalloc2_function::Edit;
 use regalloc2_names::{Allocation, Operand, PRegSet, ProgPoint, VReg};
 use std::alloc::{AllocError, Allocator};

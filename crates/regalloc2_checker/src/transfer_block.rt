@@ -4,15 +4,15 @@ ghost use Rattle.std.specs.Prelude.{◌≡◌, ◌<◌, ◌≤◌, ◌-◌, OnOk
 ghost use Rattle.regalloc2_function.specs.FunctionValue.{block_at};
 ghost use Rattle.regalloc2_function.specs.OutputValue.{OutputValue};
 ghost use Rattle.regalloc2_function.specs.WellFormed.{IsFramed};
-ghost use Rattle.regalloc2_checker_tables.specs.Showing.{AreTablesKept};
-ghost use Rattle.regalloc2_checker_facts.specs.Facts.{facts_after};
-ghost use Rattle.regalloc2_checker_facts.specs.Fixpoint.{facts_within};
-ghost use Rattle.regalloc2_checker_facts.specs.TableFacts.{facts_now, AreNamed};
-ghost use Rattle.regalloc2_checker_facts.specs.Listing.{IsListing};
+ghost use Rattle.regalloc2_checker.specs.Showing.{AreTablesKept};
+ghost use Rattle.regalloc2_checker.specs.Facts.{facts_after};
+ghost use Rattle.regalloc2_checker.specs.Fixpoint.{facts_within};
+ghost use Rattle.regalloc2_checker.specs.TableFacts.{facts_now, AreNamed};
+ghost use Rattle.regalloc2_checker.specs.Listing.{IsListing};
 
 use crate::transfer::{go_to_early, go_to_late};
-use regalloc2_checker_facts::listing::Listing;
-use regalloc2_checker_tables::PassingTables;
+use crate::listing::Listing;
+use crate::PassingTables;
 use regalloc2_function::Function;
 use regalloc2_index::{Block, Inst};
 use std::alloc::{AllocError, Allocator};

@@ -10,7 +10,7 @@ use Rattle.std.proofs.lemmas.List.{get_or-append_right, get_or_append_left, get_
 use Rattle.std.proofs.Math.ListN.{length-append}
 use Rattle.std.proofs.Math.Bool.{and-false}
 use Rattle.regalloc2_index.proofs.Bools.{not_both}
-use Rattle.regalloc2_shape.specs.Numbers.{NumberSet, has_number, word_of, times_listed}
+use Rattle.regalloc2_function.specs.Numbers.{NumberSet, has_number, word_of, times_listed}
 use Rattle.regalloc2_checker_sets.specs.EntrySets.{has_bits, is_member, set_of_one, sets_of_one, all_sets, AreMore, IsSetOf, IsLess, ListsBits}
 use Rattle.regalloc2_checker_sets.proofs.Bits.{added-is, added-more}
 use Rattle.regalloc2_checker_sets.proofs.Lone.{lone-none}

@@ -5,7 +5,7 @@ use Rattle.std.specs.Prelude.{◌&&◌, if◌then◌else◌}
 use Rattle.std.proofs.lemmas.Bool.{cases_eq, cases_lt, le-ltb, lt-ltb as below, ne_eqb}
 use Rattle.std.proofs.Math.Bool.{and-false}
 use Rattle.regalloc2_index.proofs.Bools.{not_both}
-use Rattle.regalloc2_shape.specs.Numbers.{NumberSet, has_number, times_listed, ListsMembers}
+use Rattle.regalloc2_function.specs.Numbers.{NumberSet, has_number, times_listed, ListsMembers}
 use Rattle.std.proofs.Common.{length, get_or, ◌-◌, zero, suc}
 use Rattle.std.specs.Prelude.{Result, Ok, Err, IfOk}
 use Rattle.std.proofs.Math.ListN.{length-append}

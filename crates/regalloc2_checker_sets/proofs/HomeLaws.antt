@@ -8,7 +8,7 @@ use Rattle.std.proofs.lemmas.Bool.{cases_eq, lt-ltb as below, ne_eqb, true≢fal
 use Rattle.std.proofs.lemmas.Bool.Decides.{nat_tests}
 use Rattle.std.proofs.lemmas.List.{append-nil}
 use Rattle.std.proofs.lemmas.Nat.Bits.{bit_at-lt, bit_at-zero, bit_at_set_same, bit_at_set_other}
-use Rattle.regalloc2_shape.specs.Numbers.{NumberSet, has_number, word_of, times_listed}
+use Rattle.regalloc2_function.specs.Numbers.{NumberSet, has_number, word_of, times_listed}
 use Rattle.regalloc2_checker_sets.specs.Homes.{MorePlaces, HomePlaces, no_more, more_in, place_list, places_list, stands_for}
 use Rattle.regalloc2_checker_sets.specs.Homes.{is_one_of, is_first, has_more, has_few, has_home, set_in}
 use Rattle.regalloc2_checker_sets.proofs.Walked.{times-append, times-one, times-nil}

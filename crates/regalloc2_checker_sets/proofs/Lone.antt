@@ -5,7 +5,7 @@ use Rattle.std.proofs.Common.{get_or, length, subst}
 use Rattle.std.specs.Prelude.{◌&&◌, if◌then◌else◌, Option, None, Some}
 use Rattle.std.specs.Bool.{OnTrue, OnFalse}
 use Rattle.std.proofs.lemmas.Bool.{cases_eq, eqb-true, ne_eqb}
-use Rattle.regalloc2_shape.specs.Numbers.{NumberSet, has_number}
+use Rattle.regalloc2_function.specs.Numbers.{NumberSet, has_number}
 use Rattle.regalloc2_checker_sets.specs.EntrySets.{has_bits, is_member, IsSetOf, AreMore, IsGrown, IsLess}
 use Rattle.regalloc2_checker_sets.specs.declared.sets.Grown.{Grown}
 use Rattle.regalloc2_checker_sets.proofs.Bits.{changed-is, none-is, alone, bits-small}

@@ -8,7 +8,7 @@ use Rattle.std.proofs.lemmas.List.{get_or-set_same, get_or-set_other, get_or-tak
 use Rattle.std.proofs.lemmas.List.Edits.{swapped_from_swap}
 use Rattle.std.proofs.Math.Seq.{take-append_seam}
 use Rattle.regalloc2_index.proofs.Bools.{not_both}
-use Rattle.regalloc2_shape.specs.Numbers.{NumberSet}
+use Rattle.regalloc2_function.specs.Numbers.{NumberSet}
 use Rattle.regalloc2_checker_sets.specs.EntrySets.{has_bits, all_sets}
 use Rattle.regalloc2_checker_sets.specs.Renumbering.{renamed, IsMarked, IsMovedTo, AreMovedDown, AreMarkedKept}
 use Rattle.regalloc2_checker_sets.proofs.AllSets.{all-long, kept-at, few-same}

@@ -8,7 +8,7 @@ use Rattle.std.specs.Bool.{OnTrue, OnFalse}
 use Rattle.std.proofs.lemmas.Bool.{cases_eq, cases_lt, eqb-true, ne_eqb}
 use Rattle.std.proofs.Math.Bool.{or-false, or-true}
 use Rattle.std.proofs.lemmas.Nat.Bits.{bit_at-pow_same, bit_at-pow_other, bit_at-zero, bit_at_or}
-use Rattle.regalloc2_shape.specs.Numbers.{NumberSet, has_number, word_of, times_listed}
+use Rattle.regalloc2_function.specs.Numbers.{NumberSet, has_number, word_of, times_listed}
 use Rattle.regalloc2_checker_sets.specs.EntrySets.{has_bits, set_of_one, set_of_two, set_of_kept, ListsBits, IsLess}
 use Rattle.regalloc2_checker_sets.proofs.AllSets.{has-alone, lists-one}
 use Rattle.regalloc2_checker_sets.proofs.Bits.{bits-is, bits-out, changed-is, within-and}

@@ -5,7 +5,7 @@ use Rattle.std.specs.Prelude.{if◌then◌else◌}
 use Rattle.std.proofs.lemmas.Bool.{cases_eq}
 use Rattle.std.proofs.lemmas.Bool.Decides.{nat_tests}
 use Rattle.std.proofs.lemmas.List.{append-nil}
-use Rattle.regalloc2_shape.specs.Numbers.{NumberSet, has_number, times_listed, ListsMembers}
+use Rattle.regalloc2_function.specs.Numbers.{NumberSet, has_number, times_listed, ListsMembers}
 
 -- a number is as often in two lists, one after the other, as in each of them together
 pub times-append : (xs ys : List ℕ) (i : ℕ) → times_listed (xs ++ ys) i ≡ times_listed xs i + times_listed ys i

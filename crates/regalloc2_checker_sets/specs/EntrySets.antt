@@ -2,7 +2,7 @@
 use Rattle.std.specs.Prelude.{ℕ, zero, suc, ◌/◌, ◌%◌, ◌^◌, ◌≡◌, ◌<◌, ◌≤◌, Bool, true, false, ◌&&◌, cond, nat_eq, nat_lt, if◌then◌else◌}
 use Rattle.std.specs.Prelude.{List, [], ◌∷◌, ◌++◌, length, get_or, Option, Some}
 use Rattle.std.specs.Int.Bits.{bit_or}
-use Rattle.regalloc2_shape.specs.Numbers.{NumberSet, has_number, times_listed}
+use Rattle.regalloc2_function.specs.Numbers.{NumberSet, has_number, times_listed}
 use Rattle.regalloc2_checker_sets.specs.declared.sets.Grown.{Grown}
 
 -- whether bits are a member

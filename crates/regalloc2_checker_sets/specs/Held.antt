@@ -1,6 +1,6 @@
 -- What an array of numbers of sets holds at its positions.
 use Rattle.std.specs.Prelude.{ℕ, ◌≡◌, ◌<◌, Bool, List, length}
-use Rattle.regalloc2_shape.specs.Numbers.{NumberSet}
+use Rattle.regalloc2_function.specs.Numbers.{NumberSet}
 use Rattle.regalloc2_checker_sets.specs.SavedNumbers.{NumberCopies, copy_count, saved_number, number_now}
 use Rattle.regalloc2_checker_sets.specs.EntrySets.{is_member, AreMore}
 

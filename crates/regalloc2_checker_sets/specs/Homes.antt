@@ -1,7 +1,7 @@
 -- The homes of a vreg: the places where it may be.
 use Rattle.std.specs.Prelude.{ℕ, ◌≡◌, Bool, true, false, ◌&&◌, ◌||◌, nat_eq, nat_lt, List, [], ◌∷◌, ◌++◌, get_or, length, Option, None, Some, if◌then◌else◌}
 use Rattle.std.specs.Int.{bit_at}
-use Rattle.regalloc2_shape.specs.Numbers.{NumberSet, has_number}
+use Rattle.regalloc2_function.specs.Numbers.{NumberSet, has_number}
 
 -- more places: numbers that stand for a place each, or for none if they are 0, and a set of other places
 pub record MorePlaces : Type 0 where

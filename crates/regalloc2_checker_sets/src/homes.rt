@@ -4,12 +4,12 @@ ghost use Rattle.std.specs.Prelude.{◌≡◌, ◌≢◌, ◌⊎◌, ℕ, ◌<�
 ghost use Rattle.std.specs.Prelude.{OnOk, OnErr, IfOk, IfSome, IfNone, IsTrue};
 ghost use Rattle.std.specs.Iterator.{YieldsFirst, item_count};
 ghost use Rattle.std.specs.Option.{option_map};
-ghost use Rattle.regalloc2_shape.specs.Numbers.{has_number, times_listed};
+ghost use Rattle.regalloc2_function.specs.Numbers.{has_number, times_listed};
 ghost use Rattle.regalloc2_checker_sets.specs.Homes.{no_more, no_homes, more_in, home_of, place_list, is_first, has_more, has_few, has_home, set_in};
 ghost use Rattle.regalloc2_checker_sets.specs.Homes.{IsMoreHome, AreMorePlaces};
 ghost use Rattle.regalloc2_checker_sets.specs.Homes.{AreMoreHomes};
 
-use regalloc2_shape::indexset::{IndexSet, SetBitsIter};
+use regalloc2_function::indexset::{IndexSet, SetBitsIter};
 use std::alloc::{AllocError, Allocator};
 use std::marker::Model;
 

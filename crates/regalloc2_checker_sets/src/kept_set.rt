@@ -5,7 +5,7 @@ ghost use Rattle.std.specs.Bool.{OnTrue, OnFalse};
 ghost use Rattle.regalloc2_checker_sets.specs.EntrySets.{has_bits, is_member, ListsBits, IsLess};
 
 use crate::sets::Sets;
-use regalloc2_shape::indexset::IndexSet;
+use regalloc2_function::indexset::IndexSet;
 use std::alloc::{AllocError, Allocator};
 use std::marker::Model;
 
@@ -21,7 +21,7 @@ pub struct Kept<A: Allocator> {
 
 impl<A: Allocator> Model for Kept<A> {
     ghost use Rattle.std.specs.Prelude.{◌<◌};
-    ghost use Rattle.regalloc2_shape.specs.Numbers.{NumberSet};
+    ghost use Rattle.regalloc2_function.specs.Numbers.{NumberSet};
     ghost use Rattle.regalloc2_checker_sets.specs.EntrySets.{set_of_kept};
 
     ghost Value = { NumberSet };

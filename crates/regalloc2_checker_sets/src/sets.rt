@@ -6,7 +6,7 @@ ghost use Rattle.regalloc2_checker_sets.specs.EntrySets.{has_bits, is_member, Ar
 ghost use Rattle.regalloc2_checker_sets.specs.Renumbering.{AreMovedDown, AreMarkedKept};
 
 use crate::kept_set::Kept;
-use regalloc2_shape::indexset::IndexSet;
+use regalloc2_function::indexset::IndexSet;
 use std::alloc::{AllocError, Allocator};
 use std::marker::Model;
 
@@ -36,7 +36,7 @@ pub struct Grown {
 
 impl<A: Allocator> Model for Sets<A> {
     ghost use Rattle.std.specs.Prelude.{List};
-    ghost use Rattle.regalloc2_shape.specs.Numbers.{NumberSet};
+    ghost use Rattle.regalloc2_function.specs.Numbers.{NumberSet};
     ghost use Rattle.regalloc2_checker_sets.specs.EntrySets.{all_sets, IsGrown};
 
     ghost Value = { List NumberSet };

@@ -8,8 +8,8 @@ ghost use Rattle.regalloc2_fastalloc_state.specs.Validate.Validated.{IsFunctionF
 
 use regalloc2_function::{Function, MachineEnv};
 use regalloc2_names::RegAllocError;
-use regalloc2_shape::ssa::test_soundness;
-use regalloc2_shape::test_shape;
+use regalloc2_function::ssa::test_soundness;
+use regalloc2_function::test_shape;
 use std::alloc::Allocator;
 
 pub mod constraints;

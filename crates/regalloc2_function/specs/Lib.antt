@@ -1,5 +1,7 @@
 -- The definitions that all contracts share: functions, machines, outputs, listings, paths, both runs, faithful outputs.
--- Read first: `FunctionValue`, `Machine`, `OutputValue`, `WellFormed`; `Path`, `SourceRun`, `AllocatedRun`, `Faithful`.
+-- Tables of blocks and of definitions, the order of a depth-first walk, and sets of numbers.
+-- Read first: `FunctionValue`, `Machine`, `OutputValue`, `WellFormed`; `Path`, `SourceRun`, `AllocatedRun`, `Faithful`. Then
+-- `Definitions`, the table that decides single definitions; `Leaves`, the order; `Numbers`, the sets.
 -- Depends on regalloc2_names: registers, vregs, places, operands and program points.
 pub mod FunctionValue
 pub mod OutputValue
@@ -24,3 +26,12 @@ pub mod Stored
 pub mod FaultText
 pub mod Misfit
 pub mod SingleUnits
+pub mod Definitions
+pub mod TableLength
+pub mod Ways
+pub mod Leaves
+pub mod Listed
+pub mod Tables
+pub mod Numbers
+pub mod NumberWords
+pub mod MarkedNumbers

@@ -1,5 +1,5 @@
 //! The function that is being allocated, the machine, the output of an allocation, and their
-//! semantics.
+//! semantics; the function's order of blocks, its tables, and the tests that a well-formed function passes.
 //!
 //! Contracts speak of three values: the [`Function`]'s own, `machine_of` a [`MachineEnv`] and
 //! `output_of` an [`Output`]. The definitions over them are in this crate's `specs`.
@@ -11,13 +11,20 @@ ghost use Rattle.regalloc2_function.specs.FunctionValue.{FunctionValue, IsLimite
 use regalloc2_index::{Block, Inst, InstRange};
 use regalloc2_names::{Operand, PRegSet, RegClass, VReg};
 
+mod blocks;
+pub mod cfg;
 mod framed;
+pub mod indexset;
 mod laws;
 mod listing;
 mod machine;
 mod misfit;
+pub mod postorder;
 mod serialize;
+pub mod ssa;
+pub mod table_length;
 
+pub use blocks::test_shape;
 pub use framed::{is_framed, test_blocks, test_ends};
 pub use laws::{agrees_where_numbers_do, finds_earlier_writes, reads_the_same_numbers};
 pub use listing::{Edit, InstOrEdit, Output, OutputIter};

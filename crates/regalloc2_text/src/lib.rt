@@ -1,7 +1,9 @@
-//! Functions, machines and outputs as text: read by a [`cursor`] over lines, laid out by [`writer`].
+//! Functions, machines and outputs as text: read by a [`cursor`] over lines, laid out by [`writer`]; and causes of errors, with lines of
+//! the text ([`explain`]).
 #![tactic(auto)]
 
 pub mod cursor;
+pub mod explain;
 mod reading;
 mod same;
 pub mod writer;

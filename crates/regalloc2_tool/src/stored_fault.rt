@@ -3,7 +3,7 @@
 ghost use Rattle.std.specs.Prelude.{◌≡◌, Some};
 ghost use Rattle.regalloc2_tool.specs.Fault.{fault_number, stored_fault_text};
 
-use regalloc2_explain::StoredCause;
+use regalloc2_text::explain::StoredCause;
 use regalloc2_function::StoredFault;
 use std::fmt;
 

@@ -6,7 +6,7 @@ use Rattle.regalloc2_names.specs.Point.{before, after}
 use Rattle.regalloc2_names.specs.Register.{VirtualRegister}
 use Rattle.regalloc2_function.specs.FunctionValue.{FunctionValue, block_at, inst_at, no_operand}
 use Rattle.regalloc2_function.specs.WellFormed.{DefinedOnce}
-use Rattle.regalloc2_shape.specs.TableLength.{HasRoom}
+use Rattle.regalloc2_function.specs.TableLength.{HasRoom}
 use Rattle.regalloc2_function.specs.FunctionValue.{op_at}
 use Rattle.regalloc2_semantics.proofs.SingleDef.{DefinesAt, Made, made_small, no_vreg}
 use Rattle.regalloc2_semantics.proofs.SingleDef.Made.{by_operand}

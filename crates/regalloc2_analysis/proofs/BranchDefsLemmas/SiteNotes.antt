@@ -8,7 +8,7 @@ use Rattle.regalloc2_index.proofs.Numbers.{below_or_last}
 use Rattle.regalloc2_names.specs.Operand.{OperandValue, is_def}
 use Rattle.regalloc2_function.specs.FunctionValue.{FunctionValue, block_at, inst_at, op_at}
 use Rattle.regalloc2_function.specs.WellFormed.{last_of}
-use Rattle.regalloc2_shape.specs.TableLength.{HasRoom}
+use Rattle.regalloc2_function.specs.TableLength.{HasRoom}
 use Rattle.regalloc2_analysis.specs.BranchDefs.BranchDefs.{DefinesNumber, IsSite, MayHaveTables}
 use Rattle.regalloc2_analysis.specs.BranchDefs.Notes.{NotesBranch, NotesSites}
 use Rattle.regalloc2_analysis.specs.BranchDefs.Tables.{AreDefSites}

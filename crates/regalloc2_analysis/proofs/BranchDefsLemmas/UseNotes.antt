@@ -15,8 +15,8 @@ use Rattle.regalloc2_semantics.proofs.SingleDef.{Made, is_made, made_before, one
 use Rattle.regalloc2_semantics.proofs.SingleDef.{DefinesAt as DefinesOperand}
 use Rattle.regalloc2_semantics.proofs.SingleDef.Made.{by_operand}
 use Rattle.regalloc2_semantics.proofs.Order.{passed_made}
-use Rattle.regalloc2_shape.specs.TableLength.{HasRoom}
-use Rattle.regalloc2_shape.specs.MarkedNumbers.{Marks}
+use Rattle.regalloc2_function.specs.TableLength.{HasRoom}
+use Rattle.regalloc2_function.specs.MarkedNumbers.{Marks}
 use Rattle.regalloc2_analysis.specs.BranchDefs.BranchDefs.{DefinesNumber, IsSite, IsUsedElsewhere, MayHaveTables}
 use Rattle.regalloc2_analysis.specs.BranchDefs.Notes.{AreUsed, IsSiteAt, PassesAmong, PassesIn, PassesOut, ReadsAmong, ReadsIn}
 use Rattle.regalloc2_analysis.specs.BranchDefs.Tables.{AreDefSites}

@@ -7,8 +7,8 @@ use Rattle.regalloc2_names.specs.Register.{VirtualRegister}
 use Rattle.regalloc2_function.specs.FunctionValue.{FunctionValue, Label, label_of}
 use Rattle.regalloc2_function.specs.DebugPoints.{IsFirstPoint}
 use Rattle.regalloc2_function.specs.DebugPoints.IsFirstPoint.{of_definition, of_parameter}
-use Rattle.regalloc2_shape.specs.TableLength.{HasRoom}
-use Rattle.regalloc2_shape.specs.MarkedNumbers.{Marks}
+use Rattle.regalloc2_function.specs.TableLength.{HasRoom}
+use Rattle.regalloc2_function.specs.MarkedNumbers.{Marks}
 use Rattle.regalloc2_analysis.specs.declared.live_ranges.LiveRange.{LiveRange}
 use Rattle.regalloc2_analysis.specs.LiveRanges.LiveRanges.{AreLabelsMarked, AreLiveRanges, IsLabelled, IsSSA, IsWanted}
 use Rattle.regalloc2_analysis.specs.LiveRanges.Marks.{NamedAmong}

@@ -11,7 +11,7 @@ use Rattle.regalloc2_function.specs.FunctionValue.{FunctionValue, block_at, inst
 use Rattle.regalloc2_function.specs.Machine.{MachineValue}
 use Rattle.regalloc2_function.specs.WellFormed.{IsDefinedBy, IsWellFormed, last_of}
 use Rattle.regalloc2_function.specs.DebugPoints.{DefinesAt, PassesAt, ReadsAt, UsesAt}
-use Rattle.regalloc2_shape.specs.TableLength.{HasRoom}
+use Rattle.regalloc2_function.specs.TableLength.{HasRoom}
 use Rattle.regalloc2_function.specs.FunctionValue.{op_at}
 use Rattle.regalloc2_semantics.proofs.SingleDef.{DefinesAt as DefinesNumber, Made, TakesAt, is_made, made_before, made_behind, made_small, not_both, one_made}
 use Rattle.regalloc2_semantics.proofs.SingleDef.{one_param, reads_defined}

@@ -5,7 +5,7 @@ ghost use Rattle.regalloc2_names.specs.Register.{VirtualRegister};
 ghost use Rattle.regalloc2_function.specs.FunctionValue.{block_at};
 ghost use Rattle.regalloc2_names.specs.Operand.{is_def};
 ghost use Rattle.regalloc2_function.specs.DebugPoints.{DefinesAt, UsesAt};
-ghost use Rattle.regalloc2_shape.specs.TableLength.{HasRoom};
+ghost use Rattle.regalloc2_function.specs.TableLength.{HasRoom};
 ghost use Rattle.regalloc2_analysis.specs.LiveRanges.LastUses.{end_at, end_behind};
 ghost use Rattle.regalloc2_analysis.specs.LiveRanges.LiveRanges.{IsSSA, IsWanted, range_at};
 ghost use Rattle.regalloc2_analysis.specs.LiveRanges.Slots.{AreSlots, spread};

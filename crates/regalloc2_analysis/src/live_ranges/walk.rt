@@ -2,7 +2,7 @@
 
 ghost use Rattle.std.specs.Prelude.{◌≡◌, ◌+◌, ◌-◌, ◌<◌, ◌≤◌, ◌↔◌, length, replicate, slice_index_or, IfErr, IfOk, IsTrue, None};
 ghost use Rattle.regalloc2_function.specs.FunctionValue.{block_at};
-ghost use Rattle.regalloc2_shape.specs.TableLength.{HasRoom};
+ghost use Rattle.regalloc2_function.specs.TableLength.{HasRoom};
 ghost use Rattle.regalloc2_analysis.specs.LiveRanges.LiveRanges.{AreLiveRanges, IsSSA, IsWanted};
 ghost use Rattle.regalloc2_analysis.specs.LiveRanges.Slots.{AreSlots, spread};
 ghost use Rattle.regalloc2_analysis.specs.LiveRanges.WalkInvariant.{AreRangesWalked, ListsAdding};
@@ -15,7 +15,7 @@ use super::wanted::naming;
 use regalloc2_function::Function;
 use regalloc2_index::{Block, Inst};
 use regalloc2_names::RegAllocError;
-use regalloc2_shape::table_length::table_length;
+use regalloc2_function::table_length::table_length;
 use std::alloc::{AllocError, Allocator};
 
 /// The requested live ranges, and by number the index of each one's entry: past the end if it has

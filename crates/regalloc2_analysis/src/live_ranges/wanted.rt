@@ -2,8 +2,8 @@
 //! the walk passes over instructions that name none of them.
 
 ghost use Rattle.std.specs.Prelude.{ℕ, ◌≡◌, ◌<◌, ◌↔◌, false, length, slice_index_or, IsTrue, IfOk};
-ghost use Rattle.regalloc2_shape.specs.TableLength.{HasRoom};
-ghost use Rattle.regalloc2_shape.specs.MarkedNumbers.{Marks};
+ghost use Rattle.regalloc2_function.specs.TableLength.{HasRoom};
+ghost use Rattle.regalloc2_function.specs.MarkedNumbers.{Marks};
 ghost use Rattle.regalloc2_function.specs.FunctionValue.{op_at};
 ghost use Rattle.regalloc2_analysis.specs.LiveRanges.LiveRanges.{AreLabelsMarked, IsLabelled, IsWanted};
 ghost use Rattle.regalloc2_analysis.specs.LiveRanges.Marks.{NamedAmong};
@@ -12,7 +12,7 @@ ghost use Rattle.regalloc2_analysis.specs.LiveRanges.WalkInvariant.{AreNamers, N
 use regalloc2_function::Function;
 use regalloc2_index::Inst;
 use regalloc2_names::{Operand, VReg};
-use regalloc2_shape::table_length::table_length;
+use regalloc2_function::table_length::table_length;
 use std::alloc::{AllocError, Allocator};
 
 /// Whether a number is marked.

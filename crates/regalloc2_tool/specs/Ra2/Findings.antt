@@ -4,10 +4,10 @@ use Rattle.regalloc2_function.specs.FunctionValue.{FunctionValue}
 use Rattle.regalloc2_function.specs.Machine.{MachineValue}
 use Rattle.regalloc2_function.specs.OutputValue.{OutputValue, IsInOrder}
 use Rattle.regalloc2_function.specs.Faithful.{IsFaithful}
-use Rattle.regalloc2_checker_facts.specs.Report.{IsReport}
-use Rattle.regalloc2_checker_facts.specs.Text.{fault_text}
-use Rattle.regalloc2_checker_facts.specs.declared.errors.CheckerError.{CheckerError}
-use Rattle.regalloc2_checker_facts.specs.declared.errors.CheckerError.TheVariants.{MalformedOutput, Memory}
+use Rattle.regalloc2_checker.specs.Report.{IsReport}
+use Rattle.regalloc2_checker.specs.Text.{fault_text}
+use Rattle.regalloc2_checker.specs.declared.errors.CheckerError.{CheckerError}
+use Rattle.regalloc2_checker.specs.declared.errors.CheckerError.TheVariants.{MalformedOutput, Memory}
 use Rattle.regalloc2_tool.specs.Ra2.Text.{checked_line}
 
 -- the output isn't well-ordered, or these are the errors of one that isn't faithful, or memory ran out

@@ -15,8 +15,8 @@ use crate::stored_fault::FaultText;
 use crate::svg::Picture;
 use regalloc2_analysis::liveness::reads_written;
 use regalloc2_checker::{CellFault, CheckerError, check_output, test_cells};
-use regalloc2_explain::report::{Stats, StatsJson, write_diff, write_dump};
-use regalloc2_explain::{
+use regalloc2_text::explain::report::{Stats, StatsJson, write_diff, write_dump};
+use regalloc2_text::explain::{
     Site, Source, explain, explain_function, explain_output, find_unwritten_read, last_writes,
     misfit_at,
 };

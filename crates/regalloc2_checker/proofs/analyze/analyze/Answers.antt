@@ -2,12 +2,12 @@ use Rattle.std.proofs.Common.{◌<◌, List, Bool, length, ◌∙◌, ap, sym, s
 use Rattle.std.proofs.lemmas.List.{length-set}
 use Rattle.std.specs.BinaryHeap.{heap_items}
 use Rattle.regalloc2_function.specs.FunctionValue.{FunctionValue}
-use Rattle.regalloc2_checker_facts.specs.Propagation.{IsReady}
-use Rattle.regalloc2_checker_facts.specs.Tables.{BlockView, views}
-use Rattle.regalloc2_checker_facts.proofs.Laid.{way-all}
-use Rattle.regalloc2_checker_facts.proofs.Queues.{all-settled, ready-popped}
-use Rattle.regalloc2_checker_facts.proofs.RoundInvariant.{solved}
-use Rattle.regalloc2_checker_facts.proofs.TransferFollowsFacts.{named_same}
+use Rattle.regalloc2_checker.specs.Propagation.{IsReady}
+use Rattle.regalloc2_checker.specs.Tables.{BlockView, views}
+use Rattle.regalloc2_checker.proofs.Laid.{way-all}
+use Rattle.regalloc2_checker.proofs.Queues.{all-settled, ready-popped}
+use Rattle.regalloc2_checker.proofs.RoundInvariant.{solved}
+use Rattle.regalloc2_checker.proofs.TransferFollowsFacts.{named_same}
 use Rattle.std.proofs.lemmas.Result.{err_from_is_err_and}
 use Rattle.regalloc2_checker.proofs.analyze.analyze.Goals as goal
 

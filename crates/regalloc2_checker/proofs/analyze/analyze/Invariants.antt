@@ -1,9 +1,9 @@
 use Rattle.std.proofs.Common.{◌+◌}
 use Rattle.std.specs.Prelude.{sum_by}
 use Rattle.std.specs.BinaryHeap.{heap_items, heap_len}
-use Rattle.regalloc2_checker_facts.specs.Propagation.{IsUnderWay, AreSized}
-use Rattle.regalloc2_checker_facts.specs.TableFacts.{AreNamed}
-use Rattle.regalloc2_checker_facts.specs.Tables.{views, weight}
+use Rattle.regalloc2_checker.specs.Propagation.{IsUnderWay, AreSized}
+use Rattle.regalloc2_checker.specs.TableFacts.{AreNamed}
+use Rattle.regalloc2_checker.specs.Tables.{views, weight}
 use Rattle.regalloc2_checker.proofs.analyze.analyze.Given as goal
 
 abbrev pub ghost-propagate_block : goal.ghost-propagate_block

@@ -4,9 +4,9 @@ use Rattle.std.proofs.lemmas.List.{length-set}
 use Rattle.std.specs.BinaryHeap.{heap_items}
 use Rattle.std.specs.declared.cmp.Reverse.{Reverse}
 use Rattle.regalloc2_function.specs.FunctionValue.{FunctionValue}
-use Rattle.regalloc2_checker_facts.specs.Propagation.{queued_block}
-use Rattle.regalloc2_checker_facts.proofs.Queues.{queue-none}
-use Rattle.regalloc2_checker_facts.proofs.Started.{one-set}
+use Rattle.regalloc2_checker.specs.Propagation.{queued_block}
+use Rattle.regalloc2_checker.proofs.Queues.{queue-none}
+use Rattle.regalloc2_checker.proofs.Started.{one-set}
 use Rattle.regalloc2_checker.proofs.analyze.first_marks.Goals as goal
 
 pub one_mark-requires : goal.one_mark-requires

@@ -1,6 +1,6 @@
 use Rattle.std.proofs.Common.{◌∙◌, arith, true}
 use Rattle.std.proofs.lemmas.List.{length-set}
-use Rattle.regalloc2_checker_facts.proofs.Started.{one-set}
+use Rattle.regalloc2_checker.proofs.Started.{one-set}
 use Rattle.regalloc2_checker.proofs.analyze.one_mark.Goals as goal
 
 pub returns : goal.returns

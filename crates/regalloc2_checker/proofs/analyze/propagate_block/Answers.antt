@@ -3,17 +3,17 @@ use Rattle.std.specs.Prelude.{sum_by}
 use Rattle.std.specs.BinaryHeap.{heap_items}
 use Rattle.regalloc2_function.specs.FunctionValue.{FunctionValue, block_at}
 use Rattle.regalloc2_function.specs.OutputValue.{OutputValue}
-use Rattle.regalloc2_checker_tables.specs.Showing.{Showing}
-use Rattle.regalloc2_checker_facts.specs.Propagation.{IsBlockEnd, IsPropagatedOver, AreReached, IsReady}
-use Rattle.regalloc2_checker_facts.specs.Swept.{laid}
-use Rattle.regalloc2_checker_facts.specs.TableFacts.{facts_now}
-use Rattle.regalloc2_checker_facts.specs.Tables.{BlockView, facts_at, views, weight}
-use Rattle.regalloc2_checker_facts.proofs.FactsFollowMaps.{AreEarlier}
-use Rattle.regalloc2_checker_facts.proofs.Laid.{end-laid}
-use Rattle.regalloc2_checker_facts.proofs.Queues.{views-kept, alike-after, alike-same, way-none, way-done, block-end}
-use Rattle.regalloc2_checker_facts.proofs.TableSteps.{kept-twice}
-use Rattle.regalloc2_checker_facts.proofs.TransferFollowsFacts.{named_same}
-use Rattle.regalloc2_checker_facts.proofs.UnmarkedStaySolved.{edges-first, edge-passed}
+use Rattle.regalloc2_checker.specs.Showing.{Showing}
+use Rattle.regalloc2_checker.specs.Propagation.{IsBlockEnd, IsPropagatedOver, AreReached, IsReady}
+use Rattle.regalloc2_checker.specs.Swept.{laid}
+use Rattle.regalloc2_checker.specs.TableFacts.{facts_now}
+use Rattle.regalloc2_checker.specs.Tables.{BlockView, facts_at, views, weight}
+use Rattle.regalloc2_checker.proofs.FactsFollowMaps.{AreEarlier}
+use Rattle.regalloc2_checker.proofs.Laid.{end-laid}
+use Rattle.regalloc2_checker.proofs.Queues.{views-kept, alike-after, alike-same, way-none, way-done, block-end}
+use Rattle.regalloc2_checker.proofs.TableSteps.{kept-twice}
+use Rattle.regalloc2_checker.proofs.TransferFollowsFacts.{named_same}
+use Rattle.regalloc2_checker.proofs.UnmarkedStaySolved.{edges-first, edge-passed}
 use Rattle.std.proofs.lemmas.Result.{err_from_is_err_and}
 use Rattle.regalloc2_checker.proofs.analyze.propagate_block.Goals as goal
 

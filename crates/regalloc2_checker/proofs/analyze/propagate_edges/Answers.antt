@@ -3,17 +3,17 @@ use Rattle.std.specs.Prelude.{sum_by}
 use Rattle.std.specs.BinaryHeap.{heap_items}
 use Rattle.regalloc2_function.specs.FunctionValue.{FunctionValue, block_at}
 use Rattle.regalloc2_function.specs.OutputValue.{OutputValue}
-use Rattle.regalloc2_checker_tables.specs.Showing.{Showing, shows_in, shows_now}
-use Rattle.regalloc2_checker_facts.specs.Facts.{Facts}
-use Rattle.regalloc2_checker_facts.specs.Propagation.{IsPropagatedOver, AreReached}
-use Rattle.regalloc2_checker_facts.specs.Swept.{laid}
-use Rattle.regalloc2_checker_facts.specs.TableFacts.{facts_now, facts_table}
-use Rattle.regalloc2_checker_facts.specs.Tables.{BlockView, views, weight}
-use Rattle.regalloc2_checker_facts.proofs.FactsFollowMaps.{AreEarlier}
-use Rattle.regalloc2_checker_facts.proofs.Queues.{views-kept, alike-after, alike-twice, way-done}
-use Rattle.regalloc2_checker_facts.proofs.TableSteps.{now-as, table-kept}
-use Rattle.regalloc2_checker_facts.proofs.UnmarkedStaySolved.{EdgesPassed, edges-first, edge-passed}
-use Rattle.regalloc2_checker_facts.proofs.Updates.{views-beside, table-saved}
+use Rattle.regalloc2_checker.specs.Showing.{Showing, shows_in, shows_now}
+use Rattle.regalloc2_checker.specs.Facts.{Facts}
+use Rattle.regalloc2_checker.specs.Propagation.{IsPropagatedOver, AreReached}
+use Rattle.regalloc2_checker.specs.Swept.{laid}
+use Rattle.regalloc2_checker.specs.TableFacts.{facts_now, facts_table}
+use Rattle.regalloc2_checker.specs.Tables.{BlockView, views, weight}
+use Rattle.regalloc2_checker.proofs.FactsFollowMaps.{AreEarlier}
+use Rattle.regalloc2_checker.proofs.Queues.{views-kept, alike-after, alike-twice, way-done}
+use Rattle.regalloc2_checker.proofs.TableSteps.{now-as, table-kept}
+use Rattle.regalloc2_checker.proofs.UnmarkedStaySolved.{EdgesPassed, edges-first, edge-passed}
+use Rattle.regalloc2_checker.proofs.Updates.{views-beside, table-saved}
 use Rattle.std.proofs.lemmas.Result.{err_from_is_err_and}
 use Rattle.regalloc2_checker.proofs.analyze.propagate_edges.Goals as goal
 

@@ -2,11 +2,11 @@ use Rattle.std.proofs.Common.{◌≡◌, ◌≤◌, ◌+◌, List, Bool, length}
 use Rattle.std.specs.Prelude.{sum_by}
 use Rattle.std.specs.BinaryHeap.{heap_items, heap_len}
 use Rattle.regalloc2_function.specs.FunctionValue.{block_at}
-use Rattle.regalloc2_checker_facts.specs.Propagation.{IsQueue, IsReady, IsBlockEnd, AreSized}
-use Rattle.regalloc2_checker_facts.specs.Swept.{laid, LeadsToNoneDone}
-use Rattle.regalloc2_checker_facts.specs.TableFacts.{facts_now, facts_table}
-use Rattle.regalloc2_checker_facts.specs.Tables.{BlockView, ListTheSame, facts_at, views, weight}
-use Rattle.regalloc2_checker_facts.proofs.UnmarkedStaySolved.{ArePassedOn}
+use Rattle.regalloc2_checker.specs.Propagation.{IsQueue, IsReady, IsBlockEnd, AreSized}
+use Rattle.regalloc2_checker.specs.Swept.{laid, LeadsToNoneDone}
+use Rattle.regalloc2_checker.specs.TableFacts.{facts_now, facts_table}
+use Rattle.regalloc2_checker.specs.Tables.{BlockView, ListTheSame, facts_at, views, weight}
+use Rattle.regalloc2_checker.proofs.UnmarkedStaySolved.{ArePassedOn}
 use Rattle.regalloc2_checker.proofs.analyze.propagate_edges.Given as goal
 
 -- so many edges are passed on

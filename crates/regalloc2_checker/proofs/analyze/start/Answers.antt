@@ -2,9 +2,9 @@ use Rattle.std.proofs.Common.{◌<◌, ℕ, List, Bool, [], length, refl}
 use Rattle.std.specs.BinaryHeap.{heap_items}
 use Rattle.std.specs.declared.cmp.Reverse.{Reverse}
 use Rattle.regalloc2_function.specs.FunctionValue.{FunctionValue}
-use Rattle.regalloc2_checker_facts.specs.Tables.{views}
-use Rattle.regalloc2_checker_facts.proofs.Queues.{reached-one}
-use Rattle.regalloc2_checker_facts.proofs.Started.{started, started-entry}
+use Rattle.regalloc2_checker.specs.Tables.{views}
+use Rattle.regalloc2_checker.proofs.Queues.{reached-one}
+use Rattle.regalloc2_checker.proofs.Started.{started, started-entry}
 use Rattle.std.proofs.lemmas.Result.{err_from_is_err_and}
 use Rattle.regalloc2_checker.proofs.analyze.start.Goals as goal
 

@@ -1,7 +1,7 @@
 use Rattle.std.proofs.Common.{ℕ, ◌≡◌, subst}
 use Rattle.std.specs.Prelude.{OnOk}
 use Rattle.regalloc2_names.specs.Place.{InSlot}
-use Rattle.regalloc2_checker_facts.specs.NamedSlots.{AddsSlots}
+use Rattle.regalloc2_checker.specs.NamedSlots.{AddsSlots}
 use Rattle.regalloc2_checker.proofs.cells.add_end.Goals as goal
 
 pub returns : goal.returns

@@ -3,7 +3,7 @@ use Rattle.std.specs.Prelude.{◌⊎◌, ◌↔◌, Contains}
 use Rattle.std.proofs.lemmas.Result.{err_from_is_err_and}
 use Rattle.regalloc2_function.specs.Views.{output_of}
 use Rattle.regalloc2_checker.specs.Cells.{IsSlotTaken, IsTakenByInst, IsTakenByMove, IsTakenByLocation, move_of_index}
-use Rattle.regalloc2_checker_facts.proofs.AddedSlots.{adds_both, from_none}
+use Rattle.regalloc2_checker.proofs.AddedSlots.{adds_both, from_none}
 use Rattle.regalloc2_checker.proofs.cells.named_slots.Goals as goal
 
 pub returns-in_err-test_locations-clause-fault : goal.returns-in_err-test_locations-clause-fault

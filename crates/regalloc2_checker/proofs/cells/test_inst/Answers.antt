@@ -6,8 +6,8 @@ use Rattle.regalloc2_function.specs.FunctionValue.{slot_size}
 use Rattle.regalloc2_function.specs.OutputValue.{place_at, allocs_of}
 use Rattle.regalloc2_function.specs.Views.{machine_of, output_of}
 use Rattle.regalloc2_checker.specs.Cells.{operand_of, IsOperandCell, IsTakenByOperand}
-use Rattle.regalloc2_checker_facts.specs.Report.{invalid_operand}
-use Rattle.regalloc2_checker_facts.proofs.AddedSlots.{adds_none, adds_more, adds_at, adds_all}
+use Rattle.regalloc2_checker.specs.Report.{invalid_operand}
+use Rattle.regalloc2_checker.proofs.AddedSlots.{adds_none, adds_more, adds_at, adds_all}
 use Rattle.std.proofs.lemmas.Result.{err_from_is_err_and}
 use Rattle.std.proofs.lemmas.Bool.{false≢true}
 use Rattle.regalloc2_checker.proofs.cells.test_inst.Goals as goal

@@ -3,7 +3,7 @@ use Rattle.regalloc2_function.specs.FunctionValue.{inst_at}
 use Rattle.regalloc2_function.specs.OutputValue.{place_at, allocs_of}
 use Rattle.regalloc2_function.specs.Views.{machine_of, output_of}
 use Rattle.regalloc2_checker.specs.Cells.{IsOperandCell, IsTakenByOperand, operand_of}
-use Rattle.regalloc2_checker_facts.specs.NamedSlots.{AddsSlots}
+use Rattle.regalloc2_checker.specs.NamedSlots.{AddsSlots}
 use Rattle.regalloc2_checker.proofs.cells.test_inst.Given as goal
 
 -- the operands so far are tested, and the slots that they name were added

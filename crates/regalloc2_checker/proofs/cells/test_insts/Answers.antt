@@ -3,8 +3,8 @@ use Rattle.regalloc2_function.specs.FunctionValue.{inst_at}
 use Rattle.regalloc2_function.specs.OutputValue.{place_at, allocs_of}
 use Rattle.regalloc2_function.specs.Views.{machine_of, output_of}
 use Rattle.regalloc2_checker.specs.Cells.{operand_of, IsOperandCell, IsTakenByInst}
-use Rattle.regalloc2_checker_facts.specs.NamedSlots.{AddsSlots}
-use Rattle.regalloc2_checker_facts.proofs.AddedSlots.{adds_none, adds_more, adds_all}
+use Rattle.regalloc2_checker.specs.NamedSlots.{AddsSlots}
+use Rattle.regalloc2_checker.proofs.AddedSlots.{adds_none, adds_more, adds_all}
 use Rattle.std.proofs.lemmas.Result.{err_from_is_err_and}
 use Rattle.regalloc2_checker.proofs.cells.test_insts.Goals as goal
 

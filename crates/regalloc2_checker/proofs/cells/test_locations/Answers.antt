@@ -6,7 +6,7 @@ use Rattle.regalloc2_names.specs.Place.{Place}
 use Rattle.regalloc2_function.specs.Fitting.{IsProperPlace}
 use Rattle.regalloc2_function.specs.Views.{machine_of, output_of}
 use Rattle.regalloc2_checker.specs.Cells.{location_of_index, IsTakenByLocation}
-use Rattle.regalloc2_checker_facts.proofs.AddedSlots.{adds_more, adds_at, adds_all}
+use Rattle.regalloc2_checker.proofs.AddedSlots.{adds_more, adds_at, adds_all}
 use Rattle.regalloc2_checker.proofs.OutputItems.{location_is, location_seen}
 use Rattle.std.proofs.lemmas.Result.{err_from_is_err_and}
 use Rattle.regalloc2_checker.proofs.cells.test_locations.Goals as goal

@@ -3,7 +3,7 @@ use Rattle.regalloc2_names.specs.declared.RegClass.{RegClass}
 use Rattle.regalloc2_function.specs.Fitting.{IsProperPlace}
 use Rattle.regalloc2_function.specs.Views.{machine_of, output_of}
 use Rattle.regalloc2_checker.specs.Cells.{location_of_index, IsTakenByLocation}
-use Rattle.regalloc2_checker_facts.specs.NamedSlots.{AddsSlots}
+use Rattle.regalloc2_checker.specs.NamedSlots.{AddsSlots}
 use Rattle.regalloc2_checker.proofs.cells.test_locations.Given as goal
 
 -- the debug locations so far are tested, and the slots that they name were added

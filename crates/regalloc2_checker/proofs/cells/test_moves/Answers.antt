@@ -6,7 +6,7 @@ use Rattle.regalloc2_function.specs.OutputValue.{MoveValue}
 use Rattle.regalloc2_function.specs.Fitting.{IsMoveEnd}
 use Rattle.regalloc2_function.specs.Views.{edit_of, machine_of, output_of}
 use Rattle.regalloc2_checker.specs.Cells.{move_of_index, units_beside, IsTakenByMove}
-use Rattle.regalloc2_checker_facts.proofs.AddedSlots.{adds_more, adds_both, adds_at, adds_all}
+use Rattle.regalloc2_checker.proofs.AddedSlots.{adds_more, adds_both, adds_at, adds_all}
 use Rattle.regalloc2_checker.proofs.OutputItems.{move_is}
 use Rattle.std.proofs.lemmas.Result.{err_from_is_err_and}
 use Rattle.regalloc2_checker.proofs.cells.test_moves.Goals as goal

@@ -2,7 +2,7 @@ use Rattle.std.proofs.Common.{ℕ, ◌≡◌, ◌<◌, ◌≤◌, length}
 use Rattle.regalloc2_function.specs.Fitting.{IsMoveEnd}
 use Rattle.regalloc2_function.specs.Views.{machine_of, output_of}
 use Rattle.regalloc2_checker.specs.Cells.{IsWithinClass, IsTakenByMove, move_of_index}
-use Rattle.regalloc2_checker_facts.specs.NamedSlots.{AddsSlots}
+use Rattle.regalloc2_checker.specs.NamedSlots.{AddsSlots}
 use Rattle.regalloc2_checker.proofs.cells.test_moves.Given as goal
 
 -- the moves so far are tested, and the slots that they name were added

@@ -7,12 +7,12 @@ use Rattle.regalloc2_names.specs.Place.{Place}
 use Rattle.regalloc2_function.specs.FunctionValue.{FunctionValue}
 use Rattle.regalloc2_function.specs.OutputValue.{MoveValue, allocs_of}
 use Rattle.regalloc2_function.specs.AllocatedRun.{moves_at}
-use Rattle.regalloc2_checker_facts.specs.Listing.{listed_move}
-use Rattle.regalloc2_checker_facts.specs.TableFacts.{facts_now, IsListed, IsListedVReg, IsMissingUnlisted}
-use Rattle.regalloc2_checker_facts.proofs.TableSteps.{kept-twice}
-use Rattle.regalloc2_checker_facts.proofs.NamedPlaces.{no-missing, moves-listed, operands-listed}
-use Rattle.regalloc2_checker_facts.proofs.TransferFollowsFacts.{IsReadAt, after_run, listed_moves, listed_places}
-use Rattle.regalloc2_checker_facts.proofs.ErrorsOnPaths.{early_run, inst_report, added_in_turn}
+use Rattle.regalloc2_checker.specs.Listing.{listed_move}
+use Rattle.regalloc2_checker.specs.TableFacts.{facts_now, IsListed, IsListedVReg, IsMissingUnlisted}
+use Rattle.regalloc2_checker.proofs.TableSteps.{kept-twice}
+use Rattle.regalloc2_checker.proofs.NamedPlaces.{no-missing, moves-listed, operands-listed}
+use Rattle.regalloc2_checker.proofs.TransferFollowsFacts.{IsReadAt, after_run, listed_moves, listed_places}
+use Rattle.regalloc2_checker.proofs.ErrorsOnPaths.{early_run, inst_report, added_in_turn}
 use Rattle.regalloc2_checker.proofs.check.check_inst.Goals as goal
 
 pub returns-clause-now : goal.returns-clause-now

@@ -1,7 +1,7 @@
 use Rattle.std.proofs.lemmas.Result.{IfOk-from_err}
 use Rattle.std.proofs.Common.{ap, ◌∙◌, ◌++◌, ◌∷◌, []}
-use Rattle.regalloc2_checker_facts.specs.declared.errors.CheckerError.{CheckerError}
-use Rattle.regalloc2_checker_facts.proofs.OperandErrors.{added_none, added_fine, added_fault, added_all}
+use Rattle.regalloc2_checker.specs.declared.errors.CheckerError.{CheckerError}
+use Rattle.regalloc2_checker.proofs.OperandErrors.{added_none, added_fine, added_fault, added_all}
 use Rattle.regalloc2_checker.proofs.check.check_moves.Goals as goal
 
 pub loop-k-init : goal.loop-k-init

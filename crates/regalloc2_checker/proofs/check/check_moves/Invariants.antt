@@ -1,8 +1,8 @@
 use Rattle.std.proofs.Common.{map, take}
 use Rattle.regalloc2_function.specs.Machine.{MachineValue}
-use Rattle.regalloc2_checker_facts.specs.Listing.{listed_move}
-use Rattle.regalloc2_checker_facts.specs.CheckInputs.{AreStackSlots}
-use Rattle.regalloc2_checker_facts.proofs.OperandErrors.{AreAdded}
+use Rattle.regalloc2_checker.specs.Listing.{listed_move}
+use Rattle.regalloc2_checker.specs.CheckInputs.{AreStackSlots}
+use Rattle.regalloc2_checker.proofs.OperandErrors.{AreAdded}
 use Rattle.regalloc2_checker.proofs.check.check_moves.Given as goal
 
 -- the errors of the moves before were added

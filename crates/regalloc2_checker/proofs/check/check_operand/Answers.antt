@@ -3,8 +3,8 @@ use Rattle.std.proofs.Common.{◌≡◌, sym}
 use Rattle.std.specs.Prelude.{true}
 use Rattle.regalloc2_names.specs.Register.{VirtualRegister}
 use Rattle.regalloc2_names.specs.Place.{Place}
-use Rattle.regalloc2_checker_facts.specs.TableFacts.{facts_now}
-use Rattle.regalloc2_checker_facts.proofs.OperandErrors.{operand_is, is_there, missing_at, value_at, constraint_at}
+use Rattle.regalloc2_checker.specs.TableFacts.{facts_now}
+use Rattle.regalloc2_checker.proofs.OperandErrors.{operand_is, is_there, missing_at, value_at, constraint_at}
 use Rattle.regalloc2_checker.proofs.check.check_operand.Goals as goal
 
 pub returns-then-is_none : goal.returns-then-is_none

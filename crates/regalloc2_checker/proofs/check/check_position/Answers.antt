@@ -3,9 +3,9 @@ use Rattle.std.proofs.Common.{◌≡◌, sym, arith}
 use Rattle.std.specs.Prelude.{true}
 use Rattle.regalloc2_names.specs.Register.{VirtualRegister}
 use Rattle.regalloc2_names.specs.Place.{Place}
-use Rattle.regalloc2_checker_facts.specs.TableFacts.{facts_now}
-use Rattle.regalloc2_checker_facts.specs.Report.{invalid_operand}
-use Rattle.regalloc2_checker_facts.proofs.OperandErrors.{fine_more, fine_of, judged_some, not_so}
+use Rattle.regalloc2_checker.specs.TableFacts.{facts_now}
+use Rattle.regalloc2_checker.specs.Report.{invalid_operand}
+use Rattle.regalloc2_checker.proofs.OperandErrors.{fine_more, fine_of, judged_some, not_so}
 use Rattle.regalloc2_checker.proofs.check.check_position.Goals as goal
 
 pub loop-k-init : goal.loop-k-init

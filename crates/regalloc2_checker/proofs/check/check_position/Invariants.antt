@@ -1,9 +1,9 @@
 use Rattle.std.proofs.Common.{◌≡◌}
 use Rattle.std.specs.Prelude.{true}
 use Rattle.regalloc2_function.specs.Machine.{MachineValue}
-use Rattle.regalloc2_checker_facts.specs.CheckInputs.{AreStackSlots}
-use Rattle.regalloc2_checker_facts.specs.TableFacts.{facts_now}
-use Rattle.regalloc2_checker_facts.specs.Report.{AreFineBelow}
+use Rattle.regalloc2_checker.specs.CheckInputs.{AreStackSlots}
+use Rattle.regalloc2_checker.specs.TableFacts.{facts_now}
+use Rattle.regalloc2_checker.specs.Report.{AreFineBelow}
 use Rattle.regalloc2_checker.proofs.check.check_position.Given as goal
 
 -- those before are fine

@@ -4,8 +4,8 @@ use Rattle.std.specs.Prelude.{true}
 use Rattle.std.specs.Vec.{vec_len}
 use Rattle.regalloc2_index.proofs.Bools.{not_both}
 use Rattle.regalloc2_names.specs.Register.{VirtualRegister}
-use Rattle.regalloc2_checker_facts.specs.TableFacts.{facts_now}
-use Rattle.regalloc2_checker_facts.proofs.OperandErrors.{unknown_fault, incorrect_fault}
+use Rattle.regalloc2_checker.specs.TableFacts.{facts_now}
+use Rattle.regalloc2_checker.proofs.OperandErrors.{unknown_fault, incorrect_fault}
 use Rattle.regalloc2_checker.proofs.check.check_val.Goals as goal
 
 pub returns-then-is_empty : goal.returns-then-is_empty

@@ -1,5 +1,5 @@
 use Rattle.regalloc2_function.specs.Views.{machine_of, output_of}
-use Rattle.regalloc2_checker_facts.proofs.NoErrorsIsFaithful.{report_verdict}
+use Rattle.regalloc2_checker.proofs.NoErrorsIsFaithful.{report_verdict}
 use Rattle.regalloc2_checker.proofs.checker.check_output.Goals as goal
 
 pub returns-in-Ok-clause-verdict : goal.returns-in-Ok-clause-verdict

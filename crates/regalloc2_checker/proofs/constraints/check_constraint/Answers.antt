@@ -1,5 +1,5 @@
-use Rattle.regalloc2_checker_facts.specs.Report.IsConstraintFault.{no_register, no_stack, not_fixed}
-use Rattle.regalloc2_checker_facts.proofs.OperandErrors.{not_so}
+use Rattle.regalloc2_checker.specs.Report.IsConstraintFault.{no_register, no_stack, not_fixed}
+use Rattle.regalloc2_checker.proofs.OperandErrors.{not_so}
 use Rattle.regalloc2_checker.proofs.constraints.check_constraint.Goals as goal
 
 pub returns-else-is_plain_reg : goal.returns-else-is_plain_reg

@@ -1,6 +1,6 @@
 use Rattle.std.proofs.Common.{rules}
-use Rattle.regalloc2_checker_facts.specs.Report.IsConstraintFault.{limits_no_register, past_limit}
-use Rattle.regalloc2_checker_facts.proofs.OperandErrors.{not_so}
+use Rattle.regalloc2_checker.specs.Report.IsConstraintFault.{limits_no_register, past_limit}
+use Rattle.regalloc2_checker.proofs.OperandErrors.{not_so}
 use Rattle.regalloc2_checker.proofs.constraints.check_limit.Goals as goal
 
 pub returns-then-not-is_plain_reg : goal.returns-then-not-is_plain_reg

@@ -1,6 +1,6 @@
 use Rattle.std.proofs.Common.{arith, rules}
-use Rattle.regalloc2_checker_facts.specs.Report.IsConstraintFault.{reuses_no_register, reuses_no_operand, not_reused}
-use Rattle.regalloc2_checker_facts.proofs.OperandErrors.{not_so}
+use Rattle.regalloc2_checker.specs.Report.IsConstraintFault.{reuses_no_register, reuses_no_operand, not_reused}
+use Rattle.regalloc2_checker.proofs.OperandErrors.{not_so}
 use Rattle.regalloc2_checker.proofs.constraints.check_reuse.Goals as goal
 
 pub returns-then-not-is_reg : goal.returns-then-not-is_reg

@@ -1,4 +1,4 @@
-use Rattle.regalloc2_checker_facts.proofs.Members.{slots_more, slots_done}
+use Rattle.regalloc2_checker.proofs.Members.{slots_more, slots_done}
 use Rattle.regalloc2_checker.proofs.constraints.stack_slots.Goals as goal
 
 pub loop-reg-preserved : goal.loop-reg-preserved

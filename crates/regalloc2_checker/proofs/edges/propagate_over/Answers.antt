@@ -3,15 +3,15 @@ use Rattle.std.proofs.Common.{ℕ, ◌≡◌, ◌<◌, List, Bool, length, slice
 use Rattle.std.proofs.lemmas.List.{length-set}
 use Rattle.std.specs.BinaryHeap.{heap_items, heap_len}
 use Rattle.regalloc2_function.specs.FunctionValue.{FunctionValue, block_at}
-use Rattle.regalloc2_checker_facts.specs.Facts.{Facts}
-use Rattle.regalloc2_checker_facts.specs.Propagation.{AreReached, over}
-use Rattle.regalloc2_checker_facts.specs.Swept.{laid, done_at}
-use Rattle.regalloc2_checker_facts.specs.TableFacts.{facts_now}
-use Rattle.regalloc2_checker_facts.specs.Tables.{BlockView, views, IsMeet}
-use Rattle.regalloc2_checker_facts.proofs.BlocksInRange.{index_is}
-use Rattle.regalloc2_checker_facts.proofs.Laid.{laid-meet}
-use Rattle.regalloc2_checker_facts.proofs.Queues.{views-kept, alike-after, over-is, reached-either, left-falls, left-stays, sized-on}
-use Rattle.regalloc2_checker_facts.proofs.TableSteps.{table-kept}
+use Rattle.regalloc2_checker.specs.Facts.{Facts}
+use Rattle.regalloc2_checker.specs.Propagation.{AreReached, over}
+use Rattle.regalloc2_checker.specs.Swept.{laid, done_at}
+use Rattle.regalloc2_checker.specs.TableFacts.{facts_now}
+use Rattle.regalloc2_checker.specs.Tables.{BlockView, views, IsMeet}
+use Rattle.regalloc2_checker.proofs.BlocksInRange.{index_is}
+use Rattle.regalloc2_checker.proofs.Laid.{laid-meet}
+use Rattle.regalloc2_checker.proofs.Queues.{views-kept, alike-after, over-is, reached-either, left-falls, left-stays, sized-on}
+use Rattle.regalloc2_checker.proofs.TableSteps.{table-kept}
 use Rattle.regalloc2_checker.proofs.edges.propagate_over.Goals as goal
 
 -- facts passed over an edge, by its position

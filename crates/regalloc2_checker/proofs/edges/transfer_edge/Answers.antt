@@ -3,9 +3,9 @@ use Rattle.std.proofs.Common.{◌≡◌, ◌<◌, ℕ, List, length, slice_index
 use Rattle.std.specs.Prelude.{All}
 use Rattle.regalloc2_names.specs.Register.{VirtualRegister}
 use Rattle.regalloc2_function.specs.FunctionValue.{FunctionValue, block_at}
-use Rattle.regalloc2_checker_facts.specs.TableFacts.{facts_now, IsListedVReg}
-use Rattle.regalloc2_checker_facts.proofs.BlocksInRange.{index_is}
-use Rattle.regalloc2_checker_facts.proofs.TransferFollowsFacts.{over_run}
+use Rattle.regalloc2_checker.specs.TableFacts.{facts_now, IsListedVReg}
+use Rattle.regalloc2_checker.proofs.BlocksInRange.{index_is}
+use Rattle.regalloc2_checker.proofs.TransferFollowsFacts.{over_run}
 use Rattle.regalloc2_checker.proofs.edges.transfer_edge.Goals as goal
 
 pub take_arguments-requires-clause-params : goal.take_arguments-requires-clause-params

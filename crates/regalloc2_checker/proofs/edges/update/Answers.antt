@@ -1,8 +1,8 @@
 use Rattle.std.proofs.lemmas.Result.{IfOk-from_err}
 use Rattle.std.proofs.Common.{◌∙◌, sym, refl}
 use Rattle.std.specs.Prelude.{◌&&◌}
-use Rattle.regalloc2_checker_tables.specs.Showing.{shows_in, shows_now}
-use Rattle.regalloc2_checker_facts.proofs.Updates.{update-first, update-less, others-kept, meet-as}
+use Rattle.regalloc2_checker.specs.Showing.{shows_in, shows_now}
+use Rattle.regalloc2_checker.proofs.Updates.{update-first, update-less, others-kept, meet-as}
 use Rattle.regalloc2_checker.proofs.edges.update.Goals as goal
 
 pub returns-then-index : goal.returns-then-index

@@ -1,13 +1,13 @@
 use Rattle.std.proofs.Common.{ℕ, ◌≡◌, ◌<◌, true, false, length, subst, sym, ap, ◌∙◌, arith, rules}
 use Rattle.regalloc2_function.specs.FunctionValue.{FunctionValue}
-use Rattle.regalloc2_checker_facts.specs.Report.{BlockReports}
-use Rattle.regalloc2_checker_facts.specs.TableFacts.{facts_table}
-use Rattle.regalloc2_checker_facts.specs.Tables.{views}
-use Rattle.regalloc2_checker_facts.proofs.Blocks.{no_blocks, blocks_marked, blocks_unmarked}
-use Rattle.regalloc2_checker_facts.proofs.FactsFollowMaps.{AreEarlier}
-use Rattle.regalloc2_checker_facts.proofs.TableSteps.{kept-same, kept-twice, table-kept}
-use Rattle.regalloc2_checker_facts.proofs.TransferFollowsFacts.{named_same}
-use Rattle.regalloc2_checker_facts.proofs.Updates.{reached-is, facts-is}
+use Rattle.regalloc2_checker.specs.Report.{BlockReports}
+use Rattle.regalloc2_checker.specs.TableFacts.{facts_table}
+use Rattle.regalloc2_checker.specs.Tables.{views}
+use Rattle.regalloc2_checker.proofs.Blocks.{no_blocks, blocks_marked, blocks_unmarked}
+use Rattle.regalloc2_checker.proofs.FactsFollowMaps.{AreEarlier}
+use Rattle.regalloc2_checker.proofs.TableSteps.{kept-same, kept-twice, table-kept}
+use Rattle.regalloc2_checker.proofs.TransferFollowsFacts.{named_same}
+use Rattle.regalloc2_checker.proofs.Updates.{reached-is, facts-is}
 use Rattle.regalloc2_checker.proofs.find_errors.check_all.Goals as goal
 
 pub loop-b-init : goal.loop-b-init

@@ -1,8 +1,8 @@
 use Rattle.std.proofs.Common.{◌≡◌, ◌≤◌, length}
 use Rattle.regalloc2_function.specs.Machine.{MachineValue}
-use Rattle.regalloc2_checker_tables.specs.Showing.{AreTablesKept}
-use Rattle.regalloc2_checker_facts.specs.CheckInputs.{AreStackSlots}
-use Rattle.regalloc2_checker_facts.specs.Report.{BlockReports}
+use Rattle.regalloc2_checker.specs.Showing.{AreTablesKept}
+use Rattle.regalloc2_checker.specs.CheckInputs.{AreStackSlots}
+use Rattle.regalloc2_checker.specs.Report.{BlockReports}
 use Rattle.regalloc2_checker.proofs.find_errors.check_all.Given as goal
 
 abbrev pub ghost-check_block : goal.ghost-check_block

@@ -1,12 +1,12 @@
 use Rattle.std.proofs.Common.{◌≡◌, ◌<◌, ◌≤◌, length, ◌∙◌, ap, arith, rules}
 use Rattle.regalloc2_index.specs.Range.{Span}
 use Rattle.regalloc2_function.specs.FunctionValue.{FunctionValue, block_at}
-use Rattle.regalloc2_checker_tables.specs.Showing.{shows_in}
-use Rattle.regalloc2_checker_facts.specs.TableFacts.{facts_now, facts_table}
-use Rattle.regalloc2_checker_facts.proofs.Blocks.{judged_first, judged_next, judged_end}
-use Rattle.regalloc2_checker_facts.proofs.BlocksInRange.{insts_within, nonempty}
-use Rattle.regalloc2_checker_facts.proofs.TableSteps.{now-as, kept-twice}
-use Rattle.regalloc2_checker_facts.proofs.TransferFollowsFacts.{named_same}
+use Rattle.regalloc2_checker.specs.Showing.{shows_in}
+use Rattle.regalloc2_checker.specs.TableFacts.{facts_now, facts_table}
+use Rattle.regalloc2_checker.proofs.Blocks.{judged_first, judged_next, judged_end}
+use Rattle.regalloc2_checker.proofs.BlocksInRange.{insts_within, nonempty}
+use Rattle.regalloc2_checker.proofs.TableSteps.{now-as, kept-twice}
+use Rattle.regalloc2_checker.proofs.TransferFollowsFacts.{named_same}
 use Rattle.std.proofs.lemmas.Result.{err_from_is_err_and}
 use Rattle.regalloc2_checker.proofs.find_errors.check_block.Goals as goal
 

@@ -1,11 +1,11 @@
 use Rattle.std.proofs.Common.{◌≡◌, ◌≤◌}
 use Rattle.regalloc2_function.specs.FunctionValue.{block_at}
 use Rattle.regalloc2_function.specs.Machine.{MachineValue}
-use Rattle.regalloc2_checker_tables.specs.Showing.{AreTablesKept}
-use Rattle.regalloc2_checker_facts.specs.Blocks.{IsKnownWithin}
-use Rattle.regalloc2_checker_facts.specs.CheckInputs.{AreStackSlots}
-use Rattle.regalloc2_checker_facts.specs.TableFacts.{facts_now, facts_table}
-use Rattle.regalloc2_checker_facts.proofs.Blocks.{IsJudgedTo}
+use Rattle.regalloc2_checker.specs.Showing.{AreTablesKept}
+use Rattle.regalloc2_checker.specs.Blocks.{IsKnownWithin}
+use Rattle.regalloc2_checker.specs.CheckInputs.{AreStackSlots}
+use Rattle.regalloc2_checker.specs.TableFacts.{facts_now, facts_table}
+use Rattle.regalloc2_checker.proofs.Blocks.{IsJudgedTo}
 use Rattle.regalloc2_checker.proofs.find_errors.check_block.Given as goal
 
 abbrev pub ghost-check_inst : goal.ghost-check_inst

@@ -3,7 +3,7 @@ use Rattle.std.proofs.lemmas.Bool.{OnTrue_at}
 use Rattle.std.proofs.lemmas.Result.{IfOk-weaker}
 use Rattle.regalloc2_function.specs.FunctionValue.{FunctionValue}
 use Rattle.regalloc2_function.specs.Views.{machine_of}
-use Rattle.regalloc2_checker_facts.proofs.CopiedListing.{listing_of}
+use Rattle.regalloc2_checker.proofs.CopiedListing.{listing_of}
 use Rattle.regalloc2_checker.proofs.find_errors.find_errors.Goals as goal
 
 pub is_clean-requires : goal.is_clean-requires

@@ -2,7 +2,7 @@ use Rattle.std.proofs.lemmas.Result.{IfOk-from_err}
 use Rattle.std.proofs.Common.{sym, ap, refl}
 use Rattle.regalloc2_names.specs.Place.{is_in_slot}
 use Rattle.regalloc2_names.specs.PlaceBits.{index_of_place}
-use Rattle.regalloc2_checker_facts.proofs.AddedSlots.{adds_own, adds_at}
+use Rattle.regalloc2_checker.proofs.AddedSlots.{adds_own, adds_at}
 use Rattle.regalloc2_checker.proofs.slots.add_slot.Goals as goal
 
 pub returns-in_ok-add : goal.returns-in_ok-add

@@ -3,10 +3,10 @@ use Rattle.std.specs.Vec.{vec_len}
 use Rattle.std.proofs.lemmas.Bool.{OnTrue_from, cases_eq, false≢true}
 use Rattle.std.proofs.lemmas.List.{get_or_default, get_or-set_other, get_or-set_same, length-set, nil_from_length}
 use Rattle.regalloc2_function.specs.FunctionValue.{FunctionValue}
-use Rattle.regalloc2_checker_facts.specs.Swept.{done_at}
-use Rattle.regalloc2_checker_facts.proofs.Sweeps.{swept-checked}
+use Rattle.regalloc2_checker.specs.Swept.{done_at}
+use Rattle.regalloc2_checker.proofs.Sweeps.{swept-checked}
 use Rattle.std.proofs.lemmas.Result.{err_from_is_err_and}
-use Rattle.regalloc2_checker_facts.proofs.Queues.{alike-same}
+use Rattle.regalloc2_checker.proofs.Queues.{alike-same}
 use Rattle.regalloc2_checker.proofs.sweep.finish.Goals as goal
 
 -- what is done stays done where one more block is

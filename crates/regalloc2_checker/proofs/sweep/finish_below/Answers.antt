@@ -1,9 +1,9 @@
 use Rattle.std.proofs.Common.{ℕ, ◌≡◌, ◌<◌, Bool, true, false, List, get_or, length, ap, refl, sym, subst, ◌∙◌, arith, below_more}
 use Rattle.std.proofs.lemmas.Bool.{OnTrue_at, false≢true}
-use Rattle.regalloc2_checker_facts.specs.Swept.{done_at}
-use Rattle.regalloc2_checker_facts.proofs.Queues.{alike-same}
-use Rattle.regalloc2_checker_facts.proofs.Sweeps.{further-twice}
-use Rattle.regalloc2_checker_facts.proofs.TransferFollowsFacts.{named_same}
+use Rattle.regalloc2_checker.specs.Swept.{done_at}
+use Rattle.regalloc2_checker.proofs.Queues.{alike-same}
+use Rattle.regalloc2_checker.proofs.Sweeps.{further-twice}
+use Rattle.regalloc2_checker.proofs.TransferFollowsFacts.{named_same}
 use Rattle.std.proofs.lemmas.Result.{err_from_is_err_and}
 use Rattle.regalloc2_checker.proofs.sweep.finish_below.Goals as goal
 

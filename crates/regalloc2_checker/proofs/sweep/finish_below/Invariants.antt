@@ -1,7 +1,7 @@
 use Rattle.std.proofs.Common.{ℕ, ◌≡◌, ◌<◌, ◌≤◌, true, false, length, get_or}
 use Rattle.std.specs.Prelude.{None}
-use Rattle.regalloc2_checker_facts.specs.Swept.{done_at, IsFurther, IsSweptOn}
-use Rattle.regalloc2_checker_facts.specs.Tables.{views}
+use Rattle.regalloc2_checker.specs.Swept.{done_at, IsFurther, IsSweptOn}
+use Rattle.regalloc2_checker.specs.Tables.{views}
 use Rattle.regalloc2_checker.proofs.sweep.finish_below.Given as goal
 
 abbrev pub ghost-finish : goal.ghost-finish

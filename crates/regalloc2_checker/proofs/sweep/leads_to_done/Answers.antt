@@ -1,8 +1,8 @@
 use Rattle.std.proofs.Common.{◌≡◌, false, ◌∙◌, arith, below_more}
 use Rattle.std.specs.Prelude.{slice_index}
 use Rattle.regalloc2_function.specs.FunctionValue.{FunctionValue, block_at}
-use Rattle.regalloc2_checker_facts.specs.Swept.{done_at}
-use Rattle.regalloc2_checker_facts.proofs.BlocksInRange.{index_is}
+use Rattle.regalloc2_checker.specs.Swept.{done_at}
+use Rattle.regalloc2_checker.proofs.BlocksInRange.{index_is}
 use Rattle.regalloc2_checker.proofs.sweep.leads_to_done.Goals as goal
 
 pub loop-k-preserved : goal.loop-k-preserved

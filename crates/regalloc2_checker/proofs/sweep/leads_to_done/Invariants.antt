@@ -1,7 +1,7 @@
 use Rattle.std.proofs.Common.{ℕ, ◌≡◌, ◌<◌, ◌≤◌, false, length}
 use Rattle.std.specs.Prelude.{slice_index}
 use Rattle.regalloc2_function.specs.FunctionValue.{block_at}
-use Rattle.regalloc2_checker_facts.specs.Swept.{done_at}
+use Rattle.regalloc2_checker.specs.Swept.{done_at}
 use Rattle.regalloc2_checker.proofs.sweep.leads_to_done.Given as goal
 
 -- the successors so far aren't done

@@ -1,8 +1,8 @@
 use Rattle.std.proofs.Common.{ap, ◌∙◌, Bool, false, List, get_or, refl}
 use Rattle.std.proofs.lemmas.Bool.{OnTrue_at}
 use Rattle.regalloc2_function.specs.FunctionValue.{FunctionValue}
-use Rattle.regalloc2_checker_facts.proofs.Queues.{alike-same}
-use Rattle.regalloc2_checker_facts.proofs.Sweeps.{swept-dropped}
+use Rattle.regalloc2_checker.proofs.Queues.{alike-same}
+use Rattle.regalloc2_checker.proofs.Sweeps.{swept-dropped}
 use Rattle.std.proofs.lemmas.Result.{err_from_is_err_and}
 use Rattle.regalloc2_checker.proofs.sweep.make_room.Goals as goal
 

@@ -2,11 +2,11 @@ use Rattle.std.proofs.Common.{◌<◌, List, Bool, length, refl, sym, subst, ari
 use Rattle.std.specs.BinaryHeap.{heap_items}
 use Rattle.std.proofs.lemmas.Bool.{OnTrue_at, OnTrue_from}
 use Rattle.regalloc2_function.specs.FunctionValue.{FunctionValue}
-use Rattle.regalloc2_checker_facts.specs.Propagation.{IsReady}
-use Rattle.regalloc2_checker_facts.proofs.FactsFollowMaps.{AreEarlier}
-use Rattle.regalloc2_checker_facts.proofs.Queues.{all-settled, ready-popped}
-use Rattle.regalloc2_checker_facts.proofs.RoundInvariant.{solved}
-use Rattle.regalloc2_checker_facts.proofs.Sweeps.{report-swept}
+use Rattle.regalloc2_checker.specs.Propagation.{IsReady}
+use Rattle.regalloc2_checker.proofs.FactsFollowMaps.{AreEarlier}
+use Rattle.regalloc2_checker.proofs.Queues.{all-settled, ready-popped}
+use Rattle.regalloc2_checker.proofs.RoundInvariant.{solved}
+use Rattle.regalloc2_checker.proofs.Sweeps.{report-swept}
 use Rattle.std.proofs.lemmas.Result.{err_from_is_err_and}
 use Rattle.regalloc2_checker.proofs.sweep.pass_all_on.Goals as goal
 

@@ -1,5 +1,5 @@
 use Rattle.std.specs.BinaryHeap.{heap_items}
-use Rattle.regalloc2_checker_facts.specs.Swept.{IsSweepUnderWay}
+use Rattle.regalloc2_checker.specs.Swept.{IsSweepUnderWay}
 use Rattle.regalloc2_checker.proofs.sweep.pass_all_on.Given as goal
 
 abbrev pub ghost-finish_below : goal.ghost-finish_below

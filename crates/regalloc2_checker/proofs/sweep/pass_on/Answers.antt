@@ -2,11 +2,11 @@ use Rattle.std.proofs.Common.{◌≡◌, List, Bool, length, ap, sym, subst, ◌
 use Rattle.std.specs.BinaryHeap.{heap_items}
 use Rattle.std.proofs.lemmas.Bool.{OnTrue_at, OnFalse_at}
 use Rattle.regalloc2_function.specs.FunctionValue.{FunctionValue}
-use Rattle.regalloc2_checker_facts.specs.Propagation.{IsReady}
-use Rattle.regalloc2_checker_facts.specs.Swept.{LeadsToNoneDone}
-use Rattle.regalloc2_checker_facts.proofs.Queues.{alike-twice}
-use Rattle.regalloc2_checker_facts.proofs.Sweeps.{sweep-tables, way-swept}
-use Rattle.regalloc2_checker_facts.proofs.TransferFollowsFacts.{named_same}
+use Rattle.regalloc2_checker.specs.Propagation.{IsReady}
+use Rattle.regalloc2_checker.specs.Swept.{LeadsToNoneDone}
+use Rattle.regalloc2_checker.proofs.Queues.{alike-twice}
+use Rattle.regalloc2_checker.proofs.Sweeps.{sweep-tables, way-swept}
+use Rattle.regalloc2_checker.proofs.TransferFollowsFacts.{named_same}
 use Rattle.std.proofs.lemmas.Result.{err_from_is_err_and}
 use Rattle.regalloc2_checker.proofs.sweep.pass_on.Goals as goal
 

@@ -2,9 +2,9 @@ use Rattle.std.proofs.Common.{List, ◌∙◌, arith}
 use Rattle.regalloc2_function.specs.FunctionValue.{FunctionValue}
 use Rattle.regalloc2_function.specs.OutputValue.{OutputValue}
 use Rattle.regalloc2_function.specs.Views.{output_of}
-use Rattle.regalloc2_checker_facts.specs.Tables.{BlockView, views}
-use Rattle.regalloc2_checker_facts.proofs.Queues.{alike-same}
-use Rattle.regalloc2_checker_facts.proofs.Sweeps.{sweep-tables, swept-first}
+use Rattle.regalloc2_checker.specs.Tables.{BlockView, views}
+use Rattle.regalloc2_checker.proofs.Queues.{alike-same}
+use Rattle.regalloc2_checker.proofs.Sweeps.{sweep-tables, swept-first}
 use Rattle.regalloc2_checker.proofs.sweep.start_sweep.Goals as goal
 
 pub returns : goal.returns

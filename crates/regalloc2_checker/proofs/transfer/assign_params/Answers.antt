@@ -4,11 +4,11 @@ use Rattle.std.specs.Prelude.{min}
 use Rattle.std.specs.declared.vec.Vec.{Vec}
 use Rattle.std.proofs.lemmas.List.{get_or_default}
 use Rattle.regalloc2_names.specs.Register.{VirtualRegister}
-use Rattle.regalloc2_checker_tables.specs.Showing.{shows_now}
-use Rattle.regalloc2_checker_facts.specs.Renamed.{HoldersAre}
-use Rattle.regalloc2_checker_facts.specs.TableFacts.{facts_now, IsListedVReg}
-use Rattle.regalloc2_checker_facts.proofs.RestOfList.{renamed_none, renamed_more, renamed_all, vreg-listed}
-use Rattle.regalloc2_checker_facts.proofs.TableSteps.{kept-twice, given-renamed}
+use Rattle.regalloc2_checker.specs.Showing.{shows_now}
+use Rattle.regalloc2_checker.specs.Renamed.{HoldersAre}
+use Rattle.regalloc2_checker.specs.TableFacts.{facts_now, IsListedVReg}
+use Rattle.regalloc2_checker.proofs.RestOfList.{renamed_none, renamed_more, renamed_all, vreg-listed}
+use Rattle.regalloc2_checker.proofs.TableSteps.{kept-twice, given-renamed}
 use Rattle.regalloc2_checker.proofs.transfer.assign_params.Goals as goal
 
 pub loop-k-init : goal.loop-k-init

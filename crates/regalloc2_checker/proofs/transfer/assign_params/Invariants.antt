@@ -1,6 +1,6 @@
-use Rattle.regalloc2_checker_tables.specs.Showing.{AreTablesKept}
-use Rattle.regalloc2_checker_facts.specs.TableFacts.{facts_now}
-use Rattle.regalloc2_checker_facts.proofs.RestOfList.{AreRenamedTo}
+use Rattle.regalloc2_checker.specs.Showing.{AreTablesKept}
+use Rattle.regalloc2_checker.specs.TableFacts.{facts_now}
+use Rattle.regalloc2_checker.proofs.RestOfList.{AreRenamedTo}
 use Rattle.regalloc2_checker.proofs.transfer.assign_params.Given as goal
 
 -- so many parameters took what their arguments had

@@ -1,9 +1,9 @@
 use Rattle.std.proofs.Common.{false, sym, ap, ◌∙◌, append_assoc, subst}
 use Rattle.regalloc2_names.specs.Place.{InRegister}
-use Rattle.regalloc2_checker_facts.specs.Facts.{Facts, placed}
-use Rattle.regalloc2_checker_facts.specs.TableFacts.{IsMissingUnlisted}
-use Rattle.regalloc2_checker_facts.proofs.RestOfList.{emptied_none, emptied_more, emptied_set, walk_end}
-use Rattle.regalloc2_checker_facts.proofs.TableSteps.{kept-same, kept-twice}
+use Rattle.regalloc2_checker.specs.Facts.{Facts, placed}
+use Rattle.regalloc2_checker.specs.TableFacts.{IsMissingUnlisted}
+use Rattle.regalloc2_checker.proofs.RestOfList.{emptied_none, emptied_more, emptied_set, walk_end}
+use Rattle.regalloc2_checker.proofs.TableSteps.{kept-same, kept-twice}
 use Rattle.regalloc2_checker.proofs.transfer.clear_clobbers.Goals as goal
 
 pub loop-reg-init : goal.loop-reg-init

@@ -1,8 +1,8 @@
 use Rattle.std.proofs.Common.{◌≡◌, ◌++◌}
 use Rattle.regalloc2_names.specs.Listed.{IsWalkOf}
-use Rattle.regalloc2_checker_tables.specs.Showing.{AreTablesKept}
-use Rattle.regalloc2_checker_facts.specs.TableFacts.{facts_now}
-use Rattle.regalloc2_checker_facts.proofs.RestOfList.{emptied}
+use Rattle.regalloc2_checker.specs.Showing.{AreTablesKept}
+use Rattle.regalloc2_checker.specs.TableFacts.{facts_now}
+use Rattle.regalloc2_checker.proofs.RestOfList.{emptied}
 use Rattle.regalloc2_checker.proofs.transfer.clear_clobbers.Given as goal
 
 -- the registers so far are emptied

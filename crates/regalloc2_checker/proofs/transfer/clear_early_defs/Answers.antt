@@ -1,7 +1,7 @@
 use Rattle.std.proofs.Common.{sym, ◌∙◌, refl, arith, subst}
-use Rattle.regalloc2_checker_facts.specs.TableFacts.{facts_now, IsMissingUnlisted}
-use Rattle.regalloc2_checker_facts.proofs.RestOfList.{early_step, early_done}
-use Rattle.regalloc2_checker_facts.proofs.TableSteps.{kept-same, kept-twice}
+use Rattle.regalloc2_checker.specs.TableFacts.{facts_now, IsMissingUnlisted}
+use Rattle.regalloc2_checker.proofs.RestOfList.{early_step, early_done}
+use Rattle.regalloc2_checker.proofs.TableSteps.{kept-same, kept-twice}
 use Rattle.regalloc2_checker.proofs.transfer.clear_early_defs.Goals as goal
 
 pub loop-k-init : goal.loop-k-init

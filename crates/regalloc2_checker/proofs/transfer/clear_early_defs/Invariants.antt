@@ -1,7 +1,7 @@
 use Rattle.std.proofs.Common.{◌≡◌, drop}
-use Rattle.regalloc2_checker_tables.specs.Showing.{AreTablesKept}
-use Rattle.regalloc2_checker_facts.specs.Facts.{facts_after_early_defs}
-use Rattle.regalloc2_checker_facts.specs.TableFacts.{facts_now}
+use Rattle.regalloc2_checker.specs.Showing.{AreTablesKept}
+use Rattle.regalloc2_checker.specs.Facts.{facts_after_early_defs}
+use Rattle.regalloc2_checker.specs.TableFacts.{facts_now}
 use Rattle.regalloc2_checker.proofs.transfer.clear_early_defs.Given as goal
 
 -- what is left makes of what is there the whole

@@ -1,6 +1,6 @@
 use Rattle.std.proofs.Common.{sym}
-use Rattle.regalloc2_checker_tables.specs.Showing.{shows_now}
-use Rattle.regalloc2_checker_facts.proofs.TableSteps.{cleared-is, cleared-unlisted}
+use Rattle.regalloc2_checker.specs.Showing.{shows_now}
+use Rattle.regalloc2_checker.proofs.TableSteps.{cleared-is, cleared-unlisted}
 use Rattle.regalloc2_checker.proofs.transfer.clear_place.Goals as goal
 
 pub returns-in-Some-clause-now : goal.returns-in-Some-clause-now

@@ -1,9 +1,9 @@
 use Rattle.std.proofs.lemmas.Result.{IfOk-from_err}
 use Rattle.std.proofs.Common.{ℕ, List, sym, subst, arith, ap, ◌∙◌, cond, false}
-use Rattle.regalloc2_checker_facts.specs.Facts.{Facts}
-use Rattle.regalloc2_checker_facts.specs.TableFacts.{facts_now, IsListedVReg}
-use Rattle.regalloc2_checker_facts.proofs.RestOfList.{others-kept, others-more, vreg-listed, without-more, without-none}
-use Rattle.regalloc2_checker_facts.proofs.TableSteps.{kept-same, kept-twice}
+use Rattle.regalloc2_checker.specs.Facts.{Facts}
+use Rattle.regalloc2_checker.specs.TableFacts.{facts_now, IsListedVReg}
+use Rattle.regalloc2_checker.proofs.RestOfList.{others-kept, others-more, vreg-listed, without-more, without-none}
+use Rattle.regalloc2_checker.proofs.TableSteps.{kept-same, kept-twice}
 use Rattle.regalloc2_checker.proofs.transfer.forget_params.Goals as goal
 
 pub loop-k-init : goal.loop-k-init

@@ -1,7 +1,7 @@
 use Rattle.std.specs.Prelude.{◌≡◌, take}
-use Rattle.regalloc2_checker_tables.specs.Showing.{AreTablesKept}
-use Rattle.regalloc2_checker_facts.specs.Renamed.{AreOthersKept, facts_without}
-use Rattle.regalloc2_checker_facts.specs.TableFacts.{facts_now}
+use Rattle.regalloc2_checker.specs.Showing.{AreTablesKept}
+use Rattle.regalloc2_checker.specs.Renamed.{AreOthersKept, facts_without}
+use Rattle.regalloc2_checker.specs.TableFacts.{facts_now}
 use Rattle.regalloc2_checker.proofs.transfer.forget_params.Given as goal
 
 -- so many parameters are forgotten

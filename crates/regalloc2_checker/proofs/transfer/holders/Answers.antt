@@ -1,7 +1,7 @@
 use Rattle.std.proofs.lemmas.Result.{IfOk-from_err}
 use Rattle.std.proofs.Common.{sym}
 use Rattle.regalloc2_names.specs.RegisterBits.{bits_of_vreg}
-use Rattle.regalloc2_checker_facts.proofs.TableSteps.{holders-are, not-found}
+use Rattle.regalloc2_checker.proofs.TableSteps.{holders-are, not-found}
 use Rattle.regalloc2_checker.proofs.transfer.holders.Goals as goal
 
 pub returns-in_default : goal.returns-in_default

@@ -1,7 +1,7 @@
 use Rattle.std.proofs.lemmas.Result.{IfOk-from_err}
 use Rattle.std.proofs.Common.{arith}
-use Rattle.regalloc2_checker_tables.specs.Showing.{shows_now}
-use Rattle.regalloc2_checker_facts.proofs.RestOfList.{vreg-listed, holders-more}
+use Rattle.regalloc2_checker.specs.Showing.{shows_now}
+use Rattle.regalloc2_checker.proofs.RestOfList.{vreg-listed, holders-more}
 use Rattle.regalloc2_checker.proofs.transfer.holders_of_all.Goals as goal
 
 pub holders-requires : goal.holders-requires

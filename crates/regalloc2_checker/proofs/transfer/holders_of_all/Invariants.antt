@@ -1,5 +1,5 @@
-use Rattle.regalloc2_checker_tables.specs.Showing.{shows_now}
-use Rattle.regalloc2_checker_facts.proofs.RestOfList.{HoldersSoFar}
+use Rattle.regalloc2_checker.specs.Showing.{shows_now}
+use Rattle.regalloc2_checker.proofs.RestOfList.{HoldersSoFar}
 use Rattle.regalloc2_checker.proofs.transfer.holders_of_all.Given as goal
 
 -- the holders of so many are found

@@ -1,7 +1,7 @@
 use Rattle.std.proofs.Common.{◌∙◌, sym}
 use Rattle.regalloc2_names.specs.PlaceBits.{bits_of_place}
-use Rattle.regalloc2_checker_facts.proofs.Positions.{at-position}
-use Rattle.regalloc2_checker_facts.proofs.TableSteps.{placed-missing, moved-is, moved-nothing}
+use Rattle.regalloc2_checker.proofs.Positions.{at-position}
+use Rattle.regalloc2_checker.proofs.TableSteps.{placed-missing, moved-is, moved-nothing}
 use Rattle.regalloc2_checker.proofs.transfer.make_move.Goals as goal
 
 pub returns-in-Nothing-clause-now : goal.returns-in-Nothing-clause-now

@@ -1,10 +1,10 @@
 use Rattle.std.proofs.lemmas.Result.{IfOk-from_err}
 use Rattle.std.proofs.Common.{ℕ, List, sym, ◌∙◌, refl, subst, arith}
 use Rattle.regalloc2_names.specs.Place.{Place}
-use Rattle.regalloc2_checker_facts.specs.Listing.{listed_move}
-use Rattle.regalloc2_checker_facts.specs.TableFacts.{facts_now, IsListed, IsMissingUnlisted}
-use Rattle.regalloc2_checker_facts.proofs.RestOfList.{moves_step, moves_done, listed-at}
-use Rattle.regalloc2_checker_facts.proofs.TableSteps.{kept-same, kept-twice}
+use Rattle.regalloc2_checker.specs.Listing.{listed_move}
+use Rattle.regalloc2_checker.specs.TableFacts.{facts_now, IsListed, IsMissingUnlisted}
+use Rattle.regalloc2_checker.proofs.RestOfList.{moves_step, moves_done, listed-at}
+use Rattle.regalloc2_checker.proofs.TableSteps.{kept-same, kept-twice}
 use Rattle.regalloc2_checker.proofs.transfer.make_moves.Goals as goal
 
 pub loop-k-init : goal.loop-k-init

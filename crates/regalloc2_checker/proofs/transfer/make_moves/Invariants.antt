@@ -1,8 +1,8 @@
 use Rattle.std.proofs.Common.{◌≡◌, drop, map}
-use Rattle.regalloc2_checker_facts.specs.Listing.{listed_move}
-use Rattle.regalloc2_checker_tables.specs.Showing.{AreTablesKept}
-use Rattle.regalloc2_checker_facts.specs.Facts.{facts_after_moves}
-use Rattle.regalloc2_checker_facts.specs.TableFacts.{facts_now}
+use Rattle.regalloc2_checker.specs.Listing.{listed_move}
+use Rattle.regalloc2_checker.specs.Showing.{AreTablesKept}
+use Rattle.regalloc2_checker.specs.Facts.{facts_after_moves}
+use Rattle.regalloc2_checker.specs.TableFacts.{facts_now}
 use Rattle.regalloc2_checker.proofs.transfer.make_moves.Given as goal
 
 -- what is left makes of what is there the whole

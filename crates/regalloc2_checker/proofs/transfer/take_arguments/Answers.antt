@@ -1,10 +1,10 @@
 use Rattle.std.proofs.Common.{◌≡◌, ◌∷◌, [], List, sym, subst, arith}
 use Rattle.std.specs.Prelude.{OnOk}
 use Rattle.regalloc2_names.specs.Register.{VirtualRegister}
-use Rattle.regalloc2_checker_facts.specs.Renamed.{facts_renamed}
-use Rattle.regalloc2_checker_facts.specs.TableFacts.{facts_now}
-use Rattle.regalloc2_checker_facts.proofs.TableSteps.{one-of}
-use Rattle.regalloc2_checker_facts.proofs.RestOfList.{vreg-listed}
+use Rattle.regalloc2_checker.specs.Renamed.{facts_renamed}
+use Rattle.regalloc2_checker.specs.TableFacts.{facts_now}
+use Rattle.regalloc2_checker.proofs.TableSteps.{one-of}
+use Rattle.regalloc2_checker.proofs.RestOfList.{vreg-listed}
 use Rattle.regalloc2_checker.proofs.transfer.take_arguments.Goals as goal
 
 pub bounds-params-0 : goal.bounds-params-0

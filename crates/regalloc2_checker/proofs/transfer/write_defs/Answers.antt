@@ -1,9 +1,9 @@
 use Rattle.std.proofs.lemmas.Result.{IfOk-from_err}
 use Rattle.std.proofs.Common.{ℕ, List, sym, ◌∙◌, refl, arith, subst}
 use Rattle.regalloc2_function.specs.OutputValue.{place_at}
-use Rattle.regalloc2_checker_facts.specs.TableFacts.{facts_now, IsMissingUnlisted, IsListed, IsListedVReg}
-use Rattle.regalloc2_checker_facts.proofs.RestOfList.{defs_step, defs_done, place-listed, operand-listed}
-use Rattle.regalloc2_checker_facts.proofs.TableSteps.{kept-same, kept-twice}
+use Rattle.regalloc2_checker.specs.TableFacts.{facts_now, IsMissingUnlisted, IsListed, IsListedVReg}
+use Rattle.regalloc2_checker.proofs.RestOfList.{defs_step, defs_done, place-listed, operand-listed}
+use Rattle.regalloc2_checker.proofs.TableSteps.{kept-same, kept-twice}
 use Rattle.regalloc2_checker.proofs.transfer.write_defs.Goals as goal
 
 pub loop-k-init : goal.loop-k-init

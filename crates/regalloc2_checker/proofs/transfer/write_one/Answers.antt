@@ -1,7 +1,7 @@
 use Rattle.std.proofs.lemmas.Result.{IfOk-from_err}
 use Rattle.std.proofs.Common.{sym}
 use Rattle.regalloc2_names.specs.RegisterBits.{bits_of_vreg}
-use Rattle.regalloc2_checker_facts.proofs.TableSteps.{defined-is, defined-nowhere, not-found}
+use Rattle.regalloc2_checker.proofs.TableSteps.{defined-is, defined-nowhere, not-found}
 use Rattle.regalloc2_checker.proofs.transfer.write_one.Goals as goal
 
 pub returns-in_default-clause-now : goal.returns-in_default-clause-now

@@ -1,11 +1,11 @@
 use Rattle.std.proofs.Common.{◌≡◌, ◌<◌, ◌≤◌, ◌-◌, ℕ, length, ◌∙◌, ap, arith, rules}
 use Rattle.regalloc2_index.specs.Range.{Span}
 use Rattle.regalloc2_function.specs.FunctionValue.{FunctionValue, block_at}
-use Rattle.regalloc2_checker_facts.specs.Fixpoint.{facts_within}
-use Rattle.regalloc2_checker_facts.specs.TableFacts.{facts_now}
-use Rattle.regalloc2_checker_facts.proofs.BlocksInRange.{insts_within, nonempty}
-use Rattle.regalloc2_checker_facts.proofs.TableSteps.{kept-same, kept-twice}
-use Rattle.regalloc2_checker_facts.proofs.TransferFollowsFacts.{within_none, within_more, named_same}
+use Rattle.regalloc2_checker.specs.Fixpoint.{facts_within}
+use Rattle.regalloc2_checker.specs.TableFacts.{facts_now}
+use Rattle.regalloc2_checker.proofs.BlocksInRange.{insts_within, nonempty}
+use Rattle.regalloc2_checker.proofs.TableSteps.{kept-same, kept-twice}
+use Rattle.regalloc2_checker.proofs.TransferFollowsFacts.{within_none, within_more, named_same}
 use Rattle.regalloc2_checker.proofs.transfer_block.transfer_block.Goals as goal
 
 pub loop-i-init : goal.loop-i-init

@@ -1,8 +1,8 @@
 use Rattle.std.proofs.Common.{◌≡◌, ◌≤◌, ◌-◌}
 use Rattle.regalloc2_function.specs.FunctionValue.{block_at}
-use Rattle.regalloc2_checker_tables.specs.Showing.{AreTablesKept}
-use Rattle.regalloc2_checker_facts.specs.Fixpoint.{facts_within}
-use Rattle.regalloc2_checker_facts.specs.TableFacts.{facts_now}
+use Rattle.regalloc2_checker.specs.Showing.{AreTablesKept}
+use Rattle.regalloc2_checker.specs.Fixpoint.{facts_within}
+use Rattle.regalloc2_checker.specs.TableFacts.{facts_now}
 use Rattle.regalloc2_checker.proofs.transfer_block.transfer_block.Given as goal
 
 abbrev pub ghost-transfer_inst : goal.ghost-transfer_inst

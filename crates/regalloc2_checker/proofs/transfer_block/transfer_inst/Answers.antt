@@ -5,10 +5,10 @@ use Rattle.regalloc2_names.specs.Place.{Place}
 use Rattle.regalloc2_function.specs.FunctionValue.{FunctionValue}
 use Rattle.regalloc2_function.specs.OutputValue.{MoveValue}
 use Rattle.regalloc2_function.specs.AllocatedRun.{moves_at}
-use Rattle.regalloc2_checker_facts.specs.Listing.{listed_move}
-use Rattle.regalloc2_checker_facts.specs.TableFacts.{facts_now, IsListed, IsListedVReg, IsMissingUnlisted}
-use Rattle.regalloc2_checker_facts.proofs.NamedPlaces.{no-missing, moves-listed, operands-listed}
-use Rattle.regalloc2_checker_facts.proofs.TransferFollowsFacts.{IsReadAt, after_run, listed_moves, listed_places}
+use Rattle.regalloc2_checker.specs.Listing.{listed_move}
+use Rattle.regalloc2_checker.specs.TableFacts.{facts_now, IsListed, IsListedVReg, IsMissingUnlisted}
+use Rattle.regalloc2_checker.proofs.NamedPlaces.{no-missing, moves-listed, operands-listed}
+use Rattle.regalloc2_checker.proofs.TransferFollowsFacts.{IsReadAt, after_run, listed_moves, listed_places}
 use Rattle.std.proofs.lemmas.Result.{err_from_is_err_and}
 use Rattle.regalloc2_checker.proofs.transfer_block.transfer_inst.Goals as goal
 

@@ -1,6 +1,6 @@
 use Rattle.std.proofs.Common.{ap, cond, nat_eq, true, sym, ◌∙◌}
 use Rattle.std.specs.Option.{is_some}
-use Rattle.regalloc2_shape.specs.Numbers.{NumberSet, has_number}
+use Rattle.regalloc2_function.specs.Numbers.{NumberSet, has_number}
 use Rattle.regalloc2_checker_sets.proofs.HomeLaws.{none-has}
 use Rattle.regalloc2_checker_sets.proofs.homes.add_other.Goals as goal
 

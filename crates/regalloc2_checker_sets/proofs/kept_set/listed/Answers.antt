@@ -1,5 +1,5 @@
 use Rattle.std.proofs.Common.{ℕ, List, [], ◌∷◌, ◌++◌, arith, ap, ◌∙◌}
-use Rattle.regalloc2_shape.specs.Numbers.{times_listed}
+use Rattle.regalloc2_function.specs.Numbers.{times_listed}
 use Rattle.regalloc2_checker_sets.proofs.Bits.{listed-none, listed-more, listed-skip, listed-all}
 use Rattle.regalloc2_checker_sets.proofs.Walked.{walked-on}
 use Rattle.regalloc2_checker_sets.proofs.kept_set.listed.Goals as goal

@@ -1,6 +1,6 @@
 use Rattle.std.proofs.Common.{ℕ, ◌≡◌, ◌++◌, nat_lt}
 use Rattle.std.specs.Prelude.{if◌then◌else◌}
-use Rattle.regalloc2_shape.specs.Numbers.{ListsMembers, times_listed}
+use Rattle.regalloc2_function.specs.Numbers.{ListsMembers, times_listed}
 use Rattle.regalloc2_checker_sets.proofs.kept_set.listed.Given as goal
 
 abbrev pub invariant-loop-member : goal.invariant-loop-member

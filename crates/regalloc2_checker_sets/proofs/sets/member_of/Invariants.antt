@@ -1,5 +1,5 @@
 use Rattle.std.proofs.Common.{ℕ, ◌<◌, ◌++◌}
-use Rattle.regalloc2_shape.specs.Numbers.{ListsMembers, times_listed}
+use Rattle.regalloc2_function.specs.Numbers.{ListsMembers, times_listed}
 use Rattle.regalloc2_checker_sets.proofs.sets.member_of.Given as goal
 
 abbrev pub invariant-loop-member : goal.invariant-loop-member

@@ -10,7 +10,7 @@ use regalloc2_parts::moves::MoveFault;
 use regalloc2_parts::moves::MoveVecWithScratch::{NoScratch, Scratch};
 use regalloc2_parts::vregset::VRegSet;
 use regalloc2_serialize::{FromValue, SerializableFunction, StoredFunction};
-use regalloc2_shape::indexset::IndexSet;
+use regalloc2_function::indexset::IndexSet;
 use regalloc2_test_alloc::{Call, Refusing, is_each_told};
 use serde_json::Value;
 use std::alloc::{AllocError, Allocator, Global};

@@ -1,7 +1,7 @@
 use Rattle.std.proofs.Common.{◌≡◌, ◌∙◌, length, sym, subst, arith}
 use Rattle.std.proofs.lemmas.List.{with_items_is}
 use Rattle.std.proofs.lemmas.Result.{err_from_is_err_and}
-use Rattle.regalloc2_shape.specs.TableLength.{HasRoom}
+use Rattle.regalloc2_function.specs.TableLength.{HasRoom}
 use Rattle.regalloc2_analysis.proofs.branch_defs.sites.branch_sites.Goals as goal
 
 pub note_branches-requires-clause-room : goal.note_branches-requires-clause-room

@@ -1,5 +1,5 @@
 use Rattle.regalloc2_analysis.specs.BranchDefs.Notes.{PassesAmong}
-use Rattle.regalloc2_shape.specs.MarkedNumbers.{Marks}
+use Rattle.regalloc2_function.specs.MarkedNumbers.{Marks}
 use Rattle.regalloc2_analysis.proofs.branch_defs.uses.note_arguments.Given as goal
 
 -- the arguments so far are marked, but for those that the instruction defines

@@ -6,7 +6,7 @@ use Rattle.regalloc2_analysis.specs.BranchDefs.Notes.{PassesOut}
 use Rattle.regalloc2_analysis.proofs.BranchDefsLemmas.BlockEnds.{within_function}
 use Rattle.regalloc2_analysis.proofs.BranchDefsLemmas.UseNotes.{edges_more}
 use Rattle.regalloc2_analysis.proofs.MarkedItems.{marks_nothing}
-use Rattle.regalloc2_shape.specs.MarkedNumbers.{Marks}
+use Rattle.regalloc2_function.specs.MarkedNumbers.{Marks}
 use Rattle.regalloc2_analysis.proofs.branch_defs.uses.note_passed.Goals as goal
 
 pub loop-k-preserved : goal.loop-k-preserved

@@ -4,7 +4,7 @@ use Rattle.regalloc2_names.specs.Operand.{is_def}
 use Rattle.regalloc2_names.specs.Register.{VirtualRegister}
 use Rattle.regalloc2_names.specs.Point.{before, after}
 use Rattle.regalloc2_function.specs.FunctionValue.{FunctionValue}
-use Rattle.regalloc2_shape.specs.TableLength.{HasRoom}
+use Rattle.regalloc2_function.specs.TableLength.{HasRoom}
 use Rattle.regalloc2_analysis.specs.declared.live_ranges.LiveRange.{LiveRange}
 use Rattle.regalloc2_analysis.specs.LiveRanges.LiveRanges.{IsDefiner, IsWanted}
 use Rattle.regalloc2_analysis.specs.LiveRanges.Slots.{HasSlot, IsApart, spread}

@@ -1,5 +1,5 @@
 use Rattle.std.proofs.Common.{◌≡◌, ◌∙◌, sym, ap, arith, get_or, length, ◌≤◌}
-use Rattle.regalloc2_shape.specs.Numbers.{has_number}
+use Rattle.regalloc2_function.specs.Numbers.{has_number}
 use Rattle.regalloc2_analysis_steps.specs.BlockVRegPairs.{BlockSets, holds}
 use Rattle.regalloc2_analysis_steps.proofs.PairSets.{holds_here, holds_past}
 use Rattle.regalloc2_analysis_steps.proofs.sets.BlockVRegs.has.Goals as goal

@@ -3,7 +3,7 @@ use Rattle.std.specs.Prelude.{Option}
 use Rattle.std.specs.Option.{option_map}
 use Rattle.regalloc2_function.specs.OutputValue.{OutputValue}
 use Rattle.regalloc2_function.specs.Views.{output_of, machine_of}
-use Rattle.regalloc2_checker_facts.specs.Report.{IsReport}
+use Rattle.regalloc2_checker.specs.Report.{IsReport}
 use Rattle.regalloc2_checker.proofs.checker.Checker.found.Goals as goal
 
 -- what is prepared isn't nothing

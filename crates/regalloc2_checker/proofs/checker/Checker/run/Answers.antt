@@ -8,9 +8,9 @@ use Rattle.regalloc2_function.specs.OutputValue.{OutputValue}
 use Rattle.regalloc2_function.specs.Views.{machine_of, output_of}
 use Rattle.regalloc2_function.specs.WellFormed.{IsFramed}
 use Rattle.regalloc2_function.specs.Faithful.{IsFaithful}
-use Rattle.regalloc2_checker_facts.specs.Report.{IsReport}
-use Rattle.regalloc2_checker_facts.specs.declared.errors.CheckerError.{CheckerError}
-use Rattle.regalloc2_checker_facts.proofs.NoErrorsIsFaithful.{report_verdict}
+use Rattle.regalloc2_checker.specs.Report.{IsReport}
+use Rattle.regalloc2_checker.specs.declared.errors.CheckerError.{CheckerError}
+use Rattle.regalloc2_checker.proofs.NoErrorsIsFaithful.{report_verdict}
 use Rattle.regalloc2_checker.proofs.checker.Checker.run.Goals as goal
 
 -- a list of one error isn't empty

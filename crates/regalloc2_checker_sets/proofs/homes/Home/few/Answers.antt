@@ -1,6 +1,6 @@
 use Rattle.std.proofs.Common.{ℕ, List, nat_lt, ◌++◌, ap, ◌∙◌}
 use Rattle.std.specs.Option.{option_map}
-use Rattle.regalloc2_shape.specs.Numbers.{times_listed}
+use Rattle.regalloc2_function.specs.Numbers.{times_listed}
 use Rattle.regalloc2_checker_sets.specs.Homes.{HomePlaces, more_in, has_few, place_list, places_list}
 use Rattle.regalloc2_checker_sets.proofs.HomeLaws.{few-listed}
 use Rattle.regalloc2_checker_sets.proofs.homes.Home.few.Goals as goal

@@ -1,5 +1,5 @@
 use Rattle.std.proofs.Common.{ℕ, ◌≡◌, false, subst}
-use Rattle.regalloc2_shape.specs.Numbers.{has_number}
+use Rattle.regalloc2_function.specs.Numbers.{has_number}
 use Rattle.regalloc2_checker_sets.specs.Homes.{HomePlaces}
 use Rattle.regalloc2_checker_sets.proofs.HomeLaws.{empty-has}
 use Rattle.regalloc2_checker_sets.proofs.homes.Home.others.Goals as goal

@@ -1,6 +1,6 @@
 use Rattle.std.proofs.Common.{arith, ap, sym, ◌∙◌}
 use Rattle.std.proofs.lemmas.Bool.{eqb-true}
-use Rattle.regalloc2_shape.specs.Numbers.{NumberSet}
+use Rattle.regalloc2_function.specs.Numbers.{NumberSet}
 use Rattle.regalloc2_checker_sets.specs.EntrySets.{has_bits}
 use Rattle.regalloc2_checker_sets.proofs.TwoSets.{kept-two, kept-many, first-of, second-of, not-none}
 use Rattle.regalloc2_checker_sets.proofs.kept_set.Kept.has.Goals as goal

@@ -1,6 +1,6 @@
 use Rattle.std.proofs.Common.{arith, ap, sym}
 use Rattle.std.proofs.lemmas.Bool.{eqb-true}
-use Rattle.regalloc2_shape.specs.Numbers.{NumberSet}
+use Rattle.regalloc2_function.specs.Numbers.{NumberSet}
 use Rattle.regalloc2_checker_sets.specs.EntrySets.{has_bits, is_member}
 use Rattle.regalloc2_checker_sets.proofs.AllSets.{within-as, less-as}
 use Rattle.regalloc2_checker_sets.proofs.TwoSets.{kept-two, kept-many, two-within, two-first, two-less, not-none}

@@ -1,5 +1,5 @@
 use Rattle.std.proofs.Common.{ap}
-use Rattle.regalloc2_shape.specs.Numbers.{NumberSet}
+use Rattle.regalloc2_function.specs.Numbers.{NumberSet}
 use Rattle.regalloc2_checker_sets.specs.EntrySets.{has_bits}
 use Rattle.regalloc2_checker_sets.proofs.TwoSets.{kept-pushed}
 use Rattle.regalloc2_checker_sets.proofs.kept_set.Kept.many.Goals as goal

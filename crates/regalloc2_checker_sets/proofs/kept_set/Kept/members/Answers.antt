@@ -1,7 +1,7 @@
 use Rattle.std.proofs.Common.{arith, sym, subst}
 use Rattle.std.specs.Prelude.{IfOk}
 use Rattle.std.proofs.lemmas.Bool.{eqb-true}
-use Rattle.regalloc2_shape.specs.Numbers.{NumberSet}
+use Rattle.regalloc2_function.specs.Numbers.{NumberSet}
 use Rattle.regalloc2_checker_sets.specs.EntrySets.{has_bits, ListsBits}
 use Rattle.regalloc2_checker_sets.proofs.Bits.{ok-as}
 use Rattle.regalloc2_checker_sets.proofs.TwoSets.{kept-two, kept-many, lists-same, lists-two, not-none}

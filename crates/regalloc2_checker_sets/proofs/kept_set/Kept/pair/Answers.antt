@@ -1,6 +1,6 @@
 use Rattle.std.proofs.Common.{arith, refl, ap}
 use Rattle.std.proofs.Common.{List, length}
-use Rattle.regalloc2_shape.specs.Numbers.{NumberSet}
+use Rattle.regalloc2_function.specs.Numbers.{NumberSet}
 use Rattle.regalloc2_checker_sets.proofs.TwoSets.{kept-two}
 use Rattle.regalloc2_checker_sets.proofs.kept_set.Kept.pair.Goals as goal
 

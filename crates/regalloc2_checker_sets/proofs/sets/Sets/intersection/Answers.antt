@@ -1,5 +1,5 @@
 use Rattle.std.proofs.Common.{ℕ, List, [], get_or, arith, true, ap, sym, ◌∙◌, cond, nat_eq}
-use Rattle.regalloc2_shape.specs.Numbers.{times_listed, has_number}
+use Rattle.regalloc2_function.specs.Numbers.{times_listed, has_number}
 use Rattle.regalloc2_checker_sets.specs.EntrySets.{is_member}
 use Rattle.regalloc2_checker_sets.proofs.Bits.{both-more, both-none, both-skip, both-all, bits-out}
 use Rattle.regalloc2_checker_sets.proofs.Walked.{walked-on}

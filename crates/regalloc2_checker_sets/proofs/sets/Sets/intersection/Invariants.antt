@@ -1,6 +1,6 @@
 use Rattle.std.proofs.Common.{ℕ, ◌≡◌, ◌++◌, nat_lt}
 use Rattle.std.specs.Prelude.{◌&&◌}
-use Rattle.regalloc2_shape.specs.Numbers.{ListsMembers, times_listed}
+use Rattle.regalloc2_function.specs.Numbers.{ListsMembers, times_listed}
 use Rattle.regalloc2_checker_sets.specs.EntrySets.{has_bits, is_member}
 use Rattle.regalloc2_checker_sets.proofs.sets.Sets.intersection.Given as goal
 

@@ -1,5 +1,5 @@
 use Rattle.std.proofs.Common.{ℕ, ◌≡◌, ◌<◌, List, arith, true, ap, sym, ◌∙◌}
-use Rattle.regalloc2_shape.specs.Numbers.{times_listed}
+use Rattle.regalloc2_function.specs.Numbers.{times_listed}
 use Rattle.regalloc2_checker_sets.specs.EntrySets.{is_member}
 use Rattle.regalloc2_checker_sets.proofs.Bits.{bits-in, bits-small}
 use Rattle.regalloc2_checker_sets.proofs.Walked.{times-nil, walked-on, walked-is, walked-more, walked-end}

@@ -1,5 +1,5 @@
 use Rattle.std.proofs.Common.{ℕ, ◌≡◌, ◌<◌, ◌++◌, true}
-use Rattle.regalloc2_shape.specs.Numbers.{ListsMembers, times_listed}
+use Rattle.regalloc2_function.specs.Numbers.{ListsMembers, times_listed}
 use Rattle.regalloc2_checker_sets.specs.EntrySets.{is_member}
 use Rattle.regalloc2_checker_sets.proofs.sets.Sets.is_subset.Given as goal
 

@@ -1,5 +1,5 @@
 use Rattle.std.proofs.Common.{List, arith, ap, sym, ◌∙◌, refl, subst, ◌+◌}
-use Rattle.regalloc2_shape.specs.Numbers.{NumberSet}
+use Rattle.regalloc2_function.specs.Numbers.{NumberSet}
 use Rattle.regalloc2_checker_sets.specs.EntrySets.{has_bits, all_sets, IsGrown}
 use Rattle.regalloc2_checker_sets.proofs.AllSets.{push-at, push-more}
 use Rattle.regalloc2_checker_sets.proofs.Bits.{same-sets}

@@ -1,6 +1,6 @@
 use Rattle.std.proofs.Common.{List, sym, subst}
 use Rattle.std.specs.Prelude.{Some}
-use Rattle.regalloc2_shape.specs.Numbers.{NumberSet}
+use Rattle.regalloc2_function.specs.Numbers.{NumberSet}
 use Rattle.regalloc2_checker_sets.specs.EntrySets.{IsGrown}
 use Rattle.regalloc2_checker_sets.proofs.Lone.{grown-now}
 use Rattle.regalloc2_checker_sets.proofs.sets.Sets.keep_grown.Goals as goal

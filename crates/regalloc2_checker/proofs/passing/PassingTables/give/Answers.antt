@@ -1,0 +1,42 @@
+use Rattle.std.proofs.lemmas.Result.{IfOk-from_err}
+use Rattle.std.proofs.Common.{ℕ, ◌<◌, List, length, get_or, ap, sym, subst}
+use Rattle.regalloc2_checker_sets.proofs.Results.{on_ok_as}
+use Rattle.regalloc2_checker.proofs.Shown.{shown-after, inside-kept, settled-seen, given-shown}
+use Rattle.regalloc2_checker.proofs.passing.PassingTables.give.Goals as goal
+
+pub give-requires-clause-vreg : goal.give-requires-clause-vreg
+give-requires-clause-vreg g c =
+    let b = settled-seen c.args.self.now c.settle_for.new.self c.self.inside.tables c.self.inside.passed c.self.inside.saved.items c.args.vreg c.self.view_is
+    c.in_ok-settle_for.ensures.kept
+    c.in_ok-settle_for.ensures.now c.in_ok-settle_for.ensures.apart in
+    subst (λ (vs : List ℕ). c.args.vreg < length vs) (sym b.vregs) c.requires.vreg
+
+pub give-requires-clause-places : goal.give-requires-clause-places
+give-requires-clause-places g c i e =
+    let b = settled-seen c.args.self.now c.settle_for.new.self c.self.inside.tables c.self.inside.passed c.self.inside.saved.items c.args.vreg c.self.view_is
+    c.in_ok-settle_for.ensures.kept
+    c.in_ok-settle_for.ensures.now c.in_ok-settle_for.ensures.apart in
+    subst (λ (ps : List ℕ). i < length ps) (sym b.places) (c.requires.places i e)
+
+pub invariant_of-self : goal.invariant_of-self
+invariant_of-self g c =
+    shown-after c.self.inside.tables c.give.new.self c.self.inside.passed c.self.inside.saved.items c.give.ensures.kept.vregs c.give.ensures.kept.count
+    c.self.invariant
+
+pub returns-clause-kept : goal.returns-clause-kept
+returns-clause-kept g c =
+    inside-kept c.args.self.now c.settle_for.new.self c.self.inside.tables c.give.new.self c.self.inside.passed c.self.inside.passed c.self.inside.saved.items
+    c.self.view_is c.in_ok-settle_for.ensures.kept c.give.ensures.kept
+
+pub returns-clause-now : goal.returns-clause-now
+returns-clause-now g c =
+    let b = settled-seen c.args.self.now c.settle_for.new.self c.self.inside.tables c.self.inside.passed c.self.inside.saved.items c.args.vreg c.self.view_is
+    c.in_ok-settle_for.ensures.kept
+    c.in_ok-settle_for.ensures.now c.in_ok-settle_for.ensures.apart in
+    on_ok_as _ _ c.give.result
+    (λ ok. given-shown c.args.self.now c.self.inside.tables c.give.new.self c.self.inside.passed c.self.inside.saved.items (get_or c.self.inside.tables.vregs
+    c.args.vreg 0) (get_or c.args.self.now.vregs c.args.vreg 0) c.args.places.now b
+    c.give.ensures.kept (ap (λ (vs : List ℕ). get_or vs c.args.vreg 0) b.vregs) ok) c.give.ensures.now
+
+pub returns-in_err-settle_for-clause-now : goal.returns-in_err-settle_for-clause-now
+returns-in_err-settle_for-clause-now g c = IfOk-from_err c.from_residual.result _ c.from_residual.ensures.0

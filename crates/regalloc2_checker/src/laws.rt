@@ -1,0 +1,27 @@
+//! Lemma functions of the checker.
+
+ghost use Rattle.regalloc2_checker.specs.Facts.{FactsAreTraced, FactsAreExact};
+ghost use Rattle.regalloc2_checker.specs.Fixpoint.{FactsAreHeld, FactsHoldBefore, AcceptedIsFaithful};
+ghost use Rattle.regalloc2_checker.specs.Report.{NoneWhereFaithful};
+
+use regalloc2_function::finds_earlier_writes;
+use std::alloc::Allocator;
+
+/// A lemma: facts at the blocks' beginnings of which no edge requires more, and of which each
+/// missing one fails on a path, are those that hold on every path, and they accept just what is
+/// faithful.
+pub fn stands_for_every_path()
+    ensures traced { FactsAreTraced }
+    ensures exact { FactsAreExact }
+    ensures before { FactsHoldBefore }
+    ensures held { FactsAreHeld }
+    ensures accepted { AcceptedIsFaithful }
+{
+    finds_earlier_writes();
+}
+
+/// A lemma: of the outputs of a structurally valid function (`IsFramed`), those without errors are
+/// just the faithful ones.
+pub fn finds_no_error_where_faithful<A: Allocator>()
+    ensures { NoneWhereFaithful A }
+{}

@@ -1,0 +1,653 @@
+//! Tables of which vregs places hold.
+
+ghost use Rattle.std.specs.Prelude.{◌≡◌, ℕ, ◌+◌, ◌*◌, ◌<◌, ◌≤◌, ◌^◌, ◌==◌, true, false, ◌&&◌, ◌||◌};
+ghost use Rattle.std.specs.Prelude.{nat_eq, nat_lt, if◌then◌else◌, length, get_or};
+ghost use Rattle.std.specs.Prelude.{◌↔◌, Contains, IfOk, OnOk, OnErr};
+ghost use Rattle.std.specs.Bool.{OnTrue, OnFalse};
+ghost use Rattle.std.specs.List.{position};
+ghost use Rattle.std.specs.List.Sorted.{IsStrictlyIncreasing};
+ghost use Rattle.regalloc2_names.specs.PlaceBits.{bits_of_place};
+ghost use Rattle.regalloc2_function.specs.Numbers.{has_number, times_listed};
+ghost use Rattle.regalloc2_checker_sets.specs.SavedNumbers.{copy_count, saved_number};
+ghost use Rattle.regalloc2_checker_sets.specs.EntrySets.{is_member, IsSetOf};
+ghost use Rattle.regalloc2_checker_sets.specs.Homes.{has_few, has_home};
+ghost use Rattle.regalloc2_checker.specs.Holding.{count_of, holds_now, holds_in};
+ghost use Rattle.regalloc2_checker_sets.specs.Held.{held, AreBelow, AreStill};
+ghost use Rattle.regalloc2_checker_sets.specs.Homes.{AreMoreHomes};
+ghost use Rattle.regalloc2_checker.specs.Holding.{is_in, AreKeptTables, HoldsNow, IsHome};
+ghost use Rattle.regalloc2_checker.specs.Holding.{LosesSome, IsMetBetween};
+
+use regalloc2_checker_sets::Positions;
+use regalloc2_checker_sets::entries::Entries;
+use regalloc2_checker_sets::homes::{Home, Homes};
+use regalloc2_checker_sets::place_positions::PlacePositions;
+use regalloc2_checker_sets::sets::Sets;
+use regalloc2_checker_sets::unused_sets::drop_unused_sets;
+use regalloc2_checker_steps::sets::{drop_at, meet_at};
+use regalloc2_names::Allocation;
+use regalloc2_function::indexset::IndexSet;
+use std::alloc::{AllocError, Allocator};
+use std::marker::Model;
+
+/// Tables of which vregs places hold, by number, and one that is worked on.
+///
+/// Places and vregs are listed once, and named by their positions there. Each table has one set of the bits of
+/// vregs for each place. Tables share what they have in common.
+#[derive(Drop)]
+pub struct Tables<A: Allocator> {
+    places: PlacePositions<A>,
+    vregs: Positions<A>,
+    entries: Entries<A>,
+    sets: Sets<A>,
+    homes: Homes<A>,
+}
+
+impl<A: Allocator> Model for Tables<A> {
+    ghost use Rattle.regalloc2_checker.specs.Holding.{Holding, IsSoundHolding};
+
+    ghost Value = { Holding };
+
+    ghost view = { λ t. record { places = t.places; vregs = t.vregs; entries = t.entries; sets = t.sets; homes = t.homes } };
+
+    ghost invariant = { λ t. IsSoundHolding (record { places = t.places; vregs = t.vregs; entries = t.entries; sets = t.sets; homes = t.homes }) };
+}
+
+/// Takes a vreg out of the places of a home's mask and of its two numbers.
+#[inline(never)]
+fn drop_each<A: Allocator + Copy>(
+    entries: &mut Entries<A>,
+    sets: &mut Sets<A>,
+    home: &Home<'_, A>,
+    bits: u32,
+) -> Result<(), AllocError>
+    requires { AreBelow sets.old entries.old }
+    ensures still { AreStill sets.old entries.old sets.new entries.new }
+    ensures ok { OnOk result ((i y : ℕ) → i < length entries.old.cells → held sets.new entries.new i y
+        ≡ (if has_few home.now i && nat_eq y bits then false else held sets.old entries.old i y)) }
+    ensures err { OnErr result ((i y : ℕ) → i < length entries.old.cells → held sets.new entries.new i y ≡ true → held sets.old entries.old i y ≡ true) }
+{
+    for place in home.few() {
+        drop_at(entries, sets, place, bits)?;
+    }
+    Ok(())
+}
+
+/// Takes a vreg out of the places of a home's mask and of its two numbers.
+#[inline(always)]
+fn drop_few<A: Allocator + Copy>(
+    entries: &mut Entries<A>,
+    sets: &mut Sets<A>,
+    home: &Home<'_, A>,
+    bits: u32,
+) -> Result<(), AllocError>
+    requires { AreBelow sets.old entries.old }
+    ensures still { AreStill sets.old entries.old sets.new entries.new }
+    ensures ok { OnOk result ((i y : ℕ) → i < length entries.old.cells → held sets.new entries.new i y
+        ≡ (if has_few home.now i && nat_eq y bits then false else held sets.old entries.old i y)) }
+    ensures err { OnErr result ((i y : ℕ) → i < length entries.old.cells → held sets.new entries.new i y ≡ true → held sets.old entries.old i y ≡ true) }
+{
+    // A vreg that is written for the first time has none.
+    if home.has_no_few() {
+        return Ok(());
+    }
+    drop_each(entries, sets, home, bits)
+}
+
+/// Takes a vreg out of the places of a set.
+fn drop_members<A: Allocator + Copy>(
+    entries: &mut Entries<A>,
+    sets: &mut Sets<A>,
+    places: &IndexSet<A>,
+    bits: u32,
+) -> Result<(), AllocError>
+    requires { AreBelow sets.old entries.old }
+    ensures still { AreStill sets.old entries.old sets.new entries.new }
+    ensures ok { OnOk result ((i y : ℕ) → i < length entries.old.cells → held sets.new entries.new i y
+        ≡ (if has_number places.now i && nat_eq y bits then false else held sets.old entries.old i y)) }
+    ensures err { OnErr result ((i y : ℕ) → i < length entries.old.cells → held sets.new entries.new i y ≡ true → held sets.old entries.old i y ≡ true) }
+{
+    for place in places.iter() {
+        drop_at(entries, sets, place, bits)?;
+    }
+    Ok(())
+}
+
+/// Takes a vreg out of the places where it may be.
+#[inline(always)]
+fn drop_everywhere<A: Allocator + Copy>(
+    entries: &mut Entries<A>,
+    sets: &mut Sets<A>,
+    home: &Home<'_, A>,
+    bits: u32,
+) -> Result<(), AllocError>
+    requires { AreBelow sets.old entries.old }
+    ensures still { AreStill sets.old entries.old sets.new entries.new }
+    ensures ok { OnOk result ((i y : ℕ) → i < length entries.old.cells → held sets.new entries.new i y
+        ≡ (if has_home home.now i && nat_eq y bits then false else held sets.old entries.old i y)) }
+    ensures err { OnErr result ((i y : ℕ) → i < length entries.old.cells → held sets.new entries.new i y ≡ true → held sets.old entries.old i y ≡ true) }
+{
+    drop_few(entries, sets, home, bits)?;
+    let Some(others) = home.others() else {
+        return Ok(());
+    };
+    drop_members(entries, sets, others, bits)
+}
+
+/// Lists a place, if it is below a bound and holds a vreg.
+#[inline(always)]
+fn list_holder<A: Allocator + Copy>(
+    holders: &mut Vec<usize, A>,
+    entries: &Entries<A>,
+    sets: &Sets<A>,
+    place: usize,
+    bits: u32,
+    bound: usize,
+) -> Result<(), AllocError>
+    requires below { AreBelow sets.now entries.now }
+    requires bound { bound ≤ length entries.now.cells }
+    ensures { OnOk result ((i : ℕ) → is_in holders.new.items i
+        ≡ (is_in holders.old.items i || (nat_eq i place && (nat_lt i bound && held sets.now entries.now i bits)))) }
+{
+    if place >= bound {
+        return Ok(());
+    }
+    if !sets.has(entries.get(place), bits) {
+        return Ok(());
+    }
+    holders.push(place)?;
+    Ok(())
+}
+
+/// Lists the places of a home's mask and of its two numbers that are below a bound and hold a vreg.
+fn list_few<A: Allocator + Copy>(
+    holders: &mut Vec<usize, A>,
+    entries: &Entries<A>,
+    sets: &Sets<A>,
+    home: &Home<'_, A>,
+    bits: u32,
+    bound: usize,
+) -> Result<(), AllocError>
+    requires below { AreBelow sets.now entries.now }
+    requires bound { bound ≤ length entries.now.cells }
+    ensures { OnOk result ((i : ℕ) → is_in holders.new.items i
+        ≡ (is_in holders.old.items i || (has_few home.now i && (nat_lt i bound && held sets.now entries.now i bits)))) }
+{
+    for place in home.few() {
+        list_holder(holders, entries, sets, place, bits, bound)?;
+    }
+    Ok(())
+}
+
+/// Lists the places of a set that are below a bound and hold a vreg.
+fn list_members<A: Allocator + Copy>(
+    holders: &mut Vec<usize, A>,
+    entries: &Entries<A>,
+    sets: &Sets<A>,
+    places: &IndexSet<A>,
+    bits: u32,
+    bound: usize,
+) -> Result<(), AllocError>
+    requires below { AreBelow sets.now entries.now }
+    requires bound { bound ≤ length entries.now.cells }
+    ensures { OnOk result ((i : ℕ) → is_in holders.new.items i
+        ≡ (is_in holders.old.items i || (has_number places.now i && (nat_lt i bound && held sets.now entries.now i bits)))) }
+{
+    for place in places.iter() {
+        list_holder(holders, entries, sets, place, bits, bound)?;
+    }
+    Ok(())
+}
+
+/// The places below a bound where a vreg may be and is.
+fn holders_among<A: Allocator + Copy>(
+    alloc: A,
+    entries: &Entries<A>,
+    sets: &Sets<A>,
+    home: &Home<'_, A>,
+    bits: u32,
+    bound: usize,
+) -> Result<Vec<usize, A>, AllocError>
+    requires below { AreBelow sets.now entries.now }
+    requires bound { bound ≤ length entries.now.cells }
+    ensures { IfOk result (λ holders. (i : ℕ) → is_in holders.items i
+        ≡ (nat_lt i bound && (has_home home.now i && held sets.now entries.now i bits))) }
+{
+    let mut holders = Vec::new(alloc);
+    list_few(&mut holders, entries, sets, home, bits, bound)?;
+    let Some(others) = home.others() else {
+        return Ok(holders);
+    };
+    list_members(&mut holders, entries, sets, others, bits, bound)?;
+    Ok(holders)
+}
+
+/// Notes that a vreg may be at a place, if it is listed.
+#[inline(always)]
+fn note<A: Allocator + Copy>(
+    vregs: &Positions<A>,
+    homes: &mut Homes<A>,
+    bits: u32,
+    place: usize,
+) -> Result<(), AllocError>
+    requires rising { IsStrictlyIncreasing vregs.now }
+    requires homes { length homes.old ≡ length vregs.now }
+    requires place { place < 2 ^ 38 }
+    ensures more { AreMoreHomes homes.old homes.new }
+    ensures noted { OnOk result (IsHome vregs.now homes.new place bits) }
+{
+    let Some(vreg) = vregs.find(bits, bits as usize / 4) else {
+        return Ok(());
+    };
+    homes.add(vreg, place)
+}
+
+/// Notes that listed vregs may be at a place.
+#[inline(never)]
+fn note_all<A: Allocator + Copy>(
+    vregs: &Positions<A>,
+    homes: &mut Homes<A>,
+    members: &[u32],
+    place: usize,
+) -> Result<(), AllocError>
+    requires rising { IsStrictlyIncreasing vregs.now }
+    requires homes { length homes.old ≡ length vregs.now }
+    requires place { place < 2 ^ 38 }
+    ensures more { AreMoreHomes homes.old homes.new }
+    ensures noted { OnOk result ((y : ℕ) → 0 < times_listed members.now y → IsHome vregs.now homes.new place y) }
+{
+    for bits in members {
+        note(vregs, homes, *bits, place)?;
+    }
+    Ok(())
+}
+
+/// Notes that two vregs may be at a place, if they are listed.
+#[inline(never)]
+fn note_two<A: Allocator + Copy>(
+    vregs: &Positions<A>,
+    homes: &mut Homes<A>,
+    pair: (u32, u32),
+    place: usize,
+) -> Result<(), AllocError>
+    requires rising { IsStrictlyIncreasing vregs.now }
+    requires homes { length homes.old ≡ length vregs.now }
+    requires place { place < 2 ^ 38 }
+    ensures more { AreMoreHomes homes.old homes.new }
+    ensures first { OnOk result (IsHome vregs.now homes.new place pair.0) }
+    ensures second { OnOk result (IsHome vregs.now homes.new place pair.1) }
+{
+    note(vregs, homes, pair.0, place)?;
+    note(vregs, homes, pair.1, place)
+}
+
+/// Notes that the listed vregs of a set may be at a place.
+#[inline(always)]
+fn note_set<A: Allocator + Copy>(
+    vregs: &Positions<A>,
+    sets: &Sets<A>,
+    homes: &mut Homes<A>,
+    set: u32,
+    place: usize,
+) -> Result<(), AllocError>
+    requires rising { IsStrictlyIncreasing vregs.now }
+    requires homes { length homes.old ≡ length vregs.now }
+    requires set { set < length sets.now }
+    requires empty { (y : ℕ) → is_member sets.now 0 y ≡ false }
+    requires place { place < 2 ^ 38 }
+    ensures more { AreMoreHomes homes.old homes.new }
+    ensures noted { OnOk result ((y : ℕ) → is_member sets.now set y ≡ true → IsHome vregs.now homes.new place y) }
+{
+    if set == 0 {
+        return Ok(());
+    }
+    if let Some(only) = sets.only(set) {
+        return note(vregs, homes, only, place);
+    }
+    if let Some(pair) = sets.two(set) {
+        return note_two(vregs, homes, pair, place);
+    }
+    let members = sets.members(set)?;
+    note_all(vregs, homes, &members, place)
+}
+
+/// How many positions of a chunk are below a bound.
+fn count_below(chunk: usize, bound: usize) -> usize
+    ensures few { result ≤ 64 }
+    ensures below { 0 < result → 64 * chunk + result ≤ bound }
+    ensures rest { result < 64 → bound ≤ 64 * chunk + result }
+{
+    let whole = bound / 64;
+    if chunk < whole {
+        return 64;
+    }
+    if chunk == whole { bound % 64 } else { 0 }
+}
+
+/// Keeps in a chunk of the array only what a saved copy has too, at the positions below a bound; returns whether the copy
+/// has more, or `before` is set.
+fn meet_chunk<A: Allocator + Copy>(
+    entries: &mut Entries<A>,
+    sets: &mut Sets<A>,
+    table: usize,
+    chunk: usize,
+    bound: usize,
+    before: bool,
+) -> Result<bool, AllocError>
+    requires table { table < copy_count entries.old }
+    requires chunk { 64 * chunk + 64 ≤ length entries.old.cells }
+    requires small { chunk < 2 ^ 57 }
+    requires bound { bound ≤ length entries.old.cells }
+    requires below { AreBelow sets.old entries.old }
+    requires saved { (i : ℕ) → i < length entries.old.cells → saved_number entries.old table i < length sets.old }
+    ensures still { AreStill sets.old entries.old sets.new entries.new }
+    ensures fewer { (i y : ℕ) → i < length entries.old.cells → held sets.new entries.new i y ≡ true → held sets.old entries.old i y ≡ true }
+    ensures met { IfOk result (λ less. IsMetBetween sets.old entries.old sets.new entries.new table (64 * chunk) (64 * (chunk + 1)) bound before less) }
+{
+    let base = entries.base(table, chunk);
+    let mut is_less = before;
+    for t in 0..count_below(chunk, bound) {
+        let had = entries.word(base + t);
+        is_less = meet_at(entries, sets, 64 * chunk + t, had, is_less)?;
+    }
+    Ok(is_less)
+}
+
+/// Keeps in the array only what a saved copy has too, at the positions below a bound; returns
+/// whether the copy has more.
+fn meet_entries<A: Allocator + Copy>(
+    entries: &mut Entries<A>,
+    sets: &mut Sets<A>,
+    table: usize,
+    bound: usize,
+) -> Result<bool, AllocError>
+    requires table { table < copy_count entries.old }
+    requires bound { bound ≤ length entries.old.cells }
+    requires below { AreBelow sets.old entries.old }
+    requires saved { (i : ℕ) → i < length entries.old.cells → saved_number entries.old table i < length sets.old }
+    ensures still { AreStill sets.old entries.old sets.new entries.new }
+    ensures fewer { (i y : ℕ) → i < length entries.old.cells → held sets.new entries.new i y ≡ true → held sets.old entries.old i y ≡ true }
+    ensures met { OnOk result ((i y : ℕ) → i < bound → held sets.new entries.new i y
+        ≡ (is_member sets.old (saved_number entries.old table i) y && held sets.old entries.old i y)) }
+    ensures less { IfOk result (λ less. less ≡ true
+        → LosesSome bound (λ i y. is_member sets.old (saved_number entries.old table i) y) (held sets.old entries.old)) }
+    ensures same { IfOk result (λ less. less ≡ false
+        → (i y : ℕ) → i < bound → is_member sets.old (saved_number entries.old table i) y ≡ true → held sets.old entries.old i y ≡ true) }
+{
+    let mut is_less = false;
+    let mut from = 0;
+    'chunks: while let Some(chunk) = entries.next_chunk(table, from) {
+        is_less = meet_chunk(entries, sets, table, chunk, bound, is_less)?;
+        from = chunk + 1;
+    }
+    Ok(is_less)
+}
+
+impl<A: Allocator + Copy> Tables<A> {
+    /// Tables without a member, over listed places and vregs. Past 2^38 places the memory
+    /// allocation fails.
+    pub fn new(
+        alloc: A,
+        count: usize,
+        places: Positions<A>,
+        vregs: Positions<A>,
+    ) -> Result<Tables<A>, AllocError>
+        requires places { IsStrictlyIncreasing places }
+        requires vregs { IsStrictlyIncreasing vregs }
+        ensures places { IfOk result (λ t. t.places ≡ places) }
+        ensures vregs { IfOk result (λ t. t.vregs ≡ vregs) }
+        ensures count { IfOk result (λ t. count_of t ≡ count) }
+        ensures now { IfOk result (λ t. (i y : ℕ) → holds_now t i y ≡ false) }
+        ensures tables { IfOk result (λ t. (k i y : ℕ) → holds_in t k i y ≡ false) }
+    {
+        if places.len() > 274877906943 {
+            return Err(AllocError);
+        }
+        let places = PlacePositions::of(alloc, places)?;
+        let homes = Homes::new(alloc, vregs.len())?;
+        let entries = Entries::new(alloc, count, places.len())?;
+        Ok(Tables {
+            places,
+            vregs,
+            entries,
+            sets: Sets::new(alloc),
+            homes,
+        })
+    }
+
+    /// The position of a place, by its bits.
+    pub fn place(&self, place: Allocation) -> Option<usize>
+        ensures { result ≡ position (λ n. n == bits_of_place place) self.now.places }
+    {
+        self.places.find(place)
+    }
+
+    /// The position of a vreg, by its bits.
+    pub fn vreg(&self, bits: u32) -> Option<usize>
+        ensures { result ≡ position (λ n. n == bits) self.now.vregs }
+    {
+        self.vregs.find(bits, bits as usize / 4)
+    }
+
+    /// The bits of the vreg at a position.
+    pub fn bits(&self, vreg: usize) -> u32
+        requires { vreg < length self.now.vregs }
+        ensures { result ≡ get_or self.now.vregs vreg 0 }
+    {
+        self.vregs.number(vreg)
+    }
+
+    /// Whether a place holds a vreg.
+    pub fn has(&self, place: usize, bits: u32) -> bool
+        requires { place < length self.now.places }
+        ensures { result ≡ holds_now self.now place bits }
+    {
+        self.sets.has(self.entries.get(place), bits)
+    }
+
+    /// The vregs that a place holds, by rising bits.
+    pub fn members(&self, place: usize) -> Result<Vec<u32, A>, AllocError>
+        requires { place < length self.now.places }
+        ensures rising { IfOk result (λ members. IsStrictlyIncreasing members.items) }
+        ensures members { IfOk result (λ members. (y : ℕ) → Contains members.items y ↔ (holds_now self.now place y ≡ true)) }
+    {
+        let listed = self.sets.members(self.entries.get(place))?;
+        Ok(Positions::of(listed).into_numbers())
+    }
+
+    /// Empties a place.
+    pub fn clear(&mut self, place: usize)
+        requires { place < length self.old.places }
+        ensures kept { AreKeptTables self.old self.new }
+        ensures now { HoldsNow self.new (λ i y. if nat_eq i place then false else holds_now self.old i y) }
+    {
+        self.entries.set(place, 0);
+    }
+
+    /// Gives a place what another has.
+    #[inline(always)]
+    pub fn copy(&mut self, from: usize, to: usize) -> Result<(), AllocError>
+        requires from { from < length self.old.places }
+        requires to { to < length self.old.places }
+        ensures kept { AreKeptTables self.old self.new }
+        ensures now { OnOk result (HoldsNow self.new (λ i y. if nat_eq i to then holds_now self.old from y else holds_now self.old i y)) }
+    {
+        let set = self.entries.get(from);
+        note_set(&self.vregs, &self.sets, &mut self.homes, set, to)?;
+        self.entries.set(to, set);
+        Ok(())
+    }
+
+    /// Takes a vreg out of every place.
+    #[inline(always)]
+    pub fn forget(&mut self, vreg: usize) -> Result<(), AllocError>
+        requires { vreg < length self.old.vregs }
+        ensures kept { AreKeptTables self.old self.new }
+        ensures now { OnOk result (HoldsNow self.new (λ i y. if nat_eq y (get_or self.old.vregs vreg 0) then false else holds_now self.old i y)) }
+    {
+        let bits = self.vregs.number(vreg);
+        drop_everywhere(
+            &mut self.entries,
+            &mut self.sets,
+            &self.homes.at(vreg),
+            bits,
+        )
+    }
+
+    /// Gives a place a set.
+    #[inline(always)]
+    fn put(&mut self, place: usize, vreg: usize, set: u32) -> Result<(), AllocError>
+        requires place { place < length self.old.places }
+        requires vreg { vreg < length self.old.vregs }
+        requires set { set < length self.old.sets }
+        requires members { (y : ℕ) → is_member self.old.sets set y ≡ true
+            → (nat_eq y (get_or self.old.vregs vreg 0) || holds_now self.old place y) ≡ true }
+        ensures kept { AreKeptTables self.old self.new }
+        ensures now { OnOk result (HoldsNow self.new (λ i y. if nat_eq i place then is_member self.old.sets set y else holds_now self.old i y)) }
+    {
+        self.homes.add(vreg, place)?;
+        self.entries.set(place, set);
+        Ok(())
+    }
+
+    /// A set of one vreg alone.
+    fn single(&mut self, vreg: usize) -> Result<u32, AllocError>
+        requires { vreg < length self.old.vregs }
+        ensures kept { AreKeptTables self.old self.new }
+        ensures now { HoldsNow self.new (holds_now self.old) }
+        ensures set { IfOk result (λ n. IsSetOf self.new.sets n (λ y. nat_eq y (get_or self.old.vregs vreg 0))) }
+    {
+        self.sets.single(self.vregs.number(vreg))
+    }
+
+    /// Gives a place one vreg alone, which no other place holds any more.
+    #[inline(always)]
+    pub fn define(&mut self, place: usize, vreg: usize) -> Result<(), AllocError>
+        requires place { place < length self.old.places }
+        requires vreg { vreg < length self.old.vregs }
+        ensures kept { AreKeptTables self.old self.new }
+        ensures now { OnOk result (HoldsNow self.new (λ i y. if nat_eq i place then nat_eq y (get_or self.old.vregs vreg 0)
+            else (if nat_eq y (get_or self.old.vregs vreg 0) then false else holds_now self.old i y))) }
+    {
+        self.forget(vreg)?;
+        let set = self.single(vreg)?;
+        self.put(place, vreg, set)
+    }
+
+    /// The places that hold a vreg.
+    pub fn holders(&self, alloc: A, vreg: usize) -> Result<Vec<usize, A>, AllocError>
+        requires { vreg < length self.now.vregs }
+        ensures { IfOk result (λ holders. (i : ℕ) → is_in holders.items i
+            ≡ (nat_lt i (length self.now.places) && holds_now self.now i (get_or self.now.vregs vreg 0))) }
+    {
+        holders_among(
+            alloc,
+            &self.entries,
+            &self.sets,
+            &self.homes.at(vreg),
+            self.vregs.number(vreg),
+            self.places.len(),
+        )
+    }
+
+    /// What a place holds, and a vreg.
+    fn with(&mut self, place: usize, vreg: usize) -> Result<u32, AllocError>
+        requires place { place < length self.old.places }
+        requires vreg { vreg < length self.old.vregs }
+        ensures kept { AreKeptTables self.old self.new }
+        ensures now { HoldsNow self.new (holds_now self.old) }
+        ensures set { IfOk result (λ n. IsSetOf self.new.sets n
+            (λ y. if nat_eq y (get_or self.old.vregs vreg 0) then true else holds_now self.old place y)) }
+    {
+        self.sets
+            .with(self.entries.get(place), self.vregs.number(vreg))
+    }
+
+    /// Adds a vreg to what a place holds.
+    fn add_at(&mut self, place: usize, vreg: usize) -> Result<(), AllocError>
+        requires place { place < length self.old.places }
+        requires vreg { vreg < length self.old.vregs }
+        ensures kept { AreKeptTables self.old self.new }
+        ensures now { OnOk result (HoldsNow self.new (λ i y. if nat_eq i place && nat_eq y (get_or self.old.vregs vreg 0) then true
+            else holds_now self.old i y)) }
+    {
+        let set = self.with(place, vreg)?;
+        self.put(place, vreg, set)
+    }
+
+    /// Gives a vreg other places, which hold it beside what they hold.
+    pub fn give(&mut self, vreg: usize, places: &[usize]) -> Result<(), AllocError>
+        requires vreg { vreg < length self.old.vregs }
+        requires places { (i : ℕ) → is_in places.now i ≡ true → i < length self.old.places }
+        ensures kept { AreKeptTables self.old self.new }
+        ensures now { OnOk result (HoldsNow self.new (λ i y. if nat_eq y (get_or self.old.vregs vreg 0) then is_in places.now i else holds_now self.old i y)) }
+    {
+        self.forget(vreg)?;
+        for place in places {
+            self.add_at(*place, vreg)?;
+        }
+        Ok(())
+    }
+
+    /// How many words the tables take.
+    pub fn word_count(&self) -> usize {
+        self.entries.word_count()
+    }
+
+    /// Drops the tables that have a mark, unless that makes no room, and the one that is worked on.
+    pub fn drop_marked(&mut self, alloc: A, marks: &[bool]) -> Result<(), AllocError>
+        ensures places { self.new.places ≡ self.old.places }
+        ensures vregs { self.new.vregs ≡ self.old.vregs }
+        ensures count { count_of self.new ≡ count_of self.old }
+        ensures tables { OnOk result ((k i y : ℕ) → k < count_of self.old → get_or marks.now k false ≡ false → i < length self.old.places
+            → holds_in self.new k i y ≡ holds_in self.old k i y) }
+    {
+        let Some(entries) = self.entries.without(alloc, marks)? else {
+            return Ok(());
+        };
+        self.entries = entries;
+        drop_unused_sets(alloc, &mut self.entries, &mut self.sets)
+    }
+
+    /// Works on a table.
+    pub fn load(&mut self, table: usize)
+        requires { table < count_of self.old }
+        ensures kept { AreKeptTables self.old self.new }
+        ensures now { HoldsNow self.new (holds_in self.old table) }
+    {
+        self.entries.load(table);
+    }
+
+    /// Keeps the table that is worked on under a number.
+    pub fn save(&mut self, table: usize) -> Result<(), AllocError>
+        requires { table < count_of self.old }
+        ensures places { self.new.places ≡ self.old.places }
+        ensures vregs { self.new.vregs ≡ self.old.vregs }
+        ensures count { count_of self.new ≡ count_of self.old }
+        ensures now { HoldsNow self.new (holds_now self.old) }
+        ensures tables { OnOk result ((k i y : ℕ) → i < length self.old.places → holds_in self.new k i y
+            ≡ (if nat_eq k table then holds_now self.old i y else holds_in self.old k i y)) }
+    {
+        self.entries.save(table)
+    }
+
+    /// Keeps in a table only what the one that is worked on holds too; returns whether that is less
+    /// than it held. The one that is worked on is lost.
+    pub fn meet(&mut self, table: usize) -> Result<bool, AllocError>
+        requires { table < count_of self.old }
+        ensures places { self.new.places ≡ self.old.places }
+        ensures vregs { self.new.vregs ≡ self.old.vregs }
+        ensures count { count_of self.new ≡ count_of self.old }
+        ensures met { OnOk result ((k i y : ℕ) → i < length self.old.places → holds_in self.new k i y
+            ≡ (if nat_eq k table then holds_in self.old k i y && holds_now self.old i y else holds_in self.old k i y)) }
+        ensures less { IfOk result (λ less. OnTrue less (LosesSome (length self.old.places) (holds_in self.old table) (holds_now self.old))) }
+        ensures same { IfOk result (λ less. OnFalse less ((i y : ℕ) → i < length self.old.places → holds_in self.old table i y ≡ true
+            → holds_now self.old i y ≡ true)) }
+    {
+        let is_less = meet_entries(&mut self.entries, &mut self.sets, table, self.places.len())?;
+        if !is_less {
+            return Ok(false);
+        }
+        self.entries.save(table)?;
+        Ok(true)
+    }
+}

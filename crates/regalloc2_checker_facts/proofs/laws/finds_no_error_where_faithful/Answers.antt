@@ -1,5 +1,0 @@
-use Rattle.regalloc2_checker_facts.proofs.NoErrorsIsFaithful.{report_verdict}
-use Rattle.regalloc2_checker_facts.proofs.laws.finds_no_error_where_faithful.Goals as goal
-
-pub returns : goal.returns
-returns g c = report_verdict

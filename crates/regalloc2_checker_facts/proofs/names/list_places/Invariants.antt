@@ -1,7 +1,0 @@
-use Rattle.std.proofs.Common.{take}
-use Rattle.regalloc2_checker_facts.specs.NamedBits.{ArePlacesAdded}
-use Rattle.regalloc2_checker_facts.proofs.names.list_places.Given as goal
-
--- so many are listed
-abbrev pub invariant-loop-k : goal.invariant-loop-k
-invariant-loop-k g l = ArePlacesAdded l.initial.bits l.bits (take l.k l.places)

@@ -1,6 +1,0 @@
-use Rattle.std.proofs.Common.{ℕ, ◌≡◌, ◌+◌, get_or, take}
-use Rattle.regalloc2_function.specs.WellFormed.{times_in}
-use Rattle.regalloc2_shape.proofs.blocks.count_out.Given as goal
-
-abbrev pub invariant-loop-block : goal.invariant-loop-block
-invariant-loop-block l = (b : ℕ) → get_or l.counts b 0 + times_in b (take l.block-index l.blocks) ≡ get_or l.fn.counts b 0

@@ -1,7 +1,0 @@
-use Rattle.std.proofs.Common.{ℕ, ◌≡◌, [], length}
-use Rattle.regalloc2_shape.specs.Ways.{listed_of}
-use Rattle.regalloc2_shape.proofs.blocks.no_ways.Given as goal
-
--- the lists so far are empty
-abbrev pub invariant-loop : goal.invariant-loop
-invariant-loop g l = record { long : length l.ways.items ≡ l.counter; none : (n : ℕ) → listed_of l.ways.items n ≡ [] }

@@ -1,6 +1,0 @@
-use Rattle.std.proofs.Common.{arith}
-use Rattle.regalloc2_shape.proofs.NumberPlaces.{Lacks-from_each}
-use Rattle.regalloc2_shape.proofs.indexset.place_of.Goals as goal
-
-pub returns-clause-none : goal.returns-clause-none
-returns-clause-none c = Lacks-from_each c.args.key c.args.words.now (λ k less. c.loop-place.invariant k (omega arith))
