@@ -22,27 +22,22 @@ FLOORS = [
          ("regalloc2_parts", "lists, parallel moves")])],
     [("Stored forms", [
         ("regalloc2_serialize", "numbers, JSON, words"),
-        ("regalloc2_text", "texts")]),
+        ("regalloc2_text", "texts, causes of errors")]),
      ("Analysis", [
-         ("regalloc2_shape", "well-formedness, IndexSet"),
          ("regalloc2_semantics", "from blocks to paths"),
          ("regalloc2_analysis_steps", "one operand or edge"),
          ("regalloc2_analysis", "liveness, ranges, branches")])],
     [("Checker", [
         ("regalloc2_checker_sets", "sets, saved copies"),
         ("regalloc2_checker_steps", "one place, move, edge"),
-        ("regalloc2_checker_tables", "vregs of places"),
-        ("regalloc2_checker_facts", "facts, reports, names")])],
+        ("regalloc2_checker", "Checker, test_cells")])],
     [("Allocator", [
         ("regalloc2_fastalloc_state", "tests, tables of the walk"),
         ("regalloc2_fastalloc_proofs", "steps as relations"),
         ("regalloc2_fastalloc_walk", "the walk"),
-        ("regalloc2_fastalloc", "run, the output")]),
-     ("Checker", [
-         ("regalloc2_checker", "Checker, test_cells")])],
+        ("regalloc2_fastalloc", "run, the output")])],
     [("Front", [("regalloc2", "allocate, run_tested, run_checked, and all items under upstream's paths")])],
     [("Tools", [
-        ("regalloc2_explain", "causes of errors"),
         ("regalloc2_tool", "listings, pictures, calls")]),
      ("C library", [
          ("regalloc2_c", "calls, statuses, words")])],
@@ -57,9 +52,7 @@ FLOORS = [
         ("codegen_emit", "instructions"),
         ("codegen", "the compiler"),
         ("compile", "program")])],
-    [("Rewriting", [
-        ("regalloc2_rewrite", "split edges, renumber")]),
-     ("Examples", [
+    [("Examples", [
          ("example_call", "program: one call"),
          ("example_toy", "program: a client")])],
     [("Tests", [
@@ -82,7 +75,6 @@ COLOURS = {
     "Names and functions": "#e8eef7", "Stored forms": "#f3ecdf", "Analysis": "#e6f2e6", "Moves": "#f2e8f2",
     "Allocator": "#fbe9e0", "Checker": "#e2f1f3", "Front": "#fff6d6", "Tools": "#f3ecdf", "C library": "#f3ecdf",
     "Programs": "#f3ecdf", "Code generator": "#eeeeee", "Examples": "#eeeeee",
-    "Rewriting": "#f3ecdf",
     "Tests": "#eeeeee",
 }
 

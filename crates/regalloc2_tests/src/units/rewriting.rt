@@ -5,7 +5,7 @@ use crate::units::report::Report;
 use regalloc2_function::Function;
 use regalloc2_index::Block;
 use regalloc2_names::{Operand, RegClass, VReg};
-use regalloc2_rewrite::{renumber, split_critical_edges};
+use regalloc2_serialize::rewrite::{renumber, split_critical_edges};
 use regalloc2_serialize::table_function::{BuildError, TableBuilder, TableFunction};
 use std::alloc::Global;
 

@@ -1,0 +1,65 @@
+use Rattle.std.proofs.Common.{refl, arith, ◌≡◌, ◌∙◌, ◌≤◌, ◌∷◌, [], ◌++◌, ◌+◌, ◌-◌, ap, length, ℕ, map}
+use Rattle.std.proofs.lemmas.List.{map-append}
+use Rattle.std.proofs.lemmas.List.FromFn.{map-range_with_len_more}
+use Rattle.regalloc2_index.specs.Range.{Span}
+use Rattle.regalloc2_function.specs.FunctionValue.{FunctionValue, block_at, inst_at}
+use Rattle.regalloc2_serialize.specs.CopyOfFunction.{shown_inst}
+use Rattle.regalloc2_serialize.specs.TableFunction.Table.{inst_of_table}
+use Rattle.regalloc2_serialize.proofs.RewriteLemmas.SplitInsts.{ends-within, inst-shown}
+use Rattle.std.proofs.lemmas.Result.{err_from_is_err_and}
+use Rattle.std.specs.List.{range_with_len}
+use Rattle.regalloc2_serialize.proofs.rewrite.copied.copied_insts.Goals as goal
+
+pub copied_inst-requires : goal.copied_inst-requires
+copied_inst-requires g c =
+    let f : FunctionValue = g.F.Function.function c.args.f.now in
+    let r : Span = (block_at f c.args.block).range in
+    let within : r.end ≤ length f.insts = ends-within f c.requires.framed.follow c.args.block c.requires.block in
+    let first : c.first.result ≡ r.first = c.first.ensures ∙ ap (λ (s : Span). s.first) c.block_insns-range.ensures in
+    let many : c.len-k-end.result ≡ r.end - r.first = c.len-k-end.ensures.len ∙ ap (λ (s : Span). s.end - s.first) c.block_insns-range.ensures in
+    omega (arith, within, first, many)
+
+pub loop-k-preserved : goal.loop-k-preserved
+loop-k-preserved g c =
+    let f : FunctionValue = g.F.Function.function c.args.f.now in
+    let r : Span = (block_at f c.args.block).range in
+    let many : c.len-k-end.result ≡ r.end - r.first = c.len-k-end.ensures.len ∙ ap (λ (s : Span). s.end - s.first) c.block_insns-range.ensures in
+    let e : c.push.new.self.items ≡ c.loop-k.insts.items ++ c.in_ok-copied_inst.field-0 ∷ [] = c.in_ok-push.ensures.items in
+    let first : c.first.result ≡ r.first = c.first.ensures ∙ ap (λ (s : Span). s.first) c.block_insns-range.ensures in
+    let at : c.new.result ≡ r.first + c.loop-k.k = omega (arith, c.new.ensures, c.index-first.ensures, first) in
+    let copy : inst_of_table c.in_ok-copied_inst.field-0 ≡ shown_inst (inst_at f (r.first + c.loop-k.k)) = rw at at c.in_ok-copied_inst.ensures in
+    let here : inst_of_table c.in_ok-copied_inst.field-0 ≡ inst_at f (r.first + c.loop-k.k) =
+    copy ∙ inst-shown f c.requires.framed.end c.args.block c.requires.block (r.first + c.loop-k.k) (omega arith) (omega (arith, many)) in
+    rw (
+      e,
+      map-append inst_of_table c.loop-k.insts.items (c.in_ok-copied_inst.field-0 ∷ []),
+      map-range_with_len_more (inst_at f) r.first c.loop-k.k (r.first + c.loop-k.k) refl,
+      c.loop-k.invariant,
+      here,
+    ) refl
+
+pub returns-in_err-insts : goal.returns-in_err-insts
+returns-in_err-insts g c =
+    let p = err_from_is_err_and c.from_residual.result c.from_residual.ensures.1 in rw p.1 tt
+
+pub returns-in_err-copied_inst : goal.returns-in_err-copied_inst
+returns-in_err-copied_inst g c =
+    let p = err_from_is_err_and c.from_residual-in_err-copied_inst.result c.from_residual-in_err-copied_inst.ensures.1 in rw p.1 tt
+
+pub returns-in_err-push : goal.returns-in_err-push
+returns-in_err-push g c =
+    let p = err_from_is_err_and c.from_residual-in_err-push.result c.from_residual-in_err-push.ensures.1 in rw p.1 tt
+
+pub block_insns-range-requires : goal.block_insns-range-requires
+block_insns-range-requires g c = c.requires.block
+
+pub loop-k-init : goal.loop-k-init
+loop-k-init g c = ap (map inst_of_table) c.in_ok-insts.ensures.items
+
+pub returns : goal.returns
+returns g c =
+    let f : FunctionValue = g.F.Function.function c.args.f.now in
+    let r : Span = (block_at f c.args.block).range in
+    let many : c.len-k-end.result ≡ r.end - r.first = c.len-k-end.ensures.len ∙ ap (λ (s : Span). s.end - s.first) c.block_insns-range.ensures in
+    let all : c.loop-k.k ≡ r.end - r.first = omega (arith, many, c.loop-k-test.false, c.loop-k.auto.k-end) in
+    c.loop-k.invariant ∙ ap (λ (n : ℕ). map (inst_at f) (range_with_len r.first n)) all

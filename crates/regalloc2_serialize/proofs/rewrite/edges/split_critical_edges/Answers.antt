@@ -1,0 +1,58 @@
+use Rattle.std.proofs.Common.{rules, ◌≡◌, ◌<◌, map, subst, sym, ◌∙◌}
+use Rattle.std.specs.Prelude.{All}
+use Rattle.std.proofs.lemmas.Result.{err_from_is_err_and}
+use Rattle.regalloc2_function.specs.FunctionValue.{FunctionValue, label_of}
+use Rattle.regalloc2_function.specs.WellFormed.{IsFramed}
+use Rattle.regalloc2_serialize.specs.TableFunction.Draft.{draft_of}
+use Rattle.regalloc2_serialize.proofs.RewriteLemmas.Lists.{all-from-map}
+use Rattle.regalloc2_serialize.proofs.RewriteLemmas.SplitLaws.{is-split, unbuilt-laid}
+use Rattle.std.proofs.lemmas.Bool.{false≢true}
+use Rattle.regalloc2_serialize.proofs.rewrite.edges.split_critical_edges.Goals as goal
+
+pub laid_like-requires : goal.laid_like-requires
+laid_like-requires g c =
+    let f : FunctionValue = g.F.Function.function c.args.f.now in
+    let copied : c.in_ok-labels.labels.items ≡ c.debug_value_labels.result.now = search rules in
+    let same : map label_of c.in_ok-labels.labels.items ≡ f.labels = rw copied c.debug_value_labels.ensures in
+    all-from-map (λ l. l.vreg.number < f.num_vregs) label_of c.in_ok-labels.labels.items
+    (subst (All (λ l. l.vreg.number < f.num_vregs)) (sym same) (g.met.F.Function.limited c.args.f.now).labels)
+
+pub returns-clause-ok : goal.returns-clause-ok
+returns-clause-ok g c =
+    let f : FunctionValue = g.F.Function.function c.args.f.now in
+    let framed : IsFramed f = c.is_framed.ensures.0 c.if-not-is_framed.false in
+    let copied : c.in_ok-labels.labels.items ≡ c.debug_value_labels.result.now = search rules in
+    let same : map label_of c.in_ok-labels.labels.items ≡ f.labels = rw copied c.debug_value_labels.ensures in
+    is-split c.empty-none.result c.empty-none.ensures f _ framed
+    (rw (c.entry_block.ensures, same, c.in_ok-drafts.ensures.ok) at c.in_ok-laid_like.ensures.ok)
+
+pub returns-in_err-laid_like-clause-err : goal.returns-in_err-laid_like-clause-err
+returns-in_err-laid_like-clause-err g c =
+    let f : FunctionValue = g.F.Function.function c.args.f.now in
+    let framed : IsFramed f = c.is_framed.ensures.0 c.if-not-is_framed.false in
+    let p = err_from_is_err_and c.from_residual-in_err-laid_like.result c.from_residual-in_err-laid_like.ensures.1 in
+    rw (p.1, p.2) (unbuilt-laid c.empty-none.result f framed (map draft_of c.in_ok-drafts.drafts.items) c.in_ok-drafts.ensures.ok _
+    (g.met.F.Function.limited c.args.f.now) c.in_err-laid_like.ensures.err)
+
+pub returns-in_err-drafts-clause-ok : goal.returns-in_err-drafts-clause-ok
+returns-in_err-drafts-clause-ok g c =
+    let p = err_from_is_err_and c.from_residual.result c.from_residual.ensures.1 in rw p.1 tt
+
+pub returns-in_err-drafts-clause-err : goal.returns-in_err-drafts-clause-err
+returns-in_err-drafts-clause-err g c =
+    let p = err_from_is_err_and c.from_residual.result c.from_residual.ensures.1 in rw (p.1, p.2) c.in_err-drafts.ensures.err
+
+pub returns-in_err-labels-clause-ok : goal.returns-in_err-labels-clause-ok
+returns-in_err-labels-clause-ok g c =
+    let p = err_from_is_err_and c.from_residual-in_err-labels.result c.from_residual-in_err-labels.ensures.1 in rw p.1 tt
+
+pub returns-in_err-labels-clause-err : goal.returns-in_err-labels-clause-err
+returns-in_err-labels-clause-err g c =
+    let p = err_from_is_err_and c.from_residual-in_err-labels.result c.from_residual-in_err-labels.ensures.1 in rw (p.1, p.2) tt
+
+pub returns-in_err-laid_like-clause-ok : goal.returns-in_err-laid_like-clause-ok
+returns-in_err-laid_like-clause-ok g c =
+    let p = err_from_is_err_and c.from_residual-in_err-laid_like.result c.from_residual-in_err-laid_like.ensures.1 in rw p.1 tt
+
+pub returns-then-not-is_framed-clause-err : goal.returns-then-not-is_framed-clause-err
+returns-then-not-is_framed-clause-err g c = λ framed. absurd (false≢true (sym c.if-not-is_framed.true ∙ c.is_framed.ensures.1 framed))

@@ -1,0 +1,128 @@
+use Rattle.std.proofs.Common.{arith, ◌≡◌, ◌∙◌, ◌<◌, ◌++◌, ◌∷◌, [], true, false, ℕ, List, length, map, ap, sym}
+use Rattle.std.specs.Prelude.{slice_index}
+use Rattle.std.proofs.lemmas.List.{get_or_default, length-map, map-append}
+use Rattle.regalloc2_function.specs.FunctionValue.{FunctionValue, block_at}
+use Rattle.regalloc2_function.specs.SourceRun.{arguments_at}
+use Rattle.regalloc2_serialize.specs.TableFunction.Draft.{DraftValue, draft_of}
+use Rattle.regalloc2_serialize.specs.Rewrite.SplitEdges.{is_critical, jump_on}
+use Rattle.regalloc2_serialize.proofs.RewriteLemmas.EdgeLists.{edge}
+use Rattle.regalloc2_serialize.proofs.RewriteLemmas.SplitSteps.{critical-jumps, critical-more, critical-succ, jump-made, plain-jumps}
+use Rattle.std.proofs.lemmas.Result.{err_from_is_err_and}
+use Rattle.regalloc2_serialize.proofs.rewrite.edges.split_edge.Goals as goal
+
+pub has_critical_edge-requires : goal.has_critical_edge-requires
+has_critical_edge-requires g c = record { counted = c.requires.to_split.counted; position = c.requires.position }
+
+pub returns-then-not-has_critical_edge-clause-jumps : goal.returns-then-not-has_critical_edge-clause-jumps
+returns-then-not-has_critical_edge-clause-jumps g c =
+    let f : FunctionValue = g.F.Function.function c.args.f.now in
+    let plain : is_critical f c.args.block c.args.k ≡ false = sym c.has_critical_edge.ensures ∙ c.if-not-has_critical_edge.true in
+    plain-jumps c.args.none f c.args.block c.args.k (map draft_of c.args.jumps.now.items) plain c.requires.to_split.before
+
+pub returns-then-number-ge-BLOCK_LIMIT-clause-err : goal.returns-then-number-ge-BLOCK_LIMIT-clause-err
+returns-then-number-ge-BLOCK_LIMIT-clause-err g c =
+    let f : FunctionValue = g.F.Function.function c.args.f.now in
+    let critical : is_critical f c.args.block c.args.k ≡ true = sym c.has_critical_edge.ensures ∙ c.if-not-has_critical_edge.false in
+    let more = critical-more c.args.none f c.args.block c.args.k (map draft_of c.args.jumps.now.items) c.requires.to_split.counted.block c.requires.position critical
+    c.requires.to_split.before in
+    omega (arith, more, c.if-number-ge-BLOCK_LIMIT.true, c.num_blocks.ensures.count, c.len.ensures, length-map c.args.jumps.now.items draft_of)
+
+pub returns-clause-ends : goal.returns-clause-ends
+returns-clause-ends g c =
+    let f : FunctionValue = g.F.Function.function c.args.f.now in
+    let critical : is_critical f c.args.block c.args.k ≡ true = sym c.has_critical_edge.ensures ∙ c.if-not-has_critical_edge.false in
+    let at = critical-succ c.args.none f c.args.block c.args.k (map draft_of c.args.jumps.now.items) critical c.requires.to_split.before in
+    (omega (arith, at, c.new.ensures, c.num_blocks.ensures.count, c.len.ensures, length-map c.args.jumps.now.items draft_of), rw critical c.new-2.ensures.items)
+
+pub returns-clause-jumps : goal.returns-clause-jumps
+returns-clause-jumps g c =
+    let f : FunctionValue = g.F.Function.function c.args.f.now in
+    let b : ℕ = c.args.block in
+    let k : ℕ = c.args.k in
+    let critical : is_critical f b k ≡ true = sym c.has_critical_edge.ensures ∙ c.if-not-has_critical_edge.false in
+    let inside : k < length c.block_succs.result.now = omega (arith, ap length c.block_succs.ensures, c.requires.position) in
+    let to : c.index-block_succs-k.result ≡ slice_index (block_at f b).succs k =
+    c.index-block_succs-k.is ∙ get_or_default c.block_succs.result.now k c.index-block_succs-k.result 0 inside
+    ∙ ap (λ (ss : List ℕ). slice_index ss k) c.block_succs.ensures in
+    let passed : c.in_ok-arguments.arguments.items ≡ arguments_at f b k =
+    c.in_ok-arguments.ensures.items_if_clones_equal (λ x y h. h) ∙ c.branch_blockparams.ensures in
+    let made : draft_of c.in_ok-jump.jump ≡ jump_on c.args.none f (edge b k) =
+    jump-made c.args.none f b k c.index-block_succs-k.result c.in_ok-arguments.arguments.items (draft_of c.in_ok-jump.jump) to passed c.in_ok-jump.ensures in
+    let e : c.push.new.self.items ≡ c.args.jumps.now.items ++ c.in_ok-jump.jump ∷ [] = c.in_ok-push.ensures.items in
+    ap (map draft_of) e ∙ map-append draft_of c.args.jumps.now.items (c.in_ok-jump.jump ∷ [])
+    ∙ ap (λ (d : DraftValue). map draft_of c.args.jumps.now.items ++ d ∷ []) made
+    ∙ critical-jumps c.args.none f b k (map draft_of c.args.jumps.now.items) critical c.requires.to_split.before
+
+pub block_succs-requires : goal.block_succs-requires
+block_succs-requires g c = c.requires.to_split.counted.block
+
+pub bounds-block_succs-k : goal.bounds-block_succs-k
+bounds-block_succs-k g c = omega (arith, ap length c.block_succs.ensures, c.requires.position)
+
+pub block_insns-requires : goal.block_insns-requires
+block_insns-requires g c = c.requires.to_split.counted.block
+
+pub branch_blockparams-requires-clause-block : goal.branch_blockparams-requires-clause-block
+branch_blockparams-requires-clause-block g c = c.requires.to_split.counted.block
+
+pub branch_blockparams-requires-clause-last : goal.branch_blockparams-requires-clause-last
+branch_blockparams-requires-clause-last g c =
+    let some = (c.requires.to_split.counted.framed.follow c.args.block c.requires.to_split.counted.block).0 in
+    let last = rw c.block_insns.ensures at c.last-last.ensures in
+    omega (arith, some, last)
+
+pub branch_blockparams-requires-clause-nonempty : goal.branch_blockparams-requires-clause-nonempty
+branch_blockparams-requires-clause-nonempty g c =
+    let some = (c.requires.to_split.counted.framed.follow c.args.block c.requires.to_split.counted.block).0 in
+    let last = rw c.block_insns.ensures at c.last-last.ensures in
+    omega (arith, some, last)
+
+pub branch_blockparams-requires-clause-position : goal.branch_blockparams-requires-clause-position
+branch_blockparams-requires-clause-position g c = c.requires.position
+
+pub returns-in_err-arguments-clause-ends : goal.returns-in_err-arguments-clause-ends
+returns-in_err-arguments-clause-ends g c = let p = err_from_is_err_and c.from_residual.result c.from_residual.ensures.1 in rw p.1 tt
+
+pub returns-in_err-arguments-clause-jumps : goal.returns-in_err-arguments-clause-jumps
+returns-in_err-arguments-clause-jumps g c = let p = err_from_is_err_and c.from_residual.result c.from_residual.ensures.1 in rw p.1 tt
+
+pub returns-in_err-arguments-clause-err : goal.returns-in_err-arguments-clause-err
+returns-in_err-arguments-clause-err g c = let p = err_from_is_err_and c.from_residual.result c.from_residual.ensures.1 in rw (p.1, p.2) tt
+
+pub returns-then-not-has_critical_edge-clause-ends : goal.returns-then-not-has_critical_edge-clause-ends
+returns-then-not-has_critical_edge-clause-ends g c =
+    let f : FunctionValue = g.F.Function.function c.args.f.now in
+    let b : ℕ = c.args.block in
+    let k : ℕ = c.args.k in
+    let plain : is_critical f b k ≡ false = sym c.has_critical_edge.ensures ∙ c.if-not-has_critical_edge.true in
+    let inside : k < length c.block_succs.result.now = omega (arith, ap length c.block_succs.ensures, c.requires.position) in
+    let to : c.index-block_succs-k.result ≡ slice_index (block_at f b).succs k =
+    c.index-block_succs-k.is ∙ get_or_default c.block_succs.result.now k c.index-block_succs-k.result 0 inside
+    ∙ ap (λ (ss : List ℕ). slice_index ss k) c.block_succs.ensures in
+    let passed : c.in_ok-arguments.arguments.items ≡ arguments_at f b k =
+    c.in_ok-arguments.ensures.items_if_clones_equal (λ x y h. h) ∙ c.branch_blockparams.ensures in
+    rw plain (to, passed)
+
+pub returns-in_err-jump-clause-ends : goal.returns-in_err-jump-clause-ends
+returns-in_err-jump-clause-ends g c =
+    let p = err_from_is_err_and c.from_residual-in_err-jump.result c.from_residual-in_err-jump.ensures.1 in rw p.1 tt
+
+pub returns-in_err-jump-clause-jumps : goal.returns-in_err-jump-clause-jumps
+returns-in_err-jump-clause-jumps g c =
+    let p = err_from_is_err_and c.from_residual-in_err-jump.result c.from_residual-in_err-jump.ensures.1 in rw p.1 tt
+
+pub returns-in_err-jump-clause-err : goal.returns-in_err-jump-clause-err
+returns-in_err-jump-clause-err g c =
+    let p = err_from_is_err_and c.from_residual-in_err-jump.result c.from_residual-in_err-jump.ensures.1 in rw (p.1, p.2) tt
+
+pub returns-in_err-push-clause-ends : goal.returns-in_err-push-clause-ends
+returns-in_err-push-clause-ends g c =
+    let p = err_from_is_err_and c.from_residual-in_err-push.result c.from_residual-in_err-push.ensures.1 in rw p.1 tt
+
+pub returns-in_err-push-clause-jumps : goal.returns-in_err-push-clause-jumps
+returns-in_err-push-clause-jumps g c =
+    let p = err_from_is_err_and c.from_residual-in_err-push.result c.from_residual-in_err-push.ensures.1 in rw p.1 tt
+
+pub returns-in_err-push-clause-err : goal.returns-in_err-push-clause-err
+returns-in_err-push-clause-err g c =
+    let p = err_from_is_err_and c.from_residual-in_err-push.result c.from_residual-in_err-push.ensures.1 in rw (p.1, p.2) tt
