@@ -7,7 +7,7 @@ use codegen_machine::{NO_REGISTER, Source};
 use regalloc2_names::Allocation;
 
 /// A place of the machine: a register, or a slot of its frame.
-#[derive(Clone, Copy, Debug, PartialEq, Eq)]
+#[derive(Clone, Copy)]
 pub enum MachinePlace {
     /// The register with that number.
     Register(usize),

@@ -3,7 +3,7 @@
 use regalloc2_names::VReg;
 
 /// An operator on two numbers, modulo 2^64 or 2^32.
-#[derive(Clone, Copy, Debug, PartialEq, Eq)]
+#[derive(Clone, Copy)]
 pub enum Operator {
     /// Their sum.
     Add,
@@ -20,7 +20,7 @@ pub enum Operator {
 }
 
 /// A kind of shift.
-#[derive(Clone, Copy, Debug, PartialEq, Eq)]
+#[derive(Clone, Copy)]
 pub enum ShiftOperator {
     /// To higher bits, modulo 2^64 or 2^32.
     Left,
@@ -31,7 +31,7 @@ pub enum ShiftOperator {
 }
 
 /// How many bits of its numbers an operation reads.
-#[derive(Clone, Copy, Debug, PartialEq, Eq)]
+#[derive(Clone, Copy)]
 pub enum Width {
     /// All 64.
     Full,
@@ -40,7 +40,7 @@ pub enum Width {
 }
 
 /// How many bytes of memory an operation reads or writes.
-#[derive(Clone, Copy, Debug, PartialEq, Eq)]
+#[derive(Clone, Copy)]
 pub enum Bytes {
     /// One.
     One,
@@ -53,7 +53,7 @@ pub enum Bytes {
 }
 
 /// The result of a division.
-#[derive(Clone, Copy, Debug, PartialEq, Eq)]
+#[derive(Clone, Copy)]
 pub enum DivisionPart {
     /// The quotient, rounded towards 0.
     Quotient,
@@ -64,7 +64,7 @@ pub enum DivisionPart {
 /// A comparison of a number with another.
 ///
 /// The signed conditions read the numbers in two's complement.
-#[derive(Clone, Copy, Debug, PartialEq, Eq)]
+#[derive(Clone, Copy)]
 pub enum Condition {
     /// Equal.
     Equal,

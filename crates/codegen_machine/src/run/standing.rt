@@ -6,7 +6,7 @@ ghost use Rattle.codegen_machine.specs.Run.Runs.{standing_text};
 use std::fmt;
 
 /// The outcome of a run after some number of steps.
-#[derive(Clone, Copy, Debug, PartialEq, Eq)]
+#[derive(Clone, Copy, PartialEq, Eq)]
 pub enum Standing {
     /// It still runs.
     Running,
@@ -21,7 +21,7 @@ pub enum Standing {
 }
 
 /// A run after some number of steps.
-#[derive(Debug, Drop)]
+#[derive(Drop)]
 pub struct Run {
     /// Its outcome.
     pub standing: Standing,
