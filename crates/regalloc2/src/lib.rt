@@ -20,8 +20,9 @@ pub use laws::accepts_what_is_promised;
 pub use regalloc2_fastalloc::{Algorithm, Ctx, RegallocOptions, run, run_into_ctx, run_with_ctx};
 pub use regalloc2_function::{
     Edit, Function, InstOrEdit, MachineEnv, MachineMisfit, Output, OutputIter, StoredFault,
-    StoredOutput, agrees_where_numbers_do, count_operands, finds_earlier_writes, is_framed,
-    machine_fits, reads_the_same_numbers, test_blocks, test_ends, test_machine,
+    StoredOutput, agrees_where_numbers_do, cfg, count_operands, finds_earlier_writes, indexset,
+    is_framed, machine_fits, postorder, reads_the_same_numbers, test_blocks, test_ends,
+    test_machine,
 };
 pub use regalloc2_index::{
     Block, ContainerComparator, ContainerIndex, Inst, InstRange, InstRangeIter,
@@ -31,7 +32,6 @@ pub use regalloc2_names::{
     PReg, PRegSet, PRegSetIter, ProgPoint, RegAllocError, RegClass, SpillSlot, VReg,
 };
 pub use regalloc2_parts::moves;
-pub use regalloc2_function::{cfg, indexset, postorder};
 pub use tested::{AllocateError, TestedRunError, allocate, allocate_without_checker, run_tested};
 
 /// The moves of one call.

@@ -24,7 +24,7 @@ use std::alloc::Allocator;
 use uses::used_elsewhere;
 
 /// An operand of a branch that defines.
-#[derive(Clone, Copy, Debug, PartialEq, Eq)]
+#[derive(Clone, Copy)]
 pub struct DefSite {
     /// The branch.
     pub branch: Inst,

@@ -20,7 +20,7 @@ pub use walk::live_ranges;
 pub use wanted::{is_wanted, marked_labels};
 
 /// An operand of the function: its instruction, and its index among the operands of that.
-#[derive(Clone, Copy, Debug, PartialEq, Eq)]
+#[derive(Clone, Copy)]
 pub struct InstOperand {
     /// The instruction.
     pub inst: Inst,
@@ -29,7 +29,7 @@ pub struct InstOperand {
 }
 
 /// From where to where the value of a vreg can be shown.
-#[derive(Clone, Copy, Debug, PartialEq, Eq)]
+#[derive(Clone, Copy)]
 pub struct LiveRange {
     /// The vreg.
     pub vreg: VReg,
@@ -46,7 +46,7 @@ pub struct LiveRange {
 }
 
 /// A label that is kept, with the live range of its vreg.
-#[derive(Clone, Copy, Debug, PartialEq, Eq)]
+#[derive(Clone, Copy)]
 pub struct KeptLabel {
     /// The client's label.
     pub label: u32,

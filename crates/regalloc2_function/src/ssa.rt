@@ -22,7 +22,7 @@ use regalloc2_names::{Operand, ProgPoint, RegAllocError, RegClass, VReg};
 use std::alloc::Allocator;
 
 /// Where a vreg is defined.
-#[derive(Clone, Copy, Debug, PartialEq, Eq)]
+#[derive(Clone, Copy)]
 struct Definition {
     class: RegClass,
     // The point from which on it may be used: after the instruction that defines it, or before its

@@ -6,7 +6,7 @@ ghost use Rattle.regalloc2_steps.specs.declared.borrowed.Held.TheVariants.{InSav
 use regalloc2_names::Allocation;
 
 /// Where the value is that the moves made so far put into the register.
-#[derive(Clone, Copy, Debug, PartialEq, Eq)]
+#[derive(Clone, Copy)]
 pub enum Held {
     /// The register is free: no move names it, and its value isn't needed.
     Free,
@@ -20,7 +20,7 @@ pub enum Held {
 
 /// The register that moves go through, and the slot in which its value is saved. For a free
 /// register, both are the register.
-#[derive(Clone, Copy, Debug, PartialEq, Eq)]
+#[derive(Clone, Copy)]
 pub struct ScratchReg {
     /// The register.
     pub register: Allocation,
