@@ -16,9 +16,9 @@ ghost use Rattle.regalloc2_analysis.specs.BranchDefs.Tables.{AreBranchDefsOf, ed
 use edges::{edges_into, some_branch_defines};
 pub use regalloc2_analysis_steps::edges::EdgeInto;
 use regalloc2_function::Function;
+use regalloc2_function::table_length::table_length;
 use regalloc2_index::{Block, Inst};
 use regalloc2_names::{Operand, OperandConstraint, PReg, RegAllocError, VReg};
-use regalloc2_function::table_length::table_length;
 use sites::{branch_sites, site_in};
 use std::alloc::Allocator;
 use uses::used_elsewhere;

@@ -4,9 +4,9 @@ ghost use Rattle.std.specs.Prelude.{◌≡◌, ◌+◌, ◌<◌, [], length, OnE
 ghost use Rattle.regalloc2_names.specs.Register.{is_vreg};
 ghost use Rattle.regalloc2_analysis_steps.specs.BlockVRegPairs.{Gains, Pair, holds};
 
+use regalloc2_function::indexset::IndexSet;
 use regalloc2_index::Block;
 use regalloc2_names::VReg;
-use regalloc2_function::indexset::IndexSet;
 use std::alloc::{AllocError, Allocator};
 use std::marker::Model;
 

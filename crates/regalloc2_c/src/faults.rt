@@ -11,9 +11,9 @@ use super::failure::Failure;
 use super::words::{NONE, word_of};
 use regalloc2::checker::CheckerError;
 use regalloc2::{Allocation, Function, Inst, Operand, Output, VReg};
-use regalloc2_steps::faults::words_of_operand;
 use regalloc2_checker::CellFault;
 use regalloc2_checker::lookup::place_at;
+use regalloc2_steps::faults::words_of_operand;
 use std::alloc::{AllocError, Global};
 
 /// A function and an output of it.

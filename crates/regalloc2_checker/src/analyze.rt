@@ -13,13 +13,13 @@ ghost use Rattle.regalloc2_checker.specs.TableFacts.{facts_now, AreNamed};
 ghost use Rattle.regalloc2_checker.specs.Beginning.{IsEntryQueued};
 ghost use Rattle.regalloc2_checker.specs.Tables.{BlockView, facts_at, weight, ListTheSame, IsSolved, views};
 
+use crate::PassingTables;
 use crate::edges::{Analysis, propagate_over};
-use crate::transfer_block::transfer_block;
 use crate::listing::Listing;
 use crate::names::{named_places, named_vregs};
 use crate::order::ranks;
 use crate::queue::Queue;
-use crate::PassingTables;
+use crate::transfer_block::transfer_block;
 use regalloc2_function::{Function, Output, finds_earlier_writes};
 use regalloc2_index::Block;
 use std::alloc::{AllocError, Allocator};

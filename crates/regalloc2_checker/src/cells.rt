@@ -20,9 +20,9 @@ ghost use Rattle.regalloc2_checker.specs.CellFaults.{IsCellFault, AreTurned, Are
 ghost use Rattle.regalloc2_checker.specs.NamedSlots.{AddsSlots};
 
 use crate::cell_registers::{CellRegisters, allocatable};
-use crate::slots::add_slot;
 use crate::lookup::place_at;
 use crate::named_slots::NamedSlots;
+use crate::slots::add_slot;
 use regalloc2_function::{Function, MachineEnv, Output};
 use regalloc2_index::Inst;
 use regalloc2_names::{Allocation, Operand, PReg, PRegSet, RegClass, VReg};

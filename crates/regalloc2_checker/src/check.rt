@@ -16,14 +16,14 @@ ghost use Rattle.regalloc2_checker.specs.Report.{IsValueFault, IsFineAt, IsFault
 ghost use Rattle.regalloc2_checker.specs.Listing.{IsListing, listed_move};
 ghost use Rattle.regalloc2_checker.specs.declared.errors.CheckerError.{CheckerError};
 
+use crate::PassingTables;
 use crate::constraints::{check_constraint, is_stack};
-use crate::transfer::{go_to_early, go_to_late};
 use crate::errors::CheckerError;
 use crate::listing::Listing;
 use crate::lookup::place_at;
+use crate::transfer::{go_to_early, go_to_late};
 use crate::vregs_in::{holds, vregs_in};
 use regalloc2_checker_steps::operands::is_judged_at;
-use crate::PassingTables;
 use regalloc2_function::{Edit, Function};
 use regalloc2_index::{Block, Inst};
 use regalloc2_names::{Allocation, Operand, OperandPos, PRegSet, ProgPoint};

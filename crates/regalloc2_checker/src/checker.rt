@@ -10,9 +10,8 @@ ghost use Rattle.regalloc2_function.specs.Faithful.{IsFaithful};
 ghost use Rattle.regalloc2_checker.specs.Report.{IsReport};
 ghost use Rattle.regalloc2_checker.specs.FramedIsProp.{framed-once};
 
-use crate::errors::CheckerErrors;
+use crate::errors::{CheckerError, CheckerErrors};
 use crate::find_errors::find_errors;
-use crate::errors::CheckerError;
 use crate::handle::handle_output;
 use regalloc2_checker_steps::verdict::{alone, refuse_unless, verdict};
 use regalloc2_function::{Function, MachineEnv, Output};

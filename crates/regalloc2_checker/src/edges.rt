@@ -11,10 +11,10 @@ ghost use Rattle.regalloc2_checker.specs.TableFacts.{facts_now, facts_table, Are
 ghost use Rattle.regalloc2_checker.specs.Tables.{BlockView, weight, ListTheSame, IsMeet, views};
 ghost use Rattle.regalloc2_checker.specs.Propagation.{over};
 
-use crate::transfer::take_arguments;
-use crate::queue::Queue;
-use regalloc2_checker_steps::edges::edge_arguments;
 use crate::PassingTables;
+use crate::queue::Queue;
+use crate::transfer::take_arguments;
+use regalloc2_checker_steps::edges::edge_arguments;
 use regalloc2_function::Function;
 use regalloc2_index::Block;
 use std::alloc::{AllocError, Allocator};

@@ -13,14 +13,14 @@ ghost use Rattle.regalloc2_checker.specs.Report.{IsReport};
 ghost use Rattle.regalloc2_checker.specs.Tables.{IsSolved, views};
 ghost use Rattle.regalloc2_checker.specs.Listing.{IsListing};
 
+use crate::PassingTables;
 use crate::analyze::analyze;
 use crate::check::{Judging, check_inst};
 use crate::constraints::stack_slots;
-use crate::sweep::is_clean;
 use crate::errors::CheckerError;
 use crate::handle::handle_listing;
 use crate::listing::Listing;
-use crate::PassingTables;
+use crate::sweep::is_clean;
 use regalloc2_function::{Function, MachineEnv, Output, finds_earlier_writes};
 use regalloc2_index::{Block, Inst};
 use regalloc2_names::PRegSet;

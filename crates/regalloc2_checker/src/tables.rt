@@ -24,8 +24,8 @@ use regalloc2_checker_sets::place_positions::PlacePositions;
 use regalloc2_checker_sets::sets::Sets;
 use regalloc2_checker_sets::unused_sets::drop_unused_sets;
 use regalloc2_checker_steps::sets::{drop_at, meet_at};
-use regalloc2_names::Allocation;
 use regalloc2_function::indexset::IndexSet;
+use regalloc2_names::Allocation;
 use std::alloc::{AllocError, Allocator};
 use std::marker::Model;
 

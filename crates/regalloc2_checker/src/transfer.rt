@@ -10,9 +10,9 @@ ghost use Rattle.regalloc2_checker.specs.TableFacts.{facts_now, IsMissingUnliste
 ghost use Rattle.regalloc2_checker.specs.Listing.{listed_move};
 ghost use Rattle.regalloc2_checker.specs.Renamed.{facts_renamed, HoldersAre, AreHoldersOf, AreOthersKept, given_to, facts_forgotten, facts_without};
 
+use crate::PassingTables;
 use crate::lookup::{place_at, position, vreg_position};
 use regalloc2_checker_steps::moves::{MoveEffect, move_effect};
-use crate::PassingTables;
 use regalloc2_function::Edit;
 use regalloc2_names::{Allocation, Operand, PRegSet, ProgPoint, VReg};
 use std::alloc::{AllocError, Allocator};

@@ -10,9 +10,9 @@ ghost use Rattle.regalloc2_checker.specs.Fixpoint.{facts_within};
 ghost use Rattle.regalloc2_checker.specs.TableFacts.{facts_now, AreNamed};
 ghost use Rattle.regalloc2_checker.specs.Listing.{IsListing};
 
-use crate::transfer::{go_to_early, go_to_late};
-use crate::listing::Listing;
 use crate::PassingTables;
+use crate::listing::Listing;
+use crate::transfer::{go_to_early, go_to_late};
 use regalloc2_function::Function;
 use regalloc2_index::{Block, Inst};
 use std::alloc::{AllocError, Allocator};

@@ -6,8 +6,8 @@ ghost use Rattle.regalloc2_names.specs.RegisterBits.{bits_of_vreg};
 ghost use Rattle.regalloc2_checker.specs.Report.{AreVRegsInValue};
 ghost use Rattle.regalloc2_checker.specs.TableFacts.{is_packed_vreg, facts_now};
 
-use crate::lookup::position;
 use crate::PassingTables;
+use crate::lookup::position;
 use regalloc2_names::{Allocation, VReg};
 use std::alloc::{AllocError, Allocator};
 

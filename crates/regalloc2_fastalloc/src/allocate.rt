@@ -14,9 +14,9 @@ ghost use Rattle.regalloc2_fastalloc_walk.specs.Findings.{AllPassTests};
 use super::debug;
 use super::survey::{Survey, validate_unless_passed};
 use regalloc2_fastalloc_walk::state::State;
+use regalloc2_function::table_length::table_length;
 use regalloc2_function::{Edit, Function, MachineEnv, Output, reads_the_same_numbers};
 use regalloc2_names::{Allocation, ProgPoint, RegAllocError};
-use regalloc2_function::table_length::table_length;
 use std::alloc::Allocator;
 
 /// The parts of an output beside the places: how many units slots take, the moves as they are

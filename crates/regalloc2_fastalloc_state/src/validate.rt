@@ -6,10 +6,9 @@ ghost use Rattle.regalloc2_function.specs.Views.{machine_of};
 ghost use Rattle.regalloc2_function.specs.WellFormed.{IsWellFormed};
 ghost use Rattle.regalloc2_fastalloc_state.specs.Validate.Validated.{IsFunctionFault};
 
-use regalloc2_function::{Function, MachineEnv};
-use regalloc2_names::RegAllocError;
 use regalloc2_function::ssa::test_soundness;
-use regalloc2_function::test_shape;
+use regalloc2_function::{Function, MachineEnv, test_shape};
+use regalloc2_names::RegAllocError;
 use std::alloc::Allocator;
 
 pub mod constraints;

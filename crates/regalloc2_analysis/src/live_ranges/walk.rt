@@ -13,9 +13,9 @@ use super::ranges::{begin_at_defs, begin_at_params};
 use super::slots::{entry, slots_of};
 use super::wanted::naming;
 use regalloc2_function::Function;
+use regalloc2_function::table_length::table_length;
 use regalloc2_index::{Block, Inst};
 use regalloc2_names::RegAllocError;
-use regalloc2_function::table_length::table_length;
 use std::alloc::{AllocError, Allocator};
 
 /// The requested live ranges, and by number the index of each one's entry: past the end if it has

@@ -10,9 +10,9 @@ ghost use Rattle.regalloc2_analysis.specs.LiveRanges.Marks.{NamedAmong};
 ghost use Rattle.regalloc2_analysis.specs.LiveRanges.WalkInvariant.{AreNamers, NamesNoAsked};
 
 use regalloc2_function::Function;
+use regalloc2_function::table_length::table_length;
 use regalloc2_index::Inst;
 use regalloc2_names::{Operand, VReg};
-use regalloc2_function::table_length::table_length;
 use std::alloc::{AllocError, Allocator};
 
 /// Whether a number is marked.
