@@ -1,5 +1,5 @@
 -- How a block's beginning stores what the branch into it defined: which values, by which moves, and through which registers.
-use Rattle.std.specs.Prelude.{ℕ, ◌≡◌, ◌≢◌, ◌+◌, ◌<◌, ◌≤◌, ◌++◌, ◌∷◌, [], Bool, false, not, List, All, Contains, length, sum_by, nat_eq, if◌then◌else◌}
+use Rattle.std.specs.Prelude.{ℕ, ◌≡◌, ◌≢◌, ◌+◌, ◌<◌, ◌≤◌, ◌++◌, ◌∷◌, [], Bool, false, true, not, List, All, Contains, length, sum_by, nat_eq, if◌then◌else◌}
 use Rattle.std.specs.Prelude.{None, Some, slice_index_or}
 use Rattle.regalloc2_names.specs.Register.{Register, VirtualRegister, no_vreg}
 use Rattle.regalloc2_names.specs.Operand.{OperandValue}
@@ -101,6 +101,11 @@ LacksStoreReg t ms = (m : PlaceMove) × Contains ms m × NoneIsFrom t.allocatabl
 abbrev pub PushStores : ℕ → Bool → List PlaceMove → StateValue → Outcome (Unit {0}) → Type 0
 PushStores point from_memory ms old (next x new) = PushesStores point from_memory ms old new
 PushStores point from_memory ms old no_register = LacksStoreReg old ms
+
+-- first those from the stack, then the others
+abbrev pub PushAllStores : ℕ → List PlaceMove → StateValue → Outcome (Unit {0}) → Type 0
+PushAllStores point ms old (next x new) = (middle : StateValue) × PushesStores point true ms old middle × PushesStores point false ms middle new
+PushAllStores point ms old no_register = LacksStoreReg old ms
 
 -- a store, by way of a register where it is from the stack
 abbrev pub PushStore : ℕ → PlaceMove → StateValue → Outcome (Unit {0}) → Type 0

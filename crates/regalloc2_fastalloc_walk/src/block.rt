@@ -45,8 +45,7 @@ impl<'a, A: Allocator> State<'a, A> {
                 from: slot,
                 to: current,
             },
-        )?;
-        Ok(())
+        )
     }
 
     /// Reloads the parameters of the block that begins, in order.
@@ -96,7 +95,6 @@ impl<'a, A: Allocator> State<'a, A> {
         let mut inst_regs = InstRegs::new(self.registers.available_regs());
         let point = ProgPoint::before(first);
         self.reload_params(&mut inst_regs, point, params)?;
-        self.reload_regs(&mut inst_regs, point)?;
-        Ok(())
+        self.reload_regs(&mut inst_regs, point)
     }
 }

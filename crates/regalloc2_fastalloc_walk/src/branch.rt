@@ -246,8 +246,7 @@ impl<'a, A: Allocator> State<'a, A> {
         ensures err { IfErr result (IsResourceError (SlotsExhaustedWith self.old.slots (self.old.slots.num_temp_slots + 2))) }
     {
         let made = self.order(inst_regs, class, moves)?;
-        self.edits.push_all(point, made.as_slice())?;
-        Ok(())
+        self.edits.push_all(point, made.as_slice())
     }
 
     /// Pushes one slot-to-slot move, made by way of a register: the last one pushed is listed
@@ -255,7 +254,7 @@ impl<'a, A: Allocator> State<'a, A> {
     /// register is the first that it would choose. It skips what needs more than one move:
     /// ordering, a second register and temporary slots.
     #[inline(never)]
-    fn push_one(
+    pub(super) fn push_one(
         &mut self,
         point: ProgPoint,
         from: Allocation,
@@ -270,8 +269,7 @@ impl<'a, A: Allocator> State<'a, A> {
     {
         let (first, then) = by_way_of(Allocation::reg(by), from, to);
         self.edits.push(point, then.0, then.1)?;
-        self.edits.push(point, first.0, first.1)?;
-        Ok(())
+        self.edits.push(point, first.0, first.1)
     }
 
     /// Pushes the parallel moves of a class.
@@ -349,8 +347,7 @@ impl<'a, A: Allocator> State<'a, A> {
     {
         let to = self.slots.get_spillslot(param)?;
         let from = self.spill_argument(inst_regs, point, argument)?;
-        moves.add(argument.class(), from, to)?;
-        Ok(())
+        moves.add(argument.class(), from, to)
     }
 
     /// The parallel moves of one edge: each argument that the branch doesn't define goes to its
@@ -428,8 +425,7 @@ impl<'a, A: Allocator> State<'a, A> {
         let MovesByClass { int, float, vector } = moves;
         self.push_moves(inst_regs, point, RegClass::Int, int)?;
         self.push_moves(inst_regs, point, RegClass::Float, float)?;
-        self.push_moves(inst_regs, point, RegClass::Vector, vector)?;
-        Ok(())
+        self.push_moves(inst_regs, point, RegClass::Vector, vector)
     }
 
     /// Passes the arguments of a branch: all are spilled to their slots, and then moved to those of
@@ -454,7 +450,6 @@ impl<'a, A: Allocator> State<'a, A> {
         // read for its contract: each slot has one owner, so no two arguments go to one slot
         let _count = self.slots.num_units();
         let point = passing_point(inst);
-        self.push_gathered(inst_regs, point, moves)?;
-        Ok(())
+        self.push_gathered(inst_regs, point, moves)
     }
 }

@@ -459,8 +459,7 @@ impl<'a, A: Allocator> State<'a, A> {
                 from: current,
                 to: place,
             },
-        )?;
-        Ok(())
+        )
     }
 
     /// Moves the uses of an instruction from their vregs' current locations to their places, in
@@ -555,8 +554,7 @@ impl<'a, A: Allocator> State<'a, A> {
     {
         self.process_each_at(inst_regs, OperandPos::Late, cx, allocs)?;
         self.process_each_at(inst_regs, OperandPos::Early, cx, allocs)?;
-        self.move_each(inst_regs, ProgPoint::before(cx.inst), cx.operands, allocs)?;
-        Ok(())
+        self.move_each(inst_regs, ProgPoint::before(cx.inst), cx.operands, allocs)
     }
 
     /// Allocates an instruction: `allocs`, which has no place yet, gets those of its operands.
@@ -612,7 +610,6 @@ impl<'a, A: Allocator> State<'a, A> {
         ensures unlimited { IfOk result (λ b. IsTrue b ↔ All IsTakenOperand cx.now.operands.now) }
     {
         let end = start + cx.operands.len();
-        let unlimited = self.alloc_inst(inst_regs, cx, &mut allocs[start..end])?;
-        Ok(unlimited)
+        self.alloc_inst(inst_regs, cx, &mut allocs[start..end])
     }
 }

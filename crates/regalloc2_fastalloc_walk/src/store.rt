@@ -9,7 +9,8 @@ ghost use Rattle.regalloc2_function.specs.FunctionValue.{op_at};
 ghost use Rattle.regalloc2_fastalloc_state.specs.StateParts.{AllAtOrAfter, NoneIsFrom, slot_name};
 ghost use Rattle.regalloc2_fastalloc_proofs.specs.InstSteps.{MayHold};
 ghost use Rattle.regalloc2_fastalloc_proofs.specs.StoreSteps.{StoreBranchDefs};
-ghost use Rattle.regalloc2_fastalloc_walk.specs.BranchStores.{FindsDefined, FindsStore, FindsStores, ListsGiven, ListsParams, PushStore, PushStores};
+ghost use Rattle.regalloc2_fastalloc_walk.specs.BranchStores.{FindsDefined, FindsStore, FindsStores, ListsGiven, ListsParams};
+ghost use Rattle.regalloc2_fastalloc_walk.specs.BranchStores.{PushStore, PushStores, PushAllStores};
 ghost use Rattle.regalloc2_fastalloc_walk.specs.BranchStores.{ListsStores, own_store};
 ghost use Rattle.regalloc2_fastalloc_walk.specs.BeforeSteps.{IsBeforeListing, IsBeforeStores};
 ghost use Rattle.regalloc2_fastalloc_walk.specs.StateView.{IsStepAt, MakesSlots, tables_of, ComesTo};
@@ -21,7 +22,7 @@ use regalloc2_index::Block;
 use regalloc2_names::{
     Allocation, Operand, PReg, PRegSet, ProgPoint, RegAllocError, RegClass, VReg,
 };
-use regalloc2_steps::moved::{PlaceMove, by_way_of};
+use regalloc2_steps::moved::PlaceMove;
 use regalloc2_steps::stores::{is_stored, stack_in_turn};
 use std::alloc::Allocator;
 
@@ -96,8 +97,7 @@ impl<'a, A: Allocator> State<'a, A> {
         if site.branch != edge.branch {
             return Ok(());
         }
-        self.list_store(stores, false, site.index, param)?;
-        Ok(())
+        self.list_store(stores, false, site.index, param)
     }
 
     /// Lists the values that the parameters are given, of those that the branch of the edge
@@ -154,8 +154,7 @@ impl<'a, A: Allocator> State<'a, A> {
         if let Some(preg) = fixed_definition(operand) {
             return Ok(Allocation::reg(preg));
         }
-        let slot = self.slots.get_spillslot(operand.vreg())?;
-        Ok(slot)
+        self.slots.get_spillslot(operand.vreg())
     }
 
     /// The move that stores a value.
@@ -228,14 +227,10 @@ impl<'a, A: Allocator> State<'a, A> {
         ensures step { IsStepAt point result self.old self.new }
     {
         if !self.is_stack(m.from) {
-            self.edits.push(point, m.from, m.to)?;
-            return Ok(());
+            return self.edits.push(point, m.from, m.to);
         }
-        let by = Allocation::reg(self.store_scratch(m.class, held)?);
-        let (first, then) = by_way_of(by, m.from, m.to);
-        self.edits.push(point, then.0, then.1)?;
-        self.edits.push(point, first.0, first.1)?;
-        Ok(())
+        let by = self.store_scratch(m.class, held)?;
+        self.push_one(point, m.from, m.to, by)
     }
 
     /// Pushes the stores from the stack, or those from registers, the last one first.
@@ -261,10 +256,26 @@ impl<'a, A: Allocator> State<'a, A> {
         Ok(())
     }
 
+    /// Pushes the stores from the stack, and then those from registers: so these come first in the
+    /// listing, and the others may go through any register.
+    fn push_all_stores(
+        &mut self,
+        point: ProgPoint,
+        held: PRegSet,
+        moves: &[PlaceMove],
+    ) -> Result<(), RegAllocError>
+        requires { AllAtOrAfter point self.old.edits }
+        ensures outcome { ComesTo (PushAllStores point moves.now) tt result self.old self.new }
+        ensures step { IsStepAt point result self.old self.new }
+    {
+        let (first, then) = stack_in_turn();
+        self.push_stores(point, held, first, moves)?;
+        self.push_stores(point, held, then, moves)
+    }
+
     /// The beginning of a block, before all else there: stores the definitions of the branch into
     /// it, each to its vreg's slot if another instruction uses the vreg, and to the slot of each
-    /// used parameter that is given it. The stores from registers come first, so that the others
-    /// may go through any register.
+    /// used parameter that is given it.
     pub fn store_branch_defs<F: Function, B: Allocator, C: Allocator>(
         &mut self,
         alloc: &B,
@@ -284,9 +295,6 @@ impl<'a, A: Allocator> State<'a, A> {
         // its contract says that each slot has one owner
         let _count = self.slots.num_units();
         let point = edge.store_point(f.block_insns(block).first());
-        let (first, then) = stack_in_turn();
-        self.push_stores(point, edge.held, first, &moves)?;
-        self.push_stores(point, edge.held, then, &moves)?;
-        Ok(())
+        self.push_all_stores(point, edge.held, &moves)
     }
 }

@@ -136,8 +136,7 @@ impl<'a, A: Allocator> State<'a, A> {
         let changes = self.places.changes();
         let passes = self.alloc_inst_in_block(alloc, cx, block, at, allocs)?;
         let is_changed = !self.places.is_unchanged(changes);
-        found.note(inst, passes, is_changed)?;
-        Ok(())
+        found.note(inst, passes, is_changed)
     }
 
     /// Allocates the instructions of a block, from the last to the first, and notes what is found.
@@ -187,8 +186,7 @@ impl<'a, A: Allocator> State<'a, A> {
         let f = cx.f;
         let first = f.block_insns(block).first();
         self.reload_at_begin(first, f.block_params(block))?;
-        self.store_branch_defs(alloc, f, cx.defs, block)?;
-        Ok(())
+        self.store_branch_defs(alloc, f, cx.defs, block)
     }
 
     /// Allocates all instructions, from the last block to the first. Returns what is found out of the function.

@@ -1,4 +1,4 @@
-use Rattle.std.proofs.Common.{◌≡◌, refl, sym, ◌∙◌, subst, ap, arith}
+use Rattle.std.proofs.Common.{◌≡◌, refl, sym, ◌∙◌, subst, arith}
 use Rattle.regalloc2_names.specs.Place.{NoPlace, InRegister}
 use Rattle.regalloc2_fastalloc_proofs.specs.InstSteps.{IsAffordable, fixed, free, slot}
 use Rattle.regalloc2_semantics.proofs.Forms.{same_register}
@@ -6,8 +6,7 @@ use Rattle.regalloc2_fastalloc_walk.specs.StateView.{tables_of}
 use Rattle.regalloc2_fastalloc_proofs.proofs.Operands.SelectedPlace.{wanted_rest}
 use Rattle.regalloc2_fastalloc_proofs.proofs.Safety.StepsKeepState.{slot_no_register}
 use Rattle.regalloc2_fastalloc_state.specs.declared.request.Requirement.TheVariants.{AnyPlace, InPReg}
-use Rattle.std.specs.Prelude.{Err}
-use Rattle.std.proofs.lemmas.Result.{err_from_is_err_and}
+use Rattle.std.proofs.lemmas.Result.{MatchResult-weaker, MatchResult-from_both, IfOk-weaker}
 use Rattle.regalloc2_names.specs.declared.RegAllocError.TheVariants.{TooManyLiveRegs, TooManySpillSlots}
 use Rattle.regalloc2_fastalloc_walk.proofs.state.State.alloc_new_place.Goals as goal
 
@@ -29,10 +28,11 @@ returns-in-Some g c = record {
 }
 
 pub returns-clause-outcome : goal.returns-clause-outcome
-returns-clause-outcome g c = slot
+returns-clause-outcome g c = MatchResult-weaker c.get_spillslot.result (MatchResult-from_both c.get_spillslot.result _ _ c.get_spillslot.ensures.ok c.get_spillslot.ensures.full)
+    (λ p got. slot
     (wanted_rest c.args.request.now.requirement c.in_default.not-InPReg
     (λ e. let t = c.is_any_register.ensures.1 e in let f = c.if-is_any_register.false in absurd cc))
-    c.in_ok-slot.ensures.ok refl refl (record {
+    got refl refl (record {
       allocatable = refl;
       fixed_stack = refl;
       dedicated_scratch = refl;
@@ -40,7 +40,8 @@ returns-clause-outcome g c = slot
       vregs = c.get_spillslot.ensures.vregs;
       num_temp_slots = c.get_spillslot.ensures.num_temp_slots;
     })
-    refl
+    refl)
+    (λ e full lacks. absurd (let no : TooManySpillSlots ≡ TooManyLiveRegs = sym full.0 ∙ lacks in cc))
 
 -- any register was required, and none is free
 pub returns-then-is_any_register : goal.returns-then-is_any_register
@@ -60,7 +61,7 @@ pub returns-in-InPReg-clause-awaited : goal.returns-in-InPReg-clause-awaited
 returns-in-InPReg-clause-awaited g c = λ any def r e. absurd (let no : InPReg c.in-InPReg.preg ≡ AnyPlace = sym c.in-InPReg.is ∙ any in cc)
 
 pub returns-clause-awaited : goal.returns-clause-awaited
-returns-clause-awaited g c = λ any def r e. absurd (slot_no_register _ _ r c.in_ok-slot.ensures.ok.below e)
+returns-clause-awaited g c = IfOk-weaker c.get_spillslot.result _ _ (λ p got any def r e. absurd (slot_no_register _ _ r got.below e)) c.get_spillslot.ensures.ok
 
 pub returns-in-InPReg-clause-affordable : goal.returns-in-InPReg-clause-affordable
 returns-in-InPReg-clause-affordable g c = λ any r e. absurd (let no : InPReg c.in-InPReg.preg ≡ AnyPlace = sym c.in-InPReg.is ∙ any in cc)
@@ -72,10 +73,10 @@ pub get_spillslot-requires : goal.get_spillslot-requires
 get_spillslot-requires g c = omega (arith, c.requires.vreg, c.args.self.now.same_long)
 
 pub returns-clause-affordable : goal.returns-clause-affordable
-returns-clause-affordable g c = λ any r e. absurd (slot_no_register _ _ r c.in_ok-slot.ensures.ok.below e)
+returns-clause-affordable g c = IfOk-weaker c.get_spillslot.result _ _ (λ p got any r e. absurd (slot_no_register _ _ r got.below e)) c.get_spillslot.ensures.ok
 
 pub returns-clause-there : goal.returns-clause-there
-returns-clause-there g c = c.in_ok-slot.ensures.ok.there
+returns-clause-there g c = IfOk-weaker c.get_spillslot.result _ _ (λ p got. got.there) c.get_spillslot.ensures.ok
 
 pub returns-clause-machine : goal.returns-clause-machine
 returns-clause-machine g c = record {
@@ -87,24 +88,5 @@ returns-clause-machine g c = record {
   num_temp_slots = c.get_spillslot.ensures.num_temp_slots;
 }
 
--- there is no slot
-pub returns-in_err-slot : goal.returns-in_err-slot
-returns-in_err-slot g c =
-    let e = err_from_is_err_and c.from_residual.result c.from_residual.ensures.1 in
-    record {
-      outcome = rw e.1 (λ lacks. absurd (let no : TooManySpillSlots ≡ TooManyLiveRegs = sym c.in_err-slot.ensures.full.0 ∙ sym e.2 ∙ lacks in cc));
-      affordable = rw e.1 tt;
-      there = rw e.1 tt;
-      places = refl;
-      edits = refl;
-      machine = record {
-        allocatable = refl;
-        fixed_stack = refl;
-        dedicated_scratch = refl;
-        sizes = c.get_spillslot.ensures.sizes;
-        vregs = c.get_spillslot.ensures.vregs;
-        num_temp_slots = c.get_spillslot.ensures.num_temp_slots;
-      };
-      err = rw (e.1 ∙ ap Err e.2) c.in_err-slot.ensures.lack;
-      awaited = rw e.1 tt;
-    }
+pub returns-clause-err : goal.returns-clause-err
+returns-clause-err g c = c.get_spillslot.ensures.lack

@@ -1,6 +1,6 @@
 use Rattle.std.proofs.Common.{ℕ, ◌≡◌, ◌<◌, List, length, sym, ap, ◌∙◌, subst, rules, arith}
-use Rattle.std.specs.Prelude.{All, Ok}
-use Rattle.std.proofs.lemmas.Result.{err_from_is_err_and}
+use Rattle.std.specs.Prelude.{All}
+use Rattle.std.proofs.lemmas.Result.{err_from_is_err_and, MatchResult-weaker}
 use Rattle.regalloc2_index.specs.Range.{Span}
 use Rattle.regalloc2_names.specs.Point.{before}
 use Rattle.regalloc2_names.specs.Register.{VirtualRegister}
@@ -11,8 +11,8 @@ use Rattle.regalloc2_fastalloc_proofs.specs.BlockStart.{ReloadsAtBegin, ReloadAt
 use Rattle.regalloc2_fastalloc_proofs.specs.BlockSteps.{DefinesBelow, at_reloads, at_stores}
 use Rattle.regalloc2_fastalloc_proofs.specs.InstSteps.{StateValue, no_register}
 use Rattle.regalloc2_fastalloc_proofs.proofs.Safety.StateKept.{same_lends, apart_kept, params_known}
-use Rattle.regalloc2_fastalloc_walk.specs.StateView.{tables_of, IsStepAt}
-use Rattle.regalloc2_fastalloc_walk.proofs.Steps.{step_then, fails_with, step_then_fails}
+use Rattle.regalloc2_fastalloc_walk.specs.StateView.{tables_of}
+use Rattle.regalloc2_fastalloc_walk.proofs.Steps.{fails_with, step_after}
 use Rattle.regalloc2_fastalloc_walk.proofs.state.State.begin_block.Goals as goal
 
 pub first-first-requires : goal.first-first-requires
@@ -61,21 +61,16 @@ returns-clause-outcome g c =
     let old : StateValue = tables_of c.args.self.now in
     let m : StateValue = tables_of c.reload_at_begin.new.self in
     let first : c.first-first.result ≡ (block_at f c.args.block).range.first = c.first-first.ensures ∙ ap (λ (r : Span). r.first) c.block_insns.ensures in
-    record {
-      middle = m;
-      reloads = subst (λ (n : ℕ). ReloadsAtBegin (before n) (block_at f c.args.block).params old m) first
+    let reloads : ReloadsAtBegin (before (block_at f c.args.block).range.first) (block_at f c.args.block).params old m =
+    subst (λ (n : ℕ). ReloadsAtBegin (before n) (block_at f c.args.block).params old m) first
           (subst (λ (vs : List VirtualRegister). ReloadsAtBegin (before c.first-first.result) vs old m) c.block_params.ensures
-          c.in_ok-reload_at_begin.ensures.outcome);
-      stores = c.in_ok-store_branch_defs.ensures.outcome;
-    }
+          c.in_ok-reload_at_begin.ensures.outcome) in
+    MatchResult-weaker c.store_branch_defs.result c.store_branch_defs.ensures.outcome
+    (λ v stores. record { middle = m; reloads = reloads; stores = stores }) (λ e stops lacks. at_stores m reloads (stops lacks))
 
 pub returns-clause-step : goal.returns-clause-step
-returns-clause-step g c =
-    let f : FunctionValue = g.F.Function.function c.args.cx.now.f.now in
-    let first : c.first-first.result ≡ (block_at f c.args.block).range.first = c.first-first.ensures ∙ ap (λ (r : Span). r.first) c.block_insns.ensures in
-    step_then c.args.self.now c.reload_at_begin.new.self c.store_branch_defs.new.self
-    (subst (λ (n : ℕ). IsStepAt (before n) (Ok tt) c.args.self.now c.reload_at_begin.new.self) first c.in_ok-reload_at_begin.ensures.step)
-    c.in_ok-store_branch_defs.ensures.step
+returns-clause-step g c = step_after c.store_branch_defs.result c.args.self.now c.reload_at_begin.new.self c.store_branch_defs.new.self
+    c.in_ok-reload_at_begin.ensures.step.machine c.in_ok-reload_at_begin.ensures.step.long c.store_branch_defs.ensures.step
 
 pub returns-in_err-reload_at_begin-clause-outcome : goal.returns-in_err-reload_at_begin-clause-outcome
 returns-in_err-reload_at_begin-clause-outcome g c =
@@ -86,18 +81,6 @@ returns-in_err-reload_at_begin-clause-outcome g c =
     rw e.1 (λ lacks. at_reloads (subst (λ (n : ℕ). ReloadAtBegin (before n) (block_at f c.args.block).params old no_register) first
     (subst (λ (vs : List VirtualRegister). ReloadAtBegin (before c.first-first.result) vs old no_register) c.block_params.ensures
     (c.in_err-reload_at_begin.ensures.outcome (sym e.2 ∙ lacks)))))
-
-pub returns-in_err-store_branch_defs-clause-outcome : goal.returns-in_err-store_branch_defs-clause-outcome
-returns-in_err-store_branch_defs-clause-outcome g c =
-    let f : FunctionValue = g.F.Function.function c.args.cx.now.f.now in
-    let old : StateValue = tables_of c.args.self.now in
-    let m : StateValue = tables_of c.reload_at_begin.new.self in
-    let first : c.first-first.result ≡ (block_at f c.args.block).range.first = c.first-first.ensures ∙ ap (λ (r : Span). r.first) c.block_insns.ensures in
-    let e = err_from_is_err_and c.from_residual-in_err-store_branch_defs.result c.from_residual-in_err-store_branch_defs.ensures.1 in
-    rw e.1 (λ lacks. at_stores m (subst (λ (n : ℕ). ReloadsAtBegin (before n) (block_at f c.args.block).params old m) first
-    (subst (λ (vs : List VirtualRegister). ReloadsAtBegin (before c.first-first.result) vs old m) c.block_params.ensures
-    c.in_ok-reload_at_begin.ensures.outcome))
-    (c.in_err-store_branch_defs.ensures.outcome (sym e.2 ∙ lacks)))
 
 pub block_insns-requires : goal.block_insns-requires
 block_insns-requires g c = c.requires.block
@@ -110,9 +93,3 @@ pub returns-in_err-reload_at_begin-clause-step : goal.returns-in_err-reload_at_b
 returns-in_err-reload_at_begin-clause-step g c =
     let e = err_from_is_err_and c.from_residual.result c.from_residual.ensures.1 in
     fails_with c.from_residual.result c.args.self.now c.reload_at_begin.new.self e.1 e.2 c.in_err-reload_at_begin.ensures.step.machine c.in_err-reload_at_begin.ensures.step.err
-
-pub returns-in_err-store_branch_defs-clause-step : goal.returns-in_err-store_branch_defs-clause-step
-returns-in_err-store_branch_defs-clause-step g c =
-    let e = err_from_is_err_and c.from_residual-in_err-store_branch_defs.result c.from_residual-in_err-store_branch_defs.ensures.1 in
-    step_then_fails c.from_residual-in_err-store_branch_defs.result c.args.self.now c.reload_at_begin.new.self c.store_branch_defs.new.self e.1 e.2
-    c.in_ok-reload_at_begin.ensures.step.machine c.in_err-store_branch_defs.ensures.step

@@ -7,8 +7,8 @@ use Rattle.regalloc2_fastalloc_walk.specs.StateView.{tables_of}
 use Rattle.regalloc2_names.specs.declared.RegAllocError.TheVariants.{TooManyLiveRegs, TooManySpillSlots}
 use Rattle.regalloc2_fastalloc_proofs.specs.InstSteps.{SameMachine}
 use Rattle.regalloc2_fastalloc_proofs.proofs.Evictions.PushedAndRemoved.{same_then}
-use Rattle.regalloc2_fastalloc_walk.proofs.Steps.{fails_with}
-use Rattle.regalloc2_fastalloc_walk.proofs.StepsFail.{fails_for_memory, no_lack}
+use Rattle.regalloc2_fastalloc_walk.proofs.Steps.{fails_with, outcome_of}
+use Rattle.regalloc2_fastalloc_walk.proofs.StepsFail.{no_lack, fails_only_for_memory}
 use Rattle.regalloc2_fastalloc_walk.proofs.state.State.gather_argument.Goals as goal
 
 pub get_spillslot-requires : goal.get_spillslot-requires
@@ -22,7 +22,9 @@ add-requires g c =
 
 pub returns-clause-outcome : goal.returns-clause-outcome
 returns-clause-outcome g c =
-    let one : RegClass → ClassMove = λ k. record { class = k; from = c.in_ok-from.from; to = c.in_ok-to.to } in (
+    let one : RegClass → ClassMove = λ k. record { class = k; from = c.in_ok-from.from; to = c.in_ok-to.to } in
+    outcome_of c.add.result c.add.ensures.ok c.add.ensures.err
+    (λ adds. (
       c.in_ok-to.to,
       c.in_ok-from.from,
       record {
@@ -42,8 +44,9 @@ returns-clause-outcome g c =
         spills = c.in_ok-from.ensures.outcome;
       },
       λ given is. subst (λ (k : RegClass). AreOf c.add.new.self.int c.add.new.self.float c.add.new.self.vector (given ++ one k ∷ [])) c.class.ensures
-          (c.in_ok-add.ensures.ok given is),
-    )
+          (adds given is),
+    ))
+    (λ e memory lacks. no_lack refl memory lacks)
 
 pub returns-in_err-from-clause-outcome : goal.returns-in_err-from-clause-outcome
 returns-in_err-from-clause-outcome g c =
@@ -100,25 +103,6 @@ returns-in_err-from-clause-step g c =
     fails_with c.from_residual-in_err-from.result c.args.self.now c.spill_argument.new.self e.1 e.2
     (same_then _ _ _ made c.in_err-from.ensures.step.machine) c.in_err-from.ensures.step.err
 
-pub returns-in_err-add-clause-outcome : goal.returns-in_err-add-clause-outcome
-returns-in_err-add-clause-outcome g c =
-    let e = err_from_is_err_and c.from_residual-in_err-add.result c.from_residual-in_err-add.ensures.1 in
-    rw e.1 (λ lacks. no_lack e.2 c.in_err-add.ensures.err lacks)
-
-pub returns-in_err-add-clause-step : goal.returns-in_err-add-clause-step
-returns-in_err-add-clause-step g c =
-    let e = err_from_is_err_and c.from_residual-in_err-add.result c.from_residual-in_err-add.ensures.1 in
-    let made : SameMachine (tables_of c.args.self.now) (record (tables_of c.args.self.now) { slots = c.get_spillslot.new.self }) = record {
-      allocatable = refl;
-      fixed_stack = refl;
-      dedicated_scratch = refl;
-      sizes = c.get_spillslot.ensures.sizes;
-      vregs = c.get_spillslot.ensures.vregs;
-      num_temp_slots = c.get_spillslot.ensures.num_temp_slots;
-    } in
-    fails_for_memory c.from_residual-in_err-add.result c.args.self.now c.spill_argument.new.self e.1 e.2 c.in_err-add.ensures.err
-    (same_then _ _ _ made c.in_ok-from.ensures.step.machine)
-
 pub returns-clause-step : goal.returns-clause-step
 returns-clause-step g c =
     let made : SameMachine (tables_of c.args.self.now) (record (tables_of c.args.self.now) { slots = c.get_spillslot.new.self }) = record {
@@ -129,9 +113,5 @@ returns-clause-step g c =
       vregs = c.get_spillslot.ensures.vregs;
       num_temp_slots = c.get_spillslot.ensures.num_temp_slots;
     } in
-    record {
-      machine = same_then _ _ _ made c.in_ok-from.ensures.step.machine;
-      later = c.in_ok-from.ensures.step.later;
-      long = c.in_ok-from.ensures.step.long;
-      err = search rules;
-    }
+    fails_only_for_memory c.add.result c.args.self.now c.spill_argument.new.self (same_then _ _ _ made c.in_ok-from.ensures.step.machine)
+    c.in_ok-from.ensures.step.long c.in_ok-from.ensures.step.later c.add.ensures.err

@@ -1,7 +1,7 @@
 use Rattle.std.proofs.Common.{Bool, ℕ, ◌≡◌, List, true, false, eqb, refl, sym, ap, ◌∙◌, ◌++◌, ◌∷◌, []}
-use Rattle.std.specs.Prelude.{Err, Some, not, if◌then◌else◌}
+use Rattle.std.specs.Prelude.{Some, not, if◌then◌else◌}
 use Rattle.std.proofs.lemmas.Bool.{eqb-true, not-false}
-use Rattle.std.proofs.lemmas.Result.{err_from_is_err_and}
+use Rattle.std.proofs.lemmas.Result.{on_ok_weaker}
 use Rattle.regalloc2_names.specs.Register.{VirtualRegister}
 use Rattle.regalloc2_names.specs.Place.{Place, NoPlace, InRegister, InSlot, is_no_place}
 use Rattle.regalloc2_analysis.specs.BranchDefs.Tables.{site_of}
@@ -16,14 +16,6 @@ no_place_is NoPlace e = refl
 no_place_is (InRegister r) e = absurd cc
 no_place_is (InSlot n) e = absurd cc
 
-pub returns-in_err-list_store-clause-ok : goal.returns-in_err-list_store-clause-ok
-returns-in_err-list_store-clause-ok g c = let e = err_from_is_err_and c.from_residual.result c.from_residual.ensures.1 in rw e.1 tt
-
-pub returns-in_err-list_store-clause-err : goal.returns-in_err-list_store-clause-err
-returns-in_err-list_store-clause-err g c =
-    let e = err_from_is_err_and c.from_residual.result c.from_residual.ensures.1 in
-    rw (e.1 ∙ ap Err (e.2 ∙ c.in_err-list_store.ensures.err)) refl
-
 -- an argument that the branch defines is listed, if its parameter has a slot
 listed_by : {A : Type 0} (defs : BranchDefs A) (branch j : ℕ) (slots : SpillSlotsValue) (param argument : VirtualRegister) (old new : List StoredDef) (b : Bool)
     → site_of defs argument.number ≡ Some (record { branch = branch; index = j }) → is_no_place (slot_name slots param.number) ≡ b
@@ -37,6 +29,6 @@ returns-clause-ok g c =
     let j : ℕ = c.in-Some.site.index in
     let same : c.in-Some.site.branch ≡ c.args.edge.now.branch = eqb-true c.in-Some.site.branch c.args.edge.now.branch
     (not-false (eqb c.in-Some.site.branch c.args.edge.now.branch) (sym c.ne.ensures ∙ c.if-ne.false)) in
-    listed_by c.args.defs.now c.args.edge.now.branch j c.args.self.now.slots c.args.param c.args.argument c.args.stores.now.items
+    on_ok_weaker c.list_store.result (listed_by c.args.defs.now c.args.edge.now.branch j c.args.self.now.slots c.args.param c.args.argument c.args.stores.now.items
     c.list_store.new.stores.items (is_no_place (slot_name c.args.self.now.slots c.args.param.number))
-    (sym c.site.ensures ∙ c.in-Some.is ∙ ap (λ (n : ℕ). Some (record { branch = n; index = j })) same) refl c.in_ok-list_store.ensures.ok
+    (sym c.site.ensures ∙ c.in-Some.is ∙ ap (λ (n : ℕ). Some (record { branch = n; index = j })) same) refl) c.list_store.ensures.ok

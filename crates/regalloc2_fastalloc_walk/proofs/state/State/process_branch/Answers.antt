@@ -1,5 +1,5 @@
 use Rattle.std.proofs.Common.{ℕ, ◌≡◌, ◌+◌, ◌≤◌, length, refl, inl, inr, sym, ◌∙◌, subst, arith, rules}
-use Rattle.std.proofs.lemmas.Result.{err_from_is_err_and}
+use Rattle.std.proofs.lemmas.Result.{err_from_is_err_and, MatchResult-weaker, IfErr-weaker}
 use Rattle.regalloc2_names.specs.declared.RegClass.{RegClass}
 use Rattle.regalloc2_names.specs.declared.RegClass.TheVariants.{Int, Float, Vector}
 use Rattle.regalloc2_names.specs.Point.{before}
@@ -14,6 +14,7 @@ use Rattle.regalloc2_fastalloc_proofs.proofs.Branches.ArgMovesAreParallel.{full_
 use Rattle.regalloc2_fastalloc_proofs.proofs.Safety.StateKept.{lends_then, none_lends, same_lends, apart_kept}
 use Rattle.regalloc2_fastalloc_state.proofs.SpillSlotUnits.{lacks_then}
 use Rattle.regalloc2_fastalloc_walk.proofs.NothingPassed.{processes_nothing}
+use Rattle.std.specs.Prelude.{OnOk}
 use Rattle.regalloc2_fastalloc_walk.proofs.state.State.process_branch.Goals as goal
 
 -- a branch that passes nothing is done at once
@@ -61,7 +62,8 @@ returns-clause-outcome g c =
     let x = c.in_ok-moves.ensures.outcome in
     let u = c.gather.new.inst_regs in
     let p : ℕ = c.passing_point-point.result in
-    let y = c.in_ok-push_gathered.ensures.outcome in
+    MatchResult-weaker c.push_gathered.result c.push_gathered.ensures.outcome
+    (λ v y.
     record {
       given = x.0;
       gathered = m;
@@ -72,7 +74,12 @@ returns-clause-outcome g c =
       float = pushes_at p (before c.args.inst) u Float c.in_ok-moves.moves.float (of_class Float x.0) y.after_ints y.after_floats at x.1.float y.float;
       vector = pushes_at p (before c.args.inst) u Vector c.in_ok-moves.moves.vector (of_class Vector x.0) y.after_floats
           (tables_of c.push_gathered.new.self) at x.1.vector y.vector;
-    }
+    })
+    (λ e stops lacks. elim (stops lacks) [
+      | inl a ↦ in_order Int u m m x.0 x.2 refl (subst (λ (ms : Moves). LacksMoveReg Int ms m) x.1.int a)
+      | inr (inl a) ↦ in_order Float u m m x.0 x.2 refl (subst (λ (ms : Moves). LacksMoveReg Float ms m) x.1.float a)
+      | inr (inr a) ↦ in_order Vector u m m x.0 x.2 refl (subst (λ (ms : Moves). LacksMoveReg Vector ms m) x.1.vector a)
+    ])
 
 pub returns-clause-step : goal.returns-clause-step
 returns-clause-step g c =
@@ -81,16 +88,21 @@ returns-clause-step g c =
     let b : StateValue = tables_of c.gather.new.self in
     let u = c.gather.new.inst_regs in
     let p : ℕ = c.passing_point-point.result in
-    let y = c.in_ok-push_gathered.ensures.outcome in
+    let Full : Type 0 = SlotsExhaustedWith old.slots (old.slots.num_temp_slots + 6) in
+    let lends = lends_none old b c.gather.ensures.step.machine in
     record {
-      machine = lends_then 0 6 6 old b (tables_of c.push_gathered.new.self) (omega arith) (lends_none old b c.gather.ensures.step.machine)
-          c.push_gathered.ensures.machine;
-      later = subst (λ (n : ℕ). AllAtOrAfter n c.push_gathered.new.self.edits) at c.in_ok-push_gathered.ensures.later;
-      long = pushes_long p u Vector c.in_ok-moves.moves.vector y.after_floats (tables_of c.push_gathered.new.self) y.vector
+      machine = lends_then 0 6 6 old b (tables_of c.push_gathered.new.self) (omega arith) lends c.push_gathered.ensures.machine;
+      later = subst (λ (n : ℕ). OnOk c.push_gathered.result (AllAtOrAfter n c.push_gathered.new.self.edits)) at c.push_gathered.ensures.later;
+      long = MatchResult-weaker c.push_gathered.result c.push_gathered.ensures.outcome
+          (λ v y. pushes_long p u Vector c.in_ok-moves.moves.vector y.after_floats (tables_of c.push_gathered.new.self) y.vector
           ∙ pushes_long p u Float c.in_ok-moves.moves.float y.after_ints y.after_floats y.float
           ∙ pushes_long p u Int c.in_ok-moves.moves.int (tables_of c.gather.new.self) y.after_ints y.int
-          ∙ c.in_ok-moves.ensures.step.long;
-      err = search rules;
+          ∙ c.in_ok-moves.ensures.step.long)
+          (λ e stops. tt);
+      err = IfErr-weaker c.push_gathered.result (IsResourceError (SlotsExhaustedWith b.slots (b.slots.num_temp_slots + 6))) (IsResourceError Full)
+          (lacks_then (SlotsExhaustedWith b.slots (b.slots.num_temp_slots + 6)) Full
+          (full_before 0 (b.slots.num_temp_slots + 6) 6 old b lends (omega arith)))
+          c.push_gathered.ensures.err;
     }
 
 -- what is lacking, wherever it stops
@@ -110,38 +122,8 @@ returns-in_err-moves-clause-step g c =
           c.in_err-moves.ensures.step.err);
     })
 
-pub returns-in_err-push_gathered-clause-step : goal.returns-in_err-push_gathered-clause-step
-returns-in_err-push_gathered-clause-step g c =
-    let old : StateValue = tables_of c.args.self.now in
-    let b : StateValue = tables_of c.gather.new.self in
-    let p = err_from_is_err_and c.from_residual-in_err-push_gathered.result c.from_residual-in_err-push_gathered.ensures.1 in
-    let Full : Type 0 = SlotsExhaustedWith old.slots (old.slots.num_temp_slots + 6) in
-    rw p.1 (record {
-      machine = lends_then 0 6 6 old b (tables_of c.push_gathered.new.self) (omega arith)
-          (lends_none old b c.gather.ensures.step.machine) c.push_gathered.ensures.machine;
-      later = search rules;
-      long = search rules;
-      err = subst (IsResourceError Full) (sym p.2)
-          (lacks_then (SlotsExhaustedWith b.slots (b.slots.num_temp_slots + 6)) Full
-          (full_before 0 (b.slots.num_temp_slots + 6) 6 old b (lends_none old b c.gather.ensures.step.machine) (omega arith)) _
-          c.in_err-push_gathered.ensures.err);
-    })
-
 -- an argument that can't be spilled
 pub returns-in_err-moves-clause-outcome : goal.returns-in_err-moves-clause-outcome
 returns-in_err-moves-clause-outcome g c =
     let p = err_from_is_err_and c.from_residual.result c.from_residual.ensures.1 in
     rw p.1 (λ same. in_gather (c.in_err-moves.ensures.outcome (sym p.2 ∙ same)))
-
--- moves of a class that has no register
-pub returns-in_err-push_gathered-clause-outcome : goal.returns-in_err-push_gathered-clause-outcome
-returns-in_err-push_gathered-clause-outcome g c =
-    let u = c.gather.new.inst_regs in
-    let m : StateValue = tables_of c.gather.new.self in
-    let x = c.in_ok-moves.ensures.outcome in
-    let p = err_from_is_err_and c.from_residual-in_err-push_gathered.result c.from_residual-in_err-push_gathered.ensures.1 in
-    rw p.1 (λ same. elim (c.in_err-push_gathered.ensures.outcome (sym p.2 ∙ same)) [
-      | inl a ↦ in_order Int u m m x.0 x.2 refl (subst (λ (ms : Moves). LacksMoveReg Int ms m) x.1.int a)
-      | inr (inl a) ↦ in_order Float u m m x.0 x.2 refl (subst (λ (ms : Moves). LacksMoveReg Float ms m) x.1.float a)
-      | inr (inr a) ↦ in_order Vector u m m x.0 x.2 refl (subst (λ (ms : Moves). LacksMoveReg Vector ms m) x.1.vector a)
-    ])

@@ -1,5 +1,5 @@
 use Rattle.std.proofs.Common.{◌≡◌, ◌+◌, ◌≤◌, ◌∙◌, inl, inr, refl, sym, subst, arith, rules}
-use Rattle.std.proofs.lemmas.Result.{err_from_is_err_and}
+use Rattle.std.proofs.lemmas.Result.{err_from_is_err_and, MatchResult-weaker, IfErr-weaker}
 use Rattle.regalloc2_names.specs.declared.RegClass.{RegClass}
 use Rattle.regalloc2_names.specs.declared.RegClass.TheVariants.{Int, Float, Vector}
 use Rattle.regalloc2_fastalloc_state.specs.ScratchPool.{Moves}
@@ -65,14 +65,21 @@ push_moves-requires-3 g c =
       ),
     )
 
+-- a register that a later class lacks was lacking before
+lacks_before : (class : RegClass) (ms : Moves) (a b : StateValue) → b.allocatable ≡ a.allocatable → LacksMoveReg class ms b → LacksMoveReg class ms a
+lacks_before class ms a b same h = (h.0, subst (λ set. NoneIsFrom set class 0) same h.1)
+
 pub returns-clause-outcome : goal.returns-clause-outcome
-returns-clause-outcome g c = record {
-  after_ints = tables_of c.push_moves.new.self;
-  after_floats = tables_of c.push_moves-2.new.self;
-  int = c.in_ok-push_moves.ensures.outcome;
-  float = c.in_ok-push_moves-2.ensures.outcome;
-  vector = c.in_ok-push_moves-3.ensures.outcome;
-}
+returns-clause-outcome g c = MatchResult-weaker c.push_moves-3.result c.push_moves-3.ensures.outcome
+    (λ v pushes. record {
+      after_ints = tables_of c.push_moves.new.self;
+      after_floats = tables_of c.push_moves-2.new.self;
+      int = c.in_ok-push_moves.ensures.outcome;
+      float = c.in_ok-push_moves-2.ensures.outcome;
+      vector = pushes;
+    })
+    (λ e stops lacks. inr (inr (lacks_before Vector c.args.moves.vector (tables_of c.args.self.now) (tables_of c.push_moves-2.new.self)
+    (c.push_moves-2.ensures.machine.allocatable ∙ c.push_moves.ensures.machine.allocatable) (stops lacks))))
 
 -- what is lacking, wherever it stops
 pub returns-in_err-push_moves-clause-err : goal.returns-in_err-push_moves-clause-err
@@ -96,18 +103,6 @@ returns-in_err-push_moves-2-clause-err g c =
     (full_before (0 + 2) (b.slots.num_temp_slots + 2) 4 old b (lends_then (0) 2 old (tables_of c.args.self.now) (tables_of c.push_moves.new.self)
     (lends_same 0 old old refl) c.push_moves.ensures.machine) (omega arith)) _ c.in_err-push_moves-2.ensures.err))
 
-pub returns-in_err-push_moves-3-clause-err : goal.returns-in_err-push_moves-3-clause-err
-returns-in_err-push_moves-3-clause-err g c =
-    let old : StateValue = tables_of c.args.self.now in
-    let b : StateValue = tables_of c.push_moves-2.new.self in
-    let p = err_from_is_err_and c.from_residual-in_err-push_moves-3.result c.from_residual-in_err-push_moves-3.ensures.1 in
-    let Full : Type 0 = SlotsExhaustedWith old.slots (old.slots.num_temp_slots + 6) in
-    rw p.1 (subst (IsResourceError Full) (sym p.2)
-    (lacks_then (SlotsExhaustedWith b.slots (b.slots.num_temp_slots + 2)) Full
-    (full_before (0 + 2 + 2) (b.slots.num_temp_slots + 2) 2 old b (lends_then (0 + 2) 2 old (tables_of c.push_moves.new.self)
-    (tables_of c.push_moves-2.new.self) (lends_then (0) 2 old (tables_of c.args.self.now) (tables_of c.push_moves.new.self) (lends_same 0 old old refl)
-    c.push_moves.ensures.machine) c.push_moves-2.ensures.machine) (omega arith)) _ c.in_err-push_moves-3.ensures.err))
-
 -- temporary slots are added at most
 pub returns-clause-machine : goal.returns-clause-machine
 returns-clause-machine g c = lends_in_all 4 2 6 (tables_of c.args.self.now) (tables_of c.push_moves-2.new.self) (tables_of c.push_moves-3.new.self)
@@ -122,15 +117,6 @@ pub returns-in_err-push_moves-2-clause-machine : goal.returns-in_err-push_moves-
 returns-in_err-push_moves-2-clause-machine g c = lends_in_all 2 2 6 (tables_of c.args.self.now) (tables_of c.push_moves.new.self)
     (tables_of c.push_moves-2.new.self) (omega arith) c.push_moves.ensures.machine c.push_moves-2.ensures.machine
 
-pub returns-in_err-push_moves-3-clause-machine : goal.returns-in_err-push_moves-3-clause-machine
-returns-in_err-push_moves-3-clause-machine g c = lends_in_all 4 2 6 (tables_of c.args.self.now) (tables_of c.push_moves-2.new.self)
-    (tables_of c.push_moves-3.new.self) (omega arith) (lends_in_all 2 2 4 (tables_of c.args.self.now) (tables_of c.push_moves.new.self)
-    (tables_of c.push_moves-2.new.self) (omega arith) c.push_moves.ensures.machine c.push_moves-2.ensures.machine) c.push_moves-3.ensures.machine
-
--- a register that a later class lacks was lacking before
-lacks_before : (class : RegClass) (ms : Moves) (a b : StateValue) → b.allocatable ≡ a.allocatable → LacksMoveReg class ms b → LacksMoveReg class ms a
-lacks_before class ms a b same h = (h.0, subst (λ set. NoneIsFrom set class 0) same h.1)
-
 pub returns-in_err-push_moves-clause-outcome : goal.returns-in_err-push_moves-clause-outcome
 returns-in_err-push_moves-clause-outcome g c =
     let p = err_from_is_err_and c.from_residual.result c.from_residual.ensures.1 in
@@ -142,9 +128,17 @@ returns-in_err-push_moves-2-clause-outcome g c =
     rw p.1 (λ lacks. inr (inl (lacks_before Float c.args.moves.float (tables_of c.args.self.now) (tables_of c.push_moves.new.self)
     c.push_moves.ensures.machine.allocatable (c.in_err-push_moves-2.ensures.outcome (sym p.2 ∙ lacks)))))
 
-pub returns-in_err-push_moves-3-clause-outcome : goal.returns-in_err-push_moves-3-clause-outcome
-returns-in_err-push_moves-3-clause-outcome g c =
-    let p = err_from_is_err_and c.from_residual-in_err-push_moves-3.result c.from_residual-in_err-push_moves-3.ensures.1 in
-    rw p.1 (λ lacks. inr (inr (lacks_before Vector c.args.moves.vector (tables_of c.args.self.now) (tables_of c.push_moves-2.new.self)
-    (c.push_moves-2.ensures.machine.allocatable ∙ c.push_moves.ensures.machine.allocatable)
-    (c.in_err-push_moves-3.ensures.outcome (sym p.2 ∙ lacks)))))
+pub returns-clause-err : goal.returns-clause-err
+returns-clause-err g c =
+    let old : StateValue = tables_of c.args.self.now in
+    let b : StateValue = tables_of c.push_moves-2.new.self in
+    let Full : Type 0 = SlotsExhaustedWith old.slots (old.slots.num_temp_slots + 6) in
+    IfErr-weaker c.push_moves-3.result (IsResourceError (SlotsExhaustedWith b.slots (b.slots.num_temp_slots + 2))) (IsResourceError Full)
+    (lacks_then (SlotsExhaustedWith b.slots (b.slots.num_temp_slots + 2)) Full
+    (full_before (0 + 2 + 2) (b.slots.num_temp_slots + 2) 2 old b (lends_then (0 + 2) 2 old (tables_of c.push_moves.new.self)
+    (tables_of c.push_moves-2.new.self) (lends_then (0) 2 old (tables_of c.args.self.now) (tables_of c.push_moves.new.self) (lends_same 0 old old refl)
+    c.push_moves.ensures.machine) c.push_moves-2.ensures.machine) (omega arith)))
+    c.push_moves-3.ensures.err
+
+pub returns-clause-later : goal.returns-clause-later
+returns-clause-later g c = c.push_moves-3.ensures.later

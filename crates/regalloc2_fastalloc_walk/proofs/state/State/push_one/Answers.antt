@@ -28,18 +28,3 @@ pub returns-in_err-push-clause-err : goal.returns-in_err-push-clause-err
 returns-in_err-push-clause-err g c =
     let e = err_from_is_err_and c.from_residual.result c.from_residual.ensures.1 in
     rw (e.1 ∙ ap Err (e.2 ∙ c.in_err-push.ensures.err)) refl
-
-pub returns-in_err-push-2-clause-ok : goal.returns-in_err-push-2-clause-ok
-returns-in_err-push-2-clause-ok g c =
-    let e = err_from_is_err_and c.from_residual-in_err-push-2.result c.from_residual-in_err-push-2.ensures.1 in rw e.1 tt
-
-pub returns-in_err-push-2-clause-later : goal.returns-in_err-push-2-clause-later
-returns-in_err-push-2-clause-later g c = c.push-2.ensures.later
-
-pub returns-in_err-push-2-clause-rest : goal.returns-in_err-push-2-clause-rest
-returns-in_err-push-2-clause-rest g c = refl
-
-pub returns-in_err-push-2-clause-err : goal.returns-in_err-push-2-clause-err
-returns-in_err-push-2-clause-err g c =
-    let e = err_from_is_err_and c.from_residual-in_err-push-2.result c.from_residual-in_err-push-2.ensures.1 in
-    rw (e.1 ∙ ap Err (e.2 ∙ c.in_err-push-2.ensures.err)) refl

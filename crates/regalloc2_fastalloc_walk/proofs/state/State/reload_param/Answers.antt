@@ -1,6 +1,6 @@
 use Rattle.std.proofs.Common.{◌≢◌, Bool, refl, sym, ◌∙◌, subst}
 use Rattle.std.specs.Prelude.{not}
-use Rattle.std.proofs.lemmas.Result.{err_from_is_err_and}
+use Rattle.std.proofs.lemmas.Result.{MatchResult-weaker}
 use Rattle.regalloc2_names.specs.declared.RegClass.{RegClass}
 use Rattle.regalloc2_names.specs.Place.{Place, NoPlace, is_place}
 use Rattle.regalloc2_fastalloc_state.specs.StateParts.{alloc_of, SetsAlloc}
@@ -22,11 +22,13 @@ returns-clause-outcome g c =
     let s : Place = c.in_ok-slot.slot in
     let there : q ≢ NoPlace = λ e. something_there c.current_alloc-current.result (c.current_alloc-current.ensures.place ∙ e)
     (sym c.is_none.ensures ∙ c.if-is_none.false) in
+    MatchResult-weaker c.add_move_if.result c.add_move_if.ensures.outcome
+    (λ v made.
     let S : RegClass → Bool → Place → Type 0 = λ k b p. AddsMoveIf c.args.point k b s p c.args.inst_regs.now c.add_move_if.new.inst_regs m
     (tables_of c.add_move_if.new.self) in
     let one : S c.args.param.class c.are_places_different-is_moved.result c.current_alloc-current.result = subst
     (λ (k : RegClass). S k c.are_places_different-is_moved.result
-    c.current_alloc-current.result) c.class.ensures c.in_ok-add_move_if.ensures.outcome in
+    c.current_alloc-current.result) c.class.ensures made in
     let two : S c.args.param.class (not (is_place s c.current_alloc-current.result))
     c.current_alloc-current.result = subst (λ (b : Bool). S c.args.param.class b c.current_alloc-current.result) c.are_places_different-is_moved.ensures one in
     comes s m there c.in_ok-slot.ensures.ok
@@ -39,22 +41,12 @@ returns-clause-outcome g c =
       vregs = c.get_spillslot.ensures.vregs;
       num_temp_slots = c.get_spillslot.ensures.num_temp_slots;
     })
-    refl (subst (λ (p : Place). S c.args.param.class (not (is_place s p)) p) c.current_alloc-current.ensures.place two)
-
-pub returns-in_err-add_move_if-clause-outcome : goal.returns-in_err-add_move_if-clause-outcome
-returns-in_err-add_move_if-clause-outcome g c =
-    let t : StateValue = tables_of c.args.self.now in
-    let m : StateValue = record t { places = c.set_alloc.new.self; slots = c.get_spillslot.new.self } in
-    let q : Place = alloc_of c.args.self.now.places c.args.param.number in
-    let s : Place = c.in_ok-slot.slot in
-    let there : q ≢ NoPlace = λ e. something_there c.current_alloc-current.result (c.current_alloc-current.ensures.place ∙ e)
-    (sym c.is_none.ensures ∙ c.if-is_none.false) in
+    refl (subst (λ (p : Place). S c.args.param.class (not (is_place s p)) p) c.current_alloc-current.ensures.place two))
+    (λ e stops lacks.
     let S : RegClass → Bool → Place → Type 0 = λ k b p. AddMoveIf c.args.point k b s p c.args.inst_regs.now m no_register in
-    let e = err_from_is_err_and c.from_residual-in_err-add_move_if.result c.from_residual-in_err-add_move_if.ensures.1 in
-    rw e.1 (λ lacks.
     let one : S c.args.param.class c.are_places_different-is_moved.result c.current_alloc-current.result = subst
     (λ (k : RegClass). S k c.are_places_different-is_moved.result
-    c.current_alloc-current.result) c.class.ensures (c.in_err-add_move_if.ensures.outcome (sym e.2 ∙ lacks)) in
+    c.current_alloc-current.result) c.class.ensures (stops lacks) in
     let two : S c.args.param.class (not (is_place s c.current_alloc-current.result))
     c.current_alloc-current.result = subst (λ (b : Bool). S c.args.param.class b c.current_alloc-current.result) c.are_places_different-is_moved.ensures one in
     comes s m there c.in_ok-slot.ensures.ok

@@ -1,7 +1,7 @@
-use Rattle.std.proofs.Common.{Bool, ℕ, ◌≡◌, ◌<◌, List, true, false, inl, length, refl, sym, ap, ◌∙◌, subst, arith, rules}
-use Rattle.std.specs.Prelude.{All, Contains, Ok}
+use Rattle.std.proofs.Common.{ℕ, ◌≡◌, ◌<◌, List, true, false, inl, length, refl, sym, ap, ◌∙◌, subst, arith, rules}
+use Rattle.std.specs.Prelude.{All, Contains}
 use Rattle.std.proofs.lemmas.List.Elements.{All-weaker}
-use Rattle.std.proofs.lemmas.Result.{err_from_is_err_and}
+use Rattle.std.proofs.lemmas.Result.{err_from_is_err_and, MatchResult-weaker}
 use Rattle.regalloc2_index.specs.Range.{Span}
 use Rattle.regalloc2_names.specs.Operand.{OperandValue}
 use Rattle.regalloc2_names.specs.Point.{before}
@@ -15,7 +15,6 @@ use Rattle.regalloc2_fastalloc_state.specs.StateParts.{AllAtOrAfter, NoneIsFrom,
 use Rattle.regalloc2_fastalloc_proofs.specs.BlockSteps.{DefinesBelow, MayBeAllocated}
 use Rattle.regalloc2_fastalloc_proofs.specs.InstSteps.{StateValue, SameMachine}
 use Rattle.regalloc2_fastalloc_proofs.specs.StoreSteps.{IsStoredFor, StoresOn, all_stored, branch_operands}
-use Rattle.regalloc2_fastalloc_proofs.proofs.Evictions.PushedAndRemoved.{same_then}
 use Rattle.regalloc2_fastalloc_proofs.proofs.Safety.StateKept.{made_below}
 use Rattle.regalloc2_fastalloc_proofs.proofs.Safety.StoredDefs.{concerned_made}
 use Rattle.regalloc2_fastalloc_proofs.proofs.Safety.StoresKeepSafe.{stored_concerned, stored_defines}
@@ -23,7 +22,7 @@ use Rattle.regalloc2_fastalloc_walk.specs.BranchStores.{FindsStores, LacksStoreR
 use Rattle.regalloc2_fastalloc_walk.specs.StateView.{IsStepAt, tables_of}
 use Rattle.regalloc2_steps.specs.declared.moved.PlaceMove.{PlaceMove}
 use Rattle.regalloc2_fastalloc_walk.specs.declared.store.StoredDef.{StoredDef}
-use Rattle.regalloc2_fastalloc_walk.proofs.Steps.{step_then, step_then_fails, fails_with}
+use Rattle.regalloc2_fastalloc_walk.proofs.Steps.{fails_with, step_after}
 use Rattle.regalloc2_fastalloc_walk.proofs.StoresOnEdge.{edge_stores, stores_on, stores_lack}
 use Rattle.regalloc2_fastalloc_walk.proofs.StepsFail.{fails_for_memory, no_lack, same_machine}
 use Rattle.regalloc2_fastalloc_walk.proofs.state.State.store_branch_defs.Goals as goal
@@ -98,8 +97,8 @@ store_point-point-requires g c =
     let within = end_within f c.requires.well_formed.1.follow c.args.block c.requires.block in
     let few = (g.met.F.Function.limited c.args.f.now).insts in omega (arith, first, some, within, few)
 
-pub push_stores-requires : goal.push_stores-requires
-push_stores-requires g c =
+pub push_all_stores-requires : goal.push_all_stores-requires
+push_all_stores-requires g c =
     let f : FunctionValue = g.F.Function.function c.args.f.now in
     let first : c.first.result ≡ (block_at f c.args.block).range.first = c.first.ensures ∙ ap (λ (r : Span). r.first) c.block_insns.ensures in
     let some = (c.requires.well_formed.1.follow c.args.block c.requires.block).0 in
@@ -113,9 +112,6 @@ push_stores-requires g c =
           (sym (ap (λ (t : StateValue). t.edits) c.store_moves.ensures.step.tables)) c.requires.later),
     )
 
-pub push_stores-requires-2 : goal.push_stores-requires-2
-push_stores-requires-2 g c = (search rules, c.in_ok-push_stores.ensures.step.later)
-
 -- a lack of registers in later tables, for moves that are the same
 lack_before : (t u : StateValue) → SameMachine t u → (ms ns : List PlaceMove) → ns ≡ ms → LacksStoreReg u ns → LacksStoreReg t ms
 lack_before t u same ms ns is h = (
@@ -124,48 +120,6 @@ lack_before t u same ms ns is h = (
   subst (λ set. NoneIsFrom set h.0.class 0) same.allocatable h.2,
 )
 
-pub returns-in_err-push_stores-clause-outcome : goal.returns-in_err-push_stores-clause-outcome
-returns-in_err-push_stores-clause-outcome g c =
-    let f : FunctionValue = g.F.Function.function c.args.f.now in
-    let ie = c.requires.defs.edge c.args.block c.in-Some.edge (sym c.edge_into.ensures ∙ c.in-Some.is) in
-    let e : ℕ = c.in-Some.edge.from in
-    let old : StateValue = tables_of c.args.self.now in
-    let t : StateValue = tables_of c.store_moves.new.self in
-    let u : StateValue = tables_of c.push_stores.new.self in
-    let ds : List StoredDef = c.in_ok-stores.stores.items in
-    let ms : List PlaceMove = c.in_ok-moves.moves.items in
-    let slots : SpillSlotsValue = c.store_moves.new.self.slots in
-    let ops : c.inst_operands.result.now ≡ branch_operands f e = c.inst_operands.ensures ∙ ap (λ (n : ℕ). (inst_at f n).operands) ie.branch in
-    let finds : FindsStores (branch_operands f e) ds old.slots (length ds) ms slots =
-    subst (λ (l : List OperandValue). FindsStores l ds old.slots (length ds) ms slots) ops
-    (subst (λ (l : List StoredDef). FindsStores c.inst_operands.result.now l old.slots (length l) ms slots) c.deref.ensures.value c.in_ok-moves.ensures.ok) in
-    let r = err_from_is_err_and c.from_residual-in_err-push_stores.result c.from_residual-in_err-push_stores.ensures.1 in
-    rw r.1 (λ lacks. stores_lack (edge_stores f c.requires.well_formed c.args.block e c.in-Some.edge.position ie.edge old c.requires.apart ds
-    c.in_ok-stores.ensures.ok ms slots finds c.num_units-count.ensures.owned.own)
-    (lack_before old t c.store_moves.ensures.step.machine ms c.deref-2.result.now c.deref-2.ensures.value (c.in_err-push_stores.ensures.outcome (sym r.2 ∙
-    lacks))))
-
-pub returns-in_err-push_stores-2-clause-outcome : goal.returns-in_err-push_stores-2-clause-outcome
-returns-in_err-push_stores-2-clause-outcome g c =
-    let f : FunctionValue = g.F.Function.function c.args.f.now in
-    let ie = c.requires.defs.edge c.args.block c.in-Some.edge (sym c.edge_into.ensures ∙ c.in-Some.is) in
-    let e : ℕ = c.in-Some.edge.from in
-    let old : StateValue = tables_of c.args.self.now in
-    let t : StateValue = tables_of c.store_moves.new.self in
-    let u : StateValue = tables_of c.push_stores.new.self in
-    let ds : List StoredDef = c.in_ok-stores.stores.items in
-    let ms : List PlaceMove = c.in_ok-moves.moves.items in
-    let slots : SpillSlotsValue = c.store_moves.new.self.slots in
-    let ops : c.inst_operands.result.now ≡ branch_operands f e = c.inst_operands.ensures ∙ ap (λ (n : ℕ). (inst_at f n).operands) ie.branch in
-    let finds : FindsStores (branch_operands f e) ds old.slots (length ds) ms slots =
-    subst (λ (l : List OperandValue). FindsStores l ds old.slots (length ds) ms slots) ops
-    (subst (λ (l : List StoredDef). FindsStores c.inst_operands.result.now l old.slots (length l) ms slots) c.deref.ensures.value c.in_ok-moves.ensures.ok) in
-    let r = err_from_is_err_and c.from_residual-in_err-push_stores-2.result c.from_residual-in_err-push_stores-2.ensures.1 in
-    rw r.1 (λ lacks. stores_lack (edge_stores f c.requires.well_formed c.args.block e c.in-Some.edge.position ie.edge old c.requires.apart ds
-    c.in_ok-stores.ensures.ok ms slots finds c.num_units-count.ensures.owned.own)
-    (lack_before old u (same_then old t u c.store_moves.ensures.step.machine c.in_ok-push_stores.ensures.step.machine) ms c.deref-3.result.now
-    c.deref-3.ensures.value (c.in_err-push_stores-2.ensures.outcome (sym r.2 ∙ lacks))))
-
 pub returns-clause-outcome : goal.returns-clause-outcome
 returns-clause-outcome g c =
     let f : FunctionValue = g.F.Function.function c.args.f.now in
@@ -173,7 +127,6 @@ returns-clause-outcome g c =
     let e : ℕ = c.in-Some.edge.from in
     let old : StateValue = tables_of c.args.self.now in
     let t : StateValue = tables_of c.store_moves.new.self in
-    let u : StateValue = tables_of c.push_stores.new.self in
     let ds : List StoredDef = c.in_ok-stores.stores.items in
     let ms : List PlaceMove = c.in_ok-moves.moves.items in
     let slots : SpillSlotsValue = c.store_moves.new.self.slots in
@@ -181,45 +134,36 @@ returns-clause-outcome g c =
     let finds : FindsStores (branch_operands f e) ds old.slots (length ds) ms slots =
     subst (λ (l : List OperandValue). FindsStores l ds old.slots (length ds) ms slots) ops
     (subst (λ (l : List StoredDef). FindsStores c.inst_operands.result.now l old.slots (length l) ms slots) c.deref.ensures.value c.in_ok-moves.ensures.ok) in
-    let w : StateValue = tables_of c.push_stores-2.new.self in
+    let w : StateValue = tables_of c.push_all_stores.new.self in
+    let k : ℕ = c.in-Some.edge.position in
     let point : ℕ = c.store_point-point.result in
     let tables : t ≡ record old { slots = slots } = c.store_moves.ensures.step.tables in
-    let p : PushesStores point true ms (record old { slots = slots }) u = subst (λ (x : StateValue). PushesStores point true ms x u) tables
-    (subst (λ (l : List PlaceMove). PushesStores point true l t u) c.deref-2.ensures.value
-    (subst (λ (turn : Bool × Bool). PushesStores point turn.0 c.deref-2.result.now t u) c.stack_in_turn-first.ensures c.in_ok-push_stores.ensures.outcome)) in
-    let q : PushesStores point false ms u w = subst (λ (l : List PlaceMove). PushesStores point false l u w) c.deref-3.ensures.value
-    (subst (λ (turn : Bool × Bool). PushesStores point turn.1 c.deref-3.result.now u w) c.stack_in_turn-first.ensures c.in_ok-push_stores-2.ensures.outcome) in
+    let same : c.deref-2.result.now ≡ ms = c.deref-2.ensures.value in
+    let stores = edge_stores f c.requires.well_formed c.args.block e k ie.edge old c.requires.apart ds c.in_ok-stores.ensures.ok ms slots finds
+    c.num_units-count.ensures.owned.own in
     let first : c.first.result ≡ (block_at f c.args.block).range.first = c.first.ensures ∙ ap (λ (r : Span). r.first) c.block_insns.ensures in
-    let some = (c.requires.well_formed.1.follow c.args.block c.requires.block).0 in
-    let within = end_within f c.requires.well_formed.1.follow c.args.block c.requires.block in
-    let few = (g.met.F.Function.limited c.args.f.now).insts in
-    let at : c.store_point-point.result ≡ before (block_at f c.args.block).range.first = c.store_point-point.ensures
-    ∙ ap before first in
-    all_stored e c.in-Some.edge.position ie.edge (subst (λ (n : ℕ). StoresOn f e c.in-Some.edge.position n old w) at
-    (stores_on (edge_stores f c.requires.well_formed c.args.block e c.in-Some.edge.position ie.edge old c.requires.apart ds c.in_ok-stores.ensures.ok
-    ms slots finds c.num_units-count.ensures.owned.own)
-    (made_machine old t slots tables c.store_moves.ensures.step.machine) p q))
+    let at : point ≡ before (block_at f c.args.block).range.first = c.store_point-point.ensures ∙ ap before first in
+    MatchResult-weaker c.push_all_stores.result c.push_all_stores.ensures.outcome
+    (λ v pushes.
+    let p : PushesStores point true ms (record old { slots = slots }) pushes.0 = subst (λ (x : StateValue). PushesStores point true ms x pushes.0) tables
+    (subst (λ (l : List PlaceMove). PushesStores point true l t pushes.0) same pushes.1) in
+    let q : PushesStores point false ms pushes.0 w = subst (λ (l : List PlaceMove). PushesStores point false l pushes.0 w) same pushes.2 in
+    all_stored e k ie.edge (subst (λ (n : ℕ). StoresOn f e k n old w) at
+    (stores_on stores (made_machine old t slots tables c.store_moves.ensures.step.machine) p q)))
+    (λ d stops lacks. stores_lack stores (lack_before old t c.store_moves.ensures.step.machine ms c.deref-2.result.now same (stops lacks)))
 
 pub returns-clause-step : goal.returns-clause-step
 returns-clause-step g c =
     let f : FunctionValue = g.F.Function.function c.args.f.now in
-    let old : StateValue = tables_of c.args.self.now in
-    let t : StateValue = tables_of c.store_moves.new.self in
-    let u : StateValue = tables_of c.push_stores.new.self in
     let first : c.first.result ≡ (block_at f c.args.block).range.first = c.first.ensures ∙ ap (λ (r : Span). r.first) c.block_insns.ensures in
     let some = (c.requires.well_formed.1.follow c.args.block c.requires.block).0 in
     let within = end_within f c.requires.well_formed.1.follow c.args.block c.requires.block in
     let few = (g.met.F.Function.limited c.args.f.now).insts in
     let at : c.store_point-point.result ≡ before (block_at f c.args.block).range.first = c.store_point-point.ensures
     ∙ ap before first in
-    let begun : IsStepAt {T = Unit {0}} c.store_point-point.result (Ok tt) c.args.self.now c.push_stores.new.self = record {
-      machine = same_then old t u c.store_moves.ensures.step.machine c.in_ok-push_stores.ensures.step.machine;
-      later = c.in_ok-push_stores.ensures.step.later;
-      long = c.in_ok-push_stores.ensures.step.long ∙ ap (λ (x : StateValue). length x.places.vreg_allocs) c.store_moves.ensures.step.tables;
-      err = search rules;
-    } in
-    subst (λ (n : ℕ). IsStepAt n (Ok tt) c.args.self.now c.push_stores-2.new.self) at
-    (step_then c.args.self.now c.push_stores.new.self c.push_stores-2.new.self begun c.in_ok-push_stores-2.ensures.step)
+    subst (λ (n : ℕ). IsStepAt n c.push_all_stores.result c.args.self.now c.push_all_stores.new.self) at
+    (step_after c.push_all_stores.result c.args.self.now c.store_moves.new.self c.push_all_stores.new.self c.store_moves.ensures.step.machine
+    (ap (λ (x : StateValue). length x.places.vreg_allocs) c.store_moves.ensures.step.tables) c.push_all_stores.ensures.step)
 
 pub list_stores-requires : goal.list_stores-requires
 list_stores-requires g c = (
@@ -231,18 +175,6 @@ list_stores-requires g c = (
     room = c.requires.room;
   },
 )
-
-pub returns-in_err-push_stores-2-clause-step : goal.returns-in_err-push_stores-2-clause-step
-returns-in_err-push_stores-2-clause-step g c =
-    let r = err_from_is_err_and c.from_residual-in_err-push_stores-2.result c.from_residual-in_err-push_stores-2.ensures.1 in
-    step_then_fails c.from_residual-in_err-push_stores-2.result c.args.self.now c.push_stores.new.self c.push_stores-2.new.self r.1 r.2
-    (same_then _ _ _ c.store_moves.ensures.step.machine c.in_ok-push_stores.ensures.step.machine) c.in_err-push_stores-2.ensures.step
-
-pub returns-in_err-push_stores-clause-step : goal.returns-in_err-push_stores-clause-step
-returns-in_err-push_stores-clause-step g c =
-    let r = err_from_is_err_and c.from_residual-in_err-push_stores.result c.from_residual-in_err-push_stores.ensures.1 in
-    step_then_fails c.from_residual-in_err-push_stores.result c.args.self.now c.store_moves.new.self c.push_stores.new.self r.1 r.2
-    c.store_moves.ensures.step.machine c.in_err-push_stores.ensures.step
 
 pub returns-in_err-moves-clause-outcome : goal.returns-in_err-moves-clause-outcome
 returns-in_err-moves-clause-outcome g c =

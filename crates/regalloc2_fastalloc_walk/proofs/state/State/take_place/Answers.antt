@@ -1,6 +1,6 @@
 use Rattle.std.proofs.Common.{◌≡◌, refl, sym, ◌∙◌, subst}
 use Rattle.std.specs.Prelude.{None}
-use Rattle.std.proofs.lemmas.Result.{err_from_is_err_and}
+use Rattle.std.proofs.lemmas.Result.{MatchResult-weaker, on_ok_weaker}
 use Rattle.regalloc2_names.specs.Register.{Register}
 use Rattle.regalloc2_names.specs.Place.{Place, NoPlace, InRegister, InSlot}
 use Rattle.regalloc2_fastalloc_state.specs.StateParts.{vreg_of_preg, alloc_of}
@@ -24,17 +24,11 @@ returns-clause-outcome g c =
     let e : c.args.place ≡ InRegister c.in-Some.preg = place_of_register c.args.place c.in-Some.preg (sym c.as_reg.ensures ∙ c.in-Some.is) in
     let P : Place → Type 0 = λ p. TakesPlace c.args.point c.args.request.now p c.args.inst_regs.now c.take_preg.new.inst_regs (tables_of c.args.self.now)
     (tables_of c.take_preg.new.self) in
-    subst P (sym e) c.in_ok-take_preg.ensures.outcome
-
-pub returns-in_err-take_preg-clause-outcome : goal.returns-in_err-take_preg-clause-outcome
-returns-in_err-take_preg-clause-outcome g c =
-    let is : c.args.place ≡ InRegister c.in-Some.preg = place_of_register c.args.place c.in-Some.preg (sym c.as_reg.ensures ∙ c.in-Some.is) in
-    let e = err_from_is_err_and c.from_residual.result c.from_residual.ensures.1 in
-    rw e.1 (λ lacks. let h = c.in_err-take_preg.ensures.outcome (sym e.2 ∙ lacks) in (h.0, is ∙ h.1, h.2))
+    MatchResult-weaker c.take_preg.result c.take_preg.ensures.outcome (λ v. subst P (sym e)) (λ d stops lacks. let h = stops lacks in (h.0, e ∙ h.1, h.2))
 
 pub returns-clause-alone : goal.returns-clause-alone
-returns-clause-alone g c = λ r f.
+returns-clause-alone g c = on_ok_weaker c.take_preg.result (λ alone r f.
     let e : c.args.place ≡ InRegister c.in-Some.preg = place_of_register c.args.place c.in-Some.preg (sym c.as_reg.ensures ∙ c.in-Some.is) in
     let P : Register → Type 0 = λ q. alloc_of c.take_preg.new.self.places c.args.request.now.vreg.number ≡ NoPlace
     → vreg_of_preg c.take_preg.new.self.places q ≡ None in
-    subst P (same_register c.in-Some.preg r (sym e ∙ f)) c.in_ok-take_preg.ensures.alone
+    subst P (same_register c.in-Some.preg r (sym e ∙ f)) alone) c.take_preg.ensures.alone
