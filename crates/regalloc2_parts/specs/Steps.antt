@@ -1,8 +1,10 @@
 -- What private functions require, and what they guarantee to the public ones that call them, as one record each. No public contract cites this.
-use Rattle.std.specs.Prelude.{◌≡◌, Bool, false, List, Option, Result, IfOk, IfErr, IsOk}
+use Rattle.std.specs.Prelude.{◌≡◌, ◌<◌, ◌≤◌, ℕ, Bool, true, false, List, Option, None, Some, Result, IfOk, IfErr, IsOk, length, reverse, slice_index_or}
 use Rattle.std.specs.Fn.{Mut, Shared}
 use Rattle.std.specs.List.{All}
 use Rattle.regalloc2_names.specs.Place.{Place}
+use Rattle.regalloc2_parts.specs.AtOnce.{ends_of, IsOfMoves}
+use Rattle.regalloc2_parts.specs.Giving.{AreMovesApart, AreNexts, IsOrder}
 use Rattle.regalloc2_parts.specs.Resolved.{moves_listed, has_scratch, IsResolution, IsRunnable}
 use Rattle.regalloc2_parts.specs.ScratchPool.{AreNotBothInMemory, AreThere, DecidesStack, HasTooFewSlots, IsOrderedWith, IsUsableFor, MayDecideStack}
 use Rattle.regalloc2_parts.specs.ScratchPool.{YieldsInOrder}
@@ -17,6 +19,26 @@ use Rattle.regalloc2_parts.specs.declared.scratch_pool.ScratchPool.{ScratchPool}
 pub record IsRunnableResolution {T A : Type 0} (ms : List (Place × Place × T)) (r : MoveVecWithScratch T A) : Type 0 where
   pub resolved : IsResolution ms (has_scratch r) (moves_listed r)
   pub runnable : IsRunnable r
+
+-- moves are to be put in the order that their nexts ask for
+pub record CanReorder {T : Type 0} (ms : List (Place × Place × T)) (ks : List ℕ) : Type 0 where
+  pub apart : AreMovesApart (ends_of ms)
+  pub nexts : AreNexts (ends_of ms) ks
+  pub indexed : length ks ≡ length ms
+
+-- they are in that order, and as many as before where no cycle was opened
+pub record IsTurned {T A : Type 0} (ms : List (Place × Place × T)) (nexts : List ℕ) (r : MoveVecWithScratch T A) : Type 0 where
+  pub given : List (Place × Place × T)
+  pub order : IsOrder (ends_of ms) nexts (ends_of given)
+  pub of_moves : All (IsOfMoves ms) given
+  pub turned : moves_listed r ≡ reverse given
+  pub more : has_scratch r ≡ true → length ms < length (moves_listed r)
+  pub few : has_scratch r ≡ false → length (moves_listed r) ≤ length ms
+
+-- or they may stay as they are
+abbrev pub IsReordered : {T A : Type 0} → List (Place × Place × T) → List ℕ → Option (MoveVecWithScratch T A) → Type 0
+IsReordered ms nexts None = (k : ℕ) → k < length nexts → length nexts ≤ slice_index_or nexts k 0
+IsReordered ms nexts (Some r) = IsTurned ms nexts r
 
 -- a resolver's closures return the places of a pool, which serve the moves
 pub record CanOrder {F G H A : Type 0} (pre : F → Type 0) (slots_pre : G → Type 0) (callable : H → Type 0) (r : Mut F (Unit {0}) (Option Place))

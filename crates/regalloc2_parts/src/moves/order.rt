@@ -13,7 +13,7 @@
 //! place, and a move from the last one's source to the scratch place is emitted after its first
 //! move.
 
-ghost use Rattle.std.specs.Prelude.{◌≡◌, ◌≢◌, ◌↔◌, true, false, ◌+◌, ◌<◌, ◌≤◌, length, reverse, slice_index, Contains, EachIndex, IsTrue, IsOk};
+ghost use Rattle.std.specs.Prelude.{◌≡◌, ◌≢◌, ◌↔◌, true, false, ◌+◌, ◌<◌, ◌≤◌, length, reverse, Contains, List, IsTrue, IsOk};
 ghost use Rattle.std.specs.Prelude.{ℕ, ◌-◌, [], IfOk, IfErr, IsFalse, OnOk, replicate, slice_index_or};
 ghost use Rattle.std.specs.List.{All};
 ghost use Rattle.std.specs.List.Sorted.{IsPermutation, IsNonDecreasingBy};
@@ -22,7 +22,7 @@ ghost use Rattle.regalloc2_names.specs.PlaceBits.{bits_of_place};
 ghost use Rattle.regalloc2_parts.specs.AtOnce.{ends_of, AreReal, HasOneSourceEach, IsOfMoves, IsPlace};
 ghost use Rattle.regalloc2_parts.specs.Giving.{to_at, AreFair, AreProper, IsTidied, IsWriterOf, AreMovesApart, AreNexts, IsOrder, IsMoveChain};
 ghost use Rattle.regalloc2_parts.specs.Giving.{CanFollow, CanOpen, CanGive, CanBegin, IsGiving, LeadsTo, HasGoneOn, IsGivenOut, AreSameDone, state_at};
-ghost use Rattle.regalloc2_parts.specs.Steps.{IsRunnableResolution};
+ghost use Rattle.regalloc2_parts.specs.Steps.{CanReorder, IsReordered, IsRunnableResolution};
 ghost use Rattle.regalloc2_parts.specs.declared.moves.order.State.TheVariants.{Todo, Pending, Done};
 
 use super::{MoveFault, MoveVec, MoveVecWithScratch};
@@ -327,6 +327,45 @@ fn turn_round<T: Copy + Default, A: Allocator + Copy>(moves: &mut MoveVec<T, A>)
     moves.as_mut_slice().reverse();
 }
 
+/// The moves in the order that the list of nexts asks for, if another one than theirs.
+#[inline(always)]
+fn in_turn_order<T: Copy + Default, A: Allocator + Copy>(
+    alloc: A,
+    moves: &[(Allocation, Allocation, T)],
+    nexts: &[usize],
+) -> Result<Option<MoveVecWithScratch<T, A>>, AllocError>
+    requires { CanReorder moves.now nexts.now }
+    ensures { IfOk result (IsReordered moves.now nexts.now) }
+{
+    if are_free(nexts) {
+        return Ok(None);
+    }
+    let mut given = give_all(alloc, moves, nexts)?;
+    turn_round(&mut given);
+    // each cycle added one move
+    let has_cycle = given.len() > moves.len();
+    Ok(Some(if has_cycle {
+        MoveVecWithScratch::Scratch(given)
+    } else {
+        MoveVecWithScratch::NoScratch(given)
+    }))
+}
+
+/// The moves of a tidy list in another order, if theirs won't do.
+#[inline(always)]
+fn reordered<T: Copy + Default, A: Allocator + Copy>(
+    alloc: A,
+    moves: &[(Allocation, Allocation, T)],
+) -> Result<Option<MoveVecWithScratch<T, A>>, AllocError>
+    requires apart { AreMovesApart (ends_of moves.now) }
+    requires sorted { IsNonDecreasingBy (λ (m : Place × Place × _). bits_of_place m.1) moves.now }
+    requires proper { AreProper (ends_of moves.now) }
+    ensures { IfOk result (λ r. (nexts : List ℕ) × AreNexts (ends_of moves.now) nexts × IsReordered moves.now nexts r) }
+{
+    let nexts = find_nexts(&alloc, moves)?;
+    in_turn_order(alloc, moves, nexts.as_slice())
+}
+
 /// The moves, ordered so that they can be made one after another as if in parallel.
 pub(super) fn resolve<T: Copy + Default, A: Allocator + Copy>(
     mut moves: MoveVec<T, A>,
@@ -341,19 +380,9 @@ pub(super) fn resolve<T: Copy + Default, A: Allocator + Copy>(
         return Ok(MoveVecWithScratch::NoScratch(moves));
     }
     tidy(&mut moves);
-    let alloc = *moves.allocator();
-    let list = moves.as_slice();
-    let nexts = find_nexts(&alloc, list)?;
-    if are_free(nexts.as_slice()) {
-        return Ok(MoveVecWithScratch::NoScratch(moves));
+    match reordered(*moves.allocator(), moves.as_slice()) {
+        Ok(Some(ordered)) => Ok(ordered),
+        Ok(None) => Ok(MoveVecWithScratch::NoScratch(moves)),
+        Err(_) => Err(MoveFault::Memory),
     }
-    let mut given = give_all(alloc, list, nexts.as_slice())?;
-    turn_round(&mut given);
-    // each cycle added one move
-    let has_cycle = given.len() > list.len();
-    Ok(if has_cycle {
-        MoveVecWithScratch::Scratch(given)
-    } else {
-        MoveVecWithScratch::NoScratch(given)
-    })
 }
