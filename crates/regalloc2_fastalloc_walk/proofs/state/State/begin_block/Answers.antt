@@ -63,8 +63,8 @@ returns-clause-outcome g c =
     let first : c.first-first.result ≡ (block_at f c.args.block).range.first = c.first-first.ensures ∙ ap (λ (r : Span). r.first) c.block_insns.ensures in
     let reloads : ReloadsAtBegin (before (block_at f c.args.block).range.first) (block_at f c.args.block).params old m =
     subst (λ (n : ℕ). ReloadsAtBegin (before n) (block_at f c.args.block).params old m) first
-          (subst (λ (vs : List VirtualRegister). ReloadsAtBegin (before c.first-first.result) vs old m) c.block_params.ensures
-          c.in_ok-reload_at_begin.ensures.outcome) in
+    (subst (λ (vs : List VirtualRegister). ReloadsAtBegin (before c.first-first.result) vs old m) c.block_params.ensures
+    c.in_ok-reload_at_begin.ensures.outcome) in
     MatchResult-weaker c.store_branch_defs.result c.store_branch_defs.ensures.outcome
     (λ v stores. record { middle = m; reloads = reloads; stores = stores }) (λ e stops lacks. at_stores m reloads (stops lacks))
 

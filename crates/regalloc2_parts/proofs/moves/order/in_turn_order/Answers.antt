@@ -17,19 +17,19 @@ returns g c =
     let given = c.in_ok-given.given.items in
     elim c.if-has_cycle.branch [
       | then-has_cycle w ↦ rw w.result-is (record {
-          given = given;
-          order = c.in_ok-given.ensures.order.0;
-          of_moves = c.in_ok-given.ensures.order.1;
-          turned = c.turn_round.ensures;
-          more = λ e. omega arith;
-          few = λ e. absurd cc;
-        })
+        given = given;
+        order = c.in_ok-given.ensures.order.0;
+        of_moves = c.in_ok-given.ensures.order.1;
+        turned = c.turn_round.ensures;
+        more = λ e. omega arith;
+        few = λ e. absurd cc;
+      })
       | else-has_cycle w ↦ rw w.result-is (record {
-          given = given;
-          order = c.in_ok-given.ensures.order.0;
-          of_moves = c.in_ok-given.ensures.order.1;
-          turned = c.turn_round.ensures;
-          more = λ e. absurd cc;
-          few = λ e. omega arith;
-        })
+        given = given;
+        order = c.in_ok-given.ensures.order.0;
+        of_moves = c.in_ok-given.ensures.order.1;
+        turned = c.turn_round.ensures;
+        more = λ e. absurd cc;
+        few = λ e. omega arith;
+      })
     ]

@@ -51,7 +51,7 @@ reordered-requires g c =
     )
 
 pub returns-in-Ok-Some : goal.returns-in-Ok-Some
-returns-in-Ok-Some g c = 
+returns-in-Ok-Some g c =
     let old = c.args.moves.items in
     let new = c.tidy.new.moves.items in
     let is : (nexts : List ℕ) × AreNexts (ends_of new) nexts × IsReordered {A = g.row.A.Denot} new nexts (Some c.in-Ok-Some.ordered) =
@@ -71,7 +71,7 @@ returns-in-Ok-Some g c =
     }
 
 pub returns-in-Ok-None : goal.returns-in-Ok-None
-returns-in-Ok-None g c = 
+returns-in-Ok-None g c =
     let old = c.args.moves.items in
     let new = c.tidy.new.moves.items in
     let is : (nexts : List ℕ) × AreNexts (ends_of new) nexts × IsReordered {A = g.row.A.Denot} new nexts (None) =
