@@ -1,17 +1,23 @@
 -- What reading a text returns.
-use Rattle.std.proofs.Common.{◌≡◌, ◌⊎◌, inl, inr, ℕ, List, Bool, false, Option, Some, None, Result, Ok, Err, subst, sym}
+use Rattle.std.proofs.Common.{◌≡◌, ◌⊎◌, inl, inr, ℕ, List, Bool, false, Option, Some, None, Result, Ok, Err, refl, subst, sym}
 use Rattle.std.specs.Prelude.{IfOk, IfSome, is_some}
 use Rattle.std.specs.Option.{option_map}
 use Rattle.std.specs.Result.{result_ok}
 use Rattle.serde_json.specs.Data.{Data}
 use Rattle.serde_json.specs.Read.{read}
-use Rattle.regalloc2_function.specs.Stored.{NamesValues}
+use Rattle.regalloc2_function.specs.FunctionValue.{FunctionValue}
+use Rattle.regalloc2_function.specs.Machine.{MachineValue}
+use Rattle.regalloc2_function.specs.Stored.{NamesValues, output_of_stored}
 use Rattle.regalloc2_function.specs.declared.serialize.StoredFault.{StoredFault}
 use Rattle.regalloc2_function.specs.declared.serialize.StoredFault.TheVariants.{Bits, Memory}
 use Rattle.regalloc2_function.specs.declared.serialize.StoredOutput.{StoredOutput}
+use Rattle.regalloc2_serialize.specs.Decoded.{NamesFunction, NamesMachine}
 use Rattle.regalloc2_serialize.specs.JsonShape.{IsFunctionAt}
+use Rattle.regalloc2_serialize.specs.Validity.{IsSoundStored}
 use Rattle.regalloc2_serialize.specs.declared.data.StoredFunction.{StoredFunction}
-use Rattle.regalloc2_tool.specs.Ra2.Input.{IsOutputFault, IsPairAt, IsTextOf, IsTextOfPair, IsTextOfValue}
+use Rattle.regalloc2_tool.specs.declared.ra2.reading.InputError.{InputError}
+use Rattle.regalloc2_tool.specs.declared.ra2.reading.InputError.TheVariants.{Unreadable, BadFunction, BadMachine, BadOutput, NotFramed}
+use Rattle.regalloc2_tool.specs.Ra2.Input.{IsOutputFault, IsOutputRefusal, IsPairAt, IsPairFault, IsTextOf, IsTextOfPair, IsTextOfValue}
 
 -- the value in a successful result
 pub taken : {A E : Type 0} (P : A → Type 0) (r : Result A E) (x : A) → Some x ≡ result_ok r → IfOk r P → P x
@@ -58,3 +64,31 @@ pub output_fault : {A : Type 0} (o : StoredOutput A) (e : StoredFault) → (e �
     (e ≡ Bits) ⊎ (e ≡ Memory) → IsOutputFault o e
 output_fault o e bits memory (inl h) = subst (IsOutputFault o) (sym h) (bits h)
 output_fault o e bits memory (inr h) = subst (IsOutputFault o) (sym h) (memory h)
+
+-- the error is one of each text of these numbers
+abbrev pub IsPairFaultOf : {A : Type 0} → StoredFunction A → StoredOutput A → InputError → Type 0
+IsPairFaultOf {A} s o e = (bytes : Option (List ℕ)) → IsTextOfPair bytes s o → IsPairFault A bytes e
+
+-- why the numbers of an output name none of the function that the others name
+pub pair_fault : {A : Type 0} (s : StoredFunction A) (o : StoredOutput A) (f : FunctionValue) (env : MachineValue) (e : InputError) → IsSoundStored s →
+    NamesFunction s f → NamesMachine s.machine_env env → IsOutputRefusal f o e → IsPairFaultOf s o e
+pair_fault s o f env Unreadable sound named machine why = absurd why
+pair_fault s o f env (BadFunction fault) sound named machine why = absurd why
+pair_fault s o f env BadMachine sound named machine why = absurd why
+pair_fault s o f env (BadOutput fault) sound named machine why = λ bytes text. (s, o, text, sound, why)
+pair_fault s o f env NotFramed sound named machine why = λ bytes text. (
+  f,
+  env,
+  output_of_stored o,
+  record {
+    stored = s;
+    stored_output = o;
+    text = text;
+    sound = sound;
+    function = named;
+    machine = machine;
+    names = why.0;
+    output = refl;
+  },
+  why.1,
+)

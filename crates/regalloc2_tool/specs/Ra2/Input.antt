@@ -46,6 +46,14 @@ IsOutputFault o Index = ⊥
 IsOutputFault o Limit = ⊥
 IsOutputFault o Shape = ⊥
 
+-- why the numbers name no output of a function, or why that can't be checked
+abbrev pub IsOutputRefusal : {A : Type 0} → FunctionValue → StoredOutput A → InputError → Type 0
+IsOutputRefusal f o Unreadable = ⊥
+IsOutputRefusal f o (BadFunction fault) = ⊥
+IsOutputRefusal f o BadMachine = ⊥
+IsOutputRefusal f o (BadOutput fault) = IsOutputFault o fault
+IsOutputRefusal f o NotFramed = NamesValues o × (IsFramed f → ⊥)
+
 -- the bytes are a text of sound numbers, in memory of an allocator A, which name this function and this machine
 pub record TextNamesFunction (A : Type 0) (bytes : Option (List ℕ)) (f : FunctionValue) (env : MachineValue) : Type 0 where
   pub stored : StoredFunction A

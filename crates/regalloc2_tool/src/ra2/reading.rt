@@ -1,17 +1,20 @@
 //! Reads the function, the machine and the output from the program's input.
 
-ghost use Rattle.std.specs.Prelude.{Some, IfOk, IfErr, IfSome};
+ghost use Rattle.std.specs.Prelude.{ℕ, List, Option, ◌≡◌, ◌↔◌, IsTrue, Some, IfOk, IfErr, IfSome};
 ghost use Rattle.serde_json.specs.View.{view};
+ghost use Rattle.regalloc2_function.specs.Fitting.{MachineFits};
+ghost use Rattle.regalloc2_function.specs.Stored.{NamesValues, output_of_stored};
 ghost use Rattle.regalloc2_function.specs.Views.{machine_of, output_of};
+ghost use Rattle.regalloc2_function.specs.WellFormed.{IsFramed};
 ghost use Rattle.regalloc2_serialize.specs.Tables.{function_of_serializable};
-ghost use Rattle.regalloc2_tool.specs.Ra2.Input.{AreGiven, IsPairAt, IsTextOf, IsTextOfPair, IsTextOfValue, TextNamesFitting, IsInputFault, IsPairFault};
+ghost use Rattle.regalloc2_tool.specs.Ra2.Input.{AreGiven, IsPairAt, IsTextOf, IsTextOfPair, IsTextOfValue, TextNamesFitting, IsInputFault, IsOutputRefusal, IsPairFault};
 ghost use Rattle.regalloc2_tool.specs.Ra2.Text.{input_text};
 
 use crate::stored_fault::number_of;
 use regalloc2::serialize::{
     FromValue, SerializableFunction, StoredFault, StoredFunction, StoredOutput,
 };
-use regalloc2::{Output, is_framed, machine_fits};
+use regalloc2::{Function, MachineEnv, Output, is_framed, machine_fits};
 use serde_json::Value;
 use std::alloc::{Allocator, Global};
 use std::fmt;
@@ -77,6 +80,31 @@ fn stored_from<A: Allocator + Copy, R: Read + Drop>(
     StoredFunction::from_value(alloc, &value).ok()
 }
 
+/// Whether a machine fits a function.
+fn fits<A: Allocator, F: Function>(f: &F, env: &MachineEnv<A>) -> bool
+    ensures { IsTrue result ↔ MachineFits (F.function f.now) (machine_of env.now) }
+{
+    machine_fits(f, env)
+}
+
+/// The function and its machine that stored numbers name. The machine fits the function.
+fn fitting<A: Allocator + Copy>(
+    alloc: A,
+    stored: &StoredFunction<A>,
+) -> Result<SerializableFunction<A>, InputError>
+    ensures ok { IfOk result (λ f. (bytes : Option (List ℕ)) → IsTextOf bytes stored.now → TextNamesFitting A bytes (function_of_serializable f) (machine_of f.machine)) }
+    ensures err { IfErr result (λ e. (bytes : Option (List ℕ)) → IsTextOf bytes stored.now → IsInputFault A bytes e) }
+{
+    let f = match SerializableFunction::from_stored(alloc, stored) {
+        Ok(f) => f,
+        Err(fault) => return Err(InputError::BadFunction(fault)),
+    };
+    if !fits(&f, f.machine_env()) {
+        return Err(InputError::BadMachine);
+    }
+    Ok(f)
+}
+
 /// Reads a function and its machine from the JSON text of a stored function. The machine fits the
 /// function.
 pub fn function_from<A: Allocator + Copy, R: Read + Drop>(
@@ -90,14 +118,7 @@ pub fn function_from<A: Allocator + Copy, R: Read + Drop>(
     let Some(stored) = stored_from(global, alloc, input) else {
         return Err(InputError::Unreadable);
     };
-    let f = match SerializableFunction::from_stored(alloc, &stored) {
-        Ok(f) => f,
-        Err(fault) => return Err(InputError::BadFunction(fault)),
-    };
-    if !machine_fits(&f, f.machine_env()) {
-        return Err(InputError::BadMachine);
-    }
-    Ok(f)
+    fitting(alloc, &stored)
 }
 
 /// The stored function and the stored output of a JSON array of exactly these two.
@@ -128,6 +149,43 @@ fn stored_pair_from<A: Allocator + Copy, R: Read + Drop>(
     stored_pair(alloc, &value)
 }
 
+/// The output of a function that stored numbers name. The function is structurally valid.
+fn framed_output<A: Allocator + Copy, F: Function>(
+    alloc: A,
+    f: &F,
+    stored: &StoredOutput<A>,
+) -> Result<Output<A>, InputError>
+    ensures ok { IfOk result (λ out. NamesValues stored.now × (output_of out ≡ output_of_stored stored.now) × IsFramed (F.function f.now)) }
+    ensures err { IfErr result (IsOutputRefusal (F.function f.now) stored.now) }
+{
+    let output = match Output::from_stored(alloc, stored) {
+        Ok(output) => output,
+        Err(fault) => return Err(InputError::BadOutput(fault)),
+    };
+    if !is_framed(f) {
+        return Err(InputError::NotFramed);
+    }
+    Ok(output)
+}
+
+/// The function, its machine and the output that stored numbers name. The function is structurally valid.
+fn framed_pair<A: Allocator + Copy>(
+    alloc: A,
+    stored: &StoredFunction<A>,
+    stored_output: &StoredOutput<A>,
+) -> Result<(SerializableFunction<A>, Output<A>), InputError>
+    ensures ok { IfOk result (λ pair. (bytes : Option (List ℕ)) → IsTextOfPair bytes stored.now stored_output.now →
+        AreGiven A bytes (function_of_serializable pair.0) (machine_of pair.0.machine) (output_of pair.1)) }
+    ensures err { IfErr result (λ e. (bytes : Option (List ℕ)) → IsTextOfPair bytes stored.now stored_output.now → IsPairFault A bytes e) }
+{
+    let f = match SerializableFunction::from_stored(alloc, stored) {
+        Ok(f) => f,
+        Err(fault) => return Err(InputError::BadFunction(fault)),
+    };
+    let output = framed_output(alloc, &f, stored_output)?;
+    Ok((f, output))
+}
+
 /// Reads a function, its machine and an output from the JSON text of an array of exactly a stored
 /// function and a stored output. The function is structurally valid, so the output can be checked.
 pub fn replay_from<A: Allocator + Copy, R: Read + Drop>(
@@ -141,16 +199,5 @@ pub fn replay_from<A: Allocator + Copy, R: Read + Drop>(
     let Some((stored, stored_output)) = stored_pair_from(global, alloc, input) else {
         return Err(InputError::Unreadable);
     };
-    let f = match SerializableFunction::from_stored(alloc, &stored) {
-        Ok(f) => f,
-        Err(fault) => return Err(InputError::BadFunction(fault)),
-    };
-    let output = match Output::from_stored(alloc, &stored_output) {
-        Ok(output) => output,
-        Err(fault) => return Err(InputError::BadOutput(fault)),
-    };
-    if !is_framed(&f) {
-        return Err(InputError::NotFramed);
-    }
-    Ok((f, output))
+    framed_pair(alloc, &stored, &stored_output)
 }

@@ -61,11 +61,9 @@ impl<A: Allocator + Copy> Picture<A> {
         requires blocks { BlocksAreWithin (F.function f.now) }
     {
         let mut sightings = sightings_of(self.alloc, f, output)?;
-        self.lanes = Lanes::of(self.alloc, shapes::columns(rows), &mut sightings)?;
+        self.lanes.lay_out(shapes::columns(rows), &mut sightings)?;
         self.spans.clear();
-        for _ in self.lanes.places() {
-            self.spans.push(None)?;
-        }
+        self.spans.resize(self.lanes.places().len(), None)?;
         Ok(())
     }
 
@@ -187,10 +185,11 @@ impl<A: Allocator + Copy> Picture<A> {
         row: usize,
         block_row: usize,
     ) -> Result<(), AllocError> {
-        for (operand, place) in operands.iter().zip(places.iter()) {
+        for k in 0..operands.len().min(places.len()) {
+            let operand = operands[k];
             if operand.is_reading() {
                 let by = Some(operand.vreg().vreg());
-                self.note_read(*place, row_of(*operand, row), block_row, by)?;
+                self.note_read(places[k], row_of(operand, row), block_row, by)?;
             }
         }
         Ok(())
@@ -204,10 +203,11 @@ impl<A: Allocator + Copy> Picture<A> {
         row: usize,
         to: &mut W,
     ) -> io::Result<()> {
-        for (operand, place) in operands.iter().zip(places.iter()) {
+        for k in 0..operands.len().min(places.len()) {
+            let operand = operands[k];
             if operand.is_def() {
                 let vreg = Some(operand.vreg().vreg());
-                self.note_write(*place, row_of(*operand, row), vreg, to)?;
+                self.note_write(places[k], row_of(operand, row), vreg, to)?;
             }
         }
         Ok(())
@@ -294,9 +294,10 @@ impl<A: Allocator + Copy> Picture<A> {
         row: usize,
         to: &mut W,
     ) -> io::Result<()> {
-        for (operand, place) in operands.iter().zip(places.iter()) {
-            let row = row_of(*operand, row);
-            if let Some(x) = self.lanes.middle(*place, row) {
+        for k in 0..operands.len().min(places.len()) {
+            let operand = operands[k];
+            let row = row_of(operand, row);
+            if let Some(x) = self.lanes.middle(places[k], row) {
                 shapes::cell(x, row, operand.vreg(), operand.is_def(), to)?;
             }
         }

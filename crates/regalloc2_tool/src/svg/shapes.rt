@@ -20,7 +20,51 @@ const TOP: usize = 84;
 const COLUMN_ROWS: usize = 1000;
 
 /// The width of the legend, in pixels.
-const LEGEND: usize = 720;
+const LEGEND_WIDTH: usize = 720;
+
+/// The beginning of a picture.
+const BEGIN: &str = "\
+<svg xmlns=\"http://www.w3.org/2000/svg\" width=\"#\" height=\"#\" font-family=\"monospace\" font-size=\"12\">
+<rect width=\"#\" height=\"#\" fill=\"white\"/>
+";
+
+/// The legend of boxes, bars and arrows, above the names.
+const LEGEND: &str = "\
+<g transform=\"translate(8,20)\">\
+<rect y=\"-8\" width=\"28\" height=\"16\" rx=\"4\" fill=\"white\" stroke=\"black\"/>\
+</g><text x=\"42\" y=\"24\">read</text>
+<g transform=\"translate(88,20)\">\
+<rect y=\"-8\" width=\"28\" height=\"16\" rx=\"4\" fill=\"white\" stroke=\"black\" stroke-width=\"2\"/>\
+</g><text x=\"122\" y=\"24\">written</text>
+<g transform=\"translate(188,20)\">\
+<path d=\"M0,0 H28\" stroke=\"hsl(0,65%,80%)\" stroke-width=\"12\"/>\
+</g><text x=\"222\" y=\"24\">holds a value</text>
+<g transform=\"translate(330,20)\">\
+<path d=\"M0,0 H28\" stroke=\"gainsboro\" stroke-width=\"12\"/>\
+</g><text x=\"364\" y=\"24\">holds one that no operand here names</text>
+<g transform=\"translate(640,20)\">\
+<circle r=\"3\"/><path d=\"M0,0 H28\" stroke=\"black\"/><path d=\"M28,0 l-7,-3 v6 z\"/>\
+</g><text x=\"674\" y=\"24\">move</text>
+<text x=\"8\" y=\"44\">block(parameters) to successors(arguments); an instruction: early operands, below late ones</text>
+";
+
+/// A bar of the value of a vreg, and of an unknown value.
+const BAR: &str =
+    "<path d=\"M#,# V#\" stroke=\"hsl(#,65%,80%)\" stroke-width=\"12\"/>\n";
+const UNKNOWN_BAR: &str = "<path d=\"M#,# V#\" stroke=\"gainsboro\" stroke-width=\"12\"/>\n";
+
+/// A box, up to the vreg in it.
+const CELL: &str = "\
+<rect x=\"#\" y=\"#\" width=\"48\" height=\"16\" rx=\"4\" fill=\"hsl(#,65%,80%)\" stroke=\"black\" stroke-width=\"#\"/>
+<text x=\"#\" y=\"#\" text-anchor=\"middle\">";
+
+/// An arrow from the left to the right, and the other way.
+const ARROW: &str = "\
+<circle cx=\"#\" cy=\"#\" r=\"3\"/><path d=\"M#,# H#\" stroke=\"black\"/><path d=\"M#,# l-7,-3 v6 z\"/>
+";
+const ARROW_BACK: &str = "\
+<circle cx=\"#\" cy=\"#\" r=\"3\"/><path d=\"M#,# H#\" stroke=\"black\"/><path d=\"M#,# l7,-3 v6 z\"/>
+";
 
 /// The column of a row: rows fill a column downwards, then the next one from its top.
 pub(crate) fn column_of(row: usize) -> usize {
@@ -37,20 +81,9 @@ pub(crate) fn middle(edge: usize, lane: usize) -> usize {
     width(lane).saturating_add(edge)
 }
 
-/// The colour of the vreg of a number, or of an unknown vreg.
-#[derive(Clone, Copy)]
-struct Colour(Option<usize>);
-
-impl fmt::Display for Colour {
-    fn fmt<W: fmt::Write>(&self, f: &mut fmt::Formatter<W>) -> fmt::Result {
-        match self.0 {
-            Some(number) => {
-                let hue = number.saturating_mul(67) % 360;
-                write!(f, "hsl({hue},65%,80%)")
-            }
-            None => write!(f, "gainsboro"),
-        }
-    }
+/// The hue of the vreg of a number.
+fn hue(vreg: usize) -> usize {
+    vreg.saturating_mul(67) % 360
 }
 
 /// The vertical middle of a row.
@@ -60,50 +93,23 @@ fn height(row: usize) -> usize {
         .saturating_add(TOP + ROW / 2)
 }
 
-/// Writes a sample of the legend and the text after it.
-fn sample<W: Write>(x: usize, shape: &str, words: &str, to: &mut W) -> io::Result<()> {
-    let behind = x.saturating_add(34);
-    writeln!(
-        to,
-        "<g transform=\"translate({x},20)\">{shape}</g><text x=\"{behind}\" y=\"24\">{words}</text>"
-    )
-}
-
-/// Writes the legend of boxes, bars and arrows, above the names.
-fn legend<W: Write>(to: &mut W) -> io::Result<()> {
-    let read =
-        "<rect y=\"-8\" width=\"28\" height=\"16\" rx=\"4\" fill=\"white\" stroke=\"black\"/>";
-    let written =
-        "<rect y=\"-8\" width=\"28\" height=\"16\" rx=\"4\" fill=\"white\" stroke=\"black\" stroke-width=\"2\"/>";
-    let held = "<path d=\"M0,0 H28\" stroke=\"hsl(0,65%,80%)\" stroke-width=\"12\"/>";
-    let unnamed = "<path d=\"M0,0 H28\" stroke=\"gainsboro\" stroke-width=\"12\"/>";
-    let moved =
-        "<circle r=\"3\"/><path d=\"M0,0 H28\" stroke=\"black\"/><path d=\"M28,0 l-7,-3 v6 z\"/>";
-    sample(8, read, "read", to)?;
-    sample(88, written, "written", to)?;
-    sample(188, held, "holds a value", to)?;
-    sample(330, unnamed, "holds one that no operand here names", to)?;
-    sample(640, moved, "move", to)?;
-    writeln!(
-        to,
-        "<text x=\"8\" y=\"44\">block(parameters) to successors(arguments); an instruction: early operands, below late ones</text>"
-    )
+/// Writes a form, with the next of as many numbers in place of each `#`.
+fn fill<W: Write>(form: &str, numbers: &[usize], to: &mut W) -> io::Result<()> {
+    let mut pieces = form.split('#');
+    to.write_all(pieces.next().unwrap_or("").as_bytes())?;
+    for number in numbers {
+        let piece = pieces.next().unwrap_or("");
+        write!(to, "{number}{piece}")?;
+    }
+    Ok(())
 }
 
 /// Writes the beginning of a picture of this many rows, whose columns have that width.
 pub(crate) fn begin<W: Write>(width: usize, rows: usize, to: &mut W) -> io::Result<()> {
-    let width = width.max(LEGEND);
+    let width = width.max(LEGEND_WIDTH);
     let bottom = TOP.saturating_add(rows.min(COLUMN_ROWS).saturating_add(1).saturating_mul(ROW));
-    write!(to, "<svg xmlns=\"http://www.w3.org/2000/svg\" ")?;
-    writeln!(
-        to,
-        "width=\"{width}\" height=\"{bottom}\" font-family=\"monospace\" font-size=\"12\">"
-    )?;
-    writeln!(
-        to,
-        "<rect width=\"{width}\" height=\"{bottom}\" fill=\"white\"/>"
-    )?;
-    legend(to)
+    fill(BEGIN, &[width, bottom, width, bottom], to)?;
+    to.write_all(LEGEND.as_bytes())
 }
 
 /// How many columns this many rows take.
@@ -135,7 +141,7 @@ pub(crate) fn label<T: fmt::Display, W: Write>(
 pub(crate) fn rule<W: Write>(edges: (usize, usize), row: usize, to: &mut W) -> io::Result<()> {
     let y = height(row).saturating_sub(ROW / 2);
     let (left, right) = edges;
-    writeln!(to, "<path d=\"M{left},{y} H{right}\" stroke=\"silver\"/>")
+    fill("<path d=\"M#,# H#\" stroke=\"silver\"/>\n", &[left, y, right], to)
 }
 
 /// Writes one column's part of the bar over these rows, along a lane with that middle, for a vreg
@@ -151,11 +157,10 @@ pub(crate) fn bar<W: Write>(
     let end = begin.saturating_add(COLUMN_ROWS - 1);
     let top = height(rows.0.max(begin));
     let bottom = height(rows.1.min(end));
-    let colour = Colour(vreg);
-    writeln!(
-        to,
-        "<path d=\"M{x},{top} V{bottom}\" stroke=\"{colour}\" stroke-width=\"12\"/>"
-    )
+    match vreg {
+        Some(number) => fill(BAR, &[x, top, bottom, hue(number)], to),
+        None => fill(UNKNOWN_BAR, &[x, top, bottom], to),
+    }
 }
 
 /// Writes a box on a lane with that middle, with the vreg that is read or, with a thicker frame, written there.
@@ -170,33 +175,19 @@ pub(crate) fn cell<W: Write>(
     let y = height(row);
     let top = y.saturating_sub(ROW / 2 - 2);
     let foot = y.saturating_add(4);
-    let colour = Colour(Some(vreg.vreg()));
     let frame = if is_def { 2 } else { 1 };
-    write!(
-        to,
-        "<rect x=\"{left}\" y=\"{top}\" width=\"48\" height=\"16\" rx=\"4\" "
-    )?;
-    writeln!(
-        to,
-        "fill=\"{colour}\" stroke=\"black\" stroke-width=\"{frame}\"/>"
-    )?;
-    writeln!(
-        to,
-        "<text x=\"{x}\" y=\"{foot}\" text-anchor=\"middle\">{vreg}</text>"
-    )
+    fill(CELL, &[left, top, hue(vreg.vreg()), frame, x, foot], to)?;
+    writeln!(to, "{vreg}</text>")
 }
 
 /// Writes the arrow of a move, from the middle of a lane to that of another.
 pub(crate) fn arrow<W: Write>(tail: usize, tip: usize, row: usize, to: &mut W) -> io::Result<()> {
     let y = height(row);
-    // from the tip back to the arrow's barbs
-    let back = if tail < tip { "-7" } else { "7" };
-    write!(to, "<circle cx=\"{tail}\" cy=\"{y}\" r=\"3\"/>")?;
-    write!(to, "<path d=\"M{tail},{y} H{tip}\" stroke=\"black\"/>")?;
-    writeln!(to, "<path d=\"M{tip},{y} l{back},-3 v6 z\"/>")
+    let form = if tail < tip { ARROW } else { ARROW_BACK };
+    fill(form, &[tail, y, tail, y, tip, tip, y], to)
 }
 
 /// Writes the end of a picture.
 pub(crate) fn end<W: Write>(to: &mut W) -> io::Result<()> {
-    writeln!(to, "</svg>")
+    to.write_all(b"</svg>\n")
 }

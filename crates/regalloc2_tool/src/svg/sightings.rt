@@ -43,8 +43,8 @@ impl<A: Allocator> Sightings<A> {
         places: &[Allocation],
         row: usize,
     ) -> Result<(), AllocError> {
-        for (operand, place) in operands.iter().zip(places.iter()) {
-            self.see(*place, row_of(*operand, row))?;
+        for k in 0..operands.len().min(places.len()) {
+            self.see(places[k], row_of(operands[k], row))?;
         }
         Ok(())
     }

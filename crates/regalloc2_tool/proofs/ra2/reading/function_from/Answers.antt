@@ -1,33 +1,8 @@
-use Rattle.std.proofs.Common.{◌≡◌, true, false, refl, sym, subst}
-use Rattle.regalloc2_function.specs.Fitting.{MachineFits}
-use Rattle.regalloc2_function.specs.Views.{machine_of}
-use Rattle.regalloc2_serialize.specs.Tables.{function_of_serializable}
+use Rattle.std.proofs.lemmas.Result.{IfErr-weaker, IfOk-weaker}
 use Rattle.regalloc2_tool.proofs.ra2.reading.function_from.Goals as goal
 
-pub returns-then-not-machine_fits-clause-err : goal.returns-then-not-machine_fits-clause-err
-returns-then-not-machine_fits-clause-err g c = (
-  function_of_serializable c.in-Ok.f,
-  machine_of c.in-Ok.f.machine,
-  record {
-    stored = c.in-Some.stored;
-    text = c.in-Some.ensures;
-    sound = c.in-Ok.ensures.sound;
-    function = c.in-Ok.ensures.function;
-    machine = c.in-Ok.ensures.machine;
-  },
-  λ fits. let e : false ≡ true = c.if-not-machine_fits.ensures.1 (subst (λ m. MachineFits (function_of_serializable c.in-Ok.f) m) (sym c.machine_env.ensures)
-      fits) in
-      absurd cc,
-)
-
 pub returns-clause-ok : goal.returns-clause-ok
-returns-clause-ok g c = record {
-  named = record {
-    stored = c.in-Some.stored;
-    text = c.in-Some.ensures;
-    sound = c.in-Ok.ensures.sound;
-    function = c.in-Ok.ensures.function;
-    machine = c.in-Ok.ensures.machine;
-  };
-  fits = subst (λ m. MachineFits (function_of_serializable c.in-Ok.f) m) c.machine_env.ensures (c.if-not-machine_fits.ensures.0 refl);
-}
+returns-clause-ok g c = IfOk-weaker c.fitting.result _ _ (λ x h. h (g.R.Read.remaining c.args.input) c.in-Some.ensures) c.fitting.ensures.ok
+
+pub returns-clause-err : goal.returns-clause-err
+returns-clause-err g c = IfErr-weaker c.fitting.result _ _ (λ x h. h (g.R.Read.remaining c.args.input) c.in-Some.ensures) c.fitting.ensures.err
