@@ -49,8 +49,8 @@ const LEGEND: &str = "\
 ";
 
 /// A bar of the value of a vreg, and of an unknown value.
-const BAR: &str =
-    "<path d=\"M#,# V#\" stroke=\"hsl(#,65%,80%)\" stroke-width=\"12\"/>\n";
+const BAR: &str = "<path d=\"M#,# V#\" stroke=\"hsl(#,65%,80%)\" stroke-width=\"12\"/>\n";
+
 const UNKNOWN_BAR: &str = "<path d=\"M#,# V#\" stroke=\"gainsboro\" stroke-width=\"12\"/>\n";
 
 /// A box, up to the vreg in it.
@@ -62,6 +62,7 @@ const CELL: &str = "\
 const ARROW: &str = "\
 <circle cx=\"#\" cy=\"#\" r=\"3\"/><path d=\"M#,# H#\" stroke=\"black\"/><path d=\"M#,# l-7,-3 v6 z\"/>
 ";
+
 const ARROW_BACK: &str = "\
 <circle cx=\"#\" cy=\"#\" r=\"3\"/><path d=\"M#,# H#\" stroke=\"black\"/><path d=\"M#,# l7,-3 v6 z\"/>
 ";
@@ -141,7 +142,11 @@ pub(crate) fn label<T: fmt::Display, W: Write>(
 pub(crate) fn rule<W: Write>(edges: (usize, usize), row: usize, to: &mut W) -> io::Result<()> {
     let y = height(row).saturating_sub(ROW / 2);
     let (left, right) = edges;
-    fill("<path d=\"M#,# H#\" stroke=\"silver\"/>\n", &[left, y, right], to)
+    fill(
+        "<path d=\"M#,# H#\" stroke=\"silver\"/>\n",
+        &[left, y, right],
+        to,
+    )
 }
 
 /// Writes one column's part of the bar over these rows, along a lane with that middle, for a vreg

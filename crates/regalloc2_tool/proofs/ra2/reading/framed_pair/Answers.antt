@@ -12,8 +12,8 @@ pub returns-in_err-output-clause-err : goal.returns-in_err-output-clause-err
 returns-in_err-output-clause-err g c =
     let p = err_from_is_err_and c.from_residual.result c.from_residual.ensures.1 in
     rw p.1 (subst (IsPairFaultOf c.args.stored.now c.args.stored_output.now) (sym p.2) (pair_fault c.args.stored.now c.args.stored_output.now
-        (function_of_serializable c.in-Ok.f) (machine_of c.in-Ok.f.machine) _ c.in-Ok.ensures.sound c.in-Ok.ensures.function c.in-Ok.ensures.machine
-        c.in_err-output.ensures.err))
+    (function_of_serializable c.in-Ok.f) (machine_of c.in-Ok.f.machine) _ c.in-Ok.ensures.sound c.in-Ok.ensures.function c.in-Ok.ensures.machine
+    c.in_err-output.ensures.err))
 
 pub returns-clause-ok : goal.returns-clause-ok
 returns-clause-ok g c = λ bytes text. record {
