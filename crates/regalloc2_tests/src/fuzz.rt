@@ -73,57 +73,39 @@ fn show_all<W: Write>(alloc: Global, lines: &str, out: &mut W) -> io::Result<()>
     Ok(())
 }
 
-/// A part that is repeated, between two other texts.
-fn large_text(
-    alloc: Global,
-    part: &str,
-    count: u32,
-    around: (&str, &str),
-) -> Result<String, AllocError> {
-    let mut text = String::from_str(alloc, around.0)?;
+/// A text that is deep or large: a part and how often it stands there, what is before and behind it, and whether the members
+/// of a function come after that.
+type Large = (&'static str, u32, &'static str, &'static str, bool);
+
+/// Such texts. The last three have a function, two of them behind a member that isn't read.
+static LARGE: [Large; 5] = [
+    ("[", 100_000, "", "", false),
+    ("{\"a\":", 100_000, "", "", false),
+    ("          ", 3_000_000, "", "{", true),
+    ("0,0,0,0,0,", 1_000_000, "{\"a\":[", "0],", true),
+    ("aaaaaaaaaa", 3_000_000, "{\"a\":\"", "\",", true),
+];
+
+/// The whole text, with these members.
+fn large_text(alloc: Global, large: Large, members: &str) -> Result<String, AllocError> {
+    let (part, count, before, behind, has_members) = large;
+    let mut text = String::from_str(alloc, before)?;
     for _ in 0..count {
         text.push_str(part)?;
     }
-    text.push_str(around.1)?;
+    text.push_str(behind)?;
+    text.push_str(if has_members { members } else { "" })?;
     Ok(text)
 }
 
-/// Writes the result for a text with a part that is repeated, between two others.
-fn show_large<W: Write>(
-    alloc: Global,
-    part: &str,
-    count: u32,
-    around: (&str, &str),
-    out: &mut W,
-) -> io::Result<()> {
-    writeln!(out, "# {count} times {part}")?;
-    show(alloc, "run", &large_text(alloc, part, count, around)?, out)
-}
-
-/// Writes the result for a function behind a member that isn't read, which ends in these bytes.
-fn show_behind<W: Write>(
-    alloc: Global,
-    part: &str,
-    count: u32,
-    around: (&str, &str),
-    members: &str,
-    out: &mut W,
-) -> io::Result<()> {
-    let after = format!(in alloc; "{},{members}", around.1)?;
-    show_large(alloc, part, count, (around.0, &after), out)
-}
-
-/// Writes the results for texts that are deep or large. The last three have a function, in two of
-/// them behind a member that isn't read.
+/// Writes the results for texts that are deep or large.
 fn show_all_large<W: Write>(alloc: Global, function: &str, out: &mut W) -> io::Result<()> {
     let members = function.strip_prefix('{').unwrap_or("");
-    let list = ("{\"a\":[", "0]");
-    let word = ("{\"a\":\"", "\"");
-    show_large(alloc, "[", 100_000, ("", ""), out)?;
-    show_large(alloc, "{\"a\":", 100_000, ("", ""), out)?;
-    show_large(alloc, "          ", 3_000_000, ("", function), out)?;
-    show_behind(alloc, "0,0,0,0,0,", 1_000_000, list, members, out)?;
-    show_behind(alloc, "aaaaaaaaaa", 3_000_000, word, members, out)
+    for large in &LARGE {
+        writeln!(out, "# {} times {}", large.1, large.0)?;
+        show(alloc, "run", &large_text(alloc, *large, members)?, out)?;
+    }
+    Ok(())
 }
 
 /// How many results had each status, and how many broke a rule or had no memory.

@@ -1,9 +1,24 @@
 //! Large functions, which are allocated in a moment.
 
-use super::rows::{allocated, def, read, vreg};
-use regalloc2::Operand;
+use super::rows::allocated;
+use regalloc2::{Operand, RegClass, VReg};
 use regalloc2_serialize::table_function::{BuildError, TableBuilder, TableFunction};
 use std::alloc::Global;
+
+/// An integer vreg, whose number is taken below 2^20.
+fn vreg(number: usize) -> VReg {
+    VReg::new(number % 1_048_576, RegClass::Int)
+}
+
+/// A definition of an integer vreg in a register.
+fn def(number: usize) -> Operand {
+    Operand::reg_def(vreg(number))
+}
+
+/// A use of an integer vreg in a register.
+fn read(number: usize) -> Operand {
+    Operand::reg_use(vreg(number))
+}
 
 /// How many places and slots a function gets on so many registers.
 fn size_of(alloc: Global, f: &TableFunction, registers: usize) -> Option<(usize, usize)> {

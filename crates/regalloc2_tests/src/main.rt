@@ -26,6 +26,7 @@ mod program;
 mod random;
 mod refusing;
 mod rows;
+mod texts;
 mod units;
 
 use cases::{Tally, run_folder};
@@ -36,9 +37,9 @@ use regalloc2_analysis::liveness::decided_by_tree;
 use regalloc2_tool::calls::call::CallError;
 use std::alloc::{AllocError, Global};
 use std::env::{self, Env};
-use std::fmt::Debug;
 use std::io::{self, BufWriter, Write};
 use std::process::ExitCode;
+use units::report::Report;
 
 /// The words of a command line.
 fn words_of(alloc: Global, line: &str) -> Result<Vec<String>, AllocError> {
@@ -47,11 +48,6 @@ fn words_of(alloc: Global, line: &str) -> Result<Vec<String>, AllocError> {
         words.push(String::from_str(alloc, word)?)?;
     }
     Ok(words)
-}
-
-/// Writes what a call returns.
-fn show<W: Write, T: Debug + Drop>(out: &mut W, name: &str, value: T) -> io::Result<()> {
-    writeln!(out, "{name}: {value:?}")
 }
 
 /// Whether what is allocated to a function is accepted by the checker.
@@ -106,53 +102,52 @@ fn agreeing(alloc: Global, count: u64) -> usize {
 }
 
 /// Writes what the allocator and the checker return.
-fn show_calls<W: Write>(alloc: Global, out: &mut W) -> io::Result<()> {
-    show(out, "tables", rows::tables(alloc))?;
-    show(out, "slots and refusals", rows::slots_and_refusals(alloc))?;
-    show(out, "verdicts", rows::verdicts(alloc))?;
-    show(out, "2^32 - 2^15 operands", adversary::lend(alloc, 131_071))?;
-    show(out, "2^32 operands", adversary::lend(alloc, 131_072))?;
-    show(out, "failures of 3000 functions", failures(alloc, 3000))?;
-    show(out, "large functions", large::sizes(alloc))
+fn write_calls(alloc: Global, out: &mut Report) {
+    out.row("tables", &rows::tables(alloc));
+    out.row("slots and refusals", &rows::slots_and_refusals(alloc));
+    out.row("verdicts", &rows::verdicts(alloc));
+    out.row("2^32 - 2^15 operands", &adversary::lend(alloc, 131_071));
+    out.row("2^32 operands", &adversary::lend(alloc, 131_072));
+    out.row("failures of 3000 functions", &failures(alloc, 3000));
+    out.row("large functions", &large::sizes(alloc));
 }
 
 /// Writes what `ra2` returns.
-fn show_program<W: Write>(alloc: Global, out: &mut W) -> io::Result<()> {
-    show(out, "no words are refused", program::no_words(alloc))?;
-    show(
-        out,
+fn write_program(alloc: Global, out: &mut Report) {
+    out.row("no words are refused", &program::no_words(alloc));
+    out.row(
         "cut texts that aren't refused",
-        program::unrefused_lengths(alloc),
-    )?;
-    show(
-        out,
+        &program::unrefused_lengths(alloc),
+    );
+    out.row(
         "bytes that aren't refused",
-        program::unrefused_bytes(alloc),
-    )?;
-    show(
-        out,
+        &program::unrefused_bytes(alloc),
+    );
+    out.row(
         "failed reads that aren't refused",
-        program::unrefused_reads(alloc),
-    )?;
-    show(
-        out,
+        &program::unrefused_reads(alloc),
+    );
+    out.row(
         "writes that each end it, up to five",
-        program::writes_up_to_five(alloc),
-    )?;
-    show(out, "a failed flush", program::failed_flush(alloc))?;
-    show(
-        out,
-        "a shut error stream",
-        program::shut_error_stream(alloc),
-    )
+        &program::writes_up_to_five(alloc),
+    );
+    out.row("a failed flush", &program::failed_flush(alloc));
+    out.row("a shut error stream", &program::shut_error_stream(alloc));
+}
+
+/// Writes what the allocator, the checker and `ra2` return.
+fn show_rows<W: Write>(alloc: Global, out: &mut W) -> io::Result<()> {
+    let mut report = Report::new(alloc);
+    write_calls(alloc, &mut report);
+    write_program(alloc, &mut report);
+    report.print(out)
 }
 
 /// Writes what all but the cases return.
 fn show_all<W: Write>(alloc: Global, lines: &str, out: &mut W) -> io::Result<()> {
     let (part, lines) = lines.split_once("\n\n").unwrap_or((lines, ""));
     units::write_all(alloc, part, out)?;
-    show_calls(alloc, out)?;
-    show_program(alloc, out)?;
+    show_rows(alloc, out)?;
     let (functions, texts) = lines.split_once("\n\n").unwrap_or((lines, ""));
     refusing::show_all(alloc, functions, out)?;
     let count = agreeing(alloc, 200);

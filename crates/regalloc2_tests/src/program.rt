@@ -29,7 +29,7 @@ const UNREADABLE: &str = "ra2: input unreadable\n";
 const USUAL: usize = 8192;
 
 /// A reader over a text, of which the read that comes after so many others fails.
-#[derive(Drop)]
+#[derive(Clone, Copy)]
 struct Failing<'a> {
     text: &'a [u8],
     sound_reads: u32,
@@ -136,44 +136,54 @@ pub fn no_words(alloc: Global) -> io::Result<bool> {
     is_refused(alloc, "", input, "ra2: bad words\n")
 }
 
+/// The positions of the inputs that aren't rejected.
+fn unrefused(alloc: Global, inputs: &[Failing<'_>]) -> io::Result<Vec<usize>> {
+    let mut unrefused = Vec::new(alloc);
+    for at in 0..inputs.len() {
+        if !is_refused(alloc, "run", inputs[at], UNREADABLE)? {
+            unrefused.push(at)?;
+        }
+    }
+    Ok(unrefused)
+}
+
 /// The lengths at which a text that is cut there isn't rejected.
 pub fn unrefused_lengths(alloc: Global) -> io::Result<Vec<usize>> {
     let whole = TEXT.as_bytes();
-    let mut unrefused = Vec::new(alloc);
+    let mut cut = Vec::new(alloc);
     for length in 0..whole.len() {
-        let input = Failing::sound(&whole[..length]);
-        if !is_refused(alloc, "run", input, UNREADABLE)? {
-            unrefused.push(length)?;
-        }
+        cut.push(Failing::sound(&whole[..length]))?;
     }
-    Ok(unrefused)
+    unrefused(alloc, &cut)
 }
 
-/// Bytes that are no function, and aren't rejected.
-pub fn unrefused_bytes(alloc: Global) -> io::Result<Vec<&'static [u8]>> {
-    let no_function: [&'static [u8]; 4] = [b"{", b"null", &[34, 255, 34], &[195, 40]];
-    let mut unrefused = Vec::new(alloc);
-    for bytes in no_function {
-        if !is_refused(alloc, "run", Failing::sound(bytes), UNREADABLE)? {
-            unrefused.push(bytes)?;
-        }
-    }
-    Ok(unrefused)
+/// Which of the bytes that are no function aren't rejected.
+pub fn unrefused_bytes(alloc: Global) -> io::Result<Vec<usize>> {
+    let inputs = [
+        Failing::sound(b"{"),
+        Failing::sound(b"null"),
+        Failing::sound(&[34, 255, 34]),
+        Failing::sound(&[195, 40]),
+    ];
+    unrefused(alloc, &inputs)
 }
 
 /// After how many reads, none or one, a read that fails isn't reported.
-pub fn unrefused_reads(alloc: Global) -> io::Result<Vec<u32>> {
-    let mut unrefused = Vec::new(alloc);
-    for sound_reads in [0, 1] {
-        let input = Failing {
-            text: TEXT.as_bytes(),
-            sound_reads,
-        };
-        if !is_refused(alloc, "run", input, UNREADABLE)? {
-            unrefused.push(sound_reads)?;
-        }
-    }
-    Ok(unrefused)
+pub fn unrefused_reads(alloc: Global) -> io::Result<Vec<usize>> {
+    let text = TEXT.as_bytes();
+    unrefused(
+        alloc,
+        &[
+            Failing {
+                text,
+                sound_reads: 0,
+            },
+            Failing {
+                text,
+                sound_reads: 1,
+            },
+        ],
+    )
 }
 
 /// What the program writes and returns where the write that comes after so many others fails, over

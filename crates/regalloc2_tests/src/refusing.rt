@@ -7,20 +7,12 @@
 
 mod calls;
 
+use crate::units::parts::refused::function_of_text;
 use calls::{Given, NAMES, Name};
-use regalloc2::serialize::{FromValue, SerializableFunction, StoredFunction};
 use regalloc2::{Function, MachineEnv, Output, allocate_without_checker};
 use regalloc2_test_alloc::{Refusing, is_each_told};
-use serde_json::Value;
 use std::alloc::Global;
 use std::io::{self, Write};
-
-/// The function of a JSON text.
-fn function_of(alloc: Global, text: &str) -> Option<SerializableFunction> {
-    let value = Value::from_str(alloc, text).ok()?;
-    let stored = StoredFunction::from_value(alloc, &value).ok()?;
-    SerializableFunction::from_stored(alloc, &stored).ok()
-}
 
 /// What is allocated to a function, or nothing.
 fn output_of<F: Function>(alloc: Global, f: &F, env: &MachineEnv) -> Output {
@@ -88,9 +80,9 @@ fn show_of<F: Function, W: Write>(
 
 /// Writes of which calls with the function of a JSON text each failed allocation is reported, and of which it isn't.
 fn show<W: Write>(global: Global, text: &str, to: &mut W) -> io::Result<()> {
-    match function_of(global, text) {
-        Some(f) => show_of(global, &f, f.machine_env(), to),
-        None => writeln!(to, " no function"),
+    match function_of_text(global, global, text) {
+        Ok(f) => show_of(global, &f, f.machine_env(), to),
+        Err(_) => writeln!(to, " no function"),
     }
 }
 

@@ -1,113 +1,53 @@
 //! A loop and a fork, and results of calls on them that no listing shows. The lemmas of
 //! `WorkedPaths` say what they read.
 
-ghost use Rattle.std.specs.Prelude.{◌≡◌};
-ghost use Rattle.regalloc2_names.specs.declared.RegClass.{RegClass};
-
 use super::calls::{run_fitting, run_with_ctx_fitting};
 use super::random::integer_machine;
+use super::texts::function_of;
 use regalloc2::cfg::CFGInfo;
 use regalloc2::checker::{Checker, CheckerErrors};
 use regalloc2::ssa::validate_ssa;
-use regalloc2::{Block, Ctx, Function, Operand, Output, RegAllocError, RegClass, VReg, is_framed};
-use regalloc2_serialize::table_function::{BuildError, TableBuilder, TableFunction};
+use regalloc2::{Block, Ctx, Function, Output, RegAllocError, is_framed};
+use regalloc2_serialize::table_function::TableFunction;
 use std::alloc::Global;
 
-/// An integer vreg, whose number is taken below 2^20.
-pub fn vreg(number: usize) -> VReg
-    ensures { result.class ≡ RegClass.Int }
-{
-    VReg::new(number % 1_048_576, RegClass::Int)
-}
+/// A loop whose two parameters change places on each turn; then a return that reads both.
+const LOOP: &str = "block0:\n  op: Def: v0i reg\n  op: Def: v1i reg\n  branch block1(v0i, v1i)\n\
+    block1(v2i, v3i):\n  op: Use: v2i reg\n  branch block2(), block3()\n\
+    block2:\n  branch block1(v3i, v2i)\n\
+    block3:\n  ret: Use: v2i reg, Use: v3i reg\n";
 
-/// A definition of an integer vreg in a register.
-pub fn def(number: usize) -> Operand {
-    Operand::reg_def(vreg(number))
-}
-
-/// A use of an integer vreg in a register.
-pub fn read(number: usize) -> Operand {
-    Operand::reg_use(vreg(number))
-}
-
-/// Adds a loop whose two parameters change places on each turn; then a return that reads both.
-fn add_turning_loop(f: &mut TableBuilder) -> Result<(), BuildError> {
-    let (start, head) = (f.block(&[])?, f.block(&[vreg(2), vreg(3)])?);
-    let (body, end) = (f.block(&[])?, f.block(&[])?);
-    f.op(start, &[def(0)])?;
-    f.op(start, &[def(1)])?;
-    f.branch(start, &[])?;
-    f.succ(start, head, &[vreg(0), vreg(1)])?;
-    f.op(head, &[read(2)])?;
-    f.branch(head, &[])?;
-    f.succ(head, body, &[])?;
-    f.succ(head, end, &[])?;
-    f.branch(body, &[])?;
-    f.succ(body, head, &[vreg(3), vreg(2)])?;
-    f.ret(end, &[read(2), read(3)])
-}
-
-/// A function of such a loop.
-fn turning_loop(alloc: Global) -> Result<TableFunction, BuildError> {
-    let mut f = TableBuilder::new(alloc);
-    add_turning_loop(&mut f)?;
-    f.finish(4)
-}
-
-/// Adds a fork that passes its value on one edge to a parameter.
-fn add_fork(f: &mut TableBuilder) -> Result<(), BuildError> {
-    let start = f.block(&[])?;
-    let (one, other) = (f.block(&[vreg(1)])?, f.block(&[])?);
-    f.op(start, &[def(0)])?;
-    f.branch(start, &[])?;
-    f.succ(start, one, &[vreg(0)])?;
-    f.succ(start, other, &[])?;
-    f.ret(one, &[read(1)])?;
-    f.ret(other, &[read(1)])
-}
-
-/// A function of such a fork.
-fn fork(alloc: Global) -> Result<TableFunction, BuildError> {
-    let mut f = TableBuilder::new(alloc);
-    add_fork(&mut f)?;
-    f.finish(4)
-}
+/// A fork that passes its value on one edge to a parameter.
+const FORK: &str = "block0:\n  op: Def: v0i reg\n  branch block1(v0i), block2()\n\
+    block1(v1i):\n  ret: Use: v1i reg\n\
+    block2:\n  ret: Use: v1i reg\n";
 
 /// What is allocated to a function on so many registers.
 pub fn allocated<F: Function>(alloc: Global, f: &F, registers: usize) -> Option<Output> {
     run_fitting(alloc, f, &integer_machine(alloc, registers))?.ok()
 }
 
-/// The tables of a function, if it passes the tests.
-fn valid_tables<F: Function>(alloc: Global, f: &F) -> Option<CFGInfo> {
+/// The tables of a function, if it needs to pass no tests or passes them.
+fn tables_of<F: Function>(alloc: Global, f: &F, is_tested: bool) -> Option<CFGInfo> {
     let info = CFGInfo::new(alloc, f).ok()?;
-    if validate_ssa(alloc, f, &info).is_ok() {
-        Some(info)
-    } else {
-        None
+    if is_tested && validate_ssa(alloc, f, &info).is_err() {
+        return None;
     }
+    Some(info)
 }
 
-/// The tables of the loop, if it passes the tests.
-fn tables_of_loop(alloc: Global) -> Option<CFGInfo> {
-    match turning_loop(alloc) {
-        Ok(f) => valid_tables(alloc, &f),
-        Err(_) => None,
-    }
-}
-
-/// The tables of the fork.
-fn tables_of_fork(alloc: Global) -> Option<CFGInfo> {
-    match fork(alloc) {
-        Ok(f) => CFGInfo::new(alloc, &f).ok(),
-        Err(_) => None,
+/// The tables of the function of a text, if it needs to pass no tests or passes them.
+fn tables_of_text(alloc: Global, text: &str, is_tested: bool) -> Option<CFGInfo> {
+    match function_of(alloc, text) {
+        Some(f) => tables_of(alloc, &f, is_tested),
+        None => None,
     }
 }
 
 /// The tables of the loop, which passes the tests, and of the fork.
 pub fn tables(alloc: Global) -> Option<(CFGInfo, CFGInfo)> {
-    let info = tables_of_loop(alloc)?;
-    Some((info, tables_of_fork(alloc)?))
+    let info = tables_of_text(alloc, LOOP, true)?;
+    Some((info, tables_of_text(alloc, FORK, false)?))
 }
 
 /// How many slots `run` gives a function.
@@ -128,10 +68,15 @@ fn lent_slots<F: Function>(
     run_with_ctx_fitting(f, &integer_machine(alloc, registers), ctx)
 }
 
-/// How many slots each call gives a function.
-fn slots<F: Function>(alloc: Global, f: &F, ctx: &mut Ctx) -> Option<[usize; 2]> {
+/// How many slots each call gives a function, and how it is rejected on one register.
+fn slots_and_lack<F: Function>(
+    alloc: Global,
+    f: &F,
+    ctx: &mut Ctx,
+) -> Option<([usize; 2], Option<RegAllocError>)> {
     let lent = lent_slots(alloc, f, 10, ctx)?.ok()?;
-    Some([own_slots(alloc, f)?, lent])
+    let slots = [own_slots(alloc, f)?, lent];
+    Some((slots, lent_slots(alloc, f, 1, ctx)?.err()))
 }
 
 /// Lets the second block of the loop go on to no block.
@@ -140,21 +85,29 @@ fn lead_nowhere(f: &mut TableFunction) -> Option<()> {
     Some(())
 }
 
+/// How a function is rejected on ten registers, and whether it is structurally valid (`IsFramed`).
+fn refusal<F: Function>(
+    alloc: Global,
+    f: &F,
+    ctx: &mut Ctx,
+) -> Option<(Option<RegAllocError>, bool)> {
+    let refused = lent_slots(alloc, f, 10, ctx)?.err();
+    Some((refused, is_framed(f)))
+}
+
 /// What `slots_and_refusals` says of the loop, which it changes.
 fn slots_and_refusals_of(
     alloc: Global,
     f: &mut TableFunction,
     ctx: &mut Ctx,
 ) -> Option<([usize; 2], [Option<RegAllocError>; 3], [bool; 2], usize)> {
-    let slots = slots(alloc, f, ctx)?;
-    let lacks = lent_slots(alloc, f, 1, ctx)?.err();
+    let (slots, lacks) = slots_and_lack(alloc, f, ctx)?;
     lead_nowhere(f)?;
-    let leads_nowhere = lent_slots(alloc, f, 10, ctx)?.err();
-    let is_framed_so = is_framed(f);
+    let nowhere = refusal(alloc, f, ctx)?;
     f.entry = Block(9);
-    let starts_nowhere = lent_slots(alloc, f, 10, ctx)?.err();
-    let answers = [lacks, leads_nowhere, starts_nowhere];
-    let framed = [is_framed_so, is_framed(f)];
+    let from_nowhere = refusal(alloc, f, ctx)?;
+    let answers = [lacks, nowhere.0, from_nowhere.0];
+    let framed = [nowhere.1, from_nowhere.1];
     Some((slots, answers, framed, ctx.output.num_spillslots))
 }
 
@@ -164,7 +117,7 @@ fn slots_and_refusals_of(
 pub fn slots_and_refusals(
     alloc: Global,
 ) -> Option<([usize; 2], [Option<RegAllocError>; 3], [bool; 2], usize)> {
-    let mut f = turning_loop(alloc).ok()?;
+    let mut f = function_of(alloc, LOOP)?;
     slots_and_refusals_of(alloc, &mut f, &mut Ctx::new(alloc))
 }
 
@@ -220,8 +173,8 @@ fn verdicts_of<F: Function>(alloc: Global, f: &F) -> Option<[Result<(), CheckerE
 /// What a checker reports that has no output; that was given one which isn't well-ordered, after a
 /// right one; and that was given the right one last.
 pub fn verdicts(alloc: Global) -> Option<[Result<(), CheckerErrors>; 3]> {
-    match turning_loop(alloc) {
-        Ok(f) => verdicts_of(alloc, &f),
-        Err(_) => None,
+    match function_of(alloc, LOOP) {
+        Some(f) => verdicts_of(alloc, &f),
+        None => None,
     }
 }

@@ -3,8 +3,8 @@
 mod columns;
 mod indexes;
 mod names;
-mod parts;
-mod report;
+pub mod parts;
+pub mod report;
 mod rewriting;
 mod sets;
 

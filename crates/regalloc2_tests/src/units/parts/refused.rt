@@ -120,6 +120,16 @@ fn function_of<A: Allocator + Copy>(
     named(SerializableFunction::from_stored(alloc, &stored))
 }
 
+/// The function that a JSON text gives.
+pub fn function_of_text<A: Allocator + Copy>(
+    global: Global,
+    alloc: A,
+    text: &str,
+) -> Result<SerializableFunction<A>, RegAllocError> {
+    let value = value_of(global, text)?;
+    function_of(alloc, &value)
+}
+
 /// The stored numbers of a function, copied with a machine without registers.
 fn copied_numbers<A: Allocator + Copy>(
     alloc: A,
@@ -134,8 +144,7 @@ fn stored_function<A: Allocator + Copy>(
     alloc: A,
     text: &str,
 ) -> Result<StoredFunction<A>, RegAllocError> {
-    let value = value_of(global, text)?;
-    let f = function_of(alloc, &value)?;
+    let f = function_of_text(global, alloc, text)?;
     copied_numbers(alloc, &f)
 }
 

@@ -6,7 +6,6 @@
 
 ghost use Rattle.std.specs.Prelude.{◌≡◌, ◌≢◌, ◌↔◌, Bool, Option, None, Some, IsTrue};
 ghost use Rattle.regalloc2_names.specs.Place.{Place, NoPlace, is_in_slot};
-ghost use Rattle.regalloc2_parts.specs.Computed.{CanCompute};
 ghost use Rattle.regalloc2_parts.specs.Resolved.{moves_listed, IsRunnable, IsUnnamed};
 
 use super::listed::{Move, Pairs, SLOT, place, resolved, write_moves};
@@ -73,27 +72,6 @@ fn serves(moves: &Resolved<'_>, place: Option<Allocation>, is_slot: bool) -> boo
     }
 }
 
-/// What a resolver makes of moves when it is called by reference, and what its closures return next.
-fn computed_by_ref<'a, R, S, M>(
-    resolver: &mut MoveAndScratchResolver<R, S, M>,
-    moves: Resolved<'a>,
-) -> (Computed<'a>, Places)
-where
-    R: FnMut() -> Option<Allocation>,
-    S: FnMut() -> Option<Allocation>,
-    M: Fn(Allocation) -> bool,
-    requires registers { (f : _) → R.pre f }
-    requires slots { (f : _) → S.pre f }
-    requires computes { CanCompute (λ s a t. R.step s a t) (λ s. R.pre s) (λ s a t. S.step s a t) (λ s. S.pre s) (λ s p b. M.post s p b)
-        (λ s. M.IsAlwaysCallable s) resolver.old moves }
-{
-    let made = resolver.compute_by_ref(moves);
-    (
-        made,
-        ((resolver.find_free_reg)(), (resolver.get_stackslot)()),
-    )
-}
-
 /// What a resolver makes of moves, if its places serve them; and if it is called by reference, what
 /// it has left.
 fn computed<'a, R, S, M>(
@@ -120,7 +98,8 @@ where
     if !by_ref {
         return Some((resolver.compute(moves), None));
     }
-    let (made, left) = computed_by_ref(&mut resolver, moves);
+    let made = resolver.compute_by_ref(moves);
+    let left = ((resolver.find_free_reg)(), (resolver.get_stackslot)());
     Some((made, Some(left)))
 }
 

@@ -20,13 +20,19 @@ compute-requires g c = (
   ),
 )
 
-pub computed_by_ref-made-requires-clause-computes : goal.computed_by_ref-made-requires-clause-computes
-computed_by_ref-made-requires-clause-computes g c = record {
-  registers = (c.requires.registers _, (λ a t k. c.requires.registers t));
-  slots = (c.requires.slots _, (λ a t k. c.requires.slots t));
-  stack = c.requires.stack;
-  runnable = c.requires.runnable;
-  owes = owes_once _ _ _ c.args.free.0 c.args.free.1 c.args.resolver.find_free_reg c.args.resolver.get_stackslot (moves_listed c.args.moves)
-      c.args.resolver.borrowed_scratch_reg c.requires.first c.requires.second (c.serves.ensures c.if-not-serves.false)
-      (c.serves-else-not-serves.ensures c.if-not-serves-2.false) c.requires.tells;
-}
+pub compute_by_ref-made-requires : goal.compute_by_ref-made-requires
+compute_by_ref-made-requires g c = (
+  search rules,
+  (
+    search rules,
+    record {
+      registers = (c.requires.registers _, (λ a t k. c.requires.registers t));
+      slots = (c.requires.slots _, (λ a t k. c.requires.slots t));
+      stack = c.requires.stack;
+      runnable = c.requires.runnable;
+      owes = owes_once _ _ _ c.args.free.0 c.args.free.1 c.args.resolver.find_free_reg c.args.resolver.get_stackslot (moves_listed c.args.moves)
+          c.args.resolver.borrowed_scratch_reg c.requires.first c.requires.second (c.serves.ensures c.if-not-serves.false)
+          (c.serves-else-not-serves.ensures c.if-not-serves-2.false) c.requires.tells;
+    },
+  ),
+)
