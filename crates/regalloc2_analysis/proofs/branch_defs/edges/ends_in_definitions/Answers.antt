@@ -26,3 +26,6 @@ pub returns-else-is_branch : goal.returns-else-is_branch
 returns-else-is_branch g c =
     ends_otherwise (g.F.Function.function c.args.f.now) c.args.block c.last-last.result c.is_branch.result
     (c.last-last.ensures ∙ ap (λ (r : Span). r.end - 1) c.block_insns.ensures) c.is_branch.ensures c.if-is_branch.false
+
+pub block_insns-requires : goal.block_insns-requires
+block_insns-requires g c = c.requires.block

@@ -41,3 +41,24 @@ returns-then-branch g c = λ yes. c.in_ok-add_succs.ensures.found c.if-branch.tr
 
 pub returns-in_err-add_succs : goal.returns-in_err-add_succs
 returns-in_err-add_succs g c = IfOk-from_err c.from_residual.result _ c.from_residual.ensures.0
+
+pub loop-init : goal.loop-init
+loop-init g c = record { near = c.requires.near; far = c.requires.far }
+
+pub is_unwritten-requires-clause-framed : goal.is_unwritten-requires-clause-framed
+is_unwritten-requires-clause-framed g c = c.requires.framed
+
+pub add_succs-requires-clause-framed : goal.add_succs-requires-clause-framed
+add_succs-requires-clause-framed g c = c.requires.framed
+
+pub add_succs-requires-clause-unwritten : goal.add_succs-requires-clause-unwritten
+add_succs-requires-clause-unwritten g c = c.is_unwritten.ensures c.if-not-is_unwritten.false
+
+pub loop-preserved : goal.loop-preserved
+loop-preserved g c = record { near = c.in_ok-add_succs.ensures.near; far = c.in_ok-add_succs.ensures.far }
+
+pub returns-in_default : goal.returns-in_default
+returns-in_default g c = λ e. absurd cc
+
+pub returns : goal.returns
+returns g c = λ e. absurd cc

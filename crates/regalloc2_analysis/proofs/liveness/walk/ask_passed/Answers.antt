@@ -1,8 +1,9 @@
 use Rattle.std.proofs.lemmas.Result.{IfOk-from_err}
-use Rattle.std.proofs.Common.{ℕ, ◌≡◌, length, subst, arith}
+use Rattle.std.proofs.Common.{ℕ, ◌≡◌, length, subst, arith, ◌<◌, ◌-◌, ◌∙◌, List, ap, sym, rules}
 use Rattle.regalloc2_function.specs.FunctionValue.{FunctionValue, block_at}
 use Rattle.regalloc2_analysis.specs.Liveness.BlockWalk.{PassesNeeds}
 use Rattle.regalloc2_analysis.proofs.LivenessLemmas.LiveAtBlockBegin.{passes_more}
+use Rattle.regalloc2_index.specs.Range.{Span}
 use Rattle.regalloc2_analysis.proofs.liveness.walk.ask_passed.Goals as goal
 
 pub loop-k-preserved : goal.loop-k-preserved
@@ -22,3 +23,27 @@ returns g c =
 
 pub returns-in_err-ask_arguments : goal.returns-in_err-ask_arguments
 returns-in_err-ask_arguments g c = IfOk-from_err c.from_residual.result _ c.from_residual.ensures.0
+
+pub block_insns-requires : goal.block_insns-requires
+block_insns-requires g c = c.requires.block
+
+pub last-last-requires : goal.last-last-requires
+last-last-requires g c = 
+    subst (λ (r : Span). r.first < r.end) (sym c.block_insns.ensures) (c.requires.framed.follow c.args.block c.requires.block).0
+
+pub block_succs-k-end-requires : goal.block_succs-k-end-requires
+block_succs-k-end-requires g c = c.requires.block
+
+pub loop-k-init : goal.loop-k-init
+loop-k-init g c = record { end = ap (λ (l : List ℕ). length l) c.block_succs-k-end.ensures; so_far = search rules }
+
+pub branch_blockparams-requires : goal.branch_blockparams-requires
+branch_blockparams-requires g c = 
+    let some = (c.requires.framed.follow c.args.block c.requires.block).0 in
+    let end = c.last-last.ensures ∙ ap (λ (r : Span). r.end - 1) c.block_insns.ensures in
+    record {
+      block = c.requires.block;
+      last = omega (arith, some, end);
+      nonempty = omega (arith, some, end);
+      position = omega (arith, c.loop-k.invariant.end, c.loop-k-test.true);
+    }
