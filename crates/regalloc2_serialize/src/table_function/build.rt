@@ -8,8 +8,8 @@ ghost use Rattle.regalloc2_serialize.specs.TableFunction.Table.{function_of_tabl
 
 use super::super::data::InstOpcode;
 use super::table::{SlotUnits, TableBlock, TableFunction, TableInst};
-use regalloc2_index::{Block, Inst, InstRange};
-use regalloc2_names::{Operand, PRegSet, VReg};
+use regalloc2_index::{Block, InstRange};
+use regalloc2_names::{Operand, PRegSet};
 use std::alloc::{AllocError, Allocator};
 
 /// An instruction with these operands and no clobbers.
