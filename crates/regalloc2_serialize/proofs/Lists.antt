@@ -55,6 +55,11 @@ pub zip-next-under : {X Y Z : Type 0} (R : X → Z → Type 0) (f : Y → Z) (xs
 zip-next-under R f xs ys i x y less is before here =
     zip-next R xs (map f ys) i x (f y) (rw length-map less) (ap f is ∙ sym (get_or-map f ys i y (f y) less)) before here
 
+-- lists that agree under two views agree with an item more of each
+pub map-both : {X Y Z : Type 0} (f : X → Z) (h : Y → Z) (xs zs : List X) (x : X) (ys : List Y) (y : Y) →
+    zs ≡ xs ++ x ∷ [] → f x ≡ h y → map f xs ≡ map h ys → map f zs ≡ map h (ys ++ y ∷ [])
+map-both f h xs zs x ys y is here before = rw (is, map-append f xs (x ∷ []), map-append h ys (y ∷ []), before, here) refl
+
 -- lists that agree under two views agree with one more item of each
 pub map-more : {X Y Z : Type 0} (f : X → Z) (h : Y → Z) (xs : List X) (ys : List Y) (i : ℕ) (x : X) (y : Y) →
     i < length ys → y ≡ get_or ys i y → f x ≡ h y → map f xs ≡ map h (take i ys) → map f (xs ++ x ∷ []) ≡ map h (take (i + 1) ys)

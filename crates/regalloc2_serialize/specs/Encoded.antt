@@ -1,5 +1,5 @@
 -- The numbers of a function and its machine, part by part.
-use Rattle.std.specs.Prelude.{◌≡◌, List, All, length, map}
+use Rattle.std.specs.Prelude.{◌≡◌, List, [], All, length, map}
 use Rattle.regalloc2_names.specs.Packing.{IsVRegBits}
 use Rattle.regalloc2_names.specs.RegisterBits.{vreg_of_bits}
 use Rattle.regalloc2_function.specs.FunctionValue.{IsSlotSize, label_of}
@@ -20,6 +20,14 @@ pub record AreListsOf {A B : Type 0} (s : StoredFunction A) (bs : List (TableBlo
   pub preds : map (λ l. l.items) s.block_preds.items ≡ map (λ b. (block_of_table b).preds) bs
   pub params : map (λ l. map vreg_of_bits l.items) s.block_params_in.items ≡ map (λ b. (block_of_table b).params) bs
   pub arguments : map (λ l. map (λ k. map vreg_of_bits k.items) l.items) s.block_params_out.items ≡ map (λ b. (block_of_table b).arguments) bs
+
+-- lists by block are those of no blocks
+pub record AreEmpty {A : Type 0} (l : BlockLists A) : Type 0 where
+  pub ranges : l.blocks.items ≡ []
+  pub preds : l.preds.items ≡ []
+  pub succs : l.succs.items ≡ []
+  pub params : l.params_in.items ≡ []
+  pub arguments : l.params_out.items ≡ []
 
 -- lists by block are those of blocks, and the words of their vregs are such words
 pub record AreBlockLists {A B : Type 0} (l : BlockLists A) (bs : List (TableBlock B)) : Type 0 where

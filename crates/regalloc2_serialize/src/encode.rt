@@ -1,6 +1,6 @@
 //! The numbers that name a function and a machine.
 
-ghost use Rattle.std.specs.Prelude.{◌≡◌, ◌↔◌, All, IfOk, IfErr, IfSome, length, map};
+ghost use Rattle.std.specs.Prelude.{◌≡◌, ◌↔◌, ◌++◌, ◌∷◌, [], List, All, IfOk, IfErr, IfSome, OnOk, length, map};
 ghost use Rattle.std.specs.List.{AllZip};
 ghost use Rattle.std.specs.Option.{option_map};
 ghost use Rattle.regalloc2_names.specs.Packing.{IsRegisterIndex, IsVRegBits, IsOperandBits, register_of_bits, vreg_of_bits, operand_of_bits};
@@ -8,9 +8,10 @@ ghost use Rattle.regalloc2_function.specs.FunctionValue.{FunctionValue, IsSlotSi
 ghost use Rattle.regalloc2_function.specs.Machine.{MachineValue};
 ghost use Rattle.regalloc2_function.specs.Views.{machine_of};
 ghost use Rattle.regalloc2_serialize.specs.Decoded.{HasIndexes, NamesInst, NamesMachine, NamesFunction, stored_range, stored_label, stored_sizes};
-ghost use Rattle.regalloc2_serialize.specs.Encoded.{AreBlockLists, AreNumbersOf};
-ghost use Rattle.regalloc2_serialize.specs.TableFunction.Table.{inst_of_table, block_of_table, function_of_table};
+ghost use Rattle.regalloc2_serialize.specs.Encoded.{AreBlockLists, AreEmpty, AreNumbersOf};
+ghost use Rattle.regalloc2_serialize.specs.TableFunction.Table.{inst_of_table, function_of_table};
 ghost use Rattle.regalloc2_serialize.specs.Tables.{function_of_serializable};
+ghost use Rattle.regalloc2_serialize.specs.declared.table_function.table.TableBlock.{TableBlock};
 ghost use Rattle.regalloc2_serialize.specs.Validity.{NamesOperands, NamesRegisters, HasThreeClasses, HasLengths, NamesAll, KeepsLimits, NamesItsBlocks, IsSoundStored};
 
 use super::data::{StoredFunction, StoredInst, StoredMachine};
@@ -242,76 +243,36 @@ fn numbers_of_range(range: InstRange) -> (u32, u32)
     }
 }
 
-/// The ranges of blocks.
-fn ranges_of<A: Allocator, B: Allocator>(
-    alloc: B,
-    blocks: &[TableBlock<A>],
-) -> Result<Vec<(u32, u32), B>, AllocError>
-    ensures { IfOk result (λ ranges. map stored_range ranges.items ≡ map (λ b. (block_of_table b).range) blocks.now) }
+/// Makes room in lists for so many blocks.
+fn reserve<B: Allocator>(lists: &mut BlockLists<B>, count: usize) -> Result<(), AllocError>
+    ensures { OnOk result (AreEmpty lists.old → AreEmpty lists.new) }
 {
-    let mut ranges = Vec::with_capacity(alloc, blocks.len())?;
-    for block in blocks {
-        ranges.push(numbers_of_range(block.range))?;
-    }
-    Ok(ranges)
+    lists.blocks.reserve(count)?;
+    lists.preds.reserve(count)?;
+    lists.succs.reserve(count)?;
+    lists.params_in.reserve(count)?;
+    lists.params_out.reserve(count)?;
+    Ok(())
 }
 
-/// The successors of blocks.
-fn succs_of<A: Allocator, B: Allocator + Copy>(
+/// Adds the numbers of a block to lists.
+fn add_block<A: Allocator, B: Allocator + Copy>(
     alloc: B,
-    blocks: &[TableBlock<A>],
-) -> Result<Vec<Vec<u32, B>, B>, AllocError>
-    ensures { IfOk result (λ succs. map (λ l. l.items) succs.items ≡ map (λ b. (block_of_table b).succs) blocks.now) }
+    lists: &mut BlockLists<B>,
+    block: &TableBlock<A>,
+) -> Result<(), AllocError>
+    ensures { OnOk result ((bs : List (TableBlock A)) → AreBlockLists lists.old bs → AreBlockLists lists.new (bs ++ block.now ∷ [])) }
 {
-    let mut succs = Vec::with_capacity(alloc, blocks.len())?;
-    for block in blocks {
-        succs.push(numbers_of_blocks(alloc, block.succs.as_slice())?)?;
-    }
-    Ok(succs)
-}
-
-/// The predecessors of blocks.
-fn preds_of<A: Allocator, B: Allocator + Copy>(
-    alloc: B,
-    blocks: &[TableBlock<A>],
-) -> Result<Vec<Vec<u32, B>, B>, AllocError>
-    ensures { IfOk result (λ preds. map (λ l. l.items) preds.items ≡ map (λ b. (block_of_table b).preds) blocks.now) }
-{
-    let mut preds = Vec::with_capacity(alloc, blocks.len())?;
-    for block in blocks {
-        preds.push(numbers_of_blocks(alloc, block.preds.as_slice())?)?;
-    }
-    Ok(preds)
-}
-
-/// The parameters of blocks.
-fn params_of<A: Allocator, B: Allocator + Copy>(
-    alloc: B,
-    blocks: &[TableBlock<A>],
-) -> Result<Vec<Vec<u32, B>, B>, AllocError>
-    ensures params { IfOk result (λ params. map (λ l. map vreg_of_bits l.items) params.items ≡ map (λ b. (block_of_table b).params) blocks.now) }
-    ensures names { IfOk result (λ params. All (λ l. All IsVRegBits l.items) params.items) }
-{
-    let mut params = Vec::with_capacity(alloc, blocks.len())?;
-    for block in blocks {
-        params.push(words_of_vregs(alloc, block.params.as_slice())?)?;
-    }
-    Ok(params)
-}
-
-/// The arguments of blocks.
-fn arguments_of<A: Allocator, B: Allocator + Copy>(
-    alloc: B,
-    blocks: &[TableBlock<A>],
-) -> Result<Vec<Vec<Vec<u32, B>, B>, B>, AllocError>
-    ensures arguments { IfOk result (λ arguments. map (λ l. map (λ k. map vreg_of_bits k.items) l.items) arguments.items ≡ map (λ b. (block_of_table b).arguments) blocks.now) }
-    ensures names { IfOk result (λ arguments. All (λ l. All (λ k. All IsVRegBits k.items) l.items) arguments.items) }
-{
-    let mut arguments = Vec::with_capacity(alloc, blocks.len())?;
-    for block in blocks {
-        arguments.push(words_of_lists(alloc, block.arguments.as_slice())?)?;
-    }
-    Ok(arguments)
+    lists.blocks.push(numbers_of_range(block.range))?;
+    let preds = numbers_of_blocks(alloc, block.preds.as_slice())?;
+    lists.preds.push(preds)?;
+    let succs = numbers_of_blocks(alloc, block.succs.as_slice())?;
+    lists.succs.push(succs)?;
+    let params = words_of_vregs(alloc, block.params.as_slice())?;
+    lists.params_in.push(params)?;
+    let arguments = words_of_lists(alloc, block.arguments.as_slice())?;
+    lists.params_out.push(arguments)?;
+    Ok(())
 }
 
 /// The lists of blocks.
@@ -321,18 +282,18 @@ fn lists_of<A: Allocator, B: Allocator + Copy>(
 ) -> Result<BlockLists<B>, AllocError>
     ensures { IfOk result (λ lists. AreBlockLists lists blocks.now) }
 {
-    let ranges = ranges_of(alloc, blocks)?;
-    let preds = preds_of(alloc, blocks)?;
-    let succs = succs_of(alloc, blocks)?;
-    let params_in = params_of(alloc, blocks)?;
-    let params_out = arguments_of(alloc, blocks)?;
-    Ok(BlockLists {
-        blocks: ranges,
-        preds,
-        succs,
-        params_in,
-        params_out,
-    })
+    let mut lists = BlockLists {
+        blocks: Vec::new(alloc),
+        preds: Vec::new(alloc),
+        succs: Vec::new(alloc),
+        params_in: Vec::new(alloc),
+        params_out: Vec::new(alloc),
+    };
+    reserve(&mut lists, blocks.len())?;
+    for block in blocks {
+        add_block(alloc, &mut lists, block)?;
+    }
+    Ok(lists)
 }
 
 /// The numbers of a function and its machine, made with the function's own allocator.

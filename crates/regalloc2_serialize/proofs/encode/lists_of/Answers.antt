@@ -1,28 +1,40 @@
+use Rattle.std.proofs.Common.{◌≡◌, ◌+◌, ◌++◌, ◌∷◌, [], arith, refl, take}
+use Rattle.std.proofs.lemmas.List.{take_all, take_more}
 use Rattle.std.proofs.lemmas.Result.{IfOk-from_err}
 use Rattle.regalloc2_serialize.proofs.encode.lists_of.Goals as goal
 
+pub loop-block-init : goal.loop-block-init
+loop-block-init g c =
+    let e = c.in_ok-reserve.ensures (record {
+      ranges = c.new.ensures.items;
+      preds = c.new-2.ensures.items;
+      succs = c.new-3.ensures.items;
+      params = c.new-4.ensures.items;
+      arguments = c.new-5.ensures.items;
+    }) in
+    record {
+      ranges = rw e.ranges refl;
+      succs = rw e.succs refl;
+      preds = rw e.preds refl;
+      params = rw e.params refl;
+      arguments = rw e.arguments refl;
+      param_names = rw e.params (λ k d less. absurd (omega (arith, less)));
+      argument_names = rw e.arguments (λ k d less. absurd (omega (arith, less)));
+    }
+
+pub loop-block-preserved : goal.loop-block-preserved
+loop-block-preserved g c =
+    let i = c.loop-block.block-index in
+    let all = c.args.blocks.now in
+    let b = c.block-item.result in
+    let more : take (i + 1) all ≡ take i all ++ b ∷ [] = rw (take_more all i b c.loop-block-test.true, ← c.block-item.is) refl in
+    rw more (c.in_ok-add_block.ensures (take i all) c.loop-block.invariant)
+
 pub returns : goal.returns
-returns g c = record {
-  ranges = c.in_ok-ranges.ensures;
-  succs = c.in_ok-succs.ensures;
-  preds = c.in_ok-preds.ensures;
-  params = c.in_ok-params_in.ensures.params;
-  arguments = c.in_ok-params_out.ensures.arguments;
-  param_names = c.in_ok-params_in.ensures.names;
-  argument_names = c.in_ok-params_out.ensures.names;
-}
+returns g c = rw (take_all c.loop-block.block-index c.args.blocks.now (omega (arith, c.loop-block-test.false))) at c.loop-block.invariant
 
-pub returns-in_err-ranges : goal.returns-in_err-ranges
-returns-in_err-ranges g c = IfOk-from_err c.from_residual.result _ c.from_residual.ensures.0
+pub returns-in_err-reserve : goal.returns-in_err-reserve
+returns-in_err-reserve g c = IfOk-from_err c.from_residual.result _ c.from_residual.ensures.0
 
-pub returns-in_err-preds : goal.returns-in_err-preds
-returns-in_err-preds g c = IfOk-from_err c.from_residual-in_err-preds.result _ c.from_residual-in_err-preds.ensures.0
-
-pub returns-in_err-succs : goal.returns-in_err-succs
-returns-in_err-succs g c = IfOk-from_err c.from_residual-in_err-succs.result _ c.from_residual-in_err-succs.ensures.0
-
-pub returns-in_err-params_in : goal.returns-in_err-params_in
-returns-in_err-params_in g c = IfOk-from_err c.from_residual-in_err-params_in.result _ c.from_residual-in_err-params_in.ensures.0
-
-pub returns-in_err-params_out : goal.returns-in_err-params_out
-returns-in_err-params_out g c = IfOk-from_err c.from_residual-in_err-params_out.result _ c.from_residual-in_err-params_out.ensures.0
+pub returns-in_err-add_block : goal.returns-in_err-add_block
+returns-in_err-add_block g c = IfOk-from_err c.from_residual-in_err-add_block.result _ c.from_residual-in_err-add_block.ensures.0

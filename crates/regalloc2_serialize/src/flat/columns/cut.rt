@@ -1,9 +1,61 @@
 //! The columns of words.
 
-ghost use Rattle.std.specs.Prelude.{◌≡◌, ℕ, ◌+◌, ◌*◌, ◌<◌, ◌≤◌, ◌^◌, All, MatchOption, length, take, slice_index, sum};
+ghost use Rattle.std.specs.Prelude.{◌≡◌, ℕ, ◌+◌, ◌<◌, ◌≤◌, ◌^◌, All, MatchOption, length, take, slice_index, sum};
 ghost use Rattle.regalloc2_serialize.specs.Flat.Columns.Layout.{header_of, widths, column, AreInColumns};
-ghost use Rattle.regalloc2_serialize.specs.Flat.Columns.Layout.{preferred_words, non_preferred_words, scratch_words, slot_words, set_words, kind_words, operand_ends, operand_words, inst_ends};
-ghost use Rattle.regalloc2_serialize.specs.Flat.Columns.Layout.{pred_ends, succ_ends, param_ends, pred_words, succ_words, param_words, argument_ends, argument_words, label_words};
+
+/// The column of the sets of preferred registers.
+pub const PREFERRED: usize = 1;
+
+/// The column of the sets of non-preferred registers.
+pub const NON_PREFERRED: usize = 2;
+
+/// The column of the scratch registers.
+pub const SCRATCH: usize = 3;
+
+/// The column of the fixed stack slots.
+pub const SLOTS: usize = 4;
+
+/// The column of the sets of clobbers.
+pub const SETS: usize = 5;
+
+/// The column of what the instructions are.
+pub const KINDS: usize = 6;
+
+/// The column of where the operands of each instruction end.
+pub const OPERAND_ENDS: usize = 7;
+
+/// The column of the operands.
+pub const OPERANDS: usize = 8;
+
+/// The column of where the instructions of each block end.
+pub const INST_ENDS: usize = 9;
+
+/// The column of where the predecessors of each block end.
+pub const PRED_ENDS: usize = 10;
+
+/// The column of where the successors of each block end.
+pub const SUCC_ENDS: usize = 11;
+
+/// The column of where the parameters of each block end.
+pub const PARAM_ENDS: usize = 12;
+
+/// The column of the predecessors.
+pub const PREDS: usize = 13;
+
+/// The column of the successors.
+pub const SUCCS: usize = 14;
+
+/// The column of the parameters.
+pub const PARAMS: usize = 15;
+
+/// The column of where the arguments of each edge end.
+pub const ARGUMENT_ENDS: usize = 16;
+
+/// The column of the arguments.
+pub const ARGUMENTS: usize = 17;
+
+/// The column of the labels.
+pub const LABELS: usize = 18;
 
 /// The numbers at the head of the words, without the first, which is the layout's.
 #[derive(Clone, Copy)]
@@ -147,155 +199,11 @@ impl<'a> Cut<'a> {
     }
 
     /// The column of that number, from 1.
-    fn column(&self, k: usize) -> &'a [u32]
+    pub fn column(&self, k: usize) -> &'a [u32]
         requires { k < 19 }
         ensures column { result.now ≡ column self.now.words.now k }
         ensures count { length result.now ≡ slice_index (widths (header_of self.now.words.now)) k }
     {
         &self.words[self.starts[k]..self.starts[k + 1]]
-    }
-
-    /// The sets of preferred registers.
-    pub fn preferred(&self) -> &'a [u32]
-        ensures column { result.now ≡ preferred_words self.now.words.now }
-        ensures count { length result.now ≡ 18 }
-    {
-        self.column(1)
-    }
-
-    /// The sets of non-preferred registers.
-    pub fn non_preferred(&self) -> &'a [u32]
-        ensures column { result.now ≡ non_preferred_words self.now.words.now }
-        ensures count { length result.now ≡ 18 }
-    {
-        self.column(2)
-    }
-
-    /// The scratch registers.
-    pub fn scratch(&self) -> &'a [u32]
-        ensures column { result.now ≡ scratch_words self.now.words.now }
-        ensures count { length result.now ≡ 3 }
-    {
-        self.column(3)
-    }
-
-    /// The fixed stack slots.
-    pub fn slots(&self) -> &'a [u32]
-        ensures column { result.now ≡ slot_words self.now.words.now }
-        ensures count { length result.now ≡ (header_of self.now.words.now).slots }
-    {
-        self.column(4)
-    }
-
-    /// The sets of clobbers.
-    pub fn sets(&self) -> &'a [u32]
-        ensures column { result.now ≡ set_words self.now.words.now }
-        ensures count { length result.now ≡ 6 * (header_of self.now.words.now).sets }
-    {
-        self.column(5)
-    }
-
-    /// What the instructions are.
-    pub fn kinds(&self) -> &'a [u32]
-        ensures column { result.now ≡ kind_words self.now.words.now }
-        ensures count { length result.now ≡ (header_of self.now.words.now).insts }
-    {
-        self.column(6)
-    }
-
-    /// Where the operands of each instruction end.
-    pub fn operand_ends(&self) -> &'a [u32]
-        ensures column { result.now ≡ operand_ends self.now.words.now }
-        ensures count { length result.now ≡ (header_of self.now.words.now).insts }
-    {
-        self.column(7)
-    }
-
-    /// The operands.
-    pub fn operands(&self) -> &'a [u32]
-        ensures column { result.now ≡ operand_words self.now.words.now }
-        ensures count { length result.now ≡ 2 * (header_of self.now.words.now).operands }
-    {
-        self.column(8)
-    }
-
-    /// Where the instructions of each block end.
-    pub fn inst_ends(&self) -> &'a [u32]
-        ensures column { result.now ≡ inst_ends self.now.words.now }
-        ensures count { length result.now ≡ (header_of self.now.words.now).blocks }
-    {
-        self.column(9)
-    }
-
-    /// Where the predecessors of each block end.
-    pub fn pred_ends(&self) -> &'a [u32]
-        ensures column { result.now ≡ pred_ends self.now.words.now }
-        ensures count { length result.now ≡ (header_of self.now.words.now).blocks }
-    {
-        self.column(10)
-    }
-
-    /// Where the successors of each block end.
-    pub fn succ_ends(&self) -> &'a [u32]
-        ensures column { result.now ≡ succ_ends self.now.words.now }
-        ensures count { length result.now ≡ (header_of self.now.words.now).blocks }
-    {
-        self.column(11)
-    }
-
-    /// Where the parameters of each block end.
-    pub fn param_ends(&self) -> &'a [u32]
-        ensures column { result.now ≡ param_ends self.now.words.now }
-        ensures count { length result.now ≡ (header_of self.now.words.now).blocks }
-    {
-        self.column(12)
-    }
-
-    /// The predecessors.
-    pub fn preds(&self) -> &'a [u32]
-        ensures column { result.now ≡ pred_words self.now.words.now }
-        ensures count { length result.now ≡ (header_of self.now.words.now).preds }
-    {
-        self.column(13)
-    }
-
-    /// The successors.
-    pub fn succs(&self) -> &'a [u32]
-        ensures column { result.now ≡ succ_words self.now.words.now }
-        ensures count { length result.now ≡ (header_of self.now.words.now).edges }
-    {
-        self.column(14)
-    }
-
-    /// The parameters.
-    pub fn params(&self) -> &'a [u32]
-        ensures column { result.now ≡ param_words self.now.words.now }
-        ensures count { length result.now ≡ (header_of self.now.words.now).params }
-    {
-        self.column(15)
-    }
-
-    /// Where the arguments of each edge end.
-    pub fn argument_ends(&self) -> &'a [u32]
-        ensures column { result.now ≡ argument_ends self.now.words.now }
-        ensures count { length result.now ≡ (header_of self.now.words.now).edges }
-    {
-        self.column(16)
-    }
-
-    /// The arguments.
-    pub fn arguments(&self) -> &'a [u32]
-        ensures column { result.now ≡ argument_words self.now.words.now }
-        ensures count { length result.now ≡ (header_of self.now.words.now).arguments }
-    {
-        self.column(17)
-    }
-
-    /// The labels.
-    pub fn labels(&self) -> &'a [u32]
-        ensures column { result.now ≡ label_words self.now.words.now }
-        ensures count { length result.now ≡ 4 * (header_of self.now.words.now).labels }
-    {
-        self.column(18)
     }
 }

@@ -1,17 +1,19 @@
 //! Functions from words in columns.
 
-ghost use Rattle.std.specs.Prelude.{◌≡◌, ◌∷◌, IfOk, IfErr, map};
-ghost use Rattle.regalloc2_names.specs.Packing.{operand_of_bits, vreg_of_bits};
+ghost use Rattle.std.specs.Prelude.{◌≡◌, ◌∷◌, All, IfOk, IfErr, length, map};
+ghost use Rattle.regalloc2_names.specs.Packing.{IsVRegBits, operand_of_bits, vreg_of_bits};
 ghost use Rattle.regalloc2_function.specs.Views.{machine_of};
-ghost use Rattle.regalloc2_serialize.specs.Flat.Columns.Layout.{header_of, operand_words, operand_ends, pred_words, pred_ends, succ_words, succ_ends};
-ghost use Rattle.regalloc2_serialize.specs.Flat.Columns.Layout.{param_words, param_ends, argument_words, argument_ends};
+ghost use Rattle.regalloc2_serialize.specs.Flat.Columns.Layout.{header_of, operand_words, operand_ends};
 ghost use Rattle.regalloc2_serialize.specs.Flat.Columns.Value.{longs, IsLaidOutAs, IsMachineOf};
-ghost use Rattle.regalloc2_serialize.specs.Flat.Columns.Sound.{AreSoundColumns, IsColumnsFault};
+ghost use Rattle.regalloc2_serialize.specs.Flat.Columns.Sound.{AreSoundColumns, Covers, IsColumnsFault};
 ghost use Rattle.regalloc2_serialize.specs.Flat.Columns.Kept.{function_of_flat};
 ghost use Rattle.regalloc2_serialize.specs.Flat.Columns.Tables.{AreInstTables, AreEdgeTables};
 
 use super::FlatFunction;
-use super::cut::Cut;
+use super::cut::{
+    ARGUMENT_ENDS, ARGUMENTS, Cut, INST_ENDS, KINDS, LABELS, NON_PREFERRED, OPERAND_ENDS, OPERANDS,
+    PARAM_ENDS, PARAMS, PRED_ENDS, PREDS, PREFERRED, SCRATCH, SETS, SLOTS, SUCC_ENDS, SUCCS,
+};
 use super::pieces::Pieces;
 use super::typed::{
     bounds_of, class_sets, labels_of, numbered_sets, operands_of, pieces_of, registers_of,
@@ -28,11 +30,11 @@ fn machine_from<A: Allocator>(alloc: A, cut: &Cut<'_>) -> Result<MachineEnv<A>, 
     requires { AreSoundColumns cut.now.words.now }
     ensures { IfOk result (λ m. IsMachineOf cut.now.words.now (machine_of m)) }
 {
-    let fixed_stack_slots = registers_of(alloc, cut.slots())?;
+    let fixed_stack_slots = registers_of(alloc, cut.column(SLOTS))?;
     Ok(MachineEnv {
-        preferred_regs_by_class: class_sets(cut.preferred()),
-        non_preferred_regs_by_class: class_sets(cut.non_preferred()),
-        scratch_by_class: scratches_of(cut.scratch()),
+        preferred_regs_by_class: class_sets(cut.column(PREFERRED)),
+        non_preferred_regs_by_class: class_sets(cut.column(NON_PREFERRED)),
+        scratch_by_class: scratches_of(cut.column(SCRATCH)),
         fixed_stack_slots,
     })
 }
@@ -46,51 +48,37 @@ fn operands_from<A: Allocator + Copy>(
     ensures items { IfOk result (λ p. p.items.items ≡ map operand_of_bits (longs (operand_words cut.now.words.now) (header_of cut.now.words.now).operands)) }
     ensures bounds { IfOk result (λ p. p.bounds.items ≡ 0 ∷ operand_ends cut.now.words.now) }
 {
-    let items = operands_of(alloc, cut.operands(), cut.header().operands as usize)?;
-    pieces_of(alloc, items, cut.operand_ends())
+    let items = operands_of(alloc, cut.column(OPERANDS), cut.header().operands as usize)?;
+    pieces_of(alloc, items, cut.column(OPERAND_ENDS))
 }
 
-/// The predecessors, by blocks.
-fn preds_from<A: Allocator + Copy>(alloc: A, cut: &Cut<'_>) -> Result<Pieces<Block, A>, AllocError>
-    requires { AreSoundColumns cut.now.words.now }
-    ensures items { IfOk result (λ p. p.items.items ≡ pred_words cut.now.words.now) }
-    ensures bounds { IfOk result (λ p. p.bounds.items ≡ 0 ∷ pred_ends cut.now.words.now) }
-{
-    let items = blocks_from(alloc, cut.preds())?;
-    pieces_of(alloc, items, cut.pred_ends())
-}
-
-/// The successors, by blocks.
-fn succs_from<A: Allocator + Copy>(alloc: A, cut: &Cut<'_>) -> Result<Pieces<Block, A>, AllocError>
-    requires { AreSoundColumns cut.now.words.now }
-    ensures items { IfOk result (λ p. p.items.items ≡ succ_words cut.now.words.now) }
-    ensures bounds { IfOk result (λ p. p.bounds.items ≡ 0 ∷ succ_ends cut.now.words.now) }
-{
-    let items = blocks_from(alloc, cut.succs())?;
-    pieces_of(alloc, items, cut.succ_ends())
-}
-
-/// The parameters, by blocks.
-fn params_from<A: Allocator + Copy>(alloc: A, cut: &Cut<'_>) -> Result<Pieces<VReg, A>, AllocError>
-    requires { AreSoundColumns cut.now.words.now }
-    ensures items { IfOk result (λ p. p.items.items ≡ map vreg_of_bits (param_words cut.now.words.now)) }
-    ensures bounds { IfOk result (λ p. p.bounds.items ≡ 0 ∷ param_ends cut.now.words.now) }
-{
-    let items = vregs_from(alloc, cut.params())?;
-    pieces_of(alloc, items, cut.param_ends())
-}
-
-/// The arguments, by edges.
-fn arguments_from<A: Allocator + Copy>(
+/// The blocks of these words, in parts that end there.
+fn blocks_in<A: Allocator + Copy>(
     alloc: A,
-    cut: &Cut<'_>,
-) -> Result<Pieces<VReg, A>, AllocError>
-    requires { AreSoundColumns cut.now.words.now }
-    ensures items { IfOk result (λ p. p.items.items ≡ map vreg_of_bits (argument_words cut.now.words.now)) }
-    ensures bounds { IfOk result (λ p. p.bounds.items ≡ 0 ∷ argument_ends cut.now.words.now) }
+    words: &[u32],
+    ends: &[u32],
+) -> Result<Pieces<Block, A>, AllocError>
+    requires { Covers ends.now (length words.now) }
+    ensures items { IfOk result (λ p. p.items.items ≡ words.now) }
+    ensures bounds { IfOk result (λ p. p.bounds.items ≡ 0 ∷ ends.now) }
 {
-    let items = vregs_from(alloc, cut.arguments())?;
-    pieces_of(alloc, items, cut.argument_ends())
+    let items = blocks_from(alloc, words)?;
+    pieces_of(alloc, items, ends)
+}
+
+/// The vregs of these words, in parts that end there.
+fn vregs_in<A: Allocator + Copy>(
+    alloc: A,
+    words: &[u32],
+    ends: &[u32],
+) -> Result<Pieces<VReg, A>, AllocError>
+    requires covered { Covers ends.now (length words.now) }
+    requires vregs { All IsVRegBits words.now }
+    ensures items { IfOk result (λ p. p.items.items ≡ map vreg_of_bits words.now) }
+    ensures bounds { IfOk result (λ p. p.bounds.items ≡ 0 ∷ ends.now) }
+{
+    let items = vregs_from(alloc, words)?;
+    pieces_of(alloc, items, ends)
 }
 
 /// The tables of instructions.
@@ -122,8 +110,8 @@ fn insts_from<A: Allocator + Copy>(alloc: A, cut: &Cut<'_>) -> Result<InstTables
     requires { AreSoundColumns cut.now.words.now }
     ensures { IfOk result (λ t. AreInstTables cut.now.words.now t) }
 {
-    let kinds = Vec::from_slice(alloc, cut.kinds())?;
-    let sets = numbered_sets(alloc, cut.sets(), cut.header().sets as usize)?;
+    let kinds = Vec::from_slice(alloc, cut.column(KINDS))?;
+    let sets = numbered_sets(alloc, cut.column(SETS), cut.header().sets as usize)?;
     let operands = operands_from(alloc, cut)?;
     Ok(InstTables {
         kinds,
@@ -137,10 +125,10 @@ fn edges_from<A: Allocator + Copy>(alloc: A, cut: &Cut<'_>) -> Result<EdgeTables
     requires { AreSoundColumns cut.now.words.now }
     ensures { IfOk result (λ t. AreEdgeTables cut.now.words.now t) }
 {
-    let preds = preds_from(alloc, cut)?;
-    let succs = succs_from(alloc, cut)?;
-    let params = params_from(alloc, cut)?;
-    let arguments = arguments_from(alloc, cut)?;
+    let preds = blocks_in(alloc, cut.column(PREDS), cut.column(PRED_ENDS))?;
+    let succs = blocks_in(alloc, cut.column(SUCCS), cut.column(SUCC_ENDS))?;
+    let params = vregs_in(alloc, cut.column(PARAMS), cut.column(PARAM_ENDS))?;
+    let arguments = vregs_in(alloc, cut.column(ARGUMENTS), cut.column(ARGUMENT_ENDS))?;
     Ok(EdgeTables {
         preds,
         succs,
@@ -160,8 +148,8 @@ fn function_from<A: Allocator + Copy>(
     ensures memory { IfErr result (λ e. e ≡ StoredFault.Memory) }
 {
     let header = cut.header();
-    let inst_bounds = bounds_of(alloc, cut.inst_ends())?;
-    let labels = labels_of(alloc, cut.labels(), header.labels as usize)?;
+    let inst_bounds = bounds_of(alloc, cut.column(INST_ENDS))?;
+    let labels = labels_of(alloc, cut.column(LABELS), header.labels as usize)?;
     let machine = machine_from(alloc, cut)?;
     let insts = insts_from(alloc, cut)?;
     let edges = edges_from(alloc, cut)?;

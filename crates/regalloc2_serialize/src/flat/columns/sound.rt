@@ -7,7 +7,10 @@ ghost use Rattle.regalloc2_serialize.specs.Flat.Columns.Value.{long_at};
 ghost use Rattle.regalloc2_serialize.specs.Flat.Columns.Sound.{Covers, AllCovered, AreColumnsWithin, ColumnsNameAll, ColumnsKeepLimits, AreSoundColumns};
 ghost use Rattle.regalloc2_serialize.specs.Flat.Columns.Sound.{ColumnsNameRegisters, ColumnsNameVRegs, IsColumnsFault};
 
-use super::cut::{Cut, Header};
+use super::cut::{
+    ARGUMENT_ENDS, ARGUMENTS, Cut, Header, INST_ENDS, KINDS, LABELS, OPERAND_ENDS, OPERANDS,
+    PARAM_ENDS, PARAMS, PRED_ENDS, PREDS, SCRATCH, SLOTS, SUCC_ENDS, SUCCS,
+};
 use crate::validate::{are_blocks, are_vregs};
 use regalloc2_function::StoredFault;
 use regalloc2_names::{Operand, PReg, VReg};
@@ -133,12 +136,12 @@ impl<'a> Cut<'a> {
         ensures { IsTrue result ↔ AllCovered self.now.words.now }
     {
         let header = self.header();
-        covers(self.operand_ends(), header.operands)
-            && covers(self.inst_ends(), header.insts)
-            && covers(self.pred_ends(), header.preds)
-            && covers(self.succ_ends(), header.edges)
-            && covers(self.param_ends(), header.params)
-            && covers(self.argument_ends(), header.arguments)
+        covers(self.column(OPERAND_ENDS), header.operands)
+            && covers(self.column(INST_ENDS), header.insts)
+            && covers(self.column(PRED_ENDS), header.preds)
+            && covers(self.column(SUCC_ENDS), header.edges)
+            && covers(self.column(PARAM_ENDS), header.params)
+            && covers(self.column(ARGUMENT_ENDS), header.arguments)
     }
 
     /// Whether blocks, sets of clobbers and labelled vregs are in range.
@@ -149,36 +152,36 @@ impl<'a> Cut<'a> {
         if header.entry >= header.blocks {
             return false;
         }
-        if !are_blocks(self.preds(), header.blocks as usize) {
+        if !are_blocks(self.column(PREDS), header.blocks as usize) {
             return false;
         }
-        if !are_blocks(self.succs(), header.blocks as usize) {
+        if !are_blocks(self.column(SUCCS), header.blocks as usize) {
             return false;
         }
-        if !are_set_numbers(self.kinds(), header.sets) {
+        if !are_set_numbers(self.column(KINDS), header.sets) {
             return false;
         }
-        are_labels_below(self.labels(), header.labels as usize, header.vregs)
+        are_labels_below(self.column(LABELS), header.labels as usize, header.vregs)
     }
 
     /// Whether a machine's numbers are those of registers.
     fn names_registers(&self) -> bool
         ensures { IsTrue result ↔ ColumnsNameRegisters self.now.words.now }
     {
-        are_scratch_words(self.scratch()) && are_register_words(self.slots())
+        are_scratch_words(self.column(SCRATCH)) && are_register_words(self.column(SLOTS))
     }
 
     /// Whether the numbers of parameters, arguments and labels are those of vregs.
     fn names_vregs(&self) -> bool
         ensures { IsTrue result ↔ ColumnsNameVRegs self.now.words.now }
     {
-        if !are_vregs(self.params()) {
+        if !are_vregs(self.column(PARAMS)) {
             return false;
         }
-        if !are_vregs(self.arguments()) {
+        if !are_vregs(self.column(ARGUMENTS)) {
             return false;
         }
-        are_labels_of_vregs(self.labels(), self.header().labels as usize)
+        are_labels_of_vregs(self.column(LABELS), self.header().labels as usize)
     }
 
     /// Whether each number that should be a name is one.
@@ -188,10 +191,10 @@ impl<'a> Cut<'a> {
         if !self.names_registers() {
             return false;
         }
-        if !are_kinds(self.kinds()) {
+        if !are_kinds(self.column(KINDS)) {
             return false;
         }
-        if !are_operand_words(self.operands(), self.header().operands as usize) {
+        if !are_operand_words(self.column(OPERANDS), self.header().operands as usize) {
             return false;
         }
         self.names_vregs()

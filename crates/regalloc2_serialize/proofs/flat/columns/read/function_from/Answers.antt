@@ -13,8 +13,8 @@ use Rattle.regalloc2_serialize.proofs.flat.columns.read.function_from.Goals as g
 
 pub labels_of-requires : goal.labels_of-requires
 labels_of-requires g c = record {
-  count = c.labels.ensures.count ∙ ap (λ h. 4 * h.labels) (sym c.header-header.ensures);
-  labels = rw (c.labels.ensures.column, c.header-header.ensures) c.requires.names.vregs.labels;
+  count = c.column-2.ensures.count ∙ ap (λ h. 4 * h.labels) (sym c.header-header.ensures);
+  labels = rw (c.column-2.ensures.column, c.header-header.ensures) c.requires.names.vregs.labels;
 }
 
 pub sizes_of-requires : goal.sizes_of-requires
@@ -34,19 +34,19 @@ invariant_of-result g c =
     let sets = c.in_ok-insts.insts.sets in
     let bounds = c.in_ok-inst_bounds.inst_bounds in
     let blocks : vec_len bounds ≡ (header_of words).blocks + 1 =
-    omega (arith, bounds.ok.0, ap length c.in_ok-inst_bounds.ensures, c.inst_ends.ensures.count) in
+    omega (arith, bounds.ok.0, ap length c.in_ok-inst_bounds.ensures, c.column.ensures.count) in
     let insts : vec_len kinds ≡ (header_of words).insts = omega (arith, kinds.ok.0, ap length tables.kinds, count-of words 6 laid (omega arith)) in
     let numbers : vec_len sets ≡ (header_of words).sets + 1 =
     omega (arith, sets.ok.0, tables.sets.count_is) in
-    let is : bounds.items ≡ 0 ∷ inst_ends words = c.in_ok-inst_bounds.ensures ∙ ap (λ l. 0 ∷ l) c.inst_ends.ensures.column in
+    let is : bounds.items ≡ 0 ∷ inst_ends words = c.in_ok-inst_bounds.ensures ∙ ap (λ l. 0 ∷ l) c.column.ensures.column in
     record {
       few_insts = omega (arith, insts, c.requires.limits.insts);
       few_blocks = omega (arith, blocks, c.requires.limits.blocks);
       few_vregs = rw c.header-header.ensures c.requires.limits.vregs;
-      labels_below = all-under (λ l. l.vreg.number < c.header-header.result.vregs) label_of (label_at c.labels.result.now) c.in_ok-labels.labels.items
+      labels_below = all-under (λ l. l.vreg.number < c.header-header.result.vregs) label_of (label_at c.column-2.result.now) c.in_ok-labels.labels.items
           (range_with_len 0 c.header-header.result.labels) c.in_ok-labels.ensures
-          (all-below (λ k. slice_index c.labels.result.now (4 * k) / 4 < c.header-header.result.vregs) c.header-header.result.labels
-          (rw (c.labels.ensures.column, c.header-header.ensures) c.requires.within.labels));
+          (all-below (λ k. slice_index c.column-2.result.now (4 * k) / 4 < c.header-header.result.vregs) c.header-header.result.labels
+          (rw (c.column-2.ensures.column, c.header-header.ensures) c.requires.within.labels));
       set_of_each = subst (All (λ k. k / 4 < vec_len sets)) (sym tables.kinds)
           (All-weaker (λ k. k / 4 ≤ (header_of words).sets) (λ k. k / 4 < vec_len sets) (λ k small. omega (arith, small, numbers)) (kind_words words)
           c.requires.within.sets);
@@ -97,11 +97,11 @@ returns-clause-function g c =
       numbered = tables.sets;
       is = same-functions
           (same-columns tables.kinds refl tables.operands tables.operand_bounds
-          (c.in_ok-inst_bounds.ensures ∙ ap (λ l. 0 ∷ l) c.inst_ends.ensures.column) edges.preds edges.pred_bounds
+          (c.in_ok-inst_bounds.ensures ∙ ap (λ l. 0 ∷ l) c.column.ensures.column) edges.preds edges.pred_bounds
           edges.succs edges.succ_bounds edges.params edges.param_bounds edges.arguments edges.argument_bounds)
           (c.new.ensures ∙ ap (λ h. h.entry) head) (ap (λ h. h.vregs) head) (c.sizes_of.ensures ∙ ap (λ h. column_sizes h.sizes) head)
           (ap (λ h. nat_eq (h.flags % 2) 1) head)
-          (c.in_ok-labels.ensures ∙ ap (λ ws. map (label_at ws) (range_with_len 0 c.header-header.result.labels)) c.labels.ensures.column
+          (c.in_ok-labels.ensures ∙ ap (λ ws. map (label_at ws) (range_with_len 0 c.header-header.result.labels)) c.column-2.ensures.column
           ∙ ap (λ h. map (label_at (label_words words)) (range_with_len 0 h.labels)) head)
           (ap (λ h. nat_eq (h.flags / 2) 1) head);
     }

@@ -9,32 +9,32 @@ use Rattle.regalloc2_serialize.proofs.flat.columns.read.operands_from.Goals as g
 
 pub operands_of-requires : goal.operands_of-requires
 operands_of-requires g c = record {
-  count = c.operands.ensures.count ∙ ap (λ h. 2 * h.operands) (sym c.header.ensures);
-  operands = rw (c.operands.ensures.column, c.header.ensures) c.requires.names.operands;
+  count = c.column.ensures.count ∙ ap (λ h. 2 * h.operands) (sym c.header.ensures);
+  operands = rw (c.column.ensures.column, c.header.ensures) c.requires.names.operands;
 }
 
 pub pieces_of-requires : goal.pieces_of-requires
 pieces_of-requires g c =
     let words = c.args.cut.now.words.now in
     let items = c.in_ok-items.items in
-    covers-same c.operand_ends.result.now (operand_ends words) (header_of words).operands items.len c.requires.covered.operands c.operand_ends.ensures.column
+    covers-same c.column-2.result.now (operand_ends words) (header_of words).operands items.len c.requires.covered.operands c.column-2.ensures.column
     (omega (
       arith,
       items.ok.0,
       ap length c.in_ok-items.ensures,
-      longs-count operand_of_bits c.operands.result.now c.header.result.operands,
+      longs-count operand_of_bits c.column.result.now c.header.result.operands,
       ap (λ h. h.operands) c.header.ensures,
     ))
 
 pub returns-clause-items : goal.returns-clause-items
 returns-clause-items g c =
     let words = c.args.cut.now.words.now in
-    let same : longs c.operands.result.now c.header.result.operands ≡ longs (operand_words words) (header_of words).operands =
-    rw (c.operands.ensures.column, c.header.ensures) refl in
+    let same : longs c.column.result.now c.header.result.operands ≡ longs (operand_words words) (header_of words).operands =
+    rw (c.column.ensures.column, c.header.ensures) refl in
     IfOk-weaker c.pieces_of.result _ _ (λ p h. ap (λ v. v.items) h.0 ∙ c.in_ok-items.ensures ∙ ap (map operand_of_bits) same) c.pieces_of.ensures
 
 pub returns-clause-bounds : goal.returns-clause-bounds
-returns-clause-bounds g c = IfOk-weaker c.pieces_of.result _ _ (λ p h. h.1 ∙ ap (λ l. 0 ∷ l) c.operand_ends.ensures.column) c.pieces_of.ensures
+returns-clause-bounds g c = IfOk-weaker c.pieces_of.result _ _ (λ p h. h.1 ∙ ap (λ l. 0 ∷ l) c.column-2.ensures.column) c.pieces_of.ensures
 
 pub returns-in_err-items : goal.returns-in_err-items
 returns-in_err-items g c = record {

@@ -7,14 +7,14 @@ use Rattle.regalloc2_serialize.proofs.flat.columns.cut.Cut.names_registers.Goals
 pub returns-then-are_scratch_words : goal.returns-then-are_scratch_words
 returns-then-are_scratch_words c = (
   λ h. record {
-    scratch = subst (All (λ r. r ≤ 192)) c.scratch.ensures.column (c.are_scratch_words.ensures.0 c.if-are_scratch_words.true);
-    slots = subst (All IsRegisterIndex) c.slots.ensures.column (c.are_register_words.ensures.0 h);
+    scratch = subst (All (λ r. r ≤ 192)) c.column.ensures.column (c.are_scratch_words.ensures.0 c.if-are_scratch_words.true);
+    slots = subst (All IsRegisterIndex) c.column-then-are_scratch_words.ensures.column (c.are_register_words.ensures.0 h);
   },
-  λ n. c.are_register_words.ensures.1 (subst (All IsRegisterIndex) (sym c.slots.ensures.column) n.slots),
+  λ n. c.are_register_words.ensures.1 (subst (All IsRegisterIndex) (sym c.column-then-are_scratch_words.ensures.column) n.slots),
 )
 
 pub returns-else-are_scratch_words : goal.returns-else-are_scratch_words
 returns-else-are_scratch_words c = (
   λ h. absurd (false≢true (sym c.if-are_scratch_words.false ∙ h)),
-  λ n. c.are_scratch_words.ensures.1 (subst (All (λ r. r ≤ 192)) (sym c.scratch.ensures.column) n.scratch),
+  λ n. c.are_scratch_words.ensures.1 (subst (All (λ r. r ≤ 192)) (sym c.column.ensures.column) n.scratch),
 )

@@ -1,0 +1,28 @@
+use Rattle.std.proofs.Common.{arith, ◌∙◌, ap, length, refl}
+use Rattle.std.proofs.lemmas.List.{length-map}
+use Rattle.std.proofs.lemmas.Result.{IfOk-from_err, IfOk-weaker}
+use Rattle.regalloc2_names.specs.Packing.{vreg_of_bits}
+use Rattle.regalloc2_serialize.proofs.ColumnsLemmas.Made.{covers-same}
+use Rattle.regalloc2_serialize.proofs.flat.columns.read.vregs_in.Goals as goal
+
+pub vregs_from-requires : goal.vregs_from-requires
+vregs_from-requires g c = c.requires.vregs
+
+pub pieces_of-requires : goal.pieces_of-requires
+pieces_of-requires g c =
+    let items = c.in_ok-items.items in
+    let ends = c.args.ends.now in
+    covers-same ends ends (length c.args.words.now) items.len c.requires.covered refl
+    (omega (arith, items.ok.0, ap length c.in_ok-items.ensures, length-map c.args.words.now vreg_of_bits))
+
+pub returns-clause-items : goal.returns-clause-items
+returns-clause-items g c = IfOk-weaker c.pieces_of.result _ _ (λ p h. ap (λ v. v.items) h.0 ∙ c.in_ok-items.ensures) c.pieces_of.ensures
+
+pub returns-clause-bounds : goal.returns-clause-bounds
+returns-clause-bounds g c = IfOk-weaker c.pieces_of.result _ _ (λ p h. h.1) c.pieces_of.ensures
+
+pub returns-in_err-items : goal.returns-in_err-items
+returns-in_err-items g c = record {
+  items = IfOk-from_err c.from_residual.result _ c.from_residual.ensures.0;
+  bounds = IfOk-from_err c.from_residual.result _ c.from_residual.ensures.0;
+}
