@@ -1,6 +1,6 @@
 -- A function that passes the tests is well-formed, and each error that they return has its reason.
-use Rattle.std.proofs.Common.{ℕ, ◌≡◌, ◌<◌, ◌⊎◌, length, inl, inr, Ok, Err}
-use Rattle.std.specs.Prelude.{OnOk, Result}
+use Rattle.std.proofs.Common.{ℕ, ◌≡◌, ◌<◌, ◌⊎◌, true, length, inl, inr, refl, Ok, Err}
+use Rattle.std.specs.Prelude.{OnOk, IsOk, Result}
 use Rattle.std.proofs.lemmas.List.Elements.{All-from_get_or}
 use Rattle.regalloc2_names.specs.declared.RegAllocError.{RegAllocError}
 use Rattle.regalloc2_names.specs.declared.RegAllocError.TheVariants.{Memory}
@@ -46,3 +46,12 @@ shape_fault f env e (inr h) = misshapen h
 pub soundness_fault : (f : FunctionValue) (env : MachineValue) (e : RegAllocError) → HasShape f → (e ≡ Memory) ⊎ IsSoundnessFault f e → IsFunctionFault f env e
 soundness_fault f env e shape (inl m) = rw m memory
 soundness_fault f env e shape (inr h) = unsound shape h
+
+-- where the last test passes, what is known anyway and what the test says
+pub on_ok_any : {T E P : Type 0} (r : Result T E) → P → OnOk r P
+on_ok_any (Ok x) p = p
+on_ok_any (Err e) p = tt
+
+pub on_ok_if : {T E P : Type 0} (r : Result T E) → (IsOk r → P) → OnOk r P
+on_ok_if (Ok x) p = p (refl {a = true})
+on_ok_if (Err e) p = tt

@@ -294,8 +294,7 @@ pub fn validate_fixed<F: Function, B: Allocator>(
     ensures refused { IfErr result (IsFixedFault (F.function f.now) (machine_of env.now)) }
 {
     validate_reuses(f, env)?;
-    validate_clobbers(f)?;
-    Ok(())
+    validate_clobbers(f)
 }
 
 /// Tests that no operand has `Limit`. Else the error is `Unsupported` with the first instruction that has one.
@@ -410,6 +409,5 @@ pub fn validate_operands<F: Function>(f: &F) -> Result<(), RegAllocError>
         return Ok(());
     }
     validate_limits(f)?;
-    validate_branches(f)?;
-    Ok(())
+    validate_branches(f)
 }

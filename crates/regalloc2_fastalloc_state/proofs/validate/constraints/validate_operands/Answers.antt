@@ -1,5 +1,6 @@
 use Rattle.std.proofs.Common.{true, refl, inl, inr, ◌∙◌}
-use Rattle.std.proofs.lemmas.Result.{IfOk-from_err, err_from_is_err_and}
+use Rattle.std.proofs.lemmas.Result.{IfOk-from_err, err_from_is_err_and, IfErr-weaker}
+use Rattle.regalloc2_fastalloc_state.proofs.ValidateLemmas.ValidatedProof.{on_ok_any, on_ok_if}
 use Rattle.regalloc2_fastalloc_state.proofs.validate.constraints.validate_operands.Goals as goal
 
 pub returns-then-all_pass_operand_tests-clause-unlimited : goal.returns-then-all_pass_operand_tests-clause-unlimited
@@ -23,35 +24,21 @@ returns-in_err-validate_limits-clause-taken g c = IfOk-from_err c.from_residual.
 pub returns-in_err-validate_limits-clause-branches : goal.returns-in_err-validate_limits-clause-branches
 returns-in_err-validate_limits-clause-branches g c = IfOk-from_err c.from_residual.result _ c.from_residual.ensures.0
 
-pub returns-in_err-validate_branches-clause-unlimited : goal.returns-in_err-validate_branches-clause-unlimited
-returns-in_err-validate_branches-clause-unlimited g c = IfOk-from_err c.from_residual-in_err-validate_branches.result _ c.from_residual-in_err-validate_branches.ensures.0
-
-pub returns-in_err-validate_branches-clause-taken : goal.returns-in_err-validate_branches-clause-taken
-returns-in_err-validate_branches-clause-taken g c = IfOk-from_err c.from_residual-in_err-validate_branches.result _ c.from_residual-in_err-validate_branches.ensures.0
-
-pub returns-in_err-validate_branches-clause-branches : goal.returns-in_err-validate_branches-clause-branches
-returns-in_err-validate_branches-clause-branches g c = IfOk-from_err c.from_residual-in_err-validate_branches.result _ c.from_residual-in_err-validate_branches.ensures.0
-
 pub returns-in_err-validate_limits-clause-refused : goal.returns-in_err-validate_limits-clause-refused
 returns-in_err-validate_limits-clause-refused g c =
     let p = err_from_is_err_and c.from_residual.result c.from_residual.ensures.1 in
     let first = c.in_err-validate_limits.ensures.first in
     rw p.1 (first.0, p.2 ∙ first.1, inl first.2)
 
-pub returns-in_err-validate_branches-clause-refused : goal.returns-in_err-validate_branches-clause-refused
-returns-in_err-validate_branches-clause-refused g c =
-    let p = err_from_is_err_and c.from_residual-in_err-validate_branches.result c.from_residual-in_err-validate_branches.ensures.1 in
-    let first = c.in_err-validate_branches.ensures.first in
-    rw p.1 (first.0, p.2 ∙ first.1, inr (c.in_ok-validate_limits.ensures.ok.0 (refl {a = true}), first.2))
-
 pub returns-clause-unlimited : goal.returns-clause-unlimited
-returns-clause-unlimited g c = c.in_ok-validate_limits.ensures.ok.0 (refl {a = true})
+returns-clause-unlimited g c = on_ok_any c.validate_branches.result (c.in_ok-validate_limits.ensures.ok.0 (refl {a = true}))
 
 pub returns-clause-taken : goal.returns-clause-taken
-returns-clause-taken g c = c.in_ok-validate_limits.ensures.taken
+returns-clause-taken g c = on_ok_any c.validate_branches.result c.in_ok-validate_limits.ensures.taken
 
 pub returns-clause-branches : goal.returns-clause-branches
-returns-clause-branches g c = c.in_ok-validate_branches.ensures.ok.0 (refl {a = true})
+returns-clause-branches g c = on_ok_if c.validate_branches.result (c.validate_branches.ensures.ok.0)
 
 pub returns-clause-refused : goal.returns-clause-refused
-returns-clause-refused g c = tt
+returns-clause-refused g c = IfErr-weaker c.validate_branches.result _ _
+    (λ e first. (first.0, first.1, inr (c.in_ok-validate_limits.ensures.ok.0 (refl {a = true}), first.2))) c.validate_branches.ensures.first
