@@ -1,15 +1,16 @@
-use Rattle.std.proofs.Common.{List, refl, sym, subst, arith, below_more}
+use Rattle.std.proofs.Common.{List, refl, sym, subst, arith, below_more, ◌∙◌}
 use Rattle.regalloc2_names.specs.Operand.{OperandValue}
 use Rattle.regalloc2_fastalloc_state.specs.Validate.Constraints.{IsNoReuse}
 use Rattle.regalloc2_fastalloc_state.proofs.ValidateLemmas.OperandReads.{read_operand}
 use Rattle.regalloc2_function.specs.FunctionValue.{op_at}
+use Rattle.std.proofs.lemmas.Bool.{false≢true}
 use Rattle.regalloc2_fastalloc_state.proofs.validate.constraints.are_no_reuses.Goals as goal
 
 pub returns-then-not-is_no_reuse : goal.returns-then-not-is_no_reuse
 returns-then-not-is_no_reuse c =
     let ops : List OperandValue = c.args.operands.now in
     let is = read_operand ops c.loop-k.k c.index-operands-k.result c.loop-k-test.true c.index-operands-k.is in
-    (λ h. absurd cc, λ all. let yes = c.is_no_reuse.ensures.1 (subst IsNoReuse (sym is) (all c.loop-k.k c.loop-k-test.true)) in absurd cc)
+    (λ h. absurd (false≢true h), λ all. absurd (false≢true (sym c.if-not-is_no_reuse.true ∙ c.is_no_reuse.ensures.1 (subst IsNoReuse (sym is) (all c.loop-k.k c.loop-k-test.true)))))
 
 pub loop-k-preserved : goal.loop-k-preserved
 loop-k-preserved c =

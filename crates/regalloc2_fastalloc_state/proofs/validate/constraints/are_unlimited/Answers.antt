@@ -1,16 +1,17 @@
-use Rattle.std.proofs.Common.{List, refl, sym, subst, arith, below_more}
+use Rattle.std.proofs.Common.{List, refl, sym, subst, arith, below_more, ◌∙◌}
 use Rattle.regalloc2_names.specs.Operand.{OperandValue}
 use Rattle.regalloc2_function.specs.FunctionValue.{op_at}
 use Rattle.regalloc2_fastalloc_state.specs.Validate.Constraints.{IsUnlimited}
 use Rattle.regalloc2_fastalloc_state.specs.Validate.NoLimits.{IsTakenOperand}
 use Rattle.regalloc2_fastalloc_state.proofs.ValidateLemmas.OperandReads.{read_operand}
+use Rattle.std.proofs.lemmas.Bool.{false≢true}
 use Rattle.regalloc2_fastalloc_state.proofs.validate.constraints.are_unlimited.Goals as goal
 
 pub returns-then-not-is_unlimited-clause-unlimited : goal.returns-then-not-is_unlimited-clause-unlimited
 returns-then-not-is_unlimited-clause-unlimited c =
     let ops : List OperandValue = c.args.operands.now in
     let is = read_operand ops c.loop-k.k c.index-operands-k.result c.loop-k-test.true c.index-operands-k.is in
-    (λ h. absurd cc, λ all. let yes = c.is_unlimited.ensures.unlimited.1 (subst IsUnlimited (sym is) (all c.loop-k.k c.loop-k-test.true)) in absurd cc)
+    (λ h. absurd (false≢true h), λ all. absurd (false≢true (sym c.if-not-is_unlimited.true ∙ c.is_unlimited.ensures.unlimited.1 (subst IsUnlimited (sym is) (all c.loop-k.k c.loop-k-test.true)))))
 
 pub loop-k-preserved : goal.loop-k-preserved
 loop-k-preserved c =

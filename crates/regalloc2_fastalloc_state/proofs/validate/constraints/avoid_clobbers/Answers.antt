@@ -1,8 +1,9 @@
-use Rattle.std.proofs.Common.{ℕ, List, below_more}
+use Rattle.std.proofs.Common.{ℕ, List, below_more, sym, ◌∙◌}
 use Rattle.regalloc2_names.specs.Operand.{OperandValue}
 use Rattle.regalloc2_fastalloc_state.specs.Validate.Constraints.{OperandAvoidsClobbers}
 use Rattle.regalloc2_fastalloc_state.proofs.ValidateLemmas.ConstraintTests.{clear_read}
 use Rattle.regalloc2_fastalloc_state.proofs.ValidateLemmas.OperandReads.{read_operand}
+use Rattle.std.proofs.lemmas.Bool.{false≢true}
 use Rattle.regalloc2_fastalloc_state.proofs.validate.constraints.avoid_clobbers.Goals as goal
 
 pub returns-then-not-avoids_clobbers : goal.returns-then-not-avoids_clobbers
@@ -10,10 +11,10 @@ returns-then-not-avoids_clobbers c =
     let ops : List OperandValue = c.args.operands.now in
     let k : ℕ = c.loop-k.k in
     let is = read_operand ops k c.index-operands-k.result c.loop-k-test.true c.index-operands-k.is in (
-      λ h. absurd cc,
-      λ all. let yes = c.avoids_clobbers.ensures.1
+      λ h. absurd (false≢true h),
+      λ all. absurd (false≢true (sym c.if-not-avoids_clobbers.true ∙ c.avoids_clobbers.ensures.1
           ((clear_read c.args.clobbers ops k c.index-operands-k.result c.named_by_reuses-named.result c.is_named-is_reused.result is
-          c.is_named-is_reused.ensures (c.named_by_reuses-named.ensures k)).1 (all k c.loop-k-test.true)) in absurd cc,
+          c.is_named-is_reused.ensures (c.named_by_reuses-named.ensures k)).1 (all k c.loop-k-test.true)))),
     )
 
 pub loop-k-preserved : goal.loop-k-preserved

@@ -1,13 +1,14 @@
-use Rattle.std.proofs.Common.{◌<◌, length, refl, arith, below_more}
+use Rattle.std.proofs.Common.{◌<◌, length, refl, arith, below_more, sym, ◌∙◌}
 use Rattle.regalloc2_function.specs.FunctionValue.{FunctionValue, inst_at}
 use Rattle.regalloc2_fastalloc_state.specs.Validate.Constraints.{BranchDefinesInPlace}
+use Rattle.std.proofs.lemmas.Bool.{false≢true}
 use Rattle.regalloc2_fastalloc_state.proofs.validate.constraints.validate_branches.Goals as goal
 
 pub returns-then-not-is_sound_branch-clause-ok : goal.returns-then-not-is_sound_branch-clause-ok
 returns-then-not-is_sound_branch-clause-ok g c =
     let f : FunctionValue = g.F.Function.function c.args.f.now in
     let less : c.loop-i.i < length f.insts = omega (arith, c.loop-i.invariant.within) in
-    (λ h. absurd cc, λ all. let yes = c.is_sound_branch.ensures.1 (rw c.new-inst.ensures (all c.loop-i.i less)) in absurd cc)
+    (λ h. absurd (false≢true h), λ all. absurd (false≢true (sym c.if-not-is_sound_branch.true ∙ c.is_sound_branch.ensures.1 (rw c.new-inst.ensures (all c.loop-i.i less)))))
 
 pub returns-then-not-is_sound_branch-clause-first : goal.returns-then-not-is_sound_branch-clause-first
 returns-then-not-is_sound_branch-clause-first g c =
@@ -17,7 +18,7 @@ returns-then-not-is_sound_branch-clause-first g c =
       refl,
       record {
         there = less;
-        fails = λ h. let yes = c.is_sound_branch.ensures.1 h in absurd cc;
+        fails = λ h. absurd (false≢true (sym c.if-not-is_sound_branch.true ∙ c.is_sound_branch.ensures.1 h));
         passed = λ m low. c.loop-i.invariant.so_far m (omega (arith, c.new-inst.ensures));
       },
     )

@@ -1,15 +1,16 @@
-use Rattle.std.proofs.Common.{◌<◌, length, refl, arith, below_more}
+use Rattle.std.proofs.Common.{◌<◌, length, refl, arith, below_more, sym, ◌∙◌}
 use Rattle.regalloc2_function.specs.FunctionValue.{FunctionValue, inst_at}
 use Rattle.std.specs.Prelude.{All}
 use Rattle.regalloc2_fastalloc_state.specs.Validate.Constraints.{AreUnlimited}
 use Rattle.regalloc2_fastalloc_state.specs.Validate.NoLimits.{IsTakenOperand}
+use Rattle.std.proofs.lemmas.Bool.{false≢true}
 use Rattle.regalloc2_fastalloc_state.proofs.validate.constraints.validate_limits.Goals as goal
 
 pub returns-then-not-has_no_limit-clause-ok : goal.returns-then-not-has_no_limit-clause-ok
 returns-then-not-has_no_limit-clause-ok g c =
     let f : FunctionValue = g.F.Function.function c.args.f.now in
     let less : c.loop-i.i < length f.insts = omega (arith, c.loop-i.invariant.within) in
-    (λ h. absurd cc, λ all. let yes = c.has_no_limit.ensures.unlimited.1 (rw c.new-inst.ensures (all c.loop-i.i less)) in absurd cc)
+    (λ h. absurd (false≢true h), λ all. absurd (false≢true (sym c.if-not-has_no_limit.true ∙ c.has_no_limit.ensures.unlimited.1 (rw c.new-inst.ensures (all c.loop-i.i less)))))
 
 pub returns-then-not-has_no_limit-clause-first : goal.returns-then-not-has_no_limit-clause-first
 returns-then-not-has_no_limit-clause-first g c =
@@ -19,7 +20,7 @@ returns-then-not-has_no_limit-clause-first g c =
       refl,
       record {
         there = less;
-        fails = λ h. let yes = c.has_no_limit.ensures.unlimited.1 h in absurd cc;
+        fails = λ h. absurd (false≢true (sym c.if-not-has_no_limit.true ∙ c.has_no_limit.ensures.unlimited.1 h));
         passed = λ m low. c.loop-i.invariant.so_far m (omega (arith, c.new-inst.ensures));
       },
     )

@@ -3,6 +3,7 @@ use Rattle.std.proofs.lemmas.Result.{err_from_is_err_and}
 use Rattle.regalloc2_function.specs.FunctionValue.{FunctionValue, inst_at}
 use Rattle.regalloc2_function.specs.Views.{machine_of}
 use Rattle.regalloc2_function.specs.WellFormed.{ReusesAreSound}
+use Rattle.std.proofs.lemmas.Bool.{false≢true}
 use Rattle.regalloc2_fastalloc_state.proofs.validate.constraints.validate_reuses.Goals as goal
 
 pub returns-in_err-refuse_unless-clause-ok : goal.returns-in_err-refuse_unless-clause-ok
@@ -10,7 +11,7 @@ returns-in_err-refuse_unless-clause-ok g c =
     let f : FunctionValue = g.F.Function.function c.args.f.now in
     let p = err_from_is_err_and c.from_residual.result c.from_residual.ensures.1 in
     let less : c.loop-i.i < length f.insts = omega (arith, c.loop-i.invariant.within) in
-    rw p.1 (λ h. absurd cc, λ all. let yes = c.in_err-refuse_unless.ensures.ok.1 (c.passes_reuse_test.ensures.1 (rw c.new-inst.ensures (all c.loop-i.i less))) in absurd cc)
+    rw p.1 (λ h. absurd (false≢true h), λ all. absurd (false≢true (c.in_err-refuse_unless.ensures.ok.1 (c.passes_reuse_test.ensures.1 (rw c.new-inst.ensures (all c.loop-i.i less))))))
 
 pub returns-in_err-refuse_unless-clause-first : goal.returns-in_err-refuse_unless-clause-first
 returns-in_err-refuse_unless-clause-first g c =
@@ -22,7 +23,7 @@ returns-in_err-refuse_unless-clause-first g c =
       p.2 ∙ c.in_err-refuse_unless.ensures.refused,
       record {
         there = less;
-        fails = λ h. let yes = c.in_err-refuse_unless.ensures.ok.1 (c.passes_reuse_test.ensures.1 h) in absurd cc;
+        fails = λ h. absurd (false≢true (c.in_err-refuse_unless.ensures.ok.1 (c.passes_reuse_test.ensures.1 h)));
         passed = λ m low. c.loop-i.invariant.so_far m (omega (arith, c.new-inst.ensures));
       },
     )
