@@ -1,10 +1,12 @@
 -- What one move changes, and places that are one or not, passed on from the names.
 use Rattle.std.proofs.Common.{◌≡◌, ◌≢◌, sym, ap, ◌∙◌, cond}
-use Rattle.regalloc2_names.specs.Place.{Place}
+use Rattle.regalloc2_names.specs.Place.{Place, InRegister, NoPlace}
 use Rattle.regalloc2_names.specs.PlaceBits.{place_of_bits, bits_of_place}
 use Rattle.regalloc2_names.proofs.EqualNames.{is_place-along, is_place-other}
 use Rattle.regalloc2_parts.specs.AtOnce.{Ends, CellsOf, moved, IsPlace}
 use Rattle.regalloc2_parts.specs.Giving.{place_before}
+use Rattle.regalloc2_names.specs.Register.{Register}
+use Rattle.regalloc2_parts.specs.declared.moves.MoveFault.TheVariants.{Memory, NoSlot}
 pub use Rattle.regalloc2_names.proofs.EqualNames.{cases_place}
 
 -- what a move's destination has after it was in the move's source before it
@@ -26,3 +28,11 @@ moved_other c p q x n = ap (λ b. cond b x (c q)) (is_place-other p q n)
 -- a word stands for one place
 pub same_word : (p q : Place) → IsPlace p → IsPlace q → bits_of_place p ≡ bits_of_place q → p ≡ q
 same_word p q hp hq e = sym hp ∙ ap place_of_bits e ∙ hq
+
+-- a register is a place
+pub register_is_a_place : {r : Register} → InRegister r ≢ NoPlace
+register_is_a_place {r = r} e = (let no : InRegister r ≡ NoPlace = e in cc)
+
+-- that memory is out isn't that a slot is missing
+pub memory_is_no_slot : Memory ≡ NoSlot → ⊥
+memory_is_no_slot e = (let no : Memory ≡ NoSlot = e in cc)

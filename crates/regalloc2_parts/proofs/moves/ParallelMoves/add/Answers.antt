@@ -4,6 +4,7 @@ use Rattle.regalloc2_names.specs.Place.{Place}
 use Rattle.regalloc2_names.specs.PlaceBits.{place_of_bits}
 use Rattle.regalloc2_parts.specs.AtOnce.{AreReal, IsRealMove}
 use Rattle.smallvec.specs.SmallVec.{SmallVec}
+use Rattle.std.proofs.lemmas.Bool.{false≢true}
 use Rattle.regalloc2_parts.proofs.moves.ParallelMoves.add.Goals as goal
 
 pub invariant_of-self : goal.invariant_of-self
@@ -14,7 +15,7 @@ pub returns-in_err-push-clause-inline : goal.returns-in_err-push-clause-inline
 returns-in_err-push-clause-inline g c low =
     let room : 16 ≤ c.self.inside.parallel_moves.capacity = c.self.invariant.1 in
     let size : length c.self.inside.parallel_moves.items ≡ length c.args.self.now = ap length c.self.view_is in
-    let no : false ≡ true = c.in_err-push.ensures.succeeds (omega arith) in absurd cc
+    absurd (false≢true (c.in_err-push.ensures.succeeds (omega arith)))
 
 pub invariant_of-self-2 : goal.invariant_of-self-2
 invariant_of-self-2 g c =

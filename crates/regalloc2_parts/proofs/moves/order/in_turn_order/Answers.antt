@@ -1,5 +1,6 @@
-use Rattle.std.proofs.Common.{rules, arith, refl}
+use Rattle.std.proofs.Common.{rules, arith, refl, sym}
 use Rattle.std.proofs.lemmas.Result.{err_from_is_err_and}
+use Rattle.std.proofs.lemmas.Bool.{false≢true}
 use Rattle.regalloc2_parts.proofs.moves.order.in_turn_order.Goals as goal
 use Rattle.regalloc2_parts.proofs.moves.order.in_turn_order.Goals.{then-has_cycle, else-has_cycle}
 
@@ -22,14 +23,14 @@ returns g c =
         of_moves = c.in_ok-given.ensures.order.1;
         turned = c.turn_round.ensures;
         more = λ e. omega arith;
-        few = λ e. absurd cc;
+        few = λ e. absurd (false≢true (sym e));
       })
       | else-has_cycle w ↦ rw w.result-is (record {
         given = given;
         order = c.in_ok-given.ensures.order.0;
         of_moves = c.in_ok-given.ensures.order.1;
         turned = c.turn_round.ensures;
-        more = λ e. absurd cc;
+        more = λ e. absurd (false≢true e);
         few = λ e. omega arith;
       })
     ]

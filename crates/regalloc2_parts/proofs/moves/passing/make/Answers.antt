@@ -1,6 +1,7 @@
-use Rattle.std.proofs.Common.{◌≡◌, true, false, inl, inr, sym, subst, ⊎_elim}
+use Rattle.std.proofs.Common.{true, false, inl, inr, sym, subst, ⊎_elim}
 use Rattle.std.proofs.lemmas.Result.{on_ok_weaker, IfOk-weaker}
 use Rattle.regalloc2_parts.specs.Tracking.{IsMadeFor}
+use Rattle.std.proofs.lemmas.Bool.{false≢true}
 use Rattle.regalloc2_parts.proofs.moves.passing.make.Goals as goal
 
 pub returns-then-is_passing-clause-added : goal.returns-then-is_passing-clause-added
@@ -41,4 +42,4 @@ pub copy-requires : goal.copy-requires
 copy-requires g c = record { unnamed = c.requires.unnamed; ready = λ e. c.in_ok-after.ensures.restored }
 
 pub copy-requires-2 : goal.copy-requires-2
-copy-requires-2 g c = record { unnamed = c.requires.unnamed; ready = λ e. let no : false ≡ true = c.if-is_same.ensures.same.1 e in absurd cc }
+copy-requires-2 g c = record { unnamed = c.requires.unnamed; ready = λ e. absurd (false≢true (c.if-is_same.ensures.same.1 e)) }

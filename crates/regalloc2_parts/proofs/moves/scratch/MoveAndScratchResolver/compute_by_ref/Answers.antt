@@ -1,12 +1,13 @@
 use Rattle.std.proofs.Common.{◌≡◌, Bool, true, false, Option, rules, refl, sym, ◌∙◌, subst}
 use Rattle.std.proofs.lemmas.Result.{err_from_is_err_and, MatchResult-weaker}
-use Rattle.regalloc2_parts.specs.declared.moves.MoveFault.TheVariants.{NoSlot, Memory}
-use Rattle.regalloc2_names.specs.Place.{Place, NoPlace, InRegister}
+use Rattle.regalloc2_names.specs.Place.{Place, InRegister}
 use Rattle.regalloc2_parts.specs.Resolved.{moves_listed, has_scratch}
 use Rattle.regalloc2_parts.specs.Tracking.{CanExpand, IsExpanded}
 use Rattle.regalloc2_parts.specs.Computed.{IsVia, AreApartInMemory, AreSeenApart}
 use Rattle.regalloc2_parts.proofs.Computing.{Chosen, choice, chosen, may_ask_again, refused_first, computes_at_once, computes_refused, can_expand}
 use Rattle.regalloc2_parts.proofs.Computing.{computes_by_way, not_apart}
+use Rattle.std.proofs.lemmas.Bool.{false≢true}
+use Rattle.regalloc2_parts.proofs.Places.{register_is_a_place, memory_is_no_slot}
 use Rattle.regalloc2_parts.proofs.moves.scratch.MoveAndScratchResolver.compute_by_ref.Goals as goal
 
 pub choose_scratch-requires : goal.choose_scratch-requires
@@ -26,7 +27,7 @@ returns-in_err-scratch g c =
         stack_kept = c.choose_scratch.ensures.stack;
         borrowed_kept = c.choose_scratch.ensures.borrowed;
         outcome = λ e. h.2;
-        plain = λ f a. let no : true ≡ false = sym none.1 ∙ c.needs_scratch.ensures ∙ f in absurd cc;
+        plain = λ f a. absurd (false≢true (sym (sym none.1 ∙ c.needs_scratch.ensures ∙ f)));
       });
     }
 
@@ -137,7 +138,7 @@ expand-requires g c =
     let is : IsVia handed (InRegister self.borrowed_scratch_reg) via first = subst (λ r. IsVia handed (InRegister r) via first) borrowed c.via-via.ensures in
     let can : CanExpand stack via.register via.save first made =
     can_expand reg slots stack (InRegister self.borrowed_scratch_reg) last.find_free_reg last.get_stackslot ch
-    c.requires.owes.borrowed_no_memory (λ e. let no : InRegister self.borrowed_scratch_reg ≡ NoPlace = e in absurd cc) handed c.in_ok-hand_out.ensures.handed
+    c.requires.owes.borrowed_no_memory register_is_a_place handed c.in_ok-hand_out.ensures.handed
     via first is in (
       search rules,
       record {
@@ -185,7 +186,7 @@ returns g c =
             MatchResult-weaker c.expand.result c.expand.ensures.expanded
             (λ out x. by.2 out.items (subst (λ xs. IsExpanded stack via.register via.save xs out.items) c.as_slice-list.ensures
             (subst (λ f. IsExpanded (λ p b. goal.IsStackAlloc-post g f p b) via.register via.save c.as_slice-list.result.now out.items) same x)))
-            (λ fault memory slot. let no : Memory ≡ NoSlot = sym memory ∙ slot in absurd cc);
+            (λ fault memory slot. absurd (memory_is_no_slot (sym memory ∙ slot)));
         plain = λ f a. absurd (some (subst (λ xs. AreApartInMemory stack xs) (sym (ch.plain f)) a));
       };
     }
