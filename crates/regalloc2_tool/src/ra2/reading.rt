@@ -40,19 +40,15 @@ impl fmt::Display for InputError {
     ghost output = { λ e. Some (input_text e) };
 
     fn fmt<W: fmt::Write>(&self, f: &mut fmt::Formatter<W>) -> fmt::Result {
-        match self {
-            InputError::Unreadable => write!(f, "input unreadable"),
-            InputError::BadFunction(fault) => {
-                let number = number_of(*fault);
-                write!(f, "bad function {number}")
-            }
-            InputError::BadMachine => write!(f, "bad machine"),
-            InputError::BadOutput(fault) => {
-                let number = number_of(*fault);
-                write!(f, "bad output {number}")
-            }
-            InputError::NotFramed => write!(f, "not framed"),
-        }
+        let (before, fault) = match self {
+            InputError::Unreadable => return f.write_str("input unreadable"),
+            InputError::BadFunction(fault) => ("bad function ", *fault),
+            InputError::BadMachine => return f.write_str("bad machine"),
+            InputError::BadOutput(fault) => ("bad output ", *fault),
+            InputError::NotFramed => return f.write_str("not framed"),
+        };
+        let number = number_of(fault);
+        write!(f, "{before}{number}")
     }
 }
 

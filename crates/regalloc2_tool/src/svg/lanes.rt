@@ -63,13 +63,13 @@ impl<A: Allocator> Lanes<A> {
     /// with the column.
     fn set_edges(&mut self, columns: usize) -> Result<(), AllocError> {
         self.edges.clear();
-        let mut edge = 0usize;
+        let (mut edge, mut first) = (0usize, 0usize);
         self.edges.push(edge)?;
         for column in 0..columns {
-            let first = self.shown.partition_point(|lane| lane.0 < column);
             let end = self.shown.partition_point(|lane| lane.0 <= column);
             edge = edge.saturating_add(shapes::width(end.saturating_sub(first)));
             self.edges.push(edge)?;
+            first = end;
         }
         Ok(())
     }

@@ -221,12 +221,11 @@ impl<A: Allocator + Copy> Picture<A> {
             let Some(index) = self.named.get(k).copied() else {
                 continue;
             };
-            let is_slot = self
-                .lanes
-                .places()
-                .get(index)
-                .is_some_and(|place| place.is_stack());
-            self.end_bar(index, if is_slot { Some(row) } else { None }, to)?;
+            let until = match self.lanes.places().get(index) {
+                Some(place) if place.is_stack() => Some(row),
+                _ => None,
+            };
+            self.end_bar(index, until, to)?;
         }
         self.named.clear();
         Ok(())
