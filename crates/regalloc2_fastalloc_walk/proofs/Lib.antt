@@ -2,7 +2,7 @@
 -- Read first: `Steps`, which chains steps; then `reserves_all` in `RegsReserved`, the loop over fixed registers.
 -- Depends on regalloc2_fastalloc_proofs (relations), regalloc2_fastalloc_state (tables) and the branch definitions.
 -- `AvailableCount` says which registers are found free, and `LrusOfClasses` what the order of their use has.
--- `Granted` is about a register that is granted on a condition.
+-- `Granted` is about a register that is granted on a condition, `Clashes` about values that differ.
 -- `RegsReserved` (`reserves_all`) is the loop over fixed registers, `OperandOutOfRegs` says where an operand stops,
 -- `Steps` chains steps, and `StepsFail` has those that do nothing or fail.
 -- `InstPlaced`: an instruction is allocated once its operands are placed.
@@ -14,6 +14,7 @@
 -- beginning stores is listed, each once, counted in `CountedOnce`), `StoresPushed` (the moves of that, as they are
 -- pushed) and `StoresOnEdge` (`stores_on`: those are the stores).
 pub mod AvailableCount
+pub mod Clashes
 pub mod CountedOnce
 pub mod FilledClobbers
 pub mod Findings

@@ -22,6 +22,7 @@ use Rattle.regalloc2_fastalloc_proofs.proofs.Debug.ChangesCounted.{blocks_watche
 use Rattle.regalloc2_fastalloc_proofs.proofs.Debug.LocatedVRegsAreUsed.{begin_located, insts_located, none_located}
 use Rattle.regalloc2_fastalloc_walk.specs.Findings.{IsFound}
 use Rattle.regalloc2_fastalloc_walk.proofs.Findings.{none_fail, none_listed}
+use Rattle.regalloc2_fastalloc_walk.proofs.StepsFail.{no_lack}
 use Rattle.regalloc2_fastalloc_walk.proofs.state.State.alloc_blocks.Goals as goal
 
 -- an error is what was returned
@@ -236,7 +237,7 @@ returns-in_err-defs-clause-err g c =
 pub returns-in_err-defs-clause-outcome : goal.returns-in_err-defs-clause-outcome
 returns-in_err-defs-clause-outcome g c =
     let p = err_from_is_err_and c.from_residual.result c.from_residual.ensures.1 in
-    stops_as _ _ c.from_residual.result p.1 (p.2 ∙ c.in_err-defs.ensures.memory) (λ lacks. absurd cc)
+    stops_as _ _ c.from_residual.result p.1 (p.2 ∙ c.in_err-defs.ensures.memory) (λ lacks. no_lack refl refl lacks)
 
 pub returns-clause-found : goal.returns-clause-found
 returns-clause-found g c =

@@ -20,6 +20,7 @@ use Rattle.regalloc2_fastalloc_proofs.proofs.Walk.UsesReadOwnDefs.{all_in_tables
 use Rattle.regalloc2_fastalloc_proofs.proofs.Branches.WellFormedMayBranch.{may_pass, parameters_differ}
 use Rattle.regalloc2_fastalloc_state.specs.Validate.NoLimits.{IsTakenOperand}
 use Rattle.regalloc2_fastalloc_walk.proofs.Findings.{passes_branch, passes_inst}
+use Rattle.regalloc2_fastalloc_walk.proofs.Clashes.{not_both}
 use Rattle.regalloc2_fastalloc_walk.proofs.state.State.alloc_inst_in_block.Goals as goal
 
 pub alloc_inst_at-requires : goal.alloc_inst_at-requires
@@ -58,8 +59,7 @@ returns-then-not-is_branch-clause-outcome g c =
       inst_regs = c.alloc_inst_at.new.inst_regs;
       allocates = h.0;
       no_branch = λ e. refl;
-      branch = λ e.
-          absurd cc;
+      branch = λ e. not_both (c.is_branch.ensures ∙ e) no;
     }
 
 pub returns-clause-outcome : goal.returns-clause-outcome
@@ -74,7 +74,7 @@ returns-clause-outcome g c =
       middle = tables_of c.alloc_inst_at.new.self;
       inst_regs = c.process_branch.new.inst_regs;
       allocates = h.0;
-      no_branch = λ e. absurd cc;
+      no_branch = λ e. not_both on (c.is_branch.ensures ∙ e);
       branch = λ e. subst Q (sym h.1) c.in_ok-process_branch.ensures.outcome;
     }
 

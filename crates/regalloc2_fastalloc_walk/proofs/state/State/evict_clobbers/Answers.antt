@@ -1,4 +1,4 @@
-use Rattle.std.proofs.Common.{◌≡◌, List, [], append_assoc, refl, sym, ◌∙◌, subst, rules, true, false}
+use Rattle.std.proofs.Common.{◌≡◌, List, [], append_assoc, refl, sym, ◌∙◌, subst, rules}
 use Rattle.regalloc2_names.specs.declared.sets.PRegSet.{PRegSet}
 use Rattle.regalloc2_names.specs.Register.{Register}
 use Rattle.regalloc2_names.specs.RegisterSet.{has_register, registers_of}
@@ -11,6 +11,7 @@ use Rattle.regalloc2_fastalloc_proofs.proofs.Evictions.EvictClobbers.{evicts_eac
 use Rattle.std.proofs.lemmas.Result.{err_from_is_err_and}
 use Rattle.regalloc2_fastalloc_walk.proofs.Steps.{step_then_fails}
 use Rattle.regalloc2_fastalloc_walk.proofs.StepsFail.{step_none}
+use Rattle.regalloc2_fastalloc_walk.proofs.Clashes.{not_both}
 use Rattle.regalloc2_fastalloc_walk.proofs.state.State.evict_clobbers.Goals as goal
 
 pub loop-preg-init : goal.loop-preg-init
@@ -59,7 +60,7 @@ returns-clause-outcome g c =
     let new : StateValue = tables_of c.loop-preg.self in
     let filled : PRegSet = c.filled-filled.result in
     let left : AreLeftOut c.args.point (has_register filled) old =
-    λ r lt out. no_some (vreg_of_preg old.places r) (λ v e. let x : true ≡ false = sym ((c.filled-filled.ensures r lt).1 (v, e)) ∙ out in cc) in
+    λ r lt out. no_some (vreg_of_preg old.places r) (λ v e. not_both ((c.filled-filled.ensures r lt).1 (v, e)) out) in
     let all : EvictsEach c.args.point (registers_of c.held_clobbers-held.result) c.args.inst_regs.now old c.loop-preg.inst_regs new =
     evicts_each_step c.args.point c.loop-preg.yielded c.loop-preg.preg-iterator (registers_of c.held_clobbers-held.result) c.args.inst_regs.now
     c.loop-preg.inst_regs old new c.in-None.ensures.steps.0 (c.loop-preg.invariant.left ∙ c.into_iter-preg-iterator.ensures.into_iter_gives.list)

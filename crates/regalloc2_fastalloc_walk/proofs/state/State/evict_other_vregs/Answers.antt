@@ -1,5 +1,5 @@
 use Rattle.std.proofs.Common.{ℕ, ◌≡◌, refl, sym, ◌∙◌, ap, arith, rules}
-use Rattle.std.specs.Prelude.{None, Some}
+use Rattle.std.specs.Prelude.{Some}
 use Rattle.std.proofs.lemmas.Result.{MatchResult-weaker, on_ok_weaker}
 use Rattle.regalloc2_names.specs.Place.{NoPlace, InRegister}
 use Rattle.regalloc2_fastalloc_state.specs.StateParts.{vreg_of_preg, alloc_of}
@@ -7,6 +7,7 @@ use Rattle.regalloc2_fastalloc_proofs.specs.InstSteps.{own, others}
 use Rattle.regalloc2_fastalloc_proofs.proofs.Evictions.PushedAndRemoved.{same_held}
 use Rattle.regalloc2_fastalloc_walk.proofs.StepsFail.{step_none}
 use Rattle.regalloc2_names.specs.Register.{VirtualRegister}
+use Rattle.regalloc2_fastalloc_walk.proofs.Clashes.{none_is_nothing}
 use Rattle.regalloc2_fastalloc_walk.proofs.state.State.evict_other_vregs.Goals as goal
 use Rattle.regalloc2_fastalloc_walk.proofs.state.State.evict_other_vregs.Goals.{in-Some+else-vreg, in_default}
 
@@ -31,7 +32,7 @@ returns-clause-outcome g c =
           let same : w.number ≡ x.in-Some.held.number = same_held w x.in-Some.held (vreg_of_preg c.args.self.now.places c.args.preg) h
           (sym c.vreg_in.ensures.vreg ∙ x.in-Some.is) in
           x.if-vreg.false (x.vreg.ensures.number ∙ sym same ∙ e ∙ sym x.vreg-in-Some.ensures.number)
-      | in_default x ↦ let none : None ≡ Some w = sym x.in_default.is ∙ c.vreg_in.ensures.vreg ∙ h in absurd cc
+      | in_default x ↦ none_is_nothing (sym x.in_default.is ∙ c.vreg_in.ensures.vreg ∙ h)
     ] in
     MatchResult-weaker c.evict_preg.result c.evict_preg.ensures.outcome (λ v. others another) (λ e stops lacks. others another (stops lacks))
 

@@ -1,14 +1,14 @@
-use Rattle.std.proofs.Common.{◌++◌, ◌∷◌, [], refl, sym, ◌∙◌, subst, arith, ◌≡◌, rules}
+use Rattle.std.proofs.Common.{◌++◌, ◌∷◌, [], refl, sym, ◌∙◌, subst, arith, rules}
 use Rattle.std.proofs.lemmas.Result.{err_from_is_err_and}
 use Rattle.regalloc2_names.specs.declared.RegClass.{RegClass}
 use Rattle.regalloc2_fastalloc_proofs.specs.BranchSteps.{AreOf, ClassMove}
 use Rattle.regalloc2_fastalloc_proofs.proofs.Branches.ArgMovesAreParallel.{settled_slot}
 use Rattle.regalloc2_fastalloc_walk.specs.StateView.{tables_of}
-use Rattle.regalloc2_names.specs.declared.RegAllocError.TheVariants.{TooManyLiveRegs, TooManySpillSlots}
 use Rattle.regalloc2_fastalloc_proofs.specs.InstSteps.{SameMachine}
 use Rattle.regalloc2_fastalloc_proofs.proofs.Evictions.PushedAndRemoved.{same_then}
 use Rattle.regalloc2_fastalloc_walk.proofs.Steps.{fails_with, outcome_of}
 use Rattle.regalloc2_fastalloc_walk.proofs.StepsFail.{no_lack, fails_only_for_memory}
+use Rattle.regalloc2_fastalloc_walk.proofs.Clashes.{slots_are_no_registers}
 use Rattle.regalloc2_fastalloc_walk.proofs.state.State.gather_argument.Goals as goal
 
 pub get_spillslot-requires : goal.get_spillslot-requires
@@ -69,7 +69,7 @@ returns-in_err-from-clause-outcome g c =
 pub returns-in_err-to-clause-outcome : goal.returns-in_err-to-clause-outcome
 returns-in_err-to-clause-outcome g c =
     let e = err_from_is_err_and c.from_residual.result c.from_residual.ensures.1 in
-    rw e.1 (λ lacks. absurd (let no : TooManySpillSlots ≡ TooManyLiveRegs = sym c.in_err-to.ensures.full.0 ∙ sym e.2 ∙ lacks in cc))
+    rw e.1 (λ lacks. slots_are_no_registers (sym c.in_err-to.ensures.full.0 ∙ sym e.2 ∙ lacks))
 
 pub returns-in_err-to-clause-step : goal.returns-in_err-to-clause-step
 returns-in_err-to-clause-step g c =

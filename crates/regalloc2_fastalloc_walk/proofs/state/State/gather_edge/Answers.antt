@@ -12,6 +12,7 @@ use Rattle.regalloc2_fastalloc_proofs.proofs.Evictions.PushedAndRemoved.{same_th
 use Rattle.regalloc2_fastalloc_walk.specs.OwnDefs.{IsOwnBy}
 use Rattle.regalloc2_fastalloc_walk.specs.StateView.{tables_of}
 use Rattle.regalloc2_fastalloc_walk.proofs.state.State.gather_edge.Goals.{then-not-has+in_ok-gather_argument, else-not-has}
+use Rattle.regalloc2_fastalloc_walk.proofs.Clashes.{not_both}
 use Rattle.regalloc2_fastalloc_walk.proofs.state.State.gather_edge.Goals as goal
 
 pub loop-j-init : goal.loop-j-init
@@ -75,7 +76,7 @@ loop-j-preserved g c =
                       argument y.2.spills)
                       (λ own. let has = c.has.ensures.1 (subst (λ (v : VirtualRegister). IsOwnBy c.args.own.now.defs.now c.args.own.now.branch v)
                       (sym argument) own) in
-                      let not = w.if-not-has.true in cc),
+                      not_both has w.if-not-has.true),
                 );
             later = w.in_ok-gather_argument.ensures.step.later;
             long = w.in_ok-gather_argument.ensures.step.long ∙ c.loop-j.invariant.long;

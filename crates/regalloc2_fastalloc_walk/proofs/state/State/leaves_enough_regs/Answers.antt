@@ -1,9 +1,9 @@
 use Rattle.std.proofs.Common.{◌≡◌, Some, sym, ap, ◌∙◌, subst}
-use Rattle.std.specs.Prelude.{None}
 use Rattle.regalloc2_names.specs.Place.{InRegister, register_of_place}
 use Rattle.regalloc2_fastalloc_proofs.specs.InstSteps.{IsAffordable}
 use Rattle.regalloc2_semantics.proofs.Forms.{place_of_register, same_register}
 use Rattle.regalloc2_fastalloc_walk.specs.StateView.{tables_of}
+use Rattle.regalloc2_fastalloc_walk.proofs.Clashes.{none_is_nothing}
 use Rattle.regalloc2_fastalloc_walk.proofs.state.State.leaves_enough_regs.Goals as goal
 
 -- an allocatable register, under `Any`
@@ -26,4 +26,4 @@ returns-else-not-is_allocatable-clause-refused g c = λ no. (
 -- no register
 pub returns-in_default-clause-affordable : goal.returns-in_default-clause-affordable
 returns-in_default-clause-affordable g c = λ yes any r at.
-    absurd (let no : None ≡ Some r = sym c.in_default.is-1 ∙ c.as_reg.ensures ∙ ap register_of_place at in cc)
+    none_is_nothing (sym c.in_default.is-1 ∙ c.as_reg.ensures ∙ ap register_of_place at)

@@ -9,6 +9,7 @@ use Rattle.regalloc2_fastalloc_proofs.specs.InstSteps.{StateValue, MayHold}
 use Rattle.regalloc2_fastalloc_walk.specs.StateView.{tables_of}
 use Rattle.regalloc2_fastalloc_proofs.proofs.Moves.ParallelMovesOrdered.{GivenMoves, orders, orders_none, serves_given, short_full, taken_fits}
 use Rattle.regalloc2_fastalloc_state.proofs.SpillSlotUnits.{lacks_slots, no_register, slots_of_fault}
+use Rattle.regalloc2_fastalloc_walk.proofs.Clashes.{not_both}
 use Rattle.regalloc2_fastalloc_walk.proofs.state.State.order.Goals as goal
 
 pub returns-then-are_none-clause-outcome : goal.returns-then-are_none-clause-outcome
@@ -116,13 +117,13 @@ returns-clause-outcome g c =
     })
     refl refl refl refl refl refl
     (λ none. let short : moves_listed c.in_ok-resolved.resolved ≡ [] = c.in_ok-resolved.ensures.resolved.short (rw none (omega arith)) ∙ none in
-    let yes = c.are_none.ensures.none.1 short in let no = c.if-are_none.false in cc)
+    not_both (c.are_none.ensures.none.1 short) c.if-are_none.false)
 
 -- moves of a class that has no allocatable register
 pub returns-in_default-clause-outcome : goal.returns-in_default-clause-outcome
 returns-in_default-clause-outcome g c = λ lacks. (
   λ none. let short : moves_listed c.in_ok-resolved.resolved ≡ [] = c.in_ok-resolved.ensures.resolved.short (rw none (omega arith)) ∙ none in
-      let yes = c.are_none.ensures.none.1 short in let no = c.if-are_none.false in cc,
+      not_both (c.are_none.ensures.none.1 short) c.if-are_none.false,
   c.in_default.ensures.none,
 )
 

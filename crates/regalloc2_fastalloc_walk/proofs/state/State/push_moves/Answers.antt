@@ -1,6 +1,6 @@
-use Rattle.std.proofs.Common.{◌≡◌, [], refl, sym, ◌∙◌, subst, inl, inr, ⊎_elim, ◌+◌, rules}
+use Rattle.std.proofs.Common.{◌≡◌, [], refl, sym, subst, inl, inr, ⊎_elim, ◌+◌, rules}
 use Rattle.regalloc2_fastalloc_walk.proofs.Steps.{outcome_of}
-use Rattle.regalloc2_names.specs.declared.RegAllocError.TheVariants.{Memory, TooManyLiveRegs}
+use Rattle.regalloc2_names.specs.declared.RegAllocError.TheVariants.{Memory}
 use Rattle.regalloc2_names.specs.Register.{Register}
 use Rattle.regalloc2_fastalloc_state.specs.InstRegs.{IsAvailableAt}
 use Rattle.regalloc2_steps.specs.declared.positions.Positions.{Positions}
@@ -15,6 +15,7 @@ use Rattle.std.specs.Prelude.{Result, Ok, Err, OnOk}
 use Rattle.std.proofs.lemmas.Result.{IfErr-weaker}
 use Rattle.regalloc2_fastalloc_state.specs.OutOfResources.{IsResourceError, SlotsExhaustedWith}
 use Rattle.regalloc2_fastalloc_state.specs.StateParts.{SpillSlotsValue}
+use Rattle.regalloc2_fastalloc_walk.proofs.StepsFail.{no_lack}
 use Rattle.regalloc2_fastalloc_walk.proofs.state.State.push_moves.Goals as goal
 
 -- no moves of the class
@@ -43,7 +44,7 @@ returns-in-Some-first_scratch-clause-outcome g c =
     outcome_of c.push_one.result c.push_one.ensures.ok c.push_one.ensures.err
     (pushes_one c.args.inst_regs.now c.args.class t (tables_of c.push_one.new.self) c.args.moves _ _ by c.args.point c.in-Some.ensures.one.1 c.requires.parallel.ends
     c.requires.apart scratch c.push_one.ensures.rest)
-    (λ e memory lacks. absurd (let no_memory : Memory ≡ TooManyLiveRegs = sym memory ∙ lacks in cc))
+    (λ e memory lacks. no_lack refl memory lacks)
 
 -- several moves, or no scratch register
 pub returns-clause-outcome : goal.returns-clause-outcome

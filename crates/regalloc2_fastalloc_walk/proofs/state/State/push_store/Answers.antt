@@ -9,6 +9,7 @@ use Rattle.regalloc2_fastalloc_walk.proofs.StepsFail.{fails_as, no_lack, step_la
 use Rattle.regalloc2_fastalloc_walk.proofs.Steps.{outcome_of}
 use Rattle.regalloc2_names.specs.Register.{Register}
 use Rattle.regalloc2_fastalloc_proofs.specs.StoreSteps.{pushed_moves}
+use Rattle.regalloc2_fastalloc_walk.proofs.Clashes.{none_is_nothing, not_both}
 use Rattle.regalloc2_fastalloc_walk.proofs.state.State.push_store.Goals as goal
 
 -- what is something is the same thing
@@ -28,7 +29,7 @@ returns-then-not-is_stack-clause-outcome g c =
         from = refl;
         to = refl;
         direct = λ e. refl;
-        by_way = record { direct = λ e. flat; through = λ q e. absurd cc };
+        by_way = record { direct = λ e. flat; through = λ q e. none_is_nothing e };
       },
       ap (λ (es : List (ℕ × MoveValue)). record t { edits = es }) pushed,
     ))
@@ -47,9 +48,9 @@ returns-clause-outcome g c =
       record {
         from = refl;
         to = refl;
-        direct = λ e. absurd (let x : true ≡ false = sym there ∙ e in cc);
+        direct = λ e. not_both there e;
         by_way = record {
-          direct = λ e. absurd cc;
+          direct = λ e. none_is_nothing (sym e);
           through = λ q e. (by, sym (some_same (InRegister by) q e), c.in_ok-by.ensures.ok);
         };
       },

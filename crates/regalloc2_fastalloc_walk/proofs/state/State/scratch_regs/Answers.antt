@@ -1,4 +1,4 @@
-use Rattle.std.proofs.Common.{◌≡◌, Some, ap, ◌∙◌, refl, subst, ⊎_elim}
+use Rattle.std.proofs.Common.{◌≡◌, Some, ap, ◌∙◌, refl, subst, ⊎_elim, sym}
 use Rattle.std.specs.Prelude.{Option, IfNone, None}
 use Rattle.regalloc2_names.specs.Register.{Register}
 use Rattle.regalloc2_names.specs.Place.{Place, InRegister}
@@ -8,6 +8,7 @@ use Rattle.regalloc2_fastalloc_walk.specs.StateView.{tables_of}
 use Rattle.regalloc2_steps.specs.declared.positions.Positions.{Positions}
 use Rattle.regalloc2_fastalloc_proofs.proofs.Moves.ParallelMovesOrdered.{spare_of, differ_of}
 use Rattle.regalloc2_fastalloc_walk.proofs.AvailableCount.{only_first}
+use Rattle.regalloc2_fastalloc_walk.proofs.Clashes.{none_is_nothing, not_both}
 use Rattle.regalloc2_fastalloc_walk.proofs.state.State.scratch_regs.Goals as goal
 
 pub returns-clause-scratch_reserve : goal.returns-clause-scratch_reserve
@@ -58,7 +59,7 @@ returns-clause-differ g c =
 
 -- the machine's own comes first
 pub returns-in_default-clause-own : goal.returns-in_default-clause-own
-returns-in_default-clause-own g c = λ r e. absurd (let x = c.in_default.ensures.own r e in cc)
+returns-in_default-clause-own g c = λ r e. none_is_nothing (c.in_default.ensures.own r e)
 
 pub returns-clause-own : goal.returns-clause-own
 returns-clause-own g c = λ r e.
@@ -68,12 +69,12 @@ returns-clause-own g c = λ r e.
 
 -- a free register would be found, or is the one that was
 pub returns-in_default-clause-all : goal.returns-in_default-clause-all
-returns-in_default-clause-all g c = λ r small of_class held free. absurd
-    (let no = c.in_default.ensures.none r small of_class held in let yes = c.available_pregs-free.ensures.throughout r free in cc)
+returns-in_default-clause-all g c = λ r small of_class held free. not_both
+    (c.available_pregs-free.ensures.throughout r free) (c.in_default.ensures.none r small of_class held)
 
 pub returns-clause-all : goal.returns-clause-all
 returns-clause-all g c = λ r small of_class held free. (
-  λ none. absurd cc,
+  λ none. none_is_nothing (sym none),
   λ none. let gone = c.as_place.ensures.none none in
       let rest = subst (λ (o : Option Register). IfNone o (NoneIsIn c.args.self.now.registers c.args.class c.remove.new.self)) gone
       c.choose_register.ensures.none in
@@ -84,7 +85,7 @@ returns-clause-all g c = λ r small of_class held free. (
 
 -- none are no two
 pub returns-in_default-clause-scratch_reserve : goal.returns-in_default-clause-scratch_reserve
-returns-in_default-clause-scratch_reserve g c = λ p h. absurd (⊎_elim (λ (e : None ≡ Some p). cc) (λ (e : None ≡ Some p). cc) h)
+returns-in_default-clause-scratch_reserve g c = λ p h. ⊎_elim (λ (e : None ≡ Some p). none_is_nothing e) (λ (e : None ≡ Some p). none_is_nothing e) h
 
 pub returns-in_default-clause-differ : goal.returns-in_default-clause-differ
-returns-in_default-clause-differ g c = λ p q e f. absurd cc
+returns-in_default-clause-differ g c = λ p q e f. none_is_nothing e

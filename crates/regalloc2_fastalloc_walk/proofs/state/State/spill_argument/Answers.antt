@@ -1,5 +1,5 @@
 use Rattle.std.proofs.Common.{◌≡◌, refl, sym, ap, ◌∙◌, arith, rules}
-use Rattle.std.specs.Prelude.{None, Some}
+use Rattle.std.specs.Prelude.{Some}
 use Rattle.regalloc2_names.specs.Place.{InRegister, register_of_place}
 use Rattle.regalloc2_fastalloc_proofs.specs.BranchSteps.{from_register, in_slot}
 use Rattle.regalloc2_fastalloc_proofs.specs.InstSteps.{StateValue, SameMachine}
@@ -8,8 +8,8 @@ use Rattle.regalloc2_fastalloc_state.proofs.SlotsAsPlaces.{slot_is_no_register}
 use Rattle.std.proofs.lemmas.Result.{err_from_is_err_and}
 use Rattle.regalloc2_fastalloc_walk.specs.StateView.{tables_of}
 use Rattle.regalloc2_semantics.proofs.Forms.{place_of_register}
-use Rattle.regalloc2_names.specs.declared.RegAllocError.TheVariants.{TooManyLiveRegs, TooManySpillSlots}
 use Rattle.regalloc2_fastalloc_walk.proofs.Steps.{fails_with}
+use Rattle.regalloc2_fastalloc_walk.proofs.Clashes.{none_is_nothing, slots_are_no_registers}
 use Rattle.regalloc2_fastalloc_walk.proofs.state.State.spill_argument.Goals as goal
 
 pub get_spillslot-requires : goal.get_spillslot-requires
@@ -28,7 +28,7 @@ pub returns-clause-outcome : goal.returns-clause-outcome
 returns-clause-outcome g c = in_slot
     (λ r is. absurd (
     let at : c.current_alloc.result ≡ InRegister r = c.current_alloc.ensures.place ∙ is in
-    let no : None ≡ Some r = sym c.in_default.is ∙ c.as_reg.ensures ∙ ap register_of_place at in cc))
+    none_is_nothing (sym c.in_default.is ∙ c.as_reg.ensures ∙ ap register_of_place at)))
     c.in_ok-slot.ensures.ok c.set_alloc.ensures.settled refl
     (record {
       allocatable = refl;
@@ -112,7 +112,7 @@ evict_preg-requires g c = (search rules, c.requires.later)
 pub returns-in_err-slot-clause-outcome : goal.returns-in_err-slot-clause-outcome
 returns-in_err-slot-clause-outcome g c =
     let e = err_from_is_err_and c.from_residual.result c.from_residual.ensures.1 in
-    rw e.1 (λ lacks. absurd (let no : TooManySpillSlots ≡ TooManyLiveRegs = sym c.in_err-slot.ensures.full.0 ∙ sym e.2 ∙ lacks in cc))
+    rw e.1 (λ lacks. slots_are_no_registers (sym c.in_err-slot.ensures.full.0 ∙ sym e.2 ∙ lacks))
 
 pub returns-in_err-slot-clause-step : goal.returns-in_err-slot-clause-step
 returns-in_err-slot-clause-step g c =
