@@ -1,7 +1,8 @@
-use Rattle.std.proofs.Common.{true, false, sym, ◌∙◌, ◌≡◌}
+use Rattle.std.proofs.Common.{true, false, sym, ◌∙◌}
 use Rattle.std.proofs.lemmas.Result.{err_from_is_err_and}
 use Rattle.regalloc2_function.specs.FunctionValue.{FunctionValue}
 use Rattle.regalloc2_analysis.proofs.BranchDefsLemmas.Tables.{tables_all, tables_none}
+use Rattle.std.proofs.lemmas.Bool.{false≢true}
 use Rattle.regalloc2_analysis.proofs.branch_defs.BranchDefs.of.Goals as goal
 
 pub returns-then-not-some_branch_defines-clause-ok :
@@ -9,7 +10,7 @@ pub returns-then-not-some_branch_defines-clause-ok :
 returns-then-not-some_branch_defines-clause-ok g c =
     let f : FunctionValue = g.F.Function.function c.args.f.now in
     tables_none f _ c.requires.well_formed
-    (λ h. let is : true ≡ false = sym (c.some_branch_defines.ensures.1 h) ∙ c.if-not-some_branch_defines.true in cc)
+    (λ h. absurd (false≢true (sym c.if-not-some_branch_defines.true ∙ c.some_branch_defines.ensures.1 h)))
     c.new.ensures.items c.new-then-not-some_branch_defines.ensures.items
 
 pub returns-clause-ok : goal.returns-clause-ok

@@ -1,9 +1,10 @@
-use Rattle.std.proofs.Common.{ℕ, ◌≡◌, List, length, sym, subst, arith}
+use Rattle.std.proofs.Common.{ℕ, ◌≡◌, List, length, sym, subst, arith, ◌∙◌}
 use Rattle.std.proofs.lemmas.Result.{err_from_is_err_and}
 use Rattle.regalloc2_names.specs.Operand.{OperandValue}
 use Rattle.regalloc2_analysis.specs.BranchDefs.Notes.{IsMarkedDefinition, ListsStored}
 use Rattle.regalloc2_analysis.proofs.BranchDefsLemmas.BlockEnds.{read_operand}
 use Rattle.regalloc2_analysis.proofs.BranchDefsLemmas.EdgeNotes.{lists_more, lists_none, lists_same}
+use Rattle.std.proofs.lemmas.Bool.{false≢true}
 use Rattle.regalloc2_analysis.proofs.branch_defs.edges.list_stored.Goals as goal
 use Rattle.regalloc2_analysis.proofs.branch_defs.edges.list_stored.Goals.{then-is_stored+in_ok-push, else-is_stored}
 
@@ -19,7 +20,7 @@ loop-k-preserved g c =
           (subst (IsMarkedDefinition used) is (c.is_stored.ensures.0 w.if-is_stored.true)) c.loop-k.invariant)
       | else-is_stored w ↦ rw w.stored-is
           (lists_same used ops k c.args.stored.now.items c.loop-k.stored.items
-          (λ m. let yes = c.is_stored.ensures.1 (subst (IsMarkedDefinition used) (sym is) m) in let no = w.if-is_stored.false in absurd cc) c.loop-k.invariant)
+          (λ m. absurd (false≢true (sym w.if-is_stored.false ∙ c.is_stored.ensures.1 (subst (IsMarkedDefinition used) (sym is) m)))) c.loop-k.invariant)
     ]
 
 pub loop-k-init : goal.loop-k-init

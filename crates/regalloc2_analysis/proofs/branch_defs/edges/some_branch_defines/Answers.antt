@@ -1,6 +1,7 @@
 use Rattle.std.proofs.Common.{refl, subst, arith, below_more}
 use Rattle.regalloc2_function.specs.FunctionValue.{FunctionValue}
 use Rattle.regalloc2_analysis.specs.BranchDefs.BranchDefs.{EndsInDefinitions}
+use Rattle.std.proofs.lemmas.Bool.{false≢true}
 use Rattle.regalloc2_analysis.proofs.branch_defs.edges.some_branch_defines.Goals as goal
 
 pub returns-then-ends_in_definitions : goal.returns-then-ends_in_definitions
@@ -25,4 +26,4 @@ loop-b-preserved g c =
     }
 
 pub returns : goal.returns
-returns g c = (λ h. absurd cc, λ h. absurd (c.loop-b.invariant.so_far h.0 (let lt = h.1 in omega (arith, c.loop-b.invariant.within)) h.2))
+returns g c = (λ h. absurd (false≢true h), λ h. absurd (c.loop-b.invariant.so_far h.0 (let lt = h.1 in omega (arith, c.loop-b.invariant.within)) h.2))

@@ -2,6 +2,7 @@ use Rattle.std.proofs.Common.{List, ◌≡◌, true, false, refl, sym, ap, ◌�
 use Rattle.regalloc2_names.specs.Operand.{OperandValue, is_def}
 use Rattle.regalloc2_function.specs.FunctionValue.{op_at}
 use Rattle.regalloc2_analysis.proofs.BranchDefsLemmas.BlockEnds.{read_operand}
+use Rattle.std.proofs.lemmas.Bool.{false≢true}
 use Rattle.regalloc2_analysis.proofs.branch_defs.edges.some_defines.Goals as goal
 
 pub returns-then-is_def : goal.returns-then-is_def
@@ -31,8 +32,8 @@ loop-k-preserved c =
 
 pub returns : goal.returns
 returns c = (
-  λ h. absurd cc,
+  λ h. absurd (false≢true h),
   λ h. absurd (
       let none : is_def (op_at c.args.operands.now h.1).kind ≡ false = c.loop-k.invariant.so_far h.1 (let lt = h.2.operand in omega arith) in
-      let no : true ≡ false = sym h.2.definition ∙ none in cc),
+      false≢true (sym none ∙ h.2.definition)),
 )

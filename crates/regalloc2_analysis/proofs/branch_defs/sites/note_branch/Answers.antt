@@ -5,6 +5,7 @@ use Rattle.regalloc2_function.specs.FunctionValue.{FunctionValue, block_at, inst
 use Rattle.regalloc2_function.specs.WellFormed.{last_of}
 use Rattle.regalloc2_analysis.specs.BranchDefs.Notes.{NotesSites}
 use Rattle.regalloc2_analysis.proofs.BranchDefsLemmas.BlockEnds.{last_within, within_function}
+use Rattle.std.proofs.lemmas.Bool.{false≢true}
 use Rattle.regalloc2_analysis.proofs.branch_defs.sites.note_branch.Goals as goal
 
 pub last-last-requires : goal.last-last-requires
@@ -34,7 +35,7 @@ returns-then-is_branch g c =
     record {
       branch = λ yes. subst (λ (i : ℕ). Noted (inst_at f i).operands i) last
           (subst (λ (os : List OperandValue). Noted os c.last-last.result) c.inst_operands.ensures c.note_sites.ensures);
-      no_branch = λ no. absurd (let is : true ≡ false = sym c.if-is_branch.true ∙ branch ∙ no in cc);
+      no_branch = λ no. absurd (false≢true (sym (sym c.if-is_branch.true ∙ branch ∙ no)));
     }
 
 pub returns-else-is_branch : goal.returns-else-is_branch
@@ -44,6 +45,6 @@ returns-else-is_branch g c =
     let branch : c.is_branch.result ≡ (inst_at f (last_of (block_at f c.args.block))).is_branch = c.is_branch.ensures
     ∙ ap (λ (i : ℕ). (inst_at f i).is_branch) last in
     record {
-      branch = λ yes. absurd (let is : true ≡ false = sym yes ∙ sym branch ∙ c.if-is_branch.false in cc);
+      branch = λ yes. absurd (false≢true (sym (sym yes ∙ sym branch ∙ c.if-is_branch.false)));
       no_branch = λ no. refl;
     }

@@ -3,6 +3,7 @@ use Rattle.regalloc2_names.specs.Operand.{OperandValue}
 use Rattle.regalloc2_names.specs.Register.{VirtualRegister}
 use Rattle.regalloc2_function.specs.FunctionValue.{op_at}
 use Rattle.regalloc2_analysis.proofs.LiveRangesLemmas.ItemsPastEnd.{op_is}
+use Rattle.std.proofs.lemmas.Bool.{false≢true}
 use Rattle.regalloc2_analysis.proofs.live_ranges.wanted.some_is_wanted.Goals as goal
 
 pub returns-then-is_wanted : goal.returns-then-is_wanted
@@ -32,8 +33,8 @@ loop-k-preserved c =
 
 pub returns : goal.returns
 returns c = (
-  λ h. absurd cc,
+  λ h. absurd (false≢true h),
   λ h. absurd (
       let none = c.loop-k.invariant.so_far h.0 (let lt = h.1 in omega arith) in
-      let no : true ≡ false = sym h.2 ∙ none in cc),
+      false≢true (sym none ∙ h.2)),
 )

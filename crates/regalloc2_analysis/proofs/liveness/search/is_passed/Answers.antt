@@ -10,7 +10,7 @@ pub block_insns-requires : goal.block_insns-requires
 block_insns-requires g c = c.requires.block
 
 pub last-last-requires : goal.last-last-requires
-last-last-requires g c = 
+last-last-requires g c =
     subst (λ (r : Span). r.first < r.end) (sym c.block_insns.ensures) (c.requires.framed.follow c.args.block c.requires.block).0
 
 pub block_succs-k-end-requires : goal.block_succs-k-end-requires
@@ -20,7 +20,7 @@ pub loop-k-init : goal.loop-k-init
 loop-k-init g c = ap (λ (l : List ℕ). length l) c.block_succs-k-end.ensures
 
 pub branch_blockparams-requires : goal.branch_blockparams-requires
-branch_blockparams-requires g c = 
+branch_blockparams-requires g c =
     let some = (c.requires.framed.follow c.args.block c.requires.block).0 in
     let end = c.last-last.ensures ∙ ap (λ (r : Span). r.end - 1) c.block_insns.ensures in
     record {

@@ -1,5 +1,6 @@
 use Rattle.std.proofs.lemmas.Result.{IfOk-from_err}
 use Rattle.regalloc2_function.specs.FunctionValue.{FunctionValue}
+use Rattle.std.proofs.lemmas.Bool.{false≢true}
 use Rattle.regalloc2_analysis.proofs.liveness.search.leads_on.Goals as goal
 
 pub is_unwritten-requires-clause-block : goal.is_unwritten-requires-clause-block
@@ -58,7 +59,7 @@ pub loop-preserved : goal.loop-preserved
 loop-preserved g c = record { near = c.in_ok-add_succs.ensures.near; far = c.in_ok-add_succs.ensures.far }
 
 pub returns-in_default : goal.returns-in_default
-returns-in_default g c = λ e. absurd cc
+returns-in_default g c = λ e. absurd (false≢true e)
 
 pub returns : goal.returns
-returns g c = λ e. absurd cc
+returns g c = λ e. absurd (false≢true e)
