@@ -3,6 +3,7 @@ use Rattle.std.proofs.lemmas.Result.{err_from_is_err_and}
 use Rattle.regalloc2_names.specs.Register.{class_code}
 use Rattle.regalloc2_fastalloc_walk.specs.StateView.{tables_of}
 use Rattle.regalloc2_fastalloc_walk.proofs.RegsReserved.{reserves_none}
+use Rattle.std.specs.Prelude.{Err}
 use Rattle.regalloc2_fastalloc_walk.proofs.state.State.reserve.Goals as goal
 use Rattle.regalloc2_fastalloc_walk.proofs.state.State.reserve.Goals.{then-sorted+in_ok-reserve_each, else-sorted}
 
@@ -20,3 +21,23 @@ pub returns-in_err-reserve_each-clause-outcome : goal.returns-in_err-reserve_eac
 returns-in_err-reserve_each-clause-outcome g c =
     let e = err_from_is_err_and c.from_residual.result c.from_residual.ensures.1 in
     rw e.1 (λ lacks. c.in_err-reserve_each.ensures.outcome (sym e.2 ∙ lacks))
+
+pub returns-clause-err : goal.returns-clause-err
+returns-clause-err g c = tt
+
+pub returns-clause-sorted : goal.returns-clause-sorted
+returns-clause-sorted g c = c.sort-sorted.ensures.sorted
+
+pub returns-in_err-reserve_each-clause-same : goal.returns-in_err-reserve_each-clause-same
+returns-in_err-reserve_each-clause-same g c = c.reserve_each.ensures.same
+
+pub returns-in_err-reserve_each-clause-unused : goal.returns-in_err-reserve_each-clause-unused
+returns-in_err-reserve_each-clause-unused g c = let e = err_from_is_err_and c.from_residual.result c.from_residual.ensures.1 in rw e.1 tt
+
+pub returns-in_err-reserve_each-clause-sorted : goal.returns-in_err-reserve_each-clause-sorted
+returns-in_err-reserve_each-clause-sorted g c = let e = err_from_is_err_and c.from_residual.result c.from_residual.ensures.1 in rw e.1 tt
+
+pub returns-in_err-reserve_each-clause-err : goal.returns-in_err-reserve_each-clause-err
+returns-in_err-reserve_each-clause-err g c =
+    let e = err_from_is_err_and c.from_residual.result c.from_residual.ensures.1 in
+    rw (e.1 ∙ ap Err e.2) c.in_err-reserve_each.ensures.err
