@@ -292,9 +292,9 @@ pub fn run_module_code(
         let standing = Standing::Overflowed;
         return Ok(Run { standing, memory });
     };
-    let machine = Machine::new(alloc, function.code.slots, memory)?;
     let given = copied(alloc, arguments)?;
     let outgoing = zeros(alloc, function.code.outgoing)?;
+    let machine = Machine::new(alloc, function.code.slots, memory)?;
     let mut stack = Stack {
         function: 0,
         arguments: given,

@@ -239,10 +239,7 @@ impl fmt::Display for SourceText {
     fn fmt<W: fmt::Write>(&self, f: &mut fmt::Formatter<W>) -> fmt::Result {
         match self.2 {
             Source::Register(register) => f.write_str(name_at(self.1, register)),
-            Source::Slot(slot) => {
-                let text = SlotText(self.0, slot);
-                write!(f, "{text}")
-            }
+            Source::Slot(slot) => fmt::Display::fmt(&SlotText(self.0, slot), f),
             Source::Number(number) => write!(f, "${number}"),
         }
     }
@@ -614,7 +611,7 @@ impl fmt::Display for LinesText<'_> {
                 at,
                 instruction: instructions[at],
             };
-            write!(f, "{line}")?;
+            fmt::Display::fmt(&line, f)?;
         }
         Ok(())
     }
@@ -673,15 +670,14 @@ impl fmt::Display for FunctionsText<'_> {
     fn fmt<W: fmt::Write>(&self, f: &mut fmt::Formatter<W>) -> fmt::Result {
         let FunctionsText(functions) = *self;
         for at in 0..functions.len() {
-            let text = FunctionText(at, &functions[at]);
-            write!(f, "{text}")?;
+            fmt::Display::fmt(&FunctionText(at, &functions[at]), f)?;
         }
         Ok(())
     }
 }
 
 /// How many arguments function 0 of a module has.
-fn first_arity(functions: &[NamedCode]) -> usize
+pub(super) fn first_arity(functions: &[NamedCode]) -> usize
     ensures { result ≡ first_arity functions.now }
 {
     match functions {

@@ -131,9 +131,8 @@ impl fmt::Display for ArgumentText {
 
     fn fmt<W: fmt::Write>(&self, f: &mut fmt::Formatter<W>) -> fmt::Result {
         let (words, index) = (FrameText(self.0), self.1);
-        let kept = KeptText(self.0, index);
         if index < 6 {
-            write!(f, "{kept}")
+            fmt::Display::fmt(&KeptText(self.0, index), f)
         } else {
             write!(f, "8*({words}+{index})(%rsp)")
         }

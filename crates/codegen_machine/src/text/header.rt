@@ -1,5 +1,6 @@
 //! A module's header for C.
 
+use super::assembly::first_arity;
 use crate::{ModuleCode, NamedCode};
 use std::fmt;
 
@@ -24,8 +25,7 @@ struct AritiesText<'a>(&'a [NamedCode]);
 impl fmt::Display for AritiesText<'_> {
     fn fmt<W: fmt::Write>(&self, f: &mut fmt::Formatter<W>) -> fmt::Result {
         for function in self.0 {
-            let text = ArityText(function);
-            write!(f, "{text}")?;
+            fmt::Display::fmt(&ArityText(function), f)?;
         }
         Ok(())
     }
@@ -44,7 +44,7 @@ pub struct HeaderText<'a> {
 impl fmt::Display for HeaderText<'_> {
     fn fmt<W: fmt::Write>(&self, f: &mut fmt::Formatter<W>) -> fmt::Result {
         let (size, all) = (self.memory_size, self.code.functions.as_slice());
-        let (first, arities) = (all.first().map_or(0, |first| first.arity), AritiesText(all));
+        let (first, arities) = (first_arity(all), AritiesText(all));
         write!(
             f,
             "#include <stdint.h>

@@ -118,10 +118,10 @@ returns c =
     )
 
 pub returns-in_err-machine : goal.returns-in_err-machine
-returns-in_err-machine c = IfOk-from_err c.from_residual.result _ c.from_residual.ensures.0
+returns-in_err-machine c = IfOk-from_err c.from_residual-in_err-machine.result _ c.from_residual-in_err-machine.ensures.0
 
 pub returns-in_err-given : goal.returns-in_err-given
-returns-in_err-given c = IfOk-from_err c.from_residual-in_err-given.result _ c.from_residual-in_err-given.ensures.0
+returns-in_err-given c = IfOk-from_err c.from_residual.result _ c.from_residual.ensures.0
 
 pub returns-in_err-outgoing : goal.returns-in_err-outgoing
 returns-in_err-outgoing c = IfOk-from_err c.from_residual-in_err-outgoing.result _ c.from_residual-in_err-outgoing.ensures.0

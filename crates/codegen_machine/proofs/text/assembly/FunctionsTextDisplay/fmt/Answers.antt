@@ -13,7 +13,7 @@ loop-at-preserved g c = λ p.
     let all = c.args.self.now.0.now in
     let k = c.loop-at.at in
     let x = c.index-functions-at.result in
-    let text : HasWritten g.W.Write.write_str_gives c.loop-at.f (function_text k x) c.write.new.self = search rules in
+    let text : HasWritten g.W.Write.write_str_gives c.loop-at.f (function_text k x) c.fmt.new.f = search rules in
     has_written_of_eq _ _ _ _ _ (functions_next all k x c.loop-at-test.true c.index-functions-at.is)
     (has_written_append _ _ _ _ _ _ (c.loop-at.invariant p) text)
 

@@ -15,7 +15,7 @@ loop-at-preserved g c = λ p.
     let function = c.args.self.now.function in
     let frame = c.args.self.now.frame in
     let k = c.loop-at.at in
-    let line : HasWritten g.W.Write.write_str_gives c.loop-at.f (line_text function frame (length all) k (get_or all k (Constant 0 0))) c.write.new.self = search rules in
+    let line : HasWritten g.W.Write.write_str_gives c.loop-at.f (line_text function frame (length all) k (get_or all k (Constant 0 0))) c.fmt.new.f = search rules in
     has_written_of_eq _ _ _ _ _ (lines_next function frame (length all) all k (Constant 0 0) c.loop-at-test.true) (has_written_append _ _ _ _ _ _ (c.loop-at.invariant p) line)
 
 pub returns-clause-writes : goal.returns-clause-writes
