@@ -1,12 +1,17 @@
 //! Large functions, which are allocated in a moment.
 
+ghost use Rattle.std.specs.Prelude.{◌≡◌};
+ghost use Rattle.regalloc2_names.specs.declared.RegClass.{RegClass};
+
 use super::rows::allocated;
 use regalloc2::{Operand, RegClass, VReg};
 use regalloc2_serialize::table_function::{BuildError, TableBuilder, TableFunction};
 use std::alloc::Global;
 
 /// An integer vreg, whose number is taken below 2^20.
-fn vreg(number: usize) -> VReg {
+fn vreg(number: usize) -> VReg
+    ensures { result.class ≡ RegClass.Int }
+{
     VReg::new(number % 1_048_576, RegClass::Int)
 }
 
