@@ -22,7 +22,7 @@ FLOORS = [
          ("regalloc2_parts", "lists, parallel moves")])],
     [("Stored forms", [
         ("regalloc2_serialize", "numbers, JSON, words"),
-        ("regalloc2_text", "texts, causes of errors")]),
+        ("regalloc2_text", "texts")]),
      ("Analysis", [
          ("regalloc2_semantics", "from blocks to paths"),
          ("regalloc2_analysis_steps", "one operand or edge"),
@@ -38,6 +38,7 @@ FLOORS = [
         ("regalloc2_fastalloc", "run, the output")])],
     [("Front", [("regalloc2", "allocate, run_tested, run_checked, and all items under upstream's paths")])],
     [("Tools", [
+        ("regalloc2_explain", "causes of errors"),
         ("regalloc2_tool", "listings, pictures, calls")]),
      ("C library", [
          ("regalloc2_c", "calls, statuses, words")])],

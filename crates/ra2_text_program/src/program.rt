@@ -4,8 +4,8 @@ ghost use Rattle.std.specs.Prelude.{◌≤◌};
 
 use super::input::{Input, text_of};
 use super::task::{Action, Task};
+use regalloc2_explain::Source;
 use regalloc2_serialize::StoredFunction;
-use regalloc2_text::explain::Source;
 use regalloc2_text::{write, write_json};
 use regalloc2_tool::calls::call::{
     Call, CallError, Given, Verdict, answer as answer_call, answer_diff,

@@ -1,9 +1,7 @@
-//! Functions, machines and outputs as text: read by a [`cursor`] over lines, laid out by [`writer`]; and causes of errors, with lines of
-//! the text ([`explain`]).
+//! Functions, machines and outputs as text: read by a [`cursor`] over lines, laid out by [`writer`].
 #![tactic(auto)]
 
 pub mod cursor;
-pub mod explain;
 mod reading;
 mod same;
 pub mod writer;

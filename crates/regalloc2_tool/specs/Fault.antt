@@ -3,8 +3,8 @@ use Rattle.std.specs.Prelude.{ℕ, codes, List, ◌++◌}
 use Rattle.std.specs.Fmt.{decimal}
 use Rattle.regalloc2_function.specs.declared.serialize.StoredFault.{StoredFault}
 use Rattle.regalloc2_function.specs.declared.serialize.StoredFault.TheVariants.{Lengths, Index, Bits, Limit, Memory, Shape}
-use Rattle.regalloc2_text.specs.declared.explain.faults.StoredCause.{StoredCause}
-use Rattle.regalloc2_text.specs.FaultText.{cause_text}
+use Rattle.regalloc2_explain.specs.declared.faults.StoredCause.{StoredCause}
+use Rattle.regalloc2_explain.specs.FaultText.{cause_text}
 
 abbrev pub fault_number : StoredFault → ℕ
 fault_number Lengths = 1

@@ -3,8 +3,8 @@
 ghost use Rattle.std.specs.Prelude.{◌≡◌, Some};
 ghost use Rattle.regalloc2_tool.specs.Fault.{fault_number, stored_fault_text};
 
+use regalloc2_explain::StoredCause;
 use regalloc2_function::StoredFault;
-use regalloc2_text::explain::StoredCause;
 use std::fmt;
 
 /// The error number of a `StoredFault`, counted from 1 in the order of its variants.

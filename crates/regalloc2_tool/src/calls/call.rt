@@ -15,6 +15,11 @@ use crate::stored_fault::FaultText;
 use crate::svg::Picture;
 use regalloc2_analysis::liveness::reads_written;
 use regalloc2_checker::{CellFault, CheckerError, check_output, test_cells};
+use regalloc2_explain::report::{Stats, StatsJson, write_diff, write_dump};
+use regalloc2_explain::{
+    Site, Source, explain, explain_function, explain_output, find_unwritten_read, last_writes,
+    misfit_at,
+};
 use regalloc2_fastalloc::{Algorithm, RegallocOptions, run};
 use regalloc2_function::{
     Function, MachineEnv, Output, StoredFault, StoredOutput, is_framed, machine_fits, test_machine,
@@ -22,11 +27,6 @@ use regalloc2_function::{
 use regalloc2_index::Inst;
 use regalloc2_names::{Allocation, Operand, RegAllocError};
 use regalloc2_serialize::{SerializableFunction, StoredFunction};
-use regalloc2_text::explain::report::{Stats, StatsJson, write_diff, write_dump};
-use regalloc2_text::explain::{
-    Site, Source, explain, explain_function, explain_output, find_unwritten_read, last_writes,
-    misfit_at,
-};
 use regalloc2_text::{WriteError, write};
 use std::alloc::{AllocError, AllocFailed, Global};
 use std::error::Error;
