@@ -53,10 +53,10 @@ fn fill_places<A: Allocator + Copy, F: Function, B: Allocator>(
     let vregs = table_length(f);
     let mut state = State::new(&alloc, f, env, vregs, wanted)?;
     let mut found = state.alloc_blocks(alloc, f, offsets, allocs)?;
-    validate_unless_passed(f, found.passes)?;
     // what only the walk needs is freed first: locating labels takes tables by vreg, too
     drop(state.places);
     drop(state.registers);
+    validate_unless_passed(f, found.passes)?;
     // the walk goes backward
     found.changed.reverse();
     let debug_locations = debug::locations(

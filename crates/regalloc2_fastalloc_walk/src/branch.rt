@@ -254,7 +254,7 @@ impl<'a, A: Allocator> State<'a, A> {
     /// register is the first that it would choose. It skips what needs more than one move:
     /// ordering, a second register and temporary slots.
     #[inline(never)]
-    pub(super) fn push_one(
+    fn push_one(
         &mut self,
         point: ProgPoint,
         from: Allocation,

@@ -22,7 +22,7 @@ use regalloc2_index::Block;
 use regalloc2_names::{
     Allocation, Operand, PReg, PRegSet, ProgPoint, RegAllocError, RegClass, VReg,
 };
-use regalloc2_steps::moved::PlaceMove;
+use regalloc2_steps::moved::{PlaceMove, by_way_of};
 use regalloc2_steps::stores::{is_stored, stack_in_turn};
 use std::alloc::Allocator;
 
@@ -227,10 +227,14 @@ impl<'a, A: Allocator> State<'a, A> {
         ensures step { IsStepAt point result self.old self.new }
     {
         if !self.is_stack(m.from) {
-            return self.edits.push(point, m.from, m.to);
+            self.edits.push(point, m.from, m.to)?;
+            return Ok(());
         }
-        let by = self.store_scratch(m.class, held)?;
-        self.push_one(point, m.from, m.to, by)
+        let by = Allocation::reg(self.store_scratch(m.class, held)?);
+        let (first, then) = by_way_of(by, m.from, m.to);
+        self.edits.push(point, then.0, then.1)?;
+        self.edits.push(point, first.0, first.1)?;
+        Ok(())
     }
 
     /// Pushes the stores from the stack, or those from registers, the last one first.
