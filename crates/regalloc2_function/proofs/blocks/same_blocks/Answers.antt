@@ -2,6 +2,7 @@ use Rattle.std.proofs.Common.{ℕ, ◌≡◌, ◌+◌, Bool, true, false, get_or
 use Rattle.std.specs.Bool.{OnTrue}
 use Rattle.regalloc2_function.specs.WellFormed.{times_in}
 use Rattle.regalloc2_function.proofs.TimesInList.{all_used, used_up}
+use Rattle.std.proofs.lemmas.Bool.{false≢true}
 use Rattle.regalloc2_function.proofs.blocks.same_blocks.Goals as goal
 
 on_true : (r : Bool) (P : Type 0) → (r ≡ true → P) → OnTrue r P
@@ -10,7 +11,7 @@ on_true false P h = tt
 
 pub returns-then-not-count_out-clause-same : goal.returns-then-not-count_out-clause-same
 returns-then-not-count_out-clause-same c =
-    (λ h. absurd cc, λ same. c.if-not-count_out.ensures.enough.1 (λ b. omega (arith, same b, c.count_in.ensures b, c.requires.zero b)))
+    (λ h. absurd (false≢true h), λ same. c.if-not-count_out.ensures.enough.1 (λ b. omega (arith, same b, c.count_in.ensures b, c.requires.zero b)))
 
 sums : (c : goal.After-are_used_up) (b : ℕ) → get_or c.count_out.new.counts b 0 + times_in b c.args.preds.now ≡ times_in b c.args.listed.now
 sums c b = omega (arith, c.if-not-count_out.ensures.taken b, c.count_in.ensures b, c.requires.zero b)

@@ -12,4 +12,4 @@ pub returns : goal.returns
 returns g c =
     let operands = c.inst_operands.result.now in
     rw (← c.inst_operands.ensures) (any_or_not (Names c.args.class) _ operands (cases_from_any _ _ _ (Names c.args.class) (λ o. Names c.args.class o → ⊥)
-    c.any.ensures.ran (YieldsList-from_slice operands cc) (λ x q k. search (rules, tests)) (λ x q k. search (rules, tests))))
+    c.any.ensures.ran (YieldsList-from_slice operands c.iter.ensures.rest) (λ x q k. search (rules, tests)) (λ x q k. search (rules, tests))))

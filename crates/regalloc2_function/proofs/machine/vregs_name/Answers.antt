@@ -10,4 +10,4 @@ IsOf class v = v.class ≡ class
 
 pub returns : goal.returns
 returns c = any_or_not (IsOf c.args.class) _ c.args.vregs.now (cases_from_any _ _ _ (IsOf c.args.class) (λ v. IsOf c.args.class v → ⊥) c.any.ensures.ran
-    (YieldsList-from_slice c.args.vregs.now cc) (λ x q k. search (rules, tests)) (λ x q k. search (rules, tests)))
+    (YieldsList-from_slice c.args.vregs.now c.iter.ensures.rest) (λ x q k. search (rules, tests)) (λ x q k. search (rules, tests)))

@@ -6,4 +6,4 @@ use Rattle.regalloc2_function.proofs.serialize.are_locations.Goals as goal
 
 pub returns : goal.returns
 returns c = all_or_not NamesLocation _ c.args.locations.now (cases_from_all _ _ _ NamesLocation (λ e. NamesLocation e → ⊥) c.all.ensures.ran
-    (YieldsList-from_slice c.args.locations.now cc) (λ x q k. search (rules, tests)) (λ x q k. search (rules, tests)))
+    (YieldsList-from_slice c.args.locations.now c.iter.ensures.rest) (λ x q k. search (rules, tests)) (λ x q k. search (rules, tests)))

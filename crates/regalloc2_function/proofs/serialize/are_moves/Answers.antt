@@ -6,4 +6,4 @@ use Rattle.regalloc2_function.proofs.serialize.are_moves.Goals as goal
 
 pub returns : goal.returns
 returns c = all_or_not NamesMove _ c.args.edits.now (cases_from_all _ _ _ NamesMove (λ e. NamesMove e → ⊥) c.all.ensures.ran
-    (YieldsList-from_slice c.args.edits.now cc) (λ x q k. search (rules, tests)) (λ x q k. search (rules, tests)))
+    (YieldsList-from_slice c.args.edits.now c.iter.ensures.rest) (λ x q k. search (rules, tests)) (λ x q k. search (rules, tests)))

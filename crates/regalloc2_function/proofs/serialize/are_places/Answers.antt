@@ -6,4 +6,4 @@ use Rattle.regalloc2_function.proofs.serialize.are_places.Goals as goal
 
 pub returns : goal.returns
 returns c = all_or_not IsPlaceBits _ c.args.words.now (cases_from_all _ _ _ IsPlaceBits (λ e. IsPlaceBits e → ⊥) c.all.ensures.ran
-    (YieldsList-from_slice c.args.words.now cc) (λ x q k. search (rules, tests)) (λ x q k. search (rules, tests)))
+    (YieldsList-from_slice c.args.words.now c.iter.ensures.rest) (λ x q k. search (rules, tests)) (λ x q k. search (rules, tests)))

@@ -4,6 +4,7 @@ use Rattle.regalloc2_names.specs.declared.RegClass.{RegClass}
 use Rattle.regalloc2_names.specs.declared.RegClass.TheVariants.{Int, Float, Vector}
 use Rattle.regalloc2_names.specs.contracts.RegClass.{the_type}
 use denote.Enum.Bare.{sameb}
+use Rattle.std.proofs.lemmas.Bool.{false≢true}
 use Rattle.regalloc2_function.proofs.ssa.same_classes.Goals as goal
 
 -- a class is not unlike itself
@@ -14,7 +15,7 @@ differs Vector h = cc
 
 pub returns-then-ne : goal.returns-then-ne
 returns-then-ne c = (
-  λ h. absurd cc,
+  λ h. absurd (false≢true h),
   λ same.
       (let a : length c.args.arguments.now ≡ length c.args.params.now = c.loop-k.invariant.0 in
       let one = get_or-map (λ v. v.class) c.args.arguments.now c.loop-k.k c.index-arguments-k.result Int (omega arith) in

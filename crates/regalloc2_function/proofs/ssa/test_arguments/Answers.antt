@@ -1,4 +1,4 @@
-use Rattle.std.proofs.Common.{◌≡◌, ◌+◌, [], ◌∷◌, take, drop, refl, arith}
+use Rattle.std.proofs.Common.{◌≡◌, ◌+◌, [], ◌∷◌, take, drop, refl, arith, sym, ◌∙◌}
 use Rattle.std.specs.Prelude.{map}
 use Rattle.std.proofs.lemmas.List.Elements.{All-push, All-same}
 use Rattle.regalloc2_names.specs.Point.{after}
@@ -6,6 +6,7 @@ use Rattle.regalloc2_function.specs.Reasons.{argument_use}
 use Rattle.regalloc2_function.specs.Definitions.{IsUsable}
 use Rattle.regalloc2_function.proofs.ListsInParts.{map_split, map_more, map_taken}
 use Rattle.regalloc2_function.proofs.NotedInParts.{unusable_in_part, unusable_now}
+use Rattle.std.proofs.lemmas.Bool.{false≢true}
 use Rattle.regalloc2_function.proofs.ssa.test_arguments.Goals as goal
 
 pub returns-then-not-is_usable-clause-err : goal.returns-then-not-is_usable-clause-err
@@ -20,7 +21,7 @@ returns-then-not-is_usable-clause-err c =
       argument_use c.args.inst c.argument-item.result,
       refl,
       unusable_now c.args.defined.now (argument_use c.args.inst c.argument-item.result)
-          (λ h. let y = c.is_usable.ensures.1 (rw point h) in absurd cc),
+          (λ h. false≢true (sym c.if-not-is_usable.true ∙ c.is_usable.ensures.1 (rw point h))),
     )
 
 pub loop-argument-preserved : goal.loop-argument-preserved

@@ -9,6 +9,7 @@ use Rattle.regalloc2_function.specs.Definitions.{IsUsable}
 use Rattle.regalloc2_function.proofs.ListsInParts.{filter_split, filter_more, filter_taken}
 use Rattle.regalloc2_function.proofs.NotedInParts.{unusable_in_part, unusable_now}
 use Rattle.regalloc2_names.specs.declared.RegAllocError.TheVariants.{SSA}
+use Rattle.std.proofs.lemmas.Bool.{false≢true}
 use Rattle.regalloc2_function.proofs.ssa.test_operands.Goals as goal
 use Rattle.regalloc2_function.proofs.ssa.test_operands.Goals.{else-is_reading-via-then-is_reading+else-not-is_usable, else-is_reading-via-else-is_reading}
 
@@ -30,7 +31,7 @@ returns-then-not-is_usable-clause-err c =
       read_use c.args.inst c.operand-item.result.vreg,
       ap (λ v. SSA v c.args.inst) c.vreg-then-not-is_usable.ensures,
       unusable_now c.args.defined.now (read_use c.args.inst c.operand-item.result.vreg)
-          (λ h. let y = c.is_usable.ensures.1 (rw (c.vreg.ensures, point) h) in absurd cc),
+          (λ h. false≢true (sym c.if-not-is_usable.true ∙ c.is_usable.ensures.1 (rw (c.vreg.ensures, point) h))),
     ))
 
 pub loop-operand-preserved : goal.loop-operand-preserved

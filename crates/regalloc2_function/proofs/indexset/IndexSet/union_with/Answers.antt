@@ -3,6 +3,7 @@ use Rattle.std.proofs.lemmas.Result.{err_from_is_err_and}
 use Rattle.regalloc2_function.specs.Numbers.{word_of, has_number, in_some_word}
 use Rattle.regalloc2_function.proofs.NumberUnions.{start, one_on, all_given, some_has, has_joined, has_already, new_bit, joined_more, some_later}
 use Rattle.regalloc2_function.proofs.NumberUnions.{some_last, within_union}
+use Rattle.std.proofs.lemmas.Bool.{false≢true}
 use Rattle.regalloc2_function.proofs.indexset.IndexSet.union_with.Goals as goal
 
 not_before : (a b : Bool) → a || b ≡ false → a ≡ false
@@ -13,7 +14,7 @@ pub loop-key-init : goal.loop-key-init
 loop-key-init g c = record {
   all = sym (c.into_iter-key-iterator.ensures.into_iter_gives ∙ c.words-key-items.ensures.list);
   joined = λ i. start (has_number c.args.self.now i) i;
-  added = λ e. absurd cc;
+  added = λ e. absurd (false≢true e);
   none_added = λ e i. refl;
 }
 
@@ -33,7 +34,7 @@ loop-key-preserved-then-word-had-ne0 g c =
         not_before (has_number c.args.self.now fresh.0) _ (sym (c.loop-key.invariant.joined fresh.0) ∙ fresh.1),
         some_last c.loop-key.yielded (c.in-Some.key, c.in-Some.word) fresh.0 fresh.2,
       );
-      none_added = λ e. absurd cc;
+      none_added = λ e. absurd (false≢true (sym e));
     }
 
 pub loop-key-preserved : goal.loop-key-preserved

@@ -11,4 +11,4 @@ NamesPlaces e = ((move_of e.1).from ≢ NoPlace) × ((move_of e.1).to ≢ NoPlac
 
 pub returns : goal.returns
 returns g c = rw (← c.as_slice.ensures.value) (all_or_not NamesPlaces _ c.as_slice.result.now (cases_from_all _ _ _ NamesPlaces (λ e. NamesPlaces e → ⊥)
-    c.all.ensures.ran (YieldsList-from_slice c.as_slice.result.now cc) (λ x q k. search (rules, tests)) (λ x q k. search (rules, tests))))
+    c.all.ensures.ran (YieldsList-from_slice c.as_slice.result.now c.iter.ensures.rest) (λ x q k. search (rules, tests)) (λ x q k. search (rules, tests))))
