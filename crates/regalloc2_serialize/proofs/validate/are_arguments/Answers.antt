@@ -3,11 +3,12 @@ use Rattle.std.specs.Prelude.{All}
 use Rattle.std.proofs.lemmas.List.{take_all}
 use Rattle.std.proofs.lemmas.List.Elements.{All-more}
 use Rattle.regalloc2_names.specs.Packing.{IsVRegBits}
+use Rattle.std.proofs.lemmas.Bool.{false≢true}
 use Rattle.regalloc2_serialize.proofs.validate.are_arguments.Goals as goal
 
 pub returns-then-not-are_lists_of_vregs : goal.returns-then-not-are_lists_of_vregs
 returns-then-not-are_lists_of_vregs g c = (
-  λ h. absurd cc,
+  λ h. absurd (false≢true h),
   λ all. c.if-not-are_lists_of_vregs.ensures.1 (subst (All (λ k. All IsVRegBits k.items)) (sym c.as_slice.ensures.value) (subst (λ v. All (λ k. All IsVRegBits k.items) v.items) (sym c.list-item.is)
       (all c.loop-list.list-index c.list-item.result c.loop-list-test.true))),
 )

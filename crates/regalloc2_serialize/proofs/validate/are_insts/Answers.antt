@@ -3,11 +3,12 @@ use Rattle.std.specs.Prelude.{All}
 use Rattle.std.proofs.lemmas.List.{take_all}
 use Rattle.std.proofs.lemmas.List.Elements.{All-more}
 use Rattle.regalloc2_serialize.specs.Validity.{NamesOperands}
+use Rattle.std.proofs.lemmas.Bool.{false≢true}
 use Rattle.regalloc2_serialize.proofs.validate.are_insts.Goals as goal
 
 pub returns-then-not-names_operands : goal.returns-then-not-names_operands
 returns-then-not-names_operands g c = (
-  λ h. absurd cc,
+  λ h. absurd (false≢true h),
   λ all. c.if-not-names_operands.ensures.1 (subst (λ i. NamesOperands i) (sym c.inst-item.is)
       (all c.loop-inst.inst-index c.inst-item.result c.loop-inst-test.true)),
 )

@@ -2,11 +2,12 @@ use Rattle.std.proofs.Common.{ℕ, ◌<◌, subst, sym, refl, arith}
 use Rattle.std.specs.Prelude.{All}
 use Rattle.std.proofs.lemmas.List.{take_all}
 use Rattle.std.proofs.lemmas.List.Elements.{All-more}
+use Rattle.std.proofs.lemmas.Bool.{false≢true}
 use Rattle.regalloc2_serialize.proofs.validate.are_lists_of_blocks.Goals as goal
 
 pub returns-then-not-are_blocks : goal.returns-then-not-are_blocks
 returns-then-not-are_blocks g c = (
-  λ h. absurd cc,
+  λ h. absurd (false≢true h),
   λ all. c.if-not-are_blocks.ensures.1 (subst (All (λ (b : ℕ). b < c.args.count)) (sym c.as_slice.ensures.value) (subst (λ v. All (λ (b : ℕ). b < c.args.count) v.items) (sym c.list-item.is)
       (all c.loop-list.list-index c.list-item.result c.loop-list-test.true))),
 )

@@ -1,17 +1,18 @@
 use Rattle.std.proofs.Common.{subst, sym, refl}
 use Rattle.std.specs.Prelude.{All}
 use Rattle.regalloc2_names.specs.Packing.{IsVRegBits}
+use Rattle.std.proofs.lemmas.Bool.{false≢true}
 use Rattle.regalloc2_serialize.proofs.data.StoredFunction.names_vregs.Goals as goal
 
 pub returns-then-not-are_lists_of_vregs : goal.returns-then-not-are_lists_of_vregs
 returns-then-not-are_lists_of_vregs g c = (
-  λ h. absurd cc,
+  λ h. absurd (false≢true h),
   λ n. c.if-not-are_lists_of_vregs.ensures.1 (subst (λ ls. All (λ l. All IsVRegBits l.items) ls) (sym c.as_slice.ensures.value) n.params),
 )
 
 pub returns-then-not-are_arguments : goal.returns-then-not-are_arguments
 returns-then-not-are_arguments g c = (
-  λ h. absurd cc,
+  λ h. absurd (false≢true h),
   λ n. c.if-not-are_arguments.ensures.1
       (subst (λ ls. All (λ l. All (λ k. All IsVRegBits k.items) l.items) ls) (sym c.as_slice-2.ensures.value) n.arguments),
 )
