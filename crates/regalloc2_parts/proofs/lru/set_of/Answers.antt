@@ -2,10 +2,11 @@ use Rattle.std.proofs.Common.{◌≡◌, ◌+◌, ◌∷◌, ◌++◌, ◌∙◌
 use Rattle.std.proofs.lemmas.List.{take_all, take_more}
 use Rattle.regalloc2_names.specs.Collected.{collected}
 use Rattle.regalloc2_names.specs.Register.{Register}
+use Rattle.std.proofs.lemmas.Bool.{false≢true}
 use Rattle.regalloc2_parts.proofs.lru.set_of.Goals as goal
 
 pub loop-preg-init : goal.loop-preg-init
-loop-preg-init c = λ r. (λ e. absurd (let f = c.empty-set.ensures r in cc), λ m. absurd (omega (arith, m.1)))
+loop-preg-init c = λ r. (λ e. absurd (false≢true (sym (c.empty-set.ensures r) ∙ e)), λ m. absurd (omega (arith, m.1)))
 
 pub loop-preg-preserved : goal.loop-preg-preserved
 loop-preg-preserved c = λ r.
