@@ -158,6 +158,16 @@ some_last ys e i h = some_more ys e i ∙ rw h (or_true (in_some_word ys i))
     or_true true = refl
     or_true false = refl
 
+-- a member that a word brings wasn't one at the start
+pub brought : (had init : ℕ → Bool) (ys : List (ℕ × ℕ)) (e : ℕ × ℕ) → ((i : ℕ) → had i ≡ init i || in_some_word ys i) →
+    (i : ℕ) × (had i ≡ false) × (has_bit e i ≡ true) → (i : ℕ) × (init i ≡ false) × (in_some_word (ys ++ e ∷ []) i ≡ true)
+brought had init ys e joined w =
+    (w.0, not_before (init w.0) (in_some_word ys w.0) (sym (joined w.0) ∙ w.1), some_last ys e w.0 w.2)
+  where
+    not_before : (a b : Bool) → a || b ≡ false → a ≡ false
+    not_before true b e = absurd cc
+    not_before false b e = refl
+
 -- before any word is joined, a union has just what the set had
 pub start : (b : Bool) (i : ℕ) → b ≡ b || in_some_word [] i
 unfolding in_some_word

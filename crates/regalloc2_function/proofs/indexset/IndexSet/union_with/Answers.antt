@@ -1,14 +1,10 @@
-use Rattle.std.proofs.Common.{◌≡◌, ◌<◌, ◌^◌, ◌∙◌, ◌||◌, true, false, sym, ap, refl, rules, Bool}
+use Rattle.std.proofs.Common.{◌≡◌, ◌<◌, ◌^◌, ◌∙◌, ◌||◌, sym, ap, refl, rules}
 use Rattle.std.proofs.lemmas.Result.{err_from_is_err_and}
 use Rattle.regalloc2_function.specs.Numbers.{word_of, has_number, in_some_word}
 use Rattle.regalloc2_function.proofs.NumberUnions.{start, one_on, all_given, some_has, has_joined, has_already, new_bit, joined_more, some_later}
-use Rattle.regalloc2_function.proofs.NumberUnions.{some_last, within_union}
+use Rattle.regalloc2_function.proofs.NumberUnions.{brought, within_union}
 use Rattle.std.proofs.lemmas.Bool.{false≢true}
 use Rattle.regalloc2_function.proofs.indexset.IndexSet.union_with.Goals as goal
-
-not_before : (a b : Bool) → a || b ≡ false → a ≡ false
-not_before true b e = absurd cc
-not_before false b e = refl
 
 pub loop-key-init : goal.loop-key-init
 loop-key-init g c = record {
@@ -29,11 +25,8 @@ loop-key-preserved-then-word-had-ne0 g c =
           c.in-Some.ensures.steps;
       joined = joined_more (has_number c.loop-key.self) (has_number c.args.self.now) (has_number c.put.new.self) c.loop-key.yielded
           (c.in-Some.key, c.in-Some.word) c.loop-key.invariant.joined more;
-      added = λ e. (
-        fresh.0,
-        not_before (has_number c.args.self.now fresh.0) _ (sym (c.loop-key.invariant.joined fresh.0) ∙ fresh.1),
-        some_last c.loop-key.yielded (c.in-Some.key, c.in-Some.word) fresh.0 fresh.2,
-      );
+      added = λ e. brought (has_number c.loop-key.self) (has_number c.args.self.now) c.loop-key.yielded (c.in-Some.key, c.in-Some.word)
+          c.loop-key.invariant.joined fresh;
       none_added = λ e. absurd (false≢true (sym e));
     }
 
