@@ -2,6 +2,7 @@ use Rattle.std.proofs.Common.{inl, inr, false, ◌+◌, ◌*◌, length, arith}
 use Rattle.regalloc2_checker.specs.Holding.{IsMetBetween}
 use Rattle.regalloc2_checker.proofs.Holders.{still-then}
 use Rattle.regalloc2_checker.proofs.Meets.{met-none, met-then, met-end}
+use Rattle.std.proofs.lemmas.Bool.{false≢true}
 use Rattle.regalloc2_checker.proofs.tables.meet_entries.Goals as goal
 
 pub chunks-init : goal.chunks-init
@@ -85,7 +86,7 @@ returns-clause-met g c =
 
 pub returns-clause-less : goal.returns-clause-less
 returns-clause-less g c q = elim (c.chunks.invariant.met.less q) [
-  | inl e ↦ absurd cc
+  | inl e ↦ absurd (false≢true e)
   | inr d ↦ d.0
 ]
 
