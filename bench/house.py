@@ -53,13 +53,11 @@ FLOORS = [
         ("codegen_emit", "instructions"),
         ("codegen", "the compiler"),
         ("compile", "program")])],
-    [("Examples", [
-         ("example_call", "program: one call"),
-         ("example_toy", "program: a client")])],
-    [("Tests", [
-        ("regalloc2_test_alloc", "failing allocator"),
-        ("regalloc2_tests", "the program"),
-        ("regalloc2_bench", "cost")])],
+    [("Example", [("example_toy", "program: a client, a call")]),
+     ("Tests", [
+         ("regalloc2_test_alloc", "failing allocator"),
+         ("regalloc2_tests", "the program"),
+         ("regalloc2_bench", "cost")])],
 ]
 
 # The data's way: the rooms after the front, and what is handed on to each.
@@ -75,7 +73,7 @@ WIDE = 2 * MARGIN + 6 * ROOM + 5 * GAP
 COLOURS = {
     "Names and functions": "#e8eef7", "Stored forms": "#f3ecdf", "Analysis": "#e6f2e6", "Moves": "#f2e8f2",
     "Allocator": "#fbe9e0", "Checker": "#e2f1f3", "Front": "#fff6d6", "Tools": "#f3ecdf", "C library": "#f3ecdf",
-    "Programs": "#f3ecdf", "Code generator": "#eeeeee", "Examples": "#eeeeee",
+    "Programs": "#f3ecdf", "Code generator": "#eeeeee", "Example": "#eeeeee",
     "Tests": "#eeeeee",
 }
 

@@ -1,4 +1,4 @@
-/* Calls the function that the program example_toy writes: the sum of the numbers from 1 to its argument. */
+/* Calls the function that the program example_toy writes first: the sum of the numbers from 1 to its argument. */
 #include <stdio.h>
 
 unsigned long toy(unsigned long count);

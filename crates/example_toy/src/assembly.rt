@@ -10,8 +10,8 @@ use regalloc2::{Allocation, Block, Function, Inst, InstOrEdit, Output};
 use std::fmt;
 use std::io::{self, Write};
 
-/// The names of the registers by number.
-static NAMES: [&str; 16] = [
+/// The names of the general registers, by their numbers in machine code.
+pub static NAMES: [&str; 16] = [
     "rax", "rcx", "rdx", "rbx", "rsp", "rbp", "rsi", "rdi", "r8", "r9", "r10", "r11", "r12", "r13",
     "r14", "r15",
 ];

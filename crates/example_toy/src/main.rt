@@ -1,16 +1,21 @@
-//! The tutorial of the allocator: a program with a loop is allocated, and written as assembly for x86-64.
+//! The tutorial of the allocator, in two parts. A program with a loop is allocated, and written as assembly for x86-64. Then the moves of a
+//! call are put in order, and written, too.
 //!
 //! Copy it, and change the representation. `code` has what the allocator asks of a program, `assembly` what is emitted from
-//! its listing, and this file builds a program, describes the machine, and calls the allocator.
+//! its listing, and this file builds a program, describes the machine, and calls the allocator. `call` lowers a call, and `convention` has
+//! the places of its arguments.
 #![tactic(auto)]
 
 ghost use Rattle.std.specs.Prelude.{◌≡◌, ◌<◌, ◌≤◌};
 
 mod assembly;
+mod call;
 mod code;
+mod convention;
 
 use anyhow::bail;
 use assembly::write_assembly;
+use call::write_calls;
 use code::{Code, Kind, Line, Part};
 use regalloc2::{
     Block, Inst, InstRange, MachineEnv, Operand, PReg, PRegSet, RegClass, VReg, allocate,
@@ -164,5 +169,6 @@ fn main(rt: HostRuntime) -> anyhow::Result<()> {
     };
     let output = allocate(alloc, &code, &machine(alloc))?;
     write_assembly(&code, &output, &mut rt.stdout())?;
+    write_calls(alloc, &mut rt.stdout())?;
     Ok(())
 }

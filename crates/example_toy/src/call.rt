@@ -1,19 +1,16 @@
-//! `example_call`: lowers a call to the System V convention of x86-64, and prints its moves as assembly. It does so twice: with free
-//! registers, and without any.
+//! A call is lowered to the System V convention of x86-64, and its moves are written as assembly. This is done twice: with free registers,
+//! and without any.
 //!
 //! Integers go to `rdi`, `rsi`, `rdx`, `rcx`, `r8` and `r9`, floats to `xmm0` up to `xmm7`, and what is left to the stack, from `[rsp]`
 //! on. The slots of the frame are those at `[rsp]`, `[rsp + 8]` and so on, of which the first ones are kept for such arguments.
-#![tactic(auto)]
 
 ghost use Rattle.std.specs.Prelude.{◌≤◌, IfOk};
 
-mod convention;
-
-use convention::{Assembly, Convention, int, slot, xmm};
-use regalloc2_names::{Allocation, PReg, PRegSet, RegClass};
-use regalloc2_parts::callmoves::{CallFrame, schedule};
+use super::convention::{Assembly, Convention, int, slot, xmm};
+use regalloc2::callmoves::{CallFrame, schedule};
+use regalloc2::{Allocation, PReg, PRegSet, RegClass};
 use std::alloc::{AllocError, Global};
-use std::io::{self, BufWriter, Write};
+use std::io::{self, Write};
 
 /// Where the arguments of the call are before it, with their classes. In each class two registers change places; of the last three
 /// integers two go from slot to slot.
@@ -105,12 +102,15 @@ fn write_call<W: Write>(alloc: Global, out: &mut W, free: &[PReg]) -> io::Result
     writeln!(out, "    call blend")
 }
 
-fn main(rt: HostRuntime) -> io::Result<()> {
-    let alloc = rt.alloc();
-    let out = &mut BufWriter::new(alloc, rt.stdout())?;
-    writeln!(out, "# r11, r10, xmm15 and xmm14 are free")?;
+/// Writes the call twice: if some registers are free, and if none is.
+///
+/// Nothing runs these lines, which are assembled behind the function. `blend` is weak, so that they can be linked without it.
+pub fn write_calls<W: Write>(alloc: Global, out: &mut W) -> io::Result<()> {
+    writeln!(
+        out,
+        ".text\n.weak blend\n# r11, r10, xmm15 and xmm14 are free"
+    )?;
     write_call(alloc, out, &[int(11), int(10), xmm(15), xmm(14)])?;
     writeln!(out, "# no register is free")?;
-    write_call(alloc, out, &[])?;
-    out.flush()
+    write_call(alloc, out, &[])
 }

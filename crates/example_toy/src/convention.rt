@@ -2,14 +2,9 @@
 
 ghost use Rattle.std.specs.Prelude.{◌≤◌};
 
-use regalloc2_names::{Allocation, PReg, RegClass, SpillSlot};
+use super::assembly::NAMES;
+use regalloc2::{Allocation, PReg, RegClass, SpillSlot};
 use std::fmt;
-
-/// The names of the general registers, by their numbers in machine code.
-static INT_NAMES: [&str; 16] = [
-    "rax", "rcx", "rdx", "rbx", "rsp", "rbp", "rsi", "rdi", "r8", "r9", "r10", "r11", "r12", "r13",
-    "r14", "r15",
-];
 
 /// The general register of that number.
 pub fn int(number: usize) -> PReg
@@ -105,7 +100,7 @@ impl fmt::Display for Assembly {
     fn fmt<W: fmt::Write>(&self, f: &mut fmt::Formatter<W>) -> fmt::Result {
         if let Some(preg) = self.0.as_reg() {
             let number = preg.hw_enc();
-            return match INT_NAMES.get(number) {
+            return match NAMES.get(number) {
                 Some(name) if preg.class() == RegClass::Int => write!(f, "{name}"),
                 _ => write!(f, "xmm{number}"),
             };
