@@ -48,8 +48,7 @@ FLOORS = [
         ("ra2_text", "texts")])],
     [("Code generator", [
         ("codegen_operation", "operations, operands"),
-        ("codegen_ir", "functions, modules"),
-        ("codegen_machine", "machine, text"),
+        ("codegen_machine", "functions, machine, text"),
         ("codegen_emit", "instructions"),
         ("codegen", "the compiler"),
         ("compile", "program")])],
@@ -69,7 +68,7 @@ WAY = [
 ]
 
 ROOM, HIGH, GAP, MARGIN, FLOOR = 156, 50, 8, 76, 108
-WIDE = 2 * MARGIN + 6 * ROOM + 5 * GAP
+WIDE = 2 * MARGIN + 5 * ROOM + 4 * GAP
 COLOURS = {
     "Names and functions": "#e8eef7", "Stored forms": "#f3ecdf", "Analysis": "#e6f2e6", "Moves": "#f2e8f2",
     "Allocator": "#fbe9e0", "Checker": "#e2f1f3", "Front": "#fff6d6", "Tools": "#f3ecdf", "C library": "#f3ecdf",

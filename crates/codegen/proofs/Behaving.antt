@@ -2,9 +2,9 @@
 use Rattle.std.proofs.Common.{ℕ, zero, suc, ◌≡◌, ◌+◌, ◌≤◌, ◌⊎◌, inl, inr, true, List, Option, None, refl, sym, ap, ◌∙◌, subst, ⊎_elim, arith}
 use Rattle.std.proofs.lemmas.Bool.{cases_lt}
 use Rattle.codegen_operation.specs.Numbers.{RunOutcome, Running, Returned, Trapped, Overflowed, Stuck, further}
-use Rattle.codegen_ir.specs.Calls.{ModuleState, module_begun, module_run, module_step}
-use Rattle.codegen_ir.specs.Modules.{procedures_of}
-use Rattle.codegen_ir.specs.declared.module.Module.{Module}
+use Rattle.codegen_machine.specs.Frames.{ModuleState, module_begun, module_run, module_step}
+use Rattle.codegen_machine.specs.Modules.{procedures_of}
+use Rattle.codegen_machine.specs.declared.module.Module.{Module}
 use Rattle.codegen_machine.specs.Calls.{FunctionCode, StackState, exceeds, stack_begun, stack_run}
 use Rattle.codegen.specs.Behaves.{Beginning, BehavesAs, Overflows, code_after, module_after, words_needed}
 use Rattle.codegen.proofs.Runs.{IsOver}

@@ -21,8 +21,8 @@ use Rattle.regalloc2_semantics.specs.Values.Interpreters.{State, edge_to, read_b
 use Rattle.regalloc2_semantics.specs.Values.Interpreters.{place_set, numbers_moved, written_to, numbers_clobbered}
 use Rattle.codegen_operation.specs.Numbers.{put}
 use Rattle.codegen_operation.specs.Operands.{argument_registers, arguments_in, call_operands, is_lost_in, is_lost_in_call, operands_of, passed_in, passed_on_stack}
-use Rattle.codegen_ir.specs.Meaning.{ProcedureState}
-use Rattle.codegen_ir.specs.Seen.{Operations}
+use Rattle.codegen_machine.specs.Meaning.{ProcedureState}
+use Rattle.codegen_machine.specs.Seen.{Operations}
 use Rattle.codegen_operation.specs.declared.operation.Operation.{Operation}
 use Rattle.codegen_operation.specs.declared.operation.Operation.TheVariants.{Call as Calling}
 use Rattle.codegen_machine.specs.declared.Instruction.{Instruction}

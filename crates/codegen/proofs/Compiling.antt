@@ -4,9 +4,9 @@ use Rattle.std.specs.Prelude.{slice_get, string_bytes}
 use Rattle.std.proofs.lemmas.List.{map-append, take_more, length-map}
 use Rattle.std.proofs.lemmas.Option.{slice_get_past, slice_get_within, slice_get-map, get_or_from_slice_get}
 use Rattle.std.specs.Option.{option_map}
-use Rattle.codegen_ir.specs.Seen.{function_of_procedure, operations}
-use Rattle.codegen_ir.specs.declared.module.NamedProcedure.{NamedProcedure}
-use Rattle.codegen_ir.specs.declared.procedure.Procedure.{Procedure}
+use Rattle.codegen_machine.specs.Seen.{function_of_procedure, operations}
+use Rattle.codegen_machine.specs.declared.module.NamedProcedure.{NamedProcedure}
+use Rattle.codegen_machine.specs.declared.procedure.Procedure.{Procedure}
 use Rattle.codegen_machine.specs.declared.NamedCode.{NamedCode}
 use Rattle.codegen_machine.specs.Calls.{FunctionCode, functions_of}
 use Rattle.codegen_machine.specs.Machine.{CodeValue, code_of}

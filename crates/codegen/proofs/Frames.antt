@@ -11,17 +11,17 @@ use Rattle.regalloc2_names.specs.Place.{Place}
 use Rattle.regalloc2_function.specs.FunctionValue.{FunctionValue}
 use Rattle.regalloc2_function.specs.Path.{Location, first_of}
 use Rattle.codegen_operation.specs.Numbers.{RunOutcome, Running, Returned, Trapped, Overflowed, Stuck, put}
-use Rattle.codegen_ir.specs.Meaning.{ProcedureState, done, onward, procedure_step}
-use Rattle.codegen_ir.specs.Successors.{operations_of}
-use Rattle.codegen_ir.specs.Seen.{Operations, function_of_procedure, operations}
-use Rattle.codegen_ir.specs.Modules.{arities_of, calls_function, procedures_of, reads_argument, takes}
-use Rattle.codegen_ir.specs.Calls.{CallValue, ModuleState, SuspendedFrame, call_on, frame_called, frame_entered, frame_stepped, line_done}
-use Rattle.codegen_ir.specs.Calls.{returned_to, step_in, suspended}
-use Rattle.codegen_ir.specs.declared.module.Module.{Module}
-use Rattle.codegen_ir.specs.declared.module.NamedProcedure.{NamedProcedure}
+use Rattle.codegen_machine.specs.Meaning.{ProcedureState, done, onward, procedure_step}
+use Rattle.codegen_machine.specs.Successors.{operations_of}
+use Rattle.codegen_machine.specs.Seen.{Operations, function_of_procedure, operations}
+use Rattle.codegen_machine.specs.Modules.{arities_of, calls_function, procedures_of, reads_argument, takes}
+use Rattle.codegen_machine.specs.Frames.{CallValue, ModuleState, SuspendedFrame, call_on, frame_called, frame_entered, frame_stepped, line_done}
+use Rattle.codegen_machine.specs.Frames.{returned_to, step_in, suspended}
+use Rattle.codegen_machine.specs.declared.module.Module.{Module}
+use Rattle.codegen_machine.specs.declared.module.NamedProcedure.{NamedProcedure}
 use Rattle.codegen_operation.specs.declared.operation.Operation.{Operation}
 use Rattle.codegen_operation.specs.declared.operation.Operation.TheVariants.{Argument as TakeArgument, Jump as GoTo, Call as Calling}
-use Rattle.codegen_ir.specs.declared.procedure.Procedure.{Procedure}
+use Rattle.codegen_machine.specs.declared.procedure.Procedure.{Procedure}
 use Rattle.codegen_machine.specs.Calls.{FunctionCode, Stack, StackState, SuspendedActivation, activated, activation_of, arguments_passed, calling, exceeds}
 use Rattle.codegen_machine.specs.Calls.{registers_returned, returned_into, stack_begun, stack_run, stack_step, suspended_at, words_taken}
 use Rattle.codegen_machine.specs.Machine.{MachineState}

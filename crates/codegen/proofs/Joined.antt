@@ -8,8 +8,8 @@ use Rattle.regalloc2_function.specs.OutputValue.{OutputValue}
 use Rattle.regalloc2_function.specs.Path.{Location, first_of}
 use Rattle.regalloc2_semantics.specs.Values.Interpreters.{State}
 use Rattle.codegen_operation.specs.Numbers.{RunOutcome, Running, Returned, Trapped, Overflowed, Stuck}
-use Rattle.codegen_ir.specs.Meaning.{ProcedureState, procedure_step}
-use Rattle.codegen_ir.specs.Seen.{Operations}
+use Rattle.codegen_machine.specs.Meaning.{ProcedureState, procedure_step}
+use Rattle.codegen_machine.specs.Seen.{Operations}
 use Rattle.codegen_machine.specs.Machine.{CodeValue, MachineState, machine_run}
 use Rattle.codegen_emit.specs.Emitted.{operation_at, blocks_code}
 use Rattle.codegen.proofs.Premise.{IsCall, IsEmitted}

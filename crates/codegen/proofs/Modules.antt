@@ -2,9 +2,9 @@
 use Rattle.std.specs.Prelude.{ℕ, ◌≡◌, List, length, slice_get, Some}
 use Rattle.regalloc2_function.specs.OutputValue.{OutputValue}
 use Rattle.regalloc2_semantics.specs.Values.Alike.{RunAlike}
-use Rattle.codegen_ir.specs.Seen.{function_of_procedure, operations}
-use Rattle.codegen_ir.specs.declared.module.NamedProcedure.{NamedProcedure}
-use Rattle.codegen_ir.specs.declared.procedure.Procedure.{Procedure}
+use Rattle.codegen_machine.specs.Seen.{function_of_procedure, operations}
+use Rattle.codegen_machine.specs.declared.module.NamedProcedure.{NamedProcedure}
+use Rattle.codegen_machine.specs.declared.procedure.Procedure.{Procedure}
 use Rattle.codegen_machine.specs.Calls.{FunctionCode}
 use Rattle.codegen_machine.specs.Machine.{CodeValue}
 use Rattle.codegen.proofs.Premise.{IsEmitted}

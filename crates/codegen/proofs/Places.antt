@@ -13,7 +13,7 @@ use Rattle.regalloc2_function.specs.OutputValue.{OutputValue, MoveValue}
 use Rattle.regalloc2_function.specs.Listing.{Listed, ListedMove}
 use Rattle.regalloc2_semantics.specs.Values.Interpreters.{place_set, numbers_moved}
 use Rattle.codegen_operation.specs.Numbers.{RunOutcome, Running, Stuck, put}
-use Rattle.codegen_ir.specs.Seen.{Operations}
+use Rattle.codegen_machine.specs.Seen.{Operations}
 use Rattle.codegen_machine.specs.declared.Instruction.{Instruction}
 use Rattle.codegen_machine.specs.Machine.{CodeValue, MachineState, is_general, with_register, with_source, written, frame_stored, executed}
 use Rattle.codegen_emit.specs.declared.placement.MachinePlace.{MachinePlace}

@@ -24,8 +24,8 @@ use Rattle.regalloc2.specs.Promise.{IsAllocation}
 use Rattle.codegen_operation.specs.Operands.{argument_registers, arguments_in, call_operands, count_in, def_in, operands_of, part_register, passed_in, passed_on_stack}
 use Rattle.codegen_operation.specs.Operands.{right_in, use_in}
 use Rattle.codegen_operation.specs.Operands.{is_jump, is_return}
-use Rattle.codegen_ir.specs.Successors.{wanted_by}
-use Rattle.codegen_ir.specs.Seen.{function_of_procedure, inst_of_line, operations}
+use Rattle.codegen_machine.specs.Successors.{wanted_by}
+use Rattle.codegen_machine.specs.Seen.{function_of_procedure, inst_of_line, operations}
 use Rattle.codegen_operation.specs.declared.operation.Operation.{Operation}
 use Rattle.codegen_operation.specs.declared.operation.Operation.TheVariants.{Argument as TakeArgument, Constant as TakeConstant, Copy, Compute as Computation}
 use Rattle.codegen_operation.specs.declared.operation.Operation.TheVariants.{Shift as Shifting, Divide as Dividing, Compare as Comparison, Select, Jump as GoTo, BranchIf}
@@ -35,7 +35,7 @@ use Rattle.codegen_operation.specs.declared.operation.Count.{Count}
 use Rattle.codegen_operation.specs.declared.operation.Count.TheVariants.{VReg as CountIn, Number as CountOf}
 use Rattle.codegen_operation.specs.declared.operation.Right.{Right}
 use Rattle.codegen_operation.specs.declared.operation.Right.TheVariants.{VReg, Number as Given}
-use Rattle.codegen_ir.specs.declared.procedure.Procedure.{Procedure}
+use Rattle.codegen_machine.specs.declared.procedure.Procedure.{Procedure}
 use Rattle.codegen_emit.specs.Pinned.{slot_place, frame_slots}
 use Rattle.codegen_emit.specs.Emitted.{register_of, operation_at, stack_arguments, outgoing_words, emitted, block_label, block_start}
 use Rattle.codegen.specs.Target.{IsTarget}

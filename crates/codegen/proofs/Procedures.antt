@@ -8,13 +8,13 @@ use Rattle.regalloc2_names.specs.Register.{Register}
 use Rattle.regalloc2_names.specs.RegisterSet.{has_register}
 use Rattle.regalloc2_function.specs.FunctionValue.{InstValue, no_inst, no_block, block_at, inst_at}
 use Rattle.codegen_operation.specs.Operands.{operands_of, is_lost_in, is_jump, is_return}
-use Rattle.codegen_ir.specs.Successors.{wanted_by, operations_of, are_enough, has_successors, knows_registers}
-use Rattle.codegen_ir.specs.Seen.{function_of_procedure, inst_of_line, block_of_part, operations}
+use Rattle.codegen_machine.specs.Successors.{wanted_by, operations_of, are_enough, has_successors, knows_registers}
+use Rattle.codegen_machine.specs.Seen.{function_of_procedure, inst_of_line, block_of_part, operations}
 use Rattle.codegen_operation.specs.declared.operation.Operation.{Operation}
 use Rattle.codegen_operation.specs.declared.operation.Operation.TheVariants.{Jump as GoTo}
 use Rattle.codegen_operation.specs.declared.line.Line.{Line}
-use Rattle.codegen_ir.specs.declared.procedure.Part.{Part}
-use Rattle.codegen_ir.specs.declared.procedure.Procedure.{Procedure}
+use Rattle.codegen_machine.specs.declared.procedure.Part.{Part}
+use Rattle.codegen_machine.specs.declared.procedure.Procedure.{Procedure}
 use Rattle.codegen_emit.specs.Emitted.{operation_at}
 
 -- an instruction is that of an operation

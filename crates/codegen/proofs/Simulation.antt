@@ -15,7 +15,7 @@ use Rattle.regalloc2_function.specs.AllocatedRun.{moves_at}
 use Rattle.regalloc2_semantics.specs.Values.Interpreters.{History, State, read_by, is_late_use, edge_to, numbers_moved, disturbed, written_to, numbers_clobbered}
 use Rattle.codegen_operation.specs.Numbers.{Returned, Trapped}
 use Rattle.codegen_operation.specs.Operands.{is_lost_in}
-use Rattle.codegen_ir.specs.Seen.{Operations}
+use Rattle.codegen_machine.specs.Seen.{Operations}
 use Rattle.codegen_operation.specs.declared.operation.Operation.{Operation}
 use Rattle.codegen_operation.specs.declared.operation.Operation.TheVariants.{Divide as Dividing, Load as Loading, Store as Storing, Call as Calling}
 use Rattle.codegen_machine.specs.declared.Instruction.{Instruction}

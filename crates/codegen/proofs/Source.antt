@@ -12,8 +12,8 @@ use Rattle.regalloc2_semantics.specs.Values.Interpreters.{History, State, read_b
 use Rattle.codegen_operation.specs.Numbers.{RunOutcome, Running, Returned, Trapped, Overflowed, Stuck, shifted_at, divided_at, division_traps, condition_holds, widened}
 use Rattle.codegen_operation.specs.Numbers.{is_within, number_at, with_number}
 use Rattle.codegen_operation.specs.Operands.{divide_operands, operands_of}
-use Rattle.codegen_ir.specs.Meaning.{ProcedureState, onward, stored, entered, along, done, procedure_step}
-use Rattle.codegen_ir.specs.Seen.{Operations}
+use Rattle.codegen_machine.specs.Meaning.{ProcedureState, onward, stored, entered, along, done, procedure_step}
+use Rattle.codegen_machine.specs.Seen.{Operations}
 use Rattle.codegen_operation.specs.declared.operation.Operation.{Operation}
 use Rattle.codegen_operation.specs.declared.operation.Operation.TheVariants.{Argument as TakeArgument, Constant as TakeConstant, Copy, Compute as Computation}
 use Rattle.codegen_operation.specs.declared.operation.Operation.TheVariants.{Shift as Shifting, Divide as Dividing, Compare as Comparison, Select, Jump as GoTo, BranchIf}

@@ -8,7 +8,7 @@ use Rattle.std.proofs.lemmas.Bool.{cases_lt}
 use Rattle.regalloc2_function.specs.FunctionValue.{FunctionValue}
 use Rattle.regalloc2_function.specs.OutputValue.{OutputValue}
 use Rattle.codegen_machine.specs.declared.Instruction.{Instruction}
-use Rattle.codegen_ir.specs.Seen.{Operations}
+use Rattle.codegen_machine.specs.Seen.{Operations}
 use Rattle.codegen_emit.specs.Emitted.{resolved, block_code, blocks_code, block_start}
 
 module _ (starts : ℕ → ℕ) (code : List Instruction) where

@@ -2,9 +2,9 @@
 use Rattle.std.proofs.Common.{ℕ, ◌≡◌, ◌<◌, List, [], ◌∷◌, length, Some, refl, arith, eqb-true}
 use Rattle.std.specs.Prelude.{slice_get, slice_index_or}
 use Rattle.std.proofs.lemmas.Option.{slice_get-get_or, slice_get_within}
-use Rattle.codegen_ir.specs.Modules.{calls_functions, arities_of, has_memory, reads_arguments}
-use Rattle.codegen_ir.specs.declared.module.Module.{Module}
-use Rattle.codegen_ir.specs.declared.module.NamedProcedure.{NamedProcedure}
+use Rattle.codegen_machine.specs.Modules.{calls_functions, arities_of, has_memory, reads_arguments}
+use Rattle.codegen_machine.specs.declared.module.Module.{Module}
+use Rattle.codegen_machine.specs.declared.module.NamedProcedure.{NamedProcedure}
 use Rattle.codegen_machine.specs.Calls.{FunctionCode}
 use Rattle.codegen.specs.Behaves.{Beginning, BehavesAs}
 use Rattle.codegen.proofs.Modules.{AreCompiled}

@@ -2,9 +2,9 @@
 use Rattle.std.specs.Prelude.{ℕ, ◌≡◌, ◌≢◌, ◌≤◌, ◌⊎◌, true, List, ◌∷◌, length, map}
 use Rattle.regalloc2_names.specs.Register.{VirtualRegister}
 use Rattle.codegen_operation.specs.Numbers.{RunOutcome, Running, Returned, Trapped, Overflowed, Stuck, further}
-use Rattle.codegen_ir.specs.Calls.{ModuleState, module_begun, module_run}
-use Rattle.codegen_ir.specs.Modules.{procedures_of}
-use Rattle.codegen_ir.specs.declared.module.Module.{Module}
+use Rattle.codegen_machine.specs.Frames.{ModuleState, module_begun, module_run}
+use Rattle.codegen_machine.specs.Modules.{procedures_of}
+use Rattle.codegen_machine.specs.declared.module.Module.{Module}
 use Rattle.codegen_machine.specs.Calls.{FunctionCode, Stack, StackState, exceeds, stack_begun, stack_run, words_taken}
 
 -- the arguments, the initial memory, of a given size, the numbers that vregs hold at the start of each frame, which are arbitrary, and the stack

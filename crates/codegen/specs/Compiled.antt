@@ -5,9 +5,9 @@ use Rattle.regalloc2_function.specs.OutputValue.{OutputValue}
 use Rattle.regalloc2_function.specs.WellFormed.{IsWellFormed}
 use Rattle.regalloc2_semantics.specs.Values.Alike.{RunAlike}
 use Rattle.regalloc2.specs.Promise.{IsAllocation}
-use Rattle.codegen_ir.specs.Seen.{function_of_procedure, operations}
-use Rattle.codegen_ir.specs.declared.procedure.Procedure.{Procedure}
-use Rattle.codegen_ir.specs.declared.module.NamedProcedure.{NamedProcedure}
+use Rattle.codegen_machine.specs.Seen.{function_of_procedure, operations}
+use Rattle.codegen_machine.specs.declared.procedure.Procedure.{Procedure}
+use Rattle.codegen_machine.specs.declared.module.NamedProcedure.{NamedProcedure}
 use Rattle.codegen_machine.specs.declared.NamedCode.{NamedCode}
 use Rattle.codegen_machine.specs.Machine.{CodeValue, code_of}
 use Rattle.codegen_emit.specs.Emitted.{emitted}

@@ -3,8 +3,8 @@ use Rattle.std.specs.Prelude.{ℕ, ◌≡◌, codes, List, Option, None, Some, s
 use Rattle.regalloc2_function.specs.FunctionValue.{FunctionValue}
 use Rattle.regalloc2_function.specs.Machine.{MachineValue}
 use Rattle.regalloc2.specs.Allocated.{IsTestedRunReason}
-use Rattle.codegen_ir.specs.Seen.{function_of_procedure}
-use Rattle.codegen_ir.specs.declared.module.NamedProcedure.{NamedProcedure}
+use Rattle.codegen_machine.specs.Seen.{function_of_procedure}
+use Rattle.codegen_machine.specs.declared.module.NamedProcedure.{NamedProcedure}
 use Rattle.codegen.specs.Target.{IsTarget}
 use Rattle.codegen.specs.declared.compiler.CompileError.{CompileError}
 use Rattle.codegen.specs.declared.compiler.CompileError.TheVariants.{Refused, Memory}

@@ -1,7 +1,7 @@
 //! From a module to code.
 
 ghost use Rattle.std.specs.Prelude.{◌≡◌, ◌∷◌, ◌++◌, [], IfErr, IfOk, OnOk, map, string_bytes};
-ghost use Rattle.codegen_ir.specs.Seen.{function_of_procedure};
+ghost use Rattle.codegen_machine.specs.Seen.{function_of_procedure};
 ghost use Rattle.codegen_machine.specs.Machine.{code_of};
 ghost use Rattle.codegen_machine.specs.Calls.{functions_of};
 ghost use Rattle.codegen.specs.Behaves.{BehavesAs};
@@ -10,8 +10,7 @@ ghost use Rattle.codegen.specs.Reasons.{IsCompileReason, IsModuleReason, compile
 
 use super::registers::target;
 use codegen_emit::emit::emit;
-use codegen_ir::{Module, NamedProcedure, Procedure};
-use codegen_machine::{Code, ModuleCode, NamedCode};
+use codegen_machine::{Code, Module, ModuleCode, NamedCode, NamedProcedure, Procedure};
 use regalloc2::{TestedRunError, run_tested};
 use regalloc2_semantics::values::runs_alike;
 use std::alloc::Global;

@@ -81,8 +81,8 @@
 //! about a late use hold for each choice: `proofs/Divisions.antt` derives from this that the
 //! divisor survives the extension of the dividend.
 //!
-//! Module and code run on stacks, of frames and of activations (`Calls.antt` of `codegen_ir` and of
-//! `codegen_machine`). Each frame has an activation of its own, with choices of its own
+//! Module and code run on stacks, of frames and of activations (`Frames.antt` and `Calls.antt`
+//! of `codegen_machine`). Each frame has an activation of its own, with choices of its own
 //! (`proofs/Frames.antt`). At a call, the machine runs the call's moves, copies the arguments past the
 //! sixth to outgoing words, which changes register 0 alone (`proofs/Passing.antt`), and suspends the
 //! activation with its registers and slots; at a return, the call's choice writes the result and

@@ -12,8 +12,8 @@ use Rattle.regalloc2_function.specs.FunctionValue.{FunctionValue}
 use Rattle.regalloc2_names.specs.Place.{Place}
 use Rattle.regalloc2_function.specs.OutputValue.{OutputValue, place_at}
 use Rattle.regalloc2_function.specs.Listing.{Listed, ListedInst, ListedMove, IsListedWithin}
-use Rattle.codegen_ir.specs.Seen.{Operations}
-use Rattle.codegen_ir.specs.Successors.{operations_of}
+use Rattle.codegen_machine.specs.Seen.{Operations}
+use Rattle.codegen_machine.specs.Successors.{operations_of}
 use Rattle.codegen_operation.specs.declared.line.Line.{Line}
 use Rattle.codegen_operation.specs.declared.operation.Operation.{Operation}
 use Rattle.codegen_machine.specs.declared.Instruction.{Instruction}

@@ -12,7 +12,7 @@ use Rattle.codegen_operation.specs.declared.operation.Operation.TheVariants.{Shi
 use Rattle.codegen_operation.specs.declared.operation.Operation.TheVariants.{BranchIfHolds, Load as Loading, Store as Storing, Call as Calling}
 use Rattle.codegen_operation.specs.declared.operation.Operation.TheVariants.{Return as GiveBack}
 use Rattle.codegen_operation.specs.Numbers.{count_of}
-use Rattle.codegen_ir.specs.Seen.{Operations}
+use Rattle.codegen_machine.specs.Seen.{Operations}
 use Rattle.codegen_operation.specs.declared.operation.Bytes.{Bytes}
 use Rattle.codegen_operation.specs.declared.operation.Width.{Width}
 use Rattle.codegen_operation.specs.declared.operation.ShiftOperator.{ShiftOperator}

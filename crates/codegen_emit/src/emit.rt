@@ -6,8 +6,8 @@ ghost use Rattle.regalloc2_function.specs.Listing.{IsListedWithin};
 ghost use Rattle.regalloc2_function.specs.OutputValue.{IsInOrder, place_at};
 ghost use Rattle.regalloc2_function.specs.Views.{item_of, output_of};
 ghost use Rattle.regalloc2_function.specs.WellFormed.{BlocksFollow};
-ghost use Rattle.codegen_ir.specs.Seen.{function_of_procedure, operations};
-ghost use Rattle.codegen_ir.specs.Successors.{operations_of};
+ghost use Rattle.codegen_machine.specs.Seen.{function_of_procedure, operations};
+ghost use Rattle.codegen_machine.specs.Successors.{operations_of};
 ghost use Rattle.codegen_machine.specs.Machine.{code_of};
 ghost use Rattle.codegen_emit.specs.Emitted.{register_of, source_of, right_source, fetched_from, fetched, move_code, constant_code, operation_code, opposite, item_code, resolved};
 ghost use Rattle.codegen_emit.specs.Emitted.{branch_code, branch_if_code, branch_if_holds_code, compare_code, divide_code, extension_code, return_code, select_code, shift_code};
@@ -16,8 +16,7 @@ ghost use Rattle.codegen_emit.specs.Emitted.{call_code, outgoing_words, pass_cod
 ghost use Rattle.codegen_emit.specs.Emitted.{block_code, emitted};
 
 use super::placement::{MachinePlace, frame_slots, machine_place};
-use codegen_ir::Procedure;
-use codegen_machine::{Code, Instruction, Source};
+use codegen_machine::{Code, Instruction, Procedure, Source};
 use codegen_operation::{
     Bytes, Condition, Count, Line, Operation, Operator, Right, ShiftOperator, Width,
 };

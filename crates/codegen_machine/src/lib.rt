@@ -1,15 +1,25 @@
-//! A machine with sixteen registers and a frame of slots, and two-address instructions: the target
-//! of a code generator.
+//! The two languages of a code generator: a small intermediate representation, its input, and a
+//! machine, its target.
 //!
-//! Registers are numbered as in x86-64. Two of them hold no numbers: 4 (`rsp`) addresses the frame,
-//! and 15 (`r15`) memory. `specs/Machine.antt` defines each instruction, step by step, and
+//! The intermediate representation has functions over 64-bit integers, in blocks with parameters,
+//! and modules of them. Its lines are those of `codegen_operation`. `specs/Meaning.antt` interprets
+//! a function, step by step, and `specs/Frames.antt` a module.
+//!
+//! The machine has sixteen registers and a frame of slots, and two-address instructions. Registers
+//! are numbered as in x86-64. Two of them hold no numbers: 4 (`rsp`) addresses the frame, and 15
+//! (`r15`) memory. `specs/Machine.antt` defines each instruction, step by step, and
 //! `specs/Calls.antt` calls and returns.
 #![tactic(auto)]
 
 use codegen_operation::{Bytes, Condition, Operator, ShiftOperator, Width};
 
+mod module;
+mod procedure;
 pub mod run;
 pub mod text;
+
+pub use module::{Module, NamedProcedure, Refusal};
+pub use procedure::{Malformed, Part, Procedure};
 
 /// The register number used where no register can be named. The machine has no such register, and
 /// is stuck at it.

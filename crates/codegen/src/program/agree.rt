@@ -2,10 +2,9 @@
 
 use super::random::random_program;
 use crate::compile;
-use codegen_ir::Module;
-use codegen_machine::ModuleCode;
 use codegen_machine::run::{Run, Standing, run_module, run_module_code};
 use codegen_machine::text::read_module;
+use codegen_machine::{Module, ModuleCode};
 use std::alloc::{AllocError, Global};
 
 /// The step limit of a module's run.

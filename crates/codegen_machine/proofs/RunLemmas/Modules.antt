@@ -7,14 +7,14 @@ use Rattle.std.specs.Prelude.{slice_get, slice_index}
 use Rattle.regalloc2_names.specs.Register.{VirtualRegister}
 use Rattle.regalloc2_function.specs.Path.{first_of}
 use Rattle.codegen_machine.specs.Calls.{FunctionCode, Stack, StackState, stack_run, stack_step}
-use Rattle.codegen_ir.specs.Calls.{CallValue, ModuleState, SuspendedFrame, frame_called, frame_entered, module_run, module_step, suspended}
-use Rattle.codegen_ir.specs.Modules.{procedures_of}
-use Rattle.codegen_ir.specs.Seen.{function_of_procedure}
+use Rattle.codegen_machine.specs.Frames.{CallValue, ModuleState, SuspendedFrame, frame_called, frame_entered, module_run, module_step, suspended}
+use Rattle.codegen_machine.specs.Modules.{procedures_of}
+use Rattle.codegen_machine.specs.Seen.{function_of_procedure}
 use Rattle.codegen_operation.specs.Numbers.{RunOutcome, Running as runs, Returned as returned, Trapped as traps, Overflowed as overflows, Stuck as sticks, further}
 use Rattle.codegen_machine.specs.Run.Runs.{arguments_of, first_state, run_outcome}
 use Rattle.codegen_machine.specs.Run.States.{frame_of, frames_of, suspended_of, suspensions_of}
-use Rattle.codegen_ir.specs.declared.module.NamedProcedure.{NamedProcedure}
-use Rattle.codegen_ir.specs.declared.procedure.Procedure.{Procedure}
+use Rattle.codegen_machine.specs.declared.module.NamedProcedure.{NamedProcedure}
+use Rattle.codegen_machine.specs.declared.procedure.Procedure.{Procedure}
 use Rattle.codegen_machine.specs.declared.run.frame.Frame.{Frame}
 use Rattle.codegen_machine.specs.declared.run.stack.Activation.{Activation}
 use Rattle.codegen_machine.specs.declared.run.standing.Standing.{Standing}

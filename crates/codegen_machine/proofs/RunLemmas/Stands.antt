@@ -3,8 +3,8 @@ use Rattle.std.proofs.Common.{ℕ, zero, suc, ◌≡◌, ◌+◌, ◌-◌, ◌<�
 use Rattle.std.specs.Prelude.{List}
 use Rattle.regalloc2_function.specs.FunctionValue.{FunctionValue}
 use Rattle.codegen_operation.specs.Numbers.{RunOutcome, Running as runs, further}
-use Rattle.codegen_ir.specs.Meaning.{ProcedureState, procedure_run, procedure_step}
-use Rattle.codegen_ir.specs.Seen.{Operations}
+use Rattle.codegen_machine.specs.Meaning.{ProcedureState, procedure_run, procedure_step}
+use Rattle.codegen_machine.specs.Seen.{Operations}
 use Rattle.codegen_machine.specs.Machine.{CodeValue, MachineState, machine_run, machine_step}
 use Rattle.codegen_machine.specs.Run.Runs.{run_outcome}
 use Rattle.codegen_machine.specs.declared.run.standing.Standing.{Standing}

@@ -3,14 +3,14 @@ use Rattle.std.specs.Prelude.{ℕ, ◌≡◌, List, codes, slice_index, None, So
 use Rattle.std.specs.Fmt.{decimal}
 use Rattle.regalloc2_function.specs.Path.{first_of}
 use Rattle.codegen_operation.specs.Numbers.{RunOutcome, Running as runs, Returned as returned, Trapped as traps, Overflowed as overflows, Stuck as sticks, further}
-use Rattle.codegen_ir.specs.Meaning.{ProcedureState}
-use Rattle.codegen_ir.specs.Seen.{function_of_procedure}
-use Rattle.codegen_ir.specs.declared.procedure.Procedure.{Procedure}
+use Rattle.codegen_machine.specs.Meaning.{ProcedureState}
+use Rattle.codegen_machine.specs.Seen.{function_of_procedure}
+use Rattle.codegen_machine.specs.declared.procedure.Procedure.{Procedure}
 use Rattle.codegen_machine.specs.Machine.{MachineState}
-use Rattle.codegen_ir.specs.Calls.{ModuleState, module_begun, module_run}
-use Rattle.codegen_ir.specs.Modules.{procedures_of}
+use Rattle.codegen_machine.specs.Frames.{ModuleState, module_begun, module_run}
+use Rattle.codegen_machine.specs.Modules.{procedures_of}
 use Rattle.codegen_machine.specs.Calls.{Stack, StackState, functions_of, stack_begun, stack_run}
-use Rattle.codegen_ir.specs.declared.module.Module.{Module}
+use Rattle.codegen_machine.specs.declared.module.Module.{Module}
 use Rattle.codegen_machine.specs.declared.ModuleCode.{ModuleCode}
 use Rattle.codegen_machine.specs.declared.run.standing.Run.{Run}
 use Rattle.codegen_machine.specs.declared.run.standing.Standing.{Standing}

@@ -4,8 +4,8 @@ use Rattle.std.specs.HashMap.{HashMap, get}
 use Rattle.regalloc2_names.specs.Register.{VirtualRegister}
 use Rattle.regalloc2_names.specs.RegisterBits.{bits_of_vreg}
 use Rattle.codegen_machine.specs.Calls.{Calls, FunctionCode, Passes, StackAct as Act, StackState, SuspendedActivation, activated, arguments_passed, calling, suspended_at, words_taken}
-use Rattle.codegen_ir.specs.Calls.{CallValue, ModuleState, SuspendedFrame}
-use Rattle.codegen_ir.specs.Meaning.{ProcedureState}
+use Rattle.codegen_machine.specs.Frames.{CallValue, ModuleState, SuspendedFrame}
+use Rattle.codegen_machine.specs.Meaning.{ProcedureState}
 use Rattle.codegen_operation.specs.Numbers.{RunOutcome}
 use Rattle.codegen_machine.specs.Machine.{MachineState, code_of, is_general}
 use Rattle.codegen_machine.specs.declared.Source.{Source}

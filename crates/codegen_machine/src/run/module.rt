@@ -2,18 +2,18 @@
 
 ghost use Rattle.std.specs.Prelude.{◌≡◌, ◌<◌, ◌^◌, ◌+◌, ◌∷◌, [], IfOk, IfSome, MatchOption, OnOk, slice_get};
 ghost use Rattle.std.specs.Option.{option_map};
-ghost use Rattle.codegen_ir.specs.Calls.{call_on, frame_called, frame_stepped, module_begun, module_step, returned_to};
-ghost use Rattle.codegen_ir.specs.Meaning.{procedure_step};
-ghost use Rattle.codegen_ir.specs.Modules.{procedures_of};
+ghost use Rattle.codegen_machine.specs.Frames.{call_on, frame_called, frame_stepped, module_begun, module_step, returned_to};
+ghost use Rattle.codegen_machine.specs.Meaning.{procedure_step};
+ghost use Rattle.codegen_machine.specs.Modules.{procedures_of};
 ghost use Rattle.codegen_operation.specs.Numbers.{Running};
-ghost use Rattle.codegen_ir.specs.Seen.{function_of_procedure, operations};
+ghost use Rattle.codegen_machine.specs.Seen.{function_of_procedure, operations};
 ghost use Rattle.codegen_machine.specs.Run.Runs.{arguments_of, IsModuleRun, module_outcome};
 ghost use Rattle.codegen_machine.specs.Run.States.{call_value, frame_of, frames_of, frames_outcome, frames_state, state_of};
 
 use super::frame::Frame;
 use super::procedure::{State, first_line, no_numbers, numbers_at, put};
 use super::standing::{Run, Standing};
-use codegen_ir::{Module, Procedure};
+use crate::{Module, Procedure};
 use codegen_operation::Operation;
 use regalloc2_names::VReg;
 use std::alloc::{AllocError, Global};

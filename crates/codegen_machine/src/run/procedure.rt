@@ -6,15 +6,15 @@ ghost use Rattle.regalloc2_function.specs.FunctionValue.{block_at};
 ghost use Rattle.regalloc2_function.specs.Path.{first_of};
 ghost use Rattle.regalloc2_function.specs.SourceRun.{arguments_at};
 ghost use Rattle.codegen_operation.specs.Numbers.{condition_holds, divided_at, division_traps, is_within, number_at, widened, with_number, Trapped};
-ghost use Rattle.codegen_ir.specs.Meaning.{along, count_number, done, onward, right_number, stored, procedure_run, procedure_step};
-ghost use Rattle.codegen_ir.specs.Seen.{function_of_procedure, operations};
+ghost use Rattle.codegen_machine.specs.Meaning.{along, count_number, done, onward, right_number, stored, procedure_run, procedure_step};
+ghost use Rattle.codegen_machine.specs.Seen.{function_of_procedure, operations};
 ghost use Rattle.codegen_machine.specs.Run.Runs.{arguments_of, first_state, IsProcedureRun};
 ghost use Rattle.codegen_machine.specs.Run.States.{numbers_by_vreg, procedure_outcome, state_of};
 
 use super::memory::{is_within, number_at, put_number};
 use super::numbers::{argument, compute_at, divided_at, does_hold, does_trap, shift_at, widened};
 use super::standing::{Run, Standing};
-use codegen_ir::Procedure;
+use crate::Procedure;
 use codegen_operation::{Bytes, Condition, Count, DivisionPart, Operation, Right, Width};
 use regalloc2_function::Function;
 use regalloc2_index::Block;

@@ -2,7 +2,7 @@
 
 use super::functions::Functions;
 use super::operations::{Scope, read_branch, read_store, read_value, read_vreg};
-use codegen_ir::{Malformed, NamedProcedure, Part, Procedure};
+use crate::{Malformed, NamedProcedure, Part, Procedure};
 use codegen_operation::{Line, Operation};
 use regalloc2_index::{Block, Inst, InstRange};
 use regalloc2_names::VReg;

@@ -2,7 +2,7 @@
 
 use super::draft::Draft;
 use super::functions::{Callee, FIRST_ARGUMENTS, Functions};
-use codegen_ir::{Module, NamedProcedure, Refusal};
+use crate::{Module, NamedProcedure, Refusal};
 use regalloc2_text::cursor::{Cursor, Expected, Flaw, Found, Token};
 use std::alloc::Global;
 

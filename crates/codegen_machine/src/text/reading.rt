@@ -5,7 +5,7 @@ ghost use Rattle.regalloc2_text.specs.Cursor.Lines.{IsOnLineBetween};
 
 use super::functions::Functions;
 use super::module::ModuleDraft;
-use codegen_ir::Module;
+use crate::Module;
 use regalloc2_text::cursor::{TextError, Token, split_line, tokenize};
 use std::alloc::Global;
 

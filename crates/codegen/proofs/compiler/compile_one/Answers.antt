@@ -1,5 +1,5 @@
 use Rattle.regalloc2_function.specs.Views.{machine_of, output_of}
-use Rattle.codegen_ir.specs.Seen.{function_of_procedure}
+use Rattle.codegen_machine.specs.Seen.{function_of_procedure}
 use Rattle.codegen.proofs.compiler.compile_one.Goals as goal
 
 pub returns-in-Ok-emit-clause-code : goal.returns-in-Ok-emit-clause-code

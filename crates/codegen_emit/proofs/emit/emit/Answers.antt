@@ -1,6 +1,6 @@
 use Rattle.std.proofs.Common.{◌≡◌, ◌∙◌, length, refl, arith}
 use Rattle.regalloc2_function.specs.Views.{output_of}
-use Rattle.codegen_ir.specs.Seen.{function_of_procedure, operations}
+use Rattle.codegen_machine.specs.Seen.{function_of_procedure, operations}
 use Rattle.codegen_emit.proofs.Emitting.{all_resolved, no_block_yet, one_block, no_start, one_start}
 use Rattle.codegen_machine.specs.Machine.{CodeValue}
 use Rattle.codegen_emit.specs.Emitted.{emitted}

@@ -1,6 +1,6 @@
 use Rattle.std.specs.Prelude.{◌≡◌}
 use Rattle.regalloc2_function.specs.Views.{output_of}
-use Rattle.codegen_ir.specs.Seen.{function_of_procedure, operations}
+use Rattle.codegen_machine.specs.Seen.{function_of_procedure, operations}
 use Rattle.codegen_emit.specs.Emitted.{blocks_code}
 use Rattle.codegen_emit.proofs.Emitting.{AreStarts}
 use Rattle.codegen_emit.proofs.emit.emit.Given as goal

@@ -2,7 +2,7 @@ use Rattle.std.proofs.Common.{ap, ◌+◌, ◌++◌, length}
 use Rattle.regalloc2_function.specs.FunctionValue.{block_at}
 use Rattle.regalloc2_function.specs.Following.{end_within}
 use Rattle.regalloc2_function.specs.Views.{output_of}
-use Rattle.codegen_ir.specs.Seen.{function_of_procedure, operations}
+use Rattle.codegen_machine.specs.Seen.{function_of_procedure, operations}
 use Rattle.codegen_emit.specs.Emitted.{items_code}
 use Rattle.codegen_emit.proofs.Emitting.{all_wider, next_within, one_item, no_item}
 use Rattle.codegen_emit.proofs.emit.emit_block.Goals as goal

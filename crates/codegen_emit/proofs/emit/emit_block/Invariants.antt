@@ -2,7 +2,7 @@ use Rattle.std.specs.Prelude.{◌≡◌, ◌+◌, ◌++◌, All, length}
 use Rattle.regalloc2_function.specs.FunctionValue.{block_at}
 use Rattle.regalloc2_function.specs.Listing.{IsListedWithin}
 use Rattle.regalloc2_function.specs.Views.{output_of, rest_of}
-use Rattle.codegen_ir.specs.Seen.{function_of_procedure, operations}
+use Rattle.codegen_machine.specs.Seen.{function_of_procedure, operations}
 use Rattle.codegen_emit.specs.Emitted.{items_code, block_code}
 use Rattle.codegen_emit.proofs.emit.emit_block.Given as goal
 

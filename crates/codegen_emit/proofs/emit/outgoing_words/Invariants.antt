@@ -1,5 +1,5 @@
 use Rattle.std.specs.Prelude.{◌≡◌, take}
-use Rattle.codegen_ir.specs.Successors.{operations_of}
+use Rattle.codegen_machine.specs.Successors.{operations_of}
 use Rattle.codegen_emit.specs.Emitted.{outgoing_words}
 use Rattle.codegen_emit.proofs.emit.outgoing_words.Given as goal
 

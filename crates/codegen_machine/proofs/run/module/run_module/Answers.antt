@@ -1,7 +1,7 @@
 use Rattle.std.proofs.lemmas.Result.{IfOk-from_err}
 use Rattle.std.proofs.Common.{◌≡◌, refl, ap, ◌∙◌, arith}
-use Rattle.codegen_ir.specs.Calls.{module_begun}
-use Rattle.codegen_ir.specs.Modules.{procedures_of}
+use Rattle.codegen_machine.specs.Frames.{module_begun}
+use Rattle.codegen_machine.specs.Modules.{procedures_of}
 use Rattle.codegen_machine.specs.Run.Runs.{arguments_of, module_outcome, run_outcome}
 use Rattle.codegen_machine.specs.Run.States.{frames_state}
 use Rattle.codegen_machine.specs.declared.run.standing.Standing.TheVariants as stand

@@ -1,8 +1,8 @@
 use Rattle.std.proofs.lemmas.Result.{IfOk-from_err}
 use Rattle.std.proofs.Common.{◌≡◌, refl, sym, ap, ◌∙◌, arith}
-use Rattle.codegen_ir.specs.Meaning.{ProcedureState, procedure_run}
+use Rattle.codegen_machine.specs.Meaning.{ProcedureState, procedure_run}
 use Rattle.codegen_operation.specs.Numbers.{Running}
-use Rattle.codegen_ir.specs.Seen.{function_of_procedure, operations}
+use Rattle.codegen_machine.specs.Seen.{function_of_procedure, operations}
 use Rattle.codegen_machine.specs.Run.Runs.{arguments_of, first_state, run_outcome}
 use Rattle.codegen_machine.specs.Run.States.{state_of}
 use Rattle.codegen_machine.specs.declared.run.standing.Standing.TheVariants as stand

@@ -1,7 +1,7 @@
 use Rattle.std.proofs.Common.{◌≡◌}
-use Rattle.codegen_ir.specs.Meaning.{procedure_run}
+use Rattle.codegen_machine.specs.Meaning.{procedure_run}
 use Rattle.codegen_operation.specs.Numbers.{Running}
-use Rattle.codegen_ir.specs.Seen.{function_of_procedure, operations}
+use Rattle.codegen_machine.specs.Seen.{function_of_procedure, operations}
 use Rattle.codegen_machine.specs.Run.Runs.{arguments_of, first_state}
 use Rattle.codegen_machine.specs.Run.States.{state_of}
 use Rattle.codegen_machine.proofs.run.procedure.run_procedure.Given as goal

@@ -3,7 +3,7 @@ use Rattle.std.proofs.Common.{◌≡◌, List, length, refl, subst}
 use Rattle.std.proofs.lemmas.Option.{slice_get_read}
 use Rattle.std.specs.Prelude.{slice_get, Some}
 use Rattle.codegen_machine.specs.Run.States.{call_value, frames_of, frames_state, numbers_by_vreg}
-use Rattle.codegen_ir.specs.declared.module.NamedProcedure.{NamedProcedure}
+use Rattle.codegen_machine.specs.declared.module.NamedProcedure.{NamedProcedure}
 use Rattle.codegen_machine.proofs.RunLemmas.Modules.{called_is}
 use Rattle.codegen_machine.proofs.run.module.Frames.call.Goals as goal
 

@@ -1,7 +1,7 @@
 use Rattle.std.proofs.Common.{◌≡◌, List, length, refl, subst}
 use Rattle.std.proofs.lemmas.Option.{slice_get-map, slice_get_past, slice_get_read}
 use Rattle.std.specs.Prelude.{slice_get, None, Some}
-use Rattle.codegen_ir.specs.declared.module.NamedProcedure.{NamedProcedure}
+use Rattle.codegen_machine.specs.declared.module.NamedProcedure.{NamedProcedure}
 use Rattle.codegen_machine.proofs.run.module.Frames.step.Goals as goal
 
 pub returns-in_default : goal.returns-in_default

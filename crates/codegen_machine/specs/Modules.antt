@@ -1,13 +1,13 @@
 -- Whether functions are a module: they have one memory, the first has at most six arguments, and calls pass each function as many arguments as it has.
 use Rattle.std.specs.Prelude.{ℕ, ◌≡◌, ◌<◌, IsTrue, Bool, true, false, nat_eq, nat_lt, nat_le, List, [], ◌∷◌, map, length, slice_get, Option, None, Some}
 use Rattle.std.specs.List.{list_all}
-use Rattle.codegen_ir.specs.Successors.{operations_of}
+use Rattle.codegen_machine.specs.Successors.{operations_of}
 use Rattle.codegen_operation.specs.declared.operation.Operation.{Operation}
 use Rattle.codegen_operation.specs.declared.operation.Operation.TheVariants.{Argument, Call}
-use Rattle.codegen_ir.specs.declared.procedure.Procedure.{Procedure}
-use Rattle.codegen_ir.specs.declared.module.NamedProcedure.{NamedProcedure}
-use Rattle.codegen_ir.specs.declared.module.Refusal.{Refusal}
-use Rattle.codegen_ir.specs.declared.module.Refusal.TheVariants.{NoFunction, MemorySize, ManyArguments, UnknownArgument, WrongCall}
+use Rattle.codegen_machine.specs.declared.procedure.Procedure.{Procedure}
+use Rattle.codegen_machine.specs.declared.module.NamedProcedure.{NamedProcedure}
+use Rattle.codegen_machine.specs.declared.module.Refusal.{Refusal}
+use Rattle.codegen_machine.specs.declared.module.Refusal.TheVariants.{NoFunction, MemorySize, ManyArguments, UnknownArgument, WrongCall}
 
 -- the procedures of a module, by number, and their arities
 abbrev pub procedures_of : List NamedProcedure → List Procedure

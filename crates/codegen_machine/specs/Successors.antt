@@ -8,9 +8,9 @@ use Rattle.codegen_operation.specs.declared.operation.Right.{Right}
 use Rattle.codegen_operation.specs.declared.operation.Right.TheVariants.{VReg, Number}
 use Rattle.codegen_operation.specs.Operands.{operands_of}
 use Rattle.codegen_operation.specs.declared.line.Line.{Line}
-use Rattle.codegen_ir.specs.declared.procedure.Part.{Part}
-use Rattle.codegen_ir.specs.declared.procedure.Malformed.{Malformed}
-use Rattle.codegen_ir.specs.declared.procedure.Malformed.TheVariants.{TooLarge, MissingSuccessor, UnknownRegister, LargeNumber, LargeMemory}
+use Rattle.codegen_machine.specs.declared.procedure.Part.{Part}
+use Rattle.codegen_machine.specs.declared.procedure.Malformed.{Malformed}
+use Rattle.codegen_machine.specs.declared.procedure.Malformed.TheVariants.{TooLarge, MissingSuccessor, UnknownRegister, LargeNumber, LargeMemory}
 
 -- the number of successors that an operation requires
 abbrev pub wanted_by : Operation → ℕ

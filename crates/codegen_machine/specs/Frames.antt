@@ -4,11 +4,11 @@ use Rattle.regalloc2_names.specs.Register.{VirtualRegister}
 use Rattle.regalloc2_function.specs.Path.{Location, first_of}
 use Rattle.regalloc2_semantics.specs.Values.Interpreters.{number_set}
 use Rattle.codegen_operation.specs.Numbers.{RunOutcome, Running, Returned, Trapped, Overflowed, Stuck, further}
-use Rattle.codegen_ir.specs.Meaning.{ProcedureState, procedure_step}
-use Rattle.codegen_ir.specs.Seen.{function_of_procedure, operations}
+use Rattle.codegen_machine.specs.Meaning.{ProcedureState, procedure_step}
+use Rattle.codegen_machine.specs.Seen.{function_of_procedure, operations}
 use Rattle.codegen_operation.specs.declared.operation.Operation.{Operation}
 use Rattle.codegen_operation.specs.declared.operation.Operation.TheVariants.{Call}
-use Rattle.codegen_ir.specs.declared.procedure.Procedure.{Procedure}
+use Rattle.codegen_machine.specs.declared.procedure.Procedure.{Procedure}
 
 -- a suspended frame: its procedure's number, its arguments, the line of its call, the vregs' numbers, and the vreg that the call defines
 pub record SuspendedFrame : Type 0 where

@@ -1,7 +1,7 @@
 use Rattle.std.proofs.Common.{◌≡◌, length, refl, ap, arith}
 use Rattle.std.proofs.lemmas.Option.{slice_get-map, slice_get_past, slice_get_read}
 use Rattle.std.specs.Prelude.{None, Some, nat_eq, slice_get}
-use Rattle.codegen_ir.proofs.module.calls_function.Goals as goal
+use Rattle.codegen_machine.proofs.module.calls_function.Goals as goal
 
 pub returns-in-Some : goal.returns-in-Some
 returns-in-Some c =

@@ -1,7 +1,7 @@
 use Rattle.std.proofs.Common.{◌≡◌, ◌-◌, length, refl, arith}
 use Rattle.std.proofs.lemmas.Option.{slice_get-map, slice_get_past, slice_get_read}
 use Rattle.std.specs.Prelude.{None, Some, slice_get}
-use Rattle.codegen_ir.proofs.procedure.has_them.Goals as goal
+use Rattle.codegen_machine.proofs.procedure.has_them.Goals as goal
 
 pub returns-in-Some : goal.returns-in-Some
 returns-in-Some c =

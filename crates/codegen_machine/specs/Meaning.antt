@@ -5,7 +5,7 @@ use Rattle.regalloc2_function.specs.FunctionValue.{FunctionValue, block_at}
 use Rattle.regalloc2_function.specs.Path.{Location, first_of}
 use Rattle.regalloc2_function.specs.SourceRun.{arguments_at}
 use Rattle.regalloc2_semantics.specs.Values.Interpreters.{number_set, passed_on}
-use Rattle.codegen_ir.specs.Seen.{Operations}
+use Rattle.codegen_machine.specs.Seen.{Operations}
 use Rattle.codegen_operation.specs.Numbers.{RunOutcome, Running, Returned, Trapped, Stuck, further, computed_at, shifted_at, divided_at, division_traps}
 use Rattle.codegen_operation.specs.Numbers.{condition_holds, widened, truth, is_within, number_at, with_number}
 use Rattle.codegen_operation.specs.declared.operation.Operation.{Operation}

@@ -2,7 +2,7 @@
 
 ghost use Rattle.std.specs.Prelude.{◌≡◌, ◌<◌, IfErr, IfOk, IsTrue, vec_len};
 ghost use Rattle.std.specs.List.{list_all};
-ghost use Rattle.codegen_ir.specs.Modules.{arities_of, calls_function, calls_functions, has_memory, IsRefused, passes_registers, reads_argument, reads_arguments};
+ghost use Rattle.codegen_machine.specs.Modules.{arities_of, calls_function, calls_functions, has_memory, IsRefused, passes_registers, reads_argument, reads_arguments};
 
 use super::procedure::Procedure;
 use codegen_operation::{Line, Operation};

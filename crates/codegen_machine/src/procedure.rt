@@ -2,7 +2,7 @@
 
 ghost use Rattle.std.specs.Prelude.{◌≡◌, ◌<◌, ◌≤◌, ◌^◌, ◌-◌, IfOk, IfErr, IsTrue, vec_len};
 ghost use Rattle.std.specs.List.{list_all};
-ghost use Rattle.codegen_ir.specs.Successors.{has_small_number, has_successors, knows_registers, operations_of, wanted_by, IsMalformed};
+ghost use Rattle.codegen_machine.specs.Successors.{has_small_number, has_successors, knows_registers, operations_of, wanted_by, IsMalformed};
 
 use codegen_operation::{Line, Operation, Right};
 use regalloc2_function::Function;
@@ -207,7 +207,7 @@ impl Procedure {
 }
 
 impl Function for Procedure {
-    ghost use Rattle.codegen_ir.specs.Seen.{function_of_procedure, limited_procedure};
+    ghost use Rattle.codegen_machine.specs.Seen.{function_of_procedure, limited_procedure};
 
     ghost function = { function_of_procedure };
 

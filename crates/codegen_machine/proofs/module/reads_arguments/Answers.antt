@@ -1,9 +1,9 @@
 use Rattle.std.proofs.Common.{List, ap, sym, ◌∙◌}
 use Rattle.std.specs.List.{list_all}
 use Rattle.std.proofs.lemmas.List.Folds.{list_all-map}
-use Rattle.codegen_ir.specs.Modules.{reads_argument}
+use Rattle.codegen_machine.specs.Modules.{reads_argument}
 use Rattle.codegen_operation.specs.declared.line.Line.{Line}
-use Rattle.codegen_ir.proofs.module.reads_arguments.Goals as goal
+use Rattle.codegen_machine.proofs.module.reads_arguments.Goals as goal
 
 pub returns : goal.returns
 returns c =

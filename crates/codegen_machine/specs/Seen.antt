@@ -6,11 +6,11 @@ use Rattle.std.proofs.lemmas.List.Elements.{All-nil}
 use Rattle.regalloc2_function.specs.FunctionValue.{FunctionValue, BlockValue, InstValue, IsLimited}
 use Rattle.regalloc2_function.specs.SingleUnits.{single_units, IsSlotSize-single_units}
 use Rattle.codegen_operation.specs.Operands.{operands_of, is_jump, is_return}
-use Rattle.codegen_ir.specs.Successors.{operations_of}
+use Rattle.codegen_machine.specs.Successors.{operations_of}
 use Rattle.codegen_operation.specs.declared.operation.Operation.{Operation}
 use Rattle.codegen_operation.specs.declared.line.Line.{Line}
-use Rattle.codegen_ir.specs.declared.procedure.Part.{Part}
-use Rattle.codegen_ir.specs.declared.procedure.Procedure.{Procedure}
+use Rattle.codegen_machine.specs.declared.procedure.Part.{Part}
+use Rattle.codegen_machine.specs.declared.procedure.Procedure.{Procedure}
 
 abbrev pub inst_of_line : Line → InstValue
 inst_of_line l = record {

@@ -1,9 +1,9 @@
 use Rattle.std.proofs.Common.{List, ap, sym, ◌∙◌}
 use Rattle.std.specs.List.{list_all}
 use Rattle.std.proofs.lemmas.List.Folds.{list_all-map}
-use Rattle.codegen_ir.specs.Modules.{arities_of, calls_function}
+use Rattle.codegen_machine.specs.Modules.{arities_of, calls_function}
 use Rattle.codegen_operation.specs.declared.line.Line.{Line}
-use Rattle.codegen_ir.proofs.module.calls_functions.Goals as goal
+use Rattle.codegen_machine.proofs.module.calls_functions.Goals as goal
 
 pub returns : goal.returns
 returns c =
