@@ -48,9 +48,9 @@ FLOORS = [
         ("ra2_text", "texts")])],
     [("Code generator", [
         ("codegen_operation", "operations, operands"),
-        ("codegen_machine", "functions, machine, text"),
+        ("codegen_machine", "functions, machine"),
         ("codegen_emit", "instructions"),
-        ("codegen", "the compiler"),
+        ("codegen", "compiler, runs, text"),
         ("compile", "program")])],
     [("Example", [("example_toy", "program: a client, a call")]),
      ("Tests", [

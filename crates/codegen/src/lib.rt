@@ -98,12 +98,14 @@
 //! the frame, or describes it to a debugger, needs those.
 //!
 //! Not proved: that x86-64 runs the printed text as the machine runs the code.
-//! `codegen_machine::text` has a spec of the text, and tests run it.
+//! [`text`] has a spec of the text, and tests run it.
 #![tactic(auto)]
 
 mod compiler;
 pub mod program;
 mod registers;
+pub mod run;
+pub mod text;
 
 pub use compiler::{CompileError, compile};
 pub use registers::target;

@@ -1,6 +1,5 @@
 -- Procedures over 64-bit integers: what they compute (`Meaning`), the allocator's view of each, its function (`Seen`), and modules of them (`Modules`,
--- `Frames`). The target machine (`Machine`), its calls and returns (`Calls`), interpreters of procedures and of machine code (`Run`), and the text of code
--- (`Text`).
+-- `Frames`). The target machine (`Machine`), and its calls and returns (`Calls`).
 -- Read first: `Meaning`, the interpreter of a procedure; `Seen`: `function_of_procedure`; then `Machine`: `machine_step` is one step, `machine_run` a run.
 -- Depends on codegen_operation: `Numbers`, the arithmetic of 64-bit integers, and `Operands`; on functions of regalloc2_function.
 pub mod Successors
@@ -10,5 +9,3 @@ pub mod Modules
 pub mod Frames
 pub mod Machine
 pub mod Calls
-pub mod Run
-pub mod Text

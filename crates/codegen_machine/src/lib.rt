@@ -15,8 +15,6 @@ use codegen_operation::{Bytes, Condition, Operator, ShiftOperator, Width};
 
 mod module;
 mod procedure;
-pub mod run;
-pub mod text;
 
 pub use module::{Module, NamedProcedure, Refusal};
 pub use procedure::{Malformed, Part, Procedure};

@@ -2,8 +2,8 @@
 
 use super::random::random_program;
 use crate::compile;
-use codegen_machine::run::{Run, Standing, run_module, run_module_code};
-use codegen_machine::text::read_module;
+use crate::run::{Run, Standing, run_module, run_module_code};
+use crate::text::read_module;
 use codegen_machine::{Module, ModuleCode};
 use std::alloc::{AllocError, Global};
 
