@@ -1,8 +1,10 @@
-//! Functions, machines and outputs as text: read by a [`cursor`] over lines, laid out by [`writer`].
+//! Functions, machines and outputs as text: read by a [`cursor`] over lines, laid out by [`writer`]; and the allocator's errors, with
+//! their numbers ([`refusal`]).
 #![tactic(auto)]
 
 pub mod cursor;
 mod reading;
+pub mod refusal;
 mod same;
 pub mod writer;
 mod writing;

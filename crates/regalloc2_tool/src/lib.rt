@@ -11,6 +11,5 @@ mod moves;
 mod operands;
 mod places;
 pub mod ra2;
-pub mod refusal;
 pub mod stored_fault;
 pub mod svg;

@@ -10,7 +10,7 @@ use crate::text::{AssemblyText, HeaderText, TextError, read_module};
 use crate::{CompileError, compile, target};
 use codegen_machine::{Module, ModuleCode};
 use regalloc2::{RegAllocError, TestedRunError, run_tested};
-use regalloc2_tool::refusal::RefusalText;
+use regalloc2_text::refusal::RefusalText;
 use std::alloc::{AllocError, Global};
 use std::error::Error;
 use std::fmt;

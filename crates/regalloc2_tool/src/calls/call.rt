@@ -10,7 +10,6 @@ ghost use Rattle.regalloc2_function.specs.WellFormed.{IsFramed};
 ghost use Rattle.regalloc2_tool.specs.Framed.{BlocksAreWithin};
 
 use crate::listing::write_listing;
-use crate::refusal::{RefusalText, number_of};
 use crate::stored_fault::FaultText;
 use crate::svg::Picture;
 use regalloc2_analysis::liveness::reads_written;
@@ -27,6 +26,7 @@ use regalloc2_function::{
 use regalloc2_index::Inst;
 use regalloc2_names::{Allocation, Operand, RegAllocError};
 use regalloc2_serialize::{SerializableFunction, StoredFunction};
+use regalloc2_text::refusal::{RefusalText, number_of};
 use regalloc2_text::{WriteError, write};
 use std::alloc::{AllocError, AllocFailed, Global};
 use std::error::Error;

@@ -11,10 +11,10 @@ ghost use Rattle.regalloc2_tool.specs.Ra2.Text.{checked_line};
 
 use super::task::Task;
 use crate::listing::write_listing;
-use crate::refusal::number_of;
 use regalloc2::checker::{Checker, CheckerError};
 use regalloc2::{Algorithm, Function, MachineEnv, Output, RegallocOptions, run};
 use regalloc2_checker::FaultLine;
+use regalloc2_text::refusal::number_of;
 use std::alloc::Allocator;
 use std::io::{self, Write};
 

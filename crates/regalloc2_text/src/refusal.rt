@@ -1,7 +1,7 @@
 //! The numbers of the allocator's errors, and their texts.
 
 ghost use Rattle.std.specs.Prelude.{◌≡◌};
-ghost use Rattle.regalloc2_tool.specs.Refusal.{refusal_number};
+ghost use Rattle.regalloc2_text.specs.Refusal.{refusal_number};
 
 use regalloc2_names::RegAllocError;
 use std::fmt;
