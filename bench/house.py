@@ -22,7 +22,7 @@ FLOORS = [
          ("regalloc2_parts", "lists, parallel moves")])],
     [("Stored forms", [
         ("regalloc2_serialize", "numbers, JSON, words"),
-        ("regalloc2_text", "texts")]),
+        ("regalloc2_text", "texts, causes of errors")]),
      ("Analysis", [
          ("regalloc2_semantics", "from blocks to paths"),
          ("regalloc2_analysis_steps", "one operand or edge"),
@@ -38,13 +38,11 @@ FLOORS = [
         ("regalloc2_fastalloc", "run, the output")])],
     [("Front", [("regalloc2", "allocate, run_tested, run_checked, and all items under upstream's paths")])],
     [("Tools", [
-        ("regalloc2_explain", "causes of errors"),
-        ("regalloc2_tool", "listings, pictures, calls")]),
+        ("regalloc2_tool", "listings, pictures, subcommands")]),
      ("C library", [
          ("regalloc2_c", "calls, statuses, words")])],
     [("Programs", [
         ("ra2", "JSON"),
-        ("ra2_text_program", "subcommands, text or JSON"),
         ("ra2_text", "texts")])],
     [("Code generator", [
         ("codegen_operation", "operations, operands"),
@@ -54,7 +52,6 @@ FLOORS = [
         ("compile", "program")])],
     [("Example", [("example_toy", "program: a client, a call")]),
      ("Tests", [
-         ("regalloc2_test_alloc", "failing allocator"),
          ("regalloc2_tests", "the program"),
          ("regalloc2_bench", "cost")])],
 ]

@@ -6,7 +6,7 @@
 //! written.
 #![tactic(auto)]
 
-use ra2_text_program::{Task, UNUSABLE, answer};
+use regalloc2_tool::ra2_text::{Task, UNUSABLE, answer};
 use std::env::{self, Env};
 use std::fs::File;
 use std::io::{self, Read, Write};

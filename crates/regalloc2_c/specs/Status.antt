@@ -7,7 +7,7 @@ use Rattle.regalloc2.specs.declared.tested.TestedRunError.{TestedRunError}
 use Rattle.regalloc2.specs.declared.tested.TestedRunError.TheVariants.{Misfit, Refused as RunRefused, ReadBeforeWritten as RunReads}
 use Rattle.regalloc2_function.specs.declared.serialize.StoredFault.{StoredFault}
 use Rattle.regalloc2_function.specs.declared.serialize.StoredFault.TheVariants.{Lengths, Index, Bits, Limit, Memory, Shape}
-use Rattle.regalloc2_tool.specs.Fault.{fault_number}
+use Rattle.regalloc2_text.specs.StoredFault.{fault_number}
 use Rattle.regalloc2_text.specs.Refusal.{refusal_number}
 use Rattle.regalloc2_c.specs.declared.failure.Failure.{Failure}
 use Rattle.regalloc2_c.specs.declared.failure.Failure.TheVariants.{Unreadable, BadMachine, NoRoom, Faults, NoMemory, NotFramed, BadOutput}

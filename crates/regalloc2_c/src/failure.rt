@@ -6,8 +6,7 @@ ghost use Rattle.regalloc2_c.specs.Status.{failure_number, allocate_failure, run
 use regalloc2::serialize::StoredFault;
 use regalloc2::{AllocateError, RegAllocError, TestedRunError};
 use regalloc2_function::MachineMisfit;
-use regalloc2_text::refusal;
-use regalloc2_tool::stored_fault;
+use regalloc2_text::{refusal, stored_fault};
 
 /// Why a call gives nothing.
 #[derive(Drop)]

@@ -12,10 +12,10 @@ mod changed;
 mod refused;
 
 use super::random::Random;
+use crate::test_alloc::Refusing;
 use asked::{Answer, ask};
 use changed::changed;
 use refused::show_refused;
-use regalloc2_test_alloc::Refusing;
 use std::alloc::{AllocError, Global};
 use std::io::{self, Write};
 

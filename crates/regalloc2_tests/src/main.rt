@@ -26,6 +26,7 @@ mod program;
 mod random;
 mod refusing;
 mod rows;
+mod test_alloc;
 mod texts;
 mod units;
 

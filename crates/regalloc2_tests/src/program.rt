@@ -1,7 +1,7 @@
 //! What `ra2` returns for arguments and texts, and where a read or a write fails.
 
 use super::words_of;
-use regalloc2_test_alloc::Refusing;
+use crate::test_alloc::Refusing;
 use regalloc2_tool::ra2::answer;
 use std::alloc::Global;
 use std::io::{self, BufWriter, ErrorKind, Read, Write};

@@ -7,10 +7,10 @@
 
 mod calls;
 
+use crate::test_alloc::{Refusing, is_each_told};
 use crate::units::parts::refused::function_of_text;
 use calls::{Given, NAMES, Name};
 use regalloc2::{Function, MachineEnv, Output, allocate_without_checker};
-use regalloc2_test_alloc::{Refusing, is_each_told};
 use std::alloc::Global;
 use std::io::{self, Write};
 

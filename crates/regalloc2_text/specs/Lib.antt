@@ -1,5 +1,7 @@
--- How much of a line a cursor has left to read, on which line an error is, and the numbers of the allocator's errors (`Refusal`).
+-- Texts: how much of a line a cursor has left to read, on which line an error is, and errors by number (`Refusal`, `StoredFault`) with their causes (`Explain`).
 -- Read first: `Cursor/Cursor`, then `Cursor/Lines`.
--- Depends on the types of cursors and of text errors alone.
+-- Depends on regalloc2_names and regalloc2_function (texts of errors), and on the types of this crate.
 pub mod Cursor
+pub mod Explain
 pub mod Refusal
+pub mod StoredFault

@@ -1,11 +1,13 @@
-//! Functions, machines and outputs as text: read by a [`cursor`] over lines, laid out by [`writer`]; and the allocator's errors, with
-//! their numbers ([`refusal`]).
+//! Functions, machines and outputs as text: read by a [`cursor`] over lines, laid out by [`writer`]; errors with their numbers
+//! ([`refusal`], [`stored_fault`]), and their causes ([`explain`]).
 #![tactic(auto)]
 
 pub mod cursor;
+pub mod explain;
 mod reading;
 pub mod refusal;
 mod same;
+pub mod stored_fault;
 pub mod writer;
 mod writing;
 

@@ -1,8 +1,8 @@
 //! Shared parts of the command-line programs: the listing of an allocated function, and the texts
-//! of errors and findings.
+//! of findings.
 //!
-//! [`ra2`] implements the program of that name, [`calls`] the subcommands of `ra2_text`, and
-//! [`svg`] draws an allocated function.
+//! [`ra2`] and [`ra2_text`] implement the programs of these names, [`calls`] the subcommands of
+//! `ra2_text`, and [`svg`] draws an allocated function.
 #![tactic(auto)]
 
 pub mod calls;
@@ -11,5 +11,5 @@ mod moves;
 mod operands;
 mod places;
 pub mod ra2;
-pub mod stored_fault;
+pub mod ra2_text;
 pub mod svg;

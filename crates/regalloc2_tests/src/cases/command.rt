@@ -2,8 +2,8 @@
 
 use crate::words_of;
 use codegen::program::{self as compiler, Action, ROOM, RunOptions};
-use ra2_text_program::{Task, answer};
 use regalloc2_tool::calls::call::CallError;
+use regalloc2_tool::ra2_text::{Task, answer};
 use std::alloc::{AllocError, Global};
 use std::fmt::Display;
 use std::io::Write;

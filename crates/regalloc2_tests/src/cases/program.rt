@@ -2,7 +2,7 @@
 
 use super::case_file::{Case, Expectation, cases_of};
 use super::command::{write_compiler, write_program};
-use regalloc2_explain::Source;
+use regalloc2_text::explain::Source;
 use regalloc2_text::{Text, TextError};
 use regalloc2_tool::calls::call::{Call, CallError, Given, answer};
 use regalloc2_tool::calls::reading::read_text;

@@ -1,6 +1,6 @@
 //! What `ra2` returns for arguments and a text.
 
-use regalloc2_test_alloc::Refusing;
+use crate::test_alloc::Refusing;
 use regalloc2_tool::ra2::answer;
 use std::alloc::Global;
 use std::io::BufWriter;

@@ -6,7 +6,7 @@
 
 use super::asked::{LACKS, ask};
 use super::whole_text;
-use regalloc2_test_alloc::Refusing;
+use crate::test_alloc::Refusing;
 use std::alloc::Global;
 use std::io::{self, Write};
 

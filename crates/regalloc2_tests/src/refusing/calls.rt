@@ -1,6 +1,7 @@
 //! The calls that allocate memory, with their results as text.
 
 use crate::calls::{run_fitting, run_with_ctx_fitting};
+use crate::test_alloc::{Call, Refusing};
 use regalloc2::cfg::{CFGInfo, CFGInfoCtx};
 use regalloc2::checker::{Checker, CheckerError, CheckerErrors};
 use regalloc2::postorder::calculate;
@@ -9,7 +10,6 @@ use regalloc2::{
     AllocateError, Block, Ctx, Function, MachineEnv, Output, RegAllocError, TestedRunError,
     allocate, is_framed, run_tested,
 };
-use regalloc2_test_alloc::{Call, Refusing};
 use std::alloc::{AllocError, Allocator, Global};
 
 /// A call.

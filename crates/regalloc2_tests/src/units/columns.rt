@@ -2,12 +2,12 @@
 
 ghost use Rattle.std.specs.Prelude.{◌<◌, length};
 
+use crate::test_alloc::Refusing;
 use crate::units::report::Report;
 use regalloc2_function::Function;
 use regalloc2_index::{Block, Inst};
 use regalloc2_names::RegClass;
 use regalloc2_serialize::flat::FlatFunction;
-use regalloc2_test_alloc::Refusing;
 use std::alloc::{AllocError, Global};
 
 /// A function of two blocks: the first defines v0 and passes it to the parameter v1 of the second, which returns it.

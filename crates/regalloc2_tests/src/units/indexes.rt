@@ -3,9 +3,9 @@
 
 ghost use Rattle.std.specs.Iterator.{IsFinite};
 
+use crate::test_alloc::Refusing;
 use crate::units::report::Report;
 use regalloc2_index::{Block, ContainerComparator, Inst, InstRange};
-use regalloc2_test_alloc::Refusing;
 use std::alloc::{AllocError, Allocator, Global};
 use std::cmp::Ordering;
 use std::collections::BTreeMap;

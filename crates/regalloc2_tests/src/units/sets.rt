@@ -1,9 +1,9 @@
 //! Sets of registers, and sparse sets of numbers.
 
+use crate::test_alloc::Refusing;
 use crate::units::report::Report;
 use regalloc2_function::indexset::{IndexSet, SetBitsIter};
 use regalloc2_names::{PReg, PRegSet, RegClass};
-use regalloc2_test_alloc::Refusing;
 use std::alloc::{AllocError, Allocator, Global};
 
 /// The classes.

@@ -2,7 +2,7 @@
 use Rattle.std.specs.Prelude.{ℕ, codes, List, ◌++◌}
 use Rattle.std.specs.Fmt.{decimal}
 use Rattle.regalloc2_names.specs.declared.RegAllocError.{RegAllocError}
-use Rattle.regalloc2_tool.specs.Fault.{fault_number}
+use Rattle.regalloc2_text.specs.StoredFault.{fault_number}
 use Rattle.regalloc2_text.specs.Refusal.{refusal_number}
 use Rattle.regalloc2_tool.specs.declared.ra2.reading.InputError.{InputError}
 use Rattle.regalloc2_tool.specs.declared.ra2.reading.InputError.TheVariants.{Unreadable, BadFunction, BadMachine, BadOutput, NotFramed}

@@ -10,15 +10,9 @@ ghost use Rattle.regalloc2_function.specs.WellFormed.{IsFramed};
 ghost use Rattle.regalloc2_tool.specs.Framed.{BlocksAreWithin};
 
 use crate::listing::write_listing;
-use crate::stored_fault::FaultText;
 use crate::svg::Picture;
 use regalloc2_analysis::liveness::reads_written;
 use regalloc2_checker::{CellFault, CheckerError, check_output, test_cells};
-use regalloc2_explain::report::{Stats, StatsJson, write_diff, write_dump};
-use regalloc2_explain::{
-    Site, Source, explain, explain_function, explain_output, find_unwritten_read, last_writes,
-    misfit_at,
-};
 use regalloc2_fastalloc::{Algorithm, RegallocOptions, run};
 use regalloc2_function::{
     Function, MachineEnv, Output, StoredFault, StoredOutput, is_framed, machine_fits, test_machine,
@@ -26,7 +20,13 @@ use regalloc2_function::{
 use regalloc2_index::Inst;
 use regalloc2_names::{Allocation, Operand, RegAllocError};
 use regalloc2_serialize::{SerializableFunction, StoredFunction};
+use regalloc2_text::explain::report::{Stats, StatsJson, write_diff, write_dump};
+use regalloc2_text::explain::{
+    Site, Source, explain, explain_function, explain_output, find_unwritten_read, last_writes,
+    misfit_at,
+};
 use regalloc2_text::refusal::{RefusalText, number_of};
+use regalloc2_text::stored_fault::FaultText;
 use regalloc2_text::{WriteError, write};
 use std::alloc::{AllocError, AllocFailed, Global};
 use std::error::Error;
@@ -692,7 +692,7 @@ fn perform<F: Function, W: Write, E: Write>(
 /// where it is and what causes it. If the function or the output is rejected, `err` gets `bad
 /// function 2: ..`, `bad machine`, `bad output 3: ..`, `not framed` or `refused 5: ..`, and with a
 /// text the cause and the lines that contain it. The numbers are those of `number_of` in
-/// [`crate::refusal`] and [`crate::stored_fault`]; a finding has its own. [`Call::Text`] tests
+/// [`regalloc2_text::refusal`] and [`regalloc2_text::stored_fault`]; a finding has its own. [`Call::Text`] tests
 /// nothing.
 ///
 /// The contract doesn't say what is written; tests check it.

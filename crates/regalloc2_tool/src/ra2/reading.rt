@@ -10,11 +10,11 @@ ghost use Rattle.regalloc2_serialize.specs.Tables.{function_of_serializable};
 ghost use Rattle.regalloc2_tool.specs.Ra2.Input.{AreGiven, IsPairAt, IsTextOf, IsTextOfPair, IsTextOfValue, TextNamesFitting, IsInputFault, IsOutputRefusal, IsPairFault};
 ghost use Rattle.regalloc2_tool.specs.Ra2.Text.{input_text};
 
-use crate::stored_fault::number_of;
 use regalloc2::serialize::{
     FromValue, SerializableFunction, StoredFault, StoredFunction, StoredOutput,
 };
 use regalloc2::{Function, MachineEnv, Output, is_framed, machine_fits};
+use regalloc2_text::stored_fault::number_of;
 use serde_json::Value;
 use std::alloc::{Allocator, Global};
 use std::fmt;

@@ -3,11 +3,11 @@
 ghost use Rattle.std.specs.Prelude.{◌≤◌, IfOk};
 
 use super::listed::{Pairs, SLOT, place, write_moves};
+use crate::test_alloc::Refusing;
 use crate::units::report::Report;
 use regalloc2_names::{Allocation, PReg, PRegSet, RegClass};
 use regalloc2_parts::callmoves::{CallFault, CallFrame, schedule};
 use regalloc2_parts::moves::MoveVec;
-use regalloc2_test_alloc::Refusing;
 use std::alloc::{AllocError, Allocator, Global};
 
 /// A number that stands for no place.

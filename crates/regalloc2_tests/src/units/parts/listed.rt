@@ -6,11 +6,11 @@ ghost use Rattle.regalloc2_parts.specs.AtOnce.{ends, ends_of, HasOneSourceEach};
 ghost use Rattle.regalloc2_parts.specs.Giving.{IsBefore};
 ghost use Rattle.regalloc2_parts.specs.Resolved.{IsRunnable};
 
+use crate::test_alloc::Refusing;
 use crate::units::report::Report;
 use regalloc2_names::{Allocation, PReg, RegClass, SpillSlot};
 use regalloc2_parts::moves::MoveVecWithScratch::{NoScratch, Scratch};
 use regalloc2_parts::moves::{MoveFault, MoveVecWithScratch, ParallelMoves};
-use regalloc2_test_alloc::Refusing;
 use std::alloc::{Allocator, Global};
 
 /// A move from a place to a place.

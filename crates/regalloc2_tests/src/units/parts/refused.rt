@@ -2,6 +2,7 @@
 
 use super::listed::{SLOT, resolved};
 use super::structures::three_rings;
+use crate::test_alloc::{Call, Refusing, is_each_told};
 use crate::units::report::Report;
 use crate::units::sets::add_multiples;
 use regalloc2_function::indexset::IndexSet;
@@ -11,7 +12,6 @@ use regalloc2_parts::moves::MoveFault;
 use regalloc2_parts::moves::MoveVecWithScratch::{NoScratch, Scratch};
 use regalloc2_parts::vregset::VRegSet;
 use regalloc2_serialize::{FromValue, SerializableFunction, StoredFunction};
-use regalloc2_test_alloc::{Call, Refusing, is_each_told};
 use serde_json::Value;
 use std::alloc::{AllocError, Allocator, Global};
 

@@ -5,12 +5,12 @@ ghost use Rattle.std.specs.Prelude.{◌≡◌, ◌≤◌};
 ghost use Rattle.regalloc2_names.specs.declared.RegClass.{RegClass};
 ghost use Rattle.regalloc2_parts.specs.Ring.{AreDistinctOf};
 
+use crate::test_alloc::Refusing;
 use crate::units::report::Report;
 use regalloc2_names::{Operand, PReg, PRegSet, RegAllocError, RegClass, VReg};
 use regalloc2_parts::iter::Operands;
 use regalloc2_parts::lru::{Lru, Lrus, PartedByRegClass};
 use regalloc2_parts::vregset::VRegSet;
-use regalloc2_test_alloc::Refusing;
 use std::alloc::{Allocator, Global};
 
 /// A register for integers.

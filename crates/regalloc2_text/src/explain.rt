@@ -1,0 +1,28 @@
+//! Why a function is rejected, or what causes a finding of the checker: the instruction or block as
+//! it is written, and the cause with numbers.
+//!
+//! All calls take stored functions, also ill-formed ones, whose numbers may name nothing. [`report`] counts and compares allocations.
+
+mod blocks;
+mod cause;
+mod definitions;
+mod edges;
+mod explanation;
+mod fault_site;
+mod faults;
+mod operands;
+mod paths;
+mod pressure;
+pub mod report;
+mod source;
+mod stored;
+mod write_search;
+mod writes;
+
+pub use cause::{Cause, Site};
+pub use explanation::{Explanation, explain, misfit_at};
+pub use faults::{StoredCause, explain_function, explain_output};
+pub use paths::{UnwrittenRead, find_unwritten_read};
+pub use source::{Source, SourceLine};
+pub use write_search::{LastWrites, WriteOnPath, last_writes};
+pub use writes::LastWrite;

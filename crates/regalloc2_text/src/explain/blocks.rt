@@ -1,0 +1,222 @@
+//! Invalid blocks and edges.
+
+use crate::explain::cause::{Cause, Site};
+use crate::explain::stored::{arguments_of, block_of, list_of, operands_at, range_of, vreg_of};
+use regalloc2_serialize::{InstOpcode, StoredFunction};
+
+/// How many edges enter a block: one from each predecessor, and for the entry one more from the
+/// function's start.
+fn ways_into(function: &StoredFunction, block: usize) -> usize {
+    let preds = list_of(function.block_preds.as_slice(), block).len();
+    let starts = usize::from(block == function.entry_block as usize);
+    preds.saturating_add(starts)
+}
+
+/// The site of a block's last instruction, or of its line if it has none.
+pub(crate) fn end_of(function: &StoredFunction, block: usize) -> Site {
+    let (first, end) = range_of(function, block);
+    if first < end {
+        Site::Inst(end - 1)
+    } else {
+        Site::Block(block)
+    }
+}
+
+/// The cause of `CritEdge`.
+pub(crate) fn of_edge(function: &StoredFunction, from: usize, to: usize) -> (Cause, Site) {
+    let cause = Cause::CriticalEdge {
+        from,
+        to,
+        succs: list_of(function.block_succs.as_slice(), from).len(),
+        ways: ways_into(function, to),
+    };
+    (cause, end_of(function, from))
+}
+
+/// The cause if a block's instructions don't follow those of the blocks before.
+fn of_range(function: &StoredFunction, block: usize) -> Option<Cause> {
+    let (first, end) = range_of(function, block);
+    if first >= end {
+        return Some(Cause::Empty { block });
+    }
+    let wanted = match block.checked_sub(1) {
+        Some(before) => range_of(function, before).1,
+        None => 0,
+    };
+    if first != wanted {
+        return Some(Cause::Begins {
+            block,
+            first,
+            wanted,
+        });
+    }
+    let insts = function.insts.len();
+    let is_last = block.saturating_add(1) == function.blocks.len();
+    if is_last && end != insts {
+        return Some(Cause::Ends { block, end, insts });
+    }
+    None
+}
+
+/// How often a block is in a list.
+fn count_in(list: &[u32], block: usize) -> usize {
+    let mut count = 0usize;
+    for listed in list {
+        if *listed as usize == block {
+            count = count.saturating_add(1);
+        }
+    }
+    count
+}
+
+/// How many of the edges that leave a block lead to another one.
+fn edges_between(function: &StoredFunction, from: usize, to: usize) -> usize {
+    count_in(list_of(function.block_succs.as_slice(), from), to)
+}
+
+/// How many edges lead to a block.
+fn edges_into(function: &StoredFunction, block: usize) -> usize {
+    let mut leading = 0usize;
+    for from in 0..function.blocks.len() {
+        leading = leading.saturating_add(edges_between(function, from, block));
+    }
+    leading
+}
+
+/// Returns whether each of a block's predecessors is listed as often as it has an edge to the block.
+fn each_has_edges(function: &StoredFunction, preds: &[u32], block: usize) -> bool {
+    for pred in preds {
+        let from = *pred as usize;
+        if edges_between(function, from, block) != count_in(preds, from) {
+            return false;
+        }
+    }
+    true
+}
+
+/// The cause if a block's predecessors aren't the blocks with an edge to it.
+fn of_preds(function: &StoredFunction, block: usize) -> Option<Cause> {
+    let preds = list_of(function.block_preds.as_slice(), block);
+    let listed = preds.len();
+    let leading = edges_into(function, block);
+    if listed == leading && each_has_edges(function, preds, block) {
+        return None;
+    }
+    Some(Cause::Predecessors {
+        block,
+        listed,
+        leading,
+    })
+}
+
+/// The first instruction before a block's last that branches or returns.
+fn ends_within(function: &StoredFunction, first: usize, last: usize) -> Option<usize> {
+    for inst in first..last {
+        if let Some(data) = function.insts.get(inst) {
+            if data.op != InstOpcode::Op {
+                return Some(inst);
+            }
+        }
+    }
+    None
+}
+
+/// The cause if a block doesn't end with a valid last instruction, and the site.
+fn of_end(function: &StoredFunction, block: usize) -> Option<(Cause, Site)> {
+    let (first, end) = range_of(function, block);
+    let last = end.checked_sub(1)?;
+    let succs = list_of(function.block_succs.as_slice(), block).len();
+    let op = function.insts.get(last)?.op;
+    if op == InstOpcode::Op {
+        return Some((Cause::OpenEnd { block, inst: last }, Site::Inst(last)));
+    }
+    if op == InstOpcode::Ret && succs > 0 {
+        return Some((Cause::ReturnLeads { block, succs }, Site::Inst(last)));
+    }
+    let inst = ends_within(function, first, last)?;
+    Some((Cause::EndsWithin { block, inst }, Site::Inst(inst)))
+}
+
+/// The cause of `BB`.
+pub(crate) fn of_block(function: &StoredFunction, block: usize) -> (Cause, Site) {
+    if let Some(cause) = of_range(function, block) {
+        return (cause, Site::Block(block));
+    }
+    if let Some(cause) = of_preds(function, block) {
+        return (cause, Site::Block(block));
+    }
+    let entry = function.entry_block as usize;
+    if block == entry && entry != 0 {
+        return (Cause::EntryIsLater { entry }, Site::Block(block));
+    }
+    of_end(function, block).unwrap_or((Cause::Other, Site::Block(block)))
+}
+
+/// The cause if arguments don't fit the parameters of a successor.
+fn of_passed(succ: usize, arguments: &[u32], params: &[u32]) -> Option<Cause> {
+    if arguments.len() != params.len() {
+        return Some(Cause::ArgumentCount {
+            succ,
+            passed: arguments.len(),
+            wanted: params.len(),
+        });
+    }
+    for k in 0..arguments.len() {
+        if let (Some(passed), Some(wanted)) = (vreg_of(arguments[k]), vreg_of(params[k])) {
+            if passed.class() != wanted.class() {
+                return Some(Cause::ArgumentClass {
+                    succ,
+                    passed,
+                    wanted,
+                });
+            }
+        }
+    }
+    None
+}
+
+/// The cause of `Branch`: the arguments of the block that ends with that instruction.
+pub(crate) fn of_arguments(function: &StoredFunction, inst: usize) -> (Cause, Site) {
+    let site = Site::Inst(inst);
+    let Some(block) = block_of(function, inst) else {
+        return (Cause::Other, site);
+    };
+    let succs = list_of(function.block_succs.as_slice(), block);
+    for (position, succ) in succs.iter().enumerate() {
+        let succ = *succ as usize;
+        let params = list_of(function.block_params_in.as_slice(), succ);
+        if let Some(cause) = of_passed(succ, arguments_of(function, block, position), params) {
+            return (cause, site);
+        }
+    }
+    (Cause::Other, site)
+}
+
+/// The cause of `DisallowedBranchArg`.
+pub(crate) fn of_branch(function: &StoredFunction, inst: usize) -> (Cause, Site) {
+    let site = Site::Inst(inst);
+    let Some(block) = block_of(function, inst) else {
+        return (Cause::Other, site);
+    };
+    for succ in list_of(function.block_succs.as_slice(), block) {
+        let succ = *succ as usize;
+        let ways = ways_into(function, succ);
+        if ways > 1 {
+            let cause = Cause::BranchOperands {
+                inst,
+                operands: operands_at(function, inst).len(),
+                succ,
+                ways,
+            };
+            return (cause, site);
+        }
+    }
+    (Cause::Other, site)
+}
+
+/// The cause of `EntryLivein`.
+pub(crate) fn of_entry(function: &StoredFunction) -> (Cause, Site) {
+    let entry = function.entry_block as usize;
+    let count = list_of(function.block_params_in.as_slice(), entry).len();
+    (Cause::EntryParams { count }, Site::Block(entry))
+}

@@ -1,0 +1,111 @@
+//! Invalid definitions and uses.
+
+use crate::explain::cause::{Cause, Site};
+use crate::explain::stored::{list_of, operand_of, operands_at, range_of, vreg_of};
+use regalloc2_index::Inst;
+use regalloc2_names::VReg;
+use regalloc2_serialize::StoredFunction;
+
+/// The first two definitions of a vreg number, of any class.
+#[derive(Clone, Copy)]
+struct Definitions {
+    first: Option<(Site, VReg)>,
+    second: Option<(Site, VReg)>,
+}
+
+impl Definitions {
+    /// Records a definition.
+    fn note(&mut self, site: Site, vreg: VReg) {
+        if self.first.is_none() {
+            self.first = Some((site, vreg));
+        } else if self.second.is_none() {
+            self.second = Some((site, vreg));
+        }
+    }
+
+    /// Records the parameters of that number.
+    fn note_params(&mut self, function: &StoredFunction, block: usize, number: usize) {
+        for bits in list_of(function.block_params_in.as_slice(), block) {
+            if let Some(vreg) = vreg_of(*bits) {
+                if vreg.vreg() == number {
+                    self.note(Site::Block(block), vreg);
+                }
+            }
+        }
+    }
+
+    /// Records the definitions of that number by an instruction.
+    fn note_inst(&mut self, function: &StoredFunction, inst: usize, number: usize) {
+        for (k, bits) in operands_at(function, inst).iter().enumerate() {
+            if let Some(operand) = operand_of(*bits) {
+                if operand.is_def() && operand.vreg().vreg() == number {
+                    self.note(Site::Operand(inst, k), operand.vreg());
+                }
+            }
+        }
+    }
+
+    /// Records the definitions of that number in a block.
+    fn note_block(&mut self, function: &StoredFunction, block: usize, number: usize) {
+        self.note_params(function, block, number);
+        let (first, end) = range_of(function, block);
+        for inst in first..end.min(function.insts.len()) {
+            self.note_inst(function, inst, number);
+        }
+    }
+}
+
+/// The first two definitions of a number.
+fn definitions_of(function: &StoredFunction, number: usize) -> Definitions {
+    let mut definitions = Definitions {
+        first: None,
+        second: None,
+    };
+    for block in 0..function.blocks.len() {
+        definitions.note_block(function, block, number);
+    }
+    definitions
+}
+
+/// Returns whether the operand of an encoding reads a vreg.
+fn reads(bits: u64, vreg: VReg) -> bool {
+    match operand_of(bits) {
+        Some(operand) => operand.is_reading() && operand.vreg() == vreg,
+        None => false,
+    }
+}
+
+/// The operand of an instruction that reads a vreg, or the instruction.
+fn read_site(function: &StoredFunction, vreg: VReg, inst: Inst) -> Site {
+    let number = inst.index();
+    for (k, bits) in operands_at(function, number).iter().enumerate() {
+        if reads(*bits, vreg) {
+            return Site::Operand(number, k);
+        }
+    }
+    Site::Inst(number)
+}
+
+/// The cause of `SSA`, the site, and another definition or the only one.
+pub(crate) fn of_vreg(
+    function: &StoredFunction,
+    vreg: VReg,
+    inst: Inst,
+) -> (Cause, Site, Option<Site>) {
+    let Definitions { first, second } = definitions_of(function, vreg.vreg());
+    if let (Some((before, _)), Some((again, vreg))) = (first, second) {
+        return (Cause::DefinedTwice { vreg }, again, Some(before));
+    }
+    let read = read_site(function, vreg, inst);
+    let Some((site, defined)) = first else {
+        return (Cause::Undefined { vreg }, read, None);
+    };
+    let count = function.num_vregs;
+    if vreg.vreg() as u64 >= count {
+        return (Cause::PastCount { vreg, count }, site, None);
+    }
+    if defined != vreg {
+        return (Cause::OtherClass { vreg, defined }, read, Some(site));
+    }
+    (Cause::UsedEarly { vreg }, read, Some(site))
+}

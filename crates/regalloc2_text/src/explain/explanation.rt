@@ -1,0 +1,196 @@
+//! Why a function is rejected, with the lines of the text that show it.
+
+use crate::explain::cause::{Cause, Site};
+use crate::explain::pressure::{
+    count_in_any, count_named, first_allocated_in, is_in_any, names_allocated, of_registers,
+    register_index, spare,
+};
+use crate::explain::source::Source;
+use crate::explain::stored::{ClassName, class_number, operand_of, operands_at};
+use crate::explain::{blocks, definitions, operands};
+use regalloc2_function::MachineMisfit;
+use regalloc2_names::{PReg, RegAllocError, RegClass, VRegText};
+use regalloc2_serialize::StoredFunction;
+use std::fmt;
+use std::io::{self, Write};
+
+/// Why a function is rejected: the cause, its site, and another part that belongs to it.
+#[derive(Clone, Copy)]
+pub struct Explanation {
+    /// The cause.
+    pub cause: Cause,
+    /// The site of the cause.
+    pub site: Site,
+    /// The definition that it conflicts with, if there is one.
+    pub against: Option<Site>,
+}
+
+impl Explanation {
+    /// An explanation of a cause at a site.
+    fn of(found: (Cause, Site)) -> Explanation {
+        let (cause, site) = found;
+        Explanation {
+            cause,
+            site,
+            against: None,
+        }
+    }
+}
+
+/// Why the allocator rejects a function with that error: it searches for what the error names.
+/// Linear in the function, except for a block with wrong predecessors: each of them is counted
+/// among the block's.
+pub fn explain(function: &StoredFunction, error: &RegAllocError) -> Explanation {
+    let found = match error {
+        RegAllocError::SSA(vreg, inst) => {
+            let (cause, site, against) = definitions::of_vreg(function, *vreg, *inst);
+            return Explanation {
+                cause,
+                site,
+                against,
+            };
+        }
+        RegAllocError::CritEdge(from, to) => blocks::of_edge(function, from.index(), to.index()),
+        RegAllocError::BB(block) => blocks::of_block(function, block.index()),
+        RegAllocError::Branch(inst) => blocks::of_arguments(function, inst.index()),
+        RegAllocError::EntryLivein => blocks::of_entry(function),
+        RegAllocError::DisallowedBranchArg(inst) => blocks::of_branch(function, inst.index()),
+        RegAllocError::TooManyLiveRegs => of_registers(function),
+        RegAllocError::TooManyOperands => (Cause::ManyOperands, Site::Function),
+        RegAllocError::Unsupported(inst) => operands::of_operand(function, inst.index()),
+        RegAllocError::TooManySpillSlots => {
+            let vregs = function.num_vregs;
+            (Cause::ManySlots { vregs }, Site::Function)
+        }
+        RegAllocError::Memory => (Cause::Other, Site::Function),
+    };
+    Explanation::of(found)
+}
+
+/// The first operand of the class that a machine has no register for, if that is why the machine doesn't fit.
+pub fn misfit_at(function: &StoredFunction, misfit: MachineMisfit) -> Option<Site> {
+    let MachineMisfit::NoRegister(class) = misfit else {
+        return None;
+    };
+    for (inst, data) in function.insts.iter().enumerate() {
+        if let Some(k) = first_allocated_in(data.operands.as_slice(), class_number(class)) {
+            return Some(Site::Operand(inst, k));
+        }
+    }
+    None
+}
+
+/// The operands of an instruction that may be in any register of a class.
+#[derive(Drop)]
+struct InAny<'a> {
+    operands: &'a [u64],
+    class: usize,
+}
+
+impl fmt::Display for InAny<'_> {
+    fn fmt<W: fmt::Write>(&self, f: &mut fmt::Formatter<W>) -> fmt::Result {
+        let mut before = "";
+        for bits in self.operands {
+            if !is_in_any(*bits, self.class) {
+                continue;
+            }
+            if let Some(operand) = operand_of(*bits) {
+                let vreg = VRegText(operand.vreg());
+                write!(f, "{before}{vreg}")?;
+                before = ", ";
+            }
+        }
+        Ok(())
+    }
+}
+
+/// The allocated registers of a class that an instruction names.
+#[derive(Drop)]
+struct Named<'a> {
+    function: &'a StoredFunction,
+    inst: usize,
+    class: usize,
+}
+
+impl fmt::Display for Named<'_> {
+    fn fmt<W: fmt::Write>(&self, f: &mut fmt::Formatter<W>) -> fmt::Result {
+        let mut before = "";
+        for number in 0..64u8 {
+            let index = register_index(self.class, number);
+            let place = usize::from(index);
+            if names_allocated(self.function, self.inst, index) && PReg::is_index(place) {
+                let register = PReg::from_index(place);
+                write!(f, "{before}{register}")?;
+                before = ", ";
+            }
+        }
+        Ok(())
+    }
+}
+
+/// Writes a line with a value behind words.
+fn write_line<T: fmt::Display, W: Write>(words: &str, value: &T, to: &mut W) -> io::Result<()> {
+    writeln!(to, "  {words}{value}")
+}
+
+/// Writes the operands and clobbers for which an instruction needs registers of a class, a line for
+/// each kind.
+fn write_needs<W: Write>(
+    function: &StoredFunction,
+    inst: usize,
+    class: RegClass,
+    to: &mut W,
+) -> io::Result<()> {
+    let number = class_number(class);
+    let operands = operands_at(function, inst);
+    let in_any = InAny {
+        operands,
+        class: number,
+    };
+    if count_in_any(operands, number) > 0 {
+        write_line("in any register: ", &in_any, to)?;
+    }
+    let named = Named {
+        function,
+        inst,
+        class: number,
+    };
+    if count_named(function, inst, number) > 0 {
+        write_line("fixed or clobbered: ", &named, to)?;
+    }
+    if spare(function, number) == 0 {
+        return Ok(());
+    }
+    write_line(
+        "one register is kept for moves between stack places of the class ",
+        &ClassName(class),
+        to,
+    )
+}
+
+impl Explanation {
+    /// Writes the cause after `before` on a line, then the line of the text that holds its site,
+    /// and what it needs or conflicts with.
+    pub fn write<T: fmt::Display, W: Write>(
+        &self,
+        before: &T,
+        function: &StoredFunction,
+        source: &Source<'_>,
+        to: &mut W,
+    ) -> io::Result<()> {
+        let cause = self.cause;
+        writeln!(to, "{before}{cause}")?;
+        if let Some(line) = source.find(self.site) {
+            write_line("", &line, to)?;
+        }
+        if let Cause::Registers { inst, class, .. } = cause {
+            write_needs(function, inst, class, to)?;
+        }
+        if let Some(site) = self.against {
+            if let Some(line) = source.find(site) {
+                return write_line("defined: ", &line, to);
+            }
+        }
+        Ok(())
+    }
+}

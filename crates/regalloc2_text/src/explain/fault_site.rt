@@ -1,0 +1,59 @@
+//! Which part of a function or output has the numbers that name nothing.
+
+use crate::explain::blocks::end_of;
+use crate::explain::cause::Site;
+use crate::explain::faults::StoredCause;
+use crate::explain::stored::list_of;
+use regalloc2_function::StoredOutput;
+use regalloc2_serialize::StoredFunction;
+
+/// The block's own line if its list among these has the number, else the line of the block's last
+/// instruction, which has successors and arguments.
+fn of_number(function: &StoredFunction, lists: &[Vec<u32>], block: usize, number: u32) -> Site {
+    if list_of(lists, block).contains(&number) {
+        Site::Block(block)
+    } else {
+        end_of(function, block)
+    }
+}
+
+/// The operand that a place of an output belongs to: that of the last instruction whose places
+/// begin no later.
+fn of_place(output: &StoredOutput, index: usize) -> Site {
+    let mut site = Site::Function;
+    for (inst, start) in output.inst_alloc_offsets.iter().enumerate() {
+        if let Some(operand) = index.checked_sub(*start as usize) {
+            site = Site::Operand(inst, operand);
+        }
+    }
+    site
+}
+
+impl StoredCause {
+    /// The block, instruction or operand of a function that the cause is about, or the function.
+    /// Linear in a block's numbers.
+    pub fn site(&self, function: &StoredFunction) -> Site {
+        match *self {
+            Self::Neighbour { block, named, .. } => {
+                of_number(function, function.block_preds.as_slice(), block, named)
+            }
+            Self::VRegWord { block, word, .. } => {
+                of_number(function, function.block_params_in.as_slice(), block, word)
+            }
+            Self::ArgumentLists { block, .. } | Self::Range { block, .. } => Site::Block(block),
+            Self::OperandWord { inst, operand, .. } => Site::Operand(inst, operand),
+            Self::Clobber { inst, .. } => Site::Inst(inst),
+            _ => Site::Function,
+        }
+    }
+
+    /// The operand or move that the cause in an output is about, or the function. Linear in the
+    /// instructions.
+    pub fn output_site(&self, output: &StoredOutput) -> Site {
+        match *self {
+            Self::Place { index, .. } => of_place(output, index),
+            Self::Move { index } => Site::Move(index),
+            _ => Site::Function,
+        }
+    }
+}

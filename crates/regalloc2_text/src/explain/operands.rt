@@ -1,0 +1,171 @@
+//! Operands of a form that the allocator doesn't support.
+
+use crate::explain::cause::{Cause, Site};
+use crate::explain::stored::{is_allocatable, operand_of, operands_at};
+use regalloc2_names::{Operand, OperandConstraint, OperandKind, OperandPos};
+use regalloc2_serialize::{InstOpcode, StoredFunction};
+
+/// The index that a reuse names.
+fn reused_index(operand: Operand) -> Option<usize> {
+    match operand.constraint() {
+        OperandConstraint::Reuse(index) => Some(index),
+        _ => None,
+    }
+}
+
+/// Returns whether an operand is an early use.
+fn is_early_use(operand: Operand) -> bool {
+    operand.kind() == OperandKind::Use && operand.pos() == OperandPos::Early
+}
+
+/// Returns whether a reuse may take the place of an operand.
+fn may_be_reused(function: &StoredFunction, by: Operand, operand: Operand) -> bool {
+    if !is_early_use(operand) || operand.as_fixed_nonallocatable().is_some() {
+        return false;
+    }
+    if operand.class() != by.class() {
+        return false;
+    }
+    match operand.constraint() {
+        OperandConstraint::Reg => true,
+        OperandConstraint::FixedReg(register) => {
+            is_allocatable(&function.machine_env, register.index() as u8)
+        }
+        _ => false,
+    }
+}
+
+/// Returns whether the operand of an encoding reuses the one at an index.
+fn reuses(bits: u64, index: usize) -> bool {
+    match operand_of(bits) {
+        Some(operand) => reused_index(operand) == Some(index),
+        None => false,
+    }
+}
+
+/// Returns whether another operand before the index `k` reuses the same one.
+fn is_reused_before(operands: &[u64], k: usize, index: usize) -> bool {
+    for bits in operands.iter().take(k) {
+        if reuses(*bits, index) {
+            return true;
+        }
+    }
+    false
+}
+
+/// Returns whether an operand reuses the one at an index, which is below 32 then.
+pub(crate) fn is_reused(operands: &[u64], index: usize) -> bool {
+    index < 32 && is_reused_before(operands, operands.len(), index)
+}
+
+/// The cause if an operand at the index `k` is an invalid reuse.
+fn of_reuse(function: &StoredFunction, inst: usize, k: usize, operand: Operand) -> Option<Cause> {
+    let index = reused_index(operand)?;
+    if operand.kind() != OperandKind::Def || operand.pos() != OperandPos::Late {
+        return Some(Cause::ReuseIsNoDef { inst });
+    }
+    let operands = operands_at(function, inst);
+    let Some(bits) = operands.get(index) else {
+        return Some(Cause::ReusesNothing {
+            inst,
+            index,
+            operands: operands.len(),
+        });
+    };
+    let is_sound = match operand_of(*bits) {
+        Some(other) => may_be_reused(function, operand, other),
+        None => false,
+    };
+    if !is_sound {
+        return Some(Cause::ReusesOther { inst, index });
+    }
+    if is_reused_before(operands, k, index) {
+        return Some(Cause::ReusedTwice { inst, index });
+    }
+    None
+}
+
+/// The cause if an operand is fixed to a clobber.
+fn of_clobber(function: &StoredFunction, inst: usize, k: usize, operand: Operand) -> Option<Cause> {
+    let OperandConstraint::FixedReg(register) = operand.constraint() else {
+        return None;
+    };
+    if is_early_use(operand) && !is_reused(operands_at(function, inst), k) {
+        return None;
+    }
+    let index = register.index() as u8;
+    match function.insts.get(inst) {
+        Some(data) if data.clobbers.as_slice().contains(&index) => {
+            Some(Cause::FixedClobbered { inst, register })
+        }
+        _ => None,
+    }
+}
+
+/// The cause if an operand has a limit constraint.
+fn of_limit(_function: &StoredFunction, inst: usize, _k: usize, operand: Operand) -> Option<Cause> {
+    match operand.constraint() {
+        OperandConstraint::Limit(_) => Some(Cause::Limited { inst }),
+        _ => None,
+    }
+}
+
+/// The cause if a branch defines in any register, or by a reuse.
+fn of_branch(function: &StoredFunction, inst: usize, _k: usize, operand: Operand) -> Option<Cause> {
+    if function.insts.get(inst)?.op != InstOpcode::Branch || !operand.is_def() {
+        return None;
+    }
+    match operand.constraint() {
+        OperandConstraint::Reg | OperandConstraint::Reuse(_) => Some(Cause::BranchDefines { inst }),
+        _ => None,
+    }
+}
+
+/// A test of operands, in the order in which the allocator makes them.
+#[derive(Clone, Copy)]
+enum Test {
+    Reuses,
+    Clobbers,
+    Limits,
+    Branches,
+}
+
+impl Test {
+    /// The cause if an operand fails the test.
+    fn cause(
+        self,
+        function: &StoredFunction,
+        inst: usize,
+        k: usize,
+        operand: Operand,
+    ) -> Option<Cause> {
+        match self {
+            Test::Reuses => of_reuse(function, inst, k, operand),
+            Test::Clobbers => of_clobber(function, inst, k, operand),
+            Test::Limits => of_limit(function, inst, k, operand),
+            Test::Branches => of_branch(function, inst, k, operand),
+        }
+    }
+}
+
+/// The first operand of an instruction that fails a test.
+fn first_failing(function: &StoredFunction, inst: usize, test: Test) -> Option<(Cause, Site)> {
+    for (k, bits) in operands_at(function, inst).iter().enumerate() {
+        if let Some(operand) = operand_of(*bits) {
+            if let Some(cause) = test.cause(function, inst, k, operand) {
+                return Some((cause, Site::Operand(inst, k)));
+            }
+        }
+    }
+    None
+}
+
+/// The cause of `Unsupported`.
+pub(crate) fn of_operand(function: &StoredFunction, inst: usize) -> (Cause, Site) {
+    for test in [Test::Reuses, Test::Clobbers, Test::Limits, Test::Branches] {
+        if let Some(found) = first_failing(function, inst, test) {
+            return found;
+        }
+    }
+    (Cause::Other, Site::Inst(inst))
+}

@@ -1,0 +1,114 @@
+//! A function with its allocation, in the form in which upstream prints results.
+
+use crate::explain::report::places::{OperandText, PlaceText, RegisterText};
+use crate::explain::stored::{list_of, moves_from, operands_at, places_of};
+use regalloc2_function::StoredOutput;
+use regalloc2_serialize::{InstOpcode, StoredFunction};
+use std::fmt;
+use std::io::{self, Write};
+
+/// Numbers as Rust's `Debug` writes a list, without the brackets.
+#[derive(Clone, Copy)]
+struct Numbers<'a>(&'a [u32]);
+
+impl fmt::Display for Numbers<'_> {
+    fn fmt<W: fmt::Write>(&self, f: &mut fmt::Formatter<W>) -> fmt::Result {
+        let mut before = "";
+        for number in self.0 {
+            write!(f, "{before}{number}")?;
+            before = ", ";
+        }
+        Ok(())
+    }
+}
+
+/// Writes a block's head: `block1: [succs [2, 3] preds [0]]`.
+fn write_head<W: Write>(function: &StoredFunction, block: usize, to: &mut W) -> io::Result<()> {
+    let succs = Numbers(list_of(function.block_succs.as_slice(), block));
+    let preds = Numbers(list_of(function.block_preds.as_slice(), block));
+    writeln!(to, "block{block}: [succs [{succs}] preds [{preds}]]")
+}
+
+/// Upstream's name for an instruction.
+fn name_of(op: InstOpcode) -> &'static str {
+    match op {
+        InstOpcode::Op => "op",
+        InstOpcode::Ret => "ret",
+        InstOpcode::Branch => "br",
+    }
+}
+
+/// Writes an instruction's operands, each with its place in brackets.
+fn write_operands<W: Write>(operands: &[u64], places: &[u32], to: &mut W) -> io::Result<()> {
+    for (k, bits) in operands.iter().enumerate() {
+        let before = if k == 0 { "" } else { ", " };
+        let operand = OperandText(*bits);
+        let place = PlaceText(places.get(k).copied().unwrap_or(0));
+        write!(to, "{before}{operand} [{place}]")?;
+    }
+    Ok(())
+}
+
+/// Writes an instruction's clobbers: ` [clobber: p0i, p1i]`, or nothing.
+fn write_clobbers<W: Write>(clobbers: &[u8], to: &mut W) -> io::Result<()> {
+    for (k, clobber) in clobbers.iter().enumerate() {
+        let before = if k == 0 { " [clobber: " } else { ", " };
+        let register = RegisterText(*clobber);
+        write!(to, "{before}{register}")?;
+    }
+    if clobbers.is_empty() {
+        return Ok(());
+    }
+    write!(to, "]")
+}
+
+/// Writes the moves at a point, as upstream's annotations of results.
+fn write_moves<W: Write>(output: &StoredOutput, point: u64, to: &mut W) -> io::Result<()> {
+    let inst = point / 2;
+    let ending = if point % 2 == 0 { "pre" } else { "post" };
+    for (at, from, into) in moves_from(output.edits.as_slice(), point) {
+        if u64::from(*at) != point {
+            break;
+        }
+        let from = PlaceText(*from);
+        let into = PlaceText(*into);
+        writeln!(to, "  inst{inst}-{ending}: move {from} -> {into}")?;
+    }
+    Ok(())
+}
+
+/// Writes an instruction between its moves.
+fn write_inst<W: Write>(
+    function: &StoredFunction,
+    output: &StoredOutput,
+    inst: usize,
+    to: &mut W,
+) -> io::Result<()> {
+    let Some(data) = function.insts.get(inst) else {
+        return Ok(());
+    };
+    let point = (inst as u64).saturating_mul(2);
+    write_moves(output, point, to)?;
+    let name = name_of(data.op);
+    write!(to, "  inst{inst}: {name} ")?;
+    write_operands(operands_at(function, inst), places_of(output, inst), to)?;
+    write_clobbers(data.clobbers.as_slice(), to)?;
+    writeln!(to, "")?;
+    write_moves(output, point.saturating_add(1), to)
+}
+
+/// Writes a function with its output as upstream's `dump_results` does: heads of blocks with successors and predecessors, instructions as
+/// `op`, `br` or `ret` with operands, places and clobbers, and moves as annotations at their points, which are by rising numbers.
+pub fn write_dump<W: Write>(
+    function: &StoredFunction,
+    output: &StoredOutput,
+    to: &mut W,
+) -> io::Result<()> {
+    for (block, (first, end)) in function.blocks.iter().enumerate() {
+        write_head(function, block, to)?;
+        for inst in *first..*end {
+            write_inst(function, output, inst as usize, to)?;
+        }
+    }
+    Ok(())
+}

@@ -1,0 +1,9 @@
+//! What the program `ra2_text` does with its words and with a text.
+
+mod input;
+mod program;
+mod task;
+
+pub use input::{Input, InputError, position_of};
+pub use program::{UNUSABLE, answer};
+pub use task::{Action, Task};

@@ -1,0 +1,327 @@
+//! What the program does with a text.
+
+ghost use Rattle.std.specs.Prelude.{◌≤◌};
+
+use super::input::{Input, text_of};
+use super::task::{Action, Task};
+use crate::calls::call::{Call, CallError, Given, Verdict, answer as answer_call, answer_diff};
+use regalloc2_serialize::StoredFunction;
+use regalloc2_text::explain::Source;
+use regalloc2_text::{write, write_json};
+use std::alloc::Global;
+use std::io::{self, Write};
+
+/// The status of wrong arguments or input, and of output that can't be written.
+pub const UNUSABLE: u8 = 2;
+
+/// The status of a rejected function, and of an output with errors.
+const REJECTED: u8 = 1;
+
+/// How many virtual registers (vregs) a function may name without a warning, whatever it defines.
+const USUAL_VREGS: u64 = 1 << 20;
+
+/// How many bytes the tables of the allocator and the checker take for a vreg number, about.
+const BYTES_FOR_VREG: u64 = 20;
+
+/// The status of a verdict.
+fn status_of(verdict: Verdict) -> u8
+    ensures { result ≤ 2 }
+{
+    match verdict {
+        Verdict::Accepted => 0,
+        Verdict::Rejected => REJECTED,
+        Verdict::Unusable => UNUSABLE,
+    }
+}
+
+/// Writes the function of a text as JSON on one line.
+fn write_function(
+    alloc: Global,
+    function: &StoredFunction,
+    out: &mut Vec<u8>,
+) -> Result<(), CallError> {
+    let mut json = String::new(alloc);
+    if write_json(function, None, &mut json).is_err() {
+        return Err(CallError::Memory);
+    }
+    writeln!(out, "{json}")?;
+    Ok(())
+}
+
+/// How many words of operands, parameters and arguments a function has, of which each names at most one vreg.
+fn count_names(function: &StoredFunction) -> u64 {
+    let mut count = 0u64;
+    for inst in &function.insts {
+        count = count.saturating_add(inst.operands.len() as u64);
+    }
+    for params in &function.block_params_in {
+        count = count.saturating_add(params.len() as u64);
+    }
+    count
+}
+
+/// Warns of vreg numbers that are far above how many the function names, with the memory that their tables take.
+fn warn(path: &str, function: &StoredFunction, err: &mut Vec<u8>) -> io::Result<()> {
+    let vregs = function.num_vregs;
+    let names = count_names(function);
+    if vregs <= USUAL_VREGS || vregs / 16 <= names {
+        return Ok(());
+    }
+    let megabytes = vregs.saturating_mul(BYTES_FOR_VREG) / 1_000_000;
+    writeln!(
+        err,
+        "{path}: warning: numbers of virtual registers are below {vregs}, and at most {names} are named: tables by number take about {megabytes} MB"
+    )
+}
+
+/// The first line in which a text differs from another one, and that of the other one, without blanks at both ends; empty behind an end.
+fn first_difference<'a>(one: &'a str, other: &'a str) -> (&'a str, &'a str) {
+    let mut lines = other.lines();
+    for line in one.lines() {
+        let there = lines.next().unwrap_or("");
+        if line != there {
+            return (line.trim(), there.trim());
+        }
+    }
+    ("", lines.next().unwrap_or("").trim())
+}
+
+/// The text in which the parts of an input are shown: the one that was read, with that name before line numbers, or else the one that is
+/// shown for JSON.
+fn source_of<'s>(text: &'s str, shown: Option<&'s String>, name: &'s str) -> Source<'s> {
+    match shown {
+        Some(shown) => Source {
+            name: None,
+            text: shown.as_str(),
+            first_line: 1,
+        },
+        None => Source {
+            name: Some(name),
+            text,
+            first_line: 1,
+        },
+    }
+}
+
+/// The other input of `diff`, with its path and the text that it was read from.
+#[derive(Clone, Copy)]
+struct Other<'p, 't, 'i> {
+    path: &'p str,
+    text: &'t str,
+    input: &'i Input,
+}
+
+/// What a call is given of an input with that name before line numbers.
+fn given_of<'a>(input: &'a Input, text: &'a str, name: &'a str) -> Given<'a, 'a, 'a> {
+    Given {
+        function: &input.text.function,
+        output: input.text.output.as_ref(),
+        source: Some(source_of(text, input.shown.as_ref(), name)),
+    }
+}
+
+/// Whether two texts are the same; else `err` gets the lines in which they differ.
+fn are_same(one: &str, other: &str, err: &mut Vec<u8>) -> Result<bool, CallError> {
+    if one == other {
+        return Ok(true);
+    }
+    let (here, there) = first_difference(one, other);
+    writeln!(
+        err,
+        "the files give different functions: `{here}` and `{there}`"
+    )?;
+    Ok(false)
+}
+
+/// Whether two functions are the same; else `err` gets the lines in which their texts differ.
+fn are_same_functions(
+    alloc: Global,
+    one: &StoredFunction,
+    other: &StoredFunction,
+    err: &mut Vec<u8>,
+) -> Result<bool, CallError> {
+    let one = write(alloc, one, None)?;
+    let other = write(alloc, other, None)?;
+    are_same(one.as_str(), other.as_str(), err)
+}
+
+/// Writes how the outputs of two inputs differ.
+fn act_diff(
+    alloc: Global,
+    given: &Given<'_, '_, '_>,
+    other: Other<'_, '_, '_>,
+    out: &mut Vec<u8>,
+    err: &mut Vec<u8>,
+) -> Result<Verdict, CallError> {
+    let Other { path, text, input } = other;
+    if !are_same_functions(alloc, given.function, &input.text.function, err)? {
+        return Ok(Verdict::Unusable);
+    }
+    let Ok(name) = format!(in alloc; "{path}:") else {
+        return Err(CallError::Memory);
+    };
+    let second = given_of(input, text, name.as_str());
+    answer_diff(alloc, given, &second, out, err)
+}
+
+/// An input with the text that it was read from, and the other one of `diff`.
+#[derive(Clone, Copy)]
+struct Inputs<'t, 'i, 'p, 'u, 'o> {
+    text: &'t str,
+    input: &'i Input,
+    other: Option<Other<'p, 'u, 'o>>,
+}
+
+/// Does an action with what a call is given.
+fn act_on(
+    alloc: Global,
+    task: Task<'_>,
+    given: &Given<'_, '_, '_>,
+    other: Option<Other<'_, '_, '_>>,
+    out: &mut Vec<u8>,
+    err: &mut Vec<u8>,
+) -> Result<Verdict, CallError> {
+    match (task.action, other) {
+        (Action::Json, _) => {
+            write_function(alloc, given.function, out)?;
+            Ok(Verdict::Accepted)
+        }
+        (Action::Answer(Call::Diff), Some(other)) => act_diff(alloc, given, other, out, err),
+        (Action::Answer(call), _) => {
+            if !matches!(call, Call::Text) {
+                warn(task.path, given.function, err)?;
+            }
+            answer_call(alloc, call, given, out, err)
+        }
+    }
+}
+
+/// Does an action with an input.
+fn act(
+    alloc: Global,
+    task: Task<'_>,
+    inputs: Inputs<'_, '_, '_, '_, '_>,
+    out: &mut Vec<u8>,
+    err: &mut Vec<u8>,
+) -> Result<Verdict, CallError> {
+    let path = task.path;
+    let Ok(name) = format!(in alloc; "{path}:") else {
+        return Err(CallError::Memory);
+    };
+    let given = given_of(inputs.input, inputs.text, name.as_str());
+    act_on(alloc, task, &given, inputs.other, out, err)
+}
+
+/// Does an action with an input, and writes nothing if the task is to be quiet.
+fn act_as_asked(
+    alloc: Global,
+    task: Task<'_>,
+    inputs: Inputs<'_, '_, '_, '_, '_>,
+    out: &mut Vec<u8>,
+    err: &mut Vec<u8>,
+) -> Result<Verdict, CallError> {
+    if task.is_quiet {
+        act(
+            alloc,
+            task,
+            inputs,
+            &mut Vec::new(alloc),
+            &mut Vec::new(alloc),
+        )
+    } else {
+        act(alloc, task, inputs, out, err)
+    }
+}
+
+/// Reads an input; nothing if it can't be read, of which `err` gets a line.
+fn read_input(alloc: Global, path: &str, bytes: &[u8], err: &mut Vec<u8>) -> Option<Input> {
+    let read = match text_of(bytes) {
+        Ok(text) => Input::read(alloc, text),
+        Err(error) => Err(error),
+    };
+    match read {
+        Ok(input) => Some(input),
+        Err(error) => {
+            let _ = writeln!(err, "{path}:{error}");
+            None
+        }
+    }
+}
+
+/// Does a task with its inputs, and returns the status.
+fn finish(
+    alloc: Global,
+    task: Task<'_>,
+    inputs: Inputs<'_, '_, '_, '_, '_>,
+    out: &mut Vec<u8>,
+    err: &mut Vec<u8>,
+) -> u8
+    ensures { result ≤ 2 }
+{
+    let path = task.path;
+    match act_as_asked(alloc, task, inputs, out, err) {
+        Ok(verdict) => status_of(verdict),
+        Err(error) => {
+            let _ = writeln!(err, "ra2_text: {path}: {error}");
+            UNUSABLE
+        }
+    }
+}
+
+/// Reads the other file of a task, if it has one, and does the task.
+fn answer_read(
+    alloc: Global,
+    task: Task<'_>,
+    text: &str,
+    input: &Input,
+    other: Option<(&str, &[u8])>,
+    out: &mut Vec<u8>,
+    err: &mut Vec<u8>,
+) -> u8
+    ensures { result ≤ 2 }
+{
+    let Some((path, bytes)) = other else {
+        let inputs = Inputs {
+            text,
+            input,
+            other: None,
+        };
+        return finish(alloc, task, inputs, out, err);
+    };
+    let Some(second) = read_input(alloc, path, bytes, err) else {
+        return UNUSABLE;
+    };
+    let other = Other {
+        path,
+        text: text_of(bytes).unwrap_or(""),
+        input: &second,
+    };
+    let inputs = Inputs {
+        text,
+        input,
+        other: Some(other),
+    };
+    finish(alloc, task, inputs, out, err)
+}
+
+/// Does a task with the bytes of its files, and returns the status.
+///
+/// The input's error, or why there is no whole result, is a line on `err`, and the status then 2. Else the result is on `out`,
+/// and the status 0; or 1 if the function is rejected, of which `err` has the cause, or something is found; or 2 if its numbers
+/// name no function.
+pub fn answer(
+    alloc: Global,
+    task: Task<'_>,
+    bytes: &[u8],
+    other: Option<(&str, &[u8])>,
+    out: &mut Vec<u8>,
+    err: &mut Vec<u8>,
+) -> u8
+    ensures { result ≤ 2 }
+{
+    let Some(input) = read_input(alloc, task.path, bytes, err) else {
+        return UNUSABLE;
+    };
+    let text = text_of(bytes).unwrap_or("");
+    answer_read(alloc, task, text, &input, other, out, err)
+}

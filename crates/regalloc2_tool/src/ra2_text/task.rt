@@ -1,0 +1,246 @@
+//! The tasks of the program.
+
+use crate::calls::call::Call;
+use clap::error::ErrorKind;
+use clap::{Arg, ArgAction, ArgMatches, Command, Error};
+use std::alloc::{AllocError, Global};
+
+/// The subcommands, with what their help says.
+static SUBCOMMANDS: [(&str, &str); 10] = [
+    (
+        "run",
+        "Allocate registers, and write the function with its machine and output as a text",
+    ),
+    (
+        "check",
+        "Write `checked`, or what the checker finds in the output that FILE gives or else in the allocator's",
+    ),
+    (
+        "replay",
+        "Do as check does, but only with an output that FILE gives",
+    ),
+    (
+        "text",
+        "Write what FILE gives as a text in its one form, and allocate nothing",
+    ),
+    (
+        "svg",
+        "Allocate registers, and write a picture of where each virtual register is",
+    ),
+    (
+        "reads",
+        "Write whether each read comes after a write on every path, and else a shortest path on which one doesn't",
+    ),
+    (
+        "stats",
+        "Write counts of the output that FILE gives, or else of the allocator's: a table, or JSON with --json",
+    ),
+    ("dump", "Write such an output as upstream does"),
+    (
+        "diff",
+        "Write how the outputs that FILE and OTHER give differ, and whether each is faithful",
+    ),
+    (
+        "json",
+        "Write the function with its machine as JSON, for ra2",
+    ),
+];
+
+/// What the help says of statuses.
+const STATUSES: &str = "\
+The status is 0; or 1 if the allocator rejects the function or something is found; or 2 if
+words or input are bad or nothing can be written. Results are on standard output, and errors
+on standard error: for a rejected function its cause, with the line and column at which it lies.";
+
+/// What is to be done with a text.
+#[derive(Clone, Copy)]
+pub enum Action {
+    /// A call on a text or on JSON.
+    Answer(Call),
+    /// To write the function as JSON.
+    Json,
+}
+
+impl Action {
+    /// The action that a word names, with or without `--json`.
+    fn named(word: &str, is_json: bool) -> Option<Action> {
+        match word {
+            "json" => Some(Action::Json),
+            "stats" if is_json => Some(Action::Answer(Call::StatsJson)),
+            // the listing that shows everything is the text
+            "run" => Some(Action::Answer(Call::Allocated)),
+            _ => Call::named(word).map(Action::Answer),
+        }
+    }
+}
+
+/// What is to be done with the function in a file.
+#[derive(Clone, Copy)]
+pub struct Task<'a> {
+    /// What is to be done.
+    pub action: Action,
+    /// The file's path; `-` is standard input.
+    pub path: &'a str,
+    /// The path of the file with the other output of `diff`; without one, the allocator's is compared.
+    pub other: Option<&'a str>,
+    /// The path of the file to which the result is written, in place of standard output.
+    pub output: Option<&'a str>,
+    /// Whether nothing is written but errors in arguments or input.
+    pub is_quiet: bool,
+}
+
+/// How an argument is given.
+#[derive(Clone, Copy)]
+enum Form {
+    /// A word in its place.
+    Word,
+    /// An option with its long name and no value.
+    Flag,
+    /// An option with its long name and a value, which the help calls so.
+    Valued(&'static str),
+}
+
+/// An argument of a subcommand.
+struct Row {
+    /// The subcommand that takes it; empty if each does.
+    command: &'static str,
+    id: &'static str,
+    form: Form,
+    short: Option<char>,
+    is_required: bool,
+    help: &'static str,
+}
+
+/// The arguments of the subcommands, in the order of the help.
+static ROWS: [Row; 5] = [
+    Row {
+        command: "",
+        id: "FILE",
+        form: Form::Word,
+        short: None,
+        is_required: true,
+        help: "A function with its machine, as a text, as JSON or as upstream prints it; - is standard input",
+    },
+    Row {
+        command: "",
+        id: "output",
+        form: Form::Valued("OUT"),
+        short: Some('o'),
+        is_required: false,
+        help: "Write the answer to the file OUT",
+    },
+    Row {
+        command: "",
+        id: "quiet",
+        form: Form::Flag,
+        short: Some('q'),
+        is_required: false,
+        help: "Write neither answer nor rejection: the status tells",
+    },
+    Row {
+        command: "diff",
+        id: "OTHER",
+        form: Form::Word,
+        short: None,
+        is_required: false,
+        help: "The same function with another output; without it, the allocator's",
+    },
+    Row {
+        command: "stats",
+        id: "json",
+        form: Form::Flag,
+        short: None,
+        is_required: false,
+        help: "Write the counts as JSON",
+    },
+];
+
+/// The argument of a row.
+fn argument<'a>(alloc: Global, row: &Row) -> Arg<'a> {
+    let arg = Arg::new(alloc, row.id)
+        .help(row.help)
+        .required(row.is_required);
+    let arg = match row.form {
+        Form::Word => arg.action(ArgAction::Set),
+        Form::Flag => arg.action(ArgAction::SetTrue).long(row.id),
+        Form::Valued(name) => arg.action(ArgAction::Set).long(row.id).value_name(name),
+    };
+    match row.short {
+        Some(short) => arg.short(short),
+        None => arg,
+    }
+}
+
+/// A subcommand with its arguments.
+fn subcommand<'a>(
+    alloc: Global,
+    name: &'static str,
+    about: &'static str,
+) -> Result<Command<'a>, AllocError> {
+    let mut command = Command::new(alloc, name).about(about).after_help(STATUSES);
+    for row in &ROWS {
+        if row.command.is_empty() || row.command == name {
+            command = command.arg(argument(alloc, row))?;
+        }
+    }
+    Ok(command)
+}
+
+/// The subcommands.
+fn subcommands<'a>(alloc: Global) -> Result<Vec<Command<'a>>, AllocError> {
+    let mut commands = Vec::new(alloc);
+    for (name, about) in &SUBCOMMANDS {
+        commands.push(subcommand(alloc, *name, *about)?)?;
+    }
+    Ok(commands)
+}
+
+/// The command with its subcommands.
+fn command<'a>(alloc: Global) -> Result<Command<'a>, AllocError> {
+    let subcommands = subcommands(alloc)?;
+    Command::new(alloc, "ra2_text")
+        .version("0.1.0")
+        .about("Allocates registers to a function that is given as a text or as JSON")
+        .after_help(STATUSES)
+        .subcommand_required(true)
+        .arg_required_else_help(true)
+        .subcommands(subcommands)
+}
+
+/// The task in the matches of a subcommand.
+fn task_of<'a>(name: &str, given: &ArgMatches<'a>) -> Option<Task<'a>> {
+    Some(Task {
+        action: Action::named(name, given.get_flag("json"))?,
+        path: given.get_str("FILE")?,
+        other: given.get_str("OTHER"),
+        output: given.get_str("output"),
+        is_quiet: given.get_flag("quiet"),
+    })
+}
+
+/// The task in the matches of the command, or the error that there is none.
+fn task_in<'a>(command: &mut Command<'a>, matches: &ArgMatches<'a>) -> Result<Task<'a>, Error> {
+    if let Some((name, given)) = matches.subcommand() {
+        if let Some(task) = task_of(name, given) {
+            return Ok(task);
+        }
+    }
+    Err(command.error(
+        ErrorKind::MissingSubcommand,
+        "a subcommand and a file are wanted",
+    )?)
+}
+
+/// The task that the program's words name to its command.
+fn parsed<'a>(command: &mut Command<'a>, words: &'a [String]) -> Result<Task<'a>, Error> {
+    let matches = command.try_get_matches_from_mut(words)?;
+    task_in(command, &matches)
+}
+
+impl<'a> Task<'a> {
+    /// The task that the program's words name, of which the first is its own name. The error's text is for the user: that the
+    /// arguments are wrong, or the help or the version if that is requested.
+    pub fn of(alloc: Global, words: &'a [String]) -> Result<Task<'a>, Error> {
+        parsed(&mut command(alloc)?, words)
+    }
+}
