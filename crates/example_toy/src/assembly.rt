@@ -30,6 +30,19 @@ impl fmt::Display for PlaceText {
     }
 }
 
+/// The place of an operand.
+fn place_at(places: &[Allocation], k: usize) -> PlaceText {
+    PlaceText(places.get(k).copied().unwrap_or(Allocation::none()))
+}
+
+/// The number of a block that others lead to.
+fn label_at(succs: &[Block], k: usize) -> usize {
+    match succs.get(k) {
+        Some(succ) => succ.index(),
+        None => 0,
+    }
+}
+
 /// Writes what a line does, with its operands' places.
 fn write_line<W: Write>(
     code: &Code,
@@ -43,17 +56,19 @@ fn write_line<W: Write>(
     requires inst { inst < length (function_of code.now).insts }
 {
     let places = output.inst_allocs(inst);
-    let place = |k: usize| PlaceText(places.get(k).copied().unwrap_or(Allocation::none()));
     let succs = code.block_succs(block);
-    let label = |k: usize| succs.get(k).copied().unwrap_or(block).index();
     match code.lines[inst.index()].kind {
         Kind::Argument => Ok(()),
-        Kind::Number(n) => writeln!(w, "  mov {}, {n}", place(0)),
-        Kind::Add => writeln!(w, "  add {}, {}", place(0), place(2)),
-        Kind::Sub => writeln!(w, "  sub {}, {}", place(0), place(2)),
-        Kind::Jump => writeln!(w, "  jmp .L{}", label(0)),
+        Kind::Number(n) => writeln!(w, "  mov {}, {n}", place_at(places, 0)),
+        Kind::Add => writeln!(w, "  add {}, {}", place_at(places, 0), place_at(places, 2)),
+        Kind::Sub => writeln!(w, "  sub {}, {}", place_at(places, 0), place_at(places, 2)),
+        Kind::Jump => writeln!(w, "  jmp .L{}", label_at(succs, 0)),
         Kind::Fork => {
-            let (tested, then, other) = (place(0), label(0), label(1));
+            let (tested, then, other) = (
+                place_at(places, 0),
+                label_at(succs, 0),
+                label_at(succs, 1),
+            );
             writeln!(
                 w,
                 "  test {tested}, {tested}\n  jnz .L{then}\n  jmp .L{other}"
@@ -63,8 +78,45 @@ fn write_line<W: Write>(
     }
 }
 
-/// Writes an allocated program as a function `toy` of one number. No move goes from a stack place to another, so each is one
-/// instruction.
+/// Writes a line or a move of a block. No move goes from a stack place to another, so each is one instruction.
+fn write_item<W: Write>(
+    code: &Code,
+    output: &Output,
+    block: Block,
+    item: &InstOrEdit,
+    w: &mut W,
+) -> io::Result<()>
+    requires in_order { IsInOrder (function_of code.now) (output_of output.now) }
+    requires block { block < length (function_of code.now).blocks }
+{
+    match item {
+        InstOrEdit::Inst(inst) if inst.index() < code.num_insts() => {
+            write_line(code, output, block, *inst, w)
+        }
+        InstOrEdit::Inst(_) => Ok(()),
+        InstOrEdit::Edit(edit) => {
+            let (from, to) = edit.places();
+            writeln!(w, "  mov {}, {}", PlaceText(to), PlaceText(from))
+        }
+    }
+}
+
+/// Writes a block: its label, then its lines and moves in their order.
+fn write_block<W: Write>(code: &Code, output: &Output, block: Block, w: &mut W) -> io::Result<()>
+    requires in_order { IsInOrder (function_of code.now) (output_of output.now) }
+    requires block { block < length (function_of code.now).blocks }
+{
+    writeln!(w, ".L{}:", block.index())?;
+    if code.block_insns(block).len() == 0 {
+        return Ok(());
+    }
+    for item in output.block_insts_and_edits(code, block) {
+        write_item(code, output, block, &item, w)?;
+    }
+    Ok(())
+}
+
+/// Writes an allocated program as a function `toy` of one number.
 pub fn write_assembly<W: Write>(code: &Code, output: &Output, w: &mut W) -> io::Result<()>
     requires in_order { IsInOrder (function_of code.now) (output_of output.now) }
 {
@@ -74,24 +126,7 @@ pub fn write_assembly<W: Write>(code: &Code, output: &Output, w: &mut W) -> io::
         ".intel_syntax noprefix\n.globl toy\ntoy:\n  sub rsp, 8 * {slots}"
     )?;
     for b in 0..code.num_blocks() {
-        let block = Block::new(b);
-        writeln!(w, ".L{b}:")?;
-        if code.block_insns(block).len() == 0 {
-            continue;
-        }
-        for item in output.block_insts_and_edits(code, block) {
-            match &item {
-                InstOrEdit::Inst(inst) => {
-                    if inst.index() < code.num_insts() {
-                        write_line(code, output, block, *inst, w)?;
-                    }
-                }
-                InstOrEdit::Edit(edit) => {
-                    let (from, to) = edit.places();
-                    writeln!(w, "  mov {}, {}", PlaceText(to), PlaceText(from))?;
-                }
-            }
-        }
+        write_block(code, output, Block::new(b), w)?;
     }
     w.write_all(b".section .note.GNU-stack,\"\",@progbits\n")
 }

@@ -95,38 +95,44 @@ fn add_part(
 
 /// Adds the lines of `sum`: its start, the head of the loop, its body and its end.
 fn add_lines_of_sum(alloc: Global, lines: &mut Vec<Line>, v: &[VReg; 7]) -> Result<(), AllocError> {
-    let argument = [Operand::reg_fixed_def(v[0], register_for(v[0], 7))];
+    let [v0, v1, v2, v3, v4, v5, v6] = *v;
+    let argument = [Operand::reg_fixed_def(v0, register_for(v0, 7))];
     let add = [
-        Operand::reg_reuse_def(v[4], 1),
-        Operand::reg_use(v[3]),
-        Operand::any_use(v[2]),
+        Operand::reg_reuse_def(v4, 1),
+        Operand::reg_use(v3),
+        Operand::any_use(v2),
     ];
     let sub = [
-        Operand::reg_reuse_def(v[6], 1),
-        Operand::reg_use(v[2]),
-        Operand::any_use(v[5]),
+        Operand::reg_reuse_def(v6, 1),
+        Operand::reg_use(v2),
+        Operand::any_use(v5),
     ];
-    let answer = [Operand::reg_fixed_use(v[3], register_for(v[3], 0))];
-    add_line(alloc, lines, Kind::Argument, &argument)?;
-    add_line(alloc, lines, Kind::Number(0), &[Operand::reg_def(v[1])])?;
-    add_line(alloc, lines, Kind::Jump, &[])?;
-    add_line(alloc, lines, Kind::Fork, &[Operand::reg_use(v[2])])?;
-    add_line(alloc, lines, Kind::Add, &add)?;
-    add_line(alloc, lines, Kind::Number(1), &[Operand::reg_def(v[5])])?;
-    add_line(alloc, lines, Kind::Sub, &sub)?;
-    add_line(alloc, lines, Kind::Jump, &[])?;
-    add_line(alloc, lines, Kind::Return, &answer)
+    let answer = [Operand::reg_fixed_use(v3, register_for(v3, 0))];
+    let all: [(Kind, &[Operand]); 9] = [
+        (Kind::Argument, &argument),
+        (Kind::Number(0), &[Operand::reg_def(v1)]),
+        (Kind::Jump, &[]),
+        (Kind::Fork, &[Operand::reg_use(v2)]),
+        (Kind::Add, &add),
+        (Kind::Number(1), &[Operand::reg_def(v5)]),
+        (Kind::Sub, &sub),
+        (Kind::Jump, &[]),
+        (Kind::Return, &answer),
+    ];
+    for (kind, operands) in &all {
+        add_line(alloc, lines, *kind, operands)?;
+    }
+    Ok(())
 }
 
 /// Adds the blocks of `sum`.
 fn add_parts_of_sum(alloc: Global, parts: &mut Vec<Part>, v: &[VReg; 7]) -> Result<(), AllocError> {
+    let [v0, v1, v2, v3, v4, _, v6] = *v;
     let (start, head, body, end) = (Block::new(0), Block::new(1), Block::new(2), Block::new(3));
-    let into_loop: [(Block, &[VReg]); 1] = [(head, &[v[0], v[1]])];
-    add_part(alloc, parts, (0, 3), &[], &[], &into_loop)?;
+    add_part(alloc, parts, (0, 3), &[], &[], &[(head, &[v0, v1])])?;
     let ways: [(Block, &[VReg]); 2] = [(body, &[]), (end, &[])];
-    add_part(alloc, parts, (3, 4), &[start, body], &[v[2], v[3]], &ways)?;
-    let back: [(Block, &[VReg]); 1] = [(head, &[v[6], v[4]])];
-    add_part(alloc, parts, (4, 8), &[head], &[], &back)?;
+    add_part(alloc, parts, (3, 4), &[start, body], &[v2, v3], &ways)?;
+    add_part(alloc, parts, (4, 8), &[head], &[], &[(head, &[v6, v4])])?;
     add_part(alloc, parts, (8, 9), &[head], &[], &[])
 }
 
