@@ -86,6 +86,7 @@ def seconds_of_names():
         if done.returncode:
             sys.exit("regalloc2_names isn't proved")
         seconds.append(float(done.stdout.split()[-1]))
+        print(f"regalloc2_names {seconds[-1]:.1f} s", file=sys.stderr, flush=True)
     return seconds
 
 
