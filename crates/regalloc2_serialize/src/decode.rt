@@ -102,7 +102,8 @@ fn lists_of_vregs_from<A: Allocator + Copy, B: Allocator>(
 {
     let mut vregs = Vec::with_capacity(alloc, lists.len())?;
     for list in lists {
-        vregs.push(vregs_from(alloc, list.as_slice())?)?;
+        let named = vregs_from(alloc, list.as_slice())?;
+        vregs.push(named)?;
     }
     Ok(vregs)
 }
@@ -150,7 +151,8 @@ fn insts_from<A: Allocator + Copy, B: Allocator>(
 {
     let mut insts = Vec::with_capacity(alloc, stored.len())?;
     for inst in stored {
-        insts.push(inst_from(alloc, inst)?)?;
+        let table = inst_from(alloc, inst)?;
+        insts.push(table)?;
     }
     Ok(insts)
 }
@@ -260,7 +262,8 @@ fn tables_from<A: Allocator + Copy, B: Allocator>(
 {
     let mut tables = Vec::with_capacity(alloc, stored.blocks.len())?;
     for block in 0..stored.blocks.len() {
-        tables.push(block_from(alloc, stored, block)?)?;
+        let table = block_from(alloc, stored, block)?;
+        tables.push(table)?;
     }
     Ok(tables)
 }

@@ -46,7 +46,8 @@ fn lists_of_indexes<A: Allocator + Copy>(
 {
     let mut lists = Vec::with_capacity(alloc, sets.len())?;
     for set in sets {
-        lists.push(indexes_of(alloc, *set)?)?;
+        let indexes = indexes_of(alloc, *set)?;
+        lists.push(indexes)?;
     }
     Ok(lists)
 }
@@ -116,7 +117,8 @@ fn words_of_lists<A: Allocator, B: Allocator + Copy>(
 {
     let mut words = Vec::with_capacity(alloc, lists.len())?;
     for list in lists {
-        words.push(words_of_vregs(alloc, list.as_slice())?)?;
+        let vregs = words_of_vregs(alloc, list.as_slice())?;
+        words.push(vregs)?;
     }
     Ok(words)
 }
@@ -226,7 +228,8 @@ fn numbers_of_insts<A: Allocator, B: Allocator + Copy>(
 {
     let mut numbers = Vec::with_capacity(alloc, insts.len())?;
     for inst in insts {
-        numbers.push(numbers_of_inst(alloc, inst)?)?;
+        let number = numbers_of_inst(alloc, inst)?;
+        numbers.push(number)?;
     }
     Ok(numbers)
 }
@@ -251,8 +254,7 @@ fn reserve<B: Allocator>(lists: &mut BlockLists<B>, count: usize) -> Result<(), 
     lists.preds.reserve(count)?;
     lists.succs.reserve(count)?;
     lists.params_in.reserve(count)?;
-    lists.params_out.reserve(count)?;
-    Ok(())
+    lists.params_out.reserve(count)
 }
 
 /// Adds the numbers of a block to lists.

@@ -30,7 +30,8 @@ pub fn copied_arguments<F: Function, A: Allocator + Copy>(
     let count = f.block_succs(block).len();
     let mut arguments = Vec::with_capacity(alloc, count)?;
     for k in 0..count {
-        arguments.push(f.branch_blockparams(block, last, k).to_vec(alloc)?)?;
+        let passed = f.branch_blockparams(block, last, k).to_vec(alloc)?;
+        arguments.push(passed)?;
     }
     Ok(arguments)
 }
@@ -65,7 +66,8 @@ fn copied_blocks<F: Function, A: Allocator + Copy>(
 {
     let mut tables = Vec::with_capacity(alloc, f.num_blocks())?;
     for block in 0..f.num_blocks() {
-        tables.push(copied_block(alloc, f, Block::new(block))?)?;
+        let copy = copied_block(alloc, f, Block::new(block))?;
+        tables.push(copy)?;
     }
     Ok(tables)
 }
@@ -110,7 +112,8 @@ fn copied_insts<F: Function, A: Allocator + Copy>(
 {
     let mut tables = Vec::with_capacity(alloc, f.num_insts())?;
     for inst in 0..f.num_insts() {
-        tables.push(copied_inst(alloc, f, Inst::new(inst))?)?;
+        let copy = copied_inst(alloc, f, Inst::new(inst))?;
+        tables.push(copy)?;
     }
     Ok(tables)
 }

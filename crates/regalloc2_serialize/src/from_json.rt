@@ -57,8 +57,10 @@ impl<A: Allocator> FromValue<A> for u32 {
     ghost reads = { word };
 
     fn from_value(_alloc: A, value: &Value) -> Result<u32, StoredFault> {
-        let number = value.as_u64().ok_or(StoredFault::Shape)?;
-        u32::try_from(number).map_err(|_| StoredFault::Shape)
+        let Some(number) = value.as_u64() else {
+            return Err(StoredFault::Shape);
+        };
+        u32::try_from(number).or(Err(StoredFault::Shape))
     }
 }
 
@@ -73,8 +75,10 @@ impl<A: Allocator> FromValue<A> for u8 {
     ghost reads = { byte };
 
     fn from_value(_alloc: A, value: &Value) -> Result<u8, StoredFault> {
-        let number = value.as_u64().ok_or(StoredFault::Shape)?;
-        u8::try_from(number).map_err(|_| StoredFault::Shape)
+        let Some(number) = value.as_u64() else {
+            return Err(StoredFault::Shape);
+        };
+        u8::try_from(number).or(Err(StoredFault::Shape))
     }
 }
 
@@ -95,7 +99,8 @@ impl<T: FromValue<A> + Drop, A: Allocator + Copy> FromValue<A> for Vec<T, A> {
         let mut rest = array.as_slice();
         let mut items = Vec::new(alloc);
         while let Some((item, tail)) = rest.split_first() {
-            items.push(T::from_value(alloc, item)?)?;
+            let datum = T::from_value(alloc, item)?;
+            items.push(datum)?;
             rest = tail;
         }
         Ok(items)
@@ -170,10 +175,11 @@ impl<A: Allocator + Copy> FromValue<A> for (u32, u32) {
     ghost reads = { pair };
 
     fn from_value(_alloc: A, value: &Value) -> Result<(u32, u32), StoredFault> {
-        match (word_at(value, 0), word_at(value, 1), value.get(2)) {
-            (Some(first), Some(second), None) => Ok((first, second)),
-            _ => Err(StoredFault::Shape),
+        if value.get(2).is_some() {
+            return Err(StoredFault::Shape);
         }
+        let pair = word_at(value, 0).zip(word_at(value, 1));
+        pair.ok_or(StoredFault::Shape)
     }
 }
 
@@ -188,10 +194,13 @@ impl<A: Allocator + Copy> FromValue<A> for (u32, u32, u32) {
     ghost reads = { triple };
 
     fn from_value(_alloc: A, value: &Value) -> Result<(u32, u32, u32), StoredFault> {
-        let pair = (word_at(value, 0), word_at(value, 1));
-        match (pair, word_at(value, 2), value.get(3)) {
-            ((Some(first), Some(second)), Some(third), None) => Ok((first, second, third)),
-            _ => Err(StoredFault::Shape),
+        if value.get(3).is_some() {
+            return Err(StoredFault::Shape);
+        }
+        let pair = word_at(value, 0).zip(word_at(value, 1));
+        match pair.zip(word_at(value, 2)) {
+            Some(((first, second), third)) => Ok((first, second, third)),
+            None => Err(StoredFault::Shape),
         }
     }
 }
@@ -207,11 +216,14 @@ impl<A: Allocator + Copy> FromValue<A> for (u32, u32, u32, u32) {
     ghost reads = { quadruple };
 
     fn from_value(_alloc: A, value: &Value) -> Result<(u32, u32, u32, u32), StoredFault> {
-        let first = (word_at(value, 0), word_at(value, 1));
-        let last = (word_at(value, 2), word_at(value, 3));
-        match (first, last, value.get(4)) {
-            ((Some(a), Some(b)), (Some(c), Some(d)), None) => Ok((a, b, c, d)),
-            _ => Err(StoredFault::Shape),
+        if value.get(4).is_some() {
+            return Err(StoredFault::Shape);
+        }
+        let first = word_at(value, 0).zip(word_at(value, 1));
+        let last = word_at(value, 2).zip(word_at(value, 3));
+        match first.zip(last) {
+            Some(((a, b), (c, d))) => Ok((a, b, c, d)),
+            None => Err(StoredFault::Shape),
         }
     }
 }

@@ -173,22 +173,15 @@ impl<A: Allocator + Copy> StoredFunction<A> {
         let insts = member_from(alloc, value, "insts")?;
         let machine_env = member_from(alloc, value, "machine_env")?;
         let (entry_block, num_vregs, by_last_slot, multiple_defs) = settings;
-        let BlockLists {
-            blocks,
-            preds,
-            succs,
-            params_in,
-            params_out,
-        } = lists;
         Ok(StoredFunction {
             machine_env,
             entry_block,
             insts,
-            blocks,
-            block_preds: preds,
-            block_succs: succs,
-            block_params_in: params_in,
-            block_params_out: params_out,
+            blocks: lists.blocks,
+            block_preds: lists.preds,
+            block_succs: lists.succs,
+            block_params_in: lists.params_in,
+            block_params_out: lists.params_out,
             num_vregs,
             debug_value_labels,
             spillslot_size,

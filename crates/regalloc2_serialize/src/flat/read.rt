@@ -125,7 +125,8 @@ impl<T: Flat + Drop> Flat for Vec<T> {
         let count = from.next()?;
         let mut items = Vec::new(alloc);
         for index in 0..count {
-            items.push(T::read(alloc, from)?)?;
+            let item = T::read(alloc, from)?;
+            items.push(item)?;
         }
         Ok(items)
     }

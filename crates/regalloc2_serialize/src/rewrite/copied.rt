@@ -31,7 +31,8 @@ pub(crate) fn copied_insts<F: Function, A: Allocator + Copy>(
     let first = range.first().index();
     let mut insts = Vec::with_capacity(alloc, range.len())?;
     for k in 0..range.len() {
-        insts.push(copied_inst(alloc, f, Inst::new(first + k))?)?;
+        let copy = copied_inst(alloc, f, Inst::new(first + k))?;
+        insts.push(copy)?;
     }
     Ok(insts)
 }

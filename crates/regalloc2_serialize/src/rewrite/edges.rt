@@ -157,8 +157,8 @@ fn split_edges<F: Function, A: Allocator + Copy>(
     let (mut succs, mut lists) = (Vec::new(alloc), Vec::new(alloc));
     for k in 0..f.block_succs(block).len() {
         let (succ, arguments) = split_edge(alloc, f, none, block, k, entries, jumps)?;
-        succs.push(succ)?;
         lists.push(arguments)?;
+        succs.push(succ)?;
     }
     Ok((succs, lists))
 }

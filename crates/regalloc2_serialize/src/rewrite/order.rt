@@ -85,7 +85,8 @@ fn renamed_blocks<F: Function, A: Allocator + Copy>(
 {
     let mut drafts = Vec::with_capacity(alloc, order.len())?;
     for block in order {
-        drafts.push(renamed_block(alloc, f, *block, numbers)?)?;
+        let draft = renamed_block(alloc, f, *block, numbers)?;
+        drafts.push(draft)?;
     }
     Ok(drafts)
 }

@@ -118,8 +118,9 @@ impl<A: Allocator + Copy> TableBuilder<A> {
         if number + 1 >= BLOCK_LIMIT {
             return Err(BuildError::TooManyBlocks);
         }
+        let params = params.to_vec(self.alloc)?;
         self.blocks.push(BlockDraft {
-            params: params.to_vec(self.alloc)?,
+            params,
             insts: Vec::new(self.alloc),
             succs: Vec::new(self.alloc),
             arguments: Vec::new(self.alloc),

@@ -1,8 +1,10 @@
 //! A block's head.
 
+ghost use Rattle.std.specs.Prelude.{◌<◌, length};
+
 use regalloc2_function::Function;
 use regalloc2_index::Block;
-use regalloc2_names::{RegClass, VReg};
+use regalloc2_names::{VReg, VRegText};
 use std::fmt;
 
 /// A block with its parameters, and its successors with the arguments that it passes: `block1(v2i) to block2(), block3(v2i)`.
@@ -20,45 +22,47 @@ struct InBrackets<'a>(&'a [VReg]);
 
 impl fmt::Display for InBrackets<'_> {
     fn fmt<W: fmt::Write>(&self, f: &mut fmt::Formatter<W>) -> fmt::Result {
-        f.write_str("(")?;
-        for (k, vreg) in self.0.iter().enumerate() {
-            let before = if k == 0 { "" } else { ", " };
-            let class = match vreg.class() {
-                RegClass::Int => "i",
-                RegClass::Float => "f",
-                RegClass::Vector => "v",
-            };
-            write!(f, "{before}{vreg}{class}")?;
+        let mut before = "(";
+        for vreg in self.0 {
+            f.write_str(before)?;
+            fmt::Display::fmt(&VRegText(*vreg), f)?;
+            before = ", ";
         }
-        f.write_str(")")
+        f.write_str(if self.0.is_empty() { "()" } else { ")" })
+    }
+}
+
+impl<F: Function> Head<'_, F> {
+    /// Writes the successors with the arguments that the block passes.
+    fn write_succs<W: fmt::Write>(&self, f: &mut fmt::Formatter<W>) -> fmt::Result
+        requires { self.now.block < length (F.function self.now.f.now).blocks }
+    {
+        let range = self.f.block_insns(self.block);
+        if range.len() == 0 {
+            return Ok(());
+        }
+        let succs = self.f.block_succs(self.block);
+        for k in 0..succs.len() {
+            let before = if k == 0 { " to" } else { "," };
+            let succ = succs[k].index();
+            let arguments = self.f.branch_blockparams(self.block, range.last(), k);
+            write!(f, "{before} block{succ}{}", InBrackets(arguments))?;
+        }
+        Ok(())
     }
 }
 
 impl<F: Function> fmt::Display for Head<'_, F> {
-    fn fmt<W: fmt::Write>(&self, to: &mut fmt::Formatter<W>) -> fmt::Result {
-        let f = self.f;
-        let block = self.block;
-        let number = block.index();
-        write!(to, "block{number}")?;
-        if number >= f.num_blocks() {
+    fn fmt<W: fmt::Write>(&self, f: &mut fmt::Formatter<W>) -> fmt::Result {
+        let number = self.block.index();
+        write!(f, "block{number}")?;
+        if number >= self.f.num_blocks() {
             return Ok(());
         }
-        let params = f.block_params(block);
+        let params = self.f.block_params(self.block);
         if !params.is_empty() {
-            let params = InBrackets(params);
-            write!(to, "{params}")?;
+            fmt::Display::fmt(&InBrackets(params), f)?;
         }
-        let range = f.block_insns(block);
-        if range.len() == 0 {
-            return Ok(());
-        }
-        let last = range.last();
-        for k in 0..f.block_succs(block).len() {
-            let before = if k == 0 { " to " } else { ", " };
-            let succ = f.block_succs(block)[k].index();
-            let arguments = InBrackets(f.branch_blockparams(block, last, k));
-            write!(to, "{before}block{succ}{arguments}")?;
-        }
-        Ok(())
+        self.write_succs(f)
     }
 }

@@ -213,19 +213,23 @@ impl<A: Allocator + Copy> Picture<A> {
         Ok(())
     }
 
-    /// Draws the bars that are open at a block's end; those of slots reach its last row.
+    /// Draws the bar of a place that is open at a block's end; that of a slot reaches its last row.
+    fn end_bar_at<W: Write>(&mut self, index: usize, row: usize, to: &mut W) -> io::Result<()> {
+        let until = match self.lanes.places().get(index) {
+            Some(place) if place.is_stack() => Some(row),
+            _ => None,
+        };
+        self.end_bar(index, until, to)
+    }
+
+    /// Draws the bars that are open at a block's end.
     fn end_block<W: Write>(&mut self, row: usize, to: &mut W) -> io::Result<()> {
         self.named.sort_unstable();
         self.named.dedup();
         for k in 0..self.named.len() {
-            let Some(index) = self.named.get(k).copied() else {
-                continue;
-            };
-            let until = match self.lanes.places().get(index) {
-                Some(place) if place.is_stack() => Some(row),
-                _ => None,
-            };
-            self.end_bar(index, until, to)?;
+            if let Some(index) = self.named.get(k).copied() {
+                self.end_bar_at(index, row, to)?;
+            }
         }
         self.named.clear();
         Ok(())

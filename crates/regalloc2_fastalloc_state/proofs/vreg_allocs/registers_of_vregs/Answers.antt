@@ -42,3 +42,12 @@ loop-vreg-preserved g c =
       found = none_more allocs c.loop-vreg.yielded x c.loop-vreg.found
           (λ r e. let wrong : None ≡ Some r = sym c.in_default.is ∙ c.as_reg.ensures ∙ ap register_of_place (there ∙ e) in cc) c.loop-vreg.invariant.found;
     }
+
+pub index-requires : goal.index-requires
+index-requires g c =
+    let allocs : List Place = c.args.vreg_allocs.now.items in
+    let x : VirtualRegister = c.in-Some.vreg in
+    let met = is_met c.loop-vreg.yielded c.next.new.self c.loop-vreg.vreg-iterator c.args.vregs.now.members x c.in-Some.ensures.steps
+    c.loop-vreg.invariant.left in
+    let small : x.number < length allocs = All-contains (λ (v : VirtualRegister). v.number < length allocs) c.args.vregs.now.members x c.requires met in
+    omega (arith, small, c.vreg.ensures.number, c.args.vreg_allocs.now.ok.0)

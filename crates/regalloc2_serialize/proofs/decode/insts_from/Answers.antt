@@ -14,12 +14,12 @@ inst_from-requires g c = subst (λ i. NamesOperands i) (sym c.inst-item.is) (c.r
 
 pub loop-inst-preserved : goal.loop-inst-preserved
 loop-inst-preserved g c =
-    let e : c.push.new.self.items ≡ c.loop-inst.insts.items ++ c.in_ok-inst_from.field-0 ∷ [] = c.in_ok-push.ensures.items in
+    let e : c.push.new.self.items ≡ c.loop-inst.insts.items ++ c.in_ok-table.table ∷ [] = c.in_ok-push.ensures.items in
     record {
       pairs = subst (λ zs. AllZip (λ s i. NamesInst s i) (take (c.loop-inst.inst-index + 1) c.args.stored.now) (map inst_of_table zs)) (sym e)
           (zip-more (λ s i. NamesInst s i) inst_of_table c.args.stored.now c.loop-inst.insts.items c.loop-inst.inst-index c.inst-item.result
-          c.in_ok-inst_from.field-0
-          c.loop-inst-test.true c.inst-item.is c.loop-inst.invariant.pairs c.in_ok-inst_from.ensures);
+          c.in_ok-table.table
+          c.loop-inst-test.true c.inst-item.is c.loop-inst.invariant.pairs c.in_ok-table.ensures);
       count = rw (e, length-append, c.loop-inst.invariant.count) refl;
     }
 
@@ -32,10 +32,10 @@ returns-in_err-insts g c = record {
   count = IfOk-from_err c.from_residual.result _ c.from_residual.ensures.0;
 }
 
-pub returns-in_err-inst_from : goal.returns-in_err-inst_from
-returns-in_err-inst_from g c = record {
-  insts = IfOk-from_err c.from_residual-in_err-inst_from.result _ c.from_residual-in_err-inst_from.ensures.0;
-  count = IfOk-from_err c.from_residual-in_err-inst_from.result _ c.from_residual-in_err-inst_from.ensures.0;
+pub returns-in_err-table : goal.returns-in_err-table
+returns-in_err-table g c = record {
+  insts = IfOk-from_err c.from_residual-in_err-table.result _ c.from_residual-in_err-table.ensures.0;
+  count = IfOk-from_err c.from_residual-in_err-table.result _ c.from_residual-in_err-table.ensures.0;
 }
 
 pub returns-in_err-push : goal.returns-in_err-push

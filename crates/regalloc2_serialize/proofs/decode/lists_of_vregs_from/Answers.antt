@@ -14,13 +14,13 @@ vregs_from-requires g c = subst (All IsVRegBits) (sym c.as_slice.ensures.value)
 pub loop-list-preserved : goal.loop-list-preserved
 loop-list-preserved g c =
     let done = c.loop-list.vregs.items in
-    let one = c.in_ok-vregs_from.field-0 in
+    let one = c.in_ok-named.named in
     let i = c.loop-list.list-index in
     let all = c.args.lists.now in
     let e : c.push.new.self.items ≡ done ++ one ∷ [] = c.in_ok-push.ensures.items in
     subst (λ zs. map (λ v. v.items) zs ≡ map (λ v. map vreg_of_bits v.items) (take (i + 1) all)) (sym e)
     (map-more (λ v. v.items) (λ v. map vreg_of_bits v.items) done all i one c.list-item.result c.loop-list-test.true c.list-item.is
-    (c.in_ok-vregs_from.ensures ∙ ap (map vreg_of_bits) c.as_slice.ensures.value) c.loop-list.invariant)
+    (c.in_ok-named.ensures ∙ ap (map vreg_of_bits) c.as_slice.ensures.value) c.loop-list.invariant)
 
 pub returns : goal.returns
 returns g c = rw (take_all c.loop-list.list-index c.args.lists.now (omega (arith, c.loop-list-test.false))) at c.loop-list.invariant
@@ -28,8 +28,8 @@ returns g c = rw (take_all c.loop-list.list-index c.args.lists.now (omega (arith
 pub returns-in_err-vregs : goal.returns-in_err-vregs
 returns-in_err-vregs g c = IfOk-from_err c.from_residual.result _ c.from_residual.ensures.0
 
-pub returns-in_err-vregs_from : goal.returns-in_err-vregs_from
-returns-in_err-vregs_from g c = IfOk-from_err c.from_residual-in_err-vregs_from.result _ c.from_residual-in_err-vregs_from.ensures.0
+pub returns-in_err-named : goal.returns-in_err-named
+returns-in_err-named g c = IfOk-from_err c.from_residual-in_err-named.result _ c.from_residual-in_err-named.ensures.0
 
 pub returns-in_err-push : goal.returns-in_err-push
 returns-in_err-push g c = IfOk-from_err c.from_residual-in_err-push.result _ c.from_residual-in_err-push.ensures.0

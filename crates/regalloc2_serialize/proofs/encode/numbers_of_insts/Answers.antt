@@ -12,15 +12,15 @@ use Rattle.regalloc2_serialize.proofs.encode.numbers_of_insts.Goals as goal
 
 pub loop-inst-preserved : goal.loop-inst-preserved
 loop-inst-preserved g c =
-    let e : c.push.new.self.items ≡ c.loop-inst.numbers.items ++ c.in_ok-numbers_of_inst.field-0 ∷ [] = c.in_ok-push.ensures.items in
+    let e : c.push.new.self.items ≡ c.loop-inst.numbers.items ++ c.in_ok-number.number ∷ [] = c.in_ok-push.ensures.items in
     record {
       same = subst (λ zs. AllZip (λ x i. NamesInst x i) zs (take (c.loop-inst.inst-index + 1) (map inst_of_table c.args.insts.now))) (sym e)
           (zip-next-under (λ x i. NamesInst x i) inst_of_table c.loop-inst.numbers.items c.args.insts.now c.loop-inst.inst-index
-          c.in_ok-numbers_of_inst.field-0 c.inst-item.result c.loop-inst-test.true c.inst-item.is c.loop-inst.invariant.same
-          c.in_ok-numbers_of_inst.ensures.inst);
+          c.in_ok-number.number c.inst-item.result c.loop-inst-test.true c.inst-item.is c.loop-inst.invariant.same
+          c.in_ok-number.ensures.inst);
       names = subst (λ zs. All (λ x. NamesOperands x) zs) (sym e)
-          (All-push (λ x. NamesOperands x) c.loop-inst.numbers.items c.in_ok-numbers_of_inst.field-0 c.loop-inst.invariant.names
-          c.in_ok-numbers_of_inst.ensures.names);
+          (All-push (λ x. NamesOperands x) c.loop-inst.numbers.items c.in_ok-number.number c.loop-inst.invariant.names
+          c.in_ok-number.ensures.names);
     }
 
 pub returns-clause-insts : goal.returns-clause-insts
@@ -37,10 +37,10 @@ returns-in_err-numbers g c = record {
   names = IfOk-from_err c.from_residual.result _ c.from_residual.ensures.0;
 }
 
-pub returns-in_err-numbers_of_inst : goal.returns-in_err-numbers_of_inst
-returns-in_err-numbers_of_inst g c = record {
-  insts = IfOk-from_err c.from_residual-in_err-numbers_of_inst.result _ c.from_residual-in_err-numbers_of_inst.ensures.0;
-  names = IfOk-from_err c.from_residual-in_err-numbers_of_inst.result _ c.from_residual-in_err-numbers_of_inst.ensures.0;
+pub returns-in_err-number : goal.returns-in_err-number
+returns-in_err-number g c = record {
+  insts = IfOk-from_err c.from_residual-in_err-number.result _ c.from_residual-in_err-number.ensures.0;
+  names = IfOk-from_err c.from_residual-in_err-number.result _ c.from_residual-in_err-number.ensures.0;
 }
 
 pub returns-in_err-push : goal.returns-in_err-push

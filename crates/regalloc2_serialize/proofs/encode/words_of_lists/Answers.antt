@@ -10,16 +10,16 @@ use Rattle.regalloc2_serialize.proofs.encode.words_of_lists.Goals as goal
 pub loop-list-preserved : goal.loop-list-preserved
 loop-list-preserved g c =
     let done = c.loop-list.words.items in
-    let one = c.in_ok-words_of_vregs.field-0 in
+    let one = c.in_ok-vregs.vregs in
     let i = c.loop-list.list-index in
     let all = c.args.lists.now in
     let e : c.push.new.self.items ≡ done ++ one ∷ [] = c.in_ok-push.ensures.items in
     record {
       same = subst (λ zs. map (λ v. map vreg_of_bits v.items) zs ≡ map (λ v. v.items) (take (i + 1) all)) (sym e)
           (map-more (λ v. map vreg_of_bits v.items) (λ v. v.items) done all i one c.list-item.result c.loop-list-test.true
-          c.list-item.is (c.in_ok-words_of_vregs.ensures.vregs ∙ c.as_slice.ensures.value) c.loop-list.invariant.same);
+          c.list-item.is (c.in_ok-vregs.ensures.vregs ∙ c.as_slice.ensures.value) c.loop-list.invariant.same);
       names = subst (λ zs. All (λ v. All IsVRegBits v.items) zs) (sym e)
-          (All-push (λ v. All IsVRegBits v.items) done one c.loop-list.invariant.names c.in_ok-words_of_vregs.ensures.names);
+          (All-push (λ v. All IsVRegBits v.items) done one c.loop-list.invariant.names c.in_ok-vregs.ensures.names);
     }
 
 pub returns-clause-vregs : goal.returns-clause-vregs
@@ -35,10 +35,10 @@ returns-in_err-words g c = record {
   names = IfOk-from_err c.from_residual.result _ c.from_residual.ensures.0;
 }
 
-pub returns-in_err-words_of_vregs : goal.returns-in_err-words_of_vregs
-returns-in_err-words_of_vregs g c = record {
-  vregs = IfOk-from_err c.from_residual-in_err-words_of_vregs.result _ c.from_residual-in_err-words_of_vregs.ensures.0;
-  names = IfOk-from_err c.from_residual-in_err-words_of_vregs.result _ c.from_residual-in_err-words_of_vregs.ensures.0;
+pub returns-in_err-vregs : goal.returns-in_err-vregs
+returns-in_err-vregs g c = record {
+  vregs = IfOk-from_err c.from_residual-in_err-vregs.result _ c.from_residual-in_err-vregs.ensures.0;
+  names = IfOk-from_err c.from_residual-in_err-vregs.result _ c.from_residual-in_err-vregs.ensures.0;
 }
 
 pub returns-in_err-push : goal.returns-in_err-push

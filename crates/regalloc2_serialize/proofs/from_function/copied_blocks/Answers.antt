@@ -12,11 +12,11 @@ pub loop-block-preserved : goal.loop-block-preserved
 loop-block-preserved g c =
     let f : FunctionValue = g.F.Function.function c.args.f.now in
     let shown : ℕ → BlockValue = λ i. shown_block (block_at f i) in
-    let e : c.push.new.self.items ≡ c.loop-block.tables.items ++ c.in_ok-copied_block.field-0 ∷ [] = c.in_ok-push.ensures.items in
-    let here : block_of_table c.in_ok-copied_block.field-0 ≡ shown c.loop-block.block = search rules in
+    let e : c.push.new.self.items ≡ c.loop-block.tables.items ++ c.in_ok-copy.copy ∷ [] = c.in_ok-push.ensures.items in
+    let here : block_of_table c.in_ok-copy.copy ≡ shown c.loop-block.block = search rules in
     record {
       blocks = subst (λ xs. map block_of_table xs ≡ map shown (range_with_len 0 (c.loop-block.block + 1))) (sym e)
-          (map-next block_of_table shown c.loop-block.tables.items c.loop-block.block c.in_ok-copied_block.field-0 here c.loop-block.invariant.blocks);
+          (map-next block_of_table shown c.loop-block.tables.items c.loop-block.block c.in_ok-copy.copy here c.loop-block.invariant.blocks);
       count = rw (e, length-append, c.loop-block.invariant.count) refl;
     }
 
@@ -45,10 +45,10 @@ returns-in_err-tables g c = record {
   count = IfOk-from_err c.from_residual.result _ c.from_residual.ensures.0;
 }
 
-pub returns-in_err-copied_block : goal.returns-in_err-copied_block
-returns-in_err-copied_block g c = record {
-  blocks = IfOk-from_err c.from_residual-in_err-copied_block.result _ c.from_residual-in_err-copied_block.ensures.0;
-  count = IfOk-from_err c.from_residual-in_err-copied_block.result _ c.from_residual-in_err-copied_block.ensures.0;
+pub returns-in_err-copy : goal.returns-in_err-copy
+returns-in_err-copy g c = record {
+  blocks = IfOk-from_err c.from_residual-in_err-copy.result _ c.from_residual-in_err-copy.ensures.0;
+  count = IfOk-from_err c.from_residual-in_err-copy.result _ c.from_residual-in_err-copy.ensures.0;
 }
 
 pub returns-in_err-push : goal.returns-in_err-push

@@ -12,11 +12,11 @@ pub loop-inst-preserved : goal.loop-inst-preserved
 loop-inst-preserved g c =
     let f : FunctionValue = g.F.Function.function c.args.f.now in
     let shown : ℕ → InstValue = λ i. shown_inst (inst_at f i) in
-    let e : c.push.new.self.items ≡ c.loop-inst.tables.items ++ c.in_ok-copied_inst.field-0 ∷ [] = c.in_ok-push.ensures.items in
-    let here : inst_of_table c.in_ok-copied_inst.field-0 ≡ shown c.loop-inst.inst = search rules in
+    let e : c.push.new.self.items ≡ c.loop-inst.tables.items ++ c.in_ok-copy.copy ∷ [] = c.in_ok-push.ensures.items in
+    let here : inst_of_table c.in_ok-copy.copy ≡ shown c.loop-inst.inst = search rules in
     record {
       insts = subst (λ xs. map inst_of_table xs ≡ map shown (range_with_len 0 (c.loop-inst.inst + 1))) (sym e)
-          (map-next inst_of_table shown c.loop-inst.tables.items c.loop-inst.inst c.in_ok-copied_inst.field-0 here c.loop-inst.invariant.insts);
+          (map-next inst_of_table shown c.loop-inst.tables.items c.loop-inst.inst c.in_ok-copy.copy here c.loop-inst.invariant.insts);
       count = rw (e, length-append, c.loop-inst.invariant.count) refl;
     }
 
@@ -39,10 +39,10 @@ returns-in_err-tables g c = record {
   count = IfOk-from_err c.from_residual.result _ c.from_residual.ensures.0;
 }
 
-pub returns-in_err-copied_inst : goal.returns-in_err-copied_inst
-returns-in_err-copied_inst g c = record {
-  insts = IfOk-from_err c.from_residual-in_err-copied_inst.result _ c.from_residual-in_err-copied_inst.ensures.0;
-  count = IfOk-from_err c.from_residual-in_err-copied_inst.result _ c.from_residual-in_err-copied_inst.ensures.0;
+pub returns-in_err-copy : goal.returns-in_err-copy
+returns-in_err-copy g c = record {
+  insts = IfOk-from_err c.from_residual-in_err-copy.result _ c.from_residual-in_err-copy.ensures.0;
+  count = IfOk-from_err c.from_residual-in_err-copy.result _ c.from_residual-in_err-copy.ensures.0;
 }
 
 pub returns-in_err-push : goal.returns-in_err-push

@@ -1,5 +1,6 @@
-use Rattle.std.proofs.Common.{refl, arith}
+use Rattle.std.proofs.Common.{refl, arith, length, rules}
 use Rattle.regalloc2_analysis.proofs.LiveRangesLemmas.Spread.{set_spread, set_there}
+use borrow.Author.Rules.{scaled_Fits}
 use Rattle.regalloc2_analysis.proofs.live_ranges.slots.set_entry.Goals as goal
 use Rattle.regalloc2_analysis.proofs.live_ranges.slots.set_entry.Goals.{else-number-slots-via-else-number-slots}
 use Rattle.regalloc2_analysis.proofs.live_ranges.slots.set_entry.Goals.{else-number-slots-via-then-number-slots+else-slots-number}
@@ -19,3 +20,6 @@ returns-else-number-slots-clause-here g c has = elim c.else-number-slots.branch 
 
 pub returns-else-number-slots-clause-others : goal.returns-else-number-slots-clause-others
 returns-else-number-slots-clause-others g c n ne = refl
+
+pub offset_bounds-table-slots : goal.offset_bounds-table-slots
+offset_bounds-table-slots g c = scaled_Fits _ (length c.args.table.now) _ c.if-slots-number.true (search rules)

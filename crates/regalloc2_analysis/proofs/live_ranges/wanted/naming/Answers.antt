@@ -1,9 +1,9 @@
 use Rattle.std.proofs.lemmas.Result.{IfOk-from_err}
-use Rattle.std.proofs.Common.{ℕ, [], sym, subst}
+use Rattle.std.proofs.Common.{ℕ, [], sym, subst, ◌≡◌, length, arith}
 use Rattle.regalloc2_index.proofs.Bools.{not_both}
 use Rattle.regalloc2_function.specs.FunctionValue.{FunctionValue}
 use Rattle.regalloc2_analysis.specs.LiveRanges.LiveRanges.{IsWanted}
-use Rattle.regalloc2_analysis.specs.LiveRanges.WalkInvariant.{NamesNoAsked}
+use Rattle.regalloc2_analysis.specs.LiveRanges.WalkInvariant.{NamesNoAsked, AreNamers}
 use Rattle.regalloc2_analysis.proofs.LiveRangesLemmas.Named.{named_more, named_none, named_same}
 use Rattle.regalloc2_analysis.proofs.live_ranges.wanted.naming.Goals as goal
 use Rattle.regalloc2_analysis.proofs.live_ranges.wanted.naming.Goals.{then-not-names_none+in_ok-push, else-not-names_none}
@@ -25,3 +25,12 @@ loop-i-preserved g c =
 
 pub returns-in_err-push : goal.returns-in_err-push
 returns-in_err-push g c = IfOk-from_err c.from_residual.result _ c.from_residual.ensures.0
+
+pub names_none-requires : goal.names_none-requires
+names_none-requires g c = omega (arith, c.num_insts-i-end.ensures.count, c.new-inst.ensures)
+
+pub returns : goal.returns
+returns g c =
+    let all : c.loop-i.i ≡ length (g.F.Function.function c.args.f.now).insts = omega (arith, c.num_insts-i-end.ensures.count) in
+    subst (λ (n : ℕ). AreNamers (g.F.Function.function c.args.f.now) (IsWanted c.args.wanted.now) c.loop-i.named.items (length c.loop-i.named.items) n) all
+    c.loop-i.invariant

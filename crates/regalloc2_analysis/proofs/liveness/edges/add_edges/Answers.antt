@@ -1,9 +1,10 @@
 use Rattle.std.proofs.lemmas.Result.{IfOk-from_err}
-use Rattle.std.proofs.Common.{ℕ, ◌≡◌, ◌<◌, ◌≤◌, List, length, nat_eq, subst, arith}
+use Rattle.std.proofs.Common.{ℕ, ◌≡◌, ◌<◌, ◌≤◌, List, length, nat_eq, subst, arith, rules}
 use Rattle.std.specs.Prelude.{◌&&◌, ◌||◌}
 use Rattle.std.proofs.lemmas.List.{take_all}
 use Rattle.regalloc2_analysis.specs.Liveness.Edges.{blocks_of, names_block}
 use Rattle.regalloc2_analysis.proofs.LivenessLemmas.EdgeLists.{edges_more, edges_start}
+use borrow.Author.Rules.{scaled_Fits}
 use Rattle.regalloc2_analysis.proofs.liveness.edges.add_edges.Goals as goal
 
 pub loop-succ-init : goal.loop-succ-init
@@ -25,3 +26,12 @@ returns g c =
 
 pub returns-in_err-push : goal.returns-in_err-push
 returns-in_err-push g c = IfOk-from_err c.from_residual.result _ c.from_residual.ensures.0
+
+pub bounds-edges-index : goal.bounds-edges-index
+bounds-edges-index g c =
+    let old : c.succ-item.result < length c.args.edges.now = rw c.succ-item.is (c.requires c.loop-succ.succ-index c.succ-item.result
+    c.loop-succ-test.true) in
+    omega (arith, old, c.index.ensures)
+
+pub offset_bounds-edges-index : goal.offset_bounds-edges-index
+offset_bounds-edges-index g c = scaled_Fits c.index.result (length c.loop-succ.edges) _ (bounds-edges-index g c) (search rules)

@@ -1,6 +1,7 @@
-use Rattle.std.proofs.Common.{◌≡◌, ◌<◌, false, List, [], length, ap, ◌∙◌, sym, subst, arith, slice_index_or}
+use Rattle.std.proofs.Common.{◌≡◌, ◌<◌, false, List, [], length, ap, ◌∙◌, sym, subst, arith, rules, slice_index_or}
 use Rattle.std.specs.Prelude.{All, Option, IfNone, IfSome, Contains, find, reverse}
 use Rattle.std.proofs.lemmas.List.{get_or_read}
+use borrow.Author.Rules.{scaled_Fits}
 use Rattle.regalloc2_names.specs.Register.{Register, class_code}
 use Rattle.regalloc2_names.specs.RegisterSet.{has_register}
 use Rattle.regalloc2_fastalloc_state.specs.Choice.{chosen}
@@ -50,3 +51,9 @@ returns-clause-none g c =
       fixed_stack = c.self.inside.fixed_stack;
       dedicated_scratch = c.self.inside.dedicated_scratch;
     }) c.args.class c.args.available c.last.result c.self.invariant.0 (subst Q (sym c.index-self-code.is ∙ ring) c.last.ensures.none))
+
+pub bounds-self-inside-code : goal.bounds-self-inside-code
+bounds-self-inside-code g c = omega (arith, c.self.invariant.0.three, c.code.ensures.small)
+
+pub offset_bounds-self-inside-code : goal.offset_bounds-self-inside-code
+offset_bounds-self-inside-code g c = scaled_Fits c.code.result 3 _ c.code.ensures.small (search rules)

@@ -1,6 +1,7 @@
 use Rattle.std.proofs.Common.{ℕ, ◌≡◌, ◌<◌, true, List, [], ◌∷◌, length, sym, ap, ◌∙◌, subst, arith, slice_index_or, rules}
 use Rattle.std.specs.Prelude.{Contains, ◌↔◌, filter, not}
 use Rattle.std.proofs.lemmas.List.{get_or_read}
+use borrow.Author.Rules.{scaled_Fits}
 use Rattle.regalloc2_names.specs.Register.{Register, class_code, is_register}
 use Rattle.regalloc2_names.specs.RegisterSet.{has_register}
 use Rattle.regalloc2_fastalloc_state.specs.StateParts.{AllocatableRegsValue, lru_of}
@@ -55,3 +56,9 @@ returns-clause-machine g c = record {
   fixed_stack = ap (λ (t : AllocatableRegsValue). t.fixed_stack) c.self.view_is;
   dedicated_scratch = ap (λ (t : AllocatableRegsValue). t.dedicated_scratch) c.self.view_is;
 }
+
+pub bounds-self-inside-code : goal.bounds-self-inside-code
+bounds-self-inside-code g c = omega (arith, c.self.invariant.0.three, c.code.ensures.small)
+
+pub offset_bounds-self-inside-code : goal.offset_bounds-self-inside-code
+offset_bounds-self-inside-code g c = scaled_Fits c.code.result 3 _ c.code.ensures.small (search rules)

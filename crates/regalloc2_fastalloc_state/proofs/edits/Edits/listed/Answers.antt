@@ -38,3 +38,15 @@ returns-in_err-listed-clause-listed g c = IfOk-from_err c.from_residual.result _
 
 pub returns-in_err-reserve_exact-clause-listed : goal.returns-in_err-reserve_exact-clause-listed
 returns-in_err-reserve_exact-clause-listed g c = IfOk-from_err c.from_residual-in_err-reserve_exact.result _ c.from_residual-in_err-reserve_exact.ensures.0
+
+pub returns-in_err-listed-clause-falling : goal.returns-in_err-listed-clause-falling
+returns-in_err-listed-clause-falling g c = subst PointsDescend c.self.view_is c.self.invariant
+
+pub returns-in_err-reserve_exact-clause-falling : goal.returns-in_err-reserve_exact-clause-falling
+returns-in_err-reserve_exact-clause-falling g c = subst PointsDescend c.self.view_is c.self.invariant
+
+-- there is room
+pub list_chunk-requires : goal.list_chunk-requires
+list_chunk-requires g c = record {
+  room = omega (arith, c.in_ok-listed.ensures.len, c.in_ok-listed.ensures.capacity, c.max-room.ensures, c.len.ensures, c.deref-2.ensures.len);
+}

@@ -5,7 +5,7 @@ use Rattle.regalloc2_fastalloc_state.specs.StateParts.{PointsDescend, AllAtOrAft
 use Rattle.regalloc2_fastalloc_state.proofs.EditsPushed.{chunk_begun, one_kept}
 use Rattle.regalloc2_fastalloc_state.proofs.PointsDescend.{never_rise_push, none_before_push}
 use Rattle.regalloc2_fastalloc_state.proofs.edits.Edits.push.Given.{Over}
-use Rattle.regalloc2_fastalloc_state.proofs.edits.Edits.push.Goals.{In_ok-push, After-from_residual-in_err-push}
+use Rattle.regalloc2_fastalloc_state.proofs.edits.Edits.push.Goals.{In_ok-push, After-from_residual-in_err-push, After-from_residual}
 use Rattle.regalloc2_fastalloc_state.proofs.edits.Edits.push.Goals.{then-len-capacity+in_ok-begin_chunk, else-len-capacity}
 use Rattle.regalloc2_fastalloc_state.proofs.edits.Edits.push.Goals as goal
 
@@ -62,3 +62,17 @@ returns-in_err-begin_chunk-clause-ok g c = IfOk-from_err c.from_residual.result 
 
 pub returns-in_err-push-clause-ok : goal.returns-in_err-push-clause-ok
 returns-in_err-push-clause-ok g c = IfOk-from_err c.from_residual-in_err-push.result _ c.from_residual-in_err-push.ensures.0
+
+-- where no chunk is begun, the moves are those that were
+unbegun : (g : Over) (c : After-from_residual g) →
+    map kept_move (flat_map (λ chunk. chunk.items) c.begin_chunk.new.full.items ++ c.begin_chunk.new.current.items) ≡ c.args.self.now
+unbegun g c =
+    let same = c.in_err-begin_chunk.ensures.kept in
+    ap (λ chunks. map kept_move (flat_map (λ chunk. chunk.items) chunks ++ c.begin_chunk.new.current.items)) same.0
+    ∙ ap (λ v. map kept_move (flat_map (λ chunk. chunk.items) c.self.inside.full.items ++ v.items)) same.1 ∙ c.self.view_is
+
+pub invariant_of-self : goal.invariant_of-self
+invariant_of-self g c = subst PointsDescend (c.self.view_is ∙ sym (unbegun g c)) c.self.invariant
+
+pub returns-in_err-begin_chunk-clause-later : goal.returns-in_err-begin_chunk-clause-later
+returns-in_err-begin_chunk-clause-later g c = subst (AllAtOrAfter c.args.point) (sym (unbegun g c)) c.requires

@@ -1,12 +1,13 @@
-use Rattle.std.proofs.Common.{ℕ, ◌-◌, ◌^◌, ◌<◌, not, ◌∙◌, subst, arith, refl}
+use Rattle.std.proofs.Common.{ℕ, ◌-◌, ◌^◌, ◌<◌, not, ◌∙◌, subst, arith, refl, sym}
 use Rattle.regalloc2_function.specs.FunctionValue.{FunctionValue}
 use Rattle.regalloc2_analysis.specs.LiveRanges.LiveRanges.{IsWanted}
 use Rattle.regalloc2_fastalloc_walk.specs.StateView.{tables_of}
 use Rattle.regalloc2_fastalloc_walk.proofs.Findings.{found_more, not_false}
 use Rattle.regalloc2_fastalloc_proofs.proofs.Debug.ChangesCounted.{unchanged_adds_nothing}
-use Rattle.std.proofs.lemmas.Result.{on_ok_weaker}
+use Rattle.std.proofs.lemmas.Result.{on_ok_weaker, err_from_is_err_and, IfErr-weaker}
 use Rattle.regalloc2_fastalloc_walk.proofs.Steps.{outcome_of, on_ok_any, on_ok_both}
 use Rattle.regalloc2_fastalloc_walk.proofs.StepsFail.{no_lack}
+use Rattle.regalloc2_fastalloc_state.specs.OutOfResources.{IsResourceError}
 use Rattle.regalloc2_fastalloc_walk.proofs.state.State.alloc_and_note.Goals as goal
 
 pub returns-clause-found : goal.returns-clause-found
@@ -32,3 +33,24 @@ note-requires g c = let few = (g.met.F.Function.limited c.args.cx.now.f.now).ins
 pub returns-clause-outcome : goal.returns-clause-outcome
 returns-clause-outcome g c = outcome_of c.note.result (on_ok_any c.note.result c.in_ok-passes.ensures.outcome) c.note.ensures.err (λ made. made)
     (λ e memory lacks. no_lack refl memory lacks)
+
+pub returns-clause-step : goal.returns-clause-step
+returns-clause-step g c = record {
+  machine = c.in_ok-passes.ensures.step.machine;
+  later = on_ok_any c.note.result c.in_ok-passes.ensures.step.later;
+  long = on_ok_any c.note.result c.in_ok-passes.ensures.step.long;
+  err = IfErr-weaker c.note.result _ _ (λ e memory. subst (IsResourceError _) (sym memory) tt) c.note.ensures.err;
+}
+
+pub returns-in_err-passes-clause-outcome : goal.returns-in_err-passes-clause-outcome
+returns-in_err-passes-clause-outcome g c =
+    let e = err_from_is_err_and c.from_residual.result c.from_residual.ensures.1 in
+    rw e.1 (λ lacks. c.in_err-passes.ensures.outcome (sym e.2 ∙ lacks))
+
+pub returns-in_err-passes-clause-step : goal.returns-in_err-passes-clause-step
+returns-in_err-passes-clause-step g c =
+    let e = err_from_is_err_and c.from_residual.result c.from_residual.ensures.1 in
+    rw (e.1, e.2) (record { machine = c.in_err-passes.ensures.step.machine; later = tt; long = tt; err = c.in_err-passes.ensures.step.err })
+
+pub returns-in_err-passes-clause-found : goal.returns-in_err-passes-clause-found
+returns-in_err-passes-clause-found g c = let e = err_from_is_err_and c.from_residual.result c.from_residual.ensures.1 in rw e.1 tt

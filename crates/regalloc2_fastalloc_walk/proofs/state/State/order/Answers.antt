@@ -4,12 +4,13 @@ use Rattle.regalloc2_names.specs.Place.{Place}
 use Rattle.regalloc2_parts.specs.Resolved.{moves_listed, has_scratch, with_place}
 use Rattle.regalloc2_parts.specs.declared.scratch_pool.ScratchPool.{ScratchPool}
 use Rattle.regalloc2_fastalloc_state.specs.OutOfResources.{IsResourceError, SlotsExhaustedWith}
-use Rattle.regalloc2_parts.specs.ScratchPool.{HasTooFewSlots}
+use Rattle.regalloc2_parts.specs.ScratchPool.{HasTooFewSlots, error_of}
 use Rattle.regalloc2_fastalloc_proofs.specs.InstSteps.{StateValue, MayHold}
 use Rattle.regalloc2_fastalloc_walk.specs.StateView.{tables_of}
 use Rattle.regalloc2_fastalloc_proofs.proofs.Moves.ParallelMovesOrdered.{GivenMoves, orders, orders_none, serves_given, short_full, taken_fits}
 use Rattle.regalloc2_fastalloc_state.proofs.SpillSlotUnits.{lacks_slots, no_register, slots_of_fault}
 use Rattle.regalloc2_fastalloc_walk.proofs.Clashes.{not_both}
+use Rattle.regalloc2_fastalloc_walk.proofs.StepsFail.{no_lack}
 use Rattle.regalloc2_fastalloc_walk.proofs.state.State.order.Goals as goal
 
 pub returns-then-are_none-clause-outcome : goal.returns-then-are_none-clause-outcome
@@ -132,3 +133,25 @@ returns-in_err-made-clause-outcome g c =
     let p = err_from_is_err_and c.from_residual-in_err-made.result c.from_residual-in_err-made.ensures.1 in
     rw p.1 (λ same. absurd (no_register (HasTooFewSlots c.temp_slots.result) _
     (slots_of_fault (HasTooFewSlots c.temp_slots.result) _ c.in_err-made.ensures.err) (sym p.2 ∙ same)))
+
+pub add_temp_slots-requires-clause-few : goal.add_temp_slots-requires-clause-few
+add_temp_slots-requires-clause-few g c = c.in_ok-made.ensures.there.0
+
+-- memory is out
+pub returns-in_err-resolved-clause-outcome : goal.returns-in_err-resolved-clause-outcome
+returns-in_err-resolved-clause-outcome g c =
+    let p = err_from_is_err_and c.from_residual.result c.from_residual.ensures.1 in
+    rw p.1 (λ lacks. no_lack p.2 (ap error_of c.in_err-resolved.ensures.memory) lacks)
+
+pub returns-in_err-resolved-clause-unchanged : goal.returns-in_err-resolved-clause-unchanged
+returns-in_err-resolved-clause-unchanged g c = let p = err_from_is_err_and c.from_residual.result c.from_residual.ensures.1 in rw p.1 refl
+
+pub returns-in_err-resolved-clause-err : goal.returns-in_err-resolved-clause-err
+returns-in_err-resolved-clause-err g c =
+    let s = c.args.self.now.slots in
+    let p = err_from_is_err_and c.from_residual.result c.from_residual.ensures.1 in
+    rw p.1 (subst (IsResourceError (SlotsExhaustedWith s (s.num_temp_slots + 2))) (sym (p.2 ∙ ap error_of c.in_err-resolved.ensures.memory)) tt)
+
+pub returns-in_err-made-clause-unchanged : goal.returns-in_err-made-clause-unchanged
+returns-in_err-made-clause-unchanged g c =
+    let p = err_from_is_err_and c.from_residual-in_err-made.result c.from_residual-in_err-made.ensures.1 in rw p.1 refl

@@ -1,4 +1,4 @@
-use Rattle.std.proofs.Common.{ℕ, List, sym, ap, ◌∙◌, slice_index}
+use Rattle.std.proofs.Common.{ℕ, List, refl, sym, ap, ◌∙◌, slice_index}
 use Rattle.std.proofs.lemmas.Result.{err_from_is_err_and}
 use Rattle.regalloc2_names.specs.Register.{class_code}
 use Rattle.regalloc2_fastalloc_walk.specs.StateView.{tables_of}
@@ -41,3 +41,15 @@ pub returns-in_err-reserve_each-clause-err : goal.returns-in_err-reserve_each-cl
 returns-in_err-reserve_each-clause-err g c =
     let e = err_from_is_err_and c.from_residual.result c.from_residual.ensures.1 in
     rw (e.1 ∙ ap Err e.2) c.in_err-reserve_each.ensures.err
+
+pub returns-clause-same : goal.returns-clause-same
+returns-clause-same g c = elim c.if-sorted.branch [
+  | then-sorted+in_ok-reserve_each w ↦ rw w.self-is w.reserve_each.ensures.same
+  | else-sorted w ↦ rw w.self-is refl
+]
+
+pub returns-clause-unused : goal.returns-clause-unused
+returns-clause-unused g c = elim c.if-sorted.branch [
+  | then-sorted+in_ok-reserve_each w ↦ rw w.self-is w.in_ok-reserve_each.ensures.unused
+  | else-sorted w ↦ rw w.self-is (λ none. refl)
+]

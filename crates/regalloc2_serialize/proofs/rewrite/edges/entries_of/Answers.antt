@@ -50,3 +50,16 @@ loop-block-init g c =
 
 pub returns-in_err-counts : goal.returns-in_err-counts
 returns-in_err-counts g c = IfOk-from_err c.from_residual.result _ c.from_residual.ensures.0
+
+pub new-requires : goal.new-requires
+new-requires g c = omega (arith, c.loop-block-test.true, c.num_blocks-block-end.ensures.limit)
+
+pub block_succs-requires : goal.block_succs-requires
+block_succs-requires g c = omega (arith, c.new.ensures, c.loop-block-test.true, c.num_blocks-block-end.ensures.count)
+
+pub count_entries-requires : goal.count_entries-requires
+count_entries-requires g c = rw (c.block_succs.ensures, c.loop-block.invariant.long)
+    (c.requires.1 c.new.result (omega (arith, c.new.ensures, c.loop-block-test.true, c.num_blocks-block-end.ensures.count)))
+
+pub count_entry-requires : goal.count_entry-requires
+count_entry-requires g c = rw (c.entry_block.ensures, c.loop-block.invariant.long) c.requires.0

@@ -1,4 +1,4 @@
-use Rattle.std.proofs.Common.{arith, ◌≡◌, ◌∙◌, ◌<◌, ◌++◌, ◌∷◌, [], true, false, ℕ, List, length, map, ap, sym}
+use Rattle.std.proofs.Common.{arith, ◌≡◌, ◌∙◌, ◌<◌, ◌++◌, ◌∷◌, [], true, false, ℕ, List, length, map, ap, sym, ◌+◌, ◌-◌, ◌^◌, ◌≤◌}
 use Rattle.std.specs.Prelude.{slice_index}
 use Rattle.std.proofs.lemmas.List.{get_or_default, length-map, map-append}
 use Rattle.regalloc2_function.specs.FunctionValue.{FunctionValue, block_at}
@@ -9,6 +9,15 @@ use Rattle.regalloc2_serialize.proofs.RewriteLemmas.EdgeLists.{edge}
 use Rattle.regalloc2_serialize.proofs.RewriteLemmas.SplitSteps.{critical-jumps, critical-more, critical-succ, jump-made, plain-jumps}
 use Rattle.std.proofs.lemmas.Result.{err_from_is_err_and}
 use Rattle.regalloc2_serialize.proofs.rewrite.edges.split_edge.Goals as goal
+
+last-of : (first end last : ℕ) → first < end → last ≡ end - 1 → (last + 1 ≡ end) × (first ≤ last)
+last-of first end last some is = (omega arith, omega arith)
+
+too-many : (n l b v i d c : ℕ) → 2 ^ 32 - 1 ≤ n + l → n ≡ b → l ≡ v → v ≡ i → d ≡ i → d ≤ c → 2 ^ 32 - 1 ≤ b + c
+too-many n l b v i d c many is_n is_l is_v is_d more = omega arith
+
+goes-to : (r n l b v i d s : ℕ) → r ≡ n + l → n ≡ b → l ≡ v → v ≡ i → d ≡ i → s ≡ b + d → r ≡ s
+goes-to r n l b v i d s is is_n is_l is_v is_d at = omega arith
 
 pub has_critical_edge-requires : goal.has_critical_edge-requires
 has_critical_edge-requires g c = record { counted = c.requires.to_split.counted; position = c.requires.position }
@@ -25,14 +34,17 @@ returns-then-number-ge-BLOCK_LIMIT-clause-err g c =
     let critical : is_critical f c.args.block c.args.k ≡ true = sym c.has_critical_edge.ensures ∙ c.if-not-has_critical_edge.false in
     let more = critical-more c.args.none f c.args.block c.args.k (map draft_of c.args.jumps.now.items) c.requires.to_split.counted.block c.requires.position critical
     c.requires.to_split.before in
-    omega (arith, more, c.if-number-ge-BLOCK_LIMIT.true, c.num_blocks.ensures.count, c.len.ensures, length-map c.args.jumps.now.items draft_of)
+    too-many _ _ _ _ _ _ _ c.if-number-ge-BLOCK_LIMIT.true c.num_blocks.ensures.count c.len.ensures c.args.jumps.now.ok.0
+    (length-map c.args.jumps.now.items draft_of) more
 
 pub returns-clause-ends : goal.returns-clause-ends
 returns-clause-ends g c =
     let f : FunctionValue = g.F.Function.function c.args.f.now in
     let critical : is_critical f c.args.block c.args.k ≡ true = sym c.has_critical_edge.ensures ∙ c.if-not-has_critical_edge.false in
-    let at = critical-succ c.args.none f c.args.block c.args.k (map draft_of c.args.jumps.now.items) critical c.requires.to_split.before in
-    (omega (arith, at, c.new.ensures, c.num_blocks.ensures.count, c.len.ensures, length-map c.args.jumps.now.items draft_of), rw critical c.new-2.ensures.items)
+    let at = critical-succ c.args.none f c.args.block c.args.k (map draft_of c.args.jumps.now.items) critical c.requires.to_split.before in (
+      goes-to _ _ _ _ _ _ _ _ c.new.ensures c.num_blocks.ensures.count c.len.ensures c.args.jumps.now.ok.0 (length-map c.args.jumps.now.items draft_of) at,
+      rw critical c.new-2.ensures.items,
+    )
 
 pub returns-clause-jumps : goal.returns-clause-jumps
 returns-clause-jumps g c =
@@ -40,7 +52,7 @@ returns-clause-jumps g c =
     let b : ℕ = c.args.block in
     let k : ℕ = c.args.k in
     let critical : is_critical f b k ≡ true = sym c.has_critical_edge.ensures ∙ c.if-not-has_critical_edge.false in
-    let inside : k < length c.block_succs.result.now = omega (arith, ap length c.block_succs.ensures, c.requires.position) in
+    let inside : k < length c.block_succs.result.now = rw c.block_succs.ensures c.requires.position in
     let to : c.index-block_succs-k.result ≡ slice_index (block_at f b).succs k =
     c.index-block_succs-k.is ∙ get_or_default c.block_succs.result.now k c.index-block_succs-k.result 0 inside
     ∙ ap (λ (ss : List ℕ). slice_index ss k) c.block_succs.ensures in
@@ -57,7 +69,7 @@ pub block_succs-requires : goal.block_succs-requires
 block_succs-requires g c = c.requires.to_split.counted.block
 
 pub bounds-block_succs-k : goal.bounds-block_succs-k
-bounds-block_succs-k g c = omega (arith, ap length c.block_succs.ensures, c.requires.position)
+bounds-block_succs-k g c = rw c.block_succs.ensures c.requires.position
 
 pub block_insns-requires : goal.block_insns-requires
 block_insns-requires g c = c.requires.to_split.counted.block
@@ -69,13 +81,13 @@ pub branch_blockparams-requires-clause-last : goal.branch_blockparams-requires-c
 branch_blockparams-requires-clause-last g c =
     let some = (c.requires.to_split.counted.framed.follow c.args.block c.requires.to_split.counted.block).0 in
     let last = rw c.block_insns.ensures at c.last-last.ensures in
-    omega (arith, some, last)
+    (last-of _ _ _ some last).0
 
 pub branch_blockparams-requires-clause-nonempty : goal.branch_blockparams-requires-clause-nonempty
 branch_blockparams-requires-clause-nonempty g c =
     let some = (c.requires.to_split.counted.framed.follow c.args.block c.requires.to_split.counted.block).0 in
     let last = rw c.block_insns.ensures at c.last-last.ensures in
-    omega (arith, some, last)
+    (last-of _ _ _ some last).1
 
 pub branch_blockparams-requires-clause-position : goal.branch_blockparams-requires-clause-position
 branch_blockparams-requires-clause-position g c = c.requires.position
@@ -95,7 +107,7 @@ returns-then-not-has_critical_edge-clause-ends g c =
     let b : ℕ = c.args.block in
     let k : ℕ = c.args.k in
     let plain : is_critical f b k ≡ false = sym c.has_critical_edge.ensures ∙ c.if-not-has_critical_edge.true in
-    let inside : k < length c.block_succs.result.now = omega (arith, ap length c.block_succs.ensures, c.requires.position) in
+    let inside : k < length c.block_succs.result.now = rw c.block_succs.ensures c.requires.position in
     let to : c.index-block_succs-k.result ≡ slice_index (block_at f b).succs k =
     c.index-block_succs-k.is ∙ get_or_default c.block_succs.result.now k c.index-block_succs-k.result 0 inside
     ∙ ap (λ (ss : List ℕ). slice_index ss k) c.block_succs.ensures in
@@ -126,3 +138,9 @@ returns-in_err-push-clause-jumps g c =
 pub returns-in_err-push-clause-err : goal.returns-in_err-push-clause-err
 returns-in_err-push-clause-err g c =
     let p = err_from_is_err_and c.from_residual-in_err-push.result c.from_residual-in_err-push.ensures.1 in rw (p.1, p.2) tt
+
+pub last-last-requires : goal.last-last-requires
+last-last-requires g c = rw c.block_insns.ensures (c.requires.to_split.counted.framed.follow c.args.block c.requires.to_split.counted.block).0
+
+pub new-requires : goal.new-requires
+new-requires g c = omega (arith, c.if-number-ge-BLOCK_LIMIT.false)

@@ -18,8 +18,8 @@ split_edge-requires g c = record {
 pub loop-k-preserved : goal.loop-k-preserved
 loop-k-preserved g c =
     let f : FunctionValue = g.F.Function.function c.args.f.now in
-    let e : c.push.new.self.items ≡ c.loop-k.succs.items ++ c.in_ok-succ.succ ∷ [] = c.in_ok-push.ensures.items in
-    let d : c.push-in-loop-k.new.self.items ≡ c.loop-k.lists.items ++ c.in_ok-succ.arguments ∷ [] = c.in_ok-push-2.ensures.items in
+    let e : c.push-in-loop-k.new.self.items ≡ c.loop-k.succs.items ++ c.in_ok-succ.succ ∷ [] = c.in_ok-push-2.ensures.items in
+    let d : c.push.new.self.items ≡ c.loop-k.lists.items ++ c.in_ok-succ.arguments ∷ [] = c.in_ok-push.ensures.items in
     record {
       succs = e
           ∙ filled-more (split_succ f c.args.block) c.loop-k.succs.items c.in_ok-succ.succ c.loop-k.k c.loop-k.invariant.succs c.in_ok-succ.ensures.ends.0;

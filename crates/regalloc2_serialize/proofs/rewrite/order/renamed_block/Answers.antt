@@ -1,4 +1,5 @@
 use Rattle.std.proofs.lemmas.Result.{err_from_is_err_and}
+use Rattle.std.proofs.Common.{◌∙◌, refl}
 use Rattle.regalloc2_serialize.proofs.rewrite.order.renamed_block.Goals as goal
 
 pub copied_insts-requires : goal.copied_insts-requires
@@ -31,3 +32,13 @@ block_params-requires g c = c.requires.block
 
 pub block_succs-requires : goal.block_succs-requires
 block_succs-requires g c = c.requires.block
+
+pub returns : goal.returns
+returns g c =
+    rw (
+      c.in_ok-to_vec.ensures.items_if_clones_equal (λ x y h. h) ∙ c.block_params.ensures,
+      c.in_ok-copied_insts.ensures,
+      c.in_ok-renamed_succs.ensures,
+      c.block_succs.ensures,
+      c.in_ok-copied_arguments.ensures,
+    ) refl

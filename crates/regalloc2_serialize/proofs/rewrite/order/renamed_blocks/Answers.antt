@@ -22,19 +22,19 @@ pub loop-block-preserved : goal.loop-block-preserved
 loop-block-preserved g c =
     let f : FunctionValue = g.F.Function.function c.args.f.now in
     let number : ℕ → ℕ = λ s. slice_index c.args.numbers.now s in
-    let e : c.push.new.self.items ≡ c.loop-block.drafts.items ++ c.in_ok-renamed_block.field-0 ∷ [] = c.in_ok-push.ensures.items in
+    let e : c.push.new.self.items ≡ c.loop-block.drafts.items ++ c.in_ok-draft.draft ∷ [] = c.in_ok-push.ensures.items in
     let is : c.block-item.result ≡ get_or c.args.order.now c.loop-block.block-index c.block-item.result = c.block-item.is in
     ap (map draft_of) e
-    ∙ map-taken draft_of (renamed number f) c.loop-block.drafts.items c.in_ok-renamed_block.field-0 c.args.order.now c.loop-block.block-index
-    c.block-item.result c.loop-block-test.true is c.in_ok-renamed_block.ensures c.loop-block.invariant
+    ∙ map-taken draft_of (renamed number f) c.loop-block.drafts.items c.in_ok-draft.draft c.args.order.now c.loop-block.block-index
+    c.block-item.result c.loop-block-test.true is c.in_ok-draft.ensures c.loop-block.invariant
 
 pub returns-in_err-drafts : goal.returns-in_err-drafts
 returns-in_err-drafts g c =
     let p = err_from_is_err_and c.from_residual.result c.from_residual.ensures.1 in rw p.1 tt
 
-pub returns-in_err-renamed_block : goal.returns-in_err-renamed_block
-returns-in_err-renamed_block g c =
-    let p = err_from_is_err_and c.from_residual-in_err-renamed_block.result c.from_residual-in_err-renamed_block.ensures.1 in rw p.1 tt
+pub returns-in_err-draft : goal.returns-in_err-draft
+returns-in_err-draft g c =
+    let p = err_from_is_err_and c.from_residual-in_err-draft.result c.from_residual-in_err-draft.ensures.1 in rw p.1 tt
 
 pub returns-in_err-push : goal.returns-in_err-push
 returns-in_err-push g c =

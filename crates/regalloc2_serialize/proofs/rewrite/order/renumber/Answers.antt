@@ -98,3 +98,9 @@ renamed_blocks-requires-clause-numbers g c = ap length c.as_slice.ensures.value 
 
 pub laid_like-requires : goal.laid_like-requires
 laid_like-requires g c = rw c.new.ensures.items (λ k d less. absurd (omega (arith, less)))
+
+pub index-entry-requires : goal.index-entry-requires
+index-entry-requires g c =
+    let framed : IsFramed (g.F.Function.function c.args.f.now) = c.is_framed.ensures.0 c.if-not-is_framed.false in
+    let entry = rw (← c.entry_block.ensures, ← c.index.ensures, ← c.num_blocks.ensures.count) at framed.successors.0 in
+    omega (arith, entry, c.in_ok-numbers.ensures.ok.long, c.in_ok-numbers.numbers.ok.0)

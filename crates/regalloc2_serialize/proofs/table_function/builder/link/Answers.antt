@@ -58,3 +58,8 @@ returns-in_err-link_one-clause-within g c = let p = err_from_is_err_and c.from_r
 
 pub returns-clause-err : goal.returns-clause-err
 returns-clause-err g c = tt
+
+pub link_one-requires : goal.link_one-requires
+link_one-requires g c =
+    let long = same_count c.args.blocks.now.items c.loop-number.blocks.items c.loop-number.invariant.others in
+    omega (arith, long, c.new.ensures, c.loop-number-test.true, c.len-number-end.ensures, c.args.blocks.now.ok.0, c.loop-number.blocks.ok.0)

@@ -68,3 +68,11 @@ loop-k-init g c =
 
 pub returns-clause-err : goal.returns-clause-err
 returns-clause-err g c = tt
+
+pub index-requires-2 : goal.index-requires-2
+index-requires-2 g c = rw c.index.ensures c.requires
+
+pub index-requires-in-loop-k-2 : goal.index-requires-in-loop-k-2
+index-requires-in-loop-k-2 g c =
+    let long = same_count c.args.blocks.now.items c.loop-k.blocks.items c.loop-k.invariant.linked.others in
+    omega (arith, long, c.index-in-loop-k.ensures, c.requires, c.args.blocks.now.ok.0, c.loop-k.blocks.ok.0)

@@ -1,10 +1,11 @@
-use Rattle.std.proofs.Common.{arith, ◌≡◌, ◌∙◌, ◌∷◌, ◌+◌, ◌*◌, ◌/◌, ◌%◌, ◌<◌, ◌≤◌, refl, ap, sym, subst, length, map, vec_len}
-use Rattle.std.specs.Prelude.{All, nat_eq, slice_index}
+use Rattle.std.proofs.Common.{arith, ℕ, List, true, ◌-◌, ◌^◌, ◌≡◌, ◌∙◌, ◌∷◌, ◌+◌, ◌*◌, ◌/◌, ◌%◌, ◌<◌, ◌≤◌, refl, ap, sym, subst, length, map, vec_len}
+use Rattle.std.specs.Prelude.{All, nat_eq, nat_lt, slice_index}
 use Rattle.std.specs.List.{range_with_len}
 use Rattle.std.proofs.lemmas.List.Elements.{All-weaker}
+use Rattle.std.proofs.lemmas.Bool.{ltb-true}
 use Rattle.std.proofs.lemmas.Result.{IfOk-from_err, err_from_is_err_and}
 use Rattle.regalloc2_function.specs.FunctionValue.{label_of}
-use Rattle.regalloc2_serialize.specs.Flat.Columns.Layout.{header_of, kind_words, inst_ends}
+use Rattle.regalloc2_serialize.specs.Flat.Columns.Layout.{AreInColumns, column, header_of, kind_words, inst_ends, widths}
 use Rattle.regalloc2_serialize.specs.Flat.Columns.Layout.{label_words}
 use Rattle.regalloc2_serialize.specs.Flat.Columns.Value.{label_at, column_sizes}
 use Rattle.regalloc2_serialize.proofs.Lists.{all-under}
@@ -24,6 +25,32 @@ sizes_of-requires g c = record {
   vector = rw c.header-header.ensures c.requires.limits.vector;
 }
 
+-- how long a column is
+count : (words : List ℕ) (k : ℕ) → AreInColumns words → nat_lt k 19 ≡ true → length (column words k) ≡ slice_index (widths (header_of words)) k
+count words k laid less = count-of words k laid (ltb-true k 19 less)
+
+-- how long a list of bounds is
+one-longer : (bounds ends : List ℕ) (n m : ℕ) → n ≡ length bounds → bounds ≡ 0 ∷ ends → length ends ≡ m → n ≡ m + 1
+one-longer bounds ends n m is items ends_are = omega (arith, ap length items)
+
+both : (n m k : ℕ) → n ≡ k → m ≡ k → n ≡ m
+both n m k is_n is_m = is_n ∙ sym is_m
+
+one-for-each : (n m k : ℕ) → n ≡ k + 1 → m ≡ k → n ≡ m + 1
+one-for-each n m k is_n is_m = omega arith
+
+few : (n m : ℕ) → n ≡ m + 1 → m < 2 ^ 32 - 1 → n < 2 ^ 32
+few n m is less = omega arith
+
+some : (n m : ℕ) → n ≡ m + 1 → 1 ≤ n
+some n m is = omega arith
+
+among : (k n m : ℕ) → k ≤ m → n ≡ m + 1 → k < n
+among k n m small is = omega arith
+
+inside : (k n m e : ℕ) → k + 1 < n → n ≡ m + 1 → e ≡ m → k < e
+inside k n m e less is ends_are = omega arith
+
 pub invariant_of-result : goal.invariant_of-result
 invariant_of-result g c =
     let words = c.args.cut.now.words.now in
@@ -33,45 +60,32 @@ invariant_of-result g c =
     let kinds = c.in_ok-insts.insts.kinds in
     let sets = c.in_ok-insts.insts.sets in
     let bounds = c.in_ok-inst_bounds.inst_bounds in
-    let blocks : vec_len bounds ≡ (header_of words).blocks + 1 =
-    omega (arith, bounds.ok.0, ap length c.in_ok-inst_bounds.ensures, c.column.ensures.count) in
-    let insts : vec_len kinds ≡ (header_of words).insts = omega (arith, kinds.ok.0, ap length tables.kinds, count-of words 6 laid (omega arith)) in
-    let numbers : vec_len sets ≡ (header_of words).sets + 1 =
-    omega (arith, sets.ok.0, tables.sets.count_is) in
     let is : bounds.items ≡ 0 ∷ inst_ends words = c.in_ok-inst_bounds.ensures ∙ ap (λ l. 0 ∷ l) c.column.ensures.column in
+    let blocks : vec_len bounds ≡ (header_of words).blocks + 1 = one-longer _ _ _ _ bounds.ok.0 c.in_ok-inst_bounds.ensures c.column.ensures.count in
+    let insts : vec_len kinds ≡ (header_of words).insts = kinds.ok.0 ∙ ap length tables.kinds ∙ count words 6 laid refl in
+    let numbers : vec_len sets ≡ (header_of words).sets + 1 = sets.ok.0 ∙ tables.sets.count_is in
+    let succs = c.in_ok-edges.edges.succs.items.ok.0 ∙ ap length edges.succs ∙ count words 14 laid refl in
     record {
-      few_insts = omega (arith, insts, c.requires.limits.insts);
-      few_blocks = omega (arith, blocks, c.requires.limits.blocks);
+      few_insts = rw insts c.requires.limits.insts;
+      few_blocks = few _ _ blocks c.requires.limits.blocks;
       few_vregs = rw c.header-header.ensures c.requires.limits.vregs;
       labels_below = all-under (λ l. l.vreg.number < c.header-header.result.vregs) label_of (label_at c.column-2.result.now) c.in_ok-labels.labels.items
           (range_with_len 0 c.header-header.result.labels) c.in_ok-labels.ensures
           (all-below (λ k. slice_index c.column-2.result.now (4 * k) / 4 < c.header-header.result.vregs) c.header-header.result.labels
           (rw (c.column-2.ensures.column, c.header-header.ensures) c.requires.within.labels));
       set_of_each = subst (All (λ k. k / 4 < vec_len sets)) (sym tables.kinds)
-          (All-weaker (λ k. k / 4 ≤ (header_of words).sets) (λ k. k / 4 < vec_len sets) (λ k small. omega (arith, small, numbers)) (kind_words words)
+          (All-weaker (λ k. k / 4 ≤ (header_of words).sets) (λ k. k / 4 < vec_len sets) (λ k small. among (k / 4) _ _ small numbers) (kind_words words)
           c.requires.within.sets);
-      operands_of_each = omega (
-        arith,
-        insts,
-        c.in_ok-insts.insts.operands.bounds.ok.0,
-        ap length tables.operand_bounds,
-        count-of words 7 laid (omega arith),
-      );
+      operands_of_each = one-for-each _ _ _
+          (one-longer _ _ _ _ c.in_ok-insts.insts.operands.bounds.ok.0 tables.operand_bounds (count words 7 laid refl)) insts;
       insts_rise = λ k less. subst (λ bs. slice_index bs k ≤ slice_index bs (k + 1)) (sym is)
-          (c.requires.covered.insts.rises k (omega (arith, less, blocks, count-of words 9 laid (omega arith))));
-      bounded = omega (arith, blocks);
-      preds_of_each = omega (arith, blocks, c.in_ok-edges.edges.preds.bounds.ok.0, ap length edges.pred_bounds, count-of words 10 laid (omega arith));
-      succs_of_each = omega (arith, blocks, c.in_ok-edges.edges.succs.bounds.ok.0, ap length edges.succ_bounds, count-of words 11 laid (omega arith));
-      params_of_each = omega (arith, blocks, c.in_ok-edges.edges.params.bounds.ok.0, ap length edges.param_bounds, count-of words 12 laid (omega arith));
-      arguments_of_each = omega (
-        arith,
-        c.in_ok-edges.edges.arguments.bounds.ok.0,
-        ap length edges.argument_bounds,
-        count-of words 16 laid (omega arith),
-        c.in_ok-edges.edges.succs.items.ok.0,
-        ap length edges.succs,
-        count-of words 14 laid (omega arith),
-      );
+          (c.requires.covered.insts.rises k (inside k _ _ _ less blocks (count words 9 laid refl)));
+      bounded = some _ _ blocks;
+      preds_of_each = both _ _ _ (one-longer _ _ _ _ c.in_ok-edges.edges.preds.bounds.ok.0 edges.pred_bounds (count words 10 laid refl)) blocks;
+      succs_of_each = both _ _ _ (one-longer _ _ _ _ c.in_ok-edges.edges.succs.bounds.ok.0 edges.succ_bounds (count words 11 laid refl)) blocks;
+      params_of_each = both _ _ _ (one-longer _ _ _ _ c.in_ok-edges.edges.params.bounds.ok.0 edges.param_bounds (count words 12 laid refl)) blocks;
+      arguments_of_each = one-for-each _ _ _
+          (one-longer _ _ _ _ c.in_ok-edges.edges.arguments.bounds.ok.0 edges.argument_bounds (count words 16 laid refl)) succs;
     }
 
 pub machine_from-requires : goal.machine_from-requires

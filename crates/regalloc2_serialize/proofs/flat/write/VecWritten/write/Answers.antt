@@ -4,6 +4,7 @@ use Rattle.std.specs.List.{flat_map}
 use Rattle.regalloc2_serialize.specs.Flat.Flat.{HasLongWord}
 use Rattle.std.proofs.lemmas.Result.{err_from_is_err_and, IfOk-from_err}
 use Rattle.regalloc2_serialize.proofs.FlatLemmas.LongWords.{long_member, long_in_list}
+use Rattle.regalloc2_function.specs.declared.serialize.StoredFault.TheVariants.{Memory, Limit}
 use Rattle.regalloc2_serialize.proofs.flat.write.VecWritten.write.Goals as goal
 
 pub returns-in_err-write-clause-limit : goal.returns-in_err-write-clause-limit
@@ -59,3 +60,22 @@ returns-in_default-clause-ok g c = tt
 
 pub returns-in_default-clause-faults : goal.returns-in_default-clause-faults
 returns-in_default-clause-faults g c = inl refl
+
+memory-is-not-limit : Memory ≡ Limit → ⊥
+memory-is-not-limit is = absurd cc
+
+pub returns-in_default-clause-limit : goal.returns-in_default-clause-limit
+returns-in_default-clause-limit g c = λ e. record {
+  before = [];
+  number = length c.args.self.now.items;
+  after = flat_map g.T.Flat.words c.args.self.now.items;
+  parts = refl;
+  is_long = omega (arith, c.in_default.ensures, c.len.ensures, c.args.self.now.ok.0);
+}
+
+pub returns-in_err-push-clause-limit : goal.returns-in_err-push-clause-limit
+returns-in_err-push-clause-limit g c =
+    let p = err_from_is_err_and c.from_residual.result c.from_residual.ensures.1 in rw (p.1, p.2) (λ is. absurd (memory-is-not-limit is))
+
+pub bounds-item-items-item-index : goal.bounds-item-items-item-index
+bounds-item-items-item-index g c = c.loop-item-test.true
