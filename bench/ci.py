@@ -4,11 +4,12 @@
     python3 bench/ci.py [--lanes N]
     python3 bench/ci.py --functions CRATE [--most N]
 
-The first form runs `rt ci --anew` with N checks side by side (two, if N isn't given, as on CI's machine), and before and after it proves
-`regalloc2_names` twice by two jobs, since a virtual machine may become half as fast within an hour. It prints processor seconds for proofs, second
-proofs (with which mutants begin) and mutants, and the ratio: core-minutes of the run for each second of `regalloc2_names`, the mean of all four. Run
-it with nothing beside it: other work makes each check cost more, and so do more checks side by side (with four on four processors, `regalloc2_names`
-took a tenth more than alone, and a small crate, which mostly reads what is below it, two fifths). The status is that of `rt ci`.
+The first form runs `rt ci --anew` with N checks side by side (two, if N isn't given, as on CI's machine), and proves `regalloc2_names` by two jobs
+before it, after it, and every twenty minutes in between, while all checks are stopped: a virtual machine may become half as fast within an hour. It
+prints processor seconds for proofs, second proofs (with which mutants begin) and mutants, and the ratio: core-minutes of the run for each second of
+`regalloc2_names`, the mean of all its times. Run it with nothing beside it: other work makes each check cost more, and so do more checks side by side
+(with four on four processors, `regalloc2_names` took a tenth more than alone, and a small crate, which mostly reads what is below it, two fifths). The
+status is that of `rt ci`.
 
 The second form proves a crate by `rt check --jobs 1` in its folder, from nothing unless another checkout on this machine has kept work of it, and
 prints for each function the seconds between the time stamps of its modules, most first, and the megabytes of its module `Lts`: `Lts`, `Tie` and others
@@ -18,11 +19,12 @@ megabytes, about one for each second on a slow machine, don't depend on what els
 
 It reads the toolchain's layout (the folder of `rt doc`), which another release may change.
 """
-import argparse, collections, glob, importlib.machinery, importlib.util, os, re, shutil, stat, subprocess, sys, tempfile, time
+import argparse, collections, glob, importlib.machinery, importlib.util, os, re, shutil, signal, stat, subprocess, sys, tempfile, threading, time
 
 KIT = os.path.dirname(subprocess.run(["rt", "doc"], capture_output=True, text=True, check=True).stdout.strip())
 ROOT = os.path.dirname(os.path.dirname(os.path.abspath(__file__)))
 KINDS = ("proof", "second proof", "mutant")
+BETWEEN = 20 * 60
 RATTLE = """#!/usr/bin/python3 -S
 # Runs rattle, and notes the crate, the kind of check, its processor seconds and its seconds.
 import os, subprocess, sys, time
@@ -78,16 +80,68 @@ def prove_names():
         return 0
 
 
-def seconds_of_names():
-    """What two processes of their own print, one after the other."""
-    seconds = []
-    for _ in range(2):
-        done = subprocess.run([sys.executable, os.path.abspath(__file__), "--names"], stdout=subprocess.PIPE, text=True)
-        if done.returncode:
-            sys.exit("regalloc2_names isn't proved")
-        seconds.append(float(done.stdout.split()[-1]))
-        print(f"regalloc2_names {seconds[-1]:.1f} s", file=sys.stderr, flush=True)
-    return seconds
+def below(ancestor):
+    """The processes that a process started, and that these started, with their names."""
+    children, names = collections.defaultdict(list), {}
+    for path in glob.glob("/proc/[0-9]*/stat"):
+        try:
+            with open(path) as it:
+                head, _, tail = it.read().rpartition(")")
+        except OSError:
+            continue
+        pid, _, names_pid = head.partition(" (")
+        names[int(pid)] = names_pid
+        children[int(tail.split()[1])].append(int(pid))
+    found = list(children[ancestor])
+    for it in found:
+        found += children[it]
+    return {it: names[it] for it in found}
+
+
+def send(number, pids):
+    for pid in pids:
+        try:
+            os.kill(pid, number)
+        except ProcessLookupError:
+            pass
+
+
+class Clock:
+    """The seconds that `regalloc2_names` took each time, and the processor seconds and the seconds that all this took."""
+
+    def __init__(self):
+        self.seconds, self.used, self.taken, self.ended = [], 0.0, 0.0, threading.Event()
+
+    def measure(self, others=lambda own: ()):
+        """Proves `regalloc2_names` in a process of its own, while others, the processes that it is given its own number to name, are stopped."""
+        begun = time.time()
+        with tempfile.TemporaryFile("w+") as out:
+            child, stopped, own = subprocess.Popen([sys.executable, os.path.abspath(__file__), "--names"], stdout=out), set(), 0
+            try:
+                while not own:
+                    found = set(others(child.pid)) - stopped
+                    send(signal.SIGSTOP, found)
+                    stopped |= found
+                    time.sleep(0.5)
+                    own, status, used = os.wait4(child.pid, os.WNOHANG)
+            finally:
+                send(signal.SIGCONT, stopped)
+            child.returncode = os.waitstatus_to_exitcode(status)
+            out.seek(0)
+            said = out.read().split()
+        if child.returncode:
+            raise SystemExit("regalloc2_names isn't proved")
+        self.used, self.taken = self.used + used.ru_utime + used.ru_stime, self.taken + time.time() - begun
+        self.seconds.append(float(said[-1]))
+        print(f"regalloc2_names {self.seconds[-1]:.1f} s", file=sys.stderr, flush=True)
+
+    def tick(self):
+        """Measures every `BETWEEN` seconds, once no program is being tested, since these have a limit of time."""
+        checks = lambda own: [it for it, name in below(os.getpid()).items() if name == "rattle" and it not in below(own)]
+        while not self.ended.wait(BETWEEN):
+            while any(name not in ("rattle", "python3") for name in below(os.getpid()).values()):
+                time.sleep(1)
+            self.measure(checks)
 
 
 def table(rows):
@@ -102,18 +156,26 @@ def table(rows):
 
 
 def whole(lanes):
-    """Proves everything from nothing, and `regalloc2_names` alone before and after, and prints the table."""
+    """Proves everything from nothing, and `regalloc2_names` alone from time to time, and prints the table."""
     with tempfile.TemporaryDirectory() as room:
-        rt, first = loaded(room), seconds_of_names()
+        rt, clock = loaded(room), Clock()
+        clock.measure()
         os.chdir(ROOT)
         os.environ["RT_JOBS"] = str(lanes)
-        begun, before = time.time(), sum(os.times()[:4])
-        status = rt.main(["ci", "--anew"])
-        minutes, cores = (time.time() - begun) / 60, (sum(os.times()[:4]) - before) / 60
+        ticks = threading.Thread(target=clock.tick)
+        begun, before = time.time() - clock.taken, sum(os.times()[:4]) - clock.used
+        ticks.start()
+        try:
+            status = rt.main(["ci", "--anew"])
+        finally:
+            clock.ended.set()
+            ticks.join()
+        minutes, cores = (time.time() - begun - clock.taken) / 60, (sum(os.times()[:4]) - before - clock.used) / 60
         table(noted(room))
-        names = first + seconds_of_names()
-        seconds = ", ".join(f"{it:.1f}" for it in names)
-        print(f"{minutes:.0f} minutes, {cores:.0f} core-minutes; regalloc2_names {seconds} s: ratio {cores * len(names) / sum(names):.2f}")
+        clock.measure()
+        seconds = ", ".join(f"{it:.1f}" for it in clock.seconds)
+        ratio = cores * len(clock.seconds) / sum(clock.seconds)
+        print(f"{minutes:.0f} minutes, {cores:.0f} core-minutes; regalloc2_names {seconds} s: ratio {ratio:.2f}")
         return status
 
 
