@@ -38,6 +38,7 @@ FLOORS = [
         ("regalloc2_fastalloc", "run, the output")])],
     [("Front", [("regalloc2", "allocate, run_tested, run_checked, and all items under upstream's paths")])],
     [("Tools", [
+        ("command_line", "tables of arguments"),
         ("regalloc2_tool", "listings, pictures, subcommands")]),
      ("C library", [
          ("regalloc2_c", "calls, statuses, words")])],

@@ -1,8 +1,9 @@
 //! The command line.
 
 use clap::error::ErrorKind;
-use clap::{Arg, ArgAction, ArgMatches, Command, Error, value_parser};
+use clap::{ArgMatches, Command, Error};
 use codegen::program::{Action, ROOM, RunOptions, Task};
+use command_line::{Argument, Commands, Form};
 use std::alloc::{AllocError, Global};
 
 /// The help's text about the exit status.
@@ -21,34 +22,9 @@ pub struct Request<'a> {
     pub is_quiet: bool,
 }
 
-/// How an argument is given.
-#[derive(Clone, Copy)]
-enum Form {
-    /// A word in its place.
-    Word,
-    /// All words that are left.
-    Words,
-    /// An option with its long name and no value.
-    Flag,
-    /// An option with its long name and a value, which the help calls so.
-    Valued(&'static str),
-}
-
-/// An argument of a command.
-struct Row {
-    /// The command that takes it; empty if each does.
-    command: &'static str,
-    id: &'static str,
-    form: Form,
-    short: Option<char>,
-    is_required: bool,
-    is_number: bool,
-    help: &'static str,
-}
-
 /// The arguments of the commands, in the order of the help.
-static ROWS: [Row; 9] = [
-    Row {
+static ARGUMENTS: [Argument; 9] = [
+    Argument {
         command: "compile",
         id: "FILE",
         form: Form::Word,
@@ -57,7 +33,7 @@ static ROWS: [Row; 9] = [
         is_number: false,
         help: "A function or several, as a text; - is standard input",
     },
-    Row {
+    Argument {
         command: "compile",
         id: "header",
         form: Form::Flag,
@@ -66,7 +42,7 @@ static ROWS: [Row; 9] = [
         is_number: false,
         help: "Write a header for C in place of the assembly",
     },
-    Row {
+    Argument {
         command: "run",
         id: "FILE",
         form: Form::Word,
@@ -75,7 +51,7 @@ static ROWS: [Row; 9] = [
         is_number: false,
         help: "A function or several, as a text; - is standard input",
     },
-    Row {
+    Argument {
         command: "run",
         id: "NUMBER",
         form: Form::Words,
@@ -84,7 +60,7 @@ static ROWS: [Row; 9] = [
         is_number: true,
         help: "The arguments; those past them are 0",
     },
-    Row {
+    Argument {
         command: "run",
         id: "room",
         form: Form::Valued("WORDS"),
@@ -93,7 +69,7 @@ static ROWS: [Row; 9] = [
         is_number: true,
         help: "How many words the code may take on the stack, 131072 unless given",
     },
-    Row {
+    Argument {
         command: "run",
         id: "memory",
         form: Form::Flag,
@@ -102,7 +78,7 @@ static ROWS: [Row; 9] = [
         is_number: false,
         help: "Write the hash of the memory that the code leaves (FNV-1a, 64 bits)",
     },
-    Row {
+    Argument {
         command: "random",
         id: "SEED",
         form: Form::Word,
@@ -111,7 +87,7 @@ static ROWS: [Row; 9] = [
         is_number: true,
         help: "A number; the same one gives the same functions",
     },
-    Row {
+    Argument {
         command: "",
         id: "output",
         form: Form::Valued("OUT"),
@@ -120,7 +96,7 @@ static ROWS: [Row; 9] = [
         is_number: false,
         help: "Write the answer to the file OUT",
     },
-    Row {
+    Argument {
         command: "",
         id: "quiet",
         form: Form::Flag,
@@ -143,56 +119,16 @@ static SUBCOMMANDS: [(&str, &str); 2] = [
     ),
 ];
 
-/// The argument of a row.
-fn argument<'a>(alloc: Global, row: &Row) -> Arg<'a> {
-    let arg = Arg::new(alloc, row.id)
-        .help(row.help)
-        .required(row.is_required);
-    let arg = match row.form {
-        Form::Word => arg.action(ArgAction::Set),
-        Form::Words => arg.action(ArgAction::Append).num_args(0..),
-        Form::Flag => arg.action(ArgAction::SetTrue).long(row.id),
-        Form::Valued(name) => arg.action(ArgAction::Set).long(row.id).value_name(name),
-    };
-    let arg = match row.short {
-        Some(short) => arg.short(short),
-        None => arg,
-    };
-    if row.is_number {
-        arg.value_parser(value_parser!(u64))
-    } else {
-        arg
-    }
-}
-
-/// A command with its arguments, without subcommands.
-fn command_of<'a>(
-    alloc: Global,
-    name: &'static str,
-    about: &'static str,
-) -> Result<Command<'a>, AllocError> {
-    let mut command = Command::new(alloc, name).about(about).after_help(STATUSES);
-    for row in &ROWS {
-        if row.command.is_empty() || row.command == name {
-            command = command.arg(argument(alloc, row))?;
-        }
-    }
-    Ok(command)
-}
-
-/// The subcommands.
-fn subcommands<'a>(alloc: Global) -> Result<Vec<Command<'a>>, AllocError> {
-    let mut commands = Vec::new(alloc);
-    for (name, about) in &SUBCOMMANDS {
-        commands.push(command_of(alloc, *name, *about)?)?;
-    }
-    Ok(commands)
-}
-
 /// The whole command.
 fn command<'a>(alloc: Global) -> Result<Command<'a>, AllocError> {
-    let subcommands = subcommands(alloc)?;
-    command_of(alloc, "compile", "Writes a function as assembly for x86-64")?
+    let commands = Commands {
+        subcommands: &SUBCOMMANDS,
+        arguments: &ARGUMENTS,
+        after_help: STATUSES,
+    };
+    let subcommands = commands.subcommands(alloc)?;
+    commands
+        .command(alloc, "compile", "Writes a function as assembly for x86-64")?
         .version("0.1.0")
         .arg_required_else_help(true)
         .args_conflicts_with_subcommands(true)

@@ -2,7 +2,8 @@
 
 use crate::calls::call::Call;
 use clap::error::ErrorKind;
-use clap::{Arg, ArgAction, ArgMatches, Command, Error};
+use clap::{ArgMatches, Command, Error};
+use command_line::{Argument, Commands, Form};
 use std::alloc::{AllocError, Global};
 
 /// The subcommands, with what their help says.
@@ -89,115 +90,63 @@ pub struct Task<'a> {
     pub is_quiet: bool,
 }
 
-/// How an argument is given.
-#[derive(Clone, Copy)]
-enum Form {
-    /// A word in its place.
-    Word,
-    /// An option with its long name and no value.
-    Flag,
-    /// An option with its long name and a value, which the help calls so.
-    Valued(&'static str),
-}
-
-/// An argument of a subcommand.
-struct Row {
-    /// The subcommand that takes it; empty if each does.
-    command: &'static str,
-    id: &'static str,
-    form: Form,
-    short: Option<char>,
-    is_required: bool,
-    help: &'static str,
-}
-
 /// The arguments of the subcommands, in the order of the help.
-static ROWS: [Row; 5] = [
-    Row {
+static ARGUMENTS: [Argument; 5] = [
+    Argument {
         command: "",
         id: "FILE",
         form: Form::Word,
         short: None,
         is_required: true,
+        is_number: false,
         help: "A function with its machine, as a text, as JSON or as upstream prints it; - is standard input",
     },
-    Row {
+    Argument {
         command: "",
         id: "output",
         form: Form::Valued("OUT"),
         short: Some('o'),
         is_required: false,
+        is_number: false,
         help: "Write the answer to the file OUT",
     },
-    Row {
+    Argument {
         command: "",
         id: "quiet",
         form: Form::Flag,
         short: Some('q'),
         is_required: false,
+        is_number: false,
         help: "Write neither answer nor rejection: the status tells",
     },
-    Row {
+    Argument {
         command: "diff",
         id: "OTHER",
         form: Form::Word,
         short: None,
         is_required: false,
+        is_number: false,
         help: "The same function with another output; without it, the allocator's",
     },
-    Row {
+    Argument {
         command: "stats",
         id: "json",
         form: Form::Flag,
         short: None,
         is_required: false,
+        is_number: false,
         help: "Write the counts as JSON",
     },
 ];
 
-/// The argument of a row.
-fn argument<'a>(alloc: Global, row: &Row) -> Arg<'a> {
-    let arg = Arg::new(alloc, row.id)
-        .help(row.help)
-        .required(row.is_required);
-    let arg = match row.form {
-        Form::Word => arg.action(ArgAction::Set),
-        Form::Flag => arg.action(ArgAction::SetTrue).long(row.id),
-        Form::Valued(name) => arg.action(ArgAction::Set).long(row.id).value_name(name),
-    };
-    match row.short {
-        Some(short) => arg.short(short),
-        None => arg,
-    }
-}
-
-/// A subcommand with its arguments.
-fn subcommand<'a>(
-    alloc: Global,
-    name: &'static str,
-    about: &'static str,
-) -> Result<Command<'a>, AllocError> {
-    let mut command = Command::new(alloc, name).about(about).after_help(STATUSES);
-    for row in &ROWS {
-        if row.command.is_empty() || row.command == name {
-            command = command.arg(argument(alloc, row))?;
-        }
-    }
-    Ok(command)
-}
-
-/// The subcommands.
-fn subcommands<'a>(alloc: Global) -> Result<Vec<Command<'a>>, AllocError> {
-    let mut commands = Vec::new(alloc);
-    for (name, about) in &SUBCOMMANDS {
-        commands.push(subcommand(alloc, *name, *about)?)?;
-    }
-    Ok(commands)
-}
-
 /// The command with its subcommands.
 fn command<'a>(alloc: Global) -> Result<Command<'a>, AllocError> {
-    let subcommands = subcommands(alloc)?;
+    let commands = Commands {
+        subcommands: &SUBCOMMANDS,
+        arguments: &ARGUMENTS,
+        after_help: STATUSES,
+    };
+    let subcommands = commands.subcommands(alloc)?;
     Command::new(alloc, "ra2_text")
         .version("0.1.0")
         .about("Allocates registers to a function that is given as a text or as JSON")

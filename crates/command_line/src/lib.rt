@@ -1,0 +1,96 @@
+//! A program's command line as a table of arguments, from which a command of `clap` is made.
+#![tactic(auto)]
+
+use clap::{Arg, ArgAction, Command, value_parser};
+use std::alloc::{AllocError, Global};
+
+/// How an argument is given.
+#[derive(Clone, Copy)]
+pub enum Form {
+    /// A word in its place.
+    Word,
+    /// All words that are left.
+    Words,
+    /// An option with its long name and no value.
+    Flag,
+    /// An option with its long name and a value, which the help calls so.
+    Valued(&'static str),
+}
+
+/// An argument.
+pub struct Argument {
+    /// The command that takes it; empty if each does.
+    pub command: &'static str,
+    /// The name by which `clap` finds its value: that of the option, or of the word in the help.
+    pub id: &'static str,
+    pub form: Form,
+    /// The option's letter.
+    pub short: Option<char>,
+    pub is_required: bool,
+    /// Whether its values are numbers of 64 bits.
+    pub is_number: bool,
+    pub help: &'static str,
+}
+
+/// The commands of a program.
+#[derive(Clone, Copy)]
+pub struct Commands {
+    /// The subcommands, with what their help says.
+    pub subcommands: &'static [(&'static str, &'static str)],
+    /// The arguments, in the order of the help.
+    pub arguments: &'static [Argument],
+    /// The end of each command's help.
+    pub after_help: &'static str,
+}
+
+/// The argument of `clap`.
+fn arg_of<'a>(alloc: Global, row: &Argument) -> Arg<'a> {
+    let arg = Arg::new(alloc, row.id)
+        .help(row.help)
+        .required(row.is_required);
+    let arg = match row.form {
+        Form::Word => arg.action(ArgAction::Set),
+        Form::Words => arg.action(ArgAction::Append).num_args(0..),
+        Form::Flag => arg.action(ArgAction::SetTrue).long(row.id),
+        Form::Valued(name) => arg.action(ArgAction::Set).long(row.id).value_name(name),
+    };
+    let arg = match row.short {
+        Some(short) => arg.short(short),
+        None => arg,
+    };
+    if row.is_number {
+        arg.value_parser(value_parser!(u64))
+    } else {
+        arg
+    }
+}
+
+impl Commands {
+    /// The command of that name with its arguments, without subcommands. Fails only if memory runs
+    /// out.
+    pub fn command<'a>(
+        &self,
+        alloc: Global,
+        name: &'static str,
+        about: &'static str,
+    ) -> Result<Command<'a>, AllocError> {
+        let mut command = Command::new(alloc, name)
+            .about(about)
+            .after_help(self.after_help);
+        for row in self.arguments {
+            if row.command.is_empty() || row.command == name {
+                command = command.arg(arg_of(alloc, row))?;
+            }
+        }
+        Ok(command)
+    }
+
+    /// The subcommands, in order. Fails only if memory runs out.
+    pub fn subcommands<'a>(&self, alloc: Global) -> Result<Vec<Command<'a>>, AllocError> {
+        let mut commands = Vec::new(alloc);
+        for (name, about) in self.subcommands {
+            commands.push(self.command(alloc, *name, *about)?)?;
+        }
+        Ok(commands)
+    }
+}
