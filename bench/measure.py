@@ -64,8 +64,8 @@ def measure(args, program, upstream, path, insts):
     if args.task == "tree":
         return "decided" if decided(program, path, args.limit) else "OPEN"
     if args.heap:
-        # this port's program allocates once more than it is told, upstream's just as often
-        return heap(args.heap, commands(program, upstream, "allocate", path, 1 if upstream else 0), path, args.limit)
+        # this port's program allocates once more than it is told; upstream's run may hold more than its reading did, which the repeats then tell
+        return heap(args.heap, commands(program, upstream, "allocate", path, 4 if upstream else 0), path, args.limit)
     counts = [collected(commands(program, upstream, args.task, path, n), path, args.limit) for n in (1, 2, 3)]
     return None if None in counts else round(min(counts[1] - counts[0], counts[2] - counts[1]) / insts)
 
