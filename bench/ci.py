@@ -25,6 +25,7 @@ KIT = os.path.dirname(subprocess.run(["rt", "doc"], capture_output=True, text=Tr
 ROOT = os.path.dirname(os.path.dirname(os.path.abspath(__file__)))
 KINDS = ("proof", "second proof", "mutant")
 BETWEEN = 20 * 60
+CHECKS = ("rattle", "clang")
 RATTLE = """#!/usr/bin/python3 -S
 # Runs rattle, and notes the crate, the kind of check, its processor seconds and its seconds.
 import os, subprocess, sys, time
@@ -137,9 +138,10 @@ class Clock:
 
     def tick(self):
         """Measures every `BETWEEN` seconds, once no program is being tested, since these have a limit of time."""
-        checks = lambda own: [it for it, name in below(os.getpid()).items() if name == "rattle" and it not in below(own)]
+        checks = lambda own: [it for it, name in below(os.getpid()).items() if name in CHECKS and it not in below(own)]
         while not self.ended.wait(BETWEEN):
-            while any(name not in ("rattle", "python3") for name in below(os.getpid()).values()):
+            # (a shell watches over `rt`)
+            while any(name not in (*CHECKS, "sh", "python3") for name in below(os.getpid()).values()):
                 time.sleep(1)
             self.measure(checks)
 
