@@ -90,8 +90,8 @@ def below(ancestor):
                 head, _, tail = it.read().rpartition(")")
         except OSError:
             continue
-        pid, _, names_pid = head.partition(" (")
-        names[int(pid)] = names_pid
+        pid, _, name = head.partition(" (")
+        names[int(pid)] = name
         children[int(tail.split()[1])].append(int(pid))
     found = list(children[ancestor])
     for it in found:
