@@ -7,8 +7,8 @@ It needs valgrind, and the program `regalloc2_bench` (docs/BENCH.md says how to 
 path of a program that reads a stored function and runs upstream's allocator or checker on it: it is called as `PATH bench FILE TIMES`, with
 `--validate` for the task `test`, and as `PATH bench-check FILE TIMES` for the check, and does the work that many times. One time is the
 difference of two times and one, or that of three and two if it is less: so start-up and reading don't count, nor does the one time in which the C
-library's allocator merges the blocks that reading freed. `--heap` gives the bytes that one allocation holds at most beside the function, as
-`heap.c` counts them, in place of instructions; it needs a C compiler. The task `tree` counts nothing: for each function it says whether the
+library's allocator merges the blocks that reading freed. `--heap` gives the bytes that one allocation, or one allocation and check of its output, holds
+at most beside the function, as `heap.c` counts them, in place of instructions; it needs a C compiler. The task `tree` counts nothing: for each function it says whether the
 dominator tree and one search decide whether reads come after writes, and the script's status is 1 if some function is left open or some run
 fails.
 """
@@ -65,7 +65,8 @@ def measure(args, program, upstream, path, insts):
         return "decided" if decided(program, path, args.limit) else "OPEN"
     if args.heap:
         # this port's program allocates once more than it is told; upstream's run may hold more than its reading did, which the repeats then tell
-        return heap(args.heap, commands(program, upstream, "allocate", path, 4 if upstream else 0), path, args.limit)
+        times = 4 if upstream else 1 if args.task == "check" else 0
+        return heap(args.heap, commands(program, upstream, args.task, path, times), path, args.limit)
     counts = [collected(commands(program, upstream, args.task, path, n), path, args.limit) for n in (1, 2, 3)]
     return None if None in counts else round(min(counts[1] - counts[0], counts[2] - counts[1]) / insts)
 
@@ -82,6 +83,8 @@ def main():
     args = words.parse_args()
     if args.task == "tree" and (args.upstream or args.heap):
         words.error("the task tree is this port's alone, and counts nothing")
+    if args.heap and args.task != "allocate" and (args.upstream or args.task != "check"):
+        words.error("--heap measures allocate, and this port's check")
     sizes = [int(n) for n in args.sizes.split(",")]
     is_open = False
     who = (["upstream"] if args.upstream else []) + ["this port"]
