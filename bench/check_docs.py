@@ -11,13 +11,12 @@ The status is 1 if there is any finding. `make -C c test` runs it. It checks tha
 - each file in a must-fail/ folder has a row in docs/WRONG_BODIES.md;
 - no line of prose has more than 120 columns, and no table cell more than 200 characters as it is shown;
 - no line has a date or a word of history, since the documents say what is the case;
-- all pages together have at most 110,000 bytes;
 - each command in a code block is in COMMANDS below, or runs a program with the arguments with which `rt ci` runs it.
 """
 import fnmatch, glob, os, re, sys, unicodedata
 
 TOP = os.path.normpath(os.path.join(os.path.dirname(os.path.abspath(__file__)), ".."))
-MOST_BYTES, MOST_COLUMNS, MOST_IN_CELL = 110_000, 120, 200
+MOST_COLUMNS, MOST_IN_CELL = 120, 200
 
 # How each command of the documents is run. TEST: `make -C c test` does, by the text behind the word, which is in c/test.txt or
 # c/test.sh. HAND: by hand, and why. What isn't here is a program with the arguments of its file `args`, which `rt ci` runs.
@@ -266,8 +265,6 @@ def main():
                 found += list(check_links(tree, page, line)) + list(check_names(tree, line))
             findings += [f"{page}:{line.number}: {it}" for it in found]
     findings += check_mutants()
-    if size > MOST_BYTES:
-        findings.append(f"docs:1: {size:,} bytes in all pages, {size - MOST_BYTES:,} more than {MOST_BYTES:,}")
     print("\n".join(findings) if findings else f"{size:,} bytes in {len(pages)} pages, and nothing to report")
     return 1 if findings else 0
 
