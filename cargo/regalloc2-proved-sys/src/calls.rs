@@ -168,7 +168,7 @@ pub fn allocate_text<'a>(text: &str, room: &'a mut Room) -> Answer<'a> {
     })
 }
 
-/// Allocates registers to a function in words if no path reads a vreg before writing it.
+/// Allocates registers to a function in words if no path reads or passes a vreg before writing it.
 ///
 /// The output needs no check. [`Status::ReadBeforeWritten`] is returned only for a function that passes all other tests.
 pub fn run<'a>(function: &[u32], room: &'a mut Room) -> Answer<'a> {

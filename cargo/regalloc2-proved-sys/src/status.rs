@@ -21,7 +21,7 @@ pub enum Status {
     NotFramed,
     /// A number of the output is no encoding.
     BadOutput,
-    /// Some path reads a vreg before writing it.
+    /// Some path reads or passes a vreg before writing it.
     ReadBeforeWritten,
     /// A line of the text can't be read.
     BadText,

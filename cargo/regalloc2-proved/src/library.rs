@@ -99,7 +99,7 @@ fn read(words: &[u32], output: &mut Output) -> Result<(), Refusal> {
 }
 
 impl Library {
-    /// Allocates with all tests. The checker runs only if some path reads a vreg before writing it.
+    /// Allocates with all tests. The checker runs only if some path reads or passes a vreg before writing it.
     pub(crate) fn allocate(&mut self, f: &impl Function, env: &MachineEnv, output: &mut Output) -> Result<(), Refusal> {
         if !words::agree() {
             return Err(form());
