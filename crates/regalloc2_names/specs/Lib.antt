@@ -12,4 +12,5 @@ pub mod RegisterSet
 pub mod Same
 pub mod Collected
 pub mod Listed
+pub mod ErrorKind
 pub mod Text

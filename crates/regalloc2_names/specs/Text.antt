@@ -10,10 +10,13 @@ use Rattle.regalloc2_names.specs.declared.OperandPos.TheVariants.{Early, Late}
 use Rattle.regalloc2_names.specs.declared.RegAllocError.{RegAllocError}
 use Rattle.regalloc2_names.specs.declared.RegAllocError.TheVariants.{CritEdge, SSA, BB, Branch, EntryLivein, DisallowedBranchArg, TooManyLiveRegs}
 use Rattle.regalloc2_names.specs.declared.RegAllocError.TheVariants.{TooManyOperands, Unsupported, TooManySpillSlots, Memory}
+use Rattle.regalloc2_names.specs.declared.RegAllocErrorKind.{RegAllocErrorKind}
+use Rattle.regalloc2_names.specs.declared.RegAllocErrorKind.TheVariants as kind
 use Rattle.regalloc2_names.specs.declared.RegClass.{RegClass}
 use Rattle.regalloc2_names.specs.declared.RegClass.TheVariants.{Int, Float, Vector}
 use Rattle.regalloc2_names.specs.declared.InstPosition.{InstPosition}
 use Rattle.regalloc2_names.specs.declared.InstPosition.TheVariants.{Before, After}
+use Rattle.regalloc2_names.specs.ErrorKind.{kind_of}
 use Rattle.regalloc2_names.specs.Operand.{OperandValue, nonallocatable_register}
 use Rattle.regalloc2_names.specs.Place.{Place, NoPlace, InRegister, InSlot}
 use Rattle.regalloc2_names.specs.Point.{inst_of_point, position_of_point}
@@ -112,34 +115,36 @@ point_debug_text p = codes "progpoint" ++ decimal (inst_of_point p) ++ position_
 abbrev pub site_text : ℕ → List ℕ
 site_text i = if nat_eq i 4294967295 then codes "a block's parameter" else codes "inst" ++ decimal i
 
--- what an error names: an edge, a vreg with its site, a block, an instruction or nothing
-abbrev pub refusal_subject : RegAllocError → List ℕ
-refusal_subject (CritEdge a b) = codes "the edge from block" ++ decimal a ++ codes " to block" ++ decimal b
-refusal_subject (SSA v i) = class_vreg_text v ++ codes " at " ++ site_text i
-refusal_subject (BB b) = codes "block" ++ decimal b
-refusal_subject (Branch i) = codes "inst" ++ decimal i
-refusal_subject EntryLivein = []
-refusal_subject (DisallowedBranchArg i) = codes "inst" ++ decimal i
-refusal_subject TooManyLiveRegs = []
-refusal_subject TooManyOperands = []
-refusal_subject (Unsupported i) = codes "inst" ++ decimal i
-refusal_subject TooManySpillSlots = []
-refusal_subject Memory = []
+-- what an error names, followed by a colon: an edge, a vreg with its site, a block, an instruction or nothing
+abbrev pub refusal_heading : RegAllocError → List ℕ
+refusal_heading (CritEdge a b) = codes "block" ++ decimal a ++ codes " to block" ++ decimal b ++ codes ": "
+refusal_heading (SSA v i) = class_vreg_text v ++ codes " at " ++ site_text i ++ codes ": "
+refusal_heading (BB b) = codes "block" ++ decimal b ++ codes ": "
+refusal_heading (Branch i) = codes "inst" ++ decimal i ++ codes ": "
+refusal_heading EntryLivein = []
+refusal_heading (DisallowedBranchArg i) = codes "inst" ++ decimal i ++ codes ": "
+refusal_heading TooManyLiveRegs = []
+refusal_heading TooManyOperands = []
+refusal_heading (Unsupported i) = codes "inst" ++ decimal i ++ codes ": "
+refusal_heading TooManySpillSlots = []
+refusal_heading Memory = []
 
--- what is wrong with what an error names
-abbrev pub refusal_words : RegAllocError → List ℕ
-refusal_words (CritEdge a b) = codes " is critical"
-refusal_words (SSA v i) = codes " is defined again, past the count, or used too early"
-refusal_words (BB b) = codes " is out of range, or badly begun, ended or linked"
-refusal_words (Branch i) = codes " passes arguments that are not as the parameters"
-refusal_words EntryLivein = codes "the entry has parameters"
-refusal_words (DisallowedBranchArg i) = codes " has operands and leads to a block that is entered in several ways"
-refusal_words TooManyLiveRegs = codes "an instruction asks for more registers than there are"
-refusal_words TooManyOperands = codes "too many operands"
-refusal_words (Unsupported i) = codes " has an operand of a form that is not taken"
-refusal_words TooManySpillSlots = codes "a slot would end past the last unit"
-refusal_words Memory = codes "out of memory"
+-- the cause of an error in words; the function's start counts as an incoming edge of the entry
+abbrev pub cause_text : RegAllocErrorKind → List ℕ
+cause_text kind.CritEdge = codes "an edge is critical (its block has several successors, and the successor several incoming edges, counting the start)"
+cause_text kind.SSA = codes "a vreg is defined twice, isn't below the count of vregs, or is used without an earlier definition"
+cause_text kind.BB = codes
+    "a block doesn't exist, has a wrong instruction range, wrong predecessors or wrong terminators, or is the entry but not block 0"
+cause_text kind.Branch = codes "a branch passes arguments that don't fit the parameters"
+cause_text kind.EntryLivein = codes "the entry has parameters"
+cause_text kind.DisallowedBranchArg = codes "a branch with operands leads to a block with several incoming edges, counting the start"
+cause_text kind.TooManyLiveRegs = codes "an instruction needs more registers than there are"
+cause_text kind.TooManyOperands = codes "there are 2^32 operands or more"
+cause_text kind.Unsupported = codes
+    "an operand isn't supported: a limit, an unsound reuse, a definition or late use fixed to a clobber, or a branch's definition in any register or by a reuse"
+cause_text kind.TooManySpillSlots = codes "spill slots would take more than 2^24 units"
+cause_text kind.Memory = codes "out of memory"
 
--- as the edge from block0 to block2 is critical
+-- an error's whole text: what it names, and the cause
 abbrev pub refusal_text : RegAllocError → List ℕ
-refusal_text e = refusal_subject e ++ refusal_words e
+refusal_text e = refusal_heading e ++ cause_text (kind_of e)

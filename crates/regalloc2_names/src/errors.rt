@@ -1,8 +1,5 @@
 //! The texts of errors.
 
-ghost use Rattle.std.specs.Prelude.{◌≡◌};
-ghost use Rattle.regalloc2_names.specs.Text.{refusal_words};
-
 use super::RegAllocError;
 use super::texts::VRegText;
 use regalloc2_index::{Block, Inst};
@@ -30,57 +27,38 @@ impl fmt::Display for SiteText {
     }
 }
 
-/// What an error names: the edge, the vreg with its site, the block, the instruction or nothing.
+/// What an error names, followed by a colon: the edge, the vreg with its site, the block, the
+/// instruction or nothing.
 #[derive(Clone, Copy)]
-struct SubjectText(RegAllocError);
+struct HeadingText(RegAllocError);
 
-impl fmt::Display for SubjectText {
+impl fmt::Display for HeadingText {
     ghost use Rattle.std.specs.Prelude.{Some};
-    ghost use Rattle.regalloc2_names.specs.Text.{refusal_subject};
+    ghost use Rattle.regalloc2_names.specs.Text.{refusal_heading};
 
-    ghost output = { λ t. Some (refusal_subject t.0) };
+    ghost output = { λ t. Some (refusal_heading t.0) };
 
     fn fmt<W: fmt::Write>(&self, f: &mut fmt::Formatter<W>) -> fmt::Result {
         match self.0 {
             RegAllocError::CritEdge(Block(from), Block(to)) => {
-                write!(f, "the edge from block{from} to block{to}")
+                write!(f, "block{from} to block{to}: ")
             }
             RegAllocError::SSA(vreg, inst) => {
                 let vreg = VRegText(vreg);
                 let site = SiteText(inst);
-                write!(f, "{vreg} at {site}")
+                write!(f, "{vreg} at {site}: ")
             }
-            RegAllocError::BB(Block(block)) => write!(f, "block{block}"),
+            RegAllocError::BB(Block(block)) => write!(f, "block{block}: "),
             RegAllocError::Branch(Inst(inst))
             | RegAllocError::DisallowedBranchArg(Inst(inst))
-            | RegAllocError::Unsupported(Inst(inst)) => write!(f, "inst{inst}"),
+            | RegAllocError::Unsupported(Inst(inst)) => write!(f, "inst{inst}: "),
             _ => write!(f, ""),
         }
     }
 }
 
-/// What is wrong with what an error names.
-fn words_of(error: RegAllocError) -> &'static str
-    ensures { result.now ≡ refusal_words error }
-{
-    match error {
-        RegAllocError::CritEdge(..) => " is critical",
-        RegAllocError::SSA(..) => " is defined again, past the count, or used too early",
-        RegAllocError::BB(_) => " is out of range, or badly begun, ended or linked",
-        RegAllocError::Branch(_) => " passes arguments that are not as the parameters",
-        RegAllocError::EntryLivein => "the entry has parameters",
-        RegAllocError::DisallowedBranchArg(_) => {
-            " has operands and leads to a block that is entered in several ways"
-        }
-        RegAllocError::TooManyLiveRegs => "an instruction asks for more registers than there are",
-        RegAllocError::TooManyOperands => "too many operands",
-        RegAllocError::Unsupported(_) => " has an operand of a form that is not taken",
-        RegAllocError::TooManySpillSlots => "a slot would end past the last unit",
-        RegAllocError::Memory => "out of memory",
-    }
-}
-
-/// Writes what is wrong, as `the edge from block0 to block2 is critical`.
+/// Writes what the error names and its cause, as `inst4: a branch passes arguments that don't fit
+/// the parameters`, or the cause alone if it names nothing.
 ///
 /// Upstream: the text of `Debug`.
 impl fmt::Display for RegAllocError {
@@ -90,9 +68,9 @@ impl fmt::Display for RegAllocError {
     ghost output = { λ e. Some (refusal_text e) };
 
     fn fmt<W: fmt::Write>(&self, f: &mut fmt::Formatter<W>) -> fmt::Result {
-        let subject = SubjectText(*self);
-        let words = words_of(*self);
-        write!(f, "{subject}{words}")
+        let heading = HeadingText(*self);
+        let kind = self.kind();
+        write!(f, "{heading}{kind}")
     }
 }
 

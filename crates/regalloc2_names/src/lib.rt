@@ -9,6 +9,7 @@
 
 use regalloc2_index::{Block, Inst};
 
+mod error_kinds;
 mod errors;
 mod operands;
 mod places;
@@ -93,6 +94,8 @@ pub enum InstPosition {
 }
 
 /// Why a function is rejected, or why its allocation fails.
+///
+/// `kind` returns the reason alone, with a number and a text.
 #[derive(Clone, Copy, Debug, PartialEq, Eq)]
 pub enum RegAllocError {
     /// The edge from the first block to the second is critical: the first has several successors,
@@ -125,6 +128,45 @@ pub enum RegAllocError {
     Unsupported(Inst),
 
     /// A spill slot would have a number past `SpillSlot::MAX`.
+    TooManySpillSlots,
+
+    /// A memory allocation failed.
+    Memory,
+}
+
+/// The reason that a `RegAllocError` gives, without what it names.
+///
+/// Upstream: none.
+#[derive(Clone, Copy, Debug, PartialEq, Eq)]
+pub enum RegAllocErrorKind {
+    /// An edge is critical.
+    CritEdge,
+
+    /// A vreg is defined twice, isn't below the count, or is used without an earlier definition.
+    SSA,
+
+    /// A block doesn't exist, has a wrong range, predecessors or terminators, or is a wrong entry.
+    BB,
+
+    /// A branch passes arguments that don't fit the parameters.
+    Branch,
+
+    /// The entry has parameters.
+    EntryLivein,
+
+    /// A branch with operands leads to a block with several incoming edges.
+    DisallowedBranchArg,
+
+    /// An instruction needs more registers than there are.
+    TooManyLiveRegs,
+
+    /// There are 2^32 operands or more.
+    TooManyOperands,
+
+    /// An operand isn't supported.
+    Unsupported,
+
+    /// Spill slots would take more than 2^24 units.
     TooManySpillSlots,
 
     /// A memory allocation failed.
