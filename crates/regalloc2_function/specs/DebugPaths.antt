@@ -1,6 +1,6 @@
 -- The place that holds a labelled vreg's value at each step of a path.
 -- Upstream's locations give the range; the definition of holding the value is this project's own.
--- `run` guarantees it of each debug location, if no path reads a vreg before writing it (`ShowsLabels`).
+-- `run` guarantees it of each debug location, if no path from the entry reads or passes a vreg before writing it (`ShowsLabels`).
 use Rattle.std.specs.Prelude.{ℕ, ◌≡◌, ◌⊎◌, false, List, ◌∷◌, Contains, slice_index, Some}
 use Rattle.regalloc2_names.specs.Register.{VirtualRegister}
 use Rattle.regalloc2_names.specs.Place.{Place}

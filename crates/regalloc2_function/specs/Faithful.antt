@@ -1,10 +1,9 @@
 -- A faithful output: on every path each use reads what the function's own run reads.
 -- Constraints are those of upstream's `OperandConstraint`. Its checker tests that reads agree; here the agreement is defined along paths.
-use Rattle.std.specs.Prelude.{ℕ, ◌≡◌, ◌≢◌, ◌+◌, ◌<◌, ◌≤◌, true, List, All, length, slice_index_or, IsSome}
+use Rattle.std.specs.Prelude.{ℕ, ◌≡◌, ◌<◌, ◌≤◌, true, List, All, length, slice_index_or, IsSome}
 use Rattle.regalloc2_names.specs.declared.OperandConstraint.{OperandConstraint}
 use Rattle.regalloc2_names.specs.declared.OperandConstraint.TheVariants.{Any, Reg, Stack, FixedReg, Reuse, Limit}
 use Rattle.regalloc2_names.specs.Operand.{OperandValue, is_reading}
-use Rattle.regalloc2_names.specs.Point.{before}
 use Rattle.regalloc2_names.specs.Place.{Place, NoPlace, InRegister, InSlot}
 use Rattle.regalloc2_function.specs.FunctionValue.{FunctionValue, block_at, inst_at}
 use Rattle.regalloc2_function.specs.Machine.{MachineValue, IsStackPlace, IsPlainRegister}
@@ -62,8 +61,7 @@ IsFaithful f env out = (ws : List Way) → IsPath f ws → StepIsFaithful f env 
 abbrev pub HasNoStackToStack : MachineValue → OutputValue → Type 0
 HasNoStackToStack env out = All (λ e. IsStackToStack env e.1 → ⊥) out.edits
 
--- no edit is after a block's last instruction, and each is listed before some instruction of a block
-pub record EditsAreListed (f : FunctionValue) (out : OutputValue) : Type 0 where
-  pub none_at_end : (b : ℕ) → b < length f.blocks → All (λ e. e.0 + 1 ≢ before (block_at f b).range.end) out.edits
-  pub listed : All (λ e. (b i : ℕ) × (b < length f.blocks) × ((block_at f b).range.first ≤ i) × (i < (block_at f b).range.end)
-      × (is_listed_at (block_at f b).range.first i e.0 ≡ true)) out.edits
+-- each edit is listed before or after an instruction of a block, and none after a block's last one
+abbrev pub EditsAreListed : FunctionValue → OutputValue → Type 0
+EditsAreListed f out = All (λ e. (b i : ℕ) × (b < length f.blocks) × ((block_at f b).range.first ≤ i) × (i < (block_at f b).range.end)
+    × (is_listed_at (block_at f b).range.first i e.0 ≡ true)) out.edits

@@ -13,7 +13,6 @@ use Rattle.regalloc2_function.specs.FunctionValue.{FunctionValue, InstValue, blo
 use Rattle.regalloc2_function.specs.Machine.{MachineValue, is_allocatable, is_preferred, is_non_preferred, scratch_of, IsFixedStackSlot}
 use Rattle.regalloc2_function.specs.OutputValue.{OutputValue, allocs_of, place_at}
 use Rattle.regalloc2_function.specs.WellFormed.{EachOperand}
-use Rattle.regalloc2_function.specs.DebugPoints.{IsKept}
 
 -- the arguments of a block that is nonempty and within the instructions name a vreg of the class
 abbrev pub NamesByArgument : FunctionValue → ℕ → RegClass → Type 0
@@ -51,16 +50,13 @@ IsProperPlace env out class (InSlot n) = n < out.num_spillslots
 abbrev pub IsMoveEnd : MachineValue → OutputValue → Place → Type 0
 IsMoveEnd env out p = (c : RegClass) × (IsProperPlace env out c p ⊎ ((r : Register) × (scratch_of env c ≡ Some r) × (p ≡ InRegister r)))
 
--- the places of all operands, moves and debug locations are valid; a debug location's is of the class of its own label, which has its number, and whose vreg
--- has its points
+-- The places of all operands and of both ends of all moves are valid; an operand that names a register and no vreg is in that register, valid or not.
 pub record PlacesAreProper (f : FunctionValue) (env : MachineValue) (out : OutputValue) : Type 0 where
   pub operands : (i : ℕ) → i < length f.insts → EachOperand (inst_at f i) (λ k o.
       is_fixed_nonallocatable o ≡ false → IsProperPlace env out o.vreg.class (place_at (allocs_of out i) k))
   pub nonallocatable : (i : ℕ) → i < length f.insts → EachOperand (inst_at f i) (λ k o.
       (r : Register) → nonallocatable_register o ≡ Some r → place_at (allocs_of out i) k ≡ InRegister r)
   pub moves : All (λ e. IsMoveEnd env out e.1.from × IsMoveEnd env out e.1.to) out.edits
-  pub debug_locations : All (λ d. SomeIn (λ l. (l.label ≡ d.label) × IsKept f l d.start d.end × IsProperPlace env out l.vreg.class d.place) f.labels)
-      out.debug_locations
 
 -- `Fits`, and what it is made of: `TooManyLiveRegs` is returned only if an instruction does not fit.
 

@@ -19,8 +19,8 @@ class_of_owner (OfVReg v) = v.class
 class_of_owner (OfBranch branch class time) = class
 
 -- the output names the slot: as an operand's place, in a move or in a debug location
-abbrev pub IsSlotOf : FunctionValue → OutputValue → ℕ → Type 0
-IsSlotOf f out n = SomeIn (λ p. p ≡ InSlot n) out.allocs ⊎ SomeIn (λ e. (e.1.from ≡ InSlot n) ⊎ (e.1.to ≡ InSlot n)) out.edits
+abbrev pub IsSlotOf : OutputValue → ℕ → Type 0
+IsSlotOf out n = SomeIn (λ p. p ≡ InSlot n) out.allocs ⊎ SomeIn (λ e. (e.1.from ≡ InSlot n) ⊎ (e.1.to ≡ InSlot n)) out.edits
     ⊎ SomeIn (λ d. d.place ≡ InSlot n) out.debug_locations
 
 -- how many units an owner's slot takes, and the first of them if the slot has that name
@@ -40,14 +40,14 @@ IsOfClass owner (InSlot n) class = class_of_owner (owner n) ≡ class
 -- the units of two slots are apart; operands are in their own vreg's slot; and both ends of a move are of one class.
 pub record AreSlotsOwned (f : FunctionValue) (out : OutputValue) : Type 0 where
   pub owner : ℕ → Owner
-  pub own : (m n : ℕ) → IsSlotOf f out m → IsSlotOf f out n → owner m ≡ owner n → m ≡ n
-  pub branches : (n i : ℕ) (class : RegClass) (time : ℕ) → IsSlotOf f out n → owner n ≡ OfBranch i class time → (i < length f.insts)
+  pub own : (m n : ℕ) → IsSlotOf out m → IsSlotOf out n → owner m ≡ owner n → m ≡ n
+  pub branches : (n i : ℕ) (class : RegClass) (time : ℕ) → IsSlotOf out n → owner n ≡ OfBranch i class time → (i < length f.insts)
       × ((inst_at f i).is_branch ≡ true)
   pub operands : (i : ℕ) → i < length f.insts → EachOperand (inst_at f i) (λ k o. (n : ℕ) → place_at (allocs_of out i) k ≡ InSlot n → owner n ≡ OfVReg o.vreg)
-  pub named : (n : ℕ) → IsSlotOf f out n → f.named_by_last_slot ≡ true → units_of_owner f (owner n) ≤ n + 1
-  pub aligned : (n : ℕ) → IsSlotOf f out n → first_unit f (owner n) n % units_of_owner f (owner n) ≡ 0
-  pub within : (n : ℕ) → IsSlotOf f out n → first_unit f (owner n) n + units_of_owner f (owner n) ≤ out.num_spillslots
-  pub apart : (m n : ℕ) → IsSlotOf f out m → IsSlotOf f out n → m ≢ n →
+  pub named : (n : ℕ) → IsSlotOf out n → f.named_by_last_slot ≡ true → units_of_owner f (owner n) ≤ n + 1
+  pub aligned : (n : ℕ) → IsSlotOf out n → first_unit f (owner n) n % units_of_owner f (owner n) ≡ 0
+  pub within : (n : ℕ) → IsSlotOf out n → first_unit f (owner n) n + units_of_owner f (owner n) ≤ out.num_spillslots
+  pub apart : (m n : ℕ) → IsSlotOf out m → IsSlotOf out n → m ≢ n →
       (first_unit f (owner m) m + units_of_owner f (owner m) ≤ first_unit f (owner n) n)
       ⊎ (first_unit f (owner n) n + units_of_owner f (owner n) ≤ first_unit f (owner m) m)
   pub moves : All (λ e. (class : RegClass) × IsOfClass owner e.1.from class × IsOfClass owner e.1.to class) out.edits
