@@ -275,9 +275,48 @@ static int wrong_judgements(void) {
         + differ("a frame of no units", SAME, 0, 0, RA2_FAULTS, 10, NULL);
 }
 
+/* The text of each of RA2_REFUSED + 1 to 11, from the tests that docs/SEMANTICS.md lists. */
+static const char *const causes[] = {
+    "an edge is critical (its block has several successors, and the successor several incoming edges, counting the start)",
+    "a vreg is defined twice, isn't below the count of vregs, or is used without an earlier definition",
+    "a block doesn't exist, has a wrong instruction range, wrong predecessors or wrong terminators, or is the entry but not block 0",
+    "a branch passes arguments that don't fit the parameters",
+    "the entry has parameters",
+    "a branch with operands leads to a block with several incoming edges, counting the start",
+    "an instruction needs more registers than there are",
+    "there are 2^32 operands or more",
+    ("an operand isn't supported: a limit, an unsound reuse, a definition or late use fixed to a clobber, "
+     "or a branch's definition in any register or by a reuse"),
+    "spill slots would take more than 2^24 units",
+    "out of memory",
+};
+
+static int is_text(uint32_t status, const char *expected) {
+    uint8_t bytes[256];
+    size_t count = regalloc2_c_status_text(status, bytes, sizeof bytes), length = strlen(expected);
+    return count == length && length <= sizeof bytes && memcmp(bytes, expected, length) == 0;
+}
+
+static int wrong_causes(void) {
+    int wrong = !is_text(RA2_REFUSED, "no status") + !is_text(RA2_LAST_STATUS + 1, "no status") + !is_text(RA2_REFUSED + 256 + 1, "no status");
+    for (uint32_t n = 1; n <= RA2_LAST_STATUS - RA2_REFUSED; n++)
+        wrong += !is_text(RA2_REFUSED + n, causes[n - 1]);
+    return wrong;
+}
+
+/* A text leaves what is behind it as it was. */
+static int is_left_behind(void) {
+    uint8_t bytes[256];
+    memset(bytes, 7, sizeof bytes);
+    for (size_t at = regalloc2_c_status_text(RA2_OK, bytes, sizeof bytes); at < sizeof bytes; at++)
+        if (bytes[at] != 7)
+            return 0;
+    return 1;
+}
+
 static int wrong_texts(void) {
-    uint8_t bytes[128];
-    int wrong = regalloc2_c_version() != RA2_VERSION;
+    uint8_t bytes[256];
+    int wrong = (regalloc2_c_version() != RA2_VERSION) + wrong_causes() + !is_left_behind();
     for (uint32_t n = 0; n <= RA2_LAST_STATUS; n++) {
         size_t count = regalloc2_c_status_text(n, bytes, sizeof bytes);
         wrong += count == 0 || count > sizeof bytes || regalloc2_c_status_text(n, bytes, 3) != count;

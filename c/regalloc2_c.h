@@ -66,9 +66,9 @@
    THE OUTPUT. A list is its length and then its members. The units of slots (two words); a list of moves, each a point, a source, a
    destination; a list of places; a list of offsets, one for each instruction; a list of debug locations, each a label, two points, a place.
 
-   THE RESULT of a call is words, whatever its status: `*needed` is how many. If there is room for them they are written;
-   else the status is RA2_NO_ROOM, nothing is written, and a second call with room for `*needed` words gives the result: so a call is
-   made twice at most. The result by status:
+   THE RESULT of a call is words, whatever its status: `*needed` is how many. If there is room for them they are written, and what is behind
+   them stays as it was; else the status is RA2_NO_ROOM, nothing is written, and a second call with room for `*needed` words gives the result:
+   so a call is made twice at most. The result by status:
      RA2_OK              the output; of regalloc2_c_judge none
      RA2_BAD_MACHINE     3 words: which condition fails, from 1 to 10 (InvalidSlot, OtherClass, ListedTwice, InvalidRegister,
                          ScratchOfOtherClass, ScratchAllocatable, InvalidScratch, SlotAllocatable, SlotIsScratch, NoRegister); the class;
@@ -77,11 +77,11 @@
      RA2_BAD_TEXT        2 words: the line and the column, in bytes, both counted from 1
      RA2_REFUSED + n     4 words: two blocks, an instruction, a vreg
      else                none
-   RA2_NONE stands for what isn't named. RA2_NO_ROOM with `*needed` 0 says that a list of the output has 2^32 members or more.
+   RA2_NONE stands for what isn't named. RA2_NO_ROOM with `*needed` 0 says that a number of the output, as a list's length, is 2^32 or more.
 
    A FAULT is 8 words and a list of vregs:
-     0   its number: 1 to 12 as `error` of docs/INPUT.md; 14 a place that is no register for the class and no slot of the frame, 15 a move between
-         classes, 16 a slot that isn't within the frame, 17 slots that share a unit; regalloc2_c_fault_text has them in words
+     0   its number: 1, 2 or 4 to 12 as `error` of docs/INPUT.md; 14 a place that is no register for the class and no slot of the frame, 15 a
+         move between classes, 16 a slot that isn't within the frame, 17 slots that share a unit; regalloc2_c_fault_text has them in words
      1   the instruction, or RA2_NONE
      2   of 1 to 9 and 11 the index of the first operand of the instruction with the word and the place below; of 14 the operand's index, or
          without an instruction the move's; of 15 the move's index; of 16 and 17 the slot; else RA2_NONE
@@ -90,7 +90,7 @@
      6   of 8 the reused operand's place, of 10 the one that a move reads, else 0
      7   of 11 the limit, of 17 the other slot, of 14 without instruction and index the debug location's index, else 0
      8.. of 4 a list of the vregs whose values the place holds, else an empty one
-   Faults are in the order of blocks and instructions. Of 14 to 17 the first is listed alone, once there is none of 1 to 12. */
+   Faults are in the order of blocks and instructions. Where there is none of 1 to 12, one of 14 to 17 is listed, alone. */
 #ifndef REGALLOC2_C_H
 #define REGALLOC2_C_H
 #include <stdbool.h>
@@ -108,13 +108,14 @@ enum {
     RA2_BAD_MACHINE = 2,  /* the machine doesn't fit the function */
     RA2_NO_ROOM = 3,      /* the result takes more words than there is room for */
     RA2_FAULTS = 4,       /* the checker found faults, or places aren't cells */
-    RA2_NO_MEMORY = 5,    /* memory was refused */
-    RA2_NOT_FRAMED = 6,   /* blocks don't follow one another or don't end, so that no output can be judged */
+    RA2_NO_MEMORY = 5,    /* a memory allocation failed, or there are 2^32 faults or more */
+    RA2_NOT_FRAMED = 6,   /* the function isn't structurally valid, so that no output can be judged: blocks don't follow one another or don't
+                             end in a branch or a return, or an edge has more or fewer arguments than its successor has parameters */
     RA2_BAD_OUTPUT = 7,   /* the output's numbers name none */
     RA2_READ_BEFORE_WRITTEN = 8, /* some path reads or passes a vreg before writing it */
     RA2_BAD_TEXT = 9,     /* a line of the text can't be read */
     RA2_BAD_FUNCTION = 10,/* and 1 to 5: as above */
-    RA2_REFUSED = 20,     /* and 1 to 11: as `refused` of docs/INPUT.md */
+    RA2_REFUSED = 20,     /* and 1 to 11: as `refused` of docs/INPUT.md; the text of each has its cause */
     RA2_LAST_STATUS = 31
 };
 
@@ -122,7 +123,8 @@ enum {
 #define RA2_VERSION 0x00020009u
 uint32_t regalloc2_c_version(void);
 
-/* A status, or a fault's number, in English. Returns how many bytes that takes, without a zero at the end; at most `text_len` are written. */
+/* A status, or a fault's number, in English. Returns how many bytes that takes, without a zero at the end; at most `text_len` are written, and
+   what is behind them stays as it was. */
 size_t regalloc2_c_status_text(uint32_t status, uint8_t *text, size_t text_len);
 size_t regalloc2_c_fault_text(uint32_t number, uint8_t *text, size_t text_len);
 
@@ -135,17 +137,19 @@ uint32_t regalloc2_c_allocate_json(const uint8_t *json, size_t len, uint32_t *re
 /* The same for a function in a text, as docs/TEXT.md has it, in UTF-8. An output in it isn't looked at. */
 uint32_t regalloc2_c_allocate_text(const uint8_t *text, size_t len, uint32_t *result, size_t result_len, size_t *needed);
 
-/* Allocates with all tests, that each path writes before it reads among them, and without the checker: then its output needs none. */
+/* Allocates with all tests, among them that no path reads or passes a vreg before writing it, and without the checker: then its output needs
+   none. */
 uint32_t regalloc2_c_run(const uint32_t *words, size_t len, uint32_t *result, size_t result_len, size_t *needed);
 
 /* Judges an output of a function, whose parts the caller keeps apart: the units of slots, moves of three words, the places of all operands, and for
-   each instruction where its places begin. RA2_OK if the checker accepts it, and the places that it names are cells of their own. */
+   each instruction where its places begin. RA2_OK if the checker accepts it, and the places that it names are cells of their own; else RA2_FAULTS,
+   or a status that says why nothing was judged. */
 uint32_t regalloc2_c_judge(const uint32_t *words, size_t len, uint64_t num_spillslots, const uint32_t *moves, size_t moves_len,
                            const uint32_t *places, size_t places_len, const uint32_t *offsets, size_t offsets_len,
                            uint32_t *result, size_t result_len, size_t *needed);
 
 /* RA2_OK if the checker accepts an output of a function, and the places that it names are cells of their own: registers of the machine, or slots
-   of the frame that share no unit; else RA2_FAULTS. */
+   of the frame that share no unit; else RA2_FAULTS, or a status that says why nothing was judged. */
 uint32_t regalloc2_c_check(const uint32_t *words, size_t len, const uint32_t *output, size_t output_len);
 
 /* The memory that the library asks for. `ok` is whether there is some. `p` is never null: where there is none it is any address. `align` is

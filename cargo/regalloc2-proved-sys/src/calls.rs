@@ -258,6 +258,7 @@ mod tests {
     fn texts_are_there() {
         assert!((0..32).all(|number| !status_text(number).is_empty() && !fault_text(number).is_empty()));
         assert_ne!(status_text(5), status_text(6));
+        assert_eq!(status_text(24), "a branch passes arguments that don't fit the parameters");
         assert!(!status_text(u32::MAX).is_empty());
     }
 

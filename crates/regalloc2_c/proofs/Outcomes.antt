@@ -1,10 +1,12 @@
 -- What comes of a call that allocates, from what comes of its parts.
-use Rattle.std.proofs.Common.{ℕ, ◌≡◌, ◌⊎◌, inl, inr, List, Result, Ok, Err, refl, sym, subst}
+use Rattle.std.proofs.Common.{ℕ, ◌≡◌, ◌⊎◌, inl, inr, true, List, Result, Ok, Err, refl, sym, subst}
 use Rattle.std.specs.Prelude.{IfOk, IfErr}
 use Rattle.std.specs.Global.{Vec}
 use Rattle.std.specs.declared.alloc.Global.{Global}
 use Rattle.regalloc2.specs.FunctionValue.{FunctionValue}
 use Rattle.regalloc2.specs.Machine.{MachineValue}
+use Rattle.regalloc2.specs.Fitting.{MachineFits}
+use Rattle.regalloc2.specs.ErrorReason.{PassesAllChecks}
 use Rattle.regalloc2.specs.OutputValue.{OutputValue, IsInOrder}
 use Rattle.regalloc2.specs.Stored.{NamesValues, output_of_stored}
 use Rattle.regalloc2.specs.SourceRun.{IsWrittenFirst}
@@ -29,24 +31,29 @@ use Rattle.regalloc2_c.specs.declared.failure.Failure.{Failure}
 use Rattle.regalloc2_c.specs.declared.failure.Failure.TheVariants.{Faults}
 
 -- the words of an output that was allocated
-pub allocated_words : (f : FunctionValue) (env : MachineValue) (out : OutputValue) (numbers : StoredOutput Global) → IsWellFormed env f →
-    IsAllocation f env out → IsFaithful f env out → output_of_stored numbers ≡ out → NamesValues numbers → IsAllocatedOutput f env (output_words numbers)
-allocated_words f env out numbers formed allocation faithful same names = record {
+pub allocated_words : (f : FunctionValue) (env : MachineValue) (out : OutputValue) (numbers : StoredOutput Global) → MachineFits f env →
+    IsWellFormed env f → PassesAllChecks f env true → IsAllocation f env out → IsFaithful f env out → output_of_stored numbers ≡ out →
+    NamesValues numbers → IsAllocatedOutput f env (output_words numbers)
+allocated_words f env out numbers fitting formed passed allocation faithful same names = record {
   out = out;
   output = record { stored = numbers; laid_out = refl; names = (names, sym same) };
+  fitting = fitting;
   well_formed = formed;
+  passes_checks = passed;
   allocation = allocation;
   faithful = faithful;
 }
 
 -- the words of an output that a tested run gave
-pub tested_words : (f : FunctionValue) (env : MachineValue) (out : OutputValue) (numbers : StoredOutput Global) → IsWellFormed env f →
-    IsAllocation f env out → RunsAsTheFunction f env out → LiveInSlots f out → IsWrittenFirst f → output_of_stored numbers ≡ out → NamesValues numbers →
-    IsTestedOutput f env (output_words numbers)
-tested_words f env out numbers formed allocation runs live written same names = record {
+pub tested_words : (f : FunctionValue) (env : MachineValue) (out : OutputValue) (numbers : StoredOutput Global) → MachineFits f env →
+    IsWellFormed env f → PassesAllChecks f env true → IsAllocation f env out → RunsAsTheFunction f env out → LiveInSlots f out → IsWrittenFirst f →
+    output_of_stored numbers ≡ out → NamesValues numbers → IsTestedOutput f env (output_words numbers)
+tested_words f env out numbers fitting formed passed allocation runs live written same names = record {
   out = out;
   output = record { stored = numbers; laid_out = refl; names = (names, sym same) };
+  fitting = fitting;
   well_formed = formed;
+  passes_checks = passed;
   allocation = allocation;
   runs = runs;
   live = live;

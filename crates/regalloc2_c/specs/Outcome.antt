@@ -130,7 +130,9 @@ pub record IsOutput (Lays : StoredOutput Global → Type 0) (out : OutputValue) 
 pub record IsAllocatedOutput (f : FunctionValue) (env : MachineValue) (words : List ℕ) : Type 0 where
   pub out : OutputValue
   pub output : IsOutput (AreOutputWords words) out
+  pub fitting : MachineFits f env
   pub well_formed : IsWellFormed env f
+  pub passes_checks : PassesAllChecks f env true
   pub allocation : IsAllocation f env out
   pub faithful : IsFaithful f env out
 
@@ -138,7 +140,9 @@ pub record IsAllocatedOutput (f : FunctionValue) (env : MachineValue) (words : L
 pub record IsTestedOutput (f : FunctionValue) (env : MachineValue) (words : List ℕ) : Type 0 where
   pub out : OutputValue
   pub output : IsOutput (AreOutputWords words) out
+  pub fitting : MachineFits f env
   pub well_formed : IsWellFormed env f
+  pub passes_checks : PassesAllChecks f env true
   pub allocation : IsAllocation f env out
   pub runs : RunsAsTheFunction f env out
   pub live : LiveInSlots f out

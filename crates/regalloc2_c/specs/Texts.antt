@@ -1,5 +1,9 @@
 -- What statuses and faults say, in English, by their numbers, and how a text is handed out.
-use Rattle.std.specs.Prelude.{ℕ, ◌≡◌, ◌<◌, ◌≤◌, ◌-◌, nat_lt, if◌then◌else◌, codes, List, [], ◌∷◌, length, slice_index_or, take}
+use Rattle.std.specs.Prelude.{ℕ, ◌≡◌, ◌<◌, ◌≤◌, ◌-◌, nat_lt, if◌then◌else◌, codes, List, [], ◌∷◌, ◌++◌, length, slice_index_or, take, drop}
+use Rattle.std.specs.Prelude.{Option, None, Some}
+use Rattle.regalloc2_names.specs.declared.RegAllocErrorKind.{RegAllocErrorKind}
+use Rattle.regalloc2_names.specs.ErrorKind.{kind_of_number}
+use Rattle.regalloc2_names.specs.Text.{cause_text}
 
 abbrev pub no_status : List ℕ
 no_status = codes "no status"
@@ -8,13 +12,13 @@ no_status = codes "no status"
 abbrev pub failure_texts : List (List ℕ)
 failure_texts = codes "the call succeeded"
     ∷ codes "the input lays out no function or no output"
-    ∷ codes "the machine doesn't suit the function"
+    ∷ codes "the machine doesn't fit the function"
     ∷ codes "the result takes more words than there is room for"
     ∷ codes "the output has faults"
     ∷ codes "out of memory"
-    ∷ codes "blocks don't follow one another, or don't end"
+    ∷ codes "the function isn't structurally valid: blocks don't follow one another or don't end, or arguments aren't as many as parameters"
     ∷ codes "the output's numbers name none"
-    ∷ codes "a virtual register is read before it is written"
+    ∷ codes "some path reads or passes a vreg before writing it"
     ∷ codes "a line of the text can't be read"
     ∷ no_status
     ∷ codes "bad function: lists by block or by class have different lengths"
@@ -24,23 +28,17 @@ failure_texts = codes "the call succeeded"
     ∷ codes "bad function: out of memory"
     ∷ codes "bad function: a value has another shape" ∷ []
 
--- those from 20 on, by the number of the allocator's error
-abbrev pub refusal_texts : List (List ℕ)
-refusal_texts = no_status
-    ∷ codes "refused: an edge is critical"
-    ∷ codes "refused: a virtual register isn't defined where it is used, or twice"
-    ∷ codes "refused: a block is malformed"
-    ∷ codes "refused: a branch isn't the last instruction of its block, or the last is none"
-    ∷ codes "refused: the entry has parameters or predecessors"
-    ∷ codes "refused: a branch's arguments don't match"
-    ∷ codes "refused: an instruction has too few registers"
-    ∷ codes "refused: too many operands"
-    ∷ codes "refused: an operand isn't supported"
-    ∷ codes "refused: too many spill slots"
-    ∷ codes "refused: out of memory" ∷ []
+-- the cause of the allocator's errors with a number
+abbrev pub text_of_refusal : ℕ → List ℕ
+text_of_refusal number = cause_of (kind_of_number number)
+  where
+    cause_of : Option RegAllocErrorKind → List ℕ
+    cause_of None = no_status
+    cause_of (Some kind) = cause_text kind
 
+-- from 20 on the causes of the allocator's errors, as regalloc2_names has them
 abbrev pub text_of_status : ℕ → List ℕ
-text_of_status status = if nat_lt status 20 then slice_index_or failure_texts status no_status else slice_index_or refusal_texts (status - 20) no_status
+text_of_status status = if nat_lt status 20 then slice_index_or failure_texts status no_status else text_of_refusal (status - 20)
 
 abbrev pub no_fault : List ℕ
 no_fault = codes "no fault"
@@ -50,7 +48,7 @@ fault_texts = no_fault
     ∷ codes "an operand has no place"
     ∷ codes "the place doesn't hold a value on every path"
     ∷ codes "the place holds values that conflict"
-    ∷ codes "the place holds the values of other virtual registers"
+    ∷ codes "the place holds the values of other vregs"
     ∷ codes "a reuse names no operand"
     ∷ codes "the place is no register"
     ∷ codes "the place isn't the fixed register"
@@ -68,7 +66,7 @@ fault_texts = no_fault
 abbrev pub text_of_fault : ℕ → List ℕ
 text_of_fault number = slice_index_or fault_texts number no_fault
 
--- of a text so many bytes are written as there is room for, and its length is returned
+-- a text is written with what was behind it left as it was, or, if there is less room, as much of it as there is room for; its length is returned
 abbrev pub IsTold : List ℕ → List ℕ → List ℕ → ℕ → Type 0
 IsTold text old now count = (count ≡ length text)
-    × ((length text ≤ length old → take (length text) now ≡ text) × (length old < length text → now ≡ take (length old) text))
+    × ((length text ≤ length old → now ≡ text ++ drop (length text) old) × (length old < length text → now ≡ take (length old) text))

@@ -6,7 +6,7 @@ ghost use Rattle.regalloc2_c.specs.Status.{failure_number, allocate_failure, run
 use regalloc2::serialize::StoredFault;
 use regalloc2::{AllocateError, RegAllocError, TestedRunError};
 use regalloc2_function::MachineMisfit;
-use regalloc2_text::{refusal, stored_fault};
+use regalloc2_text::stored_fault;
 
 /// Why a call gives nothing.
 #[derive(Drop)]
@@ -21,11 +21,11 @@ pub enum Failure {
     Faults(Vec<u32>),
     /// A memory allocation failed.
     NoMemory,
-    /// Blocks don't follow one another or don't end, so no output can be checked.
+    /// The function isn't structurally valid, so no output can be checked.
     NotFramed,
     /// The output's numbers name none.
     BadOutput,
-    /// Some path reads a vreg before it is written.
+    /// Some path reads or passes a vreg before it is written.
     ReadBeforeWritten,
     /// A line of the text can't be read: its number and the column, both counted from 1.
     BadText(u32, u32),
@@ -50,7 +50,7 @@ pub fn number_of(failure: &Failure) -> u32
         Failure::ReadBeforeWritten => 8,
         Failure::BadText(..) => 9,
         Failure::BadFunction(fault) => 10 + u32::from(stored_fault::number_of(*fault)),
-        Failure::Refused(error) => 20 + u32::from(refusal::number_of(*error)),
+        Failure::Refused(error) => 20 + u32::from(error.kind().number()),
     }
 }
 

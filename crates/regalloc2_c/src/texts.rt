@@ -1,7 +1,9 @@
 //! What statuses and faults say, in English.
 
 ghost use Rattle.std.specs.Prelude.{◌≡◌, slice_index_or};
-ghost use Rattle.regalloc2_c.specs.Texts.{text_of_status, failure_texts, refusal_texts, no_status, text_of_fault, IsTold};
+ghost use Rattle.regalloc2_c.specs.Texts.{text_of_status, failure_texts, text_of_refusal, no_status, text_of_fault, IsTold};
+
+use regalloc2_names::RegAllocErrorKind;
 
 /// What a status says.
 pub fn status_words(status: u32) -> &'static str
@@ -21,13 +23,13 @@ fn failure_words(status: u32) -> &'static str
     match status {
         0 => "the call succeeded",
         1 => "the input lays out no function or no output",
-        2 => "the machine doesn't suit the function",
+        2 => "the machine doesn't fit the function",
         3 => "the result takes more words than there is room for",
         4 => "the output has faults",
         5 => "out of memory",
-        6 => "blocks don't follow one another, or don't end",
+        6 => "the function isn't structurally valid: blocks don't follow one another or don't end, or arguments aren't as many as parameters",
         7 => "the output's numbers name none",
-        8 => "a virtual register is read before it is written",
+        8 => "some path reads or passes a vreg before writing it",
         9 => "a line of the text can't be read",
         10 => "no status",
         11 => "bad function: lists by block or by class have different lengths",
@@ -40,24 +42,16 @@ fn failure_words(status: u32) -> &'static str
     }
 }
 
-/// What the number of an allocator's error says.
+/// The cause that the number of an allocator's error stands for.
 fn refusal_words(number: u32) -> &'static str
-    ensures { result.now ≡ slice_index_or refusal_texts number no_status }
+    ensures { result.now ≡ text_of_refusal number }
 {
-    match number {
-        0 => "no status",
-        1 => "refused: an edge is critical",
-        2 => "refused: a virtual register isn't defined where it is used, or twice",
-        3 => "refused: a block is malformed",
-        4 => "refused: a branch isn't the last instruction of its block, or the last is none",
-        5 => "refused: the entry has parameters or predecessors",
-        6 => "refused: a branch's arguments don't match",
-        7 => "refused: an instruction has too few registers",
-        8 => "refused: too many operands",
-        9 => "refused: an operand isn't supported",
-        10 => "refused: too many spill slots",
-        11 => "refused: out of memory",
-        _ => "no status",
+    let Ok(number) = u8::try_from(number) else {
+        return "no status";
+    };
+    match RegAllocErrorKind::from_number(number) {
+        Some(kind) => kind.cause(),
+        None => "no status",
     }
 }
 
@@ -70,7 +64,7 @@ pub fn fault_words(number: u32) -> &'static str
         1 => "an operand has no place",
         2 => "the place doesn't hold a value on every path",
         3 => "the place holds values that conflict",
-        4 => "the place holds the values of other virtual registers",
+        4 => "the place holds the values of other vregs",
         5 => "a reuse names no operand",
         6 => "the place is no register",
         7 => "the place isn't the fixed register",

@@ -1,18 +1,14 @@
--- The numbers of the allocator's errors, as the programs print them.
-use Rattle.std.specs.Prelude.{ℕ}
+-- The numbers of the allocator's errors, as the programs print them, and the texts with these numbers.
+use Rattle.std.specs.Prelude.{ℕ, codes, List, ◌++◌}
+use Rattle.std.specs.Fmt.{decimal}
 use Rattle.regalloc2_names.specs.declared.RegAllocError.{RegAllocError}
-use Rattle.regalloc2_names.specs.declared.RegAllocError.TheVariants.{CritEdge, SSA, BB, Branch, EntryLivein, DisallowedBranchArg, TooManyLiveRegs}
-use Rattle.regalloc2_names.specs.declared.RegAllocError.TheVariants.{TooManyOperands, Unsupported, TooManySpillSlots, Memory}
+use Rattle.regalloc2_names.specs.ErrorKind.{kind_of, number_of_kind}
+use Rattle.regalloc2_names.specs.Text.{refusal_text}
 
+-- the number of an error's kind
 abbrev pub refusal_number : RegAllocError → ℕ
-refusal_number (CritEdge p b) = 1
-refusal_number (SSA v i) = 2
-refusal_number (BB b) = 3
-refusal_number (Branch i) = 4
-refusal_number EntryLivein = 5
-refusal_number (DisallowedBranchArg i) = 6
-refusal_number TooManyLiveRegs = 7
-refusal_number TooManyOperands = 8
-refusal_number (Unsupported i) = 9
-refusal_number TooManySpillSlots = 10
-refusal_number Memory = 11
+refusal_number e = number_of_kind (kind_of e)
+
+-- as refused 5: the entry has parameters
+abbrev pub numbered_refusal_text : RegAllocError → List ℕ
+numbered_refusal_text e = codes "refused " ++ decimal (refusal_number e) ++ codes ": " ++ refusal_text e

@@ -25,7 +25,7 @@ use regalloc2_text::explain::{
     Site, Source, explain, explain_function, explain_output, find_unwritten_read, last_writes,
     misfit_at,
 };
-use regalloc2_text::refusal::{RefusalText, number_of};
+use regalloc2_text::refusal::RefusalText;
 use regalloc2_text::stored_fault::FaultText;
 use regalloc2_text::{WriteError, write};
 use std::alloc::{AllocError, AllocFailed, Global};
@@ -184,7 +184,7 @@ struct RefusalHead(RegAllocError);
 
 impl fmt::Display for RefusalHead {
     fn fmt<W: fmt::Write>(&self, f: &mut fmt::Formatter<W>) -> fmt::Result {
-        let number = number_of(self.0);
+        let number = self.0.kind().number();
         write!(f, "refused {number}: ")
     }
 }
@@ -691,8 +691,8 @@ fn perform<F: Function, W: Write, E: Write>(
 /// or `read before written`, which counts as an error; with a text, the lines after an error show
 /// where it is and what causes it. If the function or the output is rejected, `err` gets `bad
 /// function 2: ..`, `bad machine`, `bad output 3: ..`, `not framed` or `refused 5: ..`, and with a
-/// text the cause and the lines that contain it. The numbers are those of `number_of` in
-/// [`regalloc2_text::refusal`] and [`regalloc2_text::stored_fault`]; a finding has its own. [`Call::Text`] tests
+/// text the cause and the lines that contain it. The numbers are those of [`regalloc2_names::RegAllocErrorKind`]
+/// and of `number_of` in [`regalloc2_text::stored_fault`]; a finding has its own. [`Call::Text`] tests
 /// nothing.
 ///
 /// The contract doesn't say what is written; tests check it.

@@ -14,7 +14,6 @@ use crate::listing::write_listing;
 use regalloc2::checker::{Checker, CheckerError};
 use regalloc2::{Algorithm, Function, MachineEnv, Output, RegallocOptions, run};
 use regalloc2_checker::FaultLine;
-use regalloc2_text::refusal::number_of;
 use std::alloc::Allocator;
 use std::io::{self, Write};
 
@@ -101,7 +100,7 @@ pub fn show<A: Allocator + Copy, F: Function, O: Write>(
             }
         }
         Err(error) => {
-            let number = number_of(error);
+            let number = error.kind().number();
             writeln!(out, "refused {number}")?;
             Ok(false)
         }

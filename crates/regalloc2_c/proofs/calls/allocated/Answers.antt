@@ -23,13 +23,13 @@ returns-in-Err-checked-clause-err g c =
 pub returns-in-Ok-words_of-clause-ok : goal.returns-in-Ok-words_of-clause-ok
 returns-in-Ok-words_of-clause-ok g c =
     subst (λ words. IsAllocatedOutput (g.F.Function.function c.args.f.now) (machine_of c.args.env.now) words) (sym c.in-Ok-words_of.ensures.ok)
-    (allocated_words (g.F.Function.function c.args.f.now) (machine_of c.args.env.now) (output_of c.in-Ok.output) c.in-Ok-stored.numbers c.in-Ok.ensures.tested
-    c.in-Ok.ensures.allocation c.in-Ok-checked.ensures.ok.1 c.in-Ok-stored.ensures.output c.in-Ok-stored.ensures.names)
+    (allocated_words (g.F.Function.function c.args.f.now) (machine_of c.args.env.now) (output_of c.in-Ok.output) c.in-Ok-stored.numbers c.in-Ok.ensures.fitting
+    c.in-Ok.ensures.tested c.in-Ok.ensures.passes_checks c.in-Ok.ensures.allocation c.in-Ok-checked.ensures.ok.1 c.in-Ok-stored.ensures.output c.in-Ok-stored.ensures.names)
 
 pub returns-clause-err : goal.returns-clause-err
 returns-clause-err g c =
     subst (λ e. IsAllocateFailure (g.F.Function.function c.args.f.now) (machine_of c.args.env.now) e) (sym c.failure_to_write.ensures)
     (unlisted (g.F.Function.function c.args.f.now) (machine_of c.args.env.now) (output_words c.in-Ok-stored.numbers)
-    (allocated_words (g.F.Function.function c.args.f.now) (machine_of c.args.env.now) (output_of c.in-Ok.output) c.in-Ok-stored.numbers c.in-Ok.ensures.tested
-    c.in-Ok.ensures.allocation c.in-Ok-checked.ensures.ok.1 c.in-Ok-stored.ensures.output c.in-Ok-stored.ensures.names) c.in-Err-words_of.fault
+    (allocated_words (g.F.Function.function c.args.f.now) (machine_of c.args.env.now) (output_of c.in-Ok.output) c.in-Ok-stored.numbers c.in-Ok.ensures.fitting
+    c.in-Ok.ensures.tested c.in-Ok.ensures.passes_checks c.in-Ok.ensures.allocation c.in-Ok-checked.ensures.ok.1 c.in-Ok-stored.ensures.output c.in-Ok-stored.ensures.names) c.in-Err-words_of.fault
     c.in-Err-words_of.ensures.limit)
