@@ -25,6 +25,7 @@ pub mod DebugPaths
 pub mod Stored
 pub mod FaultText
 pub mod Misfit
+pub mod MisfitText
 pub mod SingleUnits
 pub mod Definitions
 pub mod TableLength

@@ -1,5 +1,8 @@
 //! Why a machine doesn't fit a function.
 
+ghost use Rattle.std.specs.Prelude.{◌≡◌};
+ghost use Rattle.regalloc2_names.specs.Text.{class_name};
+
 use regalloc2_names::{PReg, RegClass};
 use std::error::Error;
 use std::fmt;
@@ -30,81 +33,91 @@ pub enum MachineMisfit {
     NoRegister(RegClass),
 }
 
-impl MachineMisfit {
-    /// The register that its text begins with.
-    fn register(self) -> Option<PReg> {
-        match self {
-            Self::OtherClass(_, reg)
-            | Self::ListedTwice(_, reg)
-            | Self::ScratchOfOtherClass(_, reg)
-            | Self::ScratchAllocatable(_, reg)
-            | Self::SlotAllocatable(_, reg)
-            | Self::SlotIsScratch(_, reg) => Some(reg),
-            _ => None,
-        }
-    }
-
-    /// The class that its text names after [`before_class`](Self::before_class).
-    fn class(self) -> Option<RegClass> {
-        match self {
-            Self::InvalidSlot => None,
-            Self::OtherClass(class, _)
-            | Self::ListedTwice(class, _)
-            | Self::InvalidRegister(class)
-            | Self::ScratchOfOtherClass(class, _)
-            | Self::ScratchAllocatable(class, _)
-            | Self::InvalidScratch(class)
-            | Self::SlotAllocatable(class, _)
-            | Self::SlotIsScratch(class, _)
-            | Self::NoRegister(class) => Some(class),
-        }
-    }
-
-    /// The words between the register and the class.
-    fn before_class(self) -> &'static str {
-        match self {
-            Self::InvalidSlot => "a fixed stack slot is the invalid register",
-            Self::OtherClass(..) | Self::ListedTwice(..) => " is listed for the class ",
-            Self::InvalidRegister(_) => "the invalid register is listed for the class ",
-            Self::ScratchOfOtherClass(..) | Self::ScratchAllocatable(..) => {
-                ", the scratch register of the class "
-            }
-            Self::InvalidScratch(_) => "the scratch register of the class ",
-            Self::SlotAllocatable(..) => {
-                ", a fixed stack slot, is listed to be allocated for the class "
-            }
-            Self::SlotIsScratch(..) => {
-                ", a fixed stack slot, is the scratch register of the class "
-            }
-            Self::NoRegister(_) => "the function has a virtual register of the class ",
-        }
-    }
-
-    /// The words after the class.
-    fn after_class(self) -> &'static str {
-        match self {
-            Self::OtherClass(..) => ", and is of another class",
-            Self::ListedTwice(..) => " as preferred and as non-preferred",
-            Self::ScratchOfOtherClass(..) => ", is of another class",
-            Self::ScratchAllocatable(..) => ", is listed to be allocated",
-            Self::InvalidScratch(_) => " is the invalid register",
-            Self::NoRegister(_) => ", which has no register to allocate",
-            _ => "",
-        }
+/// Returns the name of `class`, as `Int`.
+fn class_name(class: RegClass) -> &'static str
+    ensures { result.now ≡ class_name class }
+{
+    match class {
+        RegClass::Int => "Int",
+        RegClass::Float => "Float",
+        RegClass::Vector => "Vector",
     }
 }
 
 /// As `p3f is listed for the class Int, and is of another class`.
 impl fmt::Display for MachineMisfit {
+    ghost use Rattle.std.specs.Prelude.{Some};
+    ghost use Rattle.regalloc2_function.specs.MisfitText.{misfit_text};
+
+    ghost output = { λ m. Some (misfit_text m) };
+
     fn fmt<W: fmt::Write>(&self, f: &mut fmt::Formatter<W>) -> fmt::Result {
-        if let Some(reg) = self.register() {
-            write!(f, "{reg}")?;
+        match *self {
+            Self::InvalidSlot => write!(f, "a fixed stack slot is the invalid register"),
+            Self::OtherClass(class, reg) => {
+                let class = class_name(class);
+                write!(
+                    f,
+                    "{reg} is listed for the class {class}, and is of another class"
+                )
+            }
+            Self::ListedTwice(class, reg) => {
+                let class = class_name(class);
+                write!(
+                    f,
+                    "{reg} is listed for the class {class} as preferred and as non-preferred"
+                )
+            }
+            Self::InvalidRegister(class) => {
+                write!(
+                    f,
+                    "the invalid register is listed for the class {}",
+                    class_name(class)
+                )
+            }
+            Self::ScratchOfOtherClass(class, reg) => {
+                let class = class_name(class);
+                write!(
+                    f,
+                    "{reg}, the scratch register of the class {class}, is of another class"
+                )
+            }
+            Self::ScratchAllocatable(class, reg) => {
+                let class = class_name(class);
+                write!(
+                    f,
+                    "{reg}, the scratch register of the class {class}, is listed to be allocated"
+                )
+            }
+            Self::InvalidScratch(class) => {
+                let class = class_name(class);
+                write!(
+                    f,
+                    "the scratch register of the class {class} is the invalid register"
+                )
+            }
+            Self::SlotAllocatable(class, reg) => {
+                let class = class_name(class);
+                write!(
+                    f,
+                    "{reg}, a fixed stack slot, is listed to be allocated for the class {class}"
+                )
+            }
+            Self::SlotIsScratch(class, reg) => {
+                let class = class_name(class);
+                write!(
+                    f,
+                    "{reg}, a fixed stack slot, is the scratch register of the class {class}"
+                )
+            }
+            Self::NoRegister(class) => {
+                let class = class_name(class);
+                write!(
+                    f,
+                    "the function has a virtual register of the class {class}, which has no register to allocate"
+                )
+            }
         }
-        f.write_str(self.before_class())?;
-        if let Some(class) = self.class() {
-            write!(f, "{class:?}")?;
-        }
-        f.write_str(self.after_class())
     }
 }
 
