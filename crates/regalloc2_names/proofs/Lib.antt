@@ -1,6 +1,6 @@
 -- Lemmas on encodings, register sets and the equality of names.
 -- Read first: `EqualNames`, which other crates cite: two names are equal exactly if the test accepts them.
--- Depends on the specs. `Bits`, `Words`: packed fields. `SetBits`, `Members`, `Counted`, `Highest`, `EmptyWord`: sets.
+-- Depends on the specs. `Bits`, `Words`: packed fields. `SetBits`, `Members`, `Counted`, `Highest`, `EmptyWord`, `SameSets`: sets.
 pub mod Bits
 pub mod SetBits
 pub mod Members
@@ -10,3 +10,4 @@ pub mod TextLaws
 pub mod Counted
 pub mod Highest
 pub mod EqualNames
+pub mod SameSets

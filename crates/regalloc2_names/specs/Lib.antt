@@ -10,6 +10,7 @@ pub mod Operand
 pub mod Packing
 pub mod RegisterSet
 pub mod Same
+pub mod SameSet
 pub mod Collected
 pub mod Listed
 pub mod ErrorKind

@@ -14,7 +14,7 @@ use std::marker::Model;
 use std::ops::{BitAnd, BitOr};
 
 /// A set of the 192 registers, one word of bits for each class.
-#[derive(Clone, Copy, Debug, PartialEq, Eq)]
+#[derive(Clone, Copy, Debug)]
 pub struct PRegSet {
     bits: [u64; 3],
 }
@@ -176,6 +176,33 @@ fn highest_bit(word: u64) -> usize
     ensures highest { (n : ℕ) → result < n → bit_at word n ≡ 0 }
 {
     (63 - word.leading_zeros()) as usize
+}
+
+impl PartialEq for PRegSet {
+    ghost use Rattle.std.specs.Prelude.{◌≡◌, ◌↔◌, IsTrue};
+    ghost use Rattle.regalloc2_names.specs.Register.{Register};
+    ghost use Rattle.regalloc2_names.specs.RegisterSet.{has_register};
+    ghost use Rattle.regalloc2_names.specs.SameSet.{is_same_set, is_same_set-per};
+
+    ghost eq = { is_same_set };
+
+    ghost laws = { is_same_set-per };
+
+    /// Whether each register is in both sets or in neither.
+    fn eq(&self, other: &PRegSet) -> bool
+        ensures listed { result ≡ is_same_set self.now other.now }
+        ensures members { IsTrue result ↔ ((r : Register) → has_register self.now r ≡ has_register other.now r) }
+    {
+        let [a, b, c] = self.bits;
+        let [d, e, f] = other.bits;
+        [a, b, c] == [d, e, f]
+    }
+}
+
+impl Eq for PRegSet {
+    ghost use Rattle.regalloc2_names.specs.SameSet.{is_same_set-equiv};
+
+    ghost laws = { is_same_set-equiv };
 }
 
 impl Default for PRegSet {
