@@ -99,7 +99,8 @@ impl RegAllocErrorKind {
             RegAllocErrorKind::DisallowedBranchArg => {
                 "a branch with operands leads to a block with several incoming edges, counting the start"
             }
-            RegAllocErrorKind::TooManyLiveRegs => "an instruction needs more registers than there are",
+            RegAllocErrorKind::TooManyLiveRegs =>
+                "an instruction needs more registers than there are",
             RegAllocErrorKind::TooManyOperands => "there are 2^32 operands or more",
             RegAllocErrorKind::Unsupported => {
                 "an operand isn't supported: a limit, an unsound reuse, a definition or late use fixed to a clobber, or a branch's definition in any register or by a reuse"
