@@ -7,6 +7,7 @@ use Rattle.codegen_machine.specs.declared.module.NamedProcedure.{NamedProcedure}
 use Rattle.codegen_machine.specs.declared.procedure.Procedure.{Procedure}
 use Rattle.codegen_machine.specs.Calls.{FunctionCode}
 use Rattle.codegen_machine.specs.Machine.{CodeValue}
+use Rattle.codegen.specs.FrameSizes.{HasFrameOf}
 use Rattle.codegen.proofs.Premise.{IsEmitted}
 
 -- a procedure's code, for an allocation under which both interpreters run alike
@@ -20,4 +21,4 @@ pub record IsCompiled (p : Procedure) (code : CodeValue) : Type 0 where
 pub record AreCompiled (ps : List NamedProcedure) (code : List FunctionCode) (n : ℕ) : Type 0 where
   pub long : length code ≡ n
   pub each : (g : ℕ) (p : NamedProcedure) (f : FunctionCode) → slice_get ps g ≡ Some p → slice_get code g ≡ Some f →
-      IsCompiled p.procedure f.code × (f.arity ≡ p.arity)
+      IsCompiled p.procedure f.code × (f.arity ≡ p.arity) × HasFrameOf p f

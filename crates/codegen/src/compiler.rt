@@ -4,7 +4,9 @@ ghost use Rattle.std.specs.Prelude.{◌≡◌, ◌∷◌, ◌++◌, [], IfErr, I
 ghost use Rattle.codegen_machine.specs.Seen.{function_of_procedure};
 ghost use Rattle.codegen_machine.specs.Machine.{code_of};
 ghost use Rattle.codegen_machine.specs.Calls.{functions_of};
+ghost use Rattle.codegen_machine.specs.Modules.{arities_of};
 ghost use Rattle.codegen.specs.Behaves.{BehavesAs};
+ghost use Rattle.codegen.specs.FrameSizes.{HaveFramesOf, StaysInRoom};
 ghost use Rattle.codegen.specs.Compiled.{IsCodeOf, IsNamedCodeOf};
 ghost use Rattle.codegen.specs.Reasons.{IsCompileReason, IsModuleReason, compile_error_text};
 
@@ -83,13 +85,23 @@ fn add(functions: &mut Vec<NamedCode>, function: NamedCode) -> Result<(), Compil
     }
 }
 
-/// Compiles a module: its code behaves as the module for all arguments, initial memories and stacks.
+/// Compiles the module `m`, into code that behaves as it does.
 ///
-/// An error is the allocator's, for one of the functions, or `Memory`. Not guaranteed: that `Memory`
-/// is returned only after a failed allocation.
+/// Its code does so for all arguments, initial memories and stacks. Each function keeps its name and
+/// its number of arguments. Its frame has at most as many slots as the function needs: two for each
+/// vreg and twelve for each block. Where the stack has room for frames of that size, the code never
+/// overflows.
+///
+/// # Errors
+///
+/// The allocator's, for one of the functions, or `Memory`. Not guaranteed: that `Memory` is returned
+/// only after a failed allocation.
 pub fn compile(alloc: Global, m: &Module) -> Result<ModuleCode, CompileError>
     ensures behaves { IfOk result (λ c. BehavesAs m.now (functions_of c.functions.items)) }
     ensures names { IfOk result (λ c. map (λ f. string_bytes f.name) c.functions.items ≡ map (λ p. string_bytes p.name) m.now.procedures.items) }
+    ensures arities { IfOk result (λ c. map (λ f. f.arity) c.functions.items ≡ arities_of m.now.procedures.items) }
+    ensures frames { IfOk result (λ c. HaveFramesOf m.now.procedures.items (functions_of c.functions.items)) }
+    ensures room { IfOk result (λ c. StaysInRoom m.now (functions_of c.functions.items)) }
     ensures refused { IfErr result (IsModuleReason m.now.procedures.items) }
 {
     let mut functions = Vec::new(alloc);

@@ -61,6 +61,7 @@
 //! | numbers that are needed after a call | `runs`, and the lemma `runs_alike`: clobbers | whatever the callee leaves in caller-saved registers, none of the caller's numbers is expected there |
 //! | blocks and branches | `tested` | blocks are contiguous, each with its only branch or return last; successors exist; the entry is block 0 |
 //! | the theorem | `runs`, and the lemma `runs_alike` | whatever instructions compute, the interpreter over places reads the same numbers as the one over vregs |
+//! | `frames` and `room` of `compile` | `IsAllocation.slots` | a frame has no more slots than the function's vregs and blocks need |
 //! | `refused` of `compile` | `refused` | when each error is returned |
 //!
 //! `Procedure` establishes two facts itself, because the allocator doesn't guarantee them: a branch
@@ -93,9 +94,13 @@
 //! exceed its room; neither side depends on the other beyond that point. With an unlimited room
 //! nothing overflows, so the module is never stuck (`proofs/Behaving.antt`).
 //!
-//! Unused: that values are in their slots between blocks, that slots have owners, bounds on their
-//! number, debug locations, and when nothing is spilled. A code generator that keeps other data in
-//! the frame, or describes it to a debugger, needs those.
+//! A frame has at most two slots for each vreg and twelve for each block of its function, so
+//! `specs/FrameSizes.antt` says of the module alone when a stack has room for a run
+//! (`proofs/Rooms.antt`).
+//!
+//! Unused: that values are in their slots between blocks, that slots have owners, the bound 2^24 on
+//! their number, debug locations, and when nothing is spilled. A code generator that keeps other
+//! data in the frame, or describes it to a debugger, needs those.
 //!
 //! Not proved: that x86-64 runs the printed text as the machine runs the code.
 //! [`text`] has a spec of the text, and tests run it.

@@ -62,6 +62,11 @@ pub enum Malformed {
 }
 
 impl fmt::Display for Malformed {
+    ghost use Rattle.std.specs.Prelude.{Some};
+    ghost use Rattle.codegen_machine.specs.ErrorText.{malformed_text};
+
+    ghost output = { λ e. Some (malformed_text e) };
+
     fn fmt<W: fmt::Write>(&self, f: &mut fmt::Formatter<W>) -> fmt::Result {
         match self {
             Malformed::TooLarge => f.write_str("the function is too large"),
