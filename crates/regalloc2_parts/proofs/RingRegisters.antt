@@ -1,5 +1,5 @@
 -- The registers that a ring's nodes stand for.
-use Rattle.std.proofs.Common.{ℕ, zero, suc, ◌≡◌, ◌-◌, ◌<◌, ◌∙◌, refl, arith, sym, ap, subst}
+use Rattle.std.proofs.Common.{ℕ, zero, suc, ◌≡◌, ◌-◌, ◌<◌, ◌≤◌, ◌∙◌, refl, arith, sym, ap, subst}
 use Rattle.std.proofs.Common.{List, [], ◌∷◌, ◌++◌, Bool, true, false, not, cond, nat_eq, length}
 use Rattle.std.specs.Prelude.{Contains, filter, map, reverse, slice_get, Some}
 use Rattle.std.specs.List.{AllByRecursion, IsDistinct}
@@ -9,7 +9,8 @@ use Rattle.regalloc2_index.proofs.Numbers.{nat_eq-self}
 use Rattle.regalloc2_names.specs.declared.RegClass.{RegClass}
 use Rattle.regalloc2_names.specs.Register.{Register, class_code, is_register}
 use Rattle.regalloc2_parts.specs.declared.lru.nodes.LruNode.{LruNode}
-use Rattle.regalloc2_parts.specs.RingNodes.{IsLruNodes, IsNodeRing, named, ring_numbers, ring_registers}
+use Rattle.regalloc2_parts.specs.Links.{IsFewLinksApart}
+use Rattle.regalloc2_parts.specs.RingNodes.{IsLruNodes, IsNodeRing, lru_changed_links, lru_nexts, lru_prevs, named, ring_numbers, ring_registers}
 use Rattle.regalloc2_parts.proofs.Numbers.{without}
 
 -- registers of one class with different numbers differ
@@ -112,3 +113,25 @@ last_of_reverse xs ys x e =
     at_end : (zs : List Register) → slice_get (zs ++ x ∷ []) (length zs) ≡ Some x
     at_end [] = refl
     at_end (z ∷ zs) = at_end zs
+
+-- the numbers of registers that are named by numbers are these
+numbers_named : (class : RegClass) (ns : List ℕ) → map (λ r. r.number) (map (named class) ns) ≡ ns
+numbers_named class [] = refl
+numbers_named class (n ∷ ns) = rw (numbers_named class ns) refl
+
+-- nodes of two rings, as links around the numbers of their registers
+pub few_apart : (old new : List LruNode) (h k : ℕ) (class : RegClass) → 0 < length old → length new ≡ length old → IsNodeRing old h → IsNodeRing new k →
+    lru_changed_links old new ≤ 6 → IsFewLinksApart 6 (map (λ r. r.number) (ring_registers old h class)) (map (λ r. r.number) (ring_registers new k class))
+few_apart old new h k class some long ring turned few =
+    rw (
+      registers_are old h class some,
+      registers_are new k class (omega arith),
+      numbers_named class (ring_numbers old h),
+      numbers_named class (ring_numbers new k),
+    ) (record {
+      before = record { nexts = lru_nexts old; prevs = lru_prevs old };
+      after = record { nexts = lru_nexts new; prevs = lru_prevs new };
+      around_old = ring;
+      around_new = turned;
+      few = few;
+    })

@@ -11,7 +11,7 @@ use Rattle.std.proofs.lemmas.Map.Keys.{IsDistinct-head, IsDistinct-tail}
 use Rattle.regalloc2_names.specs.Register.{VirtualRegister, invalid_vreg}
 use Rattle.regalloc2_parts.specs.declared.vregset.VRegNode.{VRegNode}
 use Rattle.regalloc2_parts.specs.LiveList.{NamesEachOnce}
-use Rattle.regalloc2_parts.specs.Links.{IsRing, IsWalk, LacksNumber, Leads, changed, walked_links}
+use Rattle.regalloc2_parts.specs.Links.{IsFewLinksApart, IsRing, IsWalk, LacksNumber, Leads, changed, walked_links}
 use Rattle.regalloc2_parts.specs.VRegNodes.{IsVRegList, Lists, vreg_changed_links, members_of, nexts, vreg_ring_numbers, prevs, rest_from, vregs, vregs_at}
 use Rattle.regalloc2_parts.proofs.Numbers.{differs, each_without, flip, lacks, of_member, without}
 use Rattle.regalloc2_parts.proofs.Linked.{next_of_member, prev_of_member}
@@ -379,3 +379,15 @@ none_left nodes h x list is = rw (← iter_members nodes h x list is) (by_answer
         ≡ suc (length (vregs_at nodes (walked_links (nexts nodes) h (slice_index (nexts nodes) x.next)))) = ap (λ l. length (vregs_at nodes l)) s.first in
         absurd (omega arith)) in
         sym (differs (length (rest_from nodes h x.next)) 0 (λ z. some (sym z)))
+
+-- nodes of two lists, as links around the head and the numbers of their members
+pub few_apart : (old new : List VRegNode) (h most : ℕ) → IsVRegList old h → IsVRegList new h → vreg_changed_links old new ≤ most →
+    IsFewLinksApart most (h ∷ map (λ v. v.number) (members_of old h)) (h ∷ map (λ v. v.number) (members_of new h))
+few_apart old new h most list changed few =
+    rw (numbers_of old (vreg_ring_numbers old h) list.named, numbers_of new (vreg_ring_numbers new h) changed.named) (record {
+      before = record { nexts = nexts old; prevs = prevs old };
+      after = record { nexts = nexts new; prevs = prevs new };
+      around_old = list.ring;
+      around_new = changed.ring;
+      few = few;
+    })

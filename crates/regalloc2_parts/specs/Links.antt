@@ -43,3 +43,25 @@ unfoldable pub changed : List ℕ → List ℕ → ℕ
 changed [] ys = length ys
 changed (x ∷ xs) [] = length (x ∷ xs)
 changed (x ∷ xs) (y ∷ ys) = cond (nat_eq x y) 0 1 + changed xs ys
+
+-- the links of numbered nodes: for each number the one after it and the one before it
+pub record RingOfLinks : Type 0 where
+  pub nexts : List ℕ
+  pub prevs : List ℕ
+
+-- at how many places the links of two rings differ
+abbrev pub changed_links : RingOfLinks → RingOfLinks → ℕ
+changed_links old new = changed old.nexts new.nexts + changed old.prevs new.prevs
+
+-- the links lead around a list of numbers, from its first one on; no numbers have no links
+abbrev pub LeadAround : RingOfLinks → List ℕ → Type 0
+LeadAround links [] = links ≡ record { nexts = []; prevs = [] }
+LeadAround links (x ∷ xs) = IsRing links.nexts links.prevs x xs
+
+-- links that lead around the old numbers become links that lead around the new ones by at most `most` changes
+pub record IsFewLinksApart (most : ℕ) (old new : List ℕ) : Type 0 where
+  pub before : RingOfLinks
+  pub after : RingOfLinks
+  pub around_old : LeadAround before old
+  pub around_new : LeadAround after new
+  pub few : changed_links before after ≤ most

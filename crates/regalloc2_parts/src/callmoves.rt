@@ -39,6 +39,11 @@ pub enum CallFault {
 
 /// Writes what is wrong, as `move 2 names no place`.
 impl fmt::Display for CallFault {
+    ghost use Rattle.std.specs.Prelude.{Some};
+    ghost use Rattle.regalloc2_parts.specs.MoveText.{call_fault_text};
+
+    ghost output = { λ e. Some (call_fault_text e) };
+
     fn fmt<W: fmt::Write>(&self, f: &mut fmt::Formatter<W>) -> fmt::Result {
         match self {
             Self::NoneNamed(index) => write!(f, "move {index} names no place"),

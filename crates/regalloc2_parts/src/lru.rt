@@ -1,11 +1,12 @@
 //! Registers ordered by their last use: LRU lists.
 
 ghost use Rattle.std.specs.Prelude.{◌≡◌, ◌-◌, ◌∷◌, ◌<◌, ◌↔◌, ◌==◌, IsTrue, true, false, IfSome, IfNone, IfOk, IfErr, All, Contains, length};
-ghost use Rattle.std.specs.Prelude.{Bool, Some, not, filter, find, reverse, slice_get, slice_index_or, slice_set, ◌≢◌, [], IsOk};
+ghost use Rattle.std.specs.Prelude.{Bool, Some, not, filter, find, map, reverse, slice_get, slice_index_or, slice_set, ◌≢◌, [], IsOk};
 ghost use Rattle.std.specs.List.{IsDistinct};
 ghost use Rattle.regalloc2_names.specs.declared.RegClass.{RegClass};
 ghost use Rattle.regalloc2_names.specs.Register.{Register, class_code, is_register};
 ghost use Rattle.regalloc2_names.specs.RegisterSet.{has_register};
+ghost use Rattle.regalloc2_parts.specs.Links.{IsFewLinksApart};
 ghost use Rattle.regalloc2_parts.specs.Ring.{AreDistinctOf, IsNewRing, IsOldestAccepted, ring_of};
 
 use nodes::{LruNode, OldestFirst};
@@ -85,16 +86,16 @@ impl<A: Allocator> Lru<A> {
         })
     }
 
-    /// Makes a member the most recently used; the others keep their order.
+    /// Makes the member `preg` the most recently used; the others keep their order.
     ///
-    /// Changes at most six links between nodes, by the contract of `poke_node`; this contract
-    /// covers the list alone.
+    /// At most six links between nodes change. Allocates nothing.
     #[inline(always)]
     pub fn poke(&mut self, preg: PReg)
         requires { Contains self.old preg }
         ensures moved { self.new ≡ preg ∷ filter (λ r. not (is_register preg r)) self.old }
         ensures members { (r : Register) → Contains self.new r ↔ Contains self.old r }
         ensures distinct { IsDistinct is_register self.new }
+        ensures few { IsFewLinksApart 6 (map (λ r. r.number) self.old) (map (λ r. r.number) self.new) }
     {
         nodes::poke_node(&mut self.nodes, &mut self.head, preg.hw_enc() as u8);
     }

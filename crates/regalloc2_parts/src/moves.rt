@@ -35,7 +35,13 @@ pub enum MoveFault {
     Memory,
 }
 
+/// Writes what is wrong, as `a move needs a spill slot, and there is none`.
 impl fmt::Display for MoveFault {
+    ghost use Rattle.std.specs.Prelude.{Some};
+    ghost use Rattle.regalloc2_parts.specs.MoveText.{move_fault_text};
+
+    ghost output = { λ e. Some (move_fault_text e) };
+
     fn fmt<W: fmt::Write>(&self, f: &mut fmt::Formatter<W>) -> fmt::Result {
         match self {
             Self::NoSlot => f.write_str("a move needs a spill slot, and there is none"),

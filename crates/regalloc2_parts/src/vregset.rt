@@ -1,7 +1,8 @@
 //! The list of live vregs.
 
-ghost use Rattle.std.specs.Prelude.{◌≡◌, ◌≢◌, ◌∷◌, [], ◌<◌, ◌≤◌, ◌==◌, IfOk, IfErr, All, Any, Contains, length, not, filter, slice_set};
+ghost use Rattle.std.specs.Prelude.{◌≡◌, ◌≢◌, ◌∷◌, [], ◌<◌, ◌≤◌, ◌==◌, IfOk, IfErr, All, Any, Contains, length, map, not, filter, slice_set};
 ghost use Rattle.std.specs.Iterator.{YieldsFirst, item_count};
+ghost use Rattle.regalloc2_parts.specs.Links.{IsFewLinksApart};
 ghost use Rattle.regalloc2_parts.specs.LiveList.{NamesEachOnce};
 ghost use Rattle.regalloc2_parts.specs.VRegNodes.{IsVRegList, Lists, vreg_changed_links, nexts, members_of, vreg_ring_numbers, prevs, vregs};
 
@@ -103,27 +104,28 @@ impl<A: Allocator> VRegSet<A> {
         Ok(VRegSet { nodes, head })
     }
 
-    /// Inserts a vreg at the front. Its number is below the capacity and no member's.
+    /// Inserts `vreg` at the front.
     ///
-    /// Changes at most four links between nodes, by the contract of `insert_node`; this contract
-    /// covers the list alone.
+    /// The number of `vreg` is below the capacity, and no member has it. At most four links between
+    /// nodes change. Allocates nothing.
     pub fn insert(&mut self, vreg: VReg)
         requires below { vreg.number < self.old.capacity }
         requires absent { All (λ v. v.number ≢ vreg.number) self.old.members }
         ensures inserted { self.new ≡ record self.old { members = vreg ∷ self.old.members } }
         ensures proper { NamesEachOnce self.new.members self.new.capacity }
+        ensures few { IsFewLinksApart 4 (self.old.capacity ∷ map (λ v. v.number) self.old.members) (self.new.capacity ∷ map (λ v. v.number) self.new.members) }
     {
         insert_node(&mut self.nodes, self.head, vreg);
     }
 
-    /// Removes the member with this number; the others keep their order.
+    /// Removes the member whose number is `vreg_num`; the others keep their order.
     ///
-    /// Changes at most two links between nodes, by the contract of `remove_node`; this contract
-    /// covers the list alone.
+    /// At most two links between nodes change. Allocates nothing.
     pub fn remove(&mut self, vreg_num: usize)
         requires { Any (λ v. v.number ≡ vreg_num) self.old.members }
         ensures removed { self.new ≡ record self.old { members = filter (λ v. not (v.number == vreg_num)) self.old.members } }
         ensures proper { NamesEachOnce self.new.members self.new.capacity }
+        ensures few { IsFewLinksApart 2 (self.old.capacity ∷ map (λ v. v.number) self.old.members) (self.new.capacity ∷ map (λ v. v.number) self.new.members) }
     {
         remove_node(&mut self.nodes, self.head, vreg_num as u32);
     }

@@ -1,11 +1,13 @@
-use Rattle.std.proofs.Common.{◌≡◌, ◌∙◌, List, ap, arith, length, subst, sym}
-use Rattle.std.specs.Prelude.{◌==◌, Any, Contains, filter, not}
+use Rattle.std.proofs.Common.{◌≡◌, ◌≤◌, ◌∷◌, ◌∙◌, List, ap, arith, length, subst, sym}
+use Rattle.std.specs.Prelude.{◌==◌, Any, Contains, filter, map, not}
+use Rattle.std.specs.Vec.{with_items}
 use Rattle.std.proofs.lemmas.List.{with_items_is}
 use Rattle.regalloc2_names.specs.Register.{VirtualRegister}
 use Rattle.regalloc2_parts.specs.declared.vregset.VRegNode.{VRegNode}
 use Rattle.regalloc2_parts.specs.LiveList.{LiveList, NamesEachOnce}
-use Rattle.regalloc2_parts.specs.VRegNodes.{IsVRegList, members_of, vreg_ring_numbers}
-use Rattle.regalloc2_parts.proofs.VRegLinks.{member_below, member_number, proper}
+use Rattle.regalloc2_parts.specs.Links.{IsFewLinksApart}
+use Rattle.regalloc2_parts.specs.VRegNodes.{IsVRegList, members_of, vreg_changed_links, vreg_ring_numbers}
+use Rattle.regalloc2_parts.proofs.VRegLinks.{few_apart, member_below, member_number, proper}
 use Rattle.regalloc2_parts.proofs.vregset.VRegSet.remove.Goals as goal
 
 pub overflow_cast-vreg_num : goal.overflow_cast-vreg_num
@@ -52,3 +54,15 @@ returns-clause-removed g c =
     ∙ ap (λ (vs : List VirtualRegister). let value : LiveList = record { members = vs; capacity = head } in value)
     (c.remove_node.ensures.list.are ∙ ap (λ (l : List VRegNode). filter (λ (v : VirtualRegister). not (v.number == c.args.vreg_num)) (members_of l head)) c.deref_mut.ensures.value)
     ∙ ap (λ (s : LiveList). let value : LiveList = record { members = filter (λ (v : VirtualRegister). not (v.number == c.args.vreg_num)) s.members; capacity = s.capacity } in value) c.self.view_is
+
+pub returns-clause-few : goal.returns-clause-few
+returns-clause-few g c =
+    let nodes = c.self.inside.nodes.items in
+    let head = c.self.inside.head in
+    let long : length c.remove_node.new.nodes ≡ length nodes = c.remove_node.ensures.long ∙ ap (λ l. length l) c.deref_mut.ensures.value in
+    let few = subst (λ l. vreg_changed_links l c.remove_node.new.nodes ≤ 2) c.deref_mut.ensures.value c.remove_node.ensures.few in
+    let apart = few_apart nodes c.remove_node.new.nodes head 2 c.self.invariant c.remove_node.ensures.list.list few in
+    subst (λ (s : LiveList). IsFewLinksApart 2 (s.capacity ∷ map (λ v. v.number) s.members)
+    (head ∷ map (λ v. v.number) (members_of (with_items c.self.inside.nodes c.remove_node.new.nodes).items head))) c.self.view_is
+    (subst (λ (l : List VRegNode). IsFewLinksApart 2 (head ∷ map (λ v. v.number) (members_of nodes head)) (head ∷ map (λ v. v.number) (members_of l head)))
+    (sym (with_items_is c.self.inside.nodes c.remove_node.new.nodes (omega (arith, long)))) apart)
