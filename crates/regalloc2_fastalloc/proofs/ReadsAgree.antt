@@ -36,7 +36,7 @@ use Rattle.regalloc2_fastalloc_proofs.proofs.Walk.InstsCarry.{AreListed, Blank}
 use Rattle.regalloc2_fastalloc_proofs.proofs.Safety.InstsKeepSafe.{WritesFrom, WalkKept}
 use Rattle.regalloc2_fastalloc_proofs.proofs.Safety.OutputOfWalk.{IsMade, made_in_order, place_is}
 use Rattle.regalloc2_fastalloc_proofs.proofs.Safety.BlocksKeepSafe.{MayInBlocks}
-use Rattle.regalloc2_fastalloc_proofs.proofs.Safety.FunctionKeepsSafe.{SafeWithin, made_listed_blocks, walk_blocks_good, walk_safe, FreshWalk}
+use Rattle.regalloc2_fastalloc_proofs.proofs.Safety.FunctionKeepsSafe.{SafeWithin, made_none_at_end, walk_blocks_good, walk_safe, FreshWalk}
 use Rattle.regalloc2_fastalloc_proofs.proofs.Walk.InstBoundaries.{allocs_blocks_outside, kept_of}
 use Rattle.regalloc2_fastalloc_proofs.proofs.Branches.LocationsAfterBranch.{branch_kept}
 use Rattle.regalloc2_fastalloc_proofs.proofs.Walk.AllBlocksCarry.{begin_between}
@@ -83,7 +83,7 @@ module _ (walk : WholeWalk) (taken : AreTaken walk.f) (in_place : (i : ℕ) → 
   blocks_quiet b lb =
       let end : ℕ = (block_at f b).range.end in
       let some : (block_at f b).range.first < end = (ok.follow b lb).0 in
-      let not_at_end = (made_listed_blocks f env (Made f) last out ok.follow m).none_at_end b lb in
+      let not_at_end = made_none_at_end f env (Made f) last out ok.follow m b lb in
       ap (map (λ e. e.1)) (none_there (after (end - 1)) out.edits (λ k d lt e. not_at_end k d lt (omega (arith, e, some))))
 
   -- where vregs are at a block's beginning

@@ -78,7 +78,7 @@ pub record ServesBranch (out : OutputValue) (n i time : ℕ) : Type 0 where
 
 -- each slot that a branch owns serves that branch alone
 abbrev pub BranchSlotsServe : FunctionValue → OutputValue → (ℕ → Owner) → Type 0
-BranchSlotsServe f out owner = (n i : ℕ) (class : RegClass) (time : ℕ) → IsSlotOf f out n → owner n ≡ OfBranch i class time → ServesBranch out n i time
+BranchSlotsServe f out owner = (n i : ℕ) (class : RegClass) (time : ℕ) → IsSlotOf out n → owner n ≡ OfBranch i class time → ServesBranch out n i time
 
 -- an operand that names the vreg has the place
 abbrev pub IsPlaceOfOperand : FunctionValue → OutputValue → VirtualRegister → Place → Type 0

@@ -1,7 +1,7 @@
 -- The whole walk over a well-formed function with any number of blocks keeps the tables safe, and what holds at its end.
 use Rattle.std.proofs.Common.{ℕ, ◌≡◌, ◌≢◌, ◌+◌, ◌<◌, ◌≤◌, ◌⊎◌, ◌||◌, ◌&&◌, Bool, true, false, List, [], length, nat_eq, nat_lt, eq-eqb, refl, sym, ap}
 use Rattle.std.proofs.Common.{inl, inr, subst, arith}
-use Rattle.std.specs.Prelude.{slice_index_or}
+use Rattle.std.specs.Prelude.{All, slice_index_or}
 use Rattle.std.proofs.lemmas.Bool.{lt-ltb, cases_eq, or_right, and_from, cases_lt}
 use Rattle.std.proofs.lemmas.List.Elements.{All-get_or}
 use Rattle.regalloc2_names.specs.declared.RegClass.{RegClass}
@@ -167,16 +167,20 @@ not_behind f follow p (c, i, lt, ge, less, inr (e, next)) b small at =
       | inr (inr behind) ↦ (let h = ends_before f follow c b behind small in omega (arith, h, some, end, next))
     ]
 
--- an output made of the final state has no edit after a block's last instruction, and each of its edits is in a block's listing
-pub made_listed_blocks : (f : FunctionValue) (env : MachineValue) (Known : VirtualRegister → Type 0) (t : StateValue) (o : OutputValue) → BlocksFollow f →
+-- each edit of an output made of the final state is in a block's listing
+pub made_listed_blocks : (f : FunctionValue) (env : MachineValue) (Known : VirtualRegister → Type 0) (t : StateValue) (o : OutputValue) →
     IsMade f env Known (MayInBlocks f) t o → EditsAreListed f o
-made_listed_blocks f env Known t o follow m = record {
-  none_at_end = λ b less. each_edit f env Known (MayInBlocks f) t o (λ e. e.0 + 1 ≢ before (block_at f b).range.end) m
-      (λ e sound. not_behind f follow e.0 sound.point b less);
-  listed = each_edit f env Known (MayInBlocks f) t o (λ e. (b i : ℕ) × (b < length f.blocks) × ((block_at f b).range.first ≤ i) × (i < (block_at f b).range.end)
-      × (is_listed_at (block_at f b).range.first i e.0 ≡ true)) m
-      (λ e sound. listed_in_blocks f e.0 sound.point);
-}
+made_listed_blocks f env Known t o m =
+    each_edit f env Known (MayInBlocks f) t o (λ e. (b i : ℕ) × (b < length f.blocks) × ((block_at f b).range.first ≤ i) × (i < (block_at f b).range.end)
+    × (is_listed_at (block_at f b).range.first i e.0 ≡ true)) m
+    (λ e sound. listed_in_blocks f e.0 sound.point)
+
+-- and none is after a block's last instruction
+pub made_none_at_end : (f : FunctionValue) (env : MachineValue) (Known : VirtualRegister → Type 0) (t : StateValue) (o : OutputValue) → BlocksFollow f →
+    IsMade f env Known (MayInBlocks f) t o → (b : ℕ) → b < length f.blocks → All (λ e. e.0 + 1 ≢ before (block_at f b).range.end) o.edits
+made_none_at_end f env Known t o follow m b less =
+    each_edit f env Known (MayInBlocks f) t o (λ e. e.0 + 1 ≢ before (block_at f b).range.end) m
+    (λ e sound. not_behind f follow e.0 sound.point b less)
 
 -- an instruction that is no branch writes no parameters
 pub no_branch_writes : (f : FunctionValue) (i : ℕ) (v : VirtualRegister) → (inst_at f i).is_branch ≡ false → WritesByBranch f (before i) v → ⊥

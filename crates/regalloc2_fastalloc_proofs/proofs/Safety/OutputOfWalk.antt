@@ -197,7 +197,7 @@ names_register : (b : Bool) (c : OperandConstraint) (r : Register) → cond b (f
 names_register true (FixedReg q) r e = (let same : q ≡ r = cc in ap FixedReg same)
 names_register b c r e = absurd cc
 
--- in an output made of the final state operands, moves and debug locations have valid places
+-- in an output made of the final state operands and moves have valid places
 pub made_proper : (f : FunctionValue) (env : MachineValue) (Known : VirtualRegister → Type 0) (May : ℕ → Type 0) (t : StateValue) (o : OutputValue) →
     IsMade f env Known May t o → PlacesAreProper f env o
 made_proper f env Known May t o m = record {
@@ -220,9 +220,6 @@ made_proper f env Known May t o m = record {
     )
     | inr a ↦ (pass_end env o t.slots a.class e.1.from (sym m.count) a.from, pass_end env o t.slots a.class e.1.to (sym m.count) a.to)
   ]);
-  debug_locations = λ k d lt.
-      let h = m.debug k d lt in
-      (h.0, h.1, h.2, h.3, (h.4.0, h.4.1, proper_place env o t.slots h.1.vreg _ (slots_below f env Known May t o m) h.4.3));
 }
 
 -- no move of an output made of the final state is stack-to-stack

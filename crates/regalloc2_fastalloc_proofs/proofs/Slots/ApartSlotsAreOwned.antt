@@ -35,7 +35,7 @@ IsBeforeBranch owner e = (n i : ℕ) (class : RegClass) (time : ℕ) → owner n
 pub record OwnsSlots (Known : VirtualRegister → Type 0) (f : FunctionValue) (s : SpillSlotsValue) (out : OutputValue) : Type 0 where
   pub owned : AreSlotsOwned f out
   pub vregs : (v : VirtualRegister) (n : ℕ) → Known v → slot_name s v.number ≡ InSlot n → owned.owner n ≡ OfVReg v
-  pub two : (n i : ℕ) (class : RegClass) (time : ℕ) → IsSlotOf f out n → owned.owner n ≡ OfBranch i class time → time < 2
+  pub two : (n i : ℕ) (class : RegClass) (time : ℕ) → IsSlotOf out n → owned.owner n ≡ OfBranch i class time → time < 2
   pub moves : All (IsBeforeBranch owned.owner) out.edits
   pub allocs : All (IsNoBranchSlot owned.owner) out.allocs
   pub shown : All (λ d. IsNoBranchSlot owned.owner d.place) out.debug_locations
@@ -155,7 +155,7 @@ module _ (Known : VirtualRegister → Type 0) (f : FunctionValue) (s : SpillSlot
         subst (ServesAt point) of (⊎_elim (λ from. (end_named point m.0 _ n m.1 from).1) (λ to. (end_named point m.0 _ n m.2 to).1) names)
 
     -- and so does every place in the output
-    named : (n : ℕ) → IsSlotOf f out n → IsNameOfSlot made n
+    named : (n : ℕ) → IsSlotOf out n → IsNameOfSlot made n
     named n (inl (k, x, lt, at, is)) = known_named n (allocs k x lt n (at ∙ is))
     named n (inr (inl (k, x, lt, at, is))) = (let m = subst (IsOfOneClass made) at (moves k x lt) in
         ⊎_elim (λ from. (end_named x.0 m.0 _ n m.1 from).0) (λ to. (end_named x.0 m.0 _ n m.2 to).0) is)
