@@ -5,4 +5,5 @@ pub mod Table
 pub mod TableLimits
 pub mod Draft
 pub mod Built
+pub mod BuildText
 pub mod Steps

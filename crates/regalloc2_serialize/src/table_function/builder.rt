@@ -35,8 +35,13 @@ pub enum BuildError {
     TooManyVRegs,
 }
 
-/// As `block3 isn't declared`.
+/// Writes what is wrong, as `block3 isn't declared`.
 impl fmt::Display for BuildError {
+    ghost use Rattle.std.specs.Prelude.{Some};
+    ghost use Rattle.regalloc2_serialize.specs.TableFunction.BuildText.{build_text};
+
+    ghost output = { λ e. Some (build_text e) };
+
     fn fmt<W: fmt::Write>(&self, f: &mut fmt::Formatter<W>) -> fmt::Result {
         match *self {
             Self::Memory => f.write_str("out of memory"),
