@@ -27,7 +27,8 @@ fn failure_words(status: u32) -> &'static str
         3 => "the result takes more words than there is room for",
         4 => "the output has faults",
         5 => "out of memory",
-        6 => "the function isn't structurally valid: blocks don't follow one another or don't end, or arguments aren't as many as parameters",
+        6 =>
+            "the function isn't structurally valid: blocks don't follow one another or don't end, or arguments aren't as many as parameters",
         7 => "the output's numbers name none",
         8 => "some path reads or passes a vreg before writing it",
         9 => "a line of the text can't be read",
