@@ -3,3 +3,4 @@
 -- Depends on `Judged` and `Allocated` of the specs, and on the reports of regalloc2_checker.
 pub mod CheckerErrorReasons
 pub mod AllocateErrorReasons
+pub mod CountedOperands

@@ -1,9 +1,10 @@
 -- Definitions for the entry points, and those of the crates below that contracts name: a client lists no other crate.
--- Read first: `Accepted`: the checker accepts what the allocator guarantees; `Allocated` and `Judged`: errors.
+-- Read first: `Accepted`: the checker accepts what the allocator guarantees; `Allocated` and `Judged`: errors; `ErrorTexts`: their texts.
 -- Depends on regalloc2_fastalloc (`Promise`, `ErrorReason`) and regalloc2_checker (`Report`).
 pub mod Accepted
 pub mod Judged
 pub mod Allocated
+pub mod ErrorTexts
 pub use Rattle.regalloc2_index.specs.Range
 pub use Rattle.regalloc2_names.specs.Register
 pub use Rattle.regalloc2_names.specs.RegisterBits
@@ -20,6 +21,7 @@ pub use Rattle.regalloc2_function.specs.SingleUnits
 pub use Rattle.regalloc2_function.specs.Machine
 pub use Rattle.regalloc2_function.specs.Fitting
 pub use Rattle.regalloc2_function.specs.Misfit
+pub use Rattle.regalloc2_function.specs.MisfitText
 pub use Rattle.regalloc2_function.specs.OutputValue
 pub use Rattle.regalloc2_function.specs.Views
 pub use Rattle.regalloc2_function.specs.Listing
@@ -40,6 +42,8 @@ pub use Rattle.regalloc2_serialize.specs.TableFunction.Table
 pub use Rattle.regalloc2_serialize.specs.TableFunction.Draft
 pub use Rattle.regalloc2_serialize.specs.TableFunction.Built
 pub use Rattle.regalloc2_semantics.specs.Live
+pub use Rattle.regalloc2_semantics.specs.Values.Alike
+pub use Rattle.regalloc2_semantics.specs.Values.Interpreters
 pub use Rattle.regalloc2_fastalloc_state.specs.Validate.Constraints
 pub use Rattle.regalloc2_fastalloc_state.specs.Validate.Validated
 pub use Rattle.regalloc2_fastalloc.specs.Promise
@@ -51,6 +55,8 @@ pub use Rattle.regalloc2_checker.specs.ErrorsFound
 pub use Rattle.regalloc2_checker.specs.Prepared
 pub use Rattle.regalloc2_checker.specs.Report
 pub use Rattle.regalloc2_checker.specs.Text as FaultText
+pub use Rattle.regalloc2_checker.specs.Cells
+pub use Rattle.regalloc2_checker.specs.CellFaults
 pub use Rattle.regalloc2_function.specs.Definitions
 pub use Rattle.regalloc2_function.specs.Leaves
 pub use Rattle.regalloc2_function.specs.Listed as ListedBlocks
@@ -73,6 +79,15 @@ pub use Rattle.regalloc2_serialize.specs.Decoded
 pub use Rattle.regalloc2_serialize.specs.FromJson
 pub use Rattle.regalloc2_serialize.specs.Tables as StoredTables
 pub use Rattle.regalloc2_serialize.specs.JsonShape
+pub use Rattle.regalloc2_serialize.specs.Rewrite.Renumbered
+pub use Rattle.regalloc2_serialize.specs.Rewrite.Rewritten
+pub use Rattle.regalloc2_serialize.specs.Rewrite.RewriteText
+pub use Rattle.regalloc2_serialize.specs.Rewrite.SplitEdges
+pub use Rattle.regalloc2_serialize.specs.Flat.Flat
+pub use Rattle.regalloc2_serialize.specs.Flat.Columns.Kept
+pub use Rattle.regalloc2_serialize.specs.Flat.Columns.Layout
+pub use Rattle.regalloc2_serialize.specs.Flat.Columns.Sound
+pub use Rattle.regalloc2_serialize.specs.Flat.Columns.Value
 -- and the types that they match on
 pub use Rattle.regalloc2_names.specs.declared.RegClass
 pub use Rattle.regalloc2_names.specs.declared.OperandConstraint
@@ -85,3 +100,5 @@ pub use Rattle.regalloc2_function.specs.declared.misfit.MachineMisfit
 pub use Rattle.regalloc2_function.specs.declared.listing.Output
 pub use Rattle.regalloc2_checker.specs.declared.errors.CheckerError
 pub use Rattle.regalloc2_checker.specs.declared.errors.CheckerErrors
+pub use Rattle.regalloc2_checker.specs.declared.cells.CellFault
+pub use Rattle.regalloc2_serialize.specs.declared.rewrite.error.RewriteError

@@ -1,6 +1,7 @@
 //! Allocating, with the checker run on the output.
 
-ghost use Rattle.std.specs.Prelude.{◌≡◌, ◌⊎◌, ◌∷◌, [], false, IfErr, IfOk, OnOk};
+ghost use Rattle.std.specs.Prelude.{◌≡◌, ◌≤◌, ◌^◌, ◌↔◌, ◌⊎◌, ◌∷◌, [], false, IfErr, IfOk, OnOk};
+ghost use Rattle.regalloc2_function.specs.FunctionValue.{operand_count};
 ghost use Rattle.regalloc2_function.specs.Views.{machine_of, output_of};
 ghost use Rattle.regalloc2_function.specs.OutputValue.{IsInOrder};
 ghost use Rattle.regalloc2_function.specs.SourceRun.{IsWrittenFirst};
@@ -32,14 +33,19 @@ pub enum CheckedRunError<A: Allocator = Global> {
     Unjudged,
 }
 
+/// As `no registers were allocated: too many operands`.
 impl<A: Allocator> fmt::Display for CheckedRunError<A> {
+    ghost use Rattle.regalloc2.specs.ErrorTexts.{checked_run_text};
+
+    ghost output = { checked_run_text };
+
     fn fmt<W: fmt::Write>(&self, f: &mut fmt::Formatter<W>) -> fmt::Result {
         match self {
             CheckedRunError::Refused(error) => write!(f, "no registers were allocated: {error}"),
             CheckedRunError::Faults(errors) => {
-                write!(f, "the checker found faults in the output: {errors}")
+                write!(f, "the checker found errors in the output: {errors}")
             }
-            CheckedRunError::Unjudged => write!(f, "the checker had no memory"),
+            CheckedRunError::Unjudged => write!(f, "the checker ran out of memory"),
         }
     }
 }
@@ -87,7 +93,7 @@ fn judge<A: Allocator + Copy, F: Function, B: Allocator>(
 /// accepts it.
 ///
 /// The preconditions are those of `run`, and so are the guarantees about the output. Besides, the
-/// output is faithful, whether or not a path reads a vreg before writing it. If none does, the
+/// output is faithful, whether or not a path reads or passes a vreg before writing it. If none does, the
 /// checker finds no error, so the only error that it adds is `Unjudged`. `Faults` holds the errors
 /// of an output with all that `run` guarantees of its outputs.
 pub fn run_checked<A: Allocator + Copy, F: Function, B: Allocator>(
@@ -104,6 +110,7 @@ pub fn run_checked<A: Allocator + Copy, F: Function, B: Allocator>(
     ensures passes_checks { OnOk result (PassesAllChecks (F.function f.now) (machine_of env.now) options.now.validate_ssa) }
     ensures accepted { IsWrittenFirst (F.function f.now) → IfErr result (λ e. IsFault e → ⊥) }
     ensures refused { IfErr result (IsCheckedReason (F.function f.now) (machine_of env.now) options.now.validate_ssa) }
+    ensures many_operands { (result ≡ Err (CheckedRunError.Refused RegAllocError.TooManyOperands)) ↔ (2 ^ 32 ≤ operand_count (F.function f.now)) }
 {
     let out = match run(alloc, f, env, options) {
         Ok(out) => out,

@@ -4,7 +4,7 @@
 //! A client describes its function by an implementation of [`Function`] and its machine by a
 //! [`MachineEnv`], calls [`allocate`], and reads the [`Output`]. [`allocate`] has no preconditions:
 //! it tests the machine and the function, and returns only an output that the checker accepts.
-//! [`run_tested`] has no preconditions: it also tests that no path reads before writing, and then
+//! [`run_tested`] has no preconditions: it also tests that no path reads or passes a vreg before writing it, and then
 //! its output needs no checker. [`allocate_without_checker`] tests the machine and the function,
 //! and skips the checker. [`run`] and [`run_checked`] don't test the machine, which their caller
 //! proves to fit; a [`checker::Checker`] checks any output. Each item's guarantees are in its own
@@ -32,6 +32,7 @@ pub use regalloc2_names::{
     PReg, PRegSet, PRegSetIter, ProgPoint, RegAllocError, RegClass, SpillSlot, VReg,
 };
 pub use regalloc2_parts::moves;
+pub use regalloc2_semantics::values::runs_alike;
 pub use tested::{AllocateError, TestedRunError, allocate, allocate_without_checker, run_tested};
 
 /// The moves of one call.
@@ -42,7 +43,8 @@ pub mod callmoves {
 /// The checker of allocations.
 pub mod checker {
     pub use regalloc2_checker::{
-        Checker, CheckerError, CheckerErrors, finds_no_error_where_faithful, stands_for_every_path,
+        CellFault, Checker, CheckerError, CheckerErrors, FaultLine, check_output,
+        finds_no_error_where_faithful, places_are_cells, stands_for_every_path, test_cells,
     };
 }
 
@@ -50,6 +52,11 @@ pub mod checker {
 pub mod fastalloc {
     pub use regalloc2_fastalloc::run;
     pub use regalloc2_parts::{iter, lru, vregset};
+}
+
+/// Functions rewritten for the allocator: with a block on each critical edge, or with their blocks in another order.
+pub mod rewrite {
+    pub use regalloc2_serialize::rewrite::{RewriteError, renumber, split_critical_edges};
 }
 
 /// Tests of what a function defines and reads.
@@ -71,5 +78,6 @@ pub mod serialize {
     pub use regalloc2_function::{StoredFault, StoredOutput};
     pub use regalloc2_serialize::{
         FromValue, InstOpcode, SerializableFunction, StoredFunction, StoredInst, StoredMachine,
+        flat,
     };
 }

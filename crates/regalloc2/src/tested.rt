@@ -1,6 +1,7 @@
 //! Allocating whatever the function and the machine are: both are tested first.
 
-ghost use Rattle.std.specs.Prelude.{◌≡◌, true, IfErr, IfOk, OnOk};
+ghost use Rattle.std.specs.Prelude.{◌≡◌, ◌≤◌, ◌^◌, ◌↔◌, true, IfErr, IfOk, OnOk};
+ghost use Rattle.regalloc2_function.specs.FunctionValue.{operand_count};
 ghost use Rattle.regalloc2_function.specs.Views.{machine_of, output_of};
 ghost use Rattle.regalloc2_function.specs.SourceRun.{IsWrittenFirst};
 ghost use Rattle.regalloc2_function.specs.Faithful.{IsFaithful};
@@ -33,17 +34,22 @@ pub enum AllocateError<A: Allocator = Global> {
     Unjudged,
 }
 
+/// As `the machine doesn't fit the function: p3f is listed for the class Int, and is of another class`.
 impl<A: Allocator> fmt::Display for AllocateError<A> {
+    ghost use Rattle.regalloc2.specs.ErrorTexts.{allocate_text};
+
+    ghost output = { allocate_text };
+
     fn fmt<W: fmt::Write>(&self, f: &mut fmt::Formatter<W>) -> fmt::Result {
         match self {
             AllocateError::Misfit(misfit) => {
-                write!(f, "the machine doesn't suit the function: {misfit}")
+                write!(f, "the machine doesn't fit the function: {misfit}")
             }
             AllocateError::Refused(error) => write!(f, "no registers were allocated: {error}"),
             AllocateError::Faults(errors) => {
-                write!(f, "the checker found faults in the output: {errors}")
+                write!(f, "the checker found errors in the output: {errors}")
             }
-            AllocateError::Unjudged => write!(f, "the checker had no memory"),
+            AllocateError::Unjudged => write!(f, "the checker ran out of memory"),
         }
     }
 }
@@ -61,15 +67,24 @@ pub enum TestedRunError {
     ReadBeforeWritten,
 }
 
+/// As `a virtual register is read or passed before it is written`.
 impl fmt::Display for TestedRunError {
+    ghost use Rattle.std.specs.Prelude.{Some};
+    ghost use Rattle.regalloc2.specs.ErrorTexts.{tested_run_text};
+
+    ghost output = { λ e. Some (tested_run_text e) };
+
     fn fmt<W: fmt::Write>(&self, f: &mut fmt::Formatter<W>) -> fmt::Result {
         match self {
             TestedRunError::Misfit(misfit) => {
-                write!(f, "the machine doesn't suit the function: {misfit}")
+                write!(f, "the machine doesn't fit the function: {misfit}")
             }
             TestedRunError::Refused(error) => write!(f, "no registers were allocated: {error}"),
             TestedRunError::ReadBeforeWritten => {
-                write!(f, "a virtual register is read before it is written")
+                write!(
+                    f,
+                    "a virtual register is read or passed before it is written"
+                )
             }
         }
     }
@@ -104,7 +119,8 @@ fn error_from<A: Allocator>(error: CheckedRunError<A>) -> AllocateError<A>
 /// [`run`] guarantees.
 ///
 /// An error is the first condition of a fitting machine that fails, the first test of the function that fails, or says that
-/// registers, slots or memory ran out. If no path from the entry reads a vreg before writing it, it is never `Faults`.
+/// registers, slots or memory ran out. If no path from the entry reads or passes a vreg before writing it, it is never
+/// `Faults`.
 ///
 /// The checker takes several times as long as the allocation. [`allocate_without_checker`] does without it.
 pub fn allocate<A: Allocator + Copy, F: Function, B: Allocator>(
@@ -119,6 +135,8 @@ pub fn allocate<A: Allocator + Copy, F: Function, B: Allocator>(
     ensures passes_checks { OnOk result (PassesAllChecks (F.function f.now) (machine_of env.now) true) }
     ensures accepted { IsWrittenFirst (F.function f.now) → IfErr result (λ e. IsAllocateFault e → ⊥) }
     ensures refused { IfErr result (IsAllocateReason (F.function f.now) (machine_of env.now)) }
+    ensures many_operands { MachineFits (F.function f.now) (machine_of env.now) →
+        ((result ≡ Err (AllocateError.Refused RegAllocError.TooManyOperands)) ↔ (2 ^ 32 ≤ operand_count (F.function f.now))) }
 {
     if let Err(misfit) = test_machine(f, env) {
         return Err(AllocateError::Misfit(misfit));
@@ -133,8 +151,8 @@ pub fn allocate<A: Allocator + Copy, F: Function, B: Allocator>(
 /// checker.
 ///
 /// Tests and errors are those of [`allocate`], but never `Faults` or `Unjudged`. The output has all
-/// that [`run`] guarantees: it is faithful if no path from the entry reads a vreg before writing
-/// it.
+/// that [`run`] guarantees: it is faithful if no path from the entry reads or passes a vreg before
+/// writing it.
 pub fn allocate_without_checker<A: Allocator + Copy, F: Function, B: Allocator>(
     alloc: A,
     f: &F,
@@ -145,6 +163,8 @@ pub fn allocate_without_checker<A: Allocator + Copy, F: Function, B: Allocator>(
     ensures tested { OnOk result (IsWellFormed (machine_of env.now) (F.function f.now)) }
     ensures passes_checks { OnOk result (PassesAllChecks (F.function f.now) (machine_of env.now) true) }
     ensures refused { IfErr result (IsTestedReason (F.function f.now) (machine_of env.now)) }
+    ensures many_operands { MachineFits (F.function f.now) (machine_of env.now) →
+        ((result ≡ Err (AllocateError.Refused RegAllocError.TooManyOperands)) ↔ (2 ^ 32 ≤ operand_count (F.function f.now))) }
 {
     if let Err(misfit) = test_machine(f, env) {
         return Err(AllocateError::Misfit(misfit));
@@ -167,7 +187,7 @@ pub fn allocate_without_checker<A: Allocator + Copy, F: Function, B: Allocator>(
 ///
 /// An error is the first condition of a fitting machine that fails, else what `run` says of the
 /// function, else `ReadBeforeWritten`. The checker isn't run: [`allocate`] runs it, and accepts
-/// functions that read before writing where the checker accepts the output.
+/// functions that read or pass before writing where the checker accepts the output.
 ///
 /// Not guaranteed: that `Memory` is returned only where memory ran out.
 pub fn run_tested<A: Allocator + Copy, F: Function, B: Allocator>(
@@ -177,12 +197,15 @@ pub fn run_tested<A: Allocator + Copy, F: Function, B: Allocator>(
 ) -> Result<Output<A>, TestedRunError>
     ensures allocation { IfOk result (λ out. IsAllocation (F.function f.now) (machine_of env.now) (output_of out)) }
     ensures runs { IfOk result (λ out. RunsAsTheFunction (F.function f.now) (machine_of env.now) (output_of out)) }
-    ensures live { IfOk result (λ out. LiveInSlots (F.function f.now) (output_of out)) }
+    ensures live { IfOk result (λ out. (a : IsAllocation (F.function f.now) (machine_of env.now) (output_of out))
+        × LiveInSlots (F.function f.now) (output_of out) a.owners.owner) }
     ensures fitting { OnOk result (MachineFits (F.function f.now) (machine_of env.now)) }
     ensures tested { OnOk result (IsWellFormed (machine_of env.now) (F.function f.now)) }
     ensures passes_checks { OnOk result (PassesAllChecks (F.function f.now) (machine_of env.now) true) }
     ensures written { OnOk result (IsWrittenFirst (F.function f.now)) }
     ensures refused { IfErr result (IsTestedRunReason (F.function f.now) (machine_of env.now)) }
+    ensures many_operands { MachineFits (F.function f.now) (machine_of env.now) →
+        ((result ≡ Err (TestedRunError.Refused RegAllocError.TooManyOperands)) ↔ (2 ^ 32 ≤ operand_count (F.function f.now))) }
 {
     if let Err(misfit) = test_machine(f, env) {
         return Err(TestedRunError::Misfit(misfit));

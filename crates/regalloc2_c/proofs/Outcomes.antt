@@ -46,9 +46,9 @@ allocated_words f env out numbers fitting formed passed allocation faithful same
 
 -- the words of an output that a tested run gave
 pub tested_words : (f : FunctionValue) (env : MachineValue) (out : OutputValue) (numbers : StoredOutput Global) → MachineFits f env →
-    IsWellFormed env f → PassesAllChecks f env true → IsAllocation f env out → RunsAsTheFunction f env out → LiveInSlots f out → IsWrittenFirst f →
-    output_of_stored numbers ≡ out → NamesValues numbers → IsTestedOutput f env (output_words numbers)
-tested_words f env out numbers fitting formed passed allocation runs live written same names = record {
+    IsWellFormed env f → PassesAllChecks f env true → RunsAsTheFunction f env out → (a : IsAllocation f env out) × LiveInSlots f out a.owners.owner →
+    IsWrittenFirst f → output_of_stored numbers ≡ out → NamesValues numbers → IsTestedOutput f env (output_words numbers)
+tested_words f env out numbers fitting formed passed runs (allocation, live) written same names = record {
   out = out;
   output = record { stored = numbers; laid_out = refl; names = (names, sym same) };
   fitting = fitting;

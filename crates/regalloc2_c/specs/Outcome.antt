@@ -145,7 +145,7 @@ pub record IsTestedOutput (f : FunctionValue) (env : MachineValue) (words : List
   pub passes_checks : PassesAllChecks f env true
   pub allocation : IsAllocation f env out
   pub runs : RunsAsTheFunction f env out
-  pub live : LiveInSlots f out
+  pub live : LiveInSlots f out allocation.owners.owner
   pub written : IsWrittenFirst f
 
 -- why nothing is allocated to a function

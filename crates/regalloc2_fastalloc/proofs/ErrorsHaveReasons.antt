@@ -3,12 +3,15 @@ use Rattle.std.proofs.Common.{ℕ, length, inr, sym, ◌⊎◌, ◌≡◌, ◌^�
 use Rattle.std.specs.Prelude.{◌↔◌, IfErr, Result}
 use Rattle.std.proofs.lemmas.List.Elements.{All-get_or}
 use Rattle.regalloc2_names.specs.declared.RegAllocError.{RegAllocError}
-use Rattle.regalloc2_names.specs.declared.RegAllocError.TheVariants.{TooManyLiveRegs, TooManyOperands, TooManySpillSlots, Memory}
-use Rattle.regalloc2_function.specs.FunctionValue.{FunctionValue, inst_at, no_operand, operand_count}
+use Rattle.regalloc2_names.specs.declared.RegAllocError.TheVariants.{SSA, TooManyLiveRegs, TooManyOperands, TooManySpillSlots, Memory}
+use Rattle.regalloc2_function.specs.FunctionValue.{FunctionValue, inst_at, no_inst, no_operand, operand_count}
 use Rattle.regalloc2_function.specs.Machine.{MachineValue}
+use Rattle.regalloc2_function.specs.WellFormed.{FixedAvoidClobbers, IsWellFormed, ReusesAreSound}
 use Rattle.regalloc2_function.specs.Reasons.{HasShape, IsShapeFault, IsSound, IsSoundnessFault}
 use Rattle.regalloc2_function.specs.Reasons.IsShapeFault.{apart, critical, operands, outside, unlisted}
 use Rattle.regalloc2_function.specs.Reasons.IsSoundnessFault.{arguments, definitions, elsewhere, livein, open_end}
+use Rattle.regalloc2_function.proofs.ErrorOnlyOutOfMemory.{shape_refused}
+use Rattle.regalloc2_function.proofs.TableDecidesSSA.{only_memory}
 use Rattle.regalloc2_fastalloc_state.specs.Validate.Constraints.{AreUnlimited, IsFixedFault}
 use Rattle.regalloc2_fastalloc_state.specs.Validate.NoLimits.{IsTakenOperand}
 use Rattle.regalloc2_fastalloc_walk.specs.Findings.{AllPassTests}
@@ -17,25 +20,56 @@ use Rattle.regalloc2_fastalloc.specs.ErrorReason.{HasFewOperands, IsValidIfCheck
 use Rattle.regalloc2_fastalloc_state.specs.Validate.Validated.{IsFunctionFault}
 use Rattle.regalloc2_fastalloc_state.specs.Validate.Validated.IsFunctionFault.{memory, misshapen, unsound, clashing}
 
+-- a well-formed function passes the tests of blocks and edges
+shape_of : (f : FunctionValue) (env : MachineValue) → IsWellFormed env f → HasShape f
+shape_of f env w = record {
+  successors = w.successors;
+  follow = w.follow;
+  predecessors = w.predecessors;
+  no_critical_edge = w.no_critical_edge;
+  no_operands_into_joins = w.no_operands_into_joins;
+}
+
+-- those of the entry, terminators, arguments, definitions and uses
+no_soundness_fault : (f : FunctionValue) (env : MachineValue) {e : RegAllocError} → IsWellFormed env f → IsSoundnessFault f e → ⊥
+no_soundness_fault f env w (elsewhere h) = h w.entry.0
+no_soundness_fault f env w (livein z h) = h w.entry.1
+no_soundness_fault f env w (open_end b entry h) = h.1 (w.end b h.0)
+no_soundness_fault f env w (arguments b entry end h) = h.1 (w.classes b h.0)
+no_soundness_fault f env w (definitions v i entry end fit h) =
+    let e : SSA v i ≡ Memory = only_memory f w.follow (omega (arith, w.successors.0)) w.defined_once w.uses_defined (SSA v i) h in absurd cc
+
+-- and those of reuses and fixed registers
+no_fixed_fault : (f : FunctionValue) (env : MachineValue) {e : RegAllocError} → IsWellFormed env f → IsFixedFault f env e → ⊥
+no_fixed_fault f env w (i, is, inl first) = first.fails (All-get_or (ReusesAreSound env) f.insts i no_inst first.there w.reuses)
+no_fixed_fault f env w (i, is, inr (sound, first)) = first.fails (All-get_or FixedAvoidClobbers f.insts i no_inst first.there w.fixed)
+
 shape_reason : (f : FunctionValue) (env : MachineValue) (asked : Bool) {e : RegAllocError} → HasFewOperands f → asked ≡ true → IsShapeFault f e →
     IsReason f env asked e
-shape_reason f env asked p on (outside s h) = (p, on, misshapen (outside s h))
-shape_reason f env asked p on (apart b blocks h) = (p, on, misshapen (apart b blocks h))
-shape_reason f env asked p on (unlisted b blocks follow h) = (p, on, misshapen (unlisted b blocks follow h))
-shape_reason f env asked p on (critical b q blocks follow agree h fork) = (p, on, misshapen (critical b q blocks follow agree h fork))
-shape_reason f env asked p on (operands b blocks follow agree edges h) = (p, on, misshapen (operands b blocks follow agree edges h))
+shape_reason f env asked p on h = shape_cases h (λ w. shape_refused f (shape_of f env w) h)
+  where
+    shape_cases : {e : RegAllocError} → IsShapeFault f e → (IsWellFormed env f → ⊥) → IsReason f env asked e
+    shape_cases (outside s h) malformed = (p, on, malformed, misshapen (outside s h))
+    shape_cases (apart b blocks h) malformed = (p, on, malformed, misshapen (apart b blocks h))
+    shape_cases (unlisted b blocks follow h) malformed = (p, on, malformed, misshapen (unlisted b blocks follow h))
+    shape_cases (critical b q blocks follow agree h fork) malformed = (p, on, malformed, misshapen (critical b q blocks follow agree h fork))
+    shape_cases (operands b blocks follow agree edges h) malformed = (p, on, malformed, misshapen (operands b blocks follow agree edges h))
 
 soundness_reason : (f : FunctionValue) (env : MachineValue) (asked : Bool) {e : RegAllocError} → HasFewOperands f → asked ≡ true → HasShape f →
     IsSoundnessFault f e → IsReason f env asked e
-soundness_reason f env asked p on shape (elsewhere ne) = (p, on, unsound shape (elsewhere ne))
-soundness_reason f env asked p on shape (livein z ne) = (p, on, unsound shape (livein z ne))
-soundness_reason f env asked p on shape (open_end b entry h) = (p, on, unsound shape (open_end b entry h))
-soundness_reason f env asked p on shape (arguments b entry end h) = (p, on, unsound shape (arguments b entry end h))
-soundness_reason f env asked p on shape (definitions v i entry end fit h) = (p, on, unsound shape (definitions v i entry end fit h))
+soundness_reason f env asked p on shape h = soundness_cases h (λ w. no_soundness_fault f env w h)
+  where
+    soundness_cases : {e : RegAllocError} → IsSoundnessFault f e → (IsWellFormed env f → ⊥) → IsReason f env asked e
+    soundness_cases (elsewhere ne) malformed = (p, on, malformed, unsound shape (elsewhere ne))
+    soundness_cases (livein z ne) malformed = (p, on, malformed, unsound shape (livein z ne))
+    soundness_cases (open_end b entry h) malformed = (p, on, malformed, unsound shape (open_end b entry h))
+    soundness_cases (arguments b entry end h) malformed = (p, on, malformed, unsound shape (arguments b entry end h))
+    soundness_cases (definitions v i entry end fit h) malformed = (p, on, malformed, unsound shape (definitions v i entry end fit h))
 
 fixed_reason : (f : FunctionValue) (env : MachineValue) (asked : Bool) (e : RegAllocError) → HasFewOperands f → asked ≡ true → HasShape f → IsSound f →
     IsFixedFault f env e → IsReason f env asked e
-fixed_reason f env asked e p on shape sound h = rw h.1 (inl (p, on, clashing shape sound (h.0, refl, h.2)))
+fixed_reason f env asked e p on shape sound h =
+    rw h.1 (inl (p, on, λ w. no_fixed_fault f env w h, clashing shape sound (h.0, refl, h.2)))
 
 -- an error is a reason, where its test is required
 pub fault_is_reason : (f : FunctionValue) (env : MachineValue) (asked : Bool) {e : RegAllocError} → HasFewOperands f → asked ≡ true → IsFunctionFault f env e →

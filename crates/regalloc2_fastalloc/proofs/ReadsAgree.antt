@@ -30,6 +30,8 @@ use Rattle.regalloc2_fastalloc_proofs.specs.Debug.ShownPlace.{shown_place}
 use Rattle.regalloc2_fastalloc_proofs.proofs.Debug.DebugLocationsHoldValues.{label_shown}
 use Rattle.regalloc2_fastalloc.specs.Promise.{LiveInSlots, ArrivesAt, defined, given, in_slot}
 use Rattle.regalloc2_fastalloc_proofs.specs.InstSteps.{StateValue}
+use Rattle.regalloc2_fastalloc_proofs.proofs.Slots.ApartSlotsAreOwned.{OwnsSlots}
+use Rattle.regalloc2_fastalloc_proofs.proofs.Walk.DefsBeforeUses.{used_made}
 use Rattle.regalloc2_fastalloc_proofs.specs.BlockSteps.{AllocsBlocks}
 use Rattle.regalloc2_fastalloc_proofs.proofs.Moves.ScratchRegTaken.{Fit}
 use Rattle.regalloc2_fastalloc_proofs.proofs.Walk.InstsCarry.{AreListed, Blank}
@@ -119,11 +121,15 @@ module _ (walk : WholeWalk) (taken : AreTaken walk.f) (in_place : (i : ℕ) → 
       (live_is_used env f ok written ws path entered v live)
 
   -- all as `run` guarantees it
-  pub made_in_slots : SlotsHaveOneOwner last.slots → ((i : ℕ) → i < length f.insts → IsTame (Made f) (inst_at f i).operands) → IsWrittenFirst f
-      → LiveInSlots f out
-  made_in_slots owned tame written = record {
+  pub made_in_slots : (owns : OwnsSlots (Made f) f last.slots out) → SlotsHaveOneOwner last.slots →
+      ((i : ℕ) → i < length f.insts → IsTame (Made f) (inst_at f i).operands) → IsWrittenFirst f → LiveInSlots f out owns.owned.owner
+  made_in_slots owns owned tame written = record {
     slot = λ v. number_of (slot_in last v.number);
     operands = λ v n h. ap number_of (owner_known f env (Made f) (MayInBlocks f) last out m owned tame v n h).1;
+    owned = λ ws path entered v live.
+        let used = live_is_used env f ok written ws path entered v live in
+        owns.vregs v (number_of (slot_in last v.number)) (used_made f ok.defined_once ok.follow ok.uses_defined v used.block used.within used.used)
+        (is_numbered last.slots.count (slot_in last v.number) (whole.below v.number) (made_live_slots written ws path entered v live));
     live = λ ws path entered v live p arrives_at. by_arrival ws path entered v live p arrives_at;
   }
     where

@@ -29,9 +29,9 @@ pub record PassesAllChecks (f : FunctionValue) (env : MachineValue) (asked : Boo
   pub unlimited : (i : ℕ) → i < length f.insts → AreUnlimited (inst_at f i)
   pub branches : (i : ℕ) → i < length f.insts → BranchDefinesInPlace (inst_at f i)
 
--- the function isn't well-formed, if that is tested
+-- that is tested, and the function isn't well-formed: the first test that fails, and where it fails first
 abbrev pub FailsValidation : FunctionValue → MachineValue → Bool → RegAllocError → Type 0
-FailsValidation f env asked e = HasFewOperands f × (asked ≡ true) × IsFunctionFault f env e
+FailsValidation f env asked e = HasFewOperands f × (asked ≡ true) × (IsWellFormed env f → ⊥) × IsFunctionFault f env e
 
 -- an instruction has too few registers
 abbrev pub SomeDoesNotFit : FunctionValue → MachineValue → Type 0
@@ -53,7 +53,8 @@ IsRefusal f e = (i : ℕ) × (e ≡ Unsupported i) × IsUnsupported f i
 abbrev pub LacksIfPassed : FunctionValue → MachineValue → RegAllocError → Type 0
 LacksIfPassed f env e = AllPassTests f → Lacks (SomeDoesNotFit f env) (2 ^ 24 < units_at_most f) e
 
--- The reason that an error gives. Not guaranteed: that `Memory` is returned only if memory ran out (it says which tests pass); nor that
+-- The reason that an error gives. A well-formed function is refused only for too many operands, an operand or a branch that the allocator rejects, a lack
+-- of registers or slots, or of memory. Not guaranteed: that `Memory` is returned only if memory ran out (it says which tests pass); nor that
 -- `TooManyLiveRegs` is returned wherever an instruction doesn't fit.
 abbrev pub IsReason : FunctionValue → MachineValue → Bool → RegAllocError → Type 0
 IsReason f env asked (CritEdge p b) = FailsValidation f env asked (CritEdge p b)

@@ -56,11 +56,13 @@ pub data ArrivesAt (f : FunctionValue) (out : OutputValue) (slot : VirtualRegist
       ((e k n j : ℕ) → IsEdgeInto f b e k → n < length (block_at f b).params → slice_index_or (block_at f b).params n no_vreg ≡ v →
       DefinesNumber (last_operands f e) (argument_for f e k n).number j → ⊥) → ArrivesAt f out slot b v (InSlot (slot v))
 
--- Between blocks values are on the stack, but for what the branch between them defines: each vreg has one slot, and on every path, where it comes to a
--- block, the place of each that is live there holds its value, also those of the block's parameters.
-pub record LiveInSlots (f : FunctionValue) (out : OutputValue) : Type 0 where
+-- Between blocks values are on the stack, but for what the branch between them defines: each vreg has one slot, which is that of its operands in slots;
+-- and on every path, where it comes to a block, each vreg that is live there owns its slot, and its place holds its value, also those of the block's
+-- parameters.
+pub record LiveInSlots (f : FunctionValue) (out : OutputValue) (owner : ℕ → Owner) : Type 0 where
   pub slot : VirtualRegister → ℕ
   pub operands : (v : VirtualRegister) (n : ℕ) → StandsInSlot f out v n → slot v ≡ n
+  pub owned : (ws : List Way) → IsPath f ws → HasEntered f ws → (v : VirtualRegister) → IsLive f v (end_of f ws) → owner (slot v) ≡ OfVReg v
   pub live : (ws : List Way) → IsPath f ws → HasEntered f ws → (v : VirtualRegister) → IsLive f v (end_of f ws) → (p : Place) →
       ArrivesAt f out slot (end_of f ws).block v p → HoldsValueAt f out ws p v
 
@@ -90,8 +92,8 @@ abbrev pub IsPlaceOf : FunctionValue → OutputValue → (ℕ → Owner) → Vir
 IsPlaceOf f out owner v p = IsPlaceOfOperand f out v p ⊎ ((n : ℕ) × (p ≡ InSlot n) × (owner n ≡ OfVReg v))
 
 -- The debug locations are those of the labels that are kept, each from its vreg's first point to its last one, by rising label, and as listed where
--- labels are equal. Each place is valid, and one of that vreg; and if no path from the entry reads a vreg before writing it, it holds that vreg's
--- value.
+-- labels are equal. Each place is valid, and one of that vreg; and if no path from the entry reads or passes a vreg before writing it, it holds that
+-- vreg's value.
 abbrev pub ShowsLabels : FunctionValue → MachineValue → OutputValue → (ℕ → Owner) → Type 0
 ShowsLabels f env out owner = AreDebugLocations f (λ l d. IsProperPlace env out l.vreg.class d.place × IsPlaceOf f out owner l.vreg d.place
     × (IsWrittenFirst f → ShowsValue f out l.vreg d.place)) out
@@ -112,18 +114,19 @@ pub record HasRegistersForAll (f : FunctionValue) (env : MachineValue) : Type 0 
   pub enough : (class : RegClass) (vs : List VirtualRegister) → IsDistinct have_same_number vs → All (λ v. (v.class ≡ class) × IsNamed f v) vs →
       length vs ≤ allocatable_count env class
 
--- The whole guarantee about an output. Only `faithful`, `live` and the last part of `labels` have a premise: that no path from the entry reads a vreg
--- before writing it.
+-- The whole guarantee about an output. Only `faithful`, `live` and the last part of `labels` have a premise: that no path from the entry reads or
+-- passes a vreg before writing it.
 --     in_order            offsets and moves are well-ordered, and no move names a missing place
 --     constraints         each operand's place meets its constraint, whether a path reaches it or not
---     proper              each operand's place, and each end of a move, is one of the machine's or a slot below the count
+--     proper              each operand's place, and each end of a move, is one of the machine's or a slot below the count; an operand that names a register
+--                         and no vreg is in that register, which may be none of the machine's
 --     no_stack_to_stack   no move is stack-to-stack
 --     listed              each move is listed, none after the last instruction of a block
 --     faithful            the output runs as the function does
---     live                values that are live between blocks are in their slots, or where the branch between them defined them
+--     owners              each slot that is named has one owner, a vreg or a branch, and units of its own, of its owner's class
+--     live                values that are live between blocks are in the slots that their vregs own, or where the branch between them defined them
 --     slots               slots take few units
 --     unspilled           where each vreg can have a register of its own, there are no moves and no slots
---     owners              each slot that is named has one owner, a vreg or a branch, and units of its own, of its owner's class
 --     branch_slots        a branch owns two slots for a class at most, and only moves at the point before it name them
 --     labels              debug locations are those of the labels that are kept, and name places of their vregs, which hold their values
 pub record IsAllocation (f : FunctionValue) (env : MachineValue) (out : OutputValue) : Type 0 where
@@ -133,9 +136,9 @@ pub record IsAllocation (f : FunctionValue) (env : MachineValue) (out : OutputVa
   pub no_stack_to_stack : HasNoStackToStack env out
   pub listed : EditsAreListed f out
   pub faithful : IsWrittenFirst f → RunsAsTheFunction f env out
-  pub live : IsWrittenFirst f → LiveInSlots f out
+  pub owners : AreSlotsOwned f out
+  pub live : IsWrittenFirst f → LiveInSlots f out owners.owner
   pub slots : SlotsAreBounded f out
   pub unspilled : HasRegistersForAll f env → (out.edits ≡ []) × (out.num_spillslots ≡ 0)
-  pub owners : AreSlotsOwned f out
   pub branch_slots : BranchSlotsServe f out owners.owner
   pub labels : ShowsLabels f env out owners.owner

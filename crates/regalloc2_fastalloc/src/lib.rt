@@ -93,7 +93,8 @@ impl<A: Allocator + Copy> Ctx<A> {
 /// the function is well-formed; else that is tested.
 ///
 /// The output is well-ordered. Each operand's place is valid and meets its constraint, also in
-/// instructions that no path reaches. Each end of a move is valid, and no move is stack-to-stack.
+/// instructions that no path reaches; an operand that names a register and no vreg is in that
+/// register, valid or not. Each end of a move is valid, and no move is stack-to-stack.
 /// Each move is listed, none after the last instruction of a block. Each slot that the output names
 /// is owned by one vreg, and is the place of its operands that are in slots, or by one branch. A
 /// branch owns at most two slots for each class, and only moves at the point before the branch name
@@ -104,11 +105,11 @@ impl<A: Allocator + Copy> Ctx<A> {
 /// it owns. One record contains all that is guaranteed of an output: `IsAllocation`, in
 /// `specs/Promise.antt`.
 ///
-/// If no path from the entry reads a vreg before writing it, the output runs as the function does:
-/// along every path, and whatever the instructions compute, each use reads the function's own
-/// value. Where a path comes to a block, the slot of each vreg that is live there holds its value;
-/// but what the branch into the block defines is still in the place of the branch's operand, and so
-/// is each parameter that is given it. The place of each debug location holds its vreg's value,
+/// If no path from the entry reads or passes a vreg before writing it, the output runs as the
+/// function does: along every path, and whatever the instructions compute, each use reads the
+/// function's own value. Where a path comes to a block, each vreg that is live there owns a slot,
+/// which holds its value; but what the branch into the block defines is still in the place of the
+/// branch's operand, and so is each parameter that is given it. The place of each debug location holds its vreg's value,
 /// from where that is given up to each step that uses it, at all steps but branches. This premise
 /// isn't tested here.
 ///
@@ -130,7 +131,8 @@ impl<A: Allocator + Copy> Ctx<A> {
 ///   passes 2^24, which is twice the size of the greatest slot, for each vreg and six times for
 ///   each block. Slots take no more units than that, and at most 2^24.
 ///
-/// `Memory` is returned if memory runs out.
+/// `Memory` is returned if memory runs out. A well-formed function gets none of the errors of the
+/// second point.
 ///
 /// The contract doesn't guarantee `TooManyLiveRegs` wherever an instruction doesn't fit, nor that
 /// `Memory` is returned only if memory ran out; of `Memory` it says that the first test passes.

@@ -1,5 +1,6 @@
 use Rattle.regalloc2_function.specs.Views.{machine_of, output_of}
 use Rattle.regalloc2.proofs.CheckerErrorReasons.{no_fault, reason}
+use Rattle.regalloc2.proofs.CountedOperands.{few_counted, found_counted, refused_counted}
 use Rattle.regalloc2.proofs.checked.run_checked.Goals as goal
 
 pub run-requires-clause-machine : goal.run-requires-clause-machine
@@ -9,7 +10,7 @@ pub run-requires-clause-well_formed : goal.run-requires-clause-well_formed
 run-requires-clause-well_formed g c = c.requires.well_formed
 
 pub returns-in-Err : goal.returns-in-Err
-returns-in-Err g c = record { allocation = tt; faithful = tt; tested = tt; passes_checks = tt; accepted = λ _ fault. fault; refused = c.in-Err.ensures.refused }
+returns-in-Err g c = record { allocation = tt; faithful = tt; tested = tt; passes_checks = tt; accepted = λ _ fault. fault; refused = c.in-Err.ensures.refused; many_operands = refused_counted c.in-Err.error c.in-Err.ensures.many_operands }
 
 pub judge-requires-clause-framed : goal.judge-requires-clause-framed
 judge-requires-clause-framed g c =
@@ -27,6 +28,7 @@ returns-in-Ok-judge g c = record {
   passes_checks = c.in-Ok.ensures.passes_checks;
   accepted = λ _. tt;
   refused = tt;
+  many_operands = few_counted (g.F.Function.function c.args.f.now) c.in-Ok.ensures.passes_checks.first (λ e. absurd cc);
 }
 
 pub returns-in-Err-judge-clause-faithful : goal.returns-in-Err-judge-clause-faithful
@@ -41,3 +43,8 @@ pub returns-in-Err-judge-clause-refused : goal.returns-in-Err-judge-clause-refus
 returns-in-Err-judge-clause-refused g c =
     reason (g.F.Function.function c.args.f.now) (machine_of c.args.env.now) c.args.options.now.validate_ssa (output_of c.in-Ok.out)
     c.in-Err-judge.error c.in-Ok.ensures.allocation c.in-Ok.ensures.passes_checks c.in-Err-judge.ensures.err
+
+pub returns-in-Err-judge-clause-many_operands : goal.returns-in-Err-judge-clause-many_operands
+returns-in-Err-judge-clause-many_operands g c =
+    found_counted (g.F.Function.function c.args.f.now) (machine_of c.args.env.now) (output_of c.in-Ok.out) c.in-Err-judge.error
+    c.in-Ok.ensures.passes_checks.first c.in-Err-judge.ensures.err

@@ -252,7 +252,7 @@ made g c =
       kept = walked g c;
     }
 
--- where no path reads before writing, the output is faithful
+-- where no path reads or passes a vreg before writing it, the output is faithful
 faithful_is : (g : Over) (c : goal.After-reads_the_same_numbers g) → IsWrittenFirst (g.F.Function.function c.args.f.now) →
     IsFaithful (g.F.Function.function c.args.f.now) (machine_of c.args.env.now) (out_of g c)
 faithful_is g c = λ written.
@@ -262,14 +262,6 @@ faithful_is g c = λ written.
     faithful f env (out_of g c) (made_constraints f env (Made f) (MayInBlocks f) (left g c) (out_of g c) m)
     (made_in_registers f env (Made f) (MayInBlocks f) (left g c) (out_of g c) m)
     (made_blocks_agree (whole_is g c) (taken_is g c) (branches_are g c) (safe_is g c) m written)
-
-live_is : (g : Over) (c : goal.After-reads_the_same_numbers g) → IsWrittenFirst (g.F.Function.function c.args.f.now) →
-    LiveInSlots (g.F.Function.function c.args.f.now) (out_of g c)
-live_is g c =
-    let f : FunctionValue = g.F.Function.function c.args.f.now in
-    let env : MachineValue = machine_of c.args.env.now in
-    made_in_slots (whole_is g c) (taken_is g c) (branches_are g c) (safe_is g c) (made g c)
-    c.num_units-num_spillslots.ensures.owned (tame_at env f (g.met.F.Function.limited c.args.f.now) c.requires.well_formed (taken_is g c))
 
 -- each slot has its owner
 slots_owned_are : (g : Over) (c : goal.After-reads_the_same_numbers g) →
@@ -287,6 +279,15 @@ slots_owned_are g c =
     made_slots_owned f env (Made f) (MayInBlocks f) last (out_of g c) (made g c) c.num_units-num_spillslots.ensures.owned
     (tame_at env f limited c.requires.well_formed (taken_is g c)) f.named_by_last_slot (BranchesFrom f 0) classed
     (sizes_agree f last.slots (sizes_kept f begin last n f.named_by_last_slot _ e.slots c.alloc_blocks.ensures.machine)) refl (λ i class m. (m.1, m.2))
+
+-- values that are live between blocks are in slots of their vregs
+live_is : (g : Over) (c : goal.After-reads_the_same_numbers g) → IsWrittenFirst (g.F.Function.function c.args.f.now) →
+    LiveInSlots (g.F.Function.function c.args.f.now) (out_of g c) (slots_owned_are g c).owned.owner
+live_is g c =
+    let f : FunctionValue = g.F.Function.function c.args.f.now in
+    let env : MachineValue = machine_of c.args.env.now in
+    made_in_slots (whole_is g c) (taken_is g c) (branches_are g c) (safe_is g c) (made g c) (slots_owned_are g c)
+    c.num_units-num_spillslots.ensures.owned (tame_at env f (g.met.F.Function.limited c.args.f.now) c.requires.well_formed (taken_is g c))
 
 -- and debug locations name places of their vregs, which hold their values
 labels_are : (g : Over) (c : goal.After-reads_the_same_numbers g) → ShowsLabels (g.F.Function.function c.args.f.now) (machine_of c.args.env.now) (out_of g c)
