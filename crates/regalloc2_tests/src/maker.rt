@@ -138,14 +138,42 @@ impl Maker {
         f.op(Block(0), &defs).ok()
     }
 
+    /// Names a parameter of a block.
+    fn name_parameter(&mut self, graph: &mut Graph, block: usize) -> Option<()> {
+        let class = any_class(&mut self.random);
+        let param = self.fresh(class);
+        graph.nodes.get_mut(block)?.params.push(param).ok()
+    }
+
     /// Names up to three parameters of each block but the entry.
-    fn name_parameters(&mut self, graph: &mut Graph) -> Option<()> {
+    fn name_few_parameters(&mut self, graph: &mut Graph) -> Option<()> {
         for number in 3..3 * graph.nodes.len().min(100) {
             if self.random.once_in(2) {
-                let class = any_class(&mut self.random);
-                let param = self.fresh(class);
-                graph.nodes.get_mut(number / 3)?.params.push(param).ok()?;
+                self.name_parameter(graph, number / 3)?;
             }
+        }
+        Some(())
+    }
+
+    /// Names 9 to 20 parameters more of a block that isn't the entry, if there is one. Their arguments repeat, since
+    /// few vregs may be read.
+    fn name_many_parameters(&mut self, graph: &mut Graph) -> Option<()> {
+        let blocks = graph.nodes.len().saturating_sub(1);
+        if blocks == 0 {
+            return Some(());
+        }
+        let block = self.random.below(blocks).saturating_add(1);
+        for _ in 0..self.random.below(12).saturating_add(9) {
+            self.name_parameter(graph, block)?;
+        }
+        Some(())
+    }
+
+    /// Names the parameters: few of each block, and in one function of four many of one block.
+    fn name_parameters(&mut self, graph: &mut Graph) -> Option<()> {
+        self.name_few_parameters(graph)?;
+        if self.random.once_in(4) {
+            self.name_many_parameters(graph)?;
         }
         Some(())
     }
