@@ -1,4 +1,4 @@
-//! A path on which a vreg is read before it is written.
+//! A path on which a vreg is read, or passed as an argument, before it is written.
 
 use crate::explain::cause::Site;
 use crate::explain::edges::{Along, edges_into};
@@ -9,7 +9,7 @@ use std::alloc::{AllocError, Global};
 use std::collections::BTreeSet;
 use std::fmt;
 
-/// A read of a vreg that precedes each write on a path from the entry.
+/// A read of a vreg, or an argument that passes it, before each write on a path from the entry.
 #[derive(Drop)]
 pub struct UnwrittenRead {
     /// The vreg.
@@ -20,12 +20,16 @@ pub struct UnwrittenRead {
     pub path: Vec<u32>,
 }
 
-/// As `v7i is read before it is written along block0, block2`.
+/// As `v7i is read before it is written along block0, block2`; `passed` for an argument.
 impl fmt::Display for UnwrittenRead {
     fn fmt<W: fmt::Write>(&self, f: &mut fmt::Formatter<W>) -> fmt::Result {
         let vreg = VRegText(self.vreg);
+        let verb = match self.site {
+            Site::Operand(..) => "read",
+            _ => "passed",
+        };
         let path = Along(self.path.as_slice());
-        write!(f, "{vreg} is read before it is written{path}")
+        write!(f, "{vreg} is {verb} before it is written{path}")
     }
 }
 
@@ -222,8 +226,8 @@ impl Search {
     }
 }
 
-/// A read that precedes each write on a path from the entry, with a shortest such path. Nothing if
-/// there is no such read.
+/// A read or an argument before each write on a path from the entry, with a shortest such path.
+/// Nothing if there is none.
 ///
 /// Each pair of a block and a vreg that it needs at its beginning is handled once for each edge
 /// into the block. An error means out of memory.
