@@ -660,6 +660,15 @@ def two_ends(n):
     return graph([[j for j in (i + 1, i - 1) if 0 <= j < k] for i in range(k)], [0, k - 1])
 
 
+def two_switches(n):
+    """A chain of n/5 blocks, whose last block may go to each of n/15 blocks, as the entry may. None of these is below
+    the chain in the dominator tree, though a depth-first search first comes to them by it.
+    """
+    k, m = max(1, n // 5), max(2, n // 15)
+    ends = [k + j for j in range(m)]
+    return graph([[i + 1] for i in range(k - 1)] + [ends] + [[]] * m, [0] + ends)
+
+
 def branch_defs(n, w=8):
     """A chain of n/2 blocks, each of which uses one of its parameters. Its branch defines eight integers under
     `Any`, and passes them to the next block's eight parameters.
@@ -726,6 +735,7 @@ SHAPES = {
     "traps": lambda n, _: traps(n),
     "rungs": lambda n, _: rungs(n),
     "two-ends": lambda n, _: two_ends(n),
+    "two-switches": lambda n, _: two_switches(n),
 }
 
 if __name__ == "__main__":
