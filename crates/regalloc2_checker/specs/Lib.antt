@@ -26,7 +26,9 @@ pub mod NamedSlots
 pub mod FramedIsProp
 pub mod Prepared
 pub mod ErrorsFound
+pub mod ErrorsText
 pub mod Beginning
 pub mod CellRegisters
 pub mod Cells
 pub mod CellFaults
+pub mod CellText

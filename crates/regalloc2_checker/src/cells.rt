@@ -61,8 +61,26 @@ impl From<AllocError> for CellFault {
 }
 
 impl CellFault {
+    ghost use Rattle.std.specs.Prelude.{◌≡◌};
+    ghost use Rattle.regalloc2_checker.specs.CellText.{cell_code, cell_words};
+
+    /// The number of its kind.
+    fn code(self) -> u32
+        ensures { result ≡ cell_code self }
+    {
+        match self {
+            CellFault::Operand(..) | CellFault::MoveEnd(_) | CellFault::Location(_) => 14,
+            CellFault::OtherClass(_) => 15,
+            CellFault::Slot(_) => 16,
+            CellFault::Shared(..) => 17,
+            CellFault::Memory => 13,
+        }
+    }
+
     /// What is wrong, in words.
-    fn words(self) -> &'static str {
+    fn words(self) -> &'static str
+        ensures { result.now ≡ cell_words self }
+    {
         match self {
             CellFault::Operand(..) => "no register for its class, and no slot of the frame",
             CellFault::MoveEnd(_) => "an end is no place of the machine, and no slot of the frame",
@@ -75,35 +93,38 @@ impl CellFault {
     }
 }
 
-/// The second number that a fault has, as ` operand 1`; nothing if it has one alone.
+/// The operand, move, debug location or slots at fault, as ` inst3 operand 1`; nothing where memory ran out.
 #[derive(Clone, Copy)]
-struct SecondText(CellFault);
+struct SubjectText(CellFault);
 
-impl fmt::Display for SecondText {
+impl fmt::Display for SubjectText {
+    ghost use Rattle.std.specs.Prelude.{Some};
+    ghost use Rattle.regalloc2_checker.specs.CellText.{cell_subject};
+
+    ghost output = { λ t. Some (cell_subject t.0) };
+
     fn fmt<W: fmt::Write>(&self, f: &mut fmt::Formatter<W>) -> fmt::Result {
-        let (what, number) = match self.0 {
-            CellFault::Operand(_, operand) => (" operand ", operand),
-            CellFault::Shared(_, other) => (" stack", other),
-            _ => return Ok(()),
-        };
-        write!(f, "{what}{number}")
+        match self.0 {
+            CellFault::Operand(Inst(inst), operand) => write!(f, " inst{inst} operand {operand}"),
+            CellFault::MoveEnd(index) | CellFault::OtherClass(index) => write!(f, " move {index}"),
+            CellFault::Location(index) => write!(f, " debug {index}"),
+            CellFault::Slot(slot) => write!(f, " stack{slot}"),
+            CellFault::Shared(slot, other) => write!(f, " stack{slot} stack{other}"),
+            CellFault::Memory => write!(f, ""),
+        }
     }
 }
 
-/// Says what is wrong, as `error 16 stack5: it isn't within the frame`.
+/// Writes what is wrong, as `error 16 stack5: it isn't within the frame`.
 impl fmt::Display for CellFault {
+    ghost use Rattle.std.specs.Prelude.{Some};
+    ghost use Rattle.regalloc2_checker.specs.CellText.{cell_text};
+
+    ghost output = { λ e. Some (cell_text e) };
+
     fn fmt<W: fmt::Write>(&self, f: &mut fmt::Formatter<W>) -> fmt::Result {
-        let (code, what, number) = match *self {
-            CellFault::Operand(inst, _) => (14, "inst", inst.index()),
-            CellFault::MoveEnd(index) => (14, "move ", index),
-            CellFault::Location(index) => (14, "debug ", index),
-            CellFault::OtherClass(index) => (15, "move ", index),
-            CellFault::Slot(slot) => (16, "stack", slot),
-            CellFault::Shared(slot, _) => (17, "stack", slot),
-            CellFault::Memory => return f.write_str("error 13: out of memory"),
-        };
-        let (second, words) = (SecondText(*self), self.words());
-        write!(f, "error {code} {what}{number}{second}: {words}")
+        let (code, subject, words) = (self.code(), SubjectText(*self), self.words());
+        write!(f, "error {code}{subject}: {words}")
     }
 }
 

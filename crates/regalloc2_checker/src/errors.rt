@@ -148,17 +148,38 @@ impl<A: Allocator> CheckerErrors<A> {
     }
 }
 
-/// The first error, and how many more there are.
-impl<A: Allocator> fmt::Display for CheckerErrors<A> {
+/// The number of errors after the first, as `, and 2 more faults`; nothing if it is 0.
+#[derive(Clone, Copy)]
+struct MoreText(usize);
+
+impl fmt::Display for MoreText {
+    ghost use Rattle.std.specs.Prelude.{Some};
+    ghost use Rattle.regalloc2_checker.specs.ErrorsText.{more_text};
+
+    ghost output = { λ t. Some (more_text t.0) };
+
     fn fmt<W: fmt::Write>(&self, f: &mut fmt::Formatter<W>) -> fmt::Result {
-        let Some((first, rest)) = self.errors().split_first() else {
-            return Ok(());
-        };
-        write!(f, "{first}")?;
-        match rest.len() {
-            0 => Ok(()),
+        match self.0 {
+            0 => write!(f, ""),
             1 => write!(f, ", and 1 more fault"),
             more => write!(f, ", and {more} more faults"),
         }
+    }
+}
+
+/// Writes the first error, and how many more there are.
+impl<A: Allocator> fmt::Display for CheckerErrors<A> {
+    ghost use Rattle.std.specs.Prelude.{Some};
+    ghost use Rattle.regalloc2_checker.specs.ErrorsFound.{errors_of};
+    ghost use Rattle.regalloc2_checker.specs.ErrorsText.{errors_text};
+
+    ghost output = { λ es. Some (errors_text (errors_of es)) };
+
+    fn fmt<W: fmt::Write>(&self, f: &mut fmt::Formatter<W>) -> fmt::Result {
+        let Some((first, rest)) = self.errors().split_first() else {
+            return write!(f, "");
+        };
+        let more = MoreText(rest.len());
+        write!(f, "{first}{more}")
     }
 }
