@@ -1,8 +1,9 @@
 -- Why a function or a module is rejected.
-use Rattle.std.specs.Prelude.{ℕ, ◌≡◌, codes, List, Option, None, Some, slice_get}
+use Rattle.std.specs.Prelude.{ℕ, ◌≡◌, codes, List, Some, slice_get}
 use Rattle.regalloc2_function.specs.FunctionValue.{FunctionValue}
 use Rattle.regalloc2_function.specs.Machine.{MachineValue}
 use Rattle.regalloc2.specs.Allocated.{IsTestedRunReason}
+use Rattle.regalloc2.specs.ErrorTexts.{tested_run_text}
 use Rattle.codegen_machine.specs.Seen.{function_of_procedure}
 use Rattle.codegen_machine.specs.declared.module.NamedProcedure.{NamedProcedure}
 use Rattle.codegen.specs.Target.{IsTarget}
@@ -19,7 +20,7 @@ abbrev pub IsModuleReason : List NamedProcedure → CompileError → Type 0
 IsModuleReason ps (Refused e) = (g : ℕ) × (p : NamedProcedure) × (slice_get ps g ≡ Some p) × IsCompileReason (function_of_procedure p.procedure) (Refused e)
 IsModuleReason ps Memory = Unit {0}
 
--- the text of the reason; no clause specifies the text of the allocator's errors
-abbrev pub compile_error_text : CompileError → Option (List ℕ)
-compile_error_text (Refused e) = None
-compile_error_text Memory = Some (codes "out of memory")
+-- the text of the reason
+abbrev pub compile_error_text : CompileError → List ℕ
+compile_error_text (Refused e) = tested_run_text e
+compile_error_text Memory = codes "out of memory"

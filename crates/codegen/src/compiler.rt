@@ -29,7 +29,9 @@ pub enum CompileError {
 }
 
 impl fmt::Display for CompileError {
-    ghost output = { compile_error_text };
+    ghost use Rattle.std.specs.Prelude.{Some};
+
+    ghost output = { λ e. Some (compile_error_text e) };
 
     fn fmt<W: fmt::Write>(&self, f: &mut fmt::Formatter<W>) -> fmt::Result {
         match self {

@@ -33,11 +33,12 @@ pub enum CheckedRunError<A: Allocator = Global> {
     Unjudged,
 }
 
-/// As `no registers were allocated: too many operands`.
+/// As `no registers were allocated: out of memory`.
 impl<A: Allocator> fmt::Display for CheckedRunError<A> {
+    ghost use Rattle.std.specs.Prelude.{Some};
     ghost use Rattle.regalloc2.specs.ErrorTexts.{checked_run_text};
 
-    ghost output = { checked_run_text };
+    ghost output = { λ e. Some (checked_run_text e) };
 
     fn fmt<W: fmt::Write>(&self, f: &mut fmt::Formatter<W>) -> fmt::Result {
         match self {

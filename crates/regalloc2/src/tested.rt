@@ -36,9 +36,10 @@ pub enum AllocateError<A: Allocator = Global> {
 
 /// As `the machine doesn't fit the function: p3f is listed for the class Int, and is of another class`.
 impl<A: Allocator> fmt::Display for AllocateError<A> {
+    ghost use Rattle.std.specs.Prelude.{Some};
     ghost use Rattle.regalloc2.specs.ErrorTexts.{allocate_text};
 
-    ghost output = { allocate_text };
+    ghost output = { λ e. Some (allocate_text e) };
 
     fn fmt<W: fmt::Write>(&self, f: &mut fmt::Formatter<W>) -> fmt::Result {
         match self {
