@@ -1,5 +1,5 @@
 -- What a change of the parts of tables does to what they hold.
-use Rattle.std.proofs.Common.{inl, inr, ℕ, zero, suc, ◌≡◌, ◌+◌, ◌<◌, arith, Bool, true, false}
+use Rattle.std.proofs.Common.{inl, inr, ℕ, zero, suc, ◌≡◌, ◌+◌, ◌*◌, ◌/◌, ◌<◌, arith, Bool, true, false}
 use Rattle.std.proofs.Common.{nat_eq, nat_lt, eq-eqb, List, [], ◌∷◌, ◌++◌, length, get_or, take, refl, sym, ap, ◌∙◌, subst}
 use Rattle.std.specs.Prelude.{◌&&◌, ◌||◌, if◌then◌else◌, slice_set, Result, Ok, Err, OnOk, OnErr}
 use Rattle.std.specs.declared.alloc.AllocError.{AllocError}
@@ -480,7 +480,7 @@ meet-true t s f h k a st b others saved met n i y l =
 
 -- nothing is held yet
 pub new-all : (places vregs : List ℕ) (e : NumberCopies) (s : List NumberSet) (h : List HomePlaces) → IsStrictlyIncreasing places → IsStrictlyIncreasing vregs →
-    length places < length e.cells → length places < 274877906944 → IsSetOf s 0 (λ y. false) → length h ≡ length vregs → ((i : ℕ) → number_now e i ≡ 0) →
+    length e.cells ≡ 64 * (length places / 64 + 1) → length places < 274877906944 → IsSetOf s 0 (λ y. false) → length h ≡ length vregs → ((i : ℕ) → number_now e i ≡ 0) →
     ((k i : ℕ) → saved_number e k i ≡ 0) → IsSoundHolding (record { places = places; vregs = vregs; entries = e; sets = s; homes = h })
 new-all places vregs e s h pr vr long few empty hl cells saved = record {
   places_rise = pr;

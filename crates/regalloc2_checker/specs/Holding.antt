@@ -1,5 +1,5 @@
 -- Which vregs places hold, in tables by number and in the one that is worked on. Places are named by their positions.
-use Rattle.std.specs.Prelude.{ℕ, ◌≡◌, ◌<◌, ◌≤◌, ◌⊎◌, Bool, true, false, ◌&&◌, nat_eq, List, length, get_or}
+use Rattle.std.specs.Prelude.{ℕ, ◌≡◌, ◌+◌, ◌*◌, ◌/◌, ◌<◌, ◌≤◌, ◌⊎◌, Bool, true, false, ◌&&◌, nat_eq, List, length, get_or}
 use Rattle.std.specs.List.{list_any}
 use Rattle.std.specs.List.Sorted.{IsStrictlyIncreasing}
 use Rattle.regalloc2_function.specs.Numbers.{NumberSet}
@@ -37,11 +37,11 @@ pub record AreEntries (sets : List NumberSet) (vregs : List ℕ) (homes : List H
   pub below : (i : ℕ) → i < size → number i < length sets
   pub homed : (i y : ℕ) → i < size → is_member sets (number i) y ≡ true → IsHome vregs homes i y
 
--- what stays true of tables: each has an entry for each place
+-- what stays true of tables: each has an entry for each place, and fills its last chunk of 64 entries with at least one more
 pub record IsSoundHolding (t : Holding) : Type 0 where
   pub places_rise : IsStrictlyIncreasing t.places
   pub vregs_rise : IsStrictlyIncreasing t.vregs
-  pub long : length t.places < length t.entries.cells
+  pub long : length t.entries.cells ≡ 64 * (length t.places / 64 + 1)
   pub few : length t.places < 274877906944
   pub empty : IsSetOf t.sets 0 (λ y. false)
   pub homes_long : length t.homes ≡ length t.vregs

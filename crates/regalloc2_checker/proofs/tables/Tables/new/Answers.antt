@@ -1,4 +1,5 @@
-use Rattle.std.proofs.Common.{ℕ, List, length, arith, ap, sym, ◌∙◌, subst}
+use Rattle.std.proofs.Common.{ℕ, ◌+◌, ◌*◌, List, length, arith, ap, sym, ◌∙◌, subst}
+use Rattle.std.specs.Prelude.{◌/◌}
 use Rattle.std.specs.List.Sorted.{IsStrictlyIncreasing}
 use Rattle.regalloc2_checker_sets.specs.EntrySets.{is_member}
 use Rattle.regalloc2_checker.proofs.TableLaws.{new-all}
@@ -11,7 +12,7 @@ invariant_of-result g c =
     let long = ap (λ (l : List ℕ). length l) e in
     new-all c.in_ok-places.places c.args.vregs c.in_ok-entries.entries c.new-3.result c.in_ok-homes.homes
     (subst IsStrictlyIncreasing (sym e) c.requires.places) c.requires.vregs
-    (omega (arith, c.in_ok-entries.ensures.long, c.len-3.ensures)) (omega (arith, long, c.len.ensures)) c.new-3.ensures
+    (c.in_ok-entries.ensures.chunks ∙ ap (λ n. 64 * (n / 64 + 1)) (c.len-3.ensures)) (omega (arith, long, c.len.ensures)) c.new-3.ensures
     (let h = c.in_ok-homes.ensures in omega arith) c.in_ok-entries.ensures.cells c.in_ok-entries.ensures.saved
 
 pub returns-clause-now : goal.returns-clause-now
