@@ -16,22 +16,22 @@ use Rattle.regalloc2_function.specs.Path.{Way, Onward, ToSuccessor}
 use Rattle.regalloc2_function.specs.SourceRun.{Stamp, source_before, after_defs, passed, over_edge, source_read}
 use Rattle.regalloc2_function.specs.AllocatedRun.{cells_before, stored, after_moves, after_early_defs, after_writes, after_clobbers, allocated_read}
 
-abbrev v : ℕ → VirtualRegister
+abbrev pub v : ℕ → VirtualRegister
 v n = record { number = n; class = Int }
 
-abbrev def_reg : ℕ → OperandValue
+abbrev pub def_reg : ℕ → OperandValue
 def_reg n = record { vreg = v n; constraint = Reg; kind = Def; position = Late }
 
-abbrev use_reg : ℕ → OperandValue
+abbrev pub use_reg : ℕ → OperandValue
 use_reg n = record { vreg = v n; constraint = Reg; kind = Use; position = Early }
 
-abbrev op : List OperandValue → InstValue
+abbrev pub op : List OperandValue → InstValue
 op os = record { operands = os; clobbers = record { bits = 0 ∷ 0 ∷ 0 ∷ [] }; is_branch = false; is_ret = false }
 
-abbrev block : ℕ → ℕ → List ℕ → List VirtualRegister → List (List VirtualRegister) → BlockValue
+abbrev pub block : ℕ → ℕ → List ℕ → List VirtualRegister → List (List VirtualRegister) → BlockValue
 block i j ss ps as_passed = record { range = record { first = i; end = j }; succs = ss; preds = []; params = ps; arguments = as_passed }
 
-abbrev with_blocks : List BlockValue → List InstValue → FunctionValue
+abbrev pub with_blocks : List BlockValue → List InstValue → FunctionValue
 with_blocks blocks insts = record {
   blocks = blocks;
   insts = insts;
@@ -43,14 +43,14 @@ with_blocks blocks insts = record {
   allows_multiple_defs = false;
 }
 
-abbrev p : ℕ → Place
+abbrev pub p : ℕ → Place
 p n = InRegister (record { number = n; class = Int })
 
-abbrev move : ℕ → Place → Place → ℕ × MoveValue
+abbrev pub move : ℕ → Place → Place → ℕ × MoveValue
 move at x y = (at, record { from = x; to = y })
 
 -- a read of what the first operand of a step's instruction wrote
-abbrev at_step : ℕ → Option Stamp
+abbrev pub at_step : ℕ → Option Stamp
 at_step n = Some (record { step = n; operand = 0 })
 
 -- a loop whose two parameters change places on each turn, then a return that reads both
