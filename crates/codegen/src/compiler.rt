@@ -87,11 +87,11 @@ fn add(functions: &mut Vec<NamedCode>, function: NamedCode) -> Result<(), Compil
     }
 }
 
-/// Compiles the module `m`, into code that behaves as it does.
+/// Compiles the module `m` into code that behaves as it does.
 ///
-/// Its code does so for all arguments, initial memories and stacks. Each function keeps its name and
-/// its number of arguments. Its frame has at most as many slots as the function needs: two for each
-/// vreg and twelve for each block. Where the stack has room for frames of that size, the code never
+/// The code behaves so for all arguments, initial memories and stacks. Each function keeps its name
+/// and its number of arguments. A frame has at most two slots for each vreg and twelve for each
+/// block of its function. Where the stack has room for frames of that size, the code never
 /// overflows.
 ///
 /// # Errors
