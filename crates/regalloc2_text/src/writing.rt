@@ -20,10 +20,15 @@ pub enum WriteError {
 }
 
 impl fmt::Display for WriteError {
+    ghost use Rattle.std.specs.Prelude.{Some};
+    ghost use Rattle.regalloc2_text.specs.TextErrors.{write_error_text};
+
+    ghost output = { λ e. Some (write_error_text e) };
+
     fn fmt<W: fmt::Write>(&self, f: &mut fmt::Formatter<W>) -> fmt::Result {
         match self {
-            WriteError::Memory => f.write_str("out of memory"),
-            WriteError::Differs => f.write_str("the text reads back as another function or output"),
+            WriteError::Memory => write!(f, "out of memory"),
+            WriteError::Differs => write!(f, "the text reads back as another function or output"),
         }
     }
 }

@@ -26,19 +26,23 @@ pub enum Expected {
 }
 
 impl fmt::Display for Expected {
+    ghost use Rattle.std.specs.Prelude.{Some};
+    ghost use Rattle.regalloc2_text.specs.TextErrors.{expected_text};
+
+    ghost output = { λ e. Some (expected_text e) };
+
     fn fmt<W: fmt::Write>(&self, f: &mut fmt::Formatter<W>) -> fmt::Result {
         match self {
-            Expected::Words(words) => f.write_str(words),
+            Expected::Words(words) => write!(f, "{words}"),
             Expected::Token(text) => write!(f, "`{text}`"),
-            Expected::NumberUpTo(u64::MAX) => f.write_str("a number below 18446744073709551616"),
             Expected::NumberUpTo(max) => {
-                let bound = max.saturating_add(1);
+                let bound = u128::from(*max) + 1;
                 write!(f, "a number below {bound}")
             }
             Expected::NextBlock(number) => write!(f, "`block{number}`, the next number"),
             Expected::NextInst(number) => write!(f, "`inst{number}`, the next number"),
             Expected::NoSecond(name) => write!(f, "no second `{name}` line"),
-            Expected::LineBeginning(None) => f.write_str("the beginning of a line"),
+            Expected::LineBeginning(None) => write!(f, "the beginning of a line"),
             Expected::LineBeginning(Some(near)) => write!(f, "the beginning of a line (`{near}`?)"),
         }
     }

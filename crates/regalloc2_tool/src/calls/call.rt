@@ -1,13 +1,17 @@
 //! The calls about a stored function, and their results as text.
 
-ghost use Rattle.std.specs.Prelude.{◌≡◌, true, false, IfOk};
+ghost use Rattle.std.specs.Prelude.{◌≡◌, true, false, IfOk, IfSome};
 ghost use Rattle.regalloc2_checker.specs.Cells.{AreCells};
 ghost use Rattle.regalloc2_function.specs.Faithful.{IsFaithful};
 ghost use Rattle.regalloc2_function.specs.OutputValue.{IsInOrder};
 ghost use Rattle.regalloc2_function.specs.SourceRun.{IsWrittenFirst};
+ghost use Rattle.regalloc2_function.specs.Stored.{NamesValues, output_of_stored};
 ghost use Rattle.regalloc2_function.specs.Views.{machine_of, output_of};
 ghost use Rattle.regalloc2_function.specs.WellFormed.{IsFramed};
+ghost use Rattle.regalloc2_tool.specs.Calls.{AreAcceptedBoth, HasShown, IsAccepted, IsAcceptedCall, IsChecked, IsGivenChecked, IsShown, NamesBoth, output_given};
 ghost use Rattle.regalloc2_tool.specs.Framed.{BlocksAreWithin};
+ghost use Rattle.regalloc2_tool.specs.Text.{call_error_text};
+ghost use Rattle.regalloc2_serialize.specs.Tables.{function_of_serializable};
 
 use crate::listing::write_listing;
 use crate::svg::Picture;
@@ -101,6 +105,8 @@ pub enum CallError {
 }
 
 impl fmt::Display for CallError {
+    ghost output = { call_error_text };
+
     fn fmt<W: fmt::Write>(&self, f: &mut fmt::Formatter<W>) -> fmt::Result {
         match self {
             CallError::Memory => write!(f, "out of memory"),
@@ -165,7 +171,9 @@ pub enum Verdict {
 
 impl Verdict {
     /// The verdict that nothing is found, or that something is.
-    fn of(is_accepted: bool) -> Verdict {
+    fn of(is_accepted: bool) -> Verdict
+        ensures { result ≡ Verdict.Accepted → is_accepted ≡ true }
+    {
         if is_accepted {
             Verdict::Accepted
         } else {
@@ -366,7 +374,9 @@ fn judge_framed<F: Function, W: Write, E: Write>(
     given: &Given<'_, '_, '_>,
     to: &mut W,
     err: &mut E,
-) -> Result<Verdict, CallError> {
+) -> Result<Verdict, CallError>
+    ensures { IfOk result (λ v. v ≡ Verdict.Accepted → IsChecked (F.function f.now) (machine_of env.now) (output_of output.now)) }
+{
     if !is_framed(f) {
         err.write_all(b"not framed\n")?;
         return Ok(Verdict::Unusable);
@@ -382,7 +392,9 @@ fn output_given<E: Write>(
     stored: &StoredOutput,
     given: &Given<'_, '_, '_>,
     err: &mut E,
-) -> Result<Option<Output>, CallError> {
+) -> Result<Option<Output>, CallError>
+    ensures { IfOk result (λ o. IfSome o (λ out. NamesValues stored.now × (output_of out ≡ output_of_stored stored.now))) }
+{
     match Output::from_stored(alloc, stored) {
         Ok(output) => Ok(Some(output)),
         Err(StoredFault::Memory) => Err(CallError::Memory),
@@ -404,7 +416,9 @@ fn replay<F: Function, W: Write, E: Write>(
     given: &Given<'_, '_, '_>,
     to: &mut W,
     err: &mut E,
-) -> Result<Verdict, CallError> {
+) -> Result<Verdict, CallError>
+    ensures { IfOk result (λ v. v ≡ Verdict.Accepted → IsGivenChecked (F.function f.now) (machine_of env.now) (output_given given.now)) }
+{
     let Some(stored) = given.output else {
         err.write_all(b"bad input: no output\n")?;
         return Ok(Verdict::Unusable);
@@ -415,7 +429,7 @@ fn replay<F: Function, W: Write, E: Write>(
     }
 }
 
-/// Writes a path on which a vreg is read before it is written.
+/// Writes a path on which a vreg is read or passed before it is written.
 fn write_path<W: Write>(
     alloc: Global,
     function: &StoredFunction,
@@ -461,7 +475,9 @@ fn test_reads<F: Function, W: Write, E: Write>(
     given: &Given<'_, '_, '_>,
     to: &mut W,
     err: &mut E,
-) -> Result<Verdict, CallError> {
+) -> Result<Verdict, CallError>
+    ensures { IfOk result (λ v. v ≡ Verdict.Accepted → IsFramed (F.function f.now) × IsWrittenFirst (F.function f.now)) }
+{
     if !is_framed(f) {
         err.write_all(b"not framed\n")?;
         return Ok(Verdict::Unusable);
@@ -511,7 +527,10 @@ fn compare<F: Function, W: Write, E: Write>(
     other: &Given<'_, '_, '_>,
     to: &mut W,
     err: &mut E,
-) -> Result<Verdict, CallError> {
+) -> Result<Verdict, CallError>
+    ensures { IfOk result (λ v. v ≡ Verdict.Accepted → IsGivenChecked (F.function f.now) (machine_of env.now) (output_given given.now)
+        × IsGivenChecked (F.function f.now) (machine_of env.now) (output_given other.now)) }
+{
     let (Some(output), Some(another)) = (given.output, other.output) else {
         err.write_all(b"bad input: no output\n")?;
         return Ok(Verdict::Unusable);
@@ -538,7 +557,9 @@ fn answer_stored<F: Function, W: Write, E: Write>(
     given: &Given<'_, '_, '_>,
     to: &mut W,
     err: &mut E,
-) -> Result<Verdict, CallError> {
+) -> Result<Verdict, CallError>
+    ensures { call ≡ Call.Diff → IfOk result (λ v. v ≡ Verdict.Accepted → IsShown Call.Diff (output_given given.now) (F.function f.now) (machine_of env.now) (output_of output.now)) }
+{
     let Ok(stored) = output.stored() else {
         return Err(CallError::Memory);
     };
@@ -592,6 +613,7 @@ fn show<F: Function, W: Write, E: Write>(
     requires framed { IsFramed (F.function f.now) }
     requires order { IsInOrder (F.function f.now) (output_of output.now) }
     requires blocks { BlocksAreWithin (F.function f.now) }
+    ensures { IfOk result (λ v. v ≡ Verdict.Accepted → IsShown call (output_given given.now) (F.function f.now) (machine_of env.now) (output_of output.now)) }
 {
     match call {
         Call::Run => write_listing(f, output, to)?,
@@ -614,7 +636,9 @@ fn allocate<F: Function, W: Write, E: Write>(
     given: &Given<'_, '_, '_>,
     to: &mut W,
     err: &mut E,
-) -> Result<Verdict, CallError> {
+) -> Result<Verdict, CallError>
+    ensures { IfOk result (λ v. v ≡ Verdict.Accepted → HasShown call (output_given given.now) (F.function f.now) (machine_of env.now)) }
+{
     if !machine_fits(f, env) {
         write_misfit(f, env, given, err)?;
         return Ok(Verdict::Unusable);
@@ -635,7 +659,9 @@ fn function_of<E: Write>(
     alloc: Global,
     given: &Given<'_, '_, '_>,
     err: &mut E,
-) -> Result<Option<SerializableFunction>, CallError> {
+) -> Result<Option<SerializableFunction>, CallError>
+    ensures { IfOk result (λ o. IfSome o (λ f. NamesBoth given.now.function.now (function_of_serializable f) (machine_of f.machine))) }
+{
     match SerializableFunction::from_stored(alloc, given.function) {
         Ok(f) => Ok(Some(f)),
         Err(StoredFault::Memory) => Err(CallError::Memory),
@@ -649,14 +675,19 @@ fn function_of<E: Write>(
     }
 }
 
-/// Performs [`Call::Diff`] with another output of the same function in place of the allocator's.
+/// Performs [`Call::Diff`] with the output of `other`, of the same function, in place of the allocator's.
+///
+/// `Accepted` says that both outputs are well-ordered, faithful and in cells of their own. Spec:
+/// `AreAcceptedBoth` in `specs/Calls.antt`.
 pub fn answer_diff<W: Write, E: Write>(
     alloc: Global,
     given: &Given<'_, '_, '_>,
     other: &Given<'_, '_, '_>,
     to: &mut W,
     err: &mut E,
-) -> Result<Verdict, CallError> {
+) -> Result<Verdict, CallError>
+    ensures { IfOk result (λ v. v ≡ Verdict.Accepted → AreAcceptedBoth given.now other.now) }
+{
     match function_of(alloc, given, err)? {
         Some(f) => compare(alloc, &f, f.machine_env(), given, other, to, err),
         None => Ok(Verdict::Unusable),
@@ -672,7 +703,9 @@ fn perform<F: Function, W: Write, E: Write>(
     given: &Given<'_, '_, '_>,
     to: &mut W,
     err: &mut E,
-) -> Result<Verdict, CallError> {
+) -> Result<Verdict, CallError>
+    ensures { IfOk result (λ v. v ≡ Verdict.Accepted → IsAccepted call (output_given given.now) (F.function f.now) (machine_of env.now)) }
+{
     match (call, given.output) {
         (Call::Replay, _) | (Call::Check, Some(_)) => replay(alloc, f, env, given, to, err),
         (Call::Reads, _) => test_reads(alloc, f, given, to, err),
@@ -695,14 +728,18 @@ fn perform<F: Function, W: Write, E: Write>(
 /// and of `number_of` in [`regalloc2_text::stored_fault`]; a finding has its own. [`Call::Text`] tests
 /// nothing.
 ///
-/// The contract doesn't say what is written; tests check it.
+/// `Accepted` says that the numbers of `given` name a function and a machine for which what the
+/// call tests holds, and that an allocated output has all that `run` guarantees. The contract
+/// doesn't say what is written; tests check it. Spec: `IsAcceptedCall` in `specs/Calls.antt`.
 pub fn answer<W: Write, E: Write>(
     alloc: Global,
     call: Call,
     given: &Given<'_, '_, '_>,
     to: &mut W,
     err: &mut E,
-) -> Result<Verdict, CallError> {
+) -> Result<Verdict, CallError>
+    ensures { (call ≡ Call.Text → ⊥) → IfOk result (λ v. v ≡ Verdict.Accepted → IsAcceptedCall call given.now) }
+{
     if call == Call::Text {
         write_text(alloc, given.function, given.output, to)?;
         return Ok(Verdict::Accepted);
