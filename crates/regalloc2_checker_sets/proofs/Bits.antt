@@ -216,3 +216,12 @@ read-is l whole i x d e less h = h ∙ ap (λ (k : List _). get_or k i x) e ∙ 
     any [] i x d less = absurd (omega arith)
     any (y ∷ l) zero x d less = refl
     any (y ∷ l) (suc i) x d less = any l i x d (omega arith)
+
+-- sets of which each has the other's members are one
+pub same-members : (has other : ℕ → Bool) → ((y : ℕ) → has y ≡ true → other y ≡ true) → ((y : ℕ) → other y ≡ true → has y ≡ true) → (y : ℕ) → has y ≡ other y
+same-members has other h k y = both (has y) (other y) (h y) (k y)
+  where
+    both : (a b : Bool) → (a ≡ true → b ≡ true) → (b ≡ true → a ≡ true) → a ≡ b
+    both true b h k = sym (h refl)
+    both false true h k = k refl
+    both false false h k = refl

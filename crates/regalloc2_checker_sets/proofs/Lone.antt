@@ -1,15 +1,13 @@
 -- Sets of one member, and the empty one.
-use Rattle.std.proofs.Common.{inl, inr, ℕ, ◌≡◌, ◌<◌, arith, Bool, true}
+use Rattle.std.proofs.Common.{inl, inr, ℕ, ◌≡◌, ◌<◌, Bool, true}
 use Rattle.std.proofs.Common.{false, cond, nat_eq, eq-eqb, List, [], refl, sym, ap, ◌∙◌}
-use Rattle.std.proofs.Common.{get_or, length, subst}
-use Rattle.std.specs.Prelude.{◌&&◌, if◌then◌else◌, Option, None, Some}
+use Rattle.std.proofs.Common.{get_or}
+use Rattle.std.specs.Prelude.{◌&&◌, if◌then◌else◌, Option, Some}
 use Rattle.std.specs.Bool.{OnTrue, OnFalse}
 use Rattle.std.proofs.lemmas.Bool.{cases_eq, eqb-true, ne_eqb}
 use Rattle.regalloc2_function.specs.Numbers.{NumberSet, has_number}
-use Rattle.regalloc2_checker_sets.specs.EntrySets.{has_bits, is_member, IsSetOf, AreMore, IsGrown, IsLess}
-use Rattle.regalloc2_checker_sets.specs.declared.sets.Grown.{Grown}
+use Rattle.regalloc2_checker_sets.specs.EntrySets.{has_bits, is_member, IsSetOf, IsLess}
 use Rattle.regalloc2_checker_sets.proofs.Bits.{changed-is, none-is, alone, bits-small}
-use Rattle.regalloc2_checker_sets.proofs.Rows.{some-same}
 
 -- equal numbers, if their options are
 pub same-some : (a b : ℕ) → ◌≡◌ {A = Option ℕ} (Some a) (Some b) → a ≡ b
@@ -130,28 +128,3 @@ lone-none has other only h less y = elim (cases_eq y only) [
     and-false : (b : Bool) → (b && false) ≡ false
     and-false true = refl
     and-false false = refl
-
--- no set is kept
-pub grown-none : (sets : List NumberSet) → IsGrown sets None
-grown-none sets g e = absurd cc
-
--- a set made of another and one member more is kept
-pub grown-now : (sets : List NumberSet) (set bits number : ℕ) → set < length sets →
-    IsSetOf sets number (λ y. if nat_eq y bits then true else is_member sets set y) →
-    IsGrown sets (Some record { from = set; bits = bits; number = number })
-grown-now sets set bits number less h g e =
-    subst (λ (x : Grown). (x.from < length sets) × IsSetOf sets x.number (λ y. if nat_eq y x.bits then true else is_member sets x.from y))
-    (some-same record { from = set; bits = bits; number = number } g e) (less, h)
-
--- where sets are added, the one that is kept stays
-pub grown-more : (sets new : List NumberSet) (o : Option Grown) → AreMore sets new → IsGrown sets o → IsGrown new o
-grown-more sets new o m h g e =
-    let k = h g e in
-    let longer = m.longer in
-    let below = k.1.below in (
-      omega (arith, k.0, longer),
-      record {
-        below = omega (arith, below, longer);
-        members = λ y. m.kept g.number y below ∙ k.1.members y ∙ sym (ap (λ b. if nat_eq y g.bits then true else b) (m.kept g.from y k.0));
-      },
-    )

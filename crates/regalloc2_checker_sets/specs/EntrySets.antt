@@ -1,9 +1,9 @@
 -- Sets of bits, by number. Bits are words of 32 bits.
 use Rattle.std.specs.Prelude.{ℕ, zero, suc, ◌/◌, ◌%◌, ◌^◌, ◌≡◌, ◌<◌, ◌≤◌, Bool, true, false, ◌&&◌, cond, nat_eq, nat_lt, if◌then◌else◌}
-use Rattle.std.specs.Prelude.{List, [], ◌∷◌, ◌++◌, length, get_or, Option, Some}
+use Rattle.std.specs.Prelude.{List, [], ◌∷◌, ◌++◌, length, get_or, Option, None, Some}
 use Rattle.std.specs.Int.Bits.{bit_or}
 use Rattle.regalloc2_function.specs.Numbers.{NumberSet, has_number, times_listed}
-use Rattle.regalloc2_checker_sets.specs.declared.sets.Grown.{Grown}
+use Rattle.regalloc2_checker_sets.specs.declared.notes.Noted.{Noted}
 
 -- whether bits are a member
 abbrev pub has_bits : NumberSet → ℕ → Bool
@@ -56,6 +56,23 @@ pub record IsLess (has other : ℕ → Bool) : Type 0 where
   pub here : has bits ≡ true
   pub not_there : other bits ≡ false
 
--- a set is kept that was made of another and one member more
-abbrev pub IsGrown : List NumberSet → Option Grown → Type 0
-IsGrown sets o = (g : Grown) → o ≡ Some g → (g.from < length sets) × IsSetOf sets g.number (λ y. if nat_eq y g.bits then true else is_member sets g.from y)
+-- a set has the members of another one, with bits put in or taken out
+pub record IsChangeOf (is_in : Bool) (sets : List NumberSet) (set bits number : ℕ) : Type 0 where
+  pub below : set < length sets
+  pub is : IsSetOf sets number (λ y. if nat_eq y bits then is_in else is_member sets set y)
+
+-- a set has the members that two others share, and is the first of these exactly where the second has all its members
+pub record IsMeetOf (sets : List NumberSet) (set other number : ℕ) : Type 0 where
+  pub below : set < length sets
+  pub other_below : other < length sets
+  pub is : IsSetOf sets number (λ y. is_member sets set y && is_member sets other y)
+  pub less : (number ≡ set → ⊥) → IsLess (is_member sets set) (is_member sets other)
+
+-- what is noted of sets is so
+abbrev pub AreNoted : (ℕ → ℕ → ℕ → Type 0) → List (Option Noted) → Type 0
+AreNoted Is notes = (i : ℕ) (e : Noted) → get_or notes i None ≡ Some e → Is e.from e.other e.number
+
+pub record AreNotes (sets : List NumberSet) (grown shrunk met : List (Option Noted)) : Type 0 where
+  pub puts : AreNoted (IsChangeOf true sets) grown
+  pub takes : AreNoted (IsChangeOf false sets) shrunk
+  pub meets : AreNoted (IsMeetOf sets) met

@@ -52,6 +52,21 @@ pub fn listed<A: Allocator + Copy>(alloc: A, set: &IndexSet<A>) -> Result<Vec<u3
     Ok(members)
 }
 
+/// Whether each member of a set is one of another.
+fn is_part<A: Allocator + Copy>(set: &IndexSet<A>, other: &IndexSet<A>) -> bool
+    ensures { result ≡ true → (y : ℕ) → has_bits set.now y ≡ true → has_bits other.now y ≡ true }
+{
+    for member in set.iter() {
+        let Ok(bits) = u32::try_from(member) else {
+            continue;
+        };
+        if !has_bits(other, bits) {
+            return false;
+        }
+    }
+    true
+}
+
 impl<A: Allocator + Copy> Kept<A> {
     /// A set of two members.
     pub fn pair(alloc: A, first: u32, second: u32) -> Kept<A>
@@ -122,6 +137,37 @@ impl<A: Allocator + Copy> Kept<A> {
         copy.set(self.first as usize, true)?;
         copy.set(self.second as usize, true)?;
         Ok(copy)
+    }
+
+    /// Whether the members are those of `set`, where they are kept in a set.
+    pub fn is_same(&self, set: &IndexSet<A>) -> bool
+        ensures { result ≡ true → (y : ℕ) → has_bits self.now y ≡ has_bits set.now y }
+    {
+        if self.many.is_empty() {
+            return false;
+        }
+        let many = &self.many[0];
+        if !is_part(many, set) {
+            return false;
+        }
+        is_part(set, many)
+    }
+
+    /// How many words of 32 bits it takes, or more.
+    pub fn word_count(&self) -> usize {
+        if self.many.is_empty() {
+            return 8;
+        }
+        let mut count: usize = 64;
+        let mut last = usize::MAX;
+        for member in self.many[0].iter() {
+            if member / 64 == last {
+                continue;
+            }
+            last = member / 64;
+            count = count.saturating_add(6);
+        }
+        count
     }
 
     /// Whether another set has each member.

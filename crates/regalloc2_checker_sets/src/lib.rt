@@ -4,6 +4,7 @@
 pub mod entries;
 pub mod homes;
 mod kept_set;
+mod notes;
 pub mod place_positions;
 mod positions;
 pub mod sets;

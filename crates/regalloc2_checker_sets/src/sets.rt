@@ -2,10 +2,11 @@
 
 ghost use Rattle.std.specs.Prelude.{◌≡◌, ℕ, ◌<◌, ◌≤◌, ◌+◌, true, false, ◌&&◌, ◌||◌, nat_eq, if◌then◌else◌, length, get_or, IfOk, OnErr};
 ghost use Rattle.std.specs.Bool.{OnTrue, OnFalse};
-ghost use Rattle.regalloc2_checker_sets.specs.EntrySets.{has_bits, is_member, AreMore, IsSetOf, ListsBits, IsLess};
+ghost use Rattle.regalloc2_checker_sets.specs.EntrySets.{has_bits, is_member, AreMore, IsSetOf, ListsBits, IsLess, IsChangeOf, IsMeetOf};
 ghost use Rattle.regalloc2_checker_sets.specs.Renumbering.{AreMovedDown, AreMarkedKept};
 
 use crate::kept_set::Kept;
+use crate::notes::Notes;
 use regalloc2_function::indexset::IndexSet;
 use std::alloc::{AllocError, Allocator};
 use std::marker::Model;
@@ -22,28 +23,27 @@ pub const FIRST: u32 = 1 << 31;
 #[derive(Drop)]
 pub struct Sets<A: Allocator> {
     kept: Vec<Kept<A>, A>,
-    grown: Option<Grown>,
+    grown: Notes<A>,
+    shrunk: Notes<A>,
+    met: Notes<A>,
+    known: Vec<u32, A>,
+    words: usize,
     alloc: A,
 }
 
-/// A set that was made of another and one member more.
-#[derive(Clone, Copy, Drop)]
-pub struct Grown {
-    pub from: u32,
-    pub bits: u32,
-    pub number: u32,
-}
+/// How many sets are known by their members.
+const KNOWN: usize = 1024;
 
 impl<A: Allocator> Model for Sets<A> {
     ghost use Rattle.std.specs.Prelude.{List};
     ghost use Rattle.regalloc2_function.specs.Numbers.{NumberSet};
-    ghost use Rattle.regalloc2_checker_sets.specs.EntrySets.{all_sets, IsGrown};
+    ghost use Rattle.regalloc2_checker_sets.specs.EntrySets.{all_sets, AreNotes};
 
     ghost Value = { List NumberSet };
 
     ghost view = { λ s. all_sets s.kept.items };
 
-    ghost invariant = { λ s. IsGrown (all_sets s.kept.items) s.grown };
+    ghost invariant = { λ s. AreNotes (all_sets s.kept.items) s.grown s.shrunk s.met };
 }
 
 /// A member of a set, if it has one.
@@ -72,6 +72,30 @@ fn has_no_other<A: Allocator + Copy>(set: &IndexSet<A>, only: u32) -> bool
         }
     }
     true
+}
+
+/// Spreads a number.
+fn spread(number: usize) -> usize {
+    let mixed = number.wrapping_mul(0x9e37_79b9_7f4a_7c15);
+    mixed ^ (mixed >> 29)
+}
+
+/// The place of a set among those that are known by their members.
+fn place_of<A: Allocator + Copy>(set: &IndexSet<A>) -> usize {
+    let mut sum: usize = 0;
+    for member in set.iter() {
+        sum = sum.wrapping_add(spread(member));
+    }
+    spread(sum) >> 20 & (KNOWN - 1)
+}
+
+/// How many words kept sets take.
+fn words_of<A: Allocator + Copy>(kept: &Vec<Kept<A>, A>) -> usize {
+    let mut count: usize = 0;
+    for set in kept {
+        count = count.saturating_add(set.word_count());
+    }
+    count
 }
 
 /// Whether the kept set at an index stays: it has a mark, or is past the marks.
@@ -111,7 +135,11 @@ impl<A: Allocator + Copy> Sets<A> {
     {
         Sets {
             kept: Vec::new(alloc),
-            grown: None,
+            grown: Notes::new(alloc),
+            shrunk: Notes::new(alloc),
+            met: Notes::new(alloc),
+            known: Vec::new(alloc),
+            words: 0,
             alloc,
         }
     }
@@ -182,17 +210,76 @@ impl<A: Allocator + Copy> Sets<A> {
         if index >= FIRST {
             return Err(AllocError);
         }
+        self.words = self.words.saturating_add(set.word_count());
         self.kept.push(set)?;
         Ok(FIRST + index)
     }
 
-    /// Adds a set, and returns its number.
+    /// The kept set that was last put at a place of those that are known by their members.
+    fn known_at(&self, place: usize) -> Option<u32>
+        ensures { (n : ℕ) → result ≡ Some n → (2147483648 ≤ n) × (n < length self.now) }
+    {
+        if place >= self.known.len() {
+            return None;
+        }
+        let number = self.known[place];
+        if number < FIRST {
+            return None;
+        }
+        if (number - FIRST) as usize >= self.kept.len() {
+            return None;
+        }
+        Some(number)
+    }
+
+    /// Puts a set at a place of those that are known by their members.
+    fn know(&mut self, place: usize, number: u32) -> Result<(), AllocError>
+        ensures { self.new ≡ self.old }
+    {
+        if place >= self.known.len() {
+            self.known = Vec::from_elem(self.alloc, 0, KNOWN)?;
+        }
+        if place < self.known.len() {
+            self.known[place] = number;
+        }
+        Ok(())
+    }
+
+    /// Adds a set that is kept, puts it at a place of those that are known, and returns its number.
+    fn keep_at(&mut self, set: Kept<A>, place: usize) -> Result<u32, AllocError>
+        ensures more { AreMore self.old self.new }
+        ensures found { IfOk result (λ n. IsSetOf self.new n (has_bits set)) }
+    {
+        let number = self.keep(set)?;
+        self.know(place, number)?;
+        Ok(number)
+    }
+
+    /// The number of a kept set with the members of `set`, if it is at a place of those that are known.
+    fn find_set(&self, set: &IndexSet<A>, place: usize) -> Option<u32>
+        ensures { (n : ℕ) → result ≡ Some n → IsSetOf self.now n (has_bits set.now) }
+    {
+        let Some(number) = self.known_at(place) else {
+            return None;
+        };
+        if self.kept(number).is_same(set) {
+            return Some(number);
+        }
+        None
+    }
+
+    /// The number of a set, which is added unless a kept one with its members is known.
     fn add(&mut self, set: IndexSet<A>) -> Result<u32, AllocError>
         ensures more { AreMore self.old self.new }
         ensures found { IfOk result (λ n. IsSetOf self.new n (has_bits set)) }
     {
+        let _ = &self.kept;
+        let place = place_of(&set);
+        if let Some(number) = self.find_set(&set, place) {
+            return Ok(number);
+        }
         let kept = Kept::many(self.alloc, set)?;
-        self.keep(kept)
+        self.keep_at(kept, place)
     }
 
     /// Adds a set of two members, and returns its number.
@@ -271,31 +358,6 @@ impl<A: Allocator + Copy> Sets<A> {
         Ok(copy)
     }
 
-    /// The number of a set and one member more, if it is kept.
-    fn kept_grown(&self, set: u32, bits: u32) -> Option<u32>
-        ensures { (n : ℕ) → result ≡ Some n → IsSetOf self.now n (λ y. if nat_eq y bits then true else is_member self.now set y) }
-    {
-        let _ = &self.kept;
-        let grown = self.grown?;
-        if grown.from == set && grown.bits == bits {
-            return Some(grown.number);
-        }
-        None
-    }
-
-    /// Keeps the number of a set and one member more.
-    fn keep_grown(&mut self, set: u32, bits: u32, number: u32)
-        requires set { set < length self.old }
-        requires grown { IsSetOf self.old number (λ y. if nat_eq y bits then true else is_member self.old set y) }
-        ensures { self.new ≡ self.old }
-    {
-        self.grown = Some(Grown {
-            from: set,
-            bits,
-            number,
-        });
-    }
-
     /// Adds a set of another and one member more.
     fn added(&mut self, set: u32, bits: u32) -> Result<u32, AllocError>
         requires { set < length self.old }
@@ -310,6 +372,22 @@ impl<A: Allocator + Copy> Sets<A> {
         self.add(more)
     }
 
+    /// The number of a set with bits put in, if it is noted.
+    fn find_grown(&self, set: u32, bits: u32) -> Option<u32>
+        ensures { (n : ℕ) → result ≡ Some n → IsChangeOf true self.now set bits n }
+    {
+        let _ = &self.kept;
+        self.grown.find(set, bits)
+    }
+
+    /// Notes the number of a set with bits put in.
+    fn note_grown(&mut self, set: u32, bits: u32, number: u32) -> Result<(), AllocError>
+        requires { IsChangeOf true self.old set bits number }
+        ensures { self.new ≡ self.old }
+    {
+        self.grown.note(self.alloc, set, bits, number)
+    }
+
     /// Adds a set of another and one member more, and notes it.
     #[inline(never)]
     fn new_grown(&mut self, set: u32, bits: u32) -> Result<u32, AllocError>
@@ -318,7 +396,7 @@ impl<A: Allocator + Copy> Sets<A> {
         ensures found { IfOk result (λ n. IsSetOf self.new n (λ y. if nat_eq y bits then true else is_member self.old set y)) }
     {
         let number = self.added(set, bits)?;
-        self.keep_grown(set, bits, number);
+        self.note_grown(set, bits, number)?;
         Ok(number)
     }
 
@@ -335,7 +413,7 @@ impl<A: Allocator + Copy> Sets<A> {
         if set == 0 {
             return self.single(bits);
         }
-        if let Some(number) = self.kept_grown(set, bits) {
+        if let Some(number) = self.find_grown(set, bits) {
             return Ok(number);
         }
         self.new_grown(set, bits)
@@ -385,6 +463,47 @@ impl<A: Allocator + Copy> Sets<A> {
         self.settle(less)
     }
 
+    /// The number of a set with bits taken out, if it is noted.
+    fn find_shrunk(&self, set: u32, bits: u32) -> Option<u32>
+        ensures { (n : ℕ) → result ≡ Some n → IsChangeOf false self.now set bits n }
+    {
+        let _ = &self.kept;
+        self.shrunk.find(set, bits)
+    }
+
+    /// Notes the number of a set with bits taken out.
+    fn note_shrunk(&mut self, set: u32, bits: u32, number: u32) -> Result<(), AllocError>
+        requires { IsChangeOf false self.old set bits number }
+        ensures { self.new ≡ self.old }
+    {
+        self.shrunk.note(self.alloc, set, bits, number)
+    }
+
+    /// The number of a set without one of its members, which is noted.
+    fn new_shrunk(&mut self, set: u32, bits: u32) -> Result<u32, AllocError>
+        requires { set < length self.old }
+        ensures more { AreMore self.old self.new }
+        ensures found { IfOk result (λ n. IsSetOf self.new n (λ y. if nat_eq y bits then false else is_member self.old set y)) }
+    {
+        let number = self.shrunk(set, bits)?;
+        self.note_shrunk(set, bits, number)?;
+        Ok(number)
+    }
+
+    /// The number of a set without one of its members, as it is noted, if it is.
+    #[inline(never)]
+    fn noted_shrunk(&mut self, set: u32, bits: u32) -> Result<u32, AllocError>
+        requires { set < length self.old }
+        ensures more { AreMore self.old self.new }
+        ensures found { IfOk result (λ n. IsSetOf self.new n (λ y. if nat_eq y bits then false else is_member self.old set y)) }
+    {
+        let _ = &self.kept;
+        if let Some(number) = self.find_shrunk(set, bits) {
+            return Ok(number);
+        }
+        self.new_shrunk(set, bits)
+    }
+
     /// A set and one member less.
     pub fn without(&mut self, set: u32, bits: u32) -> Result<u32, AllocError>
         requires { set < length self.old }
@@ -398,7 +517,7 @@ impl<A: Allocator + Copy> Sets<A> {
         if let Some(_only) = self.only(set) {
             return Ok(0);
         }
-        self.shrunk(set, bits)
+        self.noted_shrunk(set, bits)
     }
 
     /// The members that another set has too.
@@ -495,8 +614,8 @@ impl<A: Allocator + Copy> Sets<A> {
         self.has(other, set - 1)
     }
 
-    /// The members of both sets. The number is that of the first exactly where each of its members is one of the other.
-    pub fn common(&mut self, set: u32, other: u32) -> Result<u32, AllocError>
+    /// The members of both sets, found by a walk over those of the first.
+    fn walked_common(&mut self, set: u32, other: u32) -> Result<u32, AllocError>
         requires set { set < length self.old }
         requires other { other < length self.old }
         ensures more { AreMore self.old self.new }
@@ -511,6 +630,58 @@ impl<A: Allocator + Copy> Sets<A> {
             return Ok(0);
         }
         self.both(set, other)
+    }
+
+    /// The number of the members of both sets, if it is noted.
+    fn find_met(&self, set: u32, other: u32) -> Option<u32>
+        ensures { (n : ℕ) → result ≡ Some n → IsMeetOf self.now set other n }
+    {
+        let _ = &self.kept;
+        self.met.find(set, other)
+    }
+
+    /// Notes the number of the members of both sets.
+    fn note_met(&mut self, set: u32, other: u32, number: u32) -> Result<(), AllocError>
+        requires { IsMeetOf self.old set other number }
+        ensures { self.new ≡ self.old }
+    {
+        self.met.note(self.alloc, set, other, number)
+    }
+
+    /// The members of both sets, which are noted.
+    fn new_common(&mut self, set: u32, other: u32) -> Result<u32, AllocError>
+        requires set { set < length self.old }
+        requires other { other < length self.old }
+        ensures more { AreMore self.old self.new }
+        ensures found { IfOk result (λ n. IsSetOf self.new n (λ y. is_member self.old set y && is_member self.old other y)) }
+        ensures less { IfOk result (λ n. (n ≡ set → ⊥) → IsLess (is_member self.old set) (is_member self.old other)) }
+    {
+        let number = self.walked_common(set, other)?;
+        self.note_met(set, other, number)?;
+        Ok(number)
+    }
+
+    /// The members of both sets. The number is that of the first exactly where each of its members is one of the other.
+    pub fn common(&mut self, set: u32, other: u32) -> Result<u32, AllocError>
+        requires set { set < length self.old }
+        requires other { other < length self.old }
+        ensures more { AreMore self.old self.new }
+        ensures found { IfOk result (λ n. IsSetOf self.new n (λ y. is_member self.old set y && is_member self.old other y)) }
+        ensures less { IfOk result (λ n. (n ≡ set → ⊥) → IsLess (is_member self.old set) (is_member self.old other)) }
+    {
+        let _ = &self.kept;
+        if set < FIRST {
+            return self.walked_common(set, other);
+        }
+        if let Some(number) = self.find_met(set, other) {
+            return Ok(number);
+        }
+        self.new_common(set, other)
+    }
+
+    /// How many words the kept sets take.
+    pub fn word_count(&self) -> usize {
+        self.words
     }
 
     /// How many sets are kept.
@@ -530,8 +701,12 @@ impl<A: Allocator + Copy> Sets<A> {
             return Err(AllocError);
         }
         let mut numbers = Vec::from_elem(self.alloc, 0, count)?;
-        self.grown = None;
+        self.grown = Notes::new(self.alloc);
+        self.shrunk = Notes::new(self.alloc);
+        self.met = Notes::new(self.alloc);
+        self.known = Vec::new(self.alloc);
         move_down(&mut self.kept, marks, &mut numbers);
+        self.words = words_of(&self.kept);
         Ok(numbers)
     }
 }

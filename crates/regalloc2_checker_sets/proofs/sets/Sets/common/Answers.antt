@@ -1,17 +1,8 @@
-use Rattle.std.proofs.Common.{arith}
-use Rattle.regalloc2_checker_sets.specs.EntrySets.{is_member}
-use Rattle.regalloc2_checker_sets.proofs.AllSets.{empty-is, few-apart}
-use Rattle.regalloc2_checker_sets.proofs.Bits.{within-and}
+use Rattle.std.proofs.Common.{refl}
 use Rattle.regalloc2_checker_sets.proofs.sets.Sets.common.Goals as goal
 
-pub returns-then-is_within-clause-found : goal.returns-then-is_within-clause-found
-returns-then-is_within-clause-found g c = record {
-  below = c.requires.set;
-  members = within-and (is_member c.args.self.now c.args.set) (is_member c.args.self.now c.args.other) c.if-is_within.ensures.yes;
-}
+pub returns-in-Some-clause-found : goal.returns-in-Some-clause-found
+returns-in-Some-clause-found g c = (c.in-Some.ensures c.in-Some.number refl).is
 
-pub returns-then-set-lt-FIRST-clause-found : goal.returns-then-set-lt-FIRST-clause-found
-returns-then-set-lt-FIRST-clause-found g c =
-    empty-is c.args.self.now c.self.inside.kept.items _ c.self.view_is
-    (few-apart c.args.self.now c.self.inside.kept.items c.args.set (is_member c.args.self.now c.args.other) c.self.view_is (omega arith)
-    c.if-is_within.ensures.no)
+pub returns-in-Some-clause-less : goal.returns-in-Some-clause-less
+returns-in-Some-clause-less g c = (c.in-Some.ensures c.in-Some.number refl).less

@@ -16,3 +16,6 @@ returns-then-set-eq0-clause-found g c =
     ok-as _ _ c.single.result
     (λ n h. set-is c.single.new.self n _ _ (with-empty c.args.self.now c.args.set c.args.bits
     (empty-at c.args.self.now c.self.inside.kept.items 0 c.self.view_is refl) c.if-set-eq0.true) h) c.single.ensures.found
+
+pub returns-in-Some-clause-found : goal.returns-in-Some-clause-found
+returns-in-Some-clause-found g c = (c.in-Some.ensures c.in-Some.number refl).is

@@ -1,0 +1,96 @@
+//! Which sets were made of which others.
+
+ghost use Rattle.std.specs.Prelude.{◌≡◌, ◌⊎◌, ℕ, None, Some, [], get_or, IfOk};
+ghost use Rattle.regalloc2_checker_sets.specs.declared.notes.Noted.{Noted};
+
+use std::alloc::{AllocError, Allocator};
+use std::marker::Model;
+
+/// How many sets are noted at most.
+const ROOM: usize = 256;
+
+/// A set that was made of another one, and of bits or a third.
+#[derive(Clone, Copy, Drop)]
+pub struct Noted {
+    pub from: u32,
+    pub other: u32,
+    pub number: u32,
+}
+
+/// Sets that were made of others, each at a place that these determine. The last one that was noted there stays.
+#[derive(Drop)]
+pub struct Notes<A: Allocator> {
+    entries: Vec<Option<Noted>, A>,
+}
+
+impl<A: Allocator> Model for Notes<A> {
+    ghost use Rattle.std.specs.Prelude.{List, Option};
+    ghost use Rattle.regalloc2_checker_sets.specs.declared.notes.Noted.{Noted};
+
+    ghost Value = { List (Option Noted) };
+
+    ghost view = { λ n. n.entries.items };
+}
+
+/// The place of a set that is made of two others.
+#[inline(always)]
+fn place_of(from: u32, other: u32) -> usize {
+    let mixed = from
+        .wrapping_mul(0x9e37_79b1)
+        .wrapping_add(other.wrapping_mul(0x85eb_ca6b));
+    (mixed >> 20) as usize % ROOM
+}
+
+/// Room for notes.
+fn empty_entries<A: Allocator + Copy>(alloc: A) -> Result<Vec<Option<Noted>, A>, AllocError>
+    ensures { IfOk result (λ entries. (i : ℕ) (e : Noted) → get_or entries.items i None ≡ Some e → ⊥) }
+{
+    let entries = Vec::from_elem(alloc, None, ROOM)?;
+    Ok(entries)
+}
+
+impl<A: Allocator + Copy> Notes<A> {
+    /// No notes. Allocates nothing.
+    pub fn new(alloc: A) -> Notes<A>
+        ensures { result ≡ [] }
+    {
+        Notes {
+            entries: Vec::new(alloc),
+        }
+    }
+
+    /// The number of a set that was made of others, if it is noted.
+    #[inline(always)]
+    pub fn find(&self, from: u32, other: u32) -> Option<u32>
+        ensures { (n : ℕ) → result ≡ Some n → (i : ℕ) × (get_or self.now i None ≡ Some (record { from = from; other = other; number = n })) }
+    {
+        let place = place_of(from, other);
+        if place >= self.entries.len() {
+            return None;
+        }
+        let noted = self.entries[place]?;
+        if noted.from == from && noted.other == other {
+            return Some(noted.number);
+        }
+        None
+    }
+
+    /// Notes a set that was made of others.
+    pub fn note(&mut self, alloc: A, from: u32, other: u32, number: u32) -> Result<(), AllocError>
+        ensures { (i : ℕ) (e : Noted) → get_or self.new i None ≡ Some e
+            → (get_or self.old i None ≡ Some e) ⊎ (e ≡ record { from = from; other = other; number = number }) }
+    {
+        let place = place_of(from, other);
+        if place >= self.entries.len() {
+            self.entries = empty_entries(alloc)?;
+        }
+        if place < self.entries.len() {
+            self.entries[place] = Some(Noted {
+                from,
+                other,
+                number,
+            });
+        }
+        Ok(())
+    }
+}
