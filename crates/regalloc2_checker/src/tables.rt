@@ -588,12 +588,14 @@ impl<A: Allocator + Copy> Tables<A> {
         Ok(())
     }
 
-    /// How many words the tables take.
+    /// How many words the tables take, with their sets.
     pub fn word_count(&self) -> usize {
-        self.entries.word_count()
+        self.entries
+            .word_count()
+            .saturating_add(self.sets.word_count())
     }
 
-    /// Drops the tables that have a mark, unless that makes no room, and the one that is worked on.
+    /// Drops the tables that have a mark, unless that makes no room, the one that is worked on, and sets that none has.
     pub fn drop_marked(&mut self, alloc: A, marks: &[bool]) -> Result<(), AllocError>
         ensures places { self.new.places ≡ self.old.places }
         ensures vregs { self.new.vregs ≡ self.old.vregs }
@@ -602,7 +604,7 @@ impl<A: Allocator + Copy> Tables<A> {
             → holds_in self.new k i y ≡ holds_in self.old k i y) }
     {
         let Some(entries) = self.entries.without(alloc, marks)? else {
-            return Ok(());
+            return drop_unused_sets(alloc, &mut self.entries, &mut self.sets);
         };
         self.entries = entries;
         drop_unused_sets(alloc, &mut self.entries, &mut self.sets)

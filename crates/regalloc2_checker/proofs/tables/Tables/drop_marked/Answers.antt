@@ -22,6 +22,18 @@ invariant_of-self g c =
     } in
     sound-kept old c.without.new.self c.self.invariant c.without.ensures.saved c.without.ensures.long c.without.ensures.array
 
+pub drop_unused_sets-requires-clause-below : goal.drop_unused_sets-requires-clause-below
+drop_unused_sets-requires-clause-below g c =
+    let old : Holding = record {
+      places = c.self.inside.places;
+      vregs = c.self.inside.vregs;
+      entries = c.self.inside.entries;
+      sets = c.self.inside.sets;
+      homes = c.self.inside.homes;
+    } in
+    let sound = sound-kept old c.without.new.self c.self.invariant c.without.ensures.saved c.without.ensures.long c.without.ensures.array in
+    sets-sound (record old { entries = c.without.new.self }) sound
+
 pub invariant_of-self-in_default : goal.invariant_of-self-in_default
 invariant_of-self-in_default g c =
     let old : Holding = record {
@@ -31,14 +43,31 @@ invariant_of-self-in_default g c =
       sets = c.self.inside.sets;
       homes = c.self.inside.homes;
     } in
-    sound-kept old c.without.new.self c.self.invariant c.without.ensures.saved c.without.ensures.long c.without.ensures.array
+    let sound = sound-kept old c.without.new.self c.self.invariant c.without.ensures.saved c.without.ensures.long c.without.ensures.array in
+    members-sound (record old { entries = c.without.new.self }) c.drop_unused_sets.new.sets c.drop_unused_sets.new.entries sound
+    c.drop_unused_sets.ensures.same
 
 pub returns-in_default-clause-tables : goal.returns-in_default-clause-tables
-returns-in_default-clause-tables g c k i y less not in_it =
-    ap (λ x. is_member c.self.inside.sets x y) (c.without.ensures.saved k i) ∙ ap (λ (o : Holding). holds_in o k i y) c.self.view_is
+returns-in_default-clause-tables g c =
+    let old : Holding = record {
+      places = c.self.inside.places;
+      vregs = c.self.inside.vregs;
+      entries = c.self.inside.entries;
+      sets = c.self.inside.sets;
+      homes = c.self.inside.homes;
+    } in
+    let sound = sound-kept old c.without.new.self c.self.invariant c.without.ensures.saved c.without.ensures.long c.without.ensures.array in
+    let kept = members-kept (record old { entries = c.without.new.self }) c.drop_unused_sets.new.sets c.drop_unused_sets.new.entries sound
+    c.drop_unused_sets.ensures.same in
+    on_ok_as _ _ c.drop_unused_sets.result
+    (λ u. subst (λ (o : Holding). (k i y : ℕ) → k < count_of o → get_or c.args.marks.now k false ≡ false → i < length o.places →
+    holds_in (record old { entries = c.drop_unused_sets.new.entries; sets = c.drop_unused_sets.new.sets }) k i y ≡ holds_in o k i y)
+    c.self.view_is
+    (λ k i y l unset less. kept.tables k i y less ∙ ap (λ x. is_member c.self.inside.sets x y) (c.without.ensures.saved k i)))
+    c.drop_unused_sets.ensures.used
 
-pub drop_unused_sets-requires-clause-below : goal.drop_unused_sets-requires-clause-below
-drop_unused_sets-requires-clause-below g c =
+pub drop_unused_sets-requires-2-clause-below : goal.drop_unused_sets-requires-2-clause-below
+drop_unused_sets-requires-2-clause-below g c =
     let old : Holding = record {
       places = c.self.inside.places;
       vregs = c.self.inside.vregs;
@@ -61,7 +90,7 @@ invariant_of-self-2 g c =
     } in
     let w : IsWithout c.args.marks.now c.self.inside.entries c.in-Some.entries = rw c.in-Some.is at c.in_ok-entries.ensures.without in
     let sound = sound-without old c.in-Some.entries c.args.marks.now c.self.invariant w in
-    members-sound (record old { entries = c.in-Some.entries }) c.drop_unused_sets.new.sets c.drop_unused_sets.new.entries sound c.drop_unused_sets.ensures.same
+    members-sound (record old { entries = c.in-Some.entries }) c.drop_unused_sets-2.new.sets c.drop_unused_sets-2.new.entries sound c.drop_unused_sets-2.ensures.same
 
 pub returns-clause-tables : goal.returns-clause-tables
 returns-clause-tables g c =
@@ -74,13 +103,13 @@ returns-clause-tables g c =
     } in
     let w : IsWithout c.args.marks.now c.self.inside.entries c.in-Some.entries = rw c.in-Some.is at c.in_ok-entries.ensures.without in
     let sound = sound-without old c.in-Some.entries c.args.marks.now c.self.invariant w in
-    let kept = members-kept (record old { entries = c.in-Some.entries }) c.drop_unused_sets.new.sets c.drop_unused_sets.new.entries sound
-    c.drop_unused_sets.ensures.same in
-    on_ok_as _ _ c.drop_unused_sets.result
+    let kept = members-kept (record old { entries = c.in-Some.entries }) c.drop_unused_sets-2.new.sets c.drop_unused_sets-2.new.entries sound
+    c.drop_unused_sets-2.ensures.same in
+    on_ok_as _ _ c.drop_unused_sets-2.result
     (λ u. subst (λ (o : Holding). (k i y : ℕ) → k < count_of o → get_or c.args.marks.now k false ≡ false → i < length o.places →
-    holds_in (record old { entries = c.drop_unused_sets.new.entries; sets = c.drop_unused_sets.new.sets }) k i y ≡ holds_in o k i y) c.self.view_is
+    holds_in (record old { entries = c.drop_unused_sets-2.new.entries; sets = c.drop_unused_sets-2.new.sets }) k i y ≡ holds_in o k i y) c.self.view_is
     (λ k i y l unset less. kept.tables k i y less ∙ held-without old c.in-Some.entries c.args.marks.now c.self.invariant w k i y l unset less))
-    c.drop_unused_sets.ensures.used
+    c.drop_unused_sets-2.ensures.used
 
 pub returns-in_err-entries-clause-tables : goal.returns-in_err-entries-clause-tables
 returns-in_err-entries-clause-tables g c = let p = err_from_is_err_and c.from_residual.result c.from_residual.ensures.1 in rw p.1 tt
