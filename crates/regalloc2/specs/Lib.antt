@@ -15,6 +15,8 @@ pub use Rattle.regalloc2_names.specs.Packing
 pub use Rattle.regalloc2_names.specs.Place
 pub use Rattle.regalloc2_names.specs.PlaceBits
 pub use Rattle.regalloc2_names.specs.Point
+pub use Rattle.regalloc2_names.specs.SameSet
+pub use Rattle.regalloc2_names.specs.ErrorKind
 pub use Rattle.regalloc2_names.specs.Text
 pub use Rattle.regalloc2_function.specs.FunctionValue
 pub use Rattle.regalloc2_function.specs.SingleUnits
@@ -41,6 +43,8 @@ pub use Rattle.regalloc2_function.specs.Laws
 pub use Rattle.regalloc2_serialize.specs.TableFunction.Table
 pub use Rattle.regalloc2_serialize.specs.TableFunction.Draft
 pub use Rattle.regalloc2_serialize.specs.TableFunction.Built
+pub use Rattle.regalloc2_serialize.specs.TableFunction.BuildText
+pub use Rattle.regalloc2_semantics.specs.Laws as EarlierWrites
 pub use Rattle.regalloc2_semantics.specs.Live
 pub use Rattle.regalloc2_semantics.specs.Values.Alike
 pub use Rattle.regalloc2_semantics.specs.Values.Interpreters
@@ -57,6 +61,8 @@ pub use Rattle.regalloc2_checker.specs.Report
 pub use Rattle.regalloc2_checker.specs.Text as FaultText
 pub use Rattle.regalloc2_checker.specs.Cells
 pub use Rattle.regalloc2_checker.specs.CellFaults
+pub use Rattle.regalloc2_checker.specs.CellText
+pub use Rattle.regalloc2_checker.specs.ErrorsText
 pub use Rattle.regalloc2_function.specs.Definitions
 pub use Rattle.regalloc2_function.specs.Leaves
 pub use Rattle.regalloc2_function.specs.Listed as ListedBlocks
@@ -65,8 +71,10 @@ pub use Rattle.regalloc2_function.specs.Tables
 pub use Rattle.regalloc2_function.specs.Ways
 pub use Rattle.regalloc2_parts.specs.Computed
 pub use Rattle.regalloc2_parts.specs.Giving
+pub use Rattle.regalloc2_parts.specs.Links
 pub use Rattle.regalloc2_parts.specs.LiveList
 pub use Rattle.regalloc2_parts.specs.Matching
+pub use Rattle.regalloc2_parts.specs.MoveText
 pub use Rattle.regalloc2_parts.specs.Parted
 pub use Rattle.regalloc2_parts.specs.Picked
 pub use Rattle.regalloc2_parts.specs.Resolved
@@ -94,6 +102,7 @@ pub use Rattle.regalloc2_names.specs.declared.OperandConstraint
 pub use Rattle.regalloc2_names.specs.declared.OperandKind
 pub use Rattle.regalloc2_names.specs.declared.OperandPos
 pub use Rattle.regalloc2_names.specs.declared.RegAllocError
+pub use Rattle.regalloc2_names.specs.declared.RegAllocErrorKind
 pub use Rattle.regalloc2_names.specs.declared.sets.PRegSet
 pub use Rattle.regalloc2_function.specs.declared.machine.MachineEnv
 pub use Rattle.regalloc2_function.specs.declared.misfit.MachineMisfit

@@ -29,9 +29,11 @@ pub use regalloc2_index::{
 };
 pub use regalloc2_names::{
     Allocation, AllocationKind, InstPosition, Operand, OperandConstraint, OperandKind, OperandPos,
-    PReg, PRegSet, PRegSetIter, ProgPoint, RegAllocError, RegClass, SpillSlot, VReg,
+    PReg, PRegSet, PRegSetIter, ProgPoint, RegAllocError, RegAllocErrorKind, RegClass, SpillSlot,
+    VReg,
 };
 pub use regalloc2_parts::moves;
+pub use regalloc2_semantics::reads_earlier_where_well_formed;
 pub use regalloc2_semantics::values::runs_alike;
 pub use tested::{AllocateError, TestedRunError, allocate, allocate_without_checker, run_tested};
 
