@@ -29,6 +29,9 @@ use regalloc2_names::Allocation;
 use std::alloc::{AllocError, Allocator};
 use std::marker::Model;
 
+/// How many places are many, of those where a vreg may be.
+const MANY_PLACES: usize = 64;
+
 /// Tables of which vregs places hold, by number, and one that is worked on.
 ///
 /// Places and vregs are listed once, and named by their positions there. Each table has one set of the bits of
@@ -40,6 +43,7 @@ pub struct Tables<A: Allocator> {
     entries: Entries<A>,
     sets: Sets<A>,
     homes: Homes<A>,
+    alloc: A,
 }
 
 impl<A: Allocator> Model for Tables<A> {
@@ -110,6 +114,43 @@ fn drop_members<A: Allocator + Copy>(
         drop_at(entries, sets, place, bits)?;
     }
     Ok(())
+}
+
+/// Takes a vreg out of listed places.
+fn drop_listed<A: Allocator + Copy>(
+    entries: &mut Entries<A>,
+    sets: &mut Sets<A>,
+    places: &[usize],
+    bits: u32,
+) -> Result<(), AllocError>
+    requires { AreBelow sets.old entries.old }
+    ensures still { AreStill sets.old entries.old sets.new entries.new }
+    ensures ok { OnOk result ((i y : ℕ) → i < length entries.old.cells → held sets.new entries.new i y
+        ≡ (if nat_lt 0 (times_listed places.now i) && nat_eq y bits then false else held sets.old entries.old i y)) }
+    ensures err { OnErr result ((i y : ℕ) → i < length entries.old.cells → held sets.new entries.new i y ≡ true → held sets.old entries.old i y ≡ true) }
+{
+    for place in places {
+        drop_at(entries, sets, *place, bits)?;
+    }
+    Ok(())
+}
+
+/// Takes a vreg out of all places, of which it visits those that hold something.
+fn drop_filled<A: Allocator + Copy>(
+    alloc: A,
+    entries: &mut Entries<A>,
+    sets: &mut Sets<A>,
+    bits: u32,
+) -> Result<(), AllocError>
+    requires below { AreBelow sets.old entries.old }
+    requires empty { IsSetOf sets.old 0 (λ y. false) }
+    ensures still { AreStill sets.old entries.old sets.new entries.new }
+    ensures ok { OnOk result ((i y : ℕ) → i < length entries.old.cells → held sets.new entries.new i y
+        ≡ (if nat_eq y bits then false else held sets.old entries.old i y)) }
+    ensures err { OnErr result ((i y : ℕ) → i < length entries.old.cells → held sets.new entries.new i y ≡ true → held sets.old entries.old i y ≡ true) }
+{
+    let places = entries.filled_positions(alloc)?;
+    drop_listed(entries, sets, &places, bits)
 }
 
 /// Takes a vreg out of the places where it may be.
@@ -411,6 +452,7 @@ impl<A: Allocator + Copy> Tables<A> {
             entries,
             sets: Sets::new(alloc),
             homes,
+            alloc,
         })
     }
 
@@ -477,6 +519,32 @@ impl<A: Allocator + Copy> Tables<A> {
         Ok(())
     }
 
+    /// Whether a vreg may be in many places, and in more than are in chunks that hold something.
+    #[inline(always)]
+    fn is_everywhere(&self, vreg: usize) -> bool
+        requires { vreg < length self.now.vregs }
+    {
+        let count = self.homes.at(vreg).other_count();
+        if count < MANY_PLACES {
+            return false;
+        }
+        if count < self.entries.len() / 1024 {
+            return false;
+        }
+        self.entries.filled_count() <= count / 64
+    }
+
+    /// Takes a vreg out of every place, of which it visits those that hold something.
+    #[inline(never)]
+    fn forget_filled(&mut self, vreg: usize) -> Result<(), AllocError>
+        requires { vreg < length self.old.vregs }
+        ensures kept { AreKeptTables self.old self.new }
+        ensures now { OnOk result (HoldsNow self.new (λ i y. if nat_eq y (get_or self.old.vregs vreg 0) then false else holds_now self.old i y)) }
+    {
+        let bits = self.vregs.number(vreg);
+        drop_filled(self.alloc, &mut self.entries, &mut self.sets, bits)
+    }
+
     /// Takes a vreg out of every place.
     #[inline(always)]
     pub fn forget(&mut self, vreg: usize) -> Result<(), AllocError>
@@ -484,6 +552,9 @@ impl<A: Allocator + Copy> Tables<A> {
         ensures kept { AreKeptTables self.old self.new }
         ensures now { OnOk result (HoldsNow self.new (λ i y. if nat_eq y (get_or self.old.vregs vreg 0) then false else holds_now self.old i y)) }
     {
+        if self.is_everywhere(vreg) {
+            return self.forget_filled(vreg);
+        }
         let bits = self.vregs.number(vreg);
         drop_everywhere(
             &mut self.entries,

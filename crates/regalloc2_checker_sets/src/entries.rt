@@ -6,7 +6,7 @@
 //! numbers itself, with saved copies, so neither saving nor loading a copy goes over all chunks.
 
 ghost use Rattle.std.specs.Prelude.{◌≡◌, ◌≢◌, ℕ, ◌+◌, ◌*◌, ◌/◌, ◌-◌, ◌^◌, ◌<◌, ◌≤◌, length, get_or, slice_set};
-ghost use Rattle.std.specs.Prelude.{◌⊎◌, IfOk, IfSome, OnOk, OnErr, None, Some, [], true, false};
+ghost use Rattle.std.specs.Prelude.{◌⊎◌, IfOk, IfSome, OnOk, OnErr, None, Some, [], true, false, Contains};
 ghost use Rattle.std.specs.Bool.{OnTrue};
 ghost use Rattle.regalloc2_checker_sets.specs.Renumbering.{renamed, IsMarked, AppearsIn};
 ghost use Rattle.regalloc2_checker_sets.specs.SavedCopies.{number_in_cell, AreMoreWords};
@@ -159,6 +159,76 @@ impl<A: Allocator + Copy> Entries<A> {
         ensures { result ≡ number_now self.now position }
     {
         self.cells[position]
+    }
+
+    /// Whether a chunk of the array is known to have zeros alone, by where it is stored.
+    fn has_zeros(&self, chunk: usize, begins_with_zeros: bool) -> bool
+        requires zeros { begins_with_zeros ≡ true → ((t : ℕ) → t < 64 → get_or self.now.words t 0 ≡ 0) }
+        requires chunk { 64 * chunk + 64 ≤ length self.now.cells }
+        ensures { result ≡ true → (t : ℕ) → t < 64 → number_now self.now (64 * chunk + t) ≡ 0 }
+    {
+        if !begins_with_zeros {
+            return false;
+        }
+        self.bases.get(chunk) == 0
+    }
+
+    /// How many chunks of the array aren't known to have zeros alone.
+    pub fn filled_count(&self) -> usize {
+        let begins_with_zeros = begins_with_zeros(&self.words);
+        let mut count: usize = 0;
+        for chunk in 0..self.cells.len() / 64 {
+            if self.has_zeros(chunk, begins_with_zeros) {
+                continue;
+            }
+            count = count.saturating_add(1);
+        }
+        count
+    }
+
+    /// Lists a position of the array, unless it has a zero.
+    fn list_position(
+        &self,
+        positions: &mut Vec<usize, A>,
+        position: usize,
+    ) -> Result<(), AllocError>
+        requires { position < length self.now.cells }
+        ensures more { (i : ℕ) → Contains positions.old.items i → Contains positions.new.items i }
+        ensures listed { OnOk result ((number_now self.now position ≡ 0) ⊎ Contains positions.new.items position) }
+    {
+        if self.get(position) == 0 {
+            return Ok(());
+        }
+        positions.push(position)?;
+        Ok(())
+    }
+
+    /// Lists the positions of a chunk of the array that don't have a zero.
+    fn list_filled(&self, positions: &mut Vec<usize, A>, chunk: usize) -> Result<(), AllocError>
+        requires within { 64 * chunk + 64 ≤ length self.now.cells }
+        requires small { 64 * chunk + 64 < 2 ^ 64 }
+        ensures more { (i : ℕ) → Contains positions.old.items i → Contains positions.new.items i }
+        ensures listed { OnOk result ((i : ℕ) → 64 * chunk ≤ i → i < 64 * chunk + 64 → (number_now self.now i ≡ 0) ⊎ Contains positions.new.items i) }
+    {
+        for t in 0..64 {
+            self.list_position(positions, 64 * chunk + t)?;
+        }
+        Ok(())
+    }
+
+    /// The positions of the array, but for some that have a zero.
+    pub fn filled_positions(&self, alloc: A) -> Result<Vec<usize, A>, AllocError>
+        ensures { IfOk result (λ ps. (i : ℕ) → i < length self.now.cells → (number_now self.now i ≡ 0) ⊎ Contains ps.items i) }
+    {
+        let begins_with_zeros = begins_with_zeros(&self.words);
+        let mut positions = Vec::new(alloc);
+        for chunk in 0..self.cells.len() / 64 {
+            if self.has_zeros(chunk, begins_with_zeros) {
+                continue;
+            }
+            self.list_filled(&mut positions, chunk)?;
+        }
+        Ok(positions)
     }
 
     /// Writes the number at a position.

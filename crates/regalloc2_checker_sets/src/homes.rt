@@ -151,11 +151,12 @@ fn index_for(numbers: &[u32], number: u32) -> Option<usize>
 }
 
 /// More places where a vreg may be: six numbers that stand for a place each, or for none if they are 0, and a set of other
-/// places, which is made for the first of them.
+/// places, which is made for the first of them, with how many it has.
 #[derive(Drop)]
 struct More<A: Allocator> {
     numbers: [u32; 6],
     others: Option<Box<IndexSet<A>, A>>,
+    count: usize,
 }
 
 impl<A: Allocator> Model for More<A> {
@@ -175,7 +176,21 @@ impl<A: Allocator + Copy> More<A> {
         More {
             numbers: [0; 6],
             others: None,
+            count: 0,
         }
+    }
+
+    /// The size of the set of other places, once it has a place too.
+    fn count_with(&self, place: usize) -> usize
+        requires { place < 2 ^ 38 }
+    {
+        let Some(set) = set_of(&self.others) else {
+            return 1;
+        };
+        if set.get(place) {
+            return self.count;
+        }
+        self.count.saturating_add(1)
     }
 
     /// Adds a place.
@@ -189,6 +204,7 @@ impl<A: Allocator + Copy> More<A> {
             return add_other(alloc, &mut self.others, place);
         };
         let Some(n) = index_for(&self.numbers, number) else {
+            self.count = self.count_with(place);
             return add_other(alloc, &mut self.others, place);
         };
         self.numbers[n] = number;
@@ -346,6 +362,14 @@ impl<'a, A: Allocator + Copy> Home<'a, A> {
             first: self.first,
             second: self.second,
             more: NumbersIter(numbers_of(self.more)),
+        }
+    }
+
+    /// How many places are in the set of other places.
+    pub fn other_count(&self) -> usize {
+        match self.more {
+            Some(more) => more.count,
+            None => 0,
         }
     }
 
