@@ -29,8 +29,8 @@ use regalloc2_names::Allocation;
 use std::alloc::{AllocError, Allocator};
 use std::marker::Model;
 
-/// How many places are many, of those where a vreg may be.
-const MANY_PLACES: usize = 64;
+/// How many homes of a vreg, the places where it may be, are many.
+const MANY_HOMES: usize = 64;
 
 /// Tables of which vregs places hold, by number, and one that is worked on.
 ///
@@ -135,7 +135,7 @@ fn drop_listed<A: Allocator + Copy>(
     Ok(())
 }
 
-/// Takes a vreg out of all places, of which it visits those that hold something.
+/// Takes a vreg out of all places; visits only those that hold something.
 fn drop_filled<A: Allocator + Copy>(
     alloc: A,
     entries: &mut Entries<A>,
@@ -519,22 +519,23 @@ impl<A: Allocator + Copy> Tables<A> {
         Ok(())
     }
 
-    /// Whether a vreg may be in many places, and in more than are in chunks that hold something.
+    /// Whether a vreg may be in many places, and in more than the chunks have that aren't stored as zeros.
     #[inline(always)]
-    fn is_everywhere(&self, vreg: usize) -> bool
+    fn has_many_homes(&self, vreg: usize) -> bool
         requires { vreg < length self.now.vregs }
     {
         let count = self.homes.at(vreg).other_count();
-        if count < MANY_PLACES {
+        if count < MANY_HOMES {
             return false;
         }
+        // Counting those chunks would take longer.
         if count < self.entries.len() / 1024 {
             return false;
         }
         self.entries.filled_count() <= count / 64
     }
 
-    /// Takes a vreg out of every place, of which it visits those that hold something.
+    /// Takes a vreg out of every place; visits only those that hold something.
     #[inline(never)]
     fn forget_filled(&mut self, vreg: usize) -> Result<(), AllocError>
         requires { vreg < length self.old.vregs }
@@ -552,7 +553,7 @@ impl<A: Allocator + Copy> Tables<A> {
         ensures kept { AreKeptTables self.old self.new }
         ensures now { OnOk result (HoldsNow self.new (λ i y. if nat_eq y (get_or self.old.vregs vreg 0) then false else holds_now self.old i y)) }
     {
-        if self.is_everywhere(vreg) {
+        if self.has_many_homes(vreg) {
             return self.forget_filled(vreg);
         }
         let bits = self.vregs.number(vreg);

@@ -1,6 +1,7 @@
 -- The sets have the members that the contracts say, and saved copies the numbers.
 -- Read first: `Bits`, the members of sets; then `Chunks`, the chunks of saved copies.
--- Depends on the specs. `Rows`, `Chunks` and `Written` are saved copies, `Filled` a walk over an array; `Lone`, `TwoSets`, `AllSets`, `Walked` and `Listed` are sets; `Noted` is which sets were made of others; `HomeLaws` is the places
+-- Depends on the specs. `Rows`, `Chunks` and `Written` are saved copies, and `Filled` is the positions of an array that aren't zeros;
+-- `Lone`, `TwoSets`, `AllSets`, `Walked` and `Listed` are sets; `Noted` is which sets were made of others; `HomeLaws` is the places
 -- of one home, and `HomeLists` all homes; `PlaceLaws` is where places are listed; `MovedDown` and `Renumbered` are sets that are dropped.
 pub mod Walked
 pub mod Bits

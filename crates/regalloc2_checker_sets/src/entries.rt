@@ -161,7 +161,7 @@ impl<A: Allocator + Copy> Entries<A> {
         self.cells[position]
     }
 
-    /// Whether a chunk of the array is known to have zeros alone, by where it is stored.
+    /// Whether a chunk of the array is stored as zeros.
     fn has_zeros(&self, chunk: usize, begins_with_zeros: bool) -> bool
         requires zeros { begins_with_zeros ≡ true → ((t : ℕ) → t < 64 → get_or self.now.words t 0 ≡ 0) }
         requires chunk { 64 * chunk + 64 ≤ length self.now.cells }
@@ -173,7 +173,7 @@ impl<A: Allocator + Copy> Entries<A> {
         self.bases.get(chunk) == 0
     }
 
-    /// How many chunks of the array aren't known to have zeros alone.
+    /// How many chunks of the array aren't stored as zeros.
     pub fn filled_count(&self) -> usize {
         let begins_with_zeros = begins_with_zeros(&self.words);
         let mut count: usize = 0;
@@ -186,7 +186,7 @@ impl<A: Allocator + Copy> Entries<A> {
         count
     }
 
-    /// Lists a position of the array, unless it has a zero.
+    /// Lists a position of the array, unless its number is 0.
     fn list_position(
         &self,
         positions: &mut Vec<usize, A>,
@@ -203,7 +203,7 @@ impl<A: Allocator + Copy> Entries<A> {
         Ok(())
     }
 
-    /// Lists the positions of a chunk of the array that don't have a zero.
+    /// Lists the positions of a chunk of the array whose numbers aren't 0.
     fn list_filled(&self, positions: &mut Vec<usize, A>, chunk: usize) -> Result<(), AllocError>
         requires within { 64 * chunk + 64 ≤ length self.now.cells }
         requires small { 64 * chunk + 64 < 2 ^ 64 }
@@ -216,9 +216,9 @@ impl<A: Allocator + Copy> Entries<A> {
         Ok(())
     }
 
-    /// The positions of the array, but for some that have a zero.
+    /// The positions of the array whose numbers aren't 0.
     pub fn filled_positions(&self, alloc: A) -> Result<Vec<usize, A>, AllocError>
-        ensures { IfOk result (λ ps. (i : ℕ) → i < length self.now.cells → (number_now self.now i ≡ 0) ⊎ Contains ps.items i) }
+        ensures { IfOk result (λ positions. (i : ℕ) → i < length self.now.cells → (number_now self.now i ≡ 0) ⊎ Contains positions.items i) }
     {
         let begins_with_zeros = begins_with_zeros(&self.words);
         let mut positions = Vec::new(alloc);

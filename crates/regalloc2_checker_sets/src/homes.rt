@@ -180,7 +180,7 @@ impl<A: Allocator + Copy> More<A> {
         }
     }
 
-    /// The size of the set of other places, once it has a place too.
+    /// How many places the set of other places has once a place is added.
     fn count_with(&self, place: usize) -> usize
         requires { place < 2 ^ 38 }
     {

@@ -1,6 +1,6 @@
 use Rattle.std.proofs.Common.{◌<◌, length, arith, sym, subst}
 use Rattle.regalloc2_checker.specs.Holding.{Holding}
-use Rattle.regalloc2_checker.proofs.tables.Tables.is_everywhere.Goals as goal
+use Rattle.regalloc2_checker.proofs.tables.Tables.has_many_homes.Goals as goal
 
 pub at-requires : goal.at-requires
 at-requires g c =
