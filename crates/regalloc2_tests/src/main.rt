@@ -22,10 +22,12 @@ mod graph;
 mod instructions;
 mod large;
 mod maker;
+mod prepared;
 mod program;
 mod random;
 mod refusing;
 mod rows;
+mod single_calls;
 mod test_alloc;
 mod texts;
 mod units;
@@ -103,14 +105,19 @@ fn agreeing(alloc: Global, count: u64) -> usize {
 }
 
 /// Writes what the allocator and the checker return.
-fn write_calls(alloc: Global, out: &mut Report) {
+fn write_calls(alloc: Global, out: &mut Report) -> Result<(), AllocError> {
     out.row("tables", &rows::tables(alloc));
     out.row("slots and refusals", &rows::slots_and_refusals(alloc));
+    out.row("order", &rows::order_to_nowhere(alloc));
+    out.row("held by a context", &rows::held(alloc));
     out.row("verdicts", &rows::verdicts(alloc));
+    prepared::write_all(alloc, out)?;
+    single_calls::write_all(alloc, out);
     out.row("2^32 - 2^15 operands", &adversary::lend(alloc, 131_071));
     out.row("2^32 operands", &adversary::lend(alloc, 131_072));
     out.row("failures of 3000 functions", &failures(alloc, 3000));
     out.row("large functions", &large::sizes(alloc));
+    Ok(())
 }
 
 /// Writes what `ra2` returns.
@@ -139,7 +146,7 @@ fn write_program(alloc: Global, out: &mut Report) {
 /// Writes what the allocator, the checker and `ra2` return.
 fn show_rows<W: Write>(alloc: Global, out: &mut W) -> io::Result<()> {
     let mut report = Report::new(alloc);
-    write_calls(alloc, &mut report);
+    write_calls(alloc, &mut report)?;
     write_program(alloc, &mut report);
     report.print(out)
 }

@@ -1,9 +1,11 @@
 //! A loop and a fork, and results of calls on them that no listing shows. The lemmas of
 //! `WorkedPaths` say what they read.
 
-use super::calls::{run_fitting, run_with_ctx_fitting};
+use super::calls::{
+    order, run_fitting, run_into_ctx_fitting, run_with_ctx_fitting, run_without_debug_locations,
+};
 use super::random::integer_machine;
-use super::texts::function_of;
+use super::texts::{function_of, labelled_function_of};
 use regalloc2::cfg::CFGInfo;
 use regalloc2::checker::{Checker, CheckerErrors};
 use regalloc2::ssa::validate_ssa;
@@ -16,6 +18,10 @@ const LOOP: &str = "block0:\n  op: Def: v0i reg\n  op: Def: v1i reg\n  branch bl
     block1(v2i, v3i):\n  op: Use: v2i reg\n  branch block2(), block3()\n\
     block2:\n  branch block1(v3i, v2i)\n\
     block3:\n  ret: Use: v2i reg, Use: v3i reg\n";
+
+/// Two values with a label.
+const LABELLED: &str = "block0:\n  op: Def: v0i reg, Def: v1i reg\n\
+    ret: Use: v0i reg, Use: v1i reg\nlabel 5: v0i from inst0 until inst1\n";
 
 /// A fork that passes its value on one edge to a parameter.
 const FORK: &str = "block0:\n  op: Def: v0i reg\n  branch block1(v0i), block2()\n\
@@ -121,6 +127,40 @@ pub fn slots_and_refusals(
     slots_and_refusals_of(alloc, &mut f, &mut Ctx::new(alloc))
 }
 
+/// How `calculate` rejects the loop if its second block goes on to no block.
+pub fn order_to_nowhere(alloc: Global) -> Option<RegAllocError> {
+    let mut f = function_of(alloc, LOOP)?;
+    lead_nowhere(&mut f)?;
+    order(alloc, &f, &mut Vec::new(alloc)).err()
+}
+
+/// The result of a call with a context, and how many debug locations the context holds after it.
+type Held = (Result<(), RegAllocError>, usize);
+
+/// The results of [`held`], for a function that needs two registers.
+fn held_of<F: Function>(alloc: Global, f: &F, ctx: &mut Ctx) -> Option<[Held; 3]> {
+    let (one, two) = (integer_machine(alloc, 1), integer_machine(alloc, 2));
+    let stored = run_into_ctx_fitting(f, &two, ctx)?;
+    let stored = (stored, ctx.output.debug_locations.len());
+    let rejected = run_without_debug_locations(f, &one, ctx)?;
+    let rejected = (rejected, ctx.output.debug_locations.len());
+    let removed = run_without_debug_locations(f, &two, ctx)?;
+    Some([
+        stored,
+        rejected,
+        (removed, ctx.output.debug_locations.len()),
+    ])
+}
+
+/// What a context holds: an output that was stored; the same after a rejected run; and one whose
+/// debug locations the borrower removed.
+pub fn held(alloc: Global) -> Option<[Held; 3]> {
+    match labelled_function_of(alloc, LABELLED) {
+        Some(f) => held_of(alloc, &f, &mut Ctx::new(alloc)),
+        None => None,
+    }
+}
+
 /// What a checker reports, if it takes just the outputs that it should, one after another.
 fn report<F: Function>(
     mut checker: Checker<'_, F>,
@@ -135,7 +175,7 @@ fn report<F: Function>(
 }
 
 /// What a new checker of a function reports, if it takes just the outputs that it should.
-fn verdict<F: Function>(
+pub fn verdict<F: Function>(
     alloc: Global,
     f: &F,
     given: &[(&Output, bool)],

@@ -2,9 +2,9 @@
 
 use regalloc2_function::Function;
 use regalloc2_index::Block;
+use regalloc2_serialize::SerializableFunction;
 use regalloc2_serialize::rewrite::renumber;
 use regalloc2_serialize::table_function::TableFunction;
-use regalloc2_serialize::{SerializableFunction, StoredFunction};
 use regalloc2_tool::calls::reading::read_text;
 use std::alloc::Global;
 
@@ -17,18 +17,18 @@ fn copy_of<F: Function>(alloc: Global, f: &F) -> Option<TableFunction> {
     renumber(alloc, f, &blocks).ok()
 }
 
-/// A copy of the function of stored numbers.
-fn copy_of_stored(alloc: Global, stored: &StoredFunction) -> Option<TableFunction> {
-    match SerializableFunction::from_stored(alloc, stored) {
-        Ok(f) => copy_of(alloc, &f),
+/// The function of a text, with its labels.
+pub fn labelled_function_of(alloc: Global, text: &str) -> Option<SerializableFunction> {
+    match read_text(alloc, text, 1) {
+        Ok(text) => SerializableFunction::from_stored(alloc, &text.function).ok(),
         Err(_) => None,
     }
 }
 
-/// The function of a text.
+/// The function of a text without labels, whose blocks and instructions may be changed.
 pub fn function_of(alloc: Global, text: &str) -> Option<TableFunction> {
-    match read_text(alloc, text, 1) {
-        Ok(text) => copy_of_stored(alloc, &text.function),
-        Err(_) => None,
+    match labelled_function_of(alloc, text) {
+        Some(f) => copy_of(alloc, &f),
+        None => None,
     }
 }

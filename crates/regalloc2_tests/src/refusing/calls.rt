@@ -1,13 +1,12 @@
 //! The calls that allocate memory, with their results as text.
 
-use crate::calls::{run_fitting, run_with_ctx_fitting};
+use crate::calls::{order, run_fitting, run_with_ctx_fitting};
 use crate::test_alloc::{Call, Refusing};
 use regalloc2::cfg::{CFGInfo, CFGInfoCtx};
 use regalloc2::checker::{Checker, CheckerError, CheckerErrors};
-use regalloc2::postorder::calculate;
 use regalloc2::ssa::{reads_written, validate_ssa};
 use regalloc2::{
-    AllocateError, Block, Ctx, Function, MachineEnv, Output, RegAllocError, TestedRunError,
+    AllocateError, Ctx, Function, MachineEnv, Output, RegAllocError, TestedRunError,
     allocate, is_framed, run_tested,
 };
 use std::alloc::{AllocError, Allocator, Global};
@@ -304,22 +303,4 @@ fn left_in<A: Allocator>(info: &CFGInfo<A>) -> Option<&'static str> {
 fn definitions<A: Allocator + Copy, F: Function>(alloc: A, f: &F) -> Result<(), RegAllocError> {
     let info = CFGInfo::new(alloc, f)?;
     validate_ssa(alloc, f, &info)
-}
-
-/// The order of a function's blocks, requested by a closure.
-fn order<A: Allocator + Copy, F: Function>(
-    alloc: A,
-    f: &F,
-    out: &mut Vec<Block, A>,
-) -> Result<(), RegAllocError> {
-    let mut visited = Vec::new(alloc);
-    let entry = f.entry_block();
-    calculate(
-        alloc,
-        f.num_blocks(),
-        entry,
-        &mut visited,
-        out,
-        |block| f.block_succs(block),
-    )
 }

@@ -41,6 +41,8 @@ fn write_changes(alloc: Global, out: &mut Report) -> Result<(), AllocError> {
     less.remove(p4);
     let mut both = less;
     both.union_from(PRegSet::empty().with(p4));
+    let mut common = both;
+    common.intersect_from(less);
     let mut low = PRegSet::empty().with(p5);
     low.add_up_to(PReg::new(3, RegClass::Int));
     let sets = [
@@ -48,6 +50,7 @@ fn write_changes(alloc: Global, out: &mut Report) -> Result<(), AllocError> {
         ("collected", set),
         ("removed", less),
         ("union", both),
+        ("intersection", common),
         ("and", both & less),
         ("or", less | set),
         ("less", set.difference(PRegSet::empty().with(p4))),

@@ -1,6 +1,9 @@
 //! Calls that allocate memory: each allocation, made to fail in turn.
 
+ghost use Rattle.regalloc2_parts.specs.Resolved.{IsRunnable};
+
 use super::listed::{SLOT, resolved};
+use super::resolver::computed_with;
 use super::structures::three_rings;
 use crate::test_alloc::{Call, Refusing, is_each_told};
 use crate::units::report::Report;
@@ -8,8 +11,8 @@ use crate::units::sets::add_multiples;
 use regalloc2_function::indexset::IndexSet;
 use regalloc2_function::{Function, MachineEnv, Output, StoredFault, StoredOutput, is_framed};
 use regalloc2_names::{PRegSet, RegAllocError};
-use regalloc2_parts::moves::MoveFault;
-use regalloc2_parts::moves::MoveVecWithScratch::{NoScratch, Scratch};
+use regalloc2_parts::moves::MoveVecWithScratch::NoScratch;
+use regalloc2_parts::moves::{MoveFault, MoveVecWithScratch};
 use regalloc2_parts::vregset::VRegSet;
 use regalloc2_serialize::{FromValue, SerializableFunction, StoredFunction};
 use serde_json::Value;
@@ -38,20 +41,32 @@ impl Call for Made<'_> {
     }
 }
 
-/// Resolves a cycle of 17 slots. If one of them is left out, the others need no scratch place.
+/// Computes the moves of a cycle of slots, with two other slots.
+fn compute_cycle(moves: MoveVecWithScratch<u32, &Refusing<Global>>) -> Result<(), RegAllocError>
+    requires { IsRunnable moves }
+{
+    let slots = (None, Some(SLOT + 17), Some(SLOT + 18));
+    match computed_with(slots, moves, false) {
+        Some((Ok(_), _)) => Ok(()),
+        Some((Err(MoveFault::Memory), _)) => Err(RegAllocError::Memory),
+        _ => Err(RegAllocError::TooManySpillSlots),
+    }
+}
+
+/// Resolves and computes a cycle of 17 slots. If one of them is left out, the others need no scratch place.
 fn resolve_cycle(global: Global, alloc: &Refusing<Global>) -> Result<(), RegAllocError> {
     let mut cycle = [(0, 0); 17];
     for at in 0..cycle.len() {
         cycle[at] = (SLOT + at, SLOT + (at + 1) % 17);
     }
     match resolved(global, alloc, &cycle) {
-        Ok(Some(Scratch(_))) => Ok(()),
         Ok(Some(NoScratch(_))) | Err(MoveFault::Memory) => Err(RegAllocError::Memory),
-        _ => Err(RegAllocError::TooManySpillSlots),
+        Ok(Some(moves)) => compute_cycle(moves),
+        Ok(None) | Err(MoveFault::NoSlot) => Err(RegAllocError::TooManySpillSlots),
     }
 }
 
-/// Makes rings and a list, and resolves a cycle.
+/// Makes rings and a list, and resolves and computes a cycle.
 fn make_parts(global: Global, alloc: &Refusing<Global>) -> Result<(), RegAllocError> {
     let _rings = three_rings(alloc)?;
     let _list = VRegSet::with_capacity(alloc, 3)?;

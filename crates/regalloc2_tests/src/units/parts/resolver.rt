@@ -1,46 +1,75 @@
-//! A move resolver whose closures return one register and one slot, each once.
+//! A move resolver whose closures return one register and two slots, each once.
 //!
 //! The rows are worked out by hand: a cycle goes through the first place that is returned. A move
-//! from slot to slot goes through the next register, or else through p40i, which is saved in a slot
+//! from slot to slot goes through the next register, or else through p0i, which is saved in a slot
 //! before it and restored after the last move that uses it.
 
-ghost use Rattle.std.specs.Prelude.{◌≡◌, ◌≢◌, ◌↔◌, Bool, Option, None, Some, IsTrue};
-ghost use Rattle.regalloc2_names.specs.Place.{Place, NoPlace, is_in_slot};
+ghost use Rattle.std.specs.Prelude.{◌≡◌, ◌≢◌, ◌↔◌, true, false, Bool, Option, None, Some, IsTrue};
+ghost use Rattle.regalloc2_names.specs.Place.{Place, is_in_slot};
 ghost use Rattle.regalloc2_parts.specs.Resolved.{moves_listed, IsRunnable, IsUnnamed};
+ghost use Rattle.regalloc2_tests.specs.Serving.{AreApart, Serves};
 
 use super::listed::{Move, Pairs, SLOT, place, resolved, write_moves};
 use crate::units::report::Report;
 use regalloc2_names::{Allocation, PReg, RegClass};
 use regalloc2_parts::moves::MoveVecWithScratch::{NoScratch, Scratch};
 use regalloc2_parts::moves::{MoveAndScratchResolver, MoveFault, MoveVec, MoveVecWithScratch};
-use std::alloc::Global;
+use std::alloc::{Allocator, Global};
+use std::mem::replace;
 
-/// The number of the slot that is returned.
-const SPARE: usize = SLOT + 9;
+/// The numbers of a register and of two slots, where they are free.
+type Numbers = (Option<usize>, Option<usize>, Option<usize>);
 
-/// Moves, and the numbers of the register and of the slot that are free, if they are.
-static CASES: [(Pairs, Option<usize>, Option<usize>); 7] = [
-    (&[(0, 1), (SLOT, 2)], Some(50), Some(SPARE)),
-    (&[(0, 1), (1, 0)], Some(50), Some(SPARE)),
-    (&[(0, 1), (1, 0)], None, Some(SPARE)),
-    (&[(0, 1), (1, 0)], None, None),
-    (&[(SLOT, SLOT + 1)], Some(50), None),
-    (
-        &[(SLOT, SLOT + 1), (40, SLOT + 2), (SLOT + 3, SLOT + 4)],
-        None,
-        Some(SPARE),
-    ),
-    (&[(SLOT, SLOT + 1), (SLOT + 1, SLOT)], Some(50), Some(SPARE)),
+/// No free place.
+const NONE: Numbers = (None, None, None);
+
+/// A free register.
+const REGISTER: Numbers = (Some(5), None, None);
+
+/// A free slot.
+const ONE_SLOT: Numbers = (None, Some(SLOT + 9), None);
+
+/// Two free slots.
+const TWO_SLOTS: Numbers = (None, Some(SLOT + 2), Some(SLOT + 3));
+
+/// A free register and a free slot.
+const BOTH: Numbers = (Some(50), Some(SLOT + 9), None);
+
+/// Two registers that are swapped.
+const SWAP: Pairs = &[(0, 1), (1, 0)];
+
+/// Two slots that are swapped.
+const SWAP_SLOTS: Pairs = &[(SLOT, SLOT + 1), (SLOT + 1, SLOT)];
+
+/// Moves, one of them from slot to slot; the borrowed register is read and written by others.
+const MIXED: Pairs = &[(SLOT, SLOT + 1), (0, 2), (SLOT + 3, 0)];
+
+/// Moves, and the places that are free.
+static CASES: [(Pairs, Numbers); 11] = [
+    (&[(0, 1), (SLOT, 2)], BOTH),
+    (SWAP, BOTH),
+    (SWAP, ONE_SLOT),
+    (SWAP, NONE),
+    (&[(SLOT, SLOT + 1)], REGISTER),
+    (&[(SLOT, SLOT)], REGISTER),
+    (&[(SLOT, SLOT + 1), (0, SLOT + 2), (SLOT + 3, SLOT + 4)], ONE_SLOT),
+    (SWAP_SLOTS, BOTH),
+    (SWAP_SLOTS, TWO_SLOTS),
+    (MIXED, ONE_SLOT),
+    (MIXED, NONE),
 ];
 
 /// Resolved moves.
-type Resolved<'a> = MoveVecWithScratch<u32, &'a Global>;
+type Resolved<'a, A> = MoveVecWithScratch<u32, &'a A>;
 
 /// Moves that can be made, or why there are none.
-type Computed<'a> = Result<MoveVec<u32, &'a Global>, MoveFault>;
+type Computed<'a, A> = Result<MoveVec<u32, &'a A>, MoveFault>;
 
-/// A register and a slot, where they are free.
-type Places = (Option<Allocation>, Option<Allocation>);
+/// A register and two slots, where they are free.
+type Places = (Option<Allocation>, Option<Allocation>, Option<Allocation>);
+
+/// The register and the slot that a resolver returns next, if any.
+type Left = (Option<Allocation>, Option<Allocation>);
 
 /// Whether a move is neither from the place nor to it.
 fn is_apart(m: Move, place: Allocation) -> bool
@@ -57,8 +86,12 @@ fn is_unnamed(moves: &[Move], place: Allocation) -> bool
 }
 
 /// Whether no move names the place, where there is one, and it is a slot or none as it should be.
-fn serves(moves: &Resolved<'_>, place: Option<Allocation>, is_slot: bool) -> bool
-    ensures { IsTrue result → (p : Place) → place ≡ Some p → (is_in_slot p ≡ is_slot) × (p ≢ NoPlace) × IsUnnamed p (moves_listed moves.now) }
+fn serves<A: Allocator>(
+    moves: &Resolved<'_, A>,
+    place: Option<Allocation>,
+    is_slot: bool,
+) -> bool
+    ensures { IsTrue result → Serves (moves_listed moves.now) place is_slot }
 {
     let Some(p) = place else {
         return true;
@@ -72,14 +105,42 @@ fn serves(moves: &Resolved<'_>, place: Option<Allocation>, is_slot: bool) -> boo
     }
 }
 
+/// Whether two places differ, where there are two.
+fn differ(first: Option<Allocation>, second: Option<Allocation>) -> bool
+    ensures { IsTrue result → AreApart first second }
+{
+    let (Some(p), Some(q)) = (first, second) else {
+        return true;
+    };
+    !p.is_same(q)
+}
+
+/// Whether the places serve the moves: a register and two slots that no move names, and that differ.
+fn all_serve<A: Allocator>(moves: &Resolved<'_, A>, free: Places) -> bool
+    ensures register { IsTrue result → Serves (moves_listed moves.now) free.0 false }
+    ensures slots { IsTrue result → Serves (moves_listed moves.now) free.1 true × Serves (moves_listed moves.now) free.2 true }
+    ensures apart { IsTrue result → AreApart free.1 free.2 }
+{
+    if !serves(moves, free.0, false) {
+        return false;
+    }
+    if !serves(moves, free.1, true) {
+        return false;
+    }
+    if !serves(moves, free.2, true) {
+        return false;
+    }
+    differ(free.1, free.2)
+}
+
 /// What a resolver makes of moves, if its places serve them; and if it is called by reference, what
 /// it has left.
-fn computed<'a, R, S, M>(
+fn computed<'a, A: Allocator, R, S, M>(
     mut resolver: MoveAndScratchResolver<R, S, M>,
     free: Places,
-    moves: Resolved<'a>,
+    moves: Resolved<'a, A>,
     by_ref: bool,
-) -> Option<(Computed<'a>, Option<Places>)>
+) -> Option<(Computed<'a, A>, Option<Left>)>
 where
     R: FnMut() -> Option<Allocation>,
     S: FnMut() -> Option<Allocation>,
@@ -88,11 +149,11 @@ where
     requires slots { (f : _) → S.pre f }
     requires stack { M.IsAlwaysCallable resolver.is_stack_alloc }
     requires first { (a : Option Place) (t : R) → R.step resolver.find_free_reg a t → (a ≡ free.0) × ((b : Option Place) (u : R) → R.step t b u → b ≡ None) }
-    requires second { (a : Option Place) (t : S) → S.step resolver.get_stackslot a t → (a ≡ free.1) × ((b : Option Place) (u : S) → S.step t b u → b ≡ None) }
+    requires second { (a : Option Place) (t : S) → S.step resolver.get_stackslot a t → (a ≡ free.1) × ((b : Option Place) (u : S) → S.step t b u → b ≡ free.2) }
     requires tells { (p : Place) (b : Bool) → M.post resolver.is_stack_alloc p b → b ≡ is_in_slot p }
     requires runnable { IsRunnable moves }
 {
-    if !serves(&moves, free.0, false) || !serves(&moves, free.1, true) {
+    if !all_serve(&moves, free) {
         return None;
     }
     if !by_ref {
@@ -111,27 +172,33 @@ fn place_of(number: Option<usize>) -> Option<Allocation> {
     }
 }
 
-/// Writes what the resolver makes of a case's moves, or how many, with what it has left.
-fn write_case(
-    alloc: Global,
-    out: &mut Report,
-    case: (Pairs, Option<usize>, Option<usize>),
+/// What a resolver makes of moves with free places, if these serve them; and if it is called by reference, what it has left.
+pub fn computed_with<'a, A: Allocator>(
+    free: Numbers,
+    moves: Resolved<'a, A>,
     by_ref: bool,
-) {
-    let Ok(Some(moves)) = resolved(alloc, &alloc, case.0) else {
-        return;
-    };
-    let free = (place_of(case.1), place_of(case.2));
-    let (mut registers, mut slots) = free;
+) -> Option<(Computed<'a, A>, Option<Left>)>
+    requires { IsRunnable moves }
+{
+    let free = (place_of(free.0), place_of(free.1), place_of(free.2));
+    let (mut register, mut slot, mut last) = free;
     let resolver = MoveAndScratchResolver {
-        find_free_reg: move || registers.take(),
-        get_stackslot: move || slots.take(),
+        find_free_reg: move || register.take(),
+        get_stackslot: move || replace(&mut slot, last.take()),
         is_stack_alloc: |place: Allocation|
             ensures told { result ≡ is_in_slot place }
         { place.is_stack() },
-        borrowed_scratch_reg: PReg::new(40, RegClass::Int),
+        borrowed_scratch_reg: PReg::new(0, RegClass::Int),
     };
-    let Some((made, left)) = computed(resolver, free, moves, by_ref) else {
+    computed(resolver, free, moves, by_ref)
+}
+
+/// Writes what the resolver makes of a case's moves, or how many, with what it has left.
+fn write_case(alloc: Global, out: &mut Report, case: (Pairs, Numbers), by_ref: bool) {
+    let Ok(Some(moves)) = resolved(alloc, &alloc, case.0) else {
+        return;
+    };
+    let Some((made, left)) = computed_with(case.1, moves, by_ref) else {
         return;
     };
     if let Some(left) = left {

@@ -22,7 +22,7 @@ pub fn preg(number: usize) -> PReg
 }
 
 /// Writes the members of a ring as `last` gives them one by one, the least recently used first;
-/// then whether it has none, and the least recently used.
+/// then the least recently used of p0i and p1i, whether it has none, and the least recently used.
 fn write_ring<A: Allocator>(out: &mut Report, name: &str, ring: &mut Lru<A>) {
     out.put(&format_args!("{name}:"));
     let mut left = PRegSet::empty().invert();
@@ -34,6 +34,8 @@ fn write_ring<A: Allocator>(out: &mut Report, name: &str, ring: &mut Lru<A>) {
         out.put(&format_args!(" {preg}"));
     }
     out.words("\n");
+    let of_two = ring.last(PRegSet::empty().with(preg(0)).with(preg(1)));
+    out.row("last of p0i, p1i", &of_two);
     let not_first = ring.last_satisfying(|preg| preg.hw_enc() != 0);
     out.row("is", &(ring.is_empty(), ring.pop(), not_first));
 }

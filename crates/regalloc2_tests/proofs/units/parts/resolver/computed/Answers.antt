@@ -1,6 +1,6 @@
 use Rattle.std.proofs.Common.{rules}
 use Rattle.regalloc2_parts.specs.Resolved.{moves_listed}
-use Rattle.regalloc2_tests.proofs.Handing.{owes_once}
+use Rattle.regalloc2_tests.proofs.Handing.{owes_in_turn}
 use Rattle.regalloc2_tests.proofs.units.parts.resolver.computed.Goals as goal
 
 pub compute-requires : goal.compute-requires
@@ -13,9 +13,10 @@ compute-requires g c = (
       slots = (c.requires.slots _, (λ a t k. c.requires.slots t));
       stack = c.requires.stack;
       runnable = c.requires.runnable;
-      owes = owes_once _ _ _ c.args.free.0 c.args.free.1 c.args.resolver.find_free_reg c.args.resolver.get_stackslot (moves_listed c.args.moves)
-          c.args.resolver.borrowed_scratch_reg c.requires.first c.requires.second (c.serves.ensures c.if-not-serves.false)
-          (c.serves-else-not-serves.ensures c.if-not-serves-2.false) c.requires.tells;
+      owes = owes_in_turn _ _ _ c.args.free.0 c.args.free.1 c.args.free.2 c.args.resolver.find_free_reg c.args.resolver.get_stackslot
+          (moves_listed c.args.moves) c.args.resolver.borrowed_scratch_reg c.requires.first c.requires.second (c.all_serve.ensures.register c.if-not-all_serve.false)
+          (c.all_serve.ensures.slots c.if-not-all_serve.false).0 (c.all_serve.ensures.slots c.if-not-all_serve.false).1
+          (c.all_serve.ensures.apart c.if-not-all_serve.false) c.requires.tells;
     },
   ),
 )
@@ -30,9 +31,10 @@ compute_by_ref-made-requires g c = (
       slots = (c.requires.slots _, (λ a t k. c.requires.slots t));
       stack = c.requires.stack;
       runnable = c.requires.runnable;
-      owes = owes_once _ _ _ c.args.free.0 c.args.free.1 c.args.resolver.find_free_reg c.args.resolver.get_stackslot (moves_listed c.args.moves)
-          c.args.resolver.borrowed_scratch_reg c.requires.first c.requires.second (c.serves.ensures c.if-not-serves.false)
-          (c.serves-else-not-serves.ensures c.if-not-serves-2.false) c.requires.tells;
+      owes = owes_in_turn _ _ _ c.args.free.0 c.args.free.1 c.args.free.2 c.args.resolver.find_free_reg c.args.resolver.get_stackslot
+          (moves_listed c.args.moves) c.args.resolver.borrowed_scratch_reg c.requires.first c.requires.second (c.all_serve.ensures.register c.if-not-all_serve.false)
+          (c.all_serve.ensures.slots c.if-not-all_serve.false).0 (c.all_serve.ensures.slots c.if-not-all_serve.false).1
+          (c.all_serve.ensures.apart c.if-not-all_serve.false) c.requires.tells;
     },
   ),
 )

@@ -1,7 +1,7 @@
 use Rattle.std.proofs.Common.{◌<◌, length, refl, arith, rules}
 use Rattle.regalloc2_function.specs.FunctionValue.{FunctionValue}
 use Rattle.regalloc2_function.specs.Leaves.{succs_in}
-use Rattle.regalloc2_tests.proofs.refusing.calls.order.Goals as goal
+use Rattle.regalloc2_tests.proofs.calls.order.Goals as goal
 
 pub calculate-requires : goal.calculate-requires
 calculate-requires g c =
