@@ -24,9 +24,9 @@ module _ {G : Type 0} (step : G → Option Place → G → Type 0) (s : G) (firs
   served : {T : Type 0} (ms : List (Place × Place × T)) (is_slot : Bool) → Serves ms first is_slot → Serves ms second is_slot → (p : Place) →
       MayAnswer step s p → (is_in_slot p ≡ is_slot) × (p ≢ NoPlace) × IsUnnamed p ms
   served ms is_slot one two p a = elim (answered p a) [
-      | inl e ↦ one p e
-      | inr e ↦ two p e
-    ]
+    | inl e ↦ one p e
+    | inr e ↦ two p e
+  ]
 
 -- a resolver whose closures return a register and two slots that serve is given what it requires
 pub owes_in_turn : {F G T : Type 0} (registers : F → Option Place → F → Type 0) (slots : G → Option Place → G → Type 0) (stack : Place → Bool → Type 0)

@@ -2,13 +2,13 @@
 
 ghost use Rattle.std.specs.Prelude.{◌≡◌, [], IfSome, OnErr, OnOk};
 ghost use Rattle.regalloc2_function.specs.Views.{machine_of, output_of};
-ghost use Rattle.regalloc2_fastalloc.specs.Promise.{IsAllocation};
+ghost use Rattle.regalloc2.specs.Promise.{IsAllocation};
 
+use regalloc2::postorder::calculate;
 use regalloc2::{
     Algorithm, Block, Ctx, Function, MachineEnv, Output, RegAllocError, RegallocOptions,
     machine_fits, run, run_into_ctx, run_with_ctx,
 };
-use regalloc2::postorder::calculate;
 use std::alloc::Allocator;
 
 /// The options, with all tests of the function.

@@ -11,7 +11,8 @@ use regalloc2_tool::calls::reading::read_text;
 use std::alloc::{AllocError, Global};
 
 /// A value in the last slot, of which the output counts none.
-const LAST_SLOT: &str = "block0:\n  op: Def: v0i any [stack16777215]\n  ret: Use: v0i any [stack16777215]\nslots 0\n";
+const LAST_SLOT: &str =
+    "block0:\n  op: Def: v0i any [stack16777215]\n  ret: Use: v0i any [stack16777215]\nslots 0\n";
 
 /// The greatest vreg in the last slot.
 const LAST_VREG: &str =
@@ -21,7 +22,13 @@ const LAST_VREG: &str =
 const PLAIN: &str = "block0:\n  op: Def: v0i reg\n  ret: Use: v0i reg\n";
 
 /// How many allocations an output has, and the offsets of its two instructions, which have one operand each. The first is well-ordered.
-static LISTS: [(usize, &[u32]); 5] = [(2, &[0, 1]), (2, &[0]), (2, &[1, 1]), (2, &[0, 3]), (3, &[0, 1])];
+static LISTS: [(usize, &[u32]); 5] = [
+    (2, &[0, 1]),
+    (2, &[0]),
+    (2, &[1, 1]),
+    (2, &[0, 3]),
+    (3, &[0, 1]),
+];
 
 /// What the checker reports of the function and the output of a text.
 fn verdict_of(alloc: Global, text: &str) -> Option<Result<(), CheckerErrors>> {
@@ -70,7 +77,9 @@ fn write_lists<F: Function>(alloc: Global, f: &F, out: &mut Report) -> Result<()
         from: Allocation::none(),
         to: p0i(),
     };
-    moved.edits.push((ProgPoint::before(Inst::new(1)), nowhere))?;
+    moved
+        .edits
+        .push((ProgPoint::before(Inst::new(1)), nowhere))?;
     write_prepared(alloc, f, &moved, out);
     Ok(())
 }

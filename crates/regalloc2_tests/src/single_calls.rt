@@ -7,13 +7,13 @@ use super::calls::OPTIONS;
 use super::random::integer_machine;
 use super::texts::labelled_function_of;
 use super::units::report::Report;
+use regalloc2::checker::places_are_cells;
 use regalloc2::ssa::test_definitions;
 use regalloc2::{
     Function, MachineEnv, Operand, PReg, PRegSet, RegAllocError, RegClass, VReg, machine_fits,
     run_checked, test_blocks, test_ends,
 };
 use regalloc2_analysis::live_ranges::{LiveRange, kept_labels, live_ranges};
-use regalloc2_checker::places_are_cells;
 use regalloc2_serialize::table_function::{BuildError, TableBuilder, TableFunction};
 use std::alloc::Global;
 

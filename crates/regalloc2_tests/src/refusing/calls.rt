@@ -6,8 +6,8 @@ use regalloc2::cfg::{CFGInfo, CFGInfoCtx};
 use regalloc2::checker::{Checker, CheckerError, CheckerErrors};
 use regalloc2::ssa::{reads_written, validate_ssa};
 use regalloc2::{
-    AllocateError, Ctx, Function, MachineEnv, Output, RegAllocError, TestedRunError,
-    allocate, is_framed, run_tested,
+    AllocateError, Ctx, Function, MachineEnv, Output, RegAllocError, TestedRunError, allocate,
+    is_framed, run_tested,
 };
 use std::alloc::{AllocError, Allocator, Global};
 

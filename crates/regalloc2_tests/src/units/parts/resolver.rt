@@ -52,7 +52,10 @@ static CASES: [(Pairs, Numbers); 11] = [
     (SWAP, NONE),
     (&[(SLOT, SLOT + 1)], REGISTER),
     (&[(SLOT, SLOT)], REGISTER),
-    (&[(SLOT, SLOT + 1), (0, SLOT + 2), (SLOT + 3, SLOT + 4)], ONE_SLOT),
+    (
+        &[(SLOT, SLOT + 1), (0, SLOT + 2), (SLOT + 3, SLOT + 4)],
+        ONE_SLOT,
+    ),
     (SWAP_SLOTS, BOTH),
     (SWAP_SLOTS, TWO_SLOTS),
     (MIXED, ONE_SLOT),
@@ -86,11 +89,7 @@ fn is_unnamed(moves: &[Move], place: Allocation) -> bool
 }
 
 /// Whether no move names the place, where there is one, and it is a slot or none as it should be.
-fn serves<A: Allocator>(
-    moves: &Resolved<'_, A>,
-    place: Option<Allocation>,
-    is_slot: bool,
-) -> bool
+fn serves<A: Allocator>(moves: &Resolved<'_, A>, place: Option<Allocation>, is_slot: bool) -> bool
     ensures { IsTrue result → Serves (moves_listed moves.now) place is_slot }
 {
     let Some(p) = place else {
@@ -109,7 +108,10 @@ fn serves<A: Allocator>(
 fn differ(first: Option<Allocation>, second: Option<Allocation>) -> bool
     ensures { IsTrue result → AreApart first second }
 {
-    let (Some(p), Some(q)) = (first, second) else {
+    let Some(p) = first else {
+        return true;
+    };
+    let Some(q) = second else {
         return true;
     };
     !p.is_same(q)
