@@ -1,6 +1,5 @@
 use Rattle.std.proofs.Common.{◌<◌, length, refl, arith}
 use Rattle.regalloc2_function.specs.FunctionValue.{FunctionValue}
-use Rattle.regalloc2_analysis.specs.LiveRanges.LiveRanges.{IsSSA}
 use Rattle.regalloc2_tests.proofs.single_calls.write_ranges.Goals as goal
 
 pub write_live-requires : goal.write_live-requires
