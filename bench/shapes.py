@@ -710,6 +710,94 @@ def branch_defs_wide(n):
     return f
 
 
+def changed(f, rng, vs, count):
+    """Emits `count` instructions, each of which gives one of `vs` a new value from two of them, and returns the values."""
+    vs = list(vs)
+    for _ in range(count):
+        d = f.new()
+        f.emit([define(d), use(rng.choice(vs)), use(rng.choice(vs), ANY)])
+        vs[rng.randrange(len(vs))] = d
+    return vs
+
+
+def loops(f, rng, vs, depth):
+    """A loop whose parameters begin as `vs`, with `depth` - 1 more inside. Each turn changes two. Returns the parameters."""
+    pre = f.end([[0, list(vs)]])
+    ps = [f.new() for _ in vs]
+    h = f.begin(ps)
+    pre[0][0] = h
+    head = f.end([[0, []], [0, []]], [use(rng.choice(ps))])
+    head[0][0] = f.begin()
+    inner = changed(f, rng, ps, 2)
+    if depth > 1:
+        inner = loops(f, rng, inner, depth - 1)
+    f.end([[h, inner]])
+    head[1][0] = f.begin()
+    return ps
+
+
+def nest(n, w=20, depth=8, begins_as_one=False):
+    """Loops nested eight deep, one nest after another, each with 20 parameters. Each turn of a loop changes two.
+    For `zero-locals` four deep, with 100 parameters, which all begin as one value in each nest.
+    """
+    f, rng = F(), random.Random(3)
+    f.begin()
+    vs = [f.new() for _ in range(w)]
+    for v in vs:
+        f.emit([define(v)])
+    while len(f.insts) < n - w:
+        vs = loops(f, rng, vs[:1] * w if begins_as_one else vs, depth)
+    for v in vs:
+        f.emit([use(v)])
+    f.end([], ret=True)
+    return f
+
+
+def max_ssa(n, w=20):
+    """Forks whose blocks all have 20 parameters, one for each variable, in a chain."""
+    f, rng = F(), random.Random(4)
+    f.begin()
+    vs = [f.new() for _ in range(w)]
+    for v in vs:
+        f.emit([define(v)])
+    while len(f.insts) < n - w:
+        fork, joins = f.end([[0, list(vs)], [0, list(vs)]]), []
+        for side in fork:
+            ps = [f.new() for _ in range(w)]
+            side[0] = f.begin(ps)
+            joins.append(f.end([[0, changed(f, rng, ps, 2)]]))
+        vs = [f.new() for _ in range(w)]
+        b = f.begin(vs)
+        for edge in joins:
+            edge[0][0] = b
+        vs = changed(f, rng, vs, 3)
+    for v in vs:
+        f.emit([use(v)])
+    f.end([], ret=True)
+    return f
+
+
+def switch_value(n):
+    """A switch of n/2 cases, each of which defines a value and passes it to one block."""
+    f = F()
+    f.begin()
+    x = f.new()
+    f.emit([define(x)])
+    cases, joins = f.end([[0, []] for _ in range(n // 2)], [use(x)]), []
+    for case in cases:
+        case[0] = f.begin()
+        d = f.new()
+        f.emit([define(d)])
+        joins.append(f.end([[0, [d]]]))
+    p = f.new()
+    b = f.begin([p])
+    for edge in joins:
+        edge[0][0] = b
+    f.emit([use(p)])
+    f.end([], ret=True)
+    return f
+
+
 SHAPES = {
     "real": lambda n, seed: Real(n, seed).build(),
     "straight-live": lambda n, _: straight_live(n, False),
@@ -736,6 +824,10 @@ SHAPES = {
     "rungs": lambda n, _: rungs(n),
     "two-ends": lambda n, _: two_ends(n),
     "two-switches": lambda n, _: two_switches(n),
+    "nest": lambda n, _: nest(n),
+    "zero-locals": lambda n, _: nest(n, w=100, depth=4, begins_as_one=True),
+    "max-ssa": lambda n, _: max_ssa(n),
+    "switch-value": lambda n, _: switch_value(n),
 }
 
 if __name__ == "__main__":
