@@ -738,7 +738,7 @@ def loops(f, rng, vs, depth):
 
 def nest(n, w=20, depth=8, begins_as_one=False):
     """Loops nested eight deep, one nest after another, each with 20 parameters. Each turn of a loop changes two.
-    For `zero-locals` four deep, with 100 parameters, which all begin as one value in each nest.
+    For `zero-locals` three deep, with 50 parameters, which all begin as one value in each nest.
     """
     f, rng = F(), random.Random(3)
     f.begin()
@@ -825,7 +825,7 @@ SHAPES = {
     "two-ends": lambda n, _: two_ends(n),
     "two-switches": lambda n, _: two_switches(n),
     "nest": lambda n, _: nest(n),
-    "zero-locals": lambda n, _: nest(n, w=100, depth=4, begins_as_one=True),
+    "zero-locals": lambda n, _: nest(n, w=50, depth=3, begins_as_one=True),
     "max-ssa": lambda n, _: max_ssa(n),
     "switch-value": lambda n, _: switch_value(n),
 }
