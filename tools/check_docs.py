@@ -1,7 +1,7 @@
 #!/usr/bin/env python3
 """Checks README.md, SECURITY.md, CHANGELOG.md and docs/*.md, and prints each finding as FILE:LINE: what is wrong.
 
-    python3 bench/check_docs.py
+    python3 tools/check_docs.py
 
 The status is 1 if there is any finding. `make -C c test` runs it. It checks that
 
@@ -38,7 +38,7 @@ COMMANDS = {
     "ra2_text replay data/wrong_way.txt": ("TEST", "$ ra2_text replay wrong_way.txt"),
     "ra2 check < ../../examples/loop.json": ("TEST", "$ ra2 check <loop.json"),
     "ra2 run < ../../examples/loop.json": ("TEST", "$ ra2 run <loop.json"),
-    "python3 bench/check_docs.py": ("TEST", "bench/check_docs.py"),
+    "python3 tools/check_docs.py": ("TEST", "tools/check_docs.py"),
     "python3 bench/measure.py --sizes 10000,100000": ("HAND", "it needs valgrind"),
     "python3 bench/time.py --sizes 1000,10000": ("HAND", "it needs a machine that does nothing else"),
     "python3 bench/unproved.py OUT": ("HAND", "it reads the toolchain's layout, which CI doesn't rely on"),
@@ -57,7 +57,7 @@ UPSTREAM = set("CheckerValue define_index ion verbose_log freealloc live_vregs m
 STAND_INS = set("vN blockB stackN p63f by_run proofs/by_run/Answers.antt".split())
 ELSEWHERE = UPSTREAM | STAND_INS
 
-SOURCES = tuple(".antt .c .case .h .py .rs .rt .sh .toml .txt Makefile".split())
+SOURCES = tuple(".antt .c .case .h .py .rs .rt .sh .toml .txt Makefile .ci/run".split())
 WORD_BYTES = bytes(c if chr(c).isalnum() and c < 128 or c == 95 else 32 for c in range(256))
 
 HISTORY = re.compile(

@@ -1,7 +1,7 @@
 #!/usr/bin/env python3
 """Draws the crates as rooms of a house, and the data's way through them: docs/house.svg.
 
-    python3 bench/house.py [CRATES_TXT] > docs/house.svg
+    python3 tools/house.py [CRATES_TXT] > docs/house.svg
 
 CRATES_TXT is crates.txt of the repository if it isn't given. Each crate rests only on crates of lower floors, or left
 of it on its own floor. The script tests this, and that FLOORS names each crate once; the status is 1 if either fails.

@@ -1,7 +1,7 @@
 // A library that is preloaded into a built program and fails one request for memory, one read or one write, or makes
 // reads and writes short.
 //
-//   cc -O2 -shared -fPIC -o refuse.so bench/refuse.c -ldl
+//   cc -O2 -shared -fPIC -o refuse.so tools/refuse.c -ldl
 //   FAIL_ALLOC=17 LD_PRELOAD=./refuse.so ra2 run < function.json
 //
 // FAIL_ALLOC=N, FAIL_READ=N and FAIL_WRITE=N fail the Nth of these, counted from 1. SHORT_READ=N and SHORT_WRITE=N let at
