@@ -54,6 +54,23 @@ is_fixed (FixedReg r) = true
 is_fixed (Reuse n) = false
 is_fixed (Limit n) = false
 
+-- it requires a register whose number is below a bound
+abbrev pub is_limit : OperandConstraint → Bool
+is_limit Any = false
+is_limit Reg = false
+is_limit Stack = false
+is_limit (FixedReg r) = false
+is_limit (Reuse n) = false
+is_limit (Limit n) = true
+
+-- the operand requires a fixed register
+abbrev pub is_fixed_operand : OperandValue → Bool
+is_fixed_operand o = is_fixed o.constraint
+
+-- the operand has a limit
+abbrev pub is_limited_operand : OperandValue → Bool
+is_limited_operand o = is_limit o.constraint
+
 -- the operand has a fixed register, and the number that marks no vreg
 abbrev pub is_fixed_nonallocatable : OperandValue → Bool
 is_fixed_nonallocatable o = is_fixed o.constraint && nat_eq o.vreg.number 1073741823

@@ -17,6 +17,7 @@ mod points;
 mod registers;
 mod sets;
 mod texts;
+mod unions;
 mod virtual_registers;
 
 pub use operands::Operand;
@@ -25,6 +26,7 @@ pub use points::ProgPoint;
 pub use registers::PReg;
 pub use sets::{PRegSet, PRegSetIter};
 pub use texts::VRegText;
+pub use unions::OperandUnion;
 pub use virtual_registers::VReg;
 
 /// The class of a value and of the registers that may hold it. Classes have separate register

@@ -31,6 +31,13 @@ impl Model for ProgPoint {
 }
 
 impl ProgPoint {
+    const POS_BITS: usize = 1;
+
+    const POS_MASK: u32 = (1 << Self::POS_BITS) - 1;
+
+    /// The first number past the points of instructions.
+    const END: u32 = 1 << 31;
+
     /// The point at that position of that instruction, whose number is below `inst_limit`, 2^30, or
     /// that of `Inst::invalid()`.
     pub fn new(inst: Inst, pos: InstPosition) -> Self
@@ -50,7 +57,9 @@ impl ProgPoint {
         ensures point { inst ≢ invalid_inst → result ≡ before inst }
         ensures invalid { inst ≡ invalid_inst → result ≡ 4294967294 }
     {
-        ProgPoint { bits: inst.0 << 1 }
+        ProgPoint {
+            bits: inst.0 << Self::POS_BITS,
+        }
     }
 
     /// The point after that instruction.
@@ -61,7 +70,7 @@ impl ProgPoint {
         ensures invalid { inst ≡ invalid_inst → result ≡ 4294967295 }
     {
         ProgPoint {
-            bits: (inst.0 << 1) | 1,
+            bits: (inst.0 << Self::POS_BITS) | 1,
         }
     }
 
@@ -70,8 +79,8 @@ impl ProgPoint {
         ensures inst { result ≡ inst_of_point self }
         ensures valid { result ≢ invalid_inst → result < inst_limit }
     {
-        if self.bits < 1 << 31 {
-            Inst(self.bits >> 1)
+        if self.bits < Self::END {
+            Inst(self.bits >> Self::POS_BITS)
         } else {
             Inst::invalid()
         }
@@ -81,7 +90,7 @@ impl ProgPoint {
     pub fn pos(self) -> InstPosition
         ensures { result ≡ position_of_point self }
     {
-        if self.bits & 1 == 0 {
+        if self.bits & Self::POS_MASK == 0 {
             InstPosition::Before
         } else {
             InstPosition::After
@@ -101,7 +110,7 @@ impl ProgPoint {
     pub fn is_index(index: u32) -> bool
         ensures { IsTrue result ↔ IsPointNumber index }
     {
-        index < 1 << 31 || index >= u32::MAX - 1
+        index < Self::END || index >= u32::MAX - 1
     }
 
     /// The point of that number, which `is_index` accepts.
