@@ -198,8 +198,8 @@ impl Operand {
         Operand::reg_def_at_start(vreg)
     }
 
-    /// A definition at the end of the instruction in the register of the use with that index, at
-    /// most 31.
+    /// A definition at the end of the instruction in the register of the use with the index `idx`,
+    /// at most 31.
     pub fn reg_reuse_def(vreg: VReg, idx: usize) -> Self
         requires { idx < 32 }
         ensures { result ≡ record { vreg = vreg; constraint = OperandConstraint.Reuse idx; kind = OperandKind.Def; position = OperandPos.Late } }
@@ -212,8 +212,7 @@ impl Operand {
         )
     }
 
-    /// A use in that register, which is of the class of `vreg`, at the beginning of the
-    /// instruction.
+    /// A use in `preg`, which is of the class of `vreg`, at the beginning of the instruction.
     pub fn reg_fixed_use(vreg: VReg, preg: PReg) -> Self
         requires { preg.class ≡ vreg.class }
         ensures { result ≡ record { vreg = vreg; constraint = OperandConstraint.FixedReg preg; kind = OperandKind.Use; position = OperandPos.Early } }
@@ -221,7 +220,7 @@ impl Operand {
         Operand::in_that_reg(vreg, preg, OperandKind::Use, OperandPos::Early)
     }
 
-    /// A use in that register, which is of the class of `vreg`, at the end of the instruction.
+    /// A use in `preg`, which is of the class of `vreg`, at the end of the instruction.
     pub fn reg_fixed_use_at_end(vreg: VReg, preg: PReg) -> Self
         requires { preg.class ≡ vreg.class }
         ensures { result ≡ record { vreg = vreg; constraint = OperandConstraint.FixedReg preg; kind = OperandKind.Use; position = OperandPos.Late } }
@@ -229,8 +228,7 @@ impl Operand {
         Operand::in_that_reg(vreg, preg, OperandKind::Use, OperandPos::Late)
     }
 
-    /// A definition in that register, which is of the class of `vreg`, at the end of the
-    /// instruction.
+    /// A definition in `preg`, which is of the class of `vreg`, at the end of the instruction.
     pub fn reg_fixed_def(vreg: VReg, preg: PReg) -> Self
         requires { preg.class ≡ vreg.class }
         ensures { result ≡ record { vreg = vreg; constraint = OperandConstraint.FixedReg preg; kind = OperandKind.Def; position = OperandPos.Late } }
@@ -238,7 +236,7 @@ impl Operand {
         Operand::in_that_reg(vreg, preg, OperandKind::Def, OperandPos::Late)
     }
 
-    /// A definition in that register, which is of the class of `vreg`, at the beginning of the
+    /// A definition in `preg`, which is of the class of `vreg`, at the beginning of the
     /// instruction.
     pub fn reg_fixed_def_at_start(vreg: VReg, preg: PReg) -> Self
         requires { preg.class ≡ vreg.class }
@@ -261,7 +259,7 @@ impl Operand {
         Operand::anywhere(vreg, OperandKind::Def, OperandPos::Late)
     }
 
-    /// A use of that register, which needn't be allocatable. It reads no vreg: its number is
+    /// A use of `preg`, which needn't be allocatable. The operand reads no vreg: its number is
     /// `VReg::MAX`.
     pub fn fixed_nonallocatable(preg: PReg) -> Self
         ensures operand { result ≡ record {
@@ -393,7 +391,7 @@ impl Operand {
         self.is_at(OperandPos::Late)
     }
 
-    /// Whether the operand is read or written at that position.
+    /// Whether the operand is read or written at `pos`.
     pub fn is_at(self, pos: OperandPos) -> bool
         ensures test { result ≡ is_position pos self.position }
         ensures same { IsTrue result ↔ (self.position ≡ pos) }
@@ -401,7 +399,7 @@ impl Operand {
         self.pos() == pos
     }
 
-    /// Whether the operand reads its vreg at that position.
+    /// Whether the operand reads its vreg at `pos`.
     pub fn reads_at(self, pos: OperandPos) -> bool
         ensures { result ≡ reads_at pos self }
     {
@@ -418,7 +416,7 @@ impl Operand {
         bits
     }
 
-    /// Whether the bits encode an operand.
+    /// Whether `bits` encode an operand.
     #[inline(always)]
     pub fn is_bits(bits: u64) -> bool
         ensures { IsTrue result ↔ IsOperandBits bits }
@@ -430,7 +428,7 @@ impl Operand {
             && is_constraint_field(bits >> Self::CONSTRAINT_SHIFT)
     }
 
-    /// The operand that the bits encode; `is_bits` accepts them.
+    /// The operand that `bits` encode; `is_bits` accepts them.
     pub fn from_bits(bits: u64) -> Self
         requires { IsOperandBits bits }
         ensures operand { result ≡ operand_of_bits bits }

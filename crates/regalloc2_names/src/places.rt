@@ -68,14 +68,14 @@ impl SpillSlot {
         SpillSlot { bits: u32::MAX }
     }
 
-    /// Whether it stands for none.
+    /// Whether the slot stands for none.
     pub fn is_invalid(self) -> bool
         ensures { IsTrue result ↔ (self ≡ invalid_slot) }
     {
         self == Self::invalid()
     }
 
-    /// Whether it is a slot.
+    /// Whether the slot doesn't stand for none.
     pub fn is_valid(self) -> bool
         ensures { IsTrue result ↔ (self ≤ SpillSlot.MAX) }
     {
@@ -132,7 +132,7 @@ impl Allocation {
         Allocation { bits: 0 }
     }
 
-    /// That register.
+    /// The place `preg`.
     pub fn reg(preg: PReg) -> Self
         ensures { result ≡ InRegister preg }
     {
@@ -141,7 +141,7 @@ impl Allocation {
         }
     }
 
-    /// That spill slot, which is a valid one.
+    /// The place `slot`, which is valid.
     pub fn stack(slot: SpillSlot) -> Self
         requires { slot ≤ SpillSlot.MAX }
         ensures { result ≡ InSlot slot }
@@ -184,22 +184,22 @@ impl Allocation {
         self == other
     }
 
-    /// Whether it is a register.
+    /// Whether the place is a register.
     pub fn is_reg(self) -> bool
         ensures { result ≡ is_in_register self }
     {
         self.kind() == AllocationKind::Reg
     }
 
-    /// Whether it is a spill slot.
+    /// Whether the place is a spill slot.
     pub fn is_stack(self) -> bool
         ensures { result ≡ is_in_slot self }
     {
         self.kind() == AllocationKind::Stack
     }
 
-    /// Whether it is a stack place: a spill slot, or one of the registers that name fixed stack
-    /// slots.
+    /// Whether the place is on the stack: a spill slot, or a register of `fixed_stack`, which names a
+    /// fixed stack slot.
     pub fn is_memory(self, fixed_stack: PRegSet) -> bool
         ensures { result ≡ is_memory fixed_stack self }
     {
@@ -216,7 +216,7 @@ impl Allocation {
         (self.bits & Self::INDEX_MASK) as usize
     }
 
-    /// The register, if it is one.
+    /// The register, if the place is a register.
     pub fn as_reg(self) -> Option<PReg>
         ensures { result ≡ register_of_place self }
     {
@@ -227,7 +227,7 @@ impl Allocation {
         }
     }
 
-    /// The spill slot, if it is one.
+    /// The spill slot, if the place is a slot.
     pub fn as_stack(self) -> Option<SpillSlot>
         ensures { result ≡ slot_of_place self }
     {
@@ -250,7 +250,7 @@ impl Allocation {
         bits
     }
 
-    /// Whether the bits encode a place.
+    /// Whether `bits` encode a place.
     pub fn is_bits(bits: u32) -> bool
         ensures { IsTrue result ↔ IsPlaceBits bits }
     {
@@ -263,7 +263,7 @@ impl Allocation {
         }
     }
 
-    /// The place that the bits encode; `is_bits` accepts them.
+    /// The place that `bits` encode; `is_bits` accepts them.
     pub fn from_bits(bits: u32) -> Self
         requires { IsPlaceBits bits }
         ensures place { result ≡ place_of_bits bits }

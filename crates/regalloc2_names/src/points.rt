@@ -38,8 +38,8 @@ impl ProgPoint {
     /// The first number past the points of instructions.
     const END: u32 = 1 << 31;
 
-    /// The point at that position of that instruction, whose number is below `inst_limit`, 2^30, or
-    /// that of `Inst::invalid()`.
+    /// The point at `pos` of `inst`, whose number is below `inst_limit`, 2^30, or is the number of
+    /// `Inst::invalid()`.
     pub fn new(inst: Inst, pos: InstPosition) -> Self
         requires { inst ≢ invalid_inst → inst < inst_limit }
         ensures point { inst ≢ invalid_inst → result ≡ point_at inst pos }
@@ -51,7 +51,7 @@ impl ProgPoint {
         }
     }
 
-    /// The point before that instruction.
+    /// The point before `inst`.
     pub fn before(inst: Inst) -> Self
         requires { inst ≢ invalid_inst → inst < inst_limit }
         ensures point { inst ≢ invalid_inst → result ≡ before inst }
@@ -62,7 +62,7 @@ impl ProgPoint {
         }
     }
 
-    /// The point after that instruction.
+    /// The point after `inst`.
     #[tactic(auto, using(crate::proofs::Words::odd_word))]
     pub fn after(inst: Inst) -> Self
         requires { inst ≢ invalid_inst → inst < inst_limit }
@@ -86,7 +86,7 @@ impl ProgPoint {
         }
     }
 
-    /// Before or after that instruction.
+    /// Whether the point is before or after its instruction.
     pub fn pos(self) -> InstPosition
         ensures { result ≡ position_of_point self }
     {
@@ -106,14 +106,14 @@ impl ProgPoint {
         bits
     }
 
-    /// Whether a number is that of a point.
+    /// Whether `index` is the number of a point.
     pub fn is_index(index: u32) -> bool
         ensures { IsTrue result ↔ IsPointNumber index }
     {
         index < Self::END || index >= u32::MAX - 1
     }
 
-    /// The point of that number, which `is_index` accepts.
+    /// The point of the number `index`, which `is_index` accepts.
     pub fn from_index(index: u32) -> Self
         requires { IsPointNumber index }
         ensures { result ≡ index }
@@ -121,8 +121,8 @@ impl ProgPoint {
         ProgPoint { bits: index }
     }
 
-    /// The next point, if there is one: the point before the next instruction follows the point
-    /// after this one.
+    /// The next point, if there is one. The point after an instruction precedes the point before the
+    /// next instruction.
     pub fn next(self) -> Self
         requires { IsPointNumber (self + 1) }
         ensures { result ≡ self + 1 }

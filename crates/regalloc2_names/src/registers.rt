@@ -87,7 +87,7 @@ impl PReg {
         CLASSES[(self.bits >> Self::MAX_BITS) as usize]
     }
 
-    /// The index among all registers: those of the class `Int` first, then `Float`, then `Vector`.
+    /// The index among all registers: the class `Int` first, then `Float`, then `Vector`.
     pub const fn index(self) -> usize
         ensures index { result ≡ bits_of_register self }
         ensures small { result < 192 }
@@ -96,7 +96,7 @@ impl PReg {
         self.bits as usize
     }
 
-    /// Whether `index` is that of a register.
+    /// Whether `index` is the index of a register.
     pub fn is_index(index: usize) -> bool
         ensures { IsTrue result ↔ IsRegisterIndex index }
     {
@@ -121,7 +121,7 @@ impl PReg {
         }
     }
 
-    /// The register itself, or `None` for the invalid one.
+    /// The register itself, or `None` for the invalid register.
     pub const fn as_valid(self) -> Option<PReg>
         ensures { MatchOption result (self ≡ invalid_register) (λ r. (r ≡ self) × (self ≢ invalid_register)) }
     {

@@ -87,14 +87,14 @@ impl VReg {
         self.bits as usize
     }
 
-    /// Whether the bits encode a vreg.
+    /// Whether `bits` encode a vreg.
     pub fn is_bits(bits: u32) -> bool
         ensures { IsTrue result ↔ IsVRegBits bits }
     {
         bits & Self::CLASS_MASK < CLASSES.len() as u32
     }
 
-    /// The vreg that the bits encode; `is_bits` accepts them.
+    /// The vreg that `bits` encode; `is_bits` accepts them.
     pub const fn from_bits(bits: u32) -> Self
         requires { IsVRegBits bits }
         ensures vreg { result ≡ vreg_of_bits bits }
