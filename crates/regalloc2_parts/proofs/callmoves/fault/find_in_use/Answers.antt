@@ -22,8 +22,12 @@ returns g c = record {
 }
 
 pub returns-in-Some : goal.returns-in-Some
-returns-in-Some g c = inl (c.in-Some.at, c.in-Some.ensures, c.reg.ensures
-    ∙ ap InRegister (read_free c.args.frame.now c.in-Some.at c.index.result.now c.in-Some.ensures.0 c.index.ensures))
+returns-in-Some g c = inl (
+  c.in-Some.at,
+  c.in-Some.ensures,
+  c.reg.ensures
+      ∙ ap InRegister (read_free c.args.frame.now c.in-Some.at c.index.result.now c.in-Some.ensures.0 c.index.ensures),
+)
 
 pub returns-then-is_borrowed_taken : goal.returns-then-is_borrowed_taken
 returns-then-is_borrowed_taken g c = inr (inl (c.in_default.ensures, c.is_borrowed_taken.ensures.yes c.if-is_borrowed_taken.true, c.reg-then-is_borrowed_taken.ensures))

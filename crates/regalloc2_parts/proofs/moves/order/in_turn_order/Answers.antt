@@ -12,7 +12,7 @@ pub returns-then-all : goal.returns-then-all
 returns-then-all g c =
     let nexts : List ℕ = c.args.nexts.now in
     let cases : MatchBool c.all.result (AllWithin (λ (n : ℕ). length nexts ≤ n) nexts 0 (length nexts))
-        ((k : ℕ) × (k < length nexts) × HoldsAt (λ (n : ℕ). Unit {0}) nexts k) =
+    ((k : ℕ) × (k < length nexts) × HoldsAt (λ (n : ℕ). Unit {0}) nexts k) =
     cases_from_all _ _ c.all.result (λ (n : ℕ). length nexts ≤ n) (λ (n : ℕ). Unit {0}) c.all.ensures.ran
     (YieldsList-from_slice nexts c.iter.ensures.rest) (λ x q k. search (rules, tests)) (λ x q k. tt) in
     let past : AllWithin (λ (n : ℕ). length nexts ≤ n) nexts 0 (length nexts) =
