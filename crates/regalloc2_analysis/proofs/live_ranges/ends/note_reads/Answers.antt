@@ -13,14 +13,14 @@ loop-index-preserved c n has =
     elim c.if-reads_at.branch [
       | then-reads_at w ↦ rw w.ends-is (reads_step Has c.args.pos c.args.inst c.args.operands.now c.loop-index.index n
           (end_at (spread slots c.args.ends.now) n) (spread slots c.loop-index.ends)
-          (spread slots w.note_end.new.ends) c.index-operands-index.result w.vreg.result c.end_of_read-last.result
+          (spread slots w.note_end.new.ends) c.index-operands-index.result w.vreg.result ?
           (record {
             within = c.loop-index-test.true;
             is = c.index-operands-index.is;
             reads = is_read c.index-operands-index.result c.args.pos (sym c.reads_at.ensures ∙ w.if-reads_at.true);
             same = w.vreg.ensures;
           })
-          (record { end = c.end_of_read-last.ensures; noted = w.note_end.ensures.noted; others = w.note_end.ensures.others }) here
+          (record { end = ?; noted = w.note_end.ensures.noted; others = w.note_end.ensures.others }) here
           (c.loop-index.invariant n here))
       | else-reads_at w ↦ rw w.ends-is (reads_skip c.args.pos c.args.inst c.args.operands.now c.loop-index.index n (end_at (spread slots c.args.ends.now) n)
           (end_at (spread slots c.loop-index.ends) n) c.index-operands-index.result c.loop-index-test.true c.index-operands-index.is
