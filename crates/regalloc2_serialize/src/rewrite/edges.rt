@@ -88,16 +88,19 @@ fn jump_to<A: Allocator + Copy>(
       arguments = arguments.items ∷ [];
     }) }
 {
-    let branch = TableInst {
+    let (mut insts, mut succs, mut lists) = (Vec::new(alloc), Vec::new(alloc), Vec::new(alloc));
+    insts.push(TableInst {
         operands: Vec::new(alloc),
         clobbers: none,
         op: InstOpcode::Branch,
-    };
+    })?;
+    succs.push(to)?;
+    lists.push(arguments)?;
     Ok(BlockDraft {
         params: Vec::new(alloc),
-        insts: vec![in alloc; branch]?,
-        succs: vec![in alloc; to]?,
-        arguments: vec![in alloc; arguments]?,
+        insts,
+        succs,
+        arguments: lists,
     })
 }
 
