@@ -3,7 +3,7 @@ use Rattle.std.proofs.Common.{ℕ, ◌≡◌, ◌<◌, ◌+◌, ◌-◌, suc, Bo
 use Rattle.regalloc2_c.specs.Payload.{as_word, none}
 use Rattle.regalloc2_c.specs.Faults.{first_index}
 
--- one that fails is passed over
+-- a number that fails the test is passed over
 pub first_skipped : (test : ℕ → Bool) (k n : ℕ) → k < n → test k ≡ false → first_index test k (n - k) ≡ first_index test (k + 1) (n - (k + 1))
 first_skipped test k n h fails =
     let e : n - k ≡ suc (n - (k + 1)) = omega arith in
@@ -12,7 +12,7 @@ first_skipped test k n h fails =
     (subst (λ b. (if b then as_word k else first_index test (suc k) (n - (k + 1))) ≡ first_index test (k + 1) (n - (k + 1))) (sym fails)
     (subst (λ j. first_index test (suc k) (n - (k + 1)) ≡ first_index test j (n - (k + 1))) next refl))
 
--- and one that passes is the first
+-- a number that passes is the first
 pub first_found : (test : ℕ → Bool) (k n : ℕ) → k < n → test k ≡ true → first_index test k (n - k) ≡ as_word k
 first_found test k n h passes =
     let e : n - k ≡ suc (n - (k + 1)) = omega arith in

@@ -1,4 +1,4 @@
--- Lemmas for the C functions: a call's outcome follows from those of its parts.
+-- Lemmas for the C functions: a call's outcome follows from the outcomes of its parts.
 -- Read first: `comes_to` in `Outcomes`, then `told` in `Verdicts`.
 -- Depends on the specs, and on the reasons of errors of regalloc2.
 pub mod Indexes

@@ -49,14 +49,14 @@ moves_made words es same all = record {
   moves = same_moves es all;
 }
 
--- a vector of these items
+-- a vector of the items `xs`
 abbrev vec_with : {X : Type 0} → Global → (xs : List X) → length xs < 2 ^ 63 → Vec X
 vec_with alloc xs h = record { ptr = null_ptr; len = length xs; cap = length xs; alloc = alloc; items = xs; ok = (refl, omega arith); small = h }
 
 few : (words : List ℕ) (ts : List (ℕ × ℕ × ℕ)) → words ≡ flat_map words_of_triple ts → length words < 2 ^ 63 → length ts < 2 ^ 63
 few words ts same h = let n = ap length same ∙ length_triples ts in omega (arith, n, h)
 
--- parts of moves that have these numbers are laid out of an output's numbers
+-- the parts of an output whose moves have the numbers `ts` are laid out of an output's numbers
 record Numbers (units : ℕ) (moves places offsets : List ℕ) (ts : List (ℕ × ℕ × ℕ)) : Type 0 where
   stored : StoredOutput Global
   parts : ArePartsOf units moves places offsets stored
@@ -105,7 +105,7 @@ moves_unnamed alloc units moves places offsets e fm fp fo (inr (inr t)) =
     let n = numbers_for alloc units moves places offsets t.1 t.2 fm fp fo in
     inr (inr (t.0, n.stored, n.parts, λ names. t.3 (subst (All NamesMove) n.edits_are names.0)))
 
--- or places that have none
+-- places that have no names
 pub places_unnamed : Global → (units : ℕ) (moves places offsets : List ℕ) (edits : List (ℕ × MoveValue)) (e : Failure) → length moves < 2 ^ 63 →
     length places < 2 ^ 63 → length offsets < 2 ^ 63 → AreMovesOf moves edits → (e ≡ NoMemory) ⊎ ((e ≡ BadOutput) × (All IsPlaceBits places → ⊥)) →
     NamesNoOutput (ArePartsOf units moves places offsets) e

@@ -32,7 +32,7 @@ triples_back (a ∷ b ∷ c ∷ rest) h = ap (λ xs. a ∷ b ∷ c ∷ xs) (trip
 abbrev pub triple_at : List ℕ → ℕ → (ℕ × ℕ × ℕ)
 triple_at words k = (get_or words (3 * k) 0, get_or words (3 * k + 1) 0, get_or words (3 * k + 2) 0)
 
--- what each triple has, those that are read from the words have
+-- the triples that are read from the words have what each triple has
 triple_read : (P : (ℕ × ℕ × ℕ) → Type 0) (ts : List (ℕ × ℕ × ℕ)) (k : ℕ) → All P ts → 3 * k + 2 < length (flat_map words_of_triple ts) →
     P (triple_at (flat_map words_of_triple ts) k)
 triple_read P [] k all less = absurd (omega (arith, less))
@@ -47,7 +47,7 @@ triple_read P (t ∷ ts) (suc k) all less =
     (subst (λ j. P (get_or ws (suc (suc (suc (3 * k)))) 0, get_or ws j 0, get_or ws (3 * suc k + 2) 0)) e1
     (subst (λ j. P (get_or ws (suc (suc (suc (3 * k)))) 0, get_or ws (suc (suc (suc (3 * k + 1)))) 0, get_or ws j 0)) e2 rest))
 
--- so where three words that are read don't have it, some triple doesn't
+-- if three words that are read don't have a property, some triple doesn't
 pub not_all : (P : (ℕ × ℕ × ℕ) → Type 0) (words : List ℕ) (k : ℕ) → length words % 3 ≡ 0 → 3 * k + 2 < length words → (P (triple_at words k) → ⊥) →
     (ts : List (ℕ × ℕ × ℕ)) × (words ≡ flat_map words_of_triple ts) × (All P ts → ⊥)
 not_all P words k whole less bad =

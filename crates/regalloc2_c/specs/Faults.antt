@@ -1,5 +1,5 @@
 -- The words of the faults of an output, and which faults they are.
-use Rattle.std.specs.Prelude.{ℕ, ◌≡◌, ◌⊎◌, List, [], ◌∷◌, ◌++◌, map, length, zero, suc, Bool, ◌&&◌, nat_eq, nat_lt, slice_index_or, if◌then◌else◌}
+use Rattle.std.specs.Prelude.{ℕ, ◌≡◌, ◌⊎◌, ◌/◌, ◌%◌, ◌^◌, List, [], ◌∷◌, ◌++◌, map, length, zero, suc, Bool, ◌&&◌, nat_eq, nat_lt, slice_index_or, if◌then◌else◌}
 use Rattle.std.specs.List.{flat_map}
 use Rattle.std.specs.Global.{Vec}
 use Rattle.std.specs.declared.alloc.Global.{Global}
@@ -23,7 +23,6 @@ use Rattle.regalloc2_checker.specs.declared.errors.CheckerError.TheVariants.{Mis
 use Rattle.regalloc2_checker.specs.declared.errors.CheckerError.TheVariants.{IncorrectValuesInAllocation, ConstraintViolated, AllocationIsNotReg}
 use Rattle.regalloc2_checker.specs.declared.errors.CheckerError.TheVariants.{AllocationIsNotFixedReg, AllocationIsNotReuse, AllocationIsNotStack}
 use Rattle.regalloc2_checker.specs.declared.errors.CheckerError.TheVariants.{StackToStackMove, AllocationOutsideLimit, MalformedOutput, Memory}
-use Rattle.regalloc2_steps.specs.Faults.{operand_words}
 use Rattle.regalloc2_c.specs.Payload.{none, as_word}
 use Rattle.regalloc2_c.specs.declared.failure.Failure.{Failure}
 use Rattle.regalloc2_c.specs.declared.failure.Failure.TheVariants.{Faults, NoMemory}
@@ -33,21 +32,22 @@ abbrev pub first_index : (ℕ → Bool) → ℕ → ℕ → ℕ
 first_index test k zero = none
 first_index test k (suc n) = if test k then as_word k else first_index test (suc k) n
 
--- whether the k-th operand has that word and is in that place
+-- whether operand `k` has the encoding of `op` and is in the place `p`
 abbrev pub is_placed : List OperandValue → List Place → OperandValue → Place → ℕ → Bool
 is_placed ops places op p k = nat_eq (bits_of_operand (slice_index_or ops k invalid_operand)) (bits_of_operand op)
     && nat_eq (bits_of_place (place_at places k)) (bits_of_place p)
 
--- the index of the first operand of an instruction with that word that is in that place
+-- the index of the first operand of instruction `i` with the encoding of `op` that is in the place `p`
 abbrev pub operand_index : FunctionValue → OutputValue → ℕ → OperandValue → Place → ℕ
 operand_index f out i op p = if nat_lt i (length f.insts)
     then first_index (is_placed (inst_at f i).operands (allocs_of out i) op p) 0 (length (inst_at f i).operands) else none
 
--- a fault of an operand, with the operand's index
+-- a fault of an operand: its number, the instruction, the operand's index, its encoding, the lower half first, its place, another place, and a bound
 abbrev pub operand_head : FunctionValue → OutputValue → ℕ → ℕ → OperandValue → Place → Place → ℕ → List ℕ
-operand_head f out number inst op p other bound = operand_words number inst (operand_index f out inst op p) op p other bound
+operand_head f out number inst op p other bound = number ∷ inst ∷ operand_index f out inst op p ∷ bits_of_operand op % 2 ^ 32 ∷ bits_of_operand op / 2 ^ 32
+    ∷ bits_of_place p ∷ bits_of_place other ∷ bound ∷ []
 
--- a fault up to its list of vregs; the numbers are those of the checker's texts
+-- a fault up to its list of vregs, by the number of the checker's text
 abbrev pub fault_head : {A : Type 0} → FunctionValue → OutputValue → CheckerError A → List ℕ
 fault_head f out (MissingAllocation inst op) = operand_head f out 1 inst op NoPlace NoPlace 0
 fault_head f out (UnknownValueInAllocation inst op p) = operand_head f out 2 inst op p NoPlace 0
@@ -83,7 +83,7 @@ fault_vregs Memory = []
 abbrev pub fault_words : {A : Type 0} → FunctionValue → OutputValue → CheckerError A → List ℕ
 fault_words f out e = fault_head f out e ++ length (fault_vregs e) ∷ map bits_of_vreg (fault_vregs e)
 
--- and faults are a list of them
+-- faults are a list of the words of each
 abbrev pub faults_words : {A : Type 0} → FunctionValue → OutputValue → List (CheckerError A) → List ℕ
 faults_words f out es = length es ∷ flat_map (fault_words f out) es
 
@@ -102,7 +102,7 @@ cell_fault_words (Slot n) = 1 ∷ 16 ∷ none ∷ as_word n ∷ 0 ∷ 0 ∷ 0 �
 cell_fault_words (Shared m n) = 1 ∷ 17 ∷ none ∷ as_word m ∷ 0 ∷ 0 ∷ 0 ∷ 0 ∷ as_word n ∷ 0 ∷ []
 cell_fault_words CellMemory = 1 ∷ 13 ∷ none ∷ none ∷ 0 ∷ 0 ∷ 0 ∷ 0 ∷ 0 ∷ 0 ∷ []
 
--- a failure has those words, or memory for them was refused; more than 2^32 faults, or vregs of one, count as that
+-- a failure has the words `words`, or memory ran out; more than 2^32 faults, or vregs of a fault, count as that
 abbrev pub IsFaultsTold : List ℕ → Failure → Type 0
 IsFaultsTold words e = (e ≡ NoMemory) ⊎ ((v : Vec ℕ) × (e ≡ Faults v) × (v.items ≡ words))
 
@@ -118,8 +118,8 @@ IsErrorsFailure f out es e = ((es ≡ Memory ∷ []) × (e ≡ NoMemory)) ⊎ ((
 abbrev pub IsCellsTold : CellFault → Failure → Type 0
 IsCellsTold fault e = (e ≡ NoMemory) ⊎ ((fault ≡ CellMemory → ⊥) × (v : Vec ℕ) × (e ≡ Faults v) × (v.items ≡ cell_fault_words fault))
 
--- words are those of the faults of an output: that it isn't in order; or all that the checker finds; or, if it finds none, the first that keeps its
--- places from being cells
+-- `words` are the words of the faults of an output: it isn't in order; or all that the checker finds; or, if it finds none, the first that keeps
+-- its places from being cells
 abbrev pub AreFaultsOf : FunctionValue → MachineValue → OutputValue → List ℕ → Type 0
 AreFaultsOf f env out words =
     ((IsInOrder f out → ⊥) × (words ≡ malformed_words))

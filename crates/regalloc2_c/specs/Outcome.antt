@@ -56,7 +56,7 @@ IsJsonOf bytes s = IsUtf8 bytes × (d : Data) × (read bytes ≡ Some d) × IsFu
 abbrev pub IsTextInput : List ℕ → StoredFunction Global → Type 0
 IsTextInput bytes s = IsUtf8 bytes
 
--- why an input of so many lines gives no numbers: it has none, a line can't be read, or memory ran out; JSON has no lines
+-- why an input of `lines` lines gives no numbers: it has none, a line can't be read, or memory ran out; JSON has no lines
 abbrev pub HasNoNumbers : (StoredFunction Global → Type 0) → ℕ → Failure → Type 0
 HasNoNumbers Lays lines Unreadable = (s : StoredFunction Global) → Lays s → ⊥
 HasNoNumbers Lays lines (BadMachine m) = ⊥
@@ -107,14 +107,14 @@ pub record ArePartsOf (num_spillslots : ℕ) (moves places offsets : List ℕ) (
   pub offsets_of : offsets ≡ o.inst_alloc_offsets.items
   pub no_locations : o.debug_locations.items ≡ []
 
--- words are those of moves, three words each
+-- `words` are the words of moves, three words each
 pub record AreMovesOf (words : List ℕ) (edits : List (ℕ × MoveValue)) : Type 0 where
   pub numbers : List (ℕ × ℕ × ℕ)
   pub words_of : words ≡ flat_map words_of_triple numbers
   pub names : All NamesMove numbers
   pub moves : edits ≡ map stored_move numbers
 
--- why they are those of none
+-- why `words` are the words of no moves
 abbrev pub NamesNoMoves : List ℕ → Failure → Type 0
 NamesNoMoves words e = (e ≡ NoMemory)
     ⊎ ((e ≡ Unreadable) × ((numbers : List (ℕ × ℕ × ℕ)) → words ≡ flat_map words_of_triple numbers → ⊥))
@@ -126,7 +126,7 @@ pub record IsOutput (Lays : StoredOutput Global → Type 0) (out : OutputValue) 
   pub laid_out : Lays stored
   pub names : NumbersNameOutput stored out
 
--- words are those of an output of a function, with all that `allocate` guarantees
+-- `words` are the words of an output of a function, with all that `allocate` guarantees
 pub record IsAllocatedOutput (f : FunctionValue) (env : MachineValue) (words : List ℕ) : Type 0 where
   pub out : OutputValue
   pub output : IsOutput (AreOutputWords words) out
@@ -136,7 +136,7 @@ pub record IsAllocatedOutput (f : FunctionValue) (env : MachineValue) (words : L
   pub allocation : IsAllocation f env out
   pub faithful : IsFaithful f env out
 
--- or that `run_tested` guarantees
+-- `words` are the words of an output of a function, with all that `run_tested` guarantees
 pub record IsTestedOutput (f : FunctionValue) (env : MachineValue) (words : List ℕ) : Type 0 where
   pub out : OutputValue
   pub output : IsOutput (AreOutputWords words) out

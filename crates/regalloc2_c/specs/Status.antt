@@ -1,5 +1,5 @@
--- The numbers of failures, as the header lists them, and which failure an error is.
-use Rattle.std.specs.Prelude.{ℕ, ◌+◌}
+-- The version of the library, the numbers of failures, as the header lists them, and which failure an error is.
+use Rattle.std.specs.Prelude.{ℕ, ◌+◌, ◌*◌, ◌^◌}
 use Rattle.std.specs.declared.alloc.Global.{Global}
 use Rattle.regalloc2.specs.declared.tested.AllocateError.{AllocateError}
 use Rattle.regalloc2.specs.declared.tested.AllocateError.TheVariants.{Misfit as AllocateMisfit, Refused as AllocateRefused, Faults as AllocateFaults, Unjudged}
@@ -12,6 +12,10 @@ use Rattle.regalloc2_text.specs.Refusal.{refusal_number}
 use Rattle.regalloc2_c.specs.declared.failure.Failure.{Failure}
 use Rattle.regalloc2_c.specs.declared.failure.Failure.TheVariants.{Unreadable, BadMachine, NoRoom, Faults, NoMemory, NotFramed, BadOutput}
 use Rattle.regalloc2_c.specs.declared.failure.Failure.TheVariants.{ReadBeforeWritten, BadText, BadFunction, Refused}
+
+-- the version of the layouts, 2, and the number of calls, 9
+abbrev pub version : ℕ
+version = 2 * 2 ^ 16 + 9
 
 abbrev pub failure_number : Failure → ℕ
 failure_number Unreadable = 1

@@ -8,7 +8,7 @@ use Rattle.regalloc2_names.specs.Text.{cause_text}
 abbrev pub no_status : List ℕ
 no_status = codes "no status"
 
--- those below 20
+-- the texts of the statuses below 20
 abbrev pub failure_texts : List (List ℕ)
 failure_texts = codes "the call succeeded"
     ∷ codes "the input lays out no function or no output"

@@ -52,7 +52,7 @@ fn tested<F: Function>(alloc: Global, f: &F, env: &MachineEnv) -> Result<Vec<u32
     }
 }
 
-/// The words of the output that is allocated to the function that words lay out.
+/// The words of the output that is allocated to the function that `words` lay out.
 pub fn allocated_of_words(alloc: Global, words: &[u32]) -> Result<Vec<u32>, Failure>
     ensures { IsAllocationFound (AreWordsOf words.now) (AreUnreadWords words.now) result }
 {
@@ -62,7 +62,7 @@ pub fn allocated_of_words(alloc: Global, words: &[u32]) -> Result<Vec<u32>, Fail
     }
 }
 
-/// The words of the output that is allocated to the function whose JSON text these bytes are.
+/// The words of the output that is allocated to the function with the JSON text `bytes`.
 pub fn allocated_of_json(alloc: Global, bytes: &[u8]) -> Result<Vec<u32>, Failure>
     ensures { IsAllocationFound (NumbersName (IsJsonOf bytes.now)) (NumbersNameNone (IsJsonOf bytes.now) 0) result }
 {
@@ -72,7 +72,7 @@ pub fn allocated_of_json(alloc: Global, bytes: &[u8]) -> Result<Vec<u32>, Failur
     }
 }
 
-/// The words of the output that is allocated to the function in a text of these bytes.
+/// The words of the output that is allocated to the function in the text `bytes`.
 pub fn allocated_of_text(alloc: Global, bytes: &[u8]) -> Result<Vec<u32>, Failure>
     ensures { IsAllocationFound (NumbersName (IsTextInput bytes.now)) (NumbersNameNone (IsTextInput bytes.now) (1 + length bytes.now)) result }
 {
@@ -82,7 +82,7 @@ pub fn allocated_of_text(alloc: Global, bytes: &[u8]) -> Result<Vec<u32>, Failur
     }
 }
 
-/// The words of the output that a tested run gives for the function that words lay out.
+/// The words of the output that a tested run gives for the function that `words` lay out.
 pub fn tested_of_words(alloc: Global, words: &[u32]) -> Result<Vec<u32>, Failure>
     ensures { IsRunFound words.now result }
 {

@@ -13,7 +13,7 @@ use regalloc2::checker::CheckerError;
 use regalloc2::{Allocation, Function, Inst, Operand, Output, VReg};
 use regalloc2_checker::CellFault;
 use regalloc2_checker::lookup::place_at;
-use regalloc2_steps::faults::words_of_operand;
+use regalloc2_serialize::flat::halves;
 use std::alloc::{AllocError, Global};
 
 /// A function and an output of it.
@@ -25,7 +25,7 @@ pub struct Judged<'a, F: Function> {
     pub output: &'a Output,
 }
 
-/// Whether an operand has that word and is in that place.
+/// Whether operand `k` has the encoding of `op` and is in `place`.
 fn is_placed(
     operands: &[Operand],
     places: &[Allocation],
@@ -39,7 +39,7 @@ fn is_placed(
     operands[k].bits() == op.bits() && place_at(places, k).bits() == place.bits()
 }
 
-/// The index of the first operand with that word that is in that place, as a word.
+/// The index of the first operand with the encoding of `op` that is in `place`, as a word.
 fn index_of(operands: &[Operand], places: &[Allocation], op: Operand, place: Allocation) -> u32
     ensures { result ≡ first_index (is_placed operands.now places.now op place) 0 (length operands.now) }
 {
@@ -51,7 +51,7 @@ fn index_of(operands: &[Operand], places: &[Allocation], op: Operand, place: All
     NONE
 }
 
-/// The index of the first operand of an instruction with that word that is in that place, as a word.
+/// The index of the first operand of `inst` with the encoding of `op` that is in `place`, as a word.
 fn index_in<F: Function>(f: &F, output: &Output, inst: Inst, op: Operand, place: Allocation) -> u32
     requires { IsInOrder (F.function f.now) (output_of output.now) }
     ensures { result ≡ operand_index (F.function f.now) (output_of output.now) inst op place }
@@ -63,9 +63,8 @@ fn index_in<F: Function>(f: &F, output: &Output, inst: Inst, op: Operand, place:
     }
 }
 
-/// The words of a fault of an operand: the fault's number, the instruction, the operand's index, the operand, its place, another place and a
-/// bound.
-fn of_operand<F: Function>(
+/// The words of a fault of an operand: `number`, `inst`, the index of `op`, its encoding, `place`, `other` and `bound`.
+fn operand_head<F: Function>(
     judged: &Judged<'_, F>,
     number: u32,
     inst: Inst,
@@ -78,7 +77,17 @@ fn of_operand<F: Function>(
     ensures { result ≡ operand_head (F.function judged.now.f.now) (output_of judged.now.output.now) number inst op place other bound }
 {
     let index = index_in(judged.f, judged.output, inst, op, place);
-    words_of_operand(number, inst, index, op, place, other, bound)
+    let [lower, upper] = halves(op.bits());
+    [
+        number,
+        inst.0,
+        index,
+        lower,
+        upper,
+        place.bits(),
+        other.bits(),
+        bound,
+    ]
 }
 
 /// The words of a fault up to the list of vregs.
@@ -88,38 +97,38 @@ fn head_of<F: Function>(judged: &Judged<'_, F>, error: &CheckerError) -> [u32; 8
 {
     let none = Allocation::none();
     match error {
-        CheckerError::MissingAllocation { inst, op } => of_operand(
+        CheckerError::MissingAllocation { inst, op } => operand_head(
             judged, 1, *inst, *op, none, none, 0,
         ),
         CheckerError::UnknownValueInAllocation { inst, op, alloc } => {
-            of_operand(judged, 2, *inst, *op, *alloc, none, 0)
+            operand_head(judged, 2, *inst, *op, *alloc, none, 0)
         }
         CheckerError::ConflictedValueInAllocation { inst, op, alloc } => {
-            of_operand(judged, 3, *inst, *op, *alloc, none, 0)
+            operand_head(judged, 3, *inst, *op, *alloc, none, 0)
         }
         CheckerError::IncorrectValuesInAllocation {
             inst,
             op,
             alloc,
             ..
-        } => { of_operand(judged, 4, *inst, *op, *alloc, none, 0) }
+        } => { operand_head(judged, 4, *inst, *op, *alloc, none, 0) }
         CheckerError::ConstraintViolated { inst, op, alloc } => {
-            of_operand(judged, 5, *inst, *op, *alloc, none, 0)
+            operand_head(judged, 5, *inst, *op, *alloc, none, 0)
         }
         CheckerError::AllocationIsNotReg { inst, op, alloc } => {
-            of_operand(judged, 6, *inst, *op, *alloc, none, 0)
+            operand_head(judged, 6, *inst, *op, *alloc, none, 0)
         }
         CheckerError::AllocationIsNotFixedReg { inst, op, alloc } => {
-            of_operand(judged, 7, *inst, *op, *alloc, none, 0)
+            operand_head(judged, 7, *inst, *op, *alloc, none, 0)
         }
         CheckerError::AllocationIsNotReuse {
             inst,
             op,
             alloc,
             expected_alloc,
-        } => { of_operand(judged, 8, *inst, *op, *alloc, *expected_alloc, 0) }
+        } => { operand_head(judged, 8, *inst, *op, *alloc, *expected_alloc, 0) }
         CheckerError::AllocationIsNotStack { inst, op, alloc } => {
-            of_operand(judged, 9, *inst, *op, *alloc, none, 0)
+            operand_head(judged, 9, *inst, *op, *alloc, none, 0)
         }
         CheckerError::StackToStackMove { into, from } => {
             [10, NONE, NONE, 0, 0, into.bits(), from.bits(), 0]
@@ -129,13 +138,13 @@ fn head_of<F: Function>(judged: &Judged<'_, F>, error: &CheckerError) -> [u32; 8
             op,
             alloc,
             range,
-        } => { of_operand(judged, 11, *inst, *op, *alloc, none, word_of(range.end)) }
+        } => { operand_head(judged, 11, *inst, *op, *alloc, none, word_of(range.end)) }
         CheckerError::MalformedOutput => [12, NONE, NONE, 0, 0, 0, 0, 0],
         CheckerError::Memory => [13, NONE, NONE, 0, 0, 0, 0, 0],
     }
 }
 
-/// Adds words to others.
+/// Adds `words` to `to`.
 fn push_words(to: &mut Vec<u32>, words: &[u32]) -> Result<(), AllocError>
     ensures { OnOk result (to.new.items ≡ to.old.items ++ words.now) }
 {
@@ -145,7 +154,7 @@ fn push_words(to: &mut Vec<u32>, words: &[u32]) -> Result<(), AllocError>
     Ok(())
 }
 
-/// Adds the bits of vregs to words.
+/// Adds the encodings of `vregs` to `to`.
 fn push_vregs(to: &mut Vec<u32>, vregs: &[VReg]) -> Result<(), AllocError>
     ensures { OnOk result (to.new.items ≡ to.old.items ++ map bits_of_vreg vregs.now) }
 {
@@ -155,7 +164,7 @@ fn push_vregs(to: &mut Vec<u32>, vregs: &[VReg]) -> Result<(), AllocError>
     Ok(())
 }
 
-/// Adds a length to words. An error if it is no word.
+/// Adds `length` to `to`. An error if it is no word.
 fn push_length(to: &mut Vec<u32>, length: usize) -> Result<(), AllocError>
     ensures { OnOk result (to.new.items ≡ to.old.items ++ length ∷ []) }
 {
@@ -176,7 +185,7 @@ fn vregs_of(error: &CheckerError) -> &[VReg]
     }
 }
 
-/// Adds the words of a fault to others.
+/// Adds the words of the fault `error` to `to`.
 fn push_fault<F: Function>(
     to: &mut Vec<u32>,
     judged: &Judged<'_, F>,
@@ -192,7 +201,7 @@ fn push_fault<F: Function>(
     push_vregs(to, vregs)
 }
 
-/// Adds the words of faults to others.
+/// Adds the words of the faults `errors` to `to`.
 fn push_faults<F: Function>(
     to: &mut Vec<u32>,
     judged: &Judged<'_, F>,
@@ -208,7 +217,7 @@ fn push_faults<F: Function>(
     Ok(())
 }
 
-/// The failure that tells these faults.
+/// The failure with the words of the faults `errors`.
 fn faults_failure<F: Function>(
     alloc: Global,
     judged: &Judged<'_, F>,

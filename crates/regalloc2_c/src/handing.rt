@@ -1,44 +1,48 @@
 //! Hands out a result: a status, words if there is room for them, and how many there are.
 
-ghost use Rattle.std.specs.Prelude.{◌≤◌, Err};
-ghost use Rattle.regalloc2_c.specs.Handing.{IsHandedOut};
+ghost use Rattle.std.specs.Prelude.{◌≡◌, ◌≤◌, Err, length};
+ghost use Rattle.regalloc2_c.specs.Handing.{IsHandedOut, IsWrittenOut};
 
 use super::failure::{Failure, number_of};
 use super::payload::{words_of_misfit, words_of_refusal};
-use regalloc2_steps::giving::{give, give_position};
 
-/// Hands out a failure: its number, and the words that say what it is about.
+/// Writes `words` to the beginning of `out` and returns `status`; if there is no room for them, writes nothing and returns the number of
+/// `NoRoom`. Sets `needed` to the length of `words`.
+fn give(status: u32, words: &[u32], out: &mut [u32], needed: &mut usize) -> u32
+    ensures needed { needed.new ≡ length words.now }
+    ensures given { IsWrittenOut status words.now out.old out.new result }
+{
+    let count = words.len();
+    *needed = count;
+    if count > out.len() {
+        return number_of(&Failure::NoRoom);
+    }
+    out[..count].copy_from_slice(words);
+    status
+}
+
+/// Hands out `failure`: its number, and the words that say what it is about.
 fn hand_out_failure(failure: Failure, out: &mut [u32], needed: &mut usize) -> u32
     ensures status { result ≤ 31 }
     ensures handed { IsHandedOut (Err failure) out.old out.new needed.new result }
 {
     let status = number_of(&failure);
-    let no_room = number_of(&Failure::NoRoom);
     match &failure {
-        Failure::BadMachine(misfit) => {
-            let words = words_of_misfit(*misfit);
-            give(status, no_room, &words, out, needed)
-        }
-        Failure::Faults(words) => give(status, no_room, words.as_slice(), out, needed),
-        Failure::BadText(line, column) => {
-            give_position(status, no_room, *line, *column, out, needed)
-        }
-        Failure::Refused(error) => {
-            let words = words_of_refusal(*error);
-            give(status, no_room, &words, out, needed)
-        }
-        _ => give(status, no_room, &[], out, needed),
+        Failure::BadMachine(misfit) => give(status, &words_of_misfit(*misfit), out, needed),
+        Failure::Faults(words) => give(status, words.as_slice(), out, needed),
+        Failure::BadText(line, column) => give(status, &[*line, *column], out, needed),
+        Failure::Refused(error) => give(status, &words_of_refusal(*error), out, needed),
+        _ => give(status, &[], out, needed),
     }
 }
 
-/// Hands out what was found: the words of an output, or those that say what a failure is about.
+/// Hands out what was found: the words of an output, or of what a failure is about.
 pub fn hand_out(found: Result<Vec<u32>, Failure>, out: &mut [u32], needed: &mut usize) -> u32
     ensures status { result ≤ 31 }
     ensures handed { IsHandedOut found out.old out.new needed.new result }
 {
-    let no_room = number_of(&Failure::NoRoom);
     match found {
-        Ok(words) => give(0, no_room, words.as_slice(), out, needed),
+        Ok(words) => give(0, words.as_slice(), out, needed),
         Err(failure) => hand_out_failure(failure, out, needed),
     }
 }

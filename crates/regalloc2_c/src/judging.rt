@@ -91,25 +91,14 @@ fn stored_output(alloc: Global, words: &[u32]) -> Result<StoredOutput, Failure>
     }
 }
 
-/// Whether a word is that of a place. Most are registers' words.
-#[inline(always)]
-fn is_place(bits: u32) -> bool
-    ensures { IsTrue result ↔ IsPlaceBits bits }
-{
-    if bits >= 1 << 29 && bits < (1 << 29) + 192 {
-        return true;
-    }
-    Allocation::is_bits(bits)
-}
-
-/// Whether these words are those of a point and two places.
+/// Whether `point` encodes a point, and `from` and `to` encode places.
 fn is_move(point: u32, from: u32, to: u32) -> bool
     ensures { IsTrue result ↔ NamesMove (point, from, to) }
 {
-    ProgPoint::is_index(point) && is_place(from) && is_place(to)
+    ProgPoint::is_index(point) && Allocation::is_bits(from) && Allocation::is_bits(to)
 }
 
-/// The moves of three words each.
+/// The moves that `words` encode, three words each.
 fn moves_from(alloc: Global, words: &[u32]) -> Result<Vec<(ProgPoint, Edit)>, Failure>
     ensures ok { IfOk result (λ v. AreMovesOf words.now (map edit_of v.items)) }
     ensures err { IfErr result (NamesNoMoves words.now) }
@@ -133,7 +122,7 @@ fn moves_from(alloc: Global, words: &[u32]) -> Result<Vec<(ProgPoint, Edit)>, Fa
     Ok(moves)
 }
 
-/// The places of these words.
+/// The places that `words` encode.
 fn places_from(alloc: Global, words: &[u32]) -> Result<Vec<Allocation>, Failure>
     ensures places { IfOk result (λ v. v.items ≡ map place_of_bits words.now) }
     ensures names { IfOk result (λ v. All IsPlaceBits words.now) }
@@ -143,7 +132,7 @@ fn places_from(alloc: Global, words: &[u32]) -> Result<Vec<Allocation>, Failure>
         return Err(Failure::NoMemory);
     };
     for bits in words {
-        if !is_place(*bits) {
+        if !Allocation::is_bits(*bits) {
             return Err(Failure::BadOutput);
         }
         let Ok(()) = places.push(Allocation::from_bits(*bits)) else {
@@ -153,7 +142,7 @@ fn places_from(alloc: Global, words: &[u32]) -> Result<Vec<Allocation>, Failure>
     Ok(places)
 }
 
-/// A copy of words.
+/// A copy of `words`.
 fn copy_of(alloc: Global, words: &[u32]) -> Result<Vec<u32>, Failure>
     ensures ok { IfOk result (λ v. v.items ≡ words.now) }
     ensures err { IfErr result (λ e. e ≡ Failure.NoMemory) }
@@ -167,7 +156,7 @@ fn copy_of(alloc: Global, words: &[u32]) -> Result<Vec<u32>, Failure>
     }
 }
 
-/// The output that these are the parts of. It has no debug locations.
+/// The output with the parts `parts`, and without debug locations.
 fn output_from_parts(alloc: Global, parts: Parts<'_>) -> Result<Output, Failure>
     ensures ok { IfOk result (λ o. IsOutput (ArePartsOf parts.entry.num_spillslots parts.entry.moves.now parts.entry.places.now
         parts.entry.offsets.now) (output_of o)) }
@@ -206,7 +195,7 @@ fn output_from(alloc: Global, numbers: &StoredOutput) -> Result<Output, Failure>
     }
 }
 
-/// Checks the output of these numbers.
+/// Checks the output with the numbers `numbers`.
 fn judge_numbers<F: Function>(
     alloc: Global,
     f: &F,

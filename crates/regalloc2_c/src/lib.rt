@@ -5,6 +5,7 @@
 #![tactic(auto)]
 
 ghost use Rattle.std.specs.Prelude.{◌≡◌, ◌≤◌, ◌+◌, length};
+ghost use Rattle.regalloc2_c.specs.Status.{version};
 ghost use Rattle.regalloc2_c.specs.Outcome.{AreWordsOf, AreUnreadWords, IsJsonOf, IsTextInput, NumbersName, NumbersNameNone, ArePartsOf};
 ghost use Rattle.regalloc2_c.specs.Outcome.{IsAllocateOutcome, IsRunOutcome, IsJudgeOutcome, IsCheckOutcome};
 ghost use Rattle.regalloc2_c.specs.Texts.{text_of_status, text_of_fault, IsTold};
@@ -27,15 +28,21 @@ use reading::function_from_words;
 use std::alloc::Global;
 use texts::{fault_words, status_words, tell};
 
+/// The version of the layouts of words.
+const LAYOUTS: u32 = 2;
+
+/// How many calls there are.
+const CALLS: u32 = 9;
+
 /// The version of the layouts, times 65536, and how many calls there are.
 #[unsafe(no_mangle)]
 pub extern "C" fn regalloc2_c_version() -> u32
-    ensures { result ≡ 131081 }
+    ensures { result ≡ version }
 {
-    131_081
+    (LAYOUTS << 16) + CALLS
 }
 
-/// Writes what a status says, in English, as far as there is room. Returns how many bytes that takes.
+/// Writes what `status` says to `text`, in English, as far as there is room. Returns how many bytes the whole takes.
 #[unsafe(no_mangle)]
 pub extern "C" fn regalloc2_c_status_text(status: u32, text: &mut [u8]) -> usize
     ensures { IsTold (text_of_status status) text.old text.new result }
@@ -43,7 +50,7 @@ pub extern "C" fn regalloc2_c_status_text(status: u32, text: &mut [u8]) -> usize
     tell(status_words(status), text)
 }
 
-/// Writes what a fault's number says, in English, as far as there is room. Returns how many bytes that takes.
+/// Writes what the fault `number` says to `text`, in English, as far as there is room. Returns how many bytes the whole takes.
 #[unsafe(no_mangle)]
 pub extern "C" fn regalloc2_c_fault_text(number: u32, text: &mut [u8]) -> usize
     ensures { IsTold (text_of_fault number) text.old text.new result }
@@ -51,9 +58,10 @@ pub extern "C" fn regalloc2_c_fault_text(number: u32, text: &mut [u8]) -> usize
     tell(fault_words(number), text)
 }
 
-/// Allocates registers to the function that `words` lay out, runs the checker on the output, and writes the output's words. The
-/// status is 0, or says why there are none; then the words say what the error is about. `needed` is how many words there are: if there is no
-/// room for them, nothing is written, and the status is that of `NoRoom`.
+/// Allocates registers to the function that `words` lay out, runs the checker on the output, and writes the output's words to `out`.
+///
+/// Returns 0, or a status that says why there is no output; then the words say what the error is about. `needed` is set to how many words there
+/// are: if there is no room for them, nothing is written, and the status is the number of `NoRoom`.
 #[unsafe(no_mangle)]
 pub extern "C" fn regalloc2_c_allocate(
     alloc: Global,
@@ -67,7 +75,7 @@ pub extern "C" fn regalloc2_c_allocate(
     hand_out(allocated_of_words(alloc, words), out, needed)
 }
 
-/// The same for a function in JSON.
+/// Does what `regalloc2_c_allocate` does for the function in the JSON text `json`.
 #[unsafe(no_mangle)]
 pub extern "C" fn regalloc2_c_allocate_json(
     alloc: Global,
@@ -81,7 +89,7 @@ pub extern "C" fn regalloc2_c_allocate_json(
     hand_out(allocated_of_json(alloc, json), out, needed)
 }
 
-/// The same for a function in a text. An output in it is ignored.
+/// Does what `regalloc2_c_allocate` does for the function in `text`. An output in it is ignored.
 #[unsafe(no_mangle)]
 pub extern "C" fn regalloc2_c_allocate_text(
     alloc: Global,
@@ -109,8 +117,9 @@ pub extern "C" fn regalloc2_c_run(
     hand_out(tested_of_words(alloc, words), out, needed)
 }
 
-/// Runs the checker on an output that is given in parts, of the function that `words` lay out, and tests that its places are cells of
-/// their own. The status is 0 if both hold, or says why it isn't accepted; the words are those of a list of faults.
+/// Runs the checker on an output of the function that `words` lay out, given in parts, and tests that its places are cells of their own.
+///
+/// Returns 0 if both hold, or a status that says why the output isn't accepted, and writes the words of a list of faults to `out`.
 #[unsafe(no_mangle)]
 pub extern "C" fn regalloc2_c_judge(
     alloc: Global,
@@ -135,7 +144,7 @@ pub extern "C" fn regalloc2_c_judge(
 }
 
 /// Runs the checker on the output that `output` lays out, of the function that `words` lay out, and tests that its places are cells of
-/// their own. The status is 0 if both hold, or says why it isn't accepted.
+/// their own. Returns 0 if both hold, or a status that says why the output isn't accepted.
 #[unsafe(no_mangle)]
 pub extern "C" fn regalloc2_c_check(alloc: Global, words: &[u32], output: &[u32]) -> u32
     ensures status { result ≤ 31 }

@@ -3,41 +3,41 @@
 ghost use Rattle.std.specs.Prelude.{◌≡◌, ◌∷◌, []};
 ghost use Rattle.regalloc2_names.specs.Register.{class_code};
 ghost use Rattle.regalloc2_names.specs.RegisterBits.{bits_of_register};
-ghost use Rattle.regalloc2_c.specs.Payload.{misfit_words, refusal_payload};
+ghost use Rattle.regalloc2_c.specs.Payload.{misfit_words, none, refusal_payload};
 
 use super::words::NONE;
 use regalloc2::{PReg, RegAllocError, RegClass};
 use regalloc2_function::MachineMisfit;
 
-/// A condition's number, a class and a register of it.
-fn of_register(number: u32, class: RegClass, reg: PReg) -> [u32; 3]
+/// The words of the condition `number` for the register `reg` of `class`.
+fn words_with_register(number: u32, class: RegClass, reg: PReg) -> [u32; 3]
     ensures { result ≡ number ∷ class_code class ∷ bits_of_register reg ∷ [] }
 {
     [number, class.code() as u32, reg.index() as u32]
 }
 
-/// A condition's number and a class.
-fn of_class(number: u32, class: RegClass) -> [u32; 3]
-    ensures { result ≡ number ∷ class_code class ∷ 4294967295 ∷ [] }
+/// The words of the condition `number` for `class`.
+fn words_with_class(number: u32, class: RegClass) -> [u32; 3]
+    ensures { result ≡ number ∷ class_code class ∷ none ∷ [] }
 {
     [number, class.code() as u32, NONE]
 }
 
-/// Which condition of a machine fails, its class and its register.
+/// The words of the condition of a machine that fails: its number, its class and its register.
 pub fn words_of_misfit(misfit: MachineMisfit) -> [u32; 3]
     ensures { result ≡ misfit_words misfit }
 {
     match misfit {
         MachineMisfit::InvalidSlot => [1, NONE, NONE],
-        MachineMisfit::OtherClass(class, reg) => of_register(2, class, reg),
-        MachineMisfit::ListedTwice(class, reg) => of_register(3, class, reg),
-        MachineMisfit::InvalidRegister(class) => of_class(4, class),
-        MachineMisfit::ScratchOfOtherClass(class, reg) => of_register(5, class, reg),
-        MachineMisfit::ScratchAllocatable(class, reg) => of_register(6, class, reg),
-        MachineMisfit::InvalidScratch(class) => of_class(7, class),
-        MachineMisfit::SlotAllocatable(class, reg) => of_register(8, class, reg),
-        MachineMisfit::SlotIsScratch(class, reg) => of_register(9, class, reg),
-        MachineMisfit::NoRegister(class) => of_class(10, class),
+        MachineMisfit::OtherClass(class, reg) => words_with_register(2, class, reg),
+        MachineMisfit::ListedTwice(class, reg) => words_with_register(3, class, reg),
+        MachineMisfit::InvalidRegister(class) => words_with_class(4, class),
+        MachineMisfit::ScratchOfOtherClass(class, reg) => words_with_register(5, class, reg),
+        MachineMisfit::ScratchAllocatable(class, reg) => words_with_register(6, class, reg),
+        MachineMisfit::InvalidScratch(class) => words_with_class(7, class),
+        MachineMisfit::SlotAllocatable(class, reg) => words_with_register(8, class, reg),
+        MachineMisfit::SlotIsScratch(class, reg) => words_with_register(9, class, reg),
+        MachineMisfit::NoRegister(class) => words_with_class(10, class),
     }
 }
 

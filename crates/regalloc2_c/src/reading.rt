@@ -15,7 +15,7 @@ use regalloc2_text::{TextError, read};
 use serde_json::Value;
 use std::alloc::Global;
 
-/// The function and the machine that words lay out.
+/// The function and the machine that `words` lay out.
 pub fn function_from_words(alloc: Global, words: &[u32]) -> Result<FlatFunction, Failure>
     ensures ok { IfOk result (λ f. AreWordsOf words.now (function_of_flat f) (machine_of f.machine)) }
     ensures err { IfErr result (AreUnreadWords words.now) }
@@ -37,7 +37,7 @@ fn function_from(alloc: Global, stored: &StoredFunction) -> Result<SerializableF
     }
 }
 
-/// The numbers of the function whose JSON text these bytes are.
+/// The numbers of the function with the JSON text `bytes`.
 fn stored_from_json(alloc: Global, bytes: &[u8]) -> Result<StoredFunction, Failure>
     ensures ok { IfOk result (IsJsonOf bytes.now) }
     ensures err { IfErr result (HasNoNumbers (IsJsonOf bytes.now) 0) }
@@ -60,7 +60,7 @@ fn stored_from_json(alloc: Global, bytes: &[u8]) -> Result<StoredFunction, Failu
     }
 }
 
-/// The function and the machine of which these bytes are the JSON text.
+/// The function and the machine with the JSON text `bytes`.
 pub fn function_from_json(alloc: Global, bytes: &[u8]) -> Result<SerializableFunction, Failure>
     ensures ok { IfOk result (λ f. NumbersName (IsJsonOf bytes.now) (function_of_serializable f) (machine_of f.machine)) }
     ensures err { IfErr result (NumbersNameNone (IsJsonOf bytes.now) 0) }
@@ -81,7 +81,7 @@ fn failure_of_text(error: TextError<'_>) -> Failure
     }
 }
 
-/// The numbers of the function in a text of these bytes. The contract of the reader doesn't say which that is.
+/// The numbers of the function in the text `bytes`. The reader's contract doesn't say which function that is.
 fn stored_from_text(alloc: Global, bytes: &[u8]) -> Result<StoredFunction, Failure>
     ensures ok { IfOk result (IsTextInput bytes.now) }
     ensures err { IfErr result (HasNoNumbers (IsTextInput bytes.now) (1 + length bytes.now)) }
@@ -95,7 +95,7 @@ fn stored_from_text(alloc: Global, bytes: &[u8]) -> Result<StoredFunction, Failu
     }
 }
 
-/// The function and the machine in a text of these bytes.
+/// The function and the machine in the text `bytes`.
 pub fn function_from_text(alloc: Global, bytes: &[u8]) -> Result<SerializableFunction, Failure>
     ensures ok { IfOk result (λ f. NumbersName (IsTextInput bytes.now) (function_of_serializable f) (machine_of f.machine)) }
     ensures err { IfErr result (NumbersNameNone (IsTextInput bytes.now) (1 + length bytes.now)) }

@@ -5,7 +5,7 @@ ghost use Rattle.regalloc2_c.specs.Texts.{text_of_status, failure_texts, text_of
 
 use regalloc2_names::RegAllocErrorKind;
 
-/// What a status says.
+/// What `status` says.
 pub fn status_words(status: u32) -> &'static str
     ensures { result.now ≡ text_of_status status }
 {
@@ -16,7 +16,7 @@ pub fn status_words(status: u32) -> &'static str
     }
 }
 
-/// What a status below 20 says.
+/// What `status`, which is below 20, says.
 fn failure_words(status: u32) -> &'static str
     ensures { result.now ≡ slice_index_or failure_texts status no_status }
 {
@@ -43,7 +43,7 @@ fn failure_words(status: u32) -> &'static str
     }
 }
 
-/// The cause that the number of an allocator's error stands for.
+/// The cause of the allocator's errors with the number `number`.
 fn refusal_words(number: u32) -> &'static str
     ensures { result.now ≡ text_of_refusal number }
 {
@@ -56,7 +56,7 @@ fn refusal_words(number: u32) -> &'static str
     }
 }
 
-/// What a fault's number says.
+/// What the fault `number` says.
 pub fn fault_words(number: u32) -> &'static str
     ensures { result.now ≡ text_of_fault number }
 {
@@ -83,7 +83,7 @@ pub fn fault_words(number: u32) -> &'static str
     }
 }
 
-/// Writes words as far as there is room, and says how many bytes they are.
+/// Writes `words` to `text` as far as there is room, and returns how many bytes they are.
 pub fn tell(words: &str, text: &mut [u8]) -> usize
     ensures { IsTold words.now text.old text.new result }
 {

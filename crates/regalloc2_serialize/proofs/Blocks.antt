@@ -1,4 +1,4 @@
--- Blocks from five lists, and those of a table.
+-- Blocks from five lists, and blocks of a table.
 use Rattle.std.proofs.Common.{◌≡◌, ◌∙◌, ℕ, ◌<◌, List, [], length, map, get_or, ap, sym, subst, arith, refl}
 use Rattle.std.specs.List.{range_with_len}
 use Rattle.std.proofs.lemmas.List.{ext_get_or, get_or-map, length-map, map-id}
@@ -28,7 +28,7 @@ pub same-block : (b : BlockValue) (r : Span) (ss ps : List ℕ) (vs : List Virtu
     b ≡ record { range = r; succs = ss; preds = ps; params = vs; arguments = args }
 same-block b r ss ps vs args hr hs hp hv ha = rw (hr, hs, hp, hv, ha) refl
 
--- blocks whose parts stand in five lists are those that the lists name
+-- blocks whose parts stand in five lists are the blocks that the lists name
 pub read-blocks : {A X : Type 0} (s : StoredFunction A) (view : X → BlockValue) (xs : List X) →
     map stored_range s.blocks.items ≡ map (λ x. (view x).range) xs →
     map (λ l. l.items) s.block_succs.items ≡ map (λ x. (view x).succs) xs →

@@ -22,11 +22,11 @@ map-same f g same (x ∷ xs) = rw (same x, map-same f g same xs) refl
 pub options-shown : (xs : List (Option ℕ)) → map (option_map (λ n. n)) xs ≡ xs
 options-shown xs = map-same (option_map (λ n. n)) (λ o. o) (λ o. option_map_id o) xs ∙ map-id xs
 
--- lists of numbers, each number shown as itself, are those lists
+-- lists of numbers, each number shown as itself, are the lists themselves
 pub lists-shown : {X : Type 0} (items : X → List ℕ) (xs : List X) → map (λ v. map (λ n. n) (items v)) xs ≡ map items xs
 lists-shown items xs = map-same (λ v. map (λ n. n) (items v)) items (λ v. map-id (items v)) xs
 
--- lists of lists of numbers, each number shown as itself, are those lists of lists
+-- lists of lists of numbers, each number shown as itself, are the lists of lists themselves
 pub nested-shown : {X Y : Type 0} (items : X → List Y) (inner : Y → List ℕ) (xs : List X) →
     map (λ v. map (λ w. map (λ n. n) (inner w)) (items v)) xs ≡ map (λ v. map inner (items v)) xs
 nested-shown items inner xs = map-same (λ v. map (λ w. map (λ n. n) (inner w)) (items v)) (λ v. map inner (items v)) (λ v. lists-shown inner (items v)) xs
@@ -51,7 +51,7 @@ pub inst-read : (d : Data) (op : InstOpcode) (operands clobbers : List ℕ) → 
     inst d ≡ Some (record { op = op; operands = operands; clobbers = clobbers })
 inst-read d op operands clobbers a b c = rw (a, plain-read _ operands b, plain-read _ clobbers c) refl
 
--- and none where one is missing
+-- nothing is read where a member is missing
 pub no-inst-op : (d : Data) → member (codes "op") opcode d ≡ None → inst d ≡ None
 no-inst-op d a = rw a refl
 
@@ -70,7 +70,7 @@ machine-made : (d : Data) (p n : List (List ℕ)) (s : List (Option ℕ)) (f : L
     machine d ≡ Some (record { preferred = p; non_preferred = n; scratch = s; fixed_stack_slots = f })
 machine-made d p n s f hp hn hs hf = rw (hp, hn, hs, hf) refl
 
--- where its four members are read from JSON, a machine is read that has these four lists
+-- a machine is read if its four members are read from JSON
 pub machine-read : {X : Type 0} (items : X → List ℕ) (d : Data) (p n : List X) (s : List (Option ℕ)) (f : List ℕ) →
     member (codes "preferred_regs_by_class") (list (list byte)) d ≡ Some (map (λ v. map (λ k. k) (items v)) p) →
     member (codes "non_preferred_regs_by_class") (list (list byte)) d ≡ Some (map (λ v. map (λ k. k) (items v)) n) →
@@ -99,12 +99,12 @@ none-some (Some x) e h = absurd cc
 pub refused : {X N : Type 0} (e : StoredFault) (o : Option X) → (N → IsSome o) → (e ≡ Shape → o ≡ None) → (e ≡ Shape) ⊎ (e ≡ Memory) → IsRefusal e (N → ⊥)
 refused e o some none which = record { shape = λ is has. none-some o (none is) (some has); faults = which }
 
--- so parts of a function are refused
+-- the refusal of a part of a function
 pub not-part : {S N : Type 0} (P : S → Type 0) (r : Result S StoredFault) (e : StoredFault) → IsErrAnd r (λ y. y ≡ e) → IsRefusal e N →
     record { ok : IfOk r P; refused : IfErr r (λ y. IsRefusal y N) }
 not-part P r e is h = let p = err_from_is_err_and r is in rw (p.1, p.2) (record { ok = tt; refused = h })
 
--- and the whole function
+-- the refusal of the whole function
 pub not-function : {A N : Type 0} (d : Data) (r : Result (StoredFunction A) StoredFault) (e : StoredFault) → IsErrAnd r (λ y. y ≡ e) →
     (HasJsonShape d → N) → IsRefusal e (N → ⊥) → record {
       fields : IfOk r (λ s. IsFunctionAt d s);

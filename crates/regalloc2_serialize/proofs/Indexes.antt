@@ -8,7 +8,7 @@ use Rattle.regalloc2_names.specs.RegisterSet.{has_register}
 use Rattle.regalloc2_names.specs.declared.sets.PRegSet.{PRegSet}
 use Rattle.regalloc2_names.specs.Collected.{collected}
 
--- the members of a set are the registers with these indexes
+-- the members of `s` are the registers with the indexes `xs`
 abbrev AreMembers : List ℕ → PRegSet → Type 0
 AreMembers xs s = (r : Register) → (has_register s r ≡ true) ↔ Contains (map register_of_bits xs) r
 

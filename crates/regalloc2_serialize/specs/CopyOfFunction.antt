@@ -21,7 +21,7 @@ shown_block b = record {
 abbrev pub shown_inst : InstValue → InstValue
 shown_inst i = record { operands = i.operands; clobbers = i.clobbers; is_branch = not i.is_ret && i.is_branch; is_ret = i.is_ret }
 
--- the function of these blocks and instructions
+-- the function that is stored for `f`
 abbrev pub shown_function : FunctionValue → FunctionValue
 shown_function f = record {
   blocks = map shown_block f.blocks;

@@ -16,7 +16,7 @@ use Rattle.regalloc2_serialize.specs.declared.data.StoredInst.{StoredInst}
 use Rattle.regalloc2_serialize.specs.declared.data.StoredMachine.{StoredMachine}
 use Rattle.regalloc2_serialize.specs.declared.data.StoredFunction.{StoredFunction}
 
--- the members of a set are the registers with these indexes; a set has a word for each class
+-- the members of `s` are the registers with the indexes `indexes`; a set has a word for each class
 pub record HasIndexes (indexes : List ℕ) (s : PRegSet) : Type 0 where
   pub words : length s.bits ≡ 3
   pub members : (r : Register) → (has_register s r ≡ true) ↔ Contains (map register_of_bits indexes) r

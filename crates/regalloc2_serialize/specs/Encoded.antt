@@ -13,7 +13,7 @@ use Rattle.regalloc2_serialize.specs.declared.json_outputs.BlockLists.{BlockList
 use Rattle.regalloc2_serialize.specs.declared.table_function.table.TableBlock.{TableBlock}
 use Rattle.regalloc2_serialize.specs.declared.tables.SerializableFunction.{SerializableFunction}
 
--- the five lists by block are those of blocks
+-- the five lists by block of `s` have the parts of the blocks `bs`
 pub record AreListsOf {A B : Type 0} (s : StoredFunction A) (bs : List (TableBlock B)) : Type 0 where
   pub ranges : map stored_range s.blocks.items ≡ map (λ b. (block_of_table b).range) bs
   pub succs : map (λ l. l.items) s.block_succs.items ≡ map (λ b. (block_of_table b).succs) bs
@@ -21,7 +21,7 @@ pub record AreListsOf {A B : Type 0} (s : StoredFunction A) (bs : List (TableBlo
   pub params : map (λ l. map vreg_of_bits l.items) s.block_params_in.items ≡ map (λ b. (block_of_table b).params) bs
   pub arguments : map (λ l. map (λ k. map vreg_of_bits k.items) l.items) s.block_params_out.items ≡ map (λ b. (block_of_table b).arguments) bs
 
--- lists by block are those of no blocks
+-- the lists by block are empty
 pub record AreEmpty {A : Type 0} (l : BlockLists A) : Type 0 where
   pub ranges : l.blocks.items ≡ []
   pub preds : l.preds.items ≡ []
@@ -29,7 +29,7 @@ pub record AreEmpty {A : Type 0} (l : BlockLists A) : Type 0 where
   pub params : l.params_in.items ≡ []
   pub arguments : l.params_out.items ≡ []
 
--- lists by block are those of blocks, and the words of their vregs are such words
+-- the lists by block have the parts of the blocks `bs`, and their words of vregs encode vregs
 pub record AreBlockLists {A B : Type 0} (l : BlockLists A) (bs : List (TableBlock B)) : Type 0 where
   pub ranges : map stored_range l.blocks.items ≡ map (λ b. (block_of_table b).range) bs
   pub succs : map (λ k. k.items) l.succs.items ≡ map (λ b. (block_of_table b).succs) bs

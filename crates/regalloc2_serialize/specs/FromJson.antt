@@ -17,7 +17,7 @@ word d = option_and_then (below (2 ^ 32)) (long d)
 abbrev pub byte : Data → Option ℕ
 byte d = option_and_then (below (2 ^ 8)) (long d)
 
--- the items of an array, each read in the same way, behind those that were read
+-- the items of an array, each read in the same way, behind the items `xs`
 abbrev pub list_onto : {X : Type 0} → (Data → Option X) → List X → Items → Option (List X)
 list_onto read xs no_items = Some xs
 list_onto read xs (item d ds) = option_and_then (λ x. list_onto read (xs ++ x ∷ []) ds) (read d)
@@ -26,7 +26,7 @@ list_onto read xs (item d ds) = option_and_then (λ x. list_onto read (xs ++ x �
 abbrev pub list : {X : Type 0} → (Data → Option X) → Data → Option (List X)
 list read d = option_and_then (list_onto read []) (as_array d)
 
--- the member of that name
+-- the member `name`
 abbrev pub member : {X : Type 0} → List ℕ → (Data → Option X) → Data → Option X
 member name read d = option_and_then read (get name d)
 

@@ -39,7 +39,7 @@ inst d =
     option_and_then (λ op. option_and_then (λ operands. option_and_then (λ clobbers. Some (record { op = op; operands = operands; clobbers = clobbers }))
     (member (codes "clobbers") (list byte) d)) (member (codes "operands") (list long) d)) (member (codes "op") opcode d)
 
--- those of a machine
+-- the numbers of a machine, wherever they are kept
 pub record MachineData : Type 0 where
   pub preferred : List (List ℕ)
   pub non_preferred : List (List ℕ)
@@ -101,7 +101,7 @@ pub record HasLists (d : Data) : Type 0 where
   pub params_in : IsSome (member (codes "block_params_in") (list (list word)) d)
   pub params_out : IsSome (member (codes "block_params_out") (list (list (list word))) d)
 
--- these lists are a value's members
+-- the lists of `l` are the members of a value
 pub record AreListsAt {A : Type 0} (d : Data) (l : BlockLists A) : Type 0 where
   pub blocks : member (codes "blocks") (list pair) d ≡ Some l.blocks.items
   pub preds : member (codes "block_preds") (list (list word)) d ≡ Some (map (λ v. v.items) l.preds.items)

@@ -1,4 +1,4 @@
--- Which stored functions are rejected, and why.
+-- The tests of stored functions, and the error for a stored function that fails one.
 use Rattle.std.specs.Prelude.{ℕ, ◌≡◌, ◌<◌, ◌≤◌, ◌-◌, ◌^◌, ◌/◌, length, map, All, IfSome}
 use Rattle.regalloc2_names.specs.Packing.{IsRegisterIndex, IsVRegBits, IsOperandBits}
 use Rattle.regalloc2_function.specs.FunctionValue.{FunctionValue, IsSlotSize}
@@ -27,7 +27,7 @@ pub record HasLengths {A : Type 0} (s : StoredFunction A) : Type 0 where
   pub machine : HasThreeClasses s.machine_env
   pub slot_sizes : length s.spillslot_size.items ≡ 3
 
--- a range that doesn't fall, within so many instructions
+-- a range that doesn't fall, within `count` instructions
 abbrev pub IsRangeWithin : ℕ → (ℕ × ℕ) → Type 0
 IsRangeWithin count r = (r.0 ≤ r.1) × (r.1 ≤ count)
 
@@ -39,19 +39,19 @@ pub record AreNumbersWithin {A : Type 0} (s : StoredFunction A) : Type 0 where
   pub ranges : All (IsRangeWithin (length s.insts.items)) s.blocks.items
   pub labels : All (λ l. l.0 / 4 < s.num_vregs) s.debug_value_labels.items
 
--- an instruction's numbers are those of operands and registers
+-- an instruction's numbers encode operands and are indexes of registers
 pub record NamesOperands {A : Type 0} (i : StoredInst A) : Type 0 where
   pub operands : All IsOperandBits i.operands.items
   pub clobbers : All IsRegisterIndex i.clobbers.items
 
--- a machine's are those of registers
+-- a machine's numbers are indexes of registers
 pub record NamesRegisters {A : Type 0} (m : StoredMachine A) : Type 0 where
   pub preferred : All (λ l. All IsRegisterIndex l.items) m.preferred_regs_by_class.items
   pub non_preferred : All (λ l. All IsRegisterIndex l.items) m.non_preferred_regs_by_class.items
   pub scratch : All (λ o. IfSome o IsRegisterIndex) m.scratch_by_class.items
   pub fixed_stack_slots : All IsRegisterIndex m.fixed_stack_slots.items
 
--- the numbers of parameters, arguments and labels are those of vregs
+-- the numbers of parameters, arguments and labels encode vregs
 pub record NamesVRegs {A : Type 0} (s : StoredFunction A) : Type 0 where
   pub params : All (λ l. All IsVRegBits l.items) s.block_params_in.items
   pub arguments : All (λ l. All (λ k. All IsVRegBits k.items) l.items) s.block_params_out.items

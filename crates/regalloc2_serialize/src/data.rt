@@ -7,7 +7,7 @@ use std::alloc::{Allocator, Global};
 
 /// A machine's registers as indexes. Lists by class hold integer, float and vector registers in this order.
 ///
-/// Fields and names are those of upstream's `MachineEnv`.
+/// Upstream: the fields of `MachineEnv`.
 #[derive(Debug, Drop)]
 pub struct StoredMachine<A: Allocator = Global> {
     /// The registers of each class that are taken first.
@@ -23,11 +23,11 @@ pub struct StoredMachine<A: Allocator = Global> {
 /// What an instruction does to the control flow.
 #[derive(Clone, Copy, Debug, PartialEq, Eq)]
 pub enum InstOpcode {
-    /// It goes on to the next instruction.
+    /// The instruction goes on to the next one.
     Op,
-    /// It returns from the function.
+    /// The instruction returns from the function.
     Ret,
-    /// It goes on to a successor of its block.
+    /// The instruction goes on to a successor of its block.
     Branch,
 }
 
@@ -69,9 +69,9 @@ pub struct StoredFunction<A: Allocator = Global> {
     pub insts: Vec<StoredInst<A>, A>,
     /// For each block its first instruction and the one past its last.
     pub blocks: Vec<(u32, u32), A>,
-    /// For each block those that it may follow.
+    /// The predecessors of each block.
     pub block_preds: Vec<Vec<u32, A>, A>,
-    /// For each block those that may follow.
+    /// The successors of each block.
     pub block_succs: Vec<Vec<u32, A>, A>,
     /// For each block the words of the vregs that take the arguments.
     pub block_params_in: Vec<Vec<u32, A>, A>,

@@ -19,7 +19,7 @@ use regalloc2_index::{Block, Inst, InstRange};
 use regalloc2_names::{Operand, PReg, PRegSet, VReg};
 use std::alloc::{AllocError, Allocator};
 
-/// The set of the registers with these indexes.
+/// The set of the registers with the indexes `indexes`.
 fn set_from(indexes: &[u8]) -> PRegSet
     requires { All IsRegisterIndex indexes.now }
     ensures { HasIndexes indexes.now result }
@@ -31,7 +31,7 @@ fn set_from(indexes: &[u8]) -> PRegSet
     set
 }
 
-/// The registers with these indexes.
+/// The registers with the indexes `indexes`.
 fn registers_from<A: Allocator>(alloc: A, indexes: &[u8]) -> Result<Vec<PReg, A>, AllocError>
     requires { All IsRegisterIndex indexes.now }
     ensures { IfOk result (λ registers. registers.items ≡ map register_of_bits indexes.now) }
@@ -43,7 +43,7 @@ fn registers_from<A: Allocator>(alloc: A, indexes: &[u8]) -> Result<Vec<PReg, A>
     Ok(registers)
 }
 
-/// The register with that index, if there is one.
+/// The register with the index `index`, if there is one.
 fn register_from(index: Option<u8>) -> Option<PReg>
     requires { IfSome index IsRegisterIndex }
     ensures { result ≡ option_map register_of_bits index }
@@ -54,7 +54,7 @@ fn register_from(index: Option<u8>) -> Option<PReg>
     }
 }
 
-/// The vregs of these words.
+/// The vregs that `words` encode.
 pub(crate) fn vregs_from<A: Allocator>(alloc: A, words: &[u32]) -> Result<Vec<VReg, A>, AllocError>
     requires { All IsVRegBits words.now }
     ensures { IfOk result (λ vregs. vregs.items ≡ map vreg_of_bits words.now) }
@@ -66,7 +66,7 @@ pub(crate) fn vregs_from<A: Allocator>(alloc: A, words: &[u32]) -> Result<Vec<VR
     Ok(vregs)
 }
 
-/// The operands of these words.
+/// The operands that `words` encode.
 fn operands_from<A: Allocator>(alloc: A, words: &[u64]) -> Result<Vec<Operand, A>, AllocError>
     requires { All IsOperandBits words.now }
     ensures { IfOk result (λ operands. operands.items ≡ map operand_of_bits words.now) }
@@ -78,7 +78,7 @@ fn operands_from<A: Allocator>(alloc: A, words: &[u64]) -> Result<Vec<Operand, A
     Ok(operands)
 }
 
-/// The blocks with these numbers.
+/// The blocks with the numbers `words`.
 pub(crate) fn blocks_from<A: Allocator>(
     alloc: A,
     words: &[u32],
@@ -92,7 +92,7 @@ pub(crate) fn blocks_from<A: Allocator>(
     Ok(blocks)
 }
 
-/// The vregs of these lists of words.
+/// The vregs that each list of `lists` encodes.
 fn lists_of_vregs_from<A: Allocator + Copy, B: Allocator>(
     alloc: A,
     lists: &[Vec<u32, B>],
@@ -108,7 +108,7 @@ fn lists_of_vregs_from<A: Allocator + Copy, B: Allocator>(
     Ok(vregs)
 }
 
-/// The labels of these numbers.
+/// The labels with the numbers `labels`.
 fn labels_from<A: Allocator>(
     alloc: A,
     labels: &[(u32, u32, u32, u32)],
@@ -157,7 +157,7 @@ fn insts_from<A: Allocator + Copy, B: Allocator>(
     Ok(insts)
 }
 
-/// The registers with these three indexes, where there are some.
+/// The registers with the three indexes of `indexes`, where there are some.
 fn scratch_from(indexes: &[Option<u8>]) -> [Option<PReg>; 3]
     requires three { length indexes.now ≡ 3 }
     requires indexes { All (λ o. IfSome o IsRegisterIndex) indexes.now }
@@ -170,7 +170,7 @@ fn scratch_from(indexes: &[Option<u8>]) -> [Option<PReg>; 3]
     ]
 }
 
-/// The sets of the registers with these three lists of indexes.
+/// The sets of the registers with the three lists of indexes of `lists`.
 fn sets_from<B: Allocator>(lists: &[Vec<u8, B>]) -> [PRegSet; 3]
     requires three { length lists.now ≡ 3 }
     requires indexes { All (λ l. All IsRegisterIndex l.items) lists.now }
@@ -227,7 +227,7 @@ fn sizes_from(sizes: &[u64]) -> (SlotUnits, SlotUnits, SlotUnits)
     )
 }
 
-/// The block that stored numbers name.
+/// The block `block` of the function that stored numbers name.
 fn block_from<A: Allocator + Copy, B: Allocator>(
     alloc: A,
     stored: &StoredFunction<B>,

@@ -246,7 +246,7 @@ fn numbers_of_range(range: InstRange) -> (u32, u32)
     }
 }
 
-/// Makes room in lists for so many blocks.
+/// Makes room in `lists` for `count` blocks.
 fn reserve<B: Allocator>(lists: &mut BlockLists<B>, count: usize) -> Result<(), AllocError>
     ensures { OnOk result (AreEmpty lists.old → AreEmpty lists.new) }
 {
@@ -257,7 +257,7 @@ fn reserve<B: Allocator>(lists: &mut BlockLists<B>, count: usize) -> Result<(), 
     lists.params_out.reserve(count)
 }
 
-/// Adds the numbers of a block to lists.
+/// Adds the numbers of `block` to `lists`.
 fn add_block<A: Allocator, B: Allocator + Copy>(
     alloc: B,
     lists: &mut BlockLists<B>,
@@ -332,9 +332,9 @@ fn numbers_of<A: Allocator + Copy>(
 impl<A: Allocator + Copy> SerializableFunction<A> {
     /// Returns the numbers of this function and its machine, made with the function's own allocator.
     ///
-    /// They name this function and this machine, and no other. They pass the tests of
-    /// [`SerializableFunction::from_stored`], unless the function's entry, a predecessor or a successor is no block of the
-    /// function: then `from_stored` returns `Index`. So `from_stored` gives back what was stored, unless it returns `Memory`.
+    /// The numbers name this function and this machine, and no other. [`SerializableFunction::from_stored`] gives back what
+    /// was stored, unless it returns `Memory`, or `Index` because the function's entry, a predecessor or a successor is no
+    /// block of the function.
     ///
     /// # Errors
     ///

@@ -4,10 +4,12 @@
 //! another, and a list is its length and then its members (`specs/Flat/Flat.antt`).
 
 mod columns;
+mod long;
 mod read;
 mod stored;
 mod write;
 
 pub use columns::FlatFunction;
+pub use long::halves;
 pub use read::{Flat, Words, value_of};
 pub use write::{Written, words_of};

@@ -16,7 +16,7 @@ use regalloc2_index::{Block, Inst};
 use regalloc2_names::{RegAllocError, RegClass, VReg};
 use std::alloc::{AllocError, Allocator};
 
-/// Returns the arguments that a block passes to each of its successors.
+/// Returns the arguments that `block` passes to each of its successors.
 pub fn copied_arguments<F: Function, A: Allocator + Copy>(
     alloc: A,
     f: &F,
@@ -36,7 +36,7 @@ pub fn copied_arguments<F: Function, A: Allocator + Copy>(
     Ok(arguments)
 }
 
-/// A block.
+/// A copy of `block`.
 fn copied_block<F: Function, A: Allocator + Copy>(
     alloc: A,
     f: &F,
@@ -55,7 +55,7 @@ fn copied_block<F: Function, A: Allocator + Copy>(
     })
 }
 
-/// The blocks.
+/// Copies of all blocks.
 fn copied_blocks<F: Function, A: Allocator + Copy>(
     alloc: A,
     f: &F,
@@ -72,7 +72,7 @@ fn copied_blocks<F: Function, A: Allocator + Copy>(
     Ok(tables)
 }
 
-/// What an instruction does to the control flow. A branch that returns counts as a return.
+/// What an instruction does to the control flow: `returns`, or else `branches`.
 fn opcode_of(branches: bool, returns: bool) -> InstOpcode
     ensures branch { is_branch result ≡ (not returns && branches) }
     ensures ret { is_ret result ≡ returns }
@@ -86,7 +86,7 @@ fn opcode_of(branches: bool, returns: bool) -> InstOpcode
     }
 }
 
-/// Returns a copy of an instruction. One that is both a branch and a return becomes a return.
+/// Returns a copy of `inst`. An instruction that is both a branch and a return becomes a return.
 pub fn copied_inst<F: Function, A: Allocator + Copy>(
     alloc: A,
     f: &F,
@@ -102,7 +102,7 @@ pub fn copied_inst<F: Function, A: Allocator + Copy>(
     })
 }
 
-/// The instructions.
+/// Copies of all instructions.
 fn copied_insts<F: Function, A: Allocator + Copy>(
     alloc: A,
     f: &F,
@@ -118,7 +118,7 @@ fn copied_insts<F: Function, A: Allocator + Copy>(
     Ok(tables)
 }
 
-/// Returns the size of a slot for a class.
+/// Returns the size of a slot for `class`.
 pub fn copied_units<F: Function>(f: &F, class: RegClass) -> SlotUnits
     ensures { result.units ≡ slot_size (F.function f.now).slot_sizes class }
 {

@@ -11,10 +11,10 @@ use std::alloc::Allocator;
 
 /// What is read from a JSON value.
 pub trait FromValue<A: Allocator> {
-    /// What contracts see of such a datum.
+    /// What contracts see of a datum.
     ghost Shown: { Type 0 };
 
-    /// What contracts see of this datum.
+    /// What contracts see of the datum itself.
     ghost shows: { Self → Shown };
 
     /// The datum of a JSON value, if the value has its shape.
@@ -140,7 +140,7 @@ impl<A: Allocator> FromValue<A> for bool {
     }
 }
 
-/// The member of that name of an object.
+/// The member `name` of the object `value`.
 pub(crate) fn member_from<T: FromValue<A>, A: Allocator>(
     alloc: A,
     value: &Value,
@@ -156,7 +156,7 @@ pub(crate) fn member_from<T: FromValue<A>, A: Allocator>(
     T::from_value(alloc, found)
 }
 
-/// The word at an index of an array, if the item there is one.
+/// The word at `index` of the array `value`, if the item there is one.
 fn word_at(value: &Value, index: usize) -> Option<u32>
     ensures { result ≡ item_at index word (view value.now) }
 {

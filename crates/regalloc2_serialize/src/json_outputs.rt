@@ -107,9 +107,9 @@ impl<A: Allocator + Copy> FromValue<A> for StoredOutput<A> {
 pub struct BlockLists<A: Allocator> {
     /// For each block its first instruction and the one past its last.
     pub blocks: Vec<(u32, u32), A>,
-    /// For each block those that it may follow.
+    /// The predecessors of each block.
     pub preds: Vec<Vec<u32, A>, A>,
-    /// For each block those that may follow.
+    /// The successors of each block.
     pub succs: Vec<Vec<u32, A>, A>,
     /// For each block the words of its parameters.
     pub params_in: Vec<Vec<u32, A>, A>,

@@ -1,6 +1,7 @@
-//! Functions as plain data: stored numbers, the function that they name, and the JSON value that they are read from;
-//! the same as words for C ([`flat`]), a function kept in tables, with its builder
-//! ([`table_function`]); and functions laid out anew ([`rewrite`]).
+//! Functions as plain data: stored numbers, the function that they name, and the JSON value that they are read from.
+//!
+//! [`flat`] lays functions and outputs out as words for C, [`table_function`] keeps a function in tables and builds it,
+//! and [`rewrite`] lays functions out anew.
 #![tactic(auto)]
 
 mod data;

@@ -20,7 +20,7 @@ impl<A: Allocator> StoredMachine<A> {
             && self.scratch_by_class.len() == 3
     }
 
-    /// Whether each number is that of a register.
+    /// Whether each number is an index of a register.
     fn names_registers(&self) -> bool
         ensures { IsTrue result ↔ NamesRegisters self.now }
     {
@@ -37,13 +37,19 @@ impl<A: Allocator> StoredFunction<A> {
         ensures { IsTrue result ↔ HasAllOfEachBlock self.now }
     {
         let count = self.blocks.len();
-        self.block_preds.len() == count
-            && self.block_succs.len() == count
-            && self.block_params_in.len() == count
-            && are_as_long(
-                self.block_params_out.as_slice(),
-                self.block_succs.as_slice(),
-            )
+        if self.block_preds.len() != count {
+            return false;
+        }
+        if self.block_succs.len() != count {
+            return false;
+        }
+        if self.block_params_in.len() != count {
+            return false;
+        }
+        are_as_long(
+            self.block_params_out.as_slice(),
+            self.block_succs.as_slice(),
+        )
     }
 
     /// Whether lists are of the lengths that they should have.
@@ -60,14 +66,22 @@ impl<A: Allocator> StoredFunction<A> {
         ensures { IsTrue result ↔ AreNumbersWithin self.now }
     {
         let count = self.blocks.len();
-        (self.entry_block as usize) < count
-            && are_lists_of_blocks(self.block_preds.as_slice(), count)
-            && are_lists_of_blocks(self.block_succs.as_slice(), count)
-            && are_ranges(self.blocks.as_slice(), self.insts.len())
-            && are_labels_below(self.debug_value_labels.as_slice(), self.num_vregs)
+        if self.entry_block as usize >= count {
+            return false;
+        }
+        if !are_lists_of_blocks(self.block_preds.as_slice(), count) {
+            return false;
+        }
+        if !are_lists_of_blocks(self.block_succs.as_slice(), count) {
+            return false;
+        }
+        if !are_ranges(self.blocks.as_slice(), self.insts.len()) {
+            return false;
+        }
+        are_labels_below(self.debug_value_labels.as_slice(), self.num_vregs)
     }
 
-    /// Whether the numbers of parameters, arguments and labels are those of vregs.
+    /// Whether the numbers of parameters, arguments and labels encode vregs.
     fn names_vregs(&self) -> bool
         ensures { IsTrue result ↔ NamesVRegs self.now }
     {
@@ -80,7 +94,7 @@ impl<A: Allocator> StoredFunction<A> {
         are_labels(self.debug_value_labels.as_slice())
     }
 
-    /// Whether each number is that of a name: registers, vregs and operands.
+    /// Whether each number that should name a register, a vreg or an operand does.
     pub(crate) fn names_all(&self) -> bool
         ensures { IsTrue result ↔ NamesAll self.now }
     {
@@ -104,7 +118,7 @@ impl<A: Allocator> StoredFunction<A> {
     }
 }
 
-/// Whether lists are as long as others, one by one.
+/// Whether each of `lists` is as long as its counterpart among `others`.
 fn are_as_long<A: Allocator>(lists: &[Vec<Vec<u32, A>, A>], others: &[Vec<u32, A>]) -> bool
     ensures { IsTrue result ↔ (map (λ l. length l.items) lists.now ≡ map (λ l. length l.items) others.now) }
 {
@@ -119,14 +133,14 @@ fn are_as_long<A: Allocator>(lists: &[Vec<Vec<u32, A>, A>], others: &[Vec<u32, A
     true
 }
 
-/// Whether all are numbers of blocks.
+/// Whether `words` are numbers of blocks, of which there are `count`.
 pub(crate) fn are_blocks(words: &[u32], count: usize) -> bool
     ensures { IsTrue result ↔ All (λ b. b < count) words.now }
 {
     words.iter().all(|word| (*word as usize) < count)
 }
 
-/// Whether all lists are of numbers of blocks.
+/// Whether `lists` are of numbers of blocks, of which there are `count`.
 fn are_lists_of_blocks<A: Allocator>(lists: &[Vec<u32, A>], count: usize) -> bool
     ensures { IsTrue result ↔ All (λ l. All (λ b. b < count) l.items) lists.now }
 {
@@ -138,7 +152,7 @@ fn are_lists_of_blocks<A: Allocator>(lists: &[Vec<u32, A>], count: usize) -> boo
     true
 }
 
-/// Whether all ranges rise and end within so many instructions.
+/// Whether `ranges` don't fall and end within `count` instructions.
 fn are_ranges(ranges: &[(u32, u32)], count: usize) -> bool
     ensures { IsTrue result ↔ All (IsRangeWithin count) ranges.now }
 {
@@ -147,16 +161,23 @@ fn are_ranges(ranges: &[(u32, u32)], count: usize) -> bool
         .all(|range| range.0 <= range.1 && range.1 as usize <= count)
 }
 
-/// Whether all labels are of vregs with a number below that one.
+/// The number of the vreg with the word `word`: what is above the two bits of the class.
+pub(crate) fn vreg_number(word: u32) -> u32
+    ensures { result ≡ word / 4 }
+{
+    word >> 2
+}
+
+/// Whether the number of each labelled vreg is below `num_vregs`.
 fn are_labels_below(labels: &[(u32, u32, u32, u32)], num_vregs: u64) -> bool
     ensures { IsTrue result ↔ All (λ l. l.0 / 4 < num_vregs) labels.now }
 {
     labels
         .iter()
-        .all(|label| u64::from(label.0 >> 2) < num_vregs)
+        .all(|label| u64::from(vreg_number(label.0)) < num_vregs)
 }
 
-/// Whether all are indexes of registers.
+/// Whether `indexes` are indexes of registers.
 fn are_registers(indexes: &[u8]) -> bool
     ensures { IsTrue result ↔ All IsRegisterIndex indexes.now }
 {
@@ -165,7 +186,7 @@ fn are_registers(indexes: &[u8]) -> bool
         .all(|index| PReg::is_index(usize::from(*index)))
 }
 
-/// Whether all lists are of indexes of registers.
+/// Whether `lists` are of indexes of registers.
 fn are_lists_of_registers<A: Allocator>(lists: &[Vec<u8, A>]) -> bool
     ensures { IsTrue result ↔ All (λ l. All IsRegisterIndex l.items) lists.now }
 {
@@ -177,7 +198,7 @@ fn are_lists_of_registers<A: Allocator>(lists: &[Vec<u8, A>]) -> bool
     true
 }
 
-/// Whether a register that may lack is none or has an index.
+/// Whether `index` is `None` or an index of a register.
 fn is_scratch_register(index: Option<u8>) -> bool
     ensures { IsTrue result ↔ IfSome index IsRegisterIndex }
 {
@@ -187,14 +208,14 @@ fn is_scratch_register(index: Option<u8>) -> bool
     }
 }
 
-/// Whether all registers that are there have indexes.
+/// Whether each of `indexes` is `None` or an index of a register.
 fn are_scratch_registers(indexes: &[Option<u8>]) -> bool
     ensures { IsTrue result ↔ All (λ o. IfSome o IsRegisterIndex) indexes.now }
 {
     indexes.iter().all(|index| is_scratch_register(*index))
 }
 
-/// Whether all are words of operands.
+/// Whether `words` encode operands.
 fn are_operands(words: &[u64]) -> bool
     ensures { IsTrue result ↔ All IsOperandBits words.now }
 {
@@ -202,7 +223,7 @@ fn are_operands(words: &[u64]) -> bool
 }
 
 impl<A: Allocator> StoredInst<A> {
-    /// Whether each number is that of an operand or a register.
+    /// Whether the numbers of operands encode operands, and those of clobbers are indexes of registers.
     fn names_operands(&self) -> bool
         ensures { IsTrue result ↔ NamesOperands self.now }
     {
@@ -210,7 +231,7 @@ impl<A: Allocator> StoredInst<A> {
     }
 }
 
-/// Whether all instructions have words of operands and indexes of registers.
+/// Whether the numbers of each of `insts` name operands and registers.
 fn are_insts<A: Allocator>(insts: &[StoredInst<A>]) -> bool
     ensures { IsTrue result ↔ All (λ i. NamesOperands i) insts.now }
 {
@@ -222,14 +243,14 @@ fn are_insts<A: Allocator>(insts: &[StoredInst<A>]) -> bool
     true
 }
 
-/// Whether all are words of vregs.
+/// Whether `words` encode vregs.
 pub(crate) fn are_vregs(words: &[u32]) -> bool
     ensures { IsTrue result ↔ All IsVRegBits words.now }
 {
     words.iter().all(|word| VReg::is_bits(*word))
 }
 
-/// Whether all lists are of words of vregs.
+/// Whether the words of each of `lists` encode vregs.
 fn are_lists_of_vregs<A: Allocator>(lists: &[Vec<u32, A>]) -> bool
     ensures { IsTrue result ↔ All (λ l. All IsVRegBits l.items) lists.now }
 {
@@ -241,7 +262,7 @@ fn are_lists_of_vregs<A: Allocator>(lists: &[Vec<u32, A>]) -> bool
     true
 }
 
-/// Whether all lists of lists are of words of vregs.
+/// Whether the words of each list in `lists` encode vregs.
 fn are_arguments<A: Allocator>(lists: &[Vec<Vec<u32, A>, A>]) -> bool
     ensures { IsTrue result ↔ All (λ l. All (λ k. All IsVRegBits k.items) l.items) lists.now }
 {
@@ -253,21 +274,21 @@ fn are_arguments<A: Allocator>(lists: &[Vec<Vec<u32, A>, A>]) -> bool
     true
 }
 
-/// Whether all labels are of vregs.
+/// Whether the first word of each of `labels` encodes a vreg.
 fn are_labels(labels: &[(u32, u32, u32, u32)]) -> bool
     ensures { IsTrue result ↔ All (λ l. IsVRegBits l.0) labels.now }
 {
     labels.iter().all(|label| VReg::is_bits(label.0))
 }
 
-/// Whether a number is a power of two from 1 to 2^24.
+/// Whether `size` is a power of two from 1 to 2^24.
 fn is_slot_size(size: u64) -> bool
     ensures { IsTrue result ↔ IsSlotSize size }
 {
     1 <= size && size <= 1 << 24 && size.is_power_of_two()
 }
 
-/// Whether all are powers of two from 1 to 2^24.
+/// Whether `sizes` are powers of two from 1 to 2^24.
 fn are_slot_sizes(sizes: &[u64]) -> bool
     ensures { IsTrue result ↔ All IsSlotSize sizes.now }
 {

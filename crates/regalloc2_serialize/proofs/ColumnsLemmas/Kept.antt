@@ -41,12 +41,12 @@ pub params-of : (c : Columns) (b i : ℕ) (xs : List VirtualRegister) → b < le
     xs ≡ (slice_index_or (column_blocks c) b no_block).params
 params-of c b i xs less is e = e ∙ ap (part c.params c.param_bounds) is ∙ sym (ap (λ v. v.params) (block-of c b less))
 
--- and an instruction's
+-- the operands of an instruction are the part that has the instruction's number
 pub operands-of : (c : Columns) (n i : ℕ) (xs : List OperandValue) → n < length (column_insts c) → i ≡ n → xs ≡ part c.operands c.operand_bounds i →
     xs ≡ (slice_index_or (column_insts c) n no_inst).operands
 operands-of c n i xs less is e = e ∙ ap (part c.operands c.operand_bounds) is ∙ sym (ap (λ v. v.operands) (inst-of c n less))
 
--- the arguments of an edge are those of the part that has the edge's number
+-- the arguments of an edge are the part that has the edge's number
 pub arguments-of : (c : Columns) (b first k : ℕ) (xs : List VirtualRegister) → b < length (column_blocks c) → first ≡ slice_index c.succ_bounds b →
     k < slice_index c.succ_bounds (b + 1) - slice_index c.succ_bounds b → xs ≡ part c.arguments c.argument_bounds (first + k) →
     xs ≡ slice_index_or (slice_index_or (column_blocks c) b no_block).arguments k []

@@ -20,7 +20,7 @@ pub same-columns : {a1 b1 : List ℕ} {a2 b2 : List PRegSet} {a3 b3 : List Opera
     (record { kinds = b1; sets = b2; operands = b3; operand_bounds = b4; inst_bounds = b5; preds = b6; pred_bounds = b7; succs = b8; succ_bounds = b9; params = b10; param_bounds = b11; arguments = b12; argument_bounds = b13 })
 same-columns h1 h2 h3 h4 h5 h6 h7 h8 h9 h10 h11 h12 h13 = rw (h1, h2, h3, h4, h5, h6, h7, h8, h9, h10, h11, h12, h13) refl
 
--- and functions if their columns are, and the rest
+-- functions are equal if their columns and the rest of them are
 pub same-functions : {a b : Columns} {e e' : ℕ} {n n' : ℕ} {s s' : SlotSizes} {l l' : Bool} {ls ls' : List Label} {d d' : Bool} →
     a ≡ b → e ≡ e' → n ≡ n' → s ≡ s' → l ≡ l' → ls ≡ ls' → d ≡ d' →
     ◌≡◌ {A = FunctionValue} (record { blocks = column_blocks a; insts = column_insts a; entry = e; num_vregs = n; slot_sizes = s; named_by_last_slot = l; labels = ls; allows_multiple_defs = d })

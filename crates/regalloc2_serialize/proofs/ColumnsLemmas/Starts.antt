@@ -43,7 +43,7 @@ starts-more ws starts k less room before j upto = by (cases_lt j (k + 1))
         let step : sum (take (k + 1) ws) ≡ sum (take k ws) + get_or ws k 0 = sum_by_more (λ x. x) ws k 0 less in
         rw same (get_or-set_same starts (k + 1) next 0 room ∙ omega (arith, step, before k (omega arith)))
 
--- which is no larger than so many widths
+-- the start behind `k + 1` widths below `m` is at most `k * m + m`
 pub starts-small : (ws starts : List ℕ) (k m : ℕ) → k + 1 < length starts → get_or starts k 0 ≤ k * m → get_or ws k 0 < m →
     get_or (set starts (k + 1) (get_or starts k 0 + get_or ws k 0)) (k + 1) 0 ≤ k * m + m
 starts-small ws starts k m room before here =

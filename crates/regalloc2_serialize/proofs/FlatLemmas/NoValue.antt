@@ -1,4 +1,4 @@
--- Words that begin those of no value.
+-- Words that begin with the words of no value.
 use Rattle.std.proofs.Common.{ℕ, ◌≡◌, ◌≢◌, ◌<◌, List, [], ◌∷◌, ◌++◌, ◌==◌, Bool, false, length, arith}
 use Rattle.std.proofs.Common.{sym, ◌∙◌, append_assoc}
 use Rattle.std.proofs.lemmas.List.{append-nil}
@@ -18,7 +18,7 @@ no_member u one (i ∷ items) (x ∷ xs) after rest less none h =
     let fewer : length items < length xs = omega arith in
     no_member u one items xs after rest fewer none (one i x (flat_map u items ++ after) (flat_map u xs ++ rest) joined)
 
--- so there is no list
+-- the words begin with no list
 pub no_list : {A : Type 0} (u : A → List ℕ) → HasOneRest u → (items : List A) (given after : List ℕ) (count : ℕ) →
     given ≡ count ∷ flat_map u items ++ after → length items < count → BeginsNone u after → BeginsNone (λ xs. words_of_list u xs) given
 no_list u one items given after count e less none xs rest h =
@@ -27,11 +27,11 @@ no_list u one items given after count e less none xs rest h =
     let fewer : length items < length xs = omega arith in
     no_member u one items xs after rest fewer none members
 
--- words that begin those of no value are those of none
+-- words that begin with the words of no value are the words of none
 pub none_begun : {A : Type 0} (u : A → List ℕ) (given : List ℕ) → BeginsNone u given → IsNone u given
 none_begun u given none x h = none x [] (h ∙ sym (append-nil (u x)))
 
--- and so are those of a value, with more after them
+-- the words of a value with more after them are the words of no value
 pub none_left : {A : Type 0} (u : A → List ℕ) → HasOneRest u → (given after : List ℕ) (a : A) → given ≡ u a ++ after → after ≢ [] → IsNone u given
 none_left u one given after a e more x h =
     let joined : u a ++ after ≡ u x ++ [] = sym e ∙ h ∙ sym (append-nil (u x)) in

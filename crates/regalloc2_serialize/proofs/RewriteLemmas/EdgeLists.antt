@@ -81,7 +81,7 @@ before-step f b i n less within critical rest = by (nat_lt b n) refl
         let same : b ≡ n = omega (arith, less, up) in
         subst (λ m. IsAt (edges_before f (suc m)) at (edge b i)) same here
 
--- a critical edge is behind those of the blocks before its own, and those before it there
+-- a critical edge is behind the critical edges of the blocks before its own, and behind the ones before it in its own block
 pub at-before : (f : FunctionValue) (b i n : ℕ) → b < n → i < length (block_at f b).succs → is_critical f b i ≡ true →
     IsAt (edges_before f n) (length (edges_before f b ++ edges_upto f b i)) (edge b i)
 at-before f b i zero less within critical = absurd (omega arith)
@@ -121,7 +121,7 @@ edge-of : (f : FunctionValue) (b n j : ℕ) → j < length (edges_upto f b n) �
 edge-of f b zero j less = absurd (omega arith)
 edge-of f b (suc n) j less = edge-step f b n j less (λ lower. edge-of f b n j lower)
 
--- the edge at a position of the critical edges of the first so many blocks
+-- the edge at a position of the critical edges of the first `n` blocks
 pub record IsEdge (f : FunctionValue) (n j : ℕ) : Type 0 where
   pub from : ℕ
   pub position : ℕ

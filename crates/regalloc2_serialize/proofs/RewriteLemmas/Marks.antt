@@ -103,7 +103,7 @@ marked-all order n b long small some = by (nat_lt (new_number order b) n) refl
         let at : get_or order (new_number order b) 0 ≡ b = grind (arith, nat_tests) in
         (rw e refl, (new_number order b, less, get_or_default order (new_number order b) b 0 less ∙ at))
 
--- and an unmarked block isn't
+-- an unmarked block isn't listed
 pub unmarked : (order : List ℕ) (n b : ℕ) → n ≡ length order → n < 4294967295 → marked order n b ≡ 4294967295 → Contains order b → ⊥
 unmarked order n b long small none has =
     let less : new_number order b < length order = (number-at order b has).0 in
@@ -129,7 +129,7 @@ order-marked order numbers count long small is marks k d less at =
     let below : k < count = omega (arith, long, less) in
     unmarked order count k (sym is.long) small (sym (marks k below) ∙ get_or_default numbers k 0 d less ∙ at) (is.each k below)
 
--- and then the mark of each block is its number
+-- if each block is marked, its mark is its number
 pub marked-number : (order numbers : List ℕ) (count : ℕ) → length order ≡ count → count < 4294967295 →
     ((b : ℕ) → b < count → slice_index numbers b ≡ marked order count b) → ((b : ℕ) → b < count → slice_index numbers b ≢ 4294967295) →
     (b : ℕ) → b < count → slice_index numbers b ≡ new_number order b

@@ -18,7 +18,7 @@ behind : (x z : ℕ) (xs : List ℕ) → x < z → Contains (x ∷ xs) z → Con
 behind x z xs less (zero, within, is) = absurd (omega (arith, is, less))
 behind x z xs less (suc k, within, is) = (k, omega (arith, within), is)
 
--- a list of so many numbers that has each number from one on is a permutation of them
+-- a list of `n` numbers that has each of the `n` numbers from `a` on is a permutation of them
 pub permuted : (a n : ℕ) (xs : List ℕ) → length xs ≡ n → ((z : ℕ) → a ≤ z → z < a + n → Contains xs z) → IsPermutation (range_with_len a n) xs
 permuted a zero [] e has = IsPermutation-refl []
 permuted a zero (x ∷ xs) e has = absurd (omega (arith, e))

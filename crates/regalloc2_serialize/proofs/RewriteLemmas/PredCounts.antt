@@ -47,7 +47,7 @@ preds-before b p first (succs ∷ rest) less =
     times-append p (edges_to b first succs) (preds_from b (first + 1) rest)
     ∙ omega (arith, edges-other b p first succs apart, preds-before b p (first + 1) rest (omega arith))
 
--- as a predecessor of a block, each block is listed as often as it lists that one
+-- a block is listed as a predecessor of another as often as it lists the other as a successor
 pub preds-counted : (b first k : ℕ) (all : List (List ℕ)) → times_in (first + k) (preds_from b first all) ≡ times_in b (get_or all k [])
 preds-counted b first k [] = refl
 preds-counted b first zero (succs ∷ rest) =

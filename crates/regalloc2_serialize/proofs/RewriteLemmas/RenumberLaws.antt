@@ -136,7 +136,7 @@ renamed-same f m n b same =
       arguments = (renamed n f b).arguments;
     }) e
 
--- blocks under the numbers of a table are those under the numbers of the order
+-- blocks under the numbers of a table are the blocks under the numbers of the order
 pub by-table : (f : FunctionValue) (order numbers : List ℕ) → IsFramed f → ListsEachOnce (length f.blocks) order →
     ((b : ℕ) → b < length f.blocks → slice_index numbers b ≡ new_number order b) →
     map (renamed (λ s. slice_index numbers s) f) order ≡ map (renamed (new_number order) f) order
@@ -211,7 +211,7 @@ unbuilt-renumbered f order TooManyInsts limited framed is why =
     omega (arith, why, order-keeps-insts (new_number order) f order framed.follow framed.successors.0 is, limited.insts)
 unbuilt-renumbered f order TooManyVRegs limited framed is why = omega (arith, why, limited.vregs)
 
--- the same where the numbers are taken from a table
+-- a function is renumbered if the numbers are taken from a table
 module _ (f : FunctionValue) (order numbers : List ℕ) (drafts : List DraftValue) (framed : IsFramed f) (is : ListsEachOnce (length f.blocks) order)
     (table : (b : ℕ) → b < length f.blocks → slice_index numbers b ≡ new_number order b)
     (same : drafts ≡ map (renamed (λ s. slice_index numbers s) f) order) where

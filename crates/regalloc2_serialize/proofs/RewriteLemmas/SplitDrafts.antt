@@ -43,7 +43,7 @@ module _ (none : PRegSet) (f : FunctionValue) where
       ap (λ (n : ℕ). draft_at all (n + i)) (sym kept-many) ∙ get_or-append-add kept (map (jump_on none f) new) i (declared_with [])
       ∙ get_or-map (jump_on none f) new i no_edge (declared_with []) h.less ∙ ap (jump_on none f) h.same
 
-  -- and behind them are those on critical edges
+  -- behind them are the blocks on critical edges
   pub draft-between : (b k : ℕ) → b < length f.blocks → k < length (block_at f b).succs → is_critical f b k ≡ true →
       draft_at all (number_on f b k) ≡ jump_on none f (edge b k)
   draft-between b k less within critical =

@@ -27,7 +27,7 @@ range-join h a (suc m) n =
     ap (λ (i : ℕ). h a ∷ (map h (range_with_len (a + 1) m) ++ map h (range_with_len i n))) from
     ∙ ap (λ xs. h a ∷ xs) (range-join h (a + 1) m n) ∙ ap (λ (i : ℕ). map h (range_with_len a i)) many
 
--- the instructions from a block on are those from its first on
+-- the instructions of a block and of the blocks behind it are the instructions from its first on
 record Rest (f : FunctionValue) (a n : ℕ) : Type 0 where
   first : (block_at f a).range.first ≤ length f.insts
   insts : insts_of (map (kept_block f) (range_with_len a n))
@@ -103,7 +103,7 @@ module _ (none : PRegSet) (f : FunctionValue) (framed : IsFramed f) where
   pub insts-many : length (insts_of (split_drafts none f)) ≡ length f.insts + length (edges_before f (length f.blocks))
   insts-many = ap length apart ∙ length-append (insts_of kept) (insts_of jumps) ∙ omega (arith, kept-many, jumps-many none f (edges_before f (length f.blocks)))
 
-  -- and the instructions are the first ones
+  -- the instructions are the first ones
   pub inst-same : (i : ℕ) → i < length f.insts → get_or (insts_of (split_drafts none f)) i no_inst ≡ inst_at f i
   inst-same i less =
       let at : 0 + i ≡ i = omega arith in

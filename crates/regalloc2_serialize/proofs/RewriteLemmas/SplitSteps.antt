@@ -1,8 +1,7 @@
 -- The steps of splitting edges: ways are counted up to two, and an edge adds a block if it is critical.
 use Rattle.std.proofs.Common.{◌≡◌, ◌∙◌, ℕ, suc, ◌+◌, ◌<◌, ◌≤◌, Bool, true, false, cond, nat_eq, List, [], ◌∷◌, ◌++◌, length, get_or, map, set, take, refl, sym, ap, subst, arith}
-use Rattle.std.specs.Prelude.{◌≢◌, nat_lt, slice_index, sum_by}
+use Rattle.std.specs.Prelude.{◌≢◌, slice_index, sum_by}
 use Rattle.std.specs.List.{range_with_len}
-use Rattle.std.proofs.lemmas.Bool.Decides.{nat_tests}
 use Rattle.std.proofs.lemmas.List.{append-nil, append_assoc, get_or-set_other, get_or-set_same, length-map, map-append, take_more}
 use Rattle.std.proofs.lemmas.List.Sums.{sum_by_push}
 use Rattle.regalloc2_names.specs.declared.sets.PRegSet.{PRegSet}
@@ -11,7 +10,7 @@ use Rattle.regalloc2_function.specs.FunctionValue.{FunctionValue, BlockValue, bl
 use Rattle.regalloc2_function.specs.SourceRun.{arguments_at}
 use Rattle.regalloc2_function.specs.WellFormed.{times_in}
 use Rattle.regalloc2_serialize.specs.TableFunction.Draft.{DraftValue}
-use Rattle.regalloc2_serialize.specs.Rewrite.SplitEdges.{AgreeUpToTwo, AreJumps, critical_in, edges_before, edges_upto, entries_into, is_critical, jump_on, kept_block, number_on, split_arguments, split_drafts, split_succ}
+use Rattle.regalloc2_serialize.specs.Rewrite.SplitEdges.{AgreeUpToTwo, AreJumps, critical_in, edges_before, edges_upto, entries_into, is_critical, jump_on, kept_block, number_on, split_drafts, split_succ}
 use Rattle.regalloc2_serialize.proofs.RewriteLemmas.EdgeLists.{at-before, edge, edges-counted, range-more}
 use Rattle.regalloc2_serialize.proofs.RewriteLemmas.Lists.{members, sum_by-map}
 use Rattle.regalloc2_serialize.proofs.RewriteLemmas.Numbers.{is-other, is-same}
@@ -50,7 +49,7 @@ counted-one counts i v t less more = by (nat_eq t i) refl
         let now : slice_index (set counts i v) t ≡ slice_index counts t = get_or-set_other counts i t v 0 other in
         agree-same _ _ (omega (arith, now, never))
 
--- and each block, as often as it is among the next one and those before
+-- each block is counted as often as it is listed so far
 pub counted-next : (old now next : List ℕ) (succs : List ℕ) (k s t : ℕ) → k < length succs → s ≡ get_or succs k s →
     AgreeUpToTwo (slice_index now t) (slice_index old t + times_in t (take k succs)) →
     AgreeUpToTwo (slice_index next t) (slice_index now t + times_in t (s ∷ [])) →
@@ -95,46 +94,10 @@ entered-all f now next t before step =
     turned true e = one-same t f.entry (sym (is-same t f.entry e)) ∙ rw e refl
     turned false e = one-other t f.entry (λ same. is-other t f.entry e (sym same)) ∙ rw e refl
 
--- an edge of a block with one successor isn't critical
-pub plain-alone : (f : FunctionValue) (b k : ℕ) → length (block_at f b).succs ≤ 1 → is_critical f b k ≡ false
-plain-alone f b k few =
-    let none : nat_lt 1 (length (block_at f b).succs) ≡ false = grind (arith, nat_tests) in rw none refl
-
--- another one is if its end is entered in two ways
-pub critical-entered : (f : FunctionValue) (b k e : ℕ) → 1 < length (block_at f b).succs →
-    AgreeUpToTwo e (entries_into f (slice_index (block_at f b).succs k)) → nat_lt 1 e ≡ is_critical f b k
-critical-entered f b k e several agree =
-    let many : nat_lt 1 (length (block_at f b).succs) ≡ true = grind (arith, nat_tests) in
-    rw many (same e (entries_into f (slice_index (block_at f b).succs k)) agree)
-  where
-    same : (m n : ℕ) → AgreeUpToTwo m n → nat_lt 1 m ≡ nat_lt 1 n
-    same m n agree = by (nat_lt 1 m) refl
-      where
-        by : (c : Bool) → nat_lt 1 m ≡ c → nat_lt 1 m ≡ nat_lt 1 n
-        by true e =
-            let high : 1 < m = grind (arith, nat_tests) in
-            let other : 1 < n = is-high (nat_lt 1 n) refl high in
-            let f : nat_lt 1 n ≡ true = grind (arith, nat_tests) in
-            e ∙ sym f
-          where
-            is-high : (d : Bool) → nat_lt 1 n ≡ d → 1 < m → 1 < n
-            is-high true g high = grind (arith, nat_tests)
-            is-high false g high =
-                let low : n < 2 = grind (arith, nat_tests) in absurd (omega (arith, agree.1 low, low, high))
-        by false e =
-            let low : m < 2 = grind (arith, nat_tests) in
-            ap (nat_lt 1) (agree.0 low)
-
 upto-next : (f : FunctionValue) (b k : ℕ) → edges_upto f b (k + 1) ≡ edges_upto f b k ++ cond (is_critical f b k) (edge b k ∷ []) []
 upto-next f b k = let up : k + 1 ≡ suc k = omega arith in ap (edges_upto f b) up
 
 -- an edge that isn't critical adds nothing
-pub plain-succ : (f : FunctionValue) (b k : ℕ) → is_critical f b k ≡ false → split_succ f b k ≡ slice_index (block_at f b).succs k
-plain-succ f b k plain = rw plain refl
-
-pub plain-arguments : (f : FunctionValue) (b k : ℕ) → is_critical f b k ≡ false → split_arguments f b k ≡ arguments_at f b k
-plain-arguments f b k plain = rw plain refl
-
 pub plain-jumps : (none : PRegSet) (f : FunctionValue) (b k : ℕ) (ds : List DraftValue) → is_critical f b k ≡ false → AreJumps none f b k ds →
     AreJumps none f b (k + 1) ds
 plain-jumps none f b k ds plain before =
@@ -142,10 +105,7 @@ plain-jumps none f b k ds plain before =
     before ∙ ap (λ es. map (jump_on none f) (edges_before f b ++ es))
     (sym (upto-next f b k ∙ ap (λ es. edges_upto f b k ++ es) none-more ∙ append-nil (edges_upto f b k)))
 
--- a critical one adds a block, which has the next number
-pub critical-arguments : (f : FunctionValue) (b k : ℕ) → is_critical f b k ≡ true → split_arguments f b k ≡ []
-critical-arguments f b k critical = rw critical refl
-
+-- a critical edge adds a block, which has the next number
 pub critical-succ : (none : PRegSet) (f : FunctionValue) (b k : ℕ) (ds : List DraftValue) → is_critical f b k ≡ true → AreJumps none f b k ds →
     split_succ f b k ≡ length f.blocks + length ds
 critical-succ none f b k ds critical before =
@@ -190,7 +150,7 @@ pub jump-made : (none : PRegSet) (f : FunctionValue) (b k to : ℕ) (xs : List V
     } → d ≡ jump_on none f (edge b k)
 jump-made none f b k to xs d end passed made = made ∙ rw (end, passed) refl
 
--- the blocks and those on all critical edges
+-- the blocks, and the blocks on all critical edges
 pub all-made : (none : PRegSet) (f : FunctionValue) (n : ℕ) (ds js : List DraftValue) → n ≡ length f.blocks →
     ds ≡ map (kept_block f) (range_with_len 0 n) → AreJumps none f n 0 js → ds ++ js ≡ split_drafts none f
 all-made none f n ds js all blocks jumps =

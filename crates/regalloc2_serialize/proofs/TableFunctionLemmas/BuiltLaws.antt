@@ -22,7 +22,7 @@ blocks_from-push s (x ∷ ds) d =
     let e : s + length (insts_of (x ∷ ds)) ≡ s + length x.insts + length (insts_of ds) = rw length-append (omega arith) in
     rw e (ap (λ (bs : List BlockValue). placed_block s x ∷ bs) (blocks_from-push (s + length x.insts) ds d))
 
--- the instructions of the partial blocks with one more are theirs, followed by those of that one
+-- the instructions of partial blocks and one more are theirs, followed by the instructions of the one more
 pub insts_of-push : (ds : List DraftValue) (d : DraftValue) → insts_of (ds ++ d ∷ []) ≡ insts_of ds ++ d.insts
 insts_of-push ds d = flat_map-append (λ (x : DraftValue). x.insts) ds (d ∷ []) ∙ ap (λ (is : List InstValue). insts_of ds ++ is) (append-nil d.insts)
 
@@ -31,7 +31,7 @@ pub length-blocks_from : (s : ℕ) (ds : List DraftValue) → length (blocks_fro
 length-blocks_from s [] = refl
 length-blocks_from s (d ∷ ds) = ap suc (length-blocks_from (s + length d.insts) ds)
 
--- blocks that are laid out have no predecessors, so taking these away changes nothing
+-- blocks that are laid out have no predecessors to take away
 pub bare-blocks_from : (s : ℕ) (ds : List DraftValue) → map without_preds (blocks_from s ds) ≡ blocks_from s ds
 bare-blocks_from s [] = refl
 bare-blocks_from s (d ∷ ds) = ap (λ (bs : List BlockValue). placed_block s d ∷ bs) (bare-blocks_from (s + length d.insts) ds)
@@ -61,7 +61,7 @@ unplaced_more m n (NoBlock c) l h = h
 unplaced_more m n TooManyBlocks l h = h
 unplaced_more m n TooManyVRegs l h = h
 
--- the instructions of some partial blocks and of the next one are at most those of all
+-- some partial blocks and the next have no more instructions than all partial blocks
 pub insts_within : {A : Type 0} (ys zs all : List (BlockDraft A)) (d : BlockDraft A) → ys ++ d ∷ zs ≡ all →
     length (insts_of (map draft_of ys)) + length (draft_of d).insts ≤ length (insts_of (map draft_of all))
 insts_within {A = A} ys zs all d e =
@@ -70,7 +70,7 @@ insts_within {A = A} ys zs all d e =
     ∙ flat_map-append (λ (x : DraftValue). x.insts) (map draft_of ys) (draft_of d ∷ map draft_of zs) in
     rw (split, length-append, length-append) (omega arith)
 
--- laying out the next block behind those of the first partial blocks gives the blocks of the partial blocks with that one
+-- laying out the next block behind the first partial blocks gives the blocks of the partial blocks with it
 pub blocks_more : {A B : Type 0} (bs cs : List BlockValue) (is : List (TableInst A)) (ys : List (BlockDraft B)) (d : BlockDraft B) →
     map inst_of_table is ≡ insts_of (map draft_of ys) → bs ≡ blocks_from 0 (map draft_of ys) →
     cs ≡ bs ++ placed_block (length is) (draft_of d) ∷ [] → cs ≡ blocks_from 0 (map draft_of (ys ++ d ∷ []))
@@ -78,12 +78,12 @@ blocks_more bs cs is ys d i b c =
     let n : length is ≡ 0 + length (insts_of (map draft_of ys)) = omega (arith, sym (length-map is inst_of_table) ∙ ap length i) in
     rw (c, b, n, map-append) (sym (blocks_from-push 0 (map draft_of ys) (draft_of d)))
 
--- the instructions of the first partial blocks followed by those of the next are those of the partial blocks with that one
+-- the instructions of the first partial blocks, and then of the next, are the instructions of the partial blocks with it
 pub insts_more : {A B : Type 0} (js is : List (TableInst A)) (ys : List (BlockDraft B)) (d : BlockDraft B) → map inst_of_table is ≡ insts_of (map draft_of ys) →
     map inst_of_table js ≡ map inst_of_table is ++ (draft_of d).insts → map inst_of_table js ≡ insts_of (map draft_of (ys ++ d ∷ []))
 insts_more js is ys d i j = rw (j, i, map-append) (sym (insts_of-push (map draft_of ys) (draft_of d)))
 
--- a table whose blocks are those of the partial blocks has as many blocks as there are partial blocks
+-- a table with the blocks of partial blocks has as many blocks as there are partial blocks
 pub count_from : {A B : Type 0} (bs : List (TableBlock A)) (ds : List (BlockDraft B)) → map block_of_table bs ≡ blocks_from 0 (map draft_of ds) →
     length bs ≡ length ds
 count_from bs ds e = sym (length-map bs block_of_table) ∙ ap length e ∙ length-blocks_from 0 (map draft_of ds) ∙ length-map ds draft_of
@@ -106,7 +106,7 @@ unbuilt_from_unplaced ds n (NoBlock s) h = absurd h
 unbuilt_from_unplaced ds n TooManyBlocks h = absurd h
 unbuilt_from_unplaced ds n TooManyVRegs h = absurd h
 
--- blocks that got predecessors and nothing else are, but for these, still the blocks of the partial blocks
+-- blocks that got predecessors and nothing else are the blocks of the partial blocks, up to predecessors
 pub built_blocks : (bs new : List BlockValue) (ds : List DraftValue) → bs ≡ blocks_from 0 ds → map without_preds new ≡ map without_preds bs →
     map without_preds new ≡ blocks_from 0 ds
 built_blocks bs new ds b e = e ∙ ap (map without_preds) b ∙ bare-blocks_from 0 ds
@@ -120,7 +120,7 @@ built_preds bs new ds b e h =
     ∙ succs-blocks_from 0 ds in
     rw (none, succs) at h
 
--- where successors of the blocks laid out are in range, so are those of the partial blocks
+-- if the successors of the blocks laid out are in range, the successors of the partial blocks are
 pub built_succs : (bs : List BlockValue) (ds : List DraftValue) (n b : ℕ) → bs ≡ blocks_from 0 ds → n ≡ length ds → All (λ s. s < n) (succs_at bs b) →
     All (λ s. s < length ds) (draft_at ds b).succs
 built_succs bs ds n b e c h =

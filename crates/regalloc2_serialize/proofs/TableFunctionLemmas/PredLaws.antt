@@ -20,14 +20,14 @@ use Rattle.regalloc2_serialize.specs.TableFunction.Steps.{HasPreds, one_edge, pr
 abbrev pub with_pred : ℕ → BlockValue → BlockValue
 with_pred pred b = record b { preds = b.preds ++ pred ∷ [] }
 
--- one more predecessor of block i is that edge added to the blocks, and nothing else
+-- one more predecessor of block `i` adds one edge to the blocks, and nothing else
 pub pred_more : (xs : List BlockValue) (i pred : ℕ) → i < length xs → HasPreds xs (one_edge i pred) (set xs i (with_pred pred (get_or xs i no_block)))
 pred_more xs i pred l = record {
   others = map-set_same without_preds xs i (with_pred pred (get_or xs i no_block)) no_block refl;
   preds = λ b lb. grind (arith, common_steps, get_or-set_at, get_or-set_other);
 }
 
--- the same in a table: replacing block i by itself with one more predecessor adds that edge alone
+-- in a table, one more predecessor of block `i` adds one edge, and nothing else
 pub pred_added : {A : Type 0} (xs : List (TableBlock A)) (i pred : ℕ) (x y : TableBlock A) → i < length xs → x ≡ get_or xs i x →
     block_of_table y ≡ with_pred pred (block_of_table x) → HasPreds (map block_of_table xs) (one_edge i pred) (map block_of_table (set xs i y))
 pred_added xs i pred x y l is e =
@@ -58,7 +58,7 @@ preds_both xs ys zs m n o first next e =
           ∙ ap (λ (p : List ℕ). preds_at xs b ++ p) (e b);
     }
 
--- the edges of a block's first k + 1 successors are those of its first k, and that of the next one
+-- the edges of a block's first `k + 1` successors are the edges of its first `k` and the edge to the next
 pub edges_more : (b pred : ℕ) (succs : List ℕ) (k to : ℕ) → k < length succs → to ≡ get_or succs k to → edges_to b pred (take k succs)
     ++ one_edge to pred b ≡ edges_to b pred (take (k + 1) succs)
 edges_more b pred succs k to l is =
@@ -66,7 +66,7 @@ edges_more b pred succs k to l is =
     let split : take (k + 1) succs ≡ take k succs ++ to ∷ [] = take_more succs k to l ∙ ap (λ (s : ℕ). take k succs ++ s ∷ []) (sym is) in
     rw split (sym (flat_map-append f (take k succs) (to ∷ []) ∙ ap (λ (p : List ℕ). edges_to b pred (take k succs) ++ p) (append-nil (one_edge to pred b))))
 
--- as block n's edges are added, the predecessors so far and those that later blocks will add stay the same list
+-- the predecessors so far and the predecessors that later edges add stay one list while the edges of block `n` are added
 pub preds_step : (all : List (List ℕ)) (n b : ℕ) (succs p q r : List ℕ) → n < length all → succs ≡ get_or all n [] → q ≡ p ++ edges_to b n succs → p
     ++ preds_from b n (drop n all) ≡ r → q ++ preds_from b (n + 1) (drop (n + 1) all) ≡ r
 preds_step all n b succs p q r l is e h =
@@ -102,7 +102,7 @@ pub same_count : {A : Type 0} (xs ys : List (TableBlock A)) → map without_pred
     length ys ≡ length xs
 same_count xs ys e = sym (length-map ys block_of_table) ∙ same_length (map block_of_table xs) (map block_of_table ys) e ∙ length-map xs block_of_table
 
--- while predecessors are added, a block's successors are still those it had at first
+-- a block keeps its successors while predecessors are added
 pub succs_then : {A : Type 0} (xs ys : List (TableBlock A)) (i : ℕ) (y : TableBlock A) →
     map without_preds (map block_of_table ys) ≡ map without_preds (map block_of_table xs) → i < length xs → y ≡ get_or ys i y →
     y.succs.items ≡ succs_at (map block_of_table xs) i

@@ -7,7 +7,7 @@ use Rattle.regalloc2_function.specs.declared.serialize.StoredOutput.{StoredOutpu
 abbrev pub one_word : ℕ → List ℕ
 one_word n = n ∷ []
 
--- a number of 64 bits is two, the lower one first
+-- a number of 64 bits is two words, the lower half first
 abbrev pub words_of_long : ℕ → List ℕ
 words_of_long n = n % 2 ^ 32 ∷ n / 2 ^ 32 ∷ []
 
@@ -27,15 +27,15 @@ output_words o = words_of_long o.num_spillslots
     ++ (words_of_list words_of_triple o.edits.items ++ (words_of_list one_word o.allocs.items ++ (words_of_list one_word o.inst_alloc_offsets.items
     ++ words_of_list words_of_quadruple o.debug_locations.items)))
 
--- words begin those of no value
+-- `given` begins with the words of no value
 abbrev pub BeginsNone : {A : Type 0} → (A → List ℕ) → List ℕ → Type 0
 BeginsNone {A} words given = (x : A) (rest : List ℕ) → given ≡ words x ++ rest → ⊥
 
--- words are those of no value
+-- `given` are the words of no value
 abbrev pub IsNone : {A : Type 0} → (A → List ℕ) → List ℕ → Type 0
 IsNone {A} words given = (x : A) → given ≡ words x → ⊥
 
--- one of these numbers is no word of 32 bits
+-- a number of `numbers` doesn't fit in 32 bits
 pub record HasLongWord (numbers : List ℕ) : Type 0 where
   pub before : List ℕ
   pub number : ℕ

@@ -1,19 +1,19 @@
 -- Functions that are laid out from partial blocks, and what makes them structurally valid.
--- Read first: `HasDrafts`. Blocks and ends are those of regalloc2_function.
+-- Read first: `HasDrafts`. regalloc2_function defines blocks and their ends.
 use Rattle.std.specs.Prelude.{ℕ, ◌≡◌, ◌+◌, ◌-◌, ◌<◌, false, List, [], length, map, take, slice_index, slice_index_or, All}
 use Rattle.regalloc2_function.specs.FunctionValue.{FunctionValue, InstValue, Label, block_at, no_inst}
 use Rattle.regalloc2_function.specs.WellFormed.{EndsBlock}
 use Rattle.regalloc2_serialize.specs.TableFunction.Draft.{DraftValue, draft_at}
 use Rattle.regalloc2_serialize.specs.TableFunction.Built.{without_preds, blocks_from, insts_of, preds_from}
 
--- the function has these blocks, one after another, and their instructions
+-- the function has the blocks `drafts`, one after another, and their instructions
 pub record HasDrafts (drafts : List DraftValue) (f : FunctionValue) : Type 0 where
   pub blocks : map without_preds f.blocks ≡ blocks_from 0 drafts
   pub preds : (b : ℕ) → b < length drafts → (block_at f b).preds ≡ preds_from b 0 (map (λ d. d.succs) drafts)
   pub succs : (b : ℕ) → b < length drafts → All (λ s. s < length drafts) (draft_at drafts b).succs
   pub insts : f.insts ≡ insts_of drafts
 
--- the function has these blocks, that entry, those labels and the rest of `f`
+-- `g` has the blocks `drafts`, the entry `start`, the labels `kept` and the rest of `f`
 pub record IsLaidLike (f : FunctionValue) (start : ℕ) (kept : List Label) (drafts : List DraftValue) (g : FunctionValue) : Type 0 where
   pub laid : HasDrafts drafts g
   pub entry : g.entry ≡ start

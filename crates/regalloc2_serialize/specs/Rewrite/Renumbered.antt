@@ -1,5 +1,5 @@
 -- A function whose blocks are put in another order.
--- The order is this project's own; blocks and paths are those of regalloc2_function.
+-- The order is this project's own; regalloc2_function defines blocks and paths.
 use Rattle.std.specs.Prelude.{ℕ, ◌≡◌, ◌↔◌, ◌+◌, ◌-◌, ◌<◌, nat_eq, List, [], length, map, slice_index, All, Contains}
 use Rattle.std.specs.List.{position_or_len, range_with_len}
 use Rattle.regalloc2_names.specs.Register.{VirtualRegister}
@@ -11,7 +11,7 @@ use Rattle.regalloc2_serialize.specs.TableFunction.Draft.{DraftValue}
 use Rattle.regalloc2_serialize.specs.declared.rewrite.error.RewriteError.{RewriteError}
 use Rattle.regalloc2_serialize.specs.declared.rewrite.error.RewriteError.TheVariants.{Memory, Unframed, NoOrder, Labels, TooManyBlocks, TooManyInsts}
 
--- an order lists each of so many blocks once
+-- an order lists each of `count` blocks once
 pub record ListsEachOnce (count : ℕ) (order : List ℕ) : Type 0 where
   pub long : length order ≡ count
   pub within : All (λ b. b < count) order
@@ -21,7 +21,7 @@ pub record ListsEachOnce (count : ℕ) (order : List ℕ) : Type 0 where
 abbrev pub new_number : List ℕ → ℕ → ℕ
 new_number order b = position_or_len (λ x. nat_eq x b) order
 
--- an order lists each of so many blocks once, and these are their new numbers
+-- an order lists each of `count` blocks once, and `numbers` has their new numbers
 pub record AreNumbers (count : ℕ) (order numbers : List ℕ) : Type 0 where
   pub listed : ListsEachOnce count order
   pub long : length numbers ≡ count
@@ -36,7 +36,7 @@ pub record IsRenumberedBlock (f : FunctionValue) (order : List ℕ) (b : ℕ) (g
   pub insts : (j : ℕ) → (block_at f b).range.first + j < (block_at f b).range.end →
       inst_at g ((block_at g n).range.first + j) ≡ inst_at f ((block_at f b).range.first + j)
 
--- the same ways are paths of both functions; after each path both are at the same instruction, and each vreg has the same last write
+-- a list of ways is a path of both functions or of neither; after each path both are at one instruction, and each vreg has the same last write
 pub record HasSamePaths (f g : FunctionValue) : Type 0 where
   pub paths : (ws : List Way) → IsPath f ws ↔ IsPath g ws
   pub insts : (ws : List Way) → IsPath f ws → last_inst g ws ≡ last_inst f ws

@@ -1,5 +1,4 @@
--- The error of a rewrite for that of the builder.
--- Both are this project's.
+-- The error of a rewrite for an error of the builder. The errors are this project's.
 use Rattle.regalloc2_serialize.specs.declared.table_function.builder.BuildError.{BuildError}
 use Rattle.regalloc2_serialize.specs.declared.table_function.builder.BuildError.TheVariants as built
 use Rattle.regalloc2_serialize.specs.declared.rewrite.error.RewriteError.{RewriteError}

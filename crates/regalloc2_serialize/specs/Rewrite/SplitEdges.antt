@@ -15,20 +15,20 @@ use Rattle.regalloc2_serialize.specs.TableFunction.Draft.{DraftValue}
 use Rattle.regalloc2_serialize.specs.declared.rewrite.error.RewriteError.{RewriteError}
 use Rattle.regalloc2_serialize.specs.declared.rewrite.error.RewriteError.TheVariants.{Memory, Unframed, NoOrder, Labels, TooManyBlocks, TooManyInsts}
 
--- in how many ways a block is entered, by the successors of all blocks; the function's start is one into the entry
+-- how many edges enter block `t`, by the successors of all blocks; the function's start is an edge into the entry
 abbrev pub entries_into : FunctionValue → ℕ → ℕ
 entries_into f t = sum_by (λ b. times_in t b.succs) f.blocks + (if nat_eq t f.entry then 1 else 0)
 
--- the same number, or two and more both
+-- `m` and `n` are equal, or each is at least two
 abbrev pub AgreeUpToTwo : ℕ → ℕ → Type 0
 AgreeUpToTwo m n = (m < 2 → m ≡ n) × (n < 2 → m ≡ n)
 
--- in how many ways each block is entered, counted up to two
+-- how many edges enter each block, counted up to two
 pub record AreEntries (f : FunctionValue) (counts : List ℕ) : Type 0 where
   pub long : length counts ≡ length f.blocks
   pub counted : (t : ℕ) → t < length f.blocks → AgreeUpToTwo (slice_index counts t) (entries_into f t)
 
--- a block of a valid function, with the ways into all blocks
+-- a block of a valid function, with the counts of edges into all blocks
 pub record IsCounted (f : FunctionValue) (b : ℕ) (counts : List ℕ) : Type 0 where
   pub framed : IsFramed f
   pub block : b < length f.blocks
@@ -92,7 +92,7 @@ abbrev pub stamp_through : FunctionValue → List Way → Stamp → Stamp
 stamp_through f ws s = record { step = step_through f ws s.step; operand = s.operand }
 
 -- each path of `f` is one of `g` with a jump on each split edge, and each path of `g` that ends in a block of `f` is of that form;
--- both end at the same instruction of the same block, and each vreg has the same last write
+-- the paths end at the same instruction of the same block, and each vreg has the same last write
 pub record HasPathsThrough (f g : FunctionValue) : Type 0 where
   pub paths : (ws : List Way) → IsPath f ws → IsPath g (through f ws)
   pub ends : (ws : List Way) → IsPath f ws → end_of g (through f ws) ≡ end_of f ws
@@ -122,21 +122,21 @@ pub record Edge : Type 0 where
   pub from : ℕ
   pub position : ℕ
 
--- the critical edges among the first so many of a block
+-- the critical edges among the first `k` edges of block `b`
 abbrev pub edges_upto : FunctionValue → ℕ → ℕ → List Edge
 edges_upto f b zero = []
 edges_upto f b (suc k) = edges_upto f b k ++ (if is_critical f b k then record { from = b; position = k } ∷ [] else [])
 
--- the critical edges of the first so many blocks
+-- the critical edges of the first `b` blocks
 abbrev pub edges_before : FunctionValue → ℕ → List Edge
 edges_before f zero = []
 edges_before f (suc b) = edges_before f b ++ edges_upto f b (length (block_at f b).succs)
 
--- the number of the block on an edge
+-- the number of the block on the edge from block `b` at position `k`
 abbrev pub number_on : FunctionValue → ℕ → ℕ → ℕ
 number_on f b k = length f.blocks + length (edges_before f b ++ edges_upto f b k)
 
--- the block on an edge, as it is laid out; its jump has that set of clobbers
+-- the block on an edge, as it is laid out; `none` is the jump's set of clobbers
 abbrev pub jump_on : PRegSet → FunctionValue → Edge → DraftValue
 jump_on none f e = record {
   params = [];
@@ -145,11 +145,11 @@ jump_on none f e = record {
   arguments = arguments_at f e.from e.position ∷ [];
 }
 
--- the blocks on the critical edges of the first so many blocks and on those among the next one's first so many
+-- `jumps` are the blocks on the critical edges of the first `b` blocks and among the first `k` edges of block `b`
 abbrev pub AreJumps : PRegSet → FunctionValue → ℕ → ℕ → List DraftValue → Type 0
 AreJumps none f b k jumps = jumps ≡ map (jump_on none f) (edges_before f b ++ edges_upto f b k)
 
--- an edge whose turn it is: the new blocks so far are those on the edges before it
+-- the edge from block `b` at position `k` is split next: the new blocks so far are on the edges before it
 pub record IsToSplit (none : PRegSet) (f : FunctionValue) (b k : ℕ) (counts : List ℕ) (jumps : List DraftValue) : Type 0 where
   pub counted : IsCounted f b counts
   pub before : AreJumps none f b k jumps

@@ -4,7 +4,7 @@ use Rattle.std.specs.Fmt.{decimal}
 use Rattle.regalloc2_serialize.specs.declared.table_function.builder.BuildError.{BuildError}
 use Rattle.regalloc2_serialize.specs.declared.table_function.builder.BuildError.TheVariants.{Memory, NoBlock, TooManyBlocks, TooManyInsts, TooManyVRegs}
 
--- as block3 isn't declared
+-- for example `block3 isn't declared`
 abbrev pub build_text : BuildError → List ℕ
 build_text Memory = codes "out of memory"
 build_text (NoBlock b) = codes "block" ++ decimal b ++ codes " isn't declared"

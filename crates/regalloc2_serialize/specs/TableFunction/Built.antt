@@ -37,7 +37,7 @@ preds_from b first (succs ∷ rest) = edges_to b first succs ++ preds_from b (fi
 abbrev pub without_preds : BlockValue → BlockValue
 without_preds b = record b { preds = [] }
 
--- the function has these blocks and nothing else, and slots of one unit
+-- the function has the blocks `drafts` and nothing else, and slots of one unit
 pub record IsBuilt (drafts : List DraftValue) (count : ℕ) (f : FunctionValue) : Type 0 where
   pub blocks : map without_preds f.blocks ≡ blocks_from 0 drafts
   pub preds : (b : ℕ) → b < length drafts → (block_at f b).preds ≡ preds_from b 0 (map (λ d. d.succs) drafts)
@@ -56,7 +56,7 @@ pub record IsAstray (succs : List (List ℕ)) (s : ℕ) : Type 0 where
   pub from : ℕ
   pub listed : Contains (slice_index_or succs from []) s
 
--- why these blocks make no function
+-- why the blocks `drafts` make no function
 abbrev pub IsUnbuilt : List DraftValue → ℕ → BuildError → Type 0
 IsUnbuilt drafts num_vregs Memory = Unit {0}
 IsUnbuilt drafts num_vregs (NoBlock s) = IsAstray (map (λ d. d.succs) drafts) s

@@ -29,15 +29,15 @@ draft_of d = record {
 abbrev pub drafts_of : {A : Type 0} → TableBuilder A → List DraftValue
 drafts_of b = map draft_of b.blocks.items
 
--- a block that was declared with these parameters
+-- a block that was declared with the parameters `params`
 abbrev pub declared_with : List VirtualRegister → DraftValue
 declared_with params = record { params = params; insts = []; succs = []; arguments = [] }
 
--- the block of that number
+-- block `b`
 abbrev pub draft_at : List DraftValue → ℕ → DraftValue
 draft_at drafts b = slice_index_or drafts b (declared_with [])
 
--- block `b` was declared, and is changed in that way; the others aren't
+-- block `b` was declared, and `change` is made to it alone
 pub record IsChanged (old : List DraftValue) (b : ℕ) (change : DraftValue → DraftValue) (new : List DraftValue) : Type 0 where
   pub declared : b < length old
   pub changed : new ≡ slice_set old b (change (draft_at old b))
@@ -50,7 +50,7 @@ with_inst i d = record d { insts = d.insts ++ i ∷ [] }
 abbrev pub with_succ : ℕ → List VirtualRegister → DraftValue → DraftValue
 with_succ to arguments d = record d { succs = d.succs ++ to ∷ []; arguments = d.arguments ++ arguments ∷ [] }
 
--- block `b` has one more instruction, which has these operands and overwrites nothing else
+-- block `b` has one more instruction, which has the operands `os` and no clobbers
 pub record HasMore (old : List DraftValue) (b : ℕ) (os : List OperandValue) (branches returns : Bool) (new : List DraftValue) : Type 0 where
   pub inst : InstValue
   pub operands : inst.operands ≡ os
@@ -67,7 +67,7 @@ IsUndeclared drafts (NoBlock c) = ⊥
 IsUndeclared drafts TooManyInsts = ⊥
 IsUndeclared drafts TooManyVRegs = ⊥
 
--- why nothing is added to block `b`, of so many
+-- why nothing is added to block `b` of `count` blocks
 abbrev pub IsUnadded : ℕ → ℕ → BuildError → Type 0
 IsUnadded count b Memory = Unit {0}
 IsUnadded count b (NoBlock c) = (c ≡ b) × (count ≤ b)

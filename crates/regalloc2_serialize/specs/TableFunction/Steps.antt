@@ -20,7 +20,7 @@ pub record HasPreds (old : List BlockValue) (more : ℕ → List ℕ) (new : Lis
 abbrev pub one_edge : ℕ → ℕ → ℕ → List ℕ
 one_edge to pred b = if nat_eq to b then pred ∷ [] else []
 
--- why instructions aren't laid out, of which there are so many
+-- why `count` instructions aren't laid out
 abbrev pub IsUnplaced : ℕ → BuildError → Type 0
 IsUnplaced count Memory = Unit {0}
 IsUnplaced count TooManyInsts = 2 ^ 30 ≤ count

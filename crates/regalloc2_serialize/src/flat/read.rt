@@ -4,13 +4,14 @@ ghost use Rattle.std.specs.Prelude.{◌≡◌, ◌⊎◌, ℕ, List, [], ◌∷�
 ghost use Rattle.regalloc2_serialize.specs.Flat.Flat.{BeginsNone, IsNone};
 ghost use Rattle.regalloc2_serialize.specs.Flat.OneRest.{HasOneRest};
 
+use super::long::from_halves;
 use regalloc2_function::StoredFault;
 use std::alloc::Global;
 
-/// The words that are still to be read.
+/// Words that are read one by one.
 #[derive(Drop)]
 pub struct Words<'a> {
-    /// These.
+    /// The words that are still to be read.
     pub rest: &'a [u32],
 }
 
@@ -35,7 +36,9 @@ pub trait Flat {
 
     /// Reads the words of a value, which others may follow.
     ///
-    /// `Shape` exactly where the words begin those of no value, and `Memory` where a growth was refused; no other fault comes.
+    /// # Errors
+    ///
+    /// `Shape` if and only if `from` begins with the words of no value; `Memory` if memory runs out.
     fn read(alloc: Global, from: &mut Words<'_>) -> Result<Self, StoredFault>
         ensures ok { IfOk result (λ x. from.old.rest.now ≡ words x ++ from.new.rest.now) }
         ensures shape { IfErr result (λ e. e ≡ StoredFault.Shape → BeginsNone words from.old.rest.now) }
@@ -69,7 +72,7 @@ impl Flat for u64 {
     fn read(_alloc: Global, from: &mut Words<'_>) -> Result<u64, StoredFault> {
         let low = from.next()?;
         let high = from.next()?;
-        Ok(u64::from(high) * 4_294_967_296 + u64::from(low))
+        Ok(from_halves(low, high))
     }
 }
 
@@ -132,9 +135,11 @@ impl<T: Flat + Drop> Flat for Vec<T> {
     }
 }
 
-/// The value of which these are the words, and no more.
+/// The value with the words `words`.
 ///
-/// `Shape` exactly where they are those of no value, and `Memory` where a growth was refused; no other fault comes.
+/// # Errors
+///
+/// `Shape` if and only if `words` are the words of no value; `Memory` if memory runs out.
 pub fn value_of<T: Flat + Drop>(alloc: Global, words: &[u32]) -> Result<T, StoredFault>
     ensures ok { IfOk result (λ x. words.now ≡ T.words x) }
     ensures shape { IfErr result (λ e. e ≡ StoredFault.Shape → IsNone T.words words.now) }

@@ -3,16 +3,18 @@
 ghost use Rattle.std.specs.Prelude.{◌≡◌, ◌⊎◌, ◌++◌, IfOk, IfErr, OnOk};
 ghost use Rattle.regalloc2_serialize.specs.Flat.Flat.{HasLongWord};
 
+use super::long::halves;
 use super::read::Flat;
 use regalloc2_function::{StoredFault, StoredOutput};
 use std::alloc::Global;
 
 /// What is written as words.
 pub trait Written: Flat {
-    /// Adds the words of a value to others.
+    /// Adds the words of the value to `to`.
     ///
-    /// `Limit` only where a list is so long that its length is no word, and `Memory` where a growth was refused; no other fault
-    /// comes.
+    /// # Errors
+    ///
+    /// `Limit` if the length of a list is no word; `Memory` if memory runs out.
     fn write(&self, to: &mut Vec<u32>) -> Result<(), StoredFault>
         ensures ok { OnOk result (to.new.items ≡ to.old.items ++ Self.words self.now) }
         ensures limit { IfErr result (λ e. e ≡ StoredFault.Limit → HasLongWord (Self.words self.now)) }
@@ -28,10 +30,7 @@ impl Written for u32 {
 
 impl Written for u64 {
     fn write(&self, to: &mut Vec<u32>) -> Result<(), StoredFault> {
-        let number = *self;
-        let low = (number % 4_294_967_296) as u32;
-        let high = (number / 4_294_967_296) as u32;
-        to.extend_from_slice(&[low, high])?;
+        to.extend_from_slice(&halves(*self))?;
         Ok(())
     }
 }
@@ -73,10 +72,11 @@ impl Written for StoredOutput {
     }
 }
 
-/// The words of a value.
+/// The words of `value`.
 ///
-/// `Limit` only where a list is so long that its length is no word, and `Memory` where a growth was refused; no other fault
-/// comes.
+/// # Errors
+///
+/// `Limit` if the length of a list is no word; `Memory` if memory runs out.
 pub fn words_of<T: Written>(alloc: Global, value: &T) -> Result<Vec<u32>, StoredFault>
     ensures ok { IfOk result (λ v. v.items ≡ T.words value.now) }
     ensures limit { IfErr result (λ e. e ≡ StoredFault.Limit → HasLongWord (T.words value.now)) }

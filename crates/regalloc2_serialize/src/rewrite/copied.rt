@@ -16,7 +16,7 @@ use regalloc2_index::{Block, Inst};
 use regalloc2_names::{RegClass, VReg};
 use std::alloc::{AllocError, Allocator};
 
-/// The instructions of a block.
+/// Copies of the instructions of `block`.
 pub(crate) fn copied_insts<F: Function, A: Allocator + Copy>(
     alloc: A,
     f: &F,
@@ -37,7 +37,7 @@ pub(crate) fn copied_insts<F: Function, A: Allocator + Copy>(
     Ok(insts)
 }
 
-/// The function of these blocks, with that entry, those labels and the rest of another function.
+/// The function of the blocks `drafts`, with `entry`, `labels` and the rest of `f`.
 pub(crate) fn laid_like<F: Function, A: Allocator + Copy>(
     alloc: A,
     f: &F,

@@ -10,17 +10,13 @@ ghost use Rattle.regalloc2_serialize.specs.Rewrite.SplitEdges.{AgreeUpToTwo, Are
 use crate::InstOpcode;
 use crate::rewrite::copied::{copied_insts, laid_like};
 use crate::rewrite::error::RewriteError;
-use crate::table_function::{BlockDraft, TableFunction, TableInst};
+use crate::table_function::{BLOCK_LIMIT, BlockDraft, TableFunction, TableInst};
 use regalloc2_function::{Function, is_framed};
 use regalloc2_index::Block;
 use regalloc2_names::{PRegSet, VReg};
-use regalloc2_steps::edges::{one_of, only_edge};
 use std::alloc::{AllocError, Allocator};
 
-/// A function has fewer blocks.
-const BLOCK_LIMIT: usize = 0xffff_ffff;
-
-/// One more, up to two.
+/// Returns `count + 1`, or a number from 2 on if that is from 2 on.
 fn one_more(count: usize) -> usize
     ensures { AgreeUpToTwo result (count + 1) }
 {
@@ -30,7 +26,7 @@ fn one_more(count: usize) -> usize
     count
 }
 
-/// Counts one more way into a block, up to two.
+/// Counts one more edge into `block`, up to two.
 fn count_entry<A: Allocator>(counts: &mut Vec<usize, A>, block: Block)
     requires { block < length counts.old.items }
     ensures long { length counts.new.items ≡ length counts.old.items }
@@ -40,7 +36,7 @@ fn count_entry<A: Allocator>(counts: &mut Vec<usize, A>, block: Block)
     counts[block.index()] = one_more(count);
 }
 
-/// Counts one more way into each of these blocks, up to two.
+/// Counts one more edge into each of the blocks `succs`, up to two.
 fn count_entries<A: Allocator>(counts: &mut Vec<usize, A>, succs: &[Block])
     requires { All (λ s. s < length counts.old.items) succs.now }
     ensures long { length counts.new.items ≡ length counts.old.items }
@@ -51,7 +47,7 @@ fn count_entries<A: Allocator>(counts: &mut Vec<usize, A>, succs: &[Block])
     }
 }
 
-/// In how many ways each block is entered, counted up to two.
+/// How many edges enter each block, counted up to two. The function's start is an edge into the entry.
 fn entries_of<F: Function, A: Allocator>(alloc: A, f: &F) -> Result<Vec<usize, A>, AllocError>
     requires { SuccessorsAreBlocks (F.function f.now) }
     ensures { IfOk result (λ counts. AreEntries (F.function f.now) counts.items) }
@@ -64,7 +60,7 @@ fn entries_of<F: Function, A: Allocator>(alloc: A, f: &F) -> Result<Vec<usize, A
     Ok(counts)
 }
 
-/// Whether an edge is critical.
+/// Whether the edge from `block` to its successor `k` is critical. `entries` counts the edges into each block.
 fn has_critical_edge<F: Function>(f: &F, block: Block, k: usize, entries: &[usize]) -> bool
     requires counted { IsCounted (F.function f.now) block entries.now }
     requires position { k < length (block_at (F.function f.now) block).succs }
@@ -78,7 +74,7 @@ fn has_critical_edge<F: Function>(f: &F, block: Block, k: usize, entries: &[usiz
     entered > 1
 }
 
-/// A block that jumps to another one with these arguments.
+/// A block that jumps to `to` and passes `arguments`. `none` is the empty set of clobbers.
 fn jump_to<A: Allocator + Copy>(
     alloc: A,
     none: PRegSet,
@@ -92,24 +88,24 @@ fn jump_to<A: Allocator + Copy>(
       arguments = arguments.items ∷ [];
     }) }
 {
-    let insts = one_of(
-        alloc,
-        TableInst {
-            operands: Vec::new(alloc),
-            clobbers: none,
-            op: InstOpcode::Branch,
-        },
-    )?;
-    let (succs, arguments) = only_edge(alloc, to, arguments)?;
+    let (mut insts, mut succs, mut lists) = (Vec::new(alloc), Vec::new(alloc), Vec::new(alloc));
+    insts.push(TableInst {
+        operands: Vec::new(alloc),
+        clobbers: none,
+        op: InstOpcode::Branch,
+    })?;
+    succs.push(to)?;
+    lists.push(arguments)?;
     Ok(BlockDraft {
         params: Vec::new(alloc),
         insts,
         succs,
-        arguments,
+        arguments: lists,
     })
 }
 
-/// Returns where an edge goes and what it passes, and adds a block on it if it is critical.
+/// Returns where the edge from `block` to its successor `k` goes and what it passes. If the edge is critical, adds a block on
+/// it to `jumps`.
 fn split_edge<F: Function, A: Allocator + Copy>(
     alloc: A,
     f: &F,
@@ -140,7 +136,7 @@ fn split_edge<F: Function, A: Allocator + Copy>(
     Ok((Block::new(number), Vec::new(alloc)))
 }
 
-/// Returns where a block's edges go and what they pass, and adds blocks on those that are critical.
+/// Returns where the edges of `block` go and what they pass, and adds a block on each critical edge to `jumps`.
 fn split_edges<F: Function, A: Allocator + Copy>(
     alloc: A,
     f: &F,
@@ -163,7 +159,7 @@ fn split_edges<F: Function, A: Allocator + Copy>(
     Ok((succs, lists))
 }
 
-/// A block whose critical edges go to new blocks. The new blocks are added to others.
+/// `block` with its critical edges split. The new blocks are added to `jumps`.
 fn split_block<F: Function, A: Allocator + Copy>(
     alloc: A,
     f: &F,

@@ -12,17 +12,16 @@ use crate::rewrite::error::RewriteError;
 use crate::table_function::{BlockDraft, TableFunction};
 use regalloc2_function::{Function, is_framed};
 use regalloc2_index::Block;
-use regalloc2_steps::numbers::renamed_succs;
 use std::alloc::{AllocError, Allocator};
 
-/// Whether each block has a number.
+/// Whether each of `numbers` is a number.
 fn all_numbered(numbers: &[Block]) -> bool
     ensures { IsTrue result ↔ All (λ n. n ≢ 2 ^ 32 - 1) numbers.now }
 {
     numbers.iter().all(|number| number.is_valid())
 }
 
-/// Returns the position of each of so many blocks in an order.
+/// Returns the position of each of `count` blocks in `order`.
 fn numbers_in<A: Allocator>(
     alloc: A,
     order: &[Block],
@@ -51,7 +50,24 @@ fn numbers_in<A: Allocator>(
     Ok(numbers)
 }
 
-/// A block under new numbers.
+/// The new numbers of the blocks `succs`: `numbers[b]` for block `b`.
+fn renamed_succs<A: Allocator>(
+    alloc: A,
+    succs: &[Block],
+    numbers: &[Block],
+) -> Result<Vec<Block, A>, AllocError>
+    requires { All (λ s. s < length numbers.now) succs.now }
+    ensures { IfOk result (λ named. named.items ≡ map (λ s. slice_index numbers.now s) succs.now) }
+{
+    let mut named = Vec::with_capacity(alloc, succs.len())?;
+    for succ in succs {
+        let number = numbers[succ.index()];
+        named.push(number)?;
+    }
+    Ok(named)
+}
+
+/// `block` with the new `numbers` of its successors.
 fn renamed_block<F: Function, A: Allocator + Copy>(
     alloc: A,
     f: &F,
@@ -71,7 +87,7 @@ fn renamed_block<F: Function, A: Allocator + Copy>(
     })
 }
 
-/// The blocks in an order, under new numbers.
+/// The blocks in `order`, with the new `numbers` of their successors.
 fn renamed_blocks<F: Function, A: Allocator + Copy>(
     alloc: A,
     f: &F,

@@ -12,7 +12,7 @@ use regalloc2_index::{Block, InstRange};
 use regalloc2_names::{Operand, PRegSet};
 use std::alloc::{AllocError, Allocator};
 
-/// An instruction with these operands and no clobbers.
+/// An instruction with the operands `operands` and no clobbers.
 fn inst<A: Allocator + Copy>(
     alloc: A,
     operands: &[Operand],
@@ -29,7 +29,7 @@ fn inst<A: Allocator + Copy>(
     })
 }
 
-/// An instruction that goes on to the next one, with these operands.
+/// An instruction with the operands `operands` that goes on to the next one.
 pub fn op<A: Allocator + Copy>(alloc: A, operands: &[Operand]) -> Result<TableInst<A>, AllocError>
     ensures operands { IfOk result (λ i. i.operands.items ≡ operands.now) }
     ensures clobbers { IfOk result (λ i. (r : Register) → has_register i.clobbers r ≡ false) }
@@ -38,7 +38,7 @@ pub fn op<A: Allocator + Copy>(alloc: A, operands: &[Operand]) -> Result<TableIn
     inst(alloc, operands, InstOpcode::Op)
 }
 
-/// An instruction that goes on to a successor of its block, with these operands.
+/// A branch with the operands `operands`: an instruction that goes on to a successor of its block.
 pub fn branch<A: Allocator + Copy>(
     alloc: A,
     operands: &[Operand],
@@ -50,7 +50,7 @@ pub fn branch<A: Allocator + Copy>(
     inst(alloc, operands, InstOpcode::Branch)
 }
 
-/// A return with these operands.
+/// A return with the operands `operands`.
 pub fn ret<A: Allocator + Copy>(alloc: A, operands: &[Operand]) -> Result<TableInst<A>, AllocError>
     ensures operands { IfOk result (λ i. i.operands.items ≡ operands.now) }
     ensures clobbers { IfOk result (λ i. (r : Register) → has_register i.clobbers r ≡ false) }
@@ -60,7 +60,7 @@ pub fn ret<A: Allocator + Copy>(alloc: A, operands: &[Operand]) -> Result<TableI
 }
 
 impl<A: Allocator + Copy> TableBlock<A> {
-    /// A block of these instructions that no block follows or precedes, without parameters.
+    /// A block of the instructions of `range` that no block follows or precedes, without parameters.
     pub fn alone(alloc: A, range: InstRange) -> TableBlock<A>
         ensures { block_of_table result ≡ record { range = range; succs = []; preds = []; params = []; arguments = [] } }
     {
@@ -75,7 +75,7 @@ impl<A: Allocator + Copy> TableBlock<A> {
 }
 
 impl SlotUnits {
-    /// A size, which is a power of two from 1 to 2^24.
+    /// The size of `units` units, a power of two from 1 to 2^24.
     pub fn new(units: usize) -> SlotUnits
         requires positive { 1 ≤ units }
         requires at_most { units ≤ 2 ^ 24 }
@@ -85,14 +85,14 @@ impl SlotUnits {
         SlotUnits { units }
     }
 
-    /// One unit.
+    /// The size of one unit.
     pub fn one() -> SlotUnits
         ensures { result.units ≡ 1 }
     {
         SlotUnits::new(1)
     }
 
-    /// Two units.
+    /// The size of two units.
     pub fn two() -> SlotUnits
         ensures { result.units ≡ 2 }
     {
@@ -101,9 +101,9 @@ impl SlotUnits {
 }
 
 impl<A: Allocator> TableFunction<A> {
-    /// The function of these blocks and instructions that starts at block 0, with slots of those sizes for integers,
-    /// floating-point numbers and vectors, named by their first units, and vregs below `num_vregs`. It has no labels, and its
-    /// vregs have one definition.
+    /// The function of `blocks` and `insts` that starts at block 0. `slots` has the sizes of slots for integers, floating-point
+    /// numbers and vectors, which are named by their first units. Vregs are below `num_vregs` and have one definition, and
+    /// there are no labels.
     pub fn of_blocks(
         alloc: A,
         num_vregs: usize,

@@ -18,14 +18,14 @@ use std::fmt;
 const LIMIT: usize = 1 << 30;
 
 /// A function has fewer blocks.
-const BLOCK_LIMIT: usize = 0xffff_ffff;
+pub(crate) const BLOCK_LIMIT: usize = 0xffff_ffff;
 
 /// Why a builder returns an error.
 #[derive(Clone, Copy, Debug, PartialEq, Eq)]
 pub enum BuildError {
     /// Memory ran out.
     Memory,
-    /// This block wasn't declared.
+    /// The block wasn't declared.
     NoBlock(Block),
     /// There are 2^32 - 1 blocks or more.
     TooManyBlocks,
@@ -102,7 +102,7 @@ pub struct TableBuilder<A: Allocator = Global> {
 }
 
 impl<A: Allocator + Copy> TableBuilder<A> {
-    /// No block yet.
+    /// A builder without blocks.
     pub fn new(alloc: A) -> TableBuilder<A>
         ensures { drafts_of result ≡ [] }
     {
@@ -112,7 +112,7 @@ impl<A: Allocator + Copy> TableBuilder<A> {
         }
     }
 
-    /// Declares the next block, which takes these parameters.
+    /// Declares the next block, with the parameters `params`.
     pub fn block(&mut self, params: &[VReg]) -> Result<Block, BuildError>
         ensures number { IfOk result (λ b. b ≡ length (drafts_of self.old)) }
         ensures ok { OnOk result (drafts_of self.new ≡ drafts_of self.old ++ declared_with params.now ∷ []) }
@@ -133,7 +133,7 @@ impl<A: Allocator + Copy> TableBuilder<A> {
         Ok(Block::new(number))
     }
 
-    /// Adds an instruction to a block.
+    /// Adds `inst` to `block`.
     pub fn inst(&mut self, block: Block, inst: TableInst<A>) -> Result<(), BuildError>
         ensures ok { OnOk result (IsChanged (drafts_of self.old) block (with_inst (inst_of_table inst)) (drafts_of self.new)) }
         ensures err { IfErr result (λ e. IsUnadded (length (drafts_of self.old)) block e) }
@@ -146,7 +146,7 @@ impl<A: Allocator + Copy> TableBuilder<A> {
         Ok(())
     }
 
-    /// Adds an instruction with these operands that goes on to the next one.
+    /// Adds an instruction with the operands `operands` to `block`, which goes on to the next instruction.
     pub fn op(&mut self, block: Block, operands: &[Operand]) -> Result<(), BuildError>
         ensures ok { OnOk result (HasMore (drafts_of self.old) block operands.now false false (drafts_of self.new)) }
         ensures err { IfErr result (λ e. IsUnadded (length (drafts_of self.old)) block e) }
@@ -156,7 +156,7 @@ impl<A: Allocator + Copy> TableBuilder<A> {
         self.inst(block, inst)
     }
 
-    /// Adds an instruction with these operands that overwrites these registers besides.
+    /// Adds an instruction with the operands `operands` to `block`, which overwrites the registers `clobbers` besides.
     pub fn op_with_clobbers(
         &mut self,
         block: Block,
@@ -173,7 +173,7 @@ impl<A: Allocator + Copy> TableBuilder<A> {
         self.inst(block, inst)
     }
 
-    /// Adds a branch with these operands: the last instruction of a block that goes on to its successors.
+    /// Adds a branch with the operands `operands` to `block`: the last instruction of a block that goes on to its successors.
     pub fn branch(&mut self, block: Block, operands: &[Operand]) -> Result<(), BuildError>
         ensures ok { OnOk result (HasMore (drafts_of self.old) block operands.now true false (drafts_of self.new)) }
         ensures err { IfErr result (λ e. IsUnadded (length (drafts_of self.old)) block e) }
@@ -183,7 +183,7 @@ impl<A: Allocator + Copy> TableBuilder<A> {
         self.inst(block, inst)
     }
 
-    /// Adds a return with these operands: the last instruction of a block without successors.
+    /// Adds a return with the operands `operands` to `block`: the last instruction of a block without successors.
     pub fn ret(&mut self, block: Block, operands: &[Operand]) -> Result<(), BuildError>
         ensures ok { OnOk result (HasMore (drafts_of self.old) block operands.now false true (drafts_of self.new)) }
         ensures err { IfErr result (λ e. IsUnadded (length (drafts_of self.old)) block e) }
@@ -193,7 +193,7 @@ impl<A: Allocator + Copy> TableBuilder<A> {
         self.inst(block, inst)
     }
 
-    /// Gives a block its next successor, to which it passes these arguments.
+    /// Gives `block` its next successor, `to`, to which it passes `arguments`.
     pub fn succ(&mut self, block: Block, to: Block, arguments: &[VReg]) -> Result<(), BuildError>
         ensures ok { OnOk result (IsChanged (drafts_of self.old) block (with_succ to arguments.now) (drafts_of self.new)) }
         ensures err { IfErr result (λ e. IsUnadded (length (drafts_of self.old)) block e) }
@@ -212,8 +212,10 @@ impl<A: Allocator + Copy> TableBuilder<A> {
         Ok(())
     }
 
-    /// The function, with slots of one unit and vregs below `num_vregs`, without labels: the blocks' ranges follow one another,
-    /// and each block has as predecessors those that go on to it, each once for each time, by their numbers.
+    /// The function, with slots of one unit and vregs below `num_vregs`, without labels.
+    ///
+    /// The blocks' ranges follow one another. A block's predecessors are the blocks that go on to it, by their numbers, each
+    /// listed once for each edge.
     pub fn finish(self, num_vregs: usize) -> Result<TableFunction<A>, BuildError>
         ensures ok { IfOk result (λ f. IsBuilt (drafts_of self) num_vregs (function_of_table f)) }
         ensures err { IfErr result (λ e. IsUnbuilt (drafts_of self) num_vregs e) }
@@ -232,7 +234,7 @@ impl<A: Allocator + Copy> TableBuilder<A> {
     }
 }
 
-/// Adds a block, and its instructions to those of the blocks before it.
+/// Adds the block `draft` to `blocks`, and its instructions to `insts`.
 fn place<A: Allocator + Copy>(
     alloc: A,
     blocks: &mut Vec<TableBlock<A>, A>,
@@ -283,7 +285,7 @@ fn lay_out<A: Allocator + Copy>(
     Ok((blocks, insts))
 }
 
-/// Gives a block one more predecessor.
+/// Gives the block `to` one more predecessor, `pred`.
 fn add_pred<A: Allocator + Copy>(
     blocks: &mut Vec<TableBlock<A>, A>,
     to: Block,
@@ -300,7 +302,7 @@ fn add_pred<A: Allocator + Copy>(
     Ok(())
 }
 
-/// Makes a block a predecessor of its successors.
+/// Makes the block `pred` a predecessor of its successors.
 fn link_one<A: Allocator + Copy>(
     blocks: &mut Vec<TableBlock<A>, A>,
     pred: Block,

@@ -11,13 +11,13 @@ returns-in_default c = record { places = tt; names = tt; err = inl refl }
 pub returns-in_default-push : goal.returns-in_default-push
 returns-in_default-push c = record { places = tt; names = tt; err = inl refl }
 
-pub returns-then-not-is_place : goal.returns-then-not-is_place
-returns-then-not-is_place c = record {
+pub returns-then-not-is_bits : goal.returns-then-not-is_bits
+returns-then-not-is_bits c = record {
   places = tt;
   names = tt;
   err = inr (
     refl,
-    λ all. let e : false ≡ true = c.if-not-is_place.ensures.1 (all c.loop-bits.bits-index _ c.loop-bits-test.true) in absurd (false≢true e),
+    λ all. let e : false ≡ true = c.if-not-is_bits.ensures.1 (all c.loop-bits.bits-index _ c.loop-bits-test.true) in absurd (false≢true e),
   );
 }
 
@@ -33,7 +33,7 @@ loop-bits-preserved c =
         c.loop-bits.invariant.places,
         c.from_bits.ensures.place,
       ) refl;
-      names = All-more IsPlaceBits words k _ c.loop-bits-test.true c.loop-bits.invariant.names (c.if-not-is_place.ensures.0 refl);
+      names = All-more IsPlaceBits words k _ c.loop-bits-test.true c.loop-bits.invariant.names (c.if-not-is_bits.ensures.0 refl);
     }
 
 pub returns-clause-places : goal.returns-clause-places

@@ -1,4 +1,3 @@
-use Rattle.std.proofs.lemmas.Result.{IfOk-from_err}
 use Rattle.std.proofs.Common.{arith, ap, sym, subst, map, ◌∙◌}
 use Rattle.std.specs.Prelude.{All}
 use Rattle.regalloc2_names.specs.Packing.{IsVRegBits, vreg_of_bits}
@@ -57,15 +56,3 @@ returns g c =
     ∙ list-read (λ l. l.items) s.block_params_in.items b c.index-4.result.now has.params c.index-4.ensures))
     (c.in_ok-arguments.ensures ∙ ap (map (λ l. map vreg_of_bits l.items))
     (c.as_slice-4.ensures.value ∙ list-read (λ l. l.items) s.block_params_out.items b c.index-5.result.now has.arguments c.index-5.ensures)))
-
-pub returns-in_err-succs : goal.returns-in_err-succs
-returns-in_err-succs g c = IfOk-from_err c.from_residual.result _ c.from_residual.ensures.0
-
-pub returns-in_err-preds : goal.returns-in_err-preds
-returns-in_err-preds g c = IfOk-from_err c.from_residual-in_err-preds.result _ c.from_residual-in_err-preds.ensures.0
-
-pub returns-in_err-params : goal.returns-in_err-params
-returns-in_err-params g c = IfOk-from_err c.from_residual-in_err-params.result _ c.from_residual-in_err-params.ensures.0
-
-pub returns-in_err-arguments : goal.returns-in_err-arguments
-returns-in_err-arguments g c = IfOk-from_err c.from_residual-in_err-arguments.result _ c.from_residual-in_err-arguments.ensures.0

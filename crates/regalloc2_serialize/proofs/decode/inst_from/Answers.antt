@@ -1,12 +1,8 @@
-use Rattle.std.proofs.lemmas.Result.{IfOk-from_err}
 use Rattle.std.proofs.Common.{refl, ap, sym, subst, map, ◌∙◌}
 use Rattle.std.specs.Prelude.{All}
 use Rattle.regalloc2_names.specs.Packing.{IsOperandBits, IsRegisterIndex, operand_of_bits}
 use Rattle.regalloc2_serialize.specs.Decoded.{HasIndexes}
 use Rattle.regalloc2_serialize.proofs.decode.inst_from.Goals as goal
-
-pub returns-in_err-operands_from : goal.returns-in_err-operands_from
-returns-in_err-operands_from g c = IfOk-from_err c.from_residual.result _ c.from_residual.ensures.0
 
 pub operands_from-requires : goal.operands_from-requires
 operands_from-requires g c = subst (All IsOperandBits) (sym c.as_slice.ensures.value) c.requires.operands

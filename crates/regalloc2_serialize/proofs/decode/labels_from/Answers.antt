@@ -1,4 +1,3 @@
-use Rattle.std.proofs.lemmas.Result.{IfOk-from_err}
 use Rattle.std.proofs.Common.{arith, refl, get_or}
 use Rattle.std.proofs.lemmas.List.{take_all, take_more}
 use Rattle.regalloc2_function.specs.FunctionValue.{label_of}
@@ -11,12 +10,6 @@ from_bits-requires g c = c.requires c.loop-label.label-index (0, 0, 0, 0) c.loop
 
 pub returns : goal.returns
 returns g c = rw (take_all c.loop-label.label-index c.args.labels.now (omega (arith, c.loop-label-test.false))) at c.loop-label.invariant
-
-pub returns-in_err-named : goal.returns-in_err-named
-returns-in_err-named g c = IfOk-from_err c.from_residual.result _ c.from_residual.ensures.0
-
-pub returns-in_err-push : goal.returns-in_err-push
-returns-in_err-push g c = IfOk-from_err c.from_residual-in_err-push.result _ c.from_residual-in_err-push.ensures.0
 
 pub loop-label-init : goal.loop-label-init
 loop-label-init g c = rw c.in_ok-named.ensures.items refl

@@ -1,4 +1,3 @@
-use Rattle.std.proofs.lemmas.Result.{IfOk-from_err}
 use Rattle.std.proofs.Common.{arith, ◌≡◌, ◌∙◌, ◌+◌, ◌++◌, ◌∷◌, [], map, take, ap, subst, sym, refl}
 use Rattle.std.specs.Prelude.{All}
 use Rattle.std.proofs.lemmas.List.{take_all}
@@ -24,15 +23,6 @@ loop-list-preserved g c =
 
 pub returns : goal.returns
 returns g c = rw (take_all c.loop-list.list-index c.args.lists.now (omega (arith, c.loop-list-test.false))) at c.loop-list.invariant
-
-pub returns-in_err-vregs : goal.returns-in_err-vregs
-returns-in_err-vregs g c = IfOk-from_err c.from_residual.result _ c.from_residual.ensures.0
-
-pub returns-in_err-named : goal.returns-in_err-named
-returns-in_err-named g c = IfOk-from_err c.from_residual-in_err-named.result _ c.from_residual-in_err-named.ensures.0
-
-pub returns-in_err-push : goal.returns-in_err-push
-returns-in_err-push g c = IfOk-from_err c.from_residual-in_err-push.result _ c.from_residual-in_err-push.ensures.0
 
 pub loop-list-init : goal.loop-list-init
 loop-list-init g c = rw c.in_ok-vregs.ensures.items refl

@@ -1,4 +1,3 @@
-use Rattle.std.proofs.lemmas.Result.{IfOk-from_err}
 use Rattle.std.proofs.Common.{◌∙◌, ap, length, subst, sym}
 use Rattle.std.specs.Prelude.{All, IfSome}
 use Rattle.regalloc2_names.specs.Packing.{IsRegisterIndex}
@@ -24,6 +23,3 @@ scratch_from-scratch_by_class-requires g c = record {
 
 pub registers_from-requires : goal.registers_from-requires
 registers_from-requires g c = subst (All IsRegisterIndex) (sym c.as_slice-4.ensures.value) c.requires.registers.fixed_stack_slots
-
-pub returns-in_err-fixed_stack_slots : goal.returns-in_err-fixed_stack_slots
-returns-in_err-fixed_stack_slots g c = IfOk-from_err c.from_residual.result _ c.from_residual.ensures.0

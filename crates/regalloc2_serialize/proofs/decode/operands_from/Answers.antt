@@ -1,4 +1,3 @@
-use Rattle.std.proofs.lemmas.Result.{IfOk-from_err}
 use Rattle.std.proofs.Common.{arith, refl}
 use Rattle.std.proofs.lemmas.List.{take_all}
 use Rattle.regalloc2_names.specs.Packing.{operand_of_bits}
@@ -12,12 +11,6 @@ loop-word-preserved g c =
 
 pub returns : goal.returns
 returns g c = rw (take_all c.loop-word.word-index c.args.words.now (omega (arith, c.loop-word-test.false))) at c.loop-word.invariant
-
-pub returns-in_err-operands : goal.returns-in_err-operands
-returns-in_err-operands g c = IfOk-from_err c.from_residual.result _ c.from_residual.ensures.0
-
-pub returns-in_err-push : goal.returns-in_err-push
-returns-in_err-push g c = IfOk-from_err c.from_residual-in_err-push.result _ c.from_residual-in_err-push.ensures.0
 
 pub loop-word-init : goal.loop-word-init
 loop-word-init g c = rw c.in_ok-operands.ensures.items refl

@@ -1,7 +1,6 @@
 use Rattle.std.proofs.Common.{◌∙◌, ap, map, subst, sym}
 use Rattle.std.specs.Prelude.{All}
 use Rattle.std.proofs.lemmas.List.Elements.{All-push}
-use Rattle.std.proofs.lemmas.Result.{IfOk-from_err}
 use Rattle.regalloc2_names.specs.Packing.{IsVRegBits, vreg_of_bits}
 use Rattle.regalloc2_serialize.specs.Decoded.{stored_range}
 use Rattle.regalloc2_serialize.specs.TableFunction.Table.{block_of_table}
@@ -29,30 +28,3 @@ returns g c = λ bs h.
           (All-push (λ k. All (λ j. All IsVRegBits j.items) k.items) l.params_out.items c.in_ok-arguments.arguments h.argument_names
           c.in_ok-arguments.ensures.names);
     }
-
-pub returns-in_err-push : goal.returns-in_err-push
-returns-in_err-push g c = IfOk-from_err c.from_residual.result _ c.from_residual.ensures.0
-
-pub returns-in_err-preds : goal.returns-in_err-preds
-returns-in_err-preds g c = IfOk-from_err c.from_residual-in_err-preds.result _ c.from_residual-in_err-preds.ensures.0
-
-pub returns-in_err-push-2 : goal.returns-in_err-push-2
-returns-in_err-push-2 g c = IfOk-from_err c.from_residual-in_err-push-2.result _ c.from_residual-in_err-push-2.ensures.0
-
-pub returns-in_err-succs : goal.returns-in_err-succs
-returns-in_err-succs g c = IfOk-from_err c.from_residual-in_err-succs.result _ c.from_residual-in_err-succs.ensures.0
-
-pub returns-in_err-push-3 : goal.returns-in_err-push-3
-returns-in_err-push-3 g c = IfOk-from_err c.from_residual-in_err-push-3.result _ c.from_residual-in_err-push-3.ensures.0
-
-pub returns-in_err-params : goal.returns-in_err-params
-returns-in_err-params g c = IfOk-from_err c.from_residual-in_err-params.result _ c.from_residual-in_err-params.ensures.0
-
-pub returns-in_err-push-4 : goal.returns-in_err-push-4
-returns-in_err-push-4 g c = IfOk-from_err c.from_residual-in_err-push-4.result _ c.from_residual-in_err-push-4.ensures.0
-
-pub returns-in_err-arguments : goal.returns-in_err-arguments
-returns-in_err-arguments g c = IfOk-from_err c.from_residual-in_err-arguments.result _ c.from_residual-in_err-arguments.ensures.0
-
-pub returns-in_err-push-5 : goal.returns-in_err-push-5
-returns-in_err-push-5 g c = IfOk-from_err c.from_residual-in_err-push-5.result _ c.from_residual-in_err-push-5.ensures.0

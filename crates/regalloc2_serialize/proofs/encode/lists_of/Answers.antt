@@ -1,6 +1,5 @@
 use Rattle.std.proofs.Common.{◌≡◌, ◌+◌, ◌++◌, ◌∷◌, [], arith, refl, take}
 use Rattle.std.proofs.lemmas.List.{take_all, take_more}
-use Rattle.std.proofs.lemmas.Result.{IfOk-from_err}
 use Rattle.regalloc2_serialize.proofs.encode.lists_of.Goals as goal
 
 pub loop-block-init : goal.loop-block-init
@@ -32,9 +31,3 @@ loop-block-preserved g c =
 
 pub returns : goal.returns
 returns g c = rw (take_all c.loop-block.block-index c.args.blocks.now (omega (arith, c.loop-block-test.false))) at c.loop-block.invariant
-
-pub returns-in_err-reserve : goal.returns-in_err-reserve
-returns-in_err-reserve g c = IfOk-from_err c.from_residual.result _ c.from_residual.ensures.0
-
-pub returns-in_err-add_block : goal.returns-in_err-add_block
-returns-in_err-add_block g c = IfOk-from_err c.from_residual-in_err-add_block.result _ c.from_residual-in_err-add_block.ensures.0

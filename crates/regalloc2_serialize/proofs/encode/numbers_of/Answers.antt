@@ -4,7 +4,6 @@ use Rattle.std.proofs.lemmas.Slice.Zip.{AllZip-long}
 use Rattle.std.specs.List.{AllZip, range_with_len}
 use Rattle.regalloc2_function.specs.FunctionValue.{label_of}
 use Rattle.regalloc2_serialize.specs.Decoded.{NamesInst, NamesFunction, stored_label, stored_block}
-use Rattle.std.proofs.lemmas.Result.{IfOk-from_err}
 use Rattle.regalloc2_serialize.specs.Encoded.{AreListsOf, ArePartsOf}
 use Rattle.regalloc2_serialize.specs.TableFunction.Table.{inst_of_table, block_of_table}
 use Rattle.regalloc2_serialize.specs.Tables.{function_of_serializable}
@@ -78,18 +77,3 @@ parts g c = record {
 
 pub returns : goal.returns
 returns g c = record { function = function g c; machine = c.in_ok-machine_env.ensures.machine; parts = parts g c }
-
-pub returns-in_err-spillslot_size : goal.returns-in_err-spillslot_size
-returns-in_err-spillslot_size g c = IfOk-from_err c.from_residual.result _ c.from_residual.ensures.0
-
-pub returns-in_err-debug_value_labels : goal.returns-in_err-debug_value_labels
-returns-in_err-debug_value_labels g c = IfOk-from_err c.from_residual-in_err-debug_value_labels.result _ c.from_residual-in_err-debug_value_labels.ensures.0
-
-pub returns-in_err-lists : goal.returns-in_err-lists
-returns-in_err-lists g c = IfOk-from_err c.from_residual-in_err-lists.result _ c.from_residual-in_err-lists.ensures.0
-
-pub returns-in_err-insts : goal.returns-in_err-insts
-returns-in_err-insts g c = IfOk-from_err c.from_residual-in_err-insts.result _ c.from_residual-in_err-insts.ensures.0
-
-pub returns-in_err-machine_env : goal.returns-in_err-machine_env
-returns-in_err-machine_env g c = IfOk-from_err c.from_residual-in_err-machine_env.result _ c.from_residual-in_err-machine_env.ensures.0

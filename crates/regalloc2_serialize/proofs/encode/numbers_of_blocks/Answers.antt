@@ -1,4 +1,3 @@
-use Rattle.std.proofs.lemmas.Result.{IfOk-from_err}
 use Rattle.std.proofs.Common.{arith, refl}
 use Rattle.std.proofs.lemmas.List.{take_all}
 use Rattle.regalloc2_serialize.proofs.Lists.{copy-more}
@@ -11,12 +10,6 @@ loop-block-preserved g c =
 
 pub returns : goal.returns
 returns g c = rw (take_all c.loop-block.block-index c.args.blocks.now (omega (arith, c.loop-block-test.false))) at c.loop-block.invariant
-
-pub returns-in_err-numbers : goal.returns-in_err-numbers
-returns-in_err-numbers g c = IfOk-from_err c.from_residual.result _ c.from_residual.ensures.0
-
-pub returns-in_err-push : goal.returns-in_err-push
-returns-in_err-push g c = IfOk-from_err c.from_residual-in_err-push.result _ c.from_residual-in_err-push.ensures.0
 
 pub loop-block-init : goal.loop-block-init
 loop-block-init g c = rw c.in_ok-numbers.ensures.items refl

@@ -1,4 +1,3 @@
-use Rattle.std.proofs.lemmas.Result.{IfOk-from_err}
 use Rattle.std.proofs.Common.{◌≡◌, ◌∙◌, ◌∷◌, [], ◌++◌, ◌+◌, List, get_or, sym, subst, map, length, ap, arith, refl}
 use Rattle.std.specs.List.{range_with_len}
 use Rattle.regalloc2_names.specs.Register.{VirtualRegister}
@@ -14,15 +13,6 @@ loop-k-preserved g c =
     c.in_ok-passed.ensures.items_if_clones_equal (λ x y h. h) ∙ c.branch_blockparams.ensures in
     subst (λ xs. map (λ v. v.items) xs ≡ map (λ k. get_or args k []) (range_with_len 0 (c.loop-k.k + 1))) (sym e)
     (map-next (λ v. v.items) (λ k. get_or args k []) c.loop-k.arguments.items c.loop-k.k c.in_ok-passed.passed here c.loop-k.invariant)
-
-pub returns-in_err-arguments : goal.returns-in_err-arguments
-returns-in_err-arguments g c = IfOk-from_err c.from_residual.result _ c.from_residual.ensures.0
-
-pub returns-in_err-passed : goal.returns-in_err-passed
-returns-in_err-passed g c = IfOk-from_err c.from_residual-in_err-passed.result _ c.from_residual-in_err-passed.ensures.0
-
-pub returns-in_err-push : goal.returns-in_err-push
-returns-in_err-push g c = IfOk-from_err c.from_residual-in_err-push.result _ c.from_residual-in_err-push.ensures.0
 
 pub branch_blockparams-requires-clause-block : goal.branch_blockparams-requires-clause-block
 branch_blockparams-requires-clause-block g c = c.requires.block

@@ -1,5 +1,5 @@
 -- Where the columns of a function lie among its words: a header, and then 18 columns that follow one another.
-use Rattle.std.specs.Prelude.{ℕ, ◌≡◌, ◌+◌, ◌*◌, ◌<◌, ◌^◌, List, [], ◌∷◌, length, take, slice_index, slice_range, sum}
+use Rattle.std.specs.Prelude.{ℕ, ◌≡◌, ◌+◌, ◌*◌, ◌/◌, ◌%◌, ◌<◌, ◌^◌, List, [], ◌∷◌, length, take, slice_index, slice_range, sum}
 use Rattle.regalloc2_serialize.specs.declared.flat.columns.cut.Header.{Header}
 
 -- the header: 2, the number of this layout, and 14 numbers
@@ -21,12 +21,26 @@ header_of words = record {
   sizes = slice_index words 14;
 }
 
+-- the logarithms of the sizes of slots by class, in bits 0 to 7, 8 to 15 and 16 to 23 of `sizes`
+abbrev pub int_log : ℕ → ℕ
+int_log sizes = sizes % 256
+
+abbrev pub float_log : ℕ → ℕ
+float_log sizes = sizes / 256 % 256
+
+abbrev pub vector_log : ℕ → ℕ
+vector_log sizes = sizes / 65536
+
+-- the logarithm of the largest size
+abbrev pub most_log : ℕ
+most_log = 24
+
 -- how many words the header takes, and then each column
 abbrev pub widths : Header → List ℕ
 widths h = 15 ∷ 18 ∷ 18 ∷ 3 ∷ h.slots ∷ (6 * h.sets) ∷ h.insts ∷ h.insts ∷ (2 * h.operands) ∷ h.blocks ∷ h.blocks ∷ h.blocks ∷ h.blocks ∷ h.preds ∷ h.edges
     ∷ h.params ∷ h.edges ∷ h.arguments ∷ (4 * h.labels) ∷ []
 
--- column k, which begins where the one before ends
+-- column `k`, which begins where column `k - 1` ends
 abbrev pub column : List ℕ → ℕ → List ℕ
 column words k = slice_range words (sum (take k (widths (header_of words)))) (sum (take (k + 1) (widths (header_of words))))
 
@@ -73,7 +87,7 @@ succ_ends words = column words 11
 abbrev pub param_ends : List ℕ → List ℕ
 param_ends words = column words 12
 
--- these of all blocks
+-- the predecessors, the successors and the parameters of all blocks
 abbrev pub pred_words : List ℕ → List ℕ
 pred_words words = column words 13
 
@@ -94,7 +108,7 @@ argument_words words = column words 17
 abbrev pub label_words : List ℕ → List ℕ
 label_words words = column words 18
 
--- words are those of a header and its columns, and no more
+-- `words` are a header and its columns, and no more
 pub record AreInColumns (words : List ℕ) : Type 0 where
   pub layout : slice_index words 0 ≡ 2
   pub count : length words ≡ sum (widths (header_of words))

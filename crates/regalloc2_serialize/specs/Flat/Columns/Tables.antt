@@ -7,14 +7,14 @@ use Rattle.regalloc2_serialize.specs.Flat.Columns.Value.{AreNumbered, longs}
 use Rattle.regalloc2_serialize.specs.declared.flat.columns.read.InstTables.{InstTables}
 use Rattle.regalloc2_serialize.specs.declared.flat.columns.read.EdgeTables.{EdgeTables}
 
--- tables are those of the columns of instructions
+-- `t` holds the columns of instructions of `words`
 pub record AreInstTables {A : Type 0} (words : List ℕ) (t : InstTables A) : Type 0 where
   pub kinds : t.kinds.items ≡ kind_words words
   pub sets : AreNumbered (set_words words) (header_of words).sets t.sets.items
   pub operands : t.operands.items.items ≡ map operand_of_bits (longs (operand_words words) (header_of words).operands)
   pub operand_bounds : t.operands.bounds.items ≡ 0 ∷ operand_ends words
 
--- tables are those of the columns of edges
+-- `t` holds the columns of edges of `words`
 pub record AreEdgeTables {A : Type 0} (words : List ℕ) (t : EdgeTables A) : Type 0 where
   pub preds : t.preds.items.items ≡ pred_words words
   pub pred_bounds : t.preds.bounds.items ≡ 0 ∷ pred_ends words

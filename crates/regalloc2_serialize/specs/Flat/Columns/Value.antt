@@ -13,9 +13,9 @@ use Rattle.regalloc2_function.specs.FunctionValue.{FunctionValue, BlockValue, In
 use Rattle.regalloc2_function.specs.Machine.{MachineValue, empty_set}
 use Rattle.regalloc2_serialize.specs.Flat.Columns.Layout.{header_of, preferred_words, non_preferred_words, scratch_words, slot_words, set_words, kind_words}
 use Rattle.regalloc2_serialize.specs.Flat.Columns.Layout.{operand_ends, operand_words, inst_ends, pred_ends, succ_ends, param_ends, pred_words, succ_words}
-use Rattle.regalloc2_serialize.specs.Flat.Columns.Layout.{param_words, argument_ends, argument_words, label_words}
+use Rattle.regalloc2_serialize.specs.Flat.Columns.Layout.{param_words, argument_ends, argument_words, label_words, int_log, float_log, vector_log}
 
--- what columns list, and the bounds between which the members of an instruction, a block or an edge lie: those of number k from bound k up to bound k + 1
+-- what columns list, and the bounds between which the members of an instruction, a block or an edge lie: from bound `k` up to bound `k + 1` for number `k`
 pub record Columns : Type 0 where
   pub kinds : List ℕ
   pub sets : List PRegSet
@@ -31,11 +31,11 @@ pub record Columns : Type 0 where
   pub arguments : List VirtualRegister
   pub argument_bounds : List ℕ
 
--- the part of that number
+-- part `k`
 abbrev pub part : {X : Type 0} → List X → List ℕ → ℕ → List X
 part items bounds k = slice_range items (slice_index bounds k) (slice_index bounds (k + 1))
 
--- the numbers of the members of a part
+-- the numbers of the members of part `k`
 abbrev pub part_numbers : List ℕ → ℕ → List ℕ
 part_numbers bounds k = range_with_len (slice_index bounds k) (slice_index bounds (k + 1) - slice_index bounds k)
 
@@ -80,7 +80,7 @@ label_at words k = record {
   label = slice_index words (4 * k + 3);
 }
 
--- the columns of words, for these sets of clobbers
+-- the columns of `words`, with the sets of clobbers `sets`
 abbrev pub columns_of : List ℕ → List PRegSet → Columns
 columns_of words sets = record {
   kinds = kind_words words;
@@ -98,11 +98,11 @@ columns_of words sets = record {
   argument_bounds = 0 ∷ argument_ends words;
 }
 
--- the sizes of slots: three logarithms in bits 0 to 7, 8 to 15 and 16 to 23
+-- the sizes of slots by class
 abbrev pub column_sizes : ℕ → SlotSizes
-column_sizes sizes = record { int = 2 ^ (sizes % 256); float = 2 ^ (sizes / 256 % 256); vector = 2 ^ (sizes / 65536) }
+column_sizes sizes = record { int = 2 ^ int_log sizes; float = 2 ^ float_log sizes; vector = 2 ^ vector_log sizes }
 
--- the function that words lay out, for these sets of clobbers
+-- the function that `words` lay out, with the sets of clobbers `sets`
 abbrev pub function_in_columns : List ℕ → List PRegSet → FunctionValue
 function_in_columns words sets = record {
   blocks = column_blocks (columns_of words sets);
@@ -115,23 +115,23 @@ function_in_columns words sets = record {
   allows_multiple_defs = nat_eq ((header_of words).flags / 2) 1;
 }
 
--- a set has the registers whose bits are 1 in six words: the bit of an index is in word `index / 32`
+-- whether the bit of the register `index` is 1 in six words: the bit is in word `index / 32`
 abbrev pub is_bit_set : List ℕ → ℕ → Bool
 is_bit_set bits index = nat_eq (bit_at (slice_index bits (index / 32)) (index % 32)) 1
 
 abbrev pub HasBits : List ℕ → PRegSet → Type 0
 HasBits bits s = (r : Register) → has_register s r ≡ nat_lt r.number 64 && is_bit_set bits (bits_of_register r)
 
--- the six words of set k
+-- the six words of set `k`
 abbrev pub bits_at : List ℕ → ℕ → List ℕ
 bits_at words k = slice_range words (6 * k) (6 * k + 6)
 
--- sets are those of these words, six for each
+-- `sets` are the `count` sets of `words`, six words each
 pub record HaveBits (words : List ℕ) (count : ℕ) (sets : List PRegSet) : Type 0 where
   pub count_is : length sets ≡ count
   pub each : (k : ℕ) → k < count → HasBits (bits_at words k) (slice_index_or sets k empty_set)
 
--- sets by their numbers: that of number 0 has no register, and then come those of these words
+-- `sets` are the empty set, with the number 0, and the `count` sets of `words`, six words each
 pub record AreNumbered (words : List ℕ) (count : ℕ) (sets : List PRegSet) : Type 0 where
   pub count_is : length sets ≡ count + 1
   pub none : (r : Register) → has_register (slice_index_or sets 0 empty_set) r ≡ false

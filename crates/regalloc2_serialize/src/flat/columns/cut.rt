@@ -1,7 +1,7 @@
 //! The columns of words.
 
 ghost use Rattle.std.specs.Prelude.{◌≡◌, ℕ, ◌+◌, ◌<◌, ◌≤◌, ◌^◌, All, MatchOption, length, take, slice_index, sum};
-ghost use Rattle.regalloc2_serialize.specs.Flat.Columns.Layout.{header_of, widths, column, AreInColumns};
+ghost use Rattle.regalloc2_serialize.specs.Flat.Columns.Layout.{header_of, widths, column, AreInColumns, int_log, float_log, vector_log};
 
 /// The column of the sets of preferred registers.
 pub const PREFERRED: usize = 1;
@@ -57,6 +57,21 @@ pub const ARGUMENTS: usize = 17;
 /// The column of the labels.
 pub const LABELS: usize = 18;
 
+/// The first word, the number of this layout.
+const LAYOUT: u32 = 2;
+
+/// The number of words of the header.
+const HEADER_WORDS: usize = 15;
+
+/// The number of bits that a logarithm takes in [`Header::sizes`].
+const LOG_BITS: u32 = 8;
+
+/// The bits of a logarithm.
+const LOG_MASK: u32 = 0xff;
+
+/// The logarithm of the largest size of a slot.
+pub const MOST_LOG: u32 = 24;
+
 /// The numbers at the head of the words, without the first, which is the layout's.
 #[derive(Clone, Copy)]
 pub struct Header {
@@ -91,7 +106,7 @@ pub struct Header {
 }
 
 impl Header {
-    /// The header of words.
+    /// The header of `words`.
     fn of(words: &[u32]) -> Header
         requires { 15 ≤ length words.now }
         ensures { result ≡ header_of words.now }
@@ -114,6 +129,27 @@ impl Header {
         }
     }
 
+    /// The logarithm of the size of an integer's slot.
+    pub fn int_log(self) -> u32
+        ensures { result ≡ int_log self.sizes }
+    {
+        self.sizes & LOG_MASK
+    }
+
+    /// The logarithm of the size of a floating-point number's slot.
+    pub fn float_log(self) -> u32
+        ensures { result ≡ float_log self.sizes }
+    {
+        (self.sizes >> LOG_BITS) & LOG_MASK
+    }
+
+    /// The logarithm of the size of a vector's slot.
+    pub fn vector_log(self) -> u32
+        ensures { result ≡ vector_log self.sizes }
+    {
+        self.sizes >> (2 * LOG_BITS)
+    }
+
     /// How many words the header and each column take.
     fn widths(self) -> [usize; 19]
         ensures widths { result ≡ widths self }
@@ -123,7 +159,7 @@ impl Header {
         let insts = self.insts as usize;
         let blocks = self.blocks as usize;
         [
-            15,
+            HEADER_WORDS,
             18,
             18,
             3,
@@ -146,7 +182,7 @@ impl Header {
     }
 }
 
-/// Where the header and each column begin, and where the last one ends.
+/// Where the header and each column begin, by their `widths`, and where the last column ends.
 fn starts_of(widths: [usize; 19]) -> [usize; 20]
     requires { All (λ w. w < 2 ^ 35) widths }
     ensures { (k : ℕ) → k < 20 → slice_index result k ≡ sum (take k widths) }
@@ -172,16 +208,16 @@ pub struct Cut<'a> {
 }
 
 impl<'a> Cut<'a> {
-    /// The columns of words, if they are laid out in columns. Nothing is allocated.
+    /// The columns of `words`, if they are laid out in columns. Allocates nothing.
     pub fn of(words: &'a [u32]) -> Option<Cut<'a>>
         ensures { MatchOption result (AreInColumns words.now → ⊥) (λ c. AreInColumns words.now × (c.words.now ≡ words.now)) }
     {
-        if words.len() < 15 || words[0] != 2 {
+        if words.len() < HEADER_WORDS || words[0] != LAYOUT {
             return None;
         }
         let header = Header::of(words);
         let starts = starts_of(header.widths());
-        if starts[19] != words.len() || header.flags >= 4 || header.sizes >= 1 << 24 {
+        if starts[19] != words.len() || header.flags >= 4 || header.sizes >= 1 << (3 * LOG_BITS) {
             return None;
         }
         Some(Cut {
@@ -198,7 +234,7 @@ impl<'a> Cut<'a> {
         self.header
     }
 
-    /// The column of that number, from 1.
+    /// The column with the number `k`, from 1.
     pub fn column(&self, k: usize) -> &'a [u32]
         requires { k < 19 }
         ensures column { result.now ≡ column self.now.words.now k }

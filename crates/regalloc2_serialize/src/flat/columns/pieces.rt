@@ -5,7 +5,7 @@ ghost use Rattle.regalloc2_serialize.specs.Flat.Columns.Value.{part};
 
 use std::alloc::{Allocator, Global};
 
-/// The lists of several owners, one after another: those of number `k` lie from bound `k` up to bound `k + 1`.
+/// The lists of several owners, one after another: the list of owner `k` lies from bound `k` up to bound `k + 1`.
 #[derive(Drop)]
 pub struct Pieces<T, A: Allocator = Global> {
     /// All members.
@@ -17,7 +17,7 @@ pub struct Pieces<T, A: Allocator = Global> {
 }
 
 impl<T, A: Allocator> Pieces<T, A> {
-    /// The members of that number.
+    /// The list of owner `k`.
     pub fn part(&self, k: usize) -> &[T]
         requires { k + 1 < vec_len self.now.bounds }
         ensures { result.now ≡ part self.now.items.items self.now.bounds.items k }

@@ -52,7 +52,7 @@ fn operands_from<A: Allocator + Copy>(
     pieces_of(alloc, items, cut.column(OPERAND_ENDS))
 }
 
-/// The blocks of these words, in parts that end there.
+/// The blocks with the numbers `words`, in parts that end at `ends`.
 fn blocks_in<A: Allocator + Copy>(
     alloc: A,
     words: &[u32],
@@ -66,7 +66,7 @@ fn blocks_in<A: Allocator + Copy>(
     pieces_of(alloc, items, ends)
 }
 
-/// The vregs of these words, in parts that end there.
+/// The vregs that `words` encode, in parts that end at `ends`.
 fn vregs_in<A: Allocator + Copy>(
     alloc: A,
     words: &[u32],
@@ -153,7 +153,7 @@ fn function_from<A: Allocator + Copy>(
     let machine = machine_from(alloc, cut)?;
     let insts = insts_from(alloc, cut)?;
     let edges = edges_from(alloc, cut)?;
-    let (int_slot, float_slot, vector_slot) = sizes_of(header.sizes);
+    let (int_slot, float_slot, vector_slot) = sizes_of(header);
     Ok(FlatFunction {
         machine,
         kinds: insts.kinds,
@@ -176,10 +176,12 @@ fn function_from<A: Allocator + Copy>(
 }
 
 impl<A: Allocator + Copy> FlatFunction<A> {
-    /// The function and the machine that words lay out in columns.
+    /// Returns the function and the machine that `words` lay out in columns.
     ///
-    /// Of `Shape`, `Lengths`, `Index`, `Bits` and `Limit` the first whose test fails is answered, in this order, and nothing is
-    /// allocated before; `Memory` only where all five pass and a growth was refused.
+    /// # Errors
+    ///
+    /// The first of `Shape`, `Lengths`, `Index`, `Bits` and `Limit` whose test fails, in this order, before anything is
+    /// allocated; `Memory` if all five pass and memory runs out.
     pub fn read(alloc: A, words: &[u32]) -> Result<FlatFunction<A>, StoredFault>
         ensures function { IfOk result (λ f. IsLaidOutAs words.now (function_of_flat f)) }
         ensures machine { IfOk result (λ f. IsMachineOf words.now (machine_of f.machine)) }

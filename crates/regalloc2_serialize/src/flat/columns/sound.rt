@@ -2,20 +2,21 @@
 
 ghost use Rattle.std.specs.Prelude.{◌≡◌, ℕ, ◌↔◌, ◌+◌, ◌-◌, ◌*◌, ◌/◌, ◌%◌, ◌<◌, ◌≤◌, ◌^◌, IsTrue, All, IfOk, IfErr, length, slice_index};
 ghost use Rattle.regalloc2_names.specs.Packing.{IsRegisterIndex, IsVRegBits, IsOperandBits};
-ghost use Rattle.regalloc2_serialize.specs.Flat.Columns.Layout.{AreInColumns};
+ghost use Rattle.regalloc2_serialize.specs.Flat.Columns.Layout.{AreInColumns, int_log, float_log, vector_log, most_log};
 ghost use Rattle.regalloc2_serialize.specs.Flat.Columns.Value.{long_at};
 ghost use Rattle.regalloc2_serialize.specs.Flat.Columns.Sound.{Covers, AllCovered, AreColumnsWithin, ColumnsNameAll, ColumnsKeepLimits, AreSoundColumns};
 ghost use Rattle.regalloc2_serialize.specs.Flat.Columns.Sound.{ColumnsNameRegisters, ColumnsNameVRegs, IsColumnsFault};
 
 use super::cut::{
-    ARGUMENT_ENDS, ARGUMENTS, Cut, Header, INST_ENDS, KINDS, LABELS, OPERAND_ENDS, OPERANDS,
-    PARAM_ENDS, PARAMS, PRED_ENDS, PREDS, SCRATCH, SLOTS, SUCC_ENDS, SUCCS,
+    ARGUMENT_ENDS, ARGUMENTS, Cut, Header, INST_ENDS, KINDS, LABELS, MOST_LOG, OPERAND_ENDS,
+    OPERANDS, PARAM_ENDS, PARAMS, PRED_ENDS, PREDS, SCRATCH, SLOTS, SUCC_ENDS, SUCCS,
 };
-use crate::validate::{are_blocks, are_vregs};
+use crate::flat::long::from_halves;
+use crate::validate::{are_blocks, are_vregs, vreg_number};
 use regalloc2_function::StoredFault;
 use regalloc2_names::{Operand, PReg, VReg};
 
-/// Whether ends don't fall, and the last one, or 0 where there is none, is that number.
+/// Whether `ends` don't fall, and the last one, or 0 where there is none, is `count`.
 fn covers(ends: &[u32], count: u32) -> bool
     ensures { IsTrue result ↔ Covers ends.now count }
 {
@@ -29,80 +30,69 @@ fn covers(ends: &[u32], count: u32) -> bool
     at == count
 }
 
-/// Whether all have numbers of sets of clobbers up to that one.
+/// Whether the number of the set of clobbers in each of `kinds` is at most `count`.
 fn are_set_numbers(kinds: &[u32], count: u32) -> bool
     ensures { IsTrue result ↔ All (λ k. k / 4 ≤ count) kinds.now }
 {
     kinds.iter().all(|kind| *kind / 4 <= count)
 }
 
-/// Whether all say what an instruction is.
+/// Whether each of `kinds` says what an instruction is.
 fn are_kinds(kinds: &[u32]) -> bool
     ensures { IsTrue result ↔ All (λ k. k % 4 < 3) kinds.now }
 {
     kinds.iter().all(|kind| *kind % 4 < 3)
 }
 
-/// Whether all are 0 or one more than an index of a register.
+/// Whether each of `words` is 0 or one more than an index of a register.
 fn are_scratch_words(words: &[u32]) -> bool
     ensures { IsTrue result ↔ All (λ r. r ≤ 192) words.now }
 {
     words.iter().all(|word| *word <= 192)
 }
 
-/// Whether all are indexes of registers.
+/// Whether `words` are indexes of registers.
 fn are_register_words(words: &[u32]) -> bool
     ensures { IsTrue result ↔ All IsRegisterIndex words.now }
 {
     words.iter().all(|word| PReg::is_index(*word as usize))
 }
 
-/// A number of two words.
+/// The 64-bit number in the two words from `words[2 * k]` on, the lower half first.
 pub fn long(words: &[u32], k: usize) -> u64
     requires { 2 * k + 1 < length words.now }
     ensures { result ≡ long_at words.now k }
 {
-    u64::from(words[2 * k]) + u64::from(words[2 * k + 1]) * 4_294_967_296
+    from_halves(words[2 * k], words[2 * k + 1])
 }
 
-/// Whether the bits encode an operand. Most are under the first three constraints.
-#[inline(always)]
-fn is_operand(bits: u64) -> bool
-    ensures { IsTrue result ↔ IsOperandBits bits }
-{
-    if bits >> 36 < 3 {
-        return bits & 0xffff_ffff < 1 << 30 && (bits >> 32) & 0b11 != 0b11;
-    }
-    Operand::is_bits(bits)
-}
-
-/// Whether all are words of operands.
+/// Whether `words` encode `count` operands, two words each.
 fn are_operand_words(words: &[u32], count: usize) -> bool
     requires { length words.now ≡ 2 * count }
     ensures { IsTrue result ↔ ((k : ℕ) → k < count → IsOperandBits (long_at words.now k)) }
 {
     for k in 0..count {
-        if !is_operand(long(words, k)) {
+        if !Operand::is_bits(long(words, k)) {
             return false;
         }
     }
     true
 }
 
-/// Whether all labels are of vregs with a number below that one.
+/// Whether the number of the vreg of each of `count` labels is below `vregs`. A label is four words.
 fn are_labels_below(words: &[u32], count: usize, vregs: u32) -> bool
     requires { length words.now ≡ 4 * count }
     ensures { IsTrue result ↔ ((k : ℕ) → k < count → slice_index words.now (4 * k) / 4 < vregs) }
 {
     for k in 0..count {
-        if words[4 * k] / 4 >= vregs {
+        if vreg_number(words[4 * k]) >= vregs {
             return false;
         }
     }
     true
 }
 
-/// Whether all labels are of vregs.
+/// Whether the first word of each of `count` labels encodes a vreg. A label is four words.
 fn are_labels_of_vregs(words: &[u32], count: usize) -> bool
     requires { length words.now ≡ 4 * count }
     ensures { IsTrue result ↔ ((k : ℕ) → k < count → IsVRegBits (slice_index words.now (4 * k))) }
@@ -118,15 +108,15 @@ fn are_labels_of_vregs(words: &[u32], count: usize) -> bool
 impl Header {
     /// Whether the limits of each function are kept.
     fn keeps_limits(self) -> bool
-        ensures { IsTrue result ↔ (self.insts < 2 ^ 30) × (self.blocks < 2 ^ 32 - 1) × (self.vregs < 2 ^ 30) × (self.sizes % 256 ≤ 24)
-            × (self.sizes / 256 % 256 ≤ 24) × (self.sizes / 65536 ≤ 24) }
+        ensures { IsTrue result ↔ (self.insts < 2 ^ 30) × (self.blocks < 2 ^ 32 - 1) × (self.vregs < 2 ^ 30) × (int_log self.sizes ≤ most_log)
+            × (float_log self.sizes ≤ most_log) × (vector_log self.sizes ≤ most_log) }
     {
         self.insts < 1 << 30
             && self.blocks < u32::MAX
             && self.vregs < 1 << 30
-            && self.sizes % 256 <= 24
-            && self.sizes / 256 % 256 <= 24
-            && self.sizes / 65536 <= 24
+            && self.int_log() <= MOST_LOG
+            && self.float_log() <= MOST_LOG
+            && self.vector_log() <= MOST_LOG
     }
 }
 
@@ -164,14 +154,14 @@ impl<'a> Cut<'a> {
         are_labels_below(self.column(LABELS), header.labels as usize, header.vregs)
     }
 
-    /// Whether a machine's numbers are those of registers.
+    /// Whether the machine's numbers are indexes of registers.
     fn names_registers(&self) -> bool
         ensures { IsTrue result ↔ ColumnsNameRegisters self.now.words.now }
     {
         are_scratch_words(self.column(SCRATCH)) && are_register_words(self.column(SLOTS))
     }
 
-    /// Whether the numbers of parameters, arguments and labels are those of vregs.
+    /// Whether the numbers of parameters, arguments and labels encode vregs.
     fn names_vregs(&self) -> bool
         ensures { IsTrue result ↔ ColumnsNameVRegs self.now.words.now }
     {
@@ -207,7 +197,7 @@ impl<'a> Cut<'a> {
         self.header().keeps_limits()
     }
 
-    /// Tests columns, which allocates nothing.
+    /// Tests the columns. Allocates nothing.
     pub fn test(&self) -> Result<(), StoredFault>
         requires { AreInColumns self.now.words.now }
         ensures ok { IfOk result (λ _. AreSoundColumns self.now.words.now) }

@@ -5,10 +5,12 @@ ghost use Rattle.std.specs.List.{range_with_len};
 ghost use Rattle.regalloc2_names.specs.Packing.{IsRegisterIndex, IsVRegBits, IsOperandBits, register_of_bits, operand_of_bits};
 ghost use Rattle.regalloc2_function.specs.FunctionValue.{label_of};
 ghost use Rattle.regalloc2_serialize.specs.TableFunction.Table.{sizes_of_table};
+ghost use Rattle.regalloc2_serialize.specs.Flat.Columns.Layout.{int_log, float_log, vector_log, most_log};
 ghost use Rattle.regalloc2_serialize.specs.Flat.Columns.Value.{HasBits, HaveBits, AreNumbered, long_at, longs, label_at};
 ghost use Rattle.regalloc2_serialize.specs.Flat.Columns.Value.{scratch_of_word, column_sizes};
 ghost use Rattle.regalloc2_serialize.specs.Flat.Columns.Sound.{Covers};
 
+use super::cut::Header;
 use super::pieces::Pieces;
 use super::sound::long;
 use crate::table_function::SlotUnits;
@@ -16,7 +18,7 @@ use regalloc2_index::Inst;
 use regalloc2_names::{Operand, PReg, PRegSet, VReg};
 use std::alloc::{AllocError, Allocator};
 
-/// The set of the registers whose bits are 1 in six words.
+/// The set of the registers whose bits are 1 in the six words `words`.
 fn set_of(words: &[u32]) -> PRegSet
     requires { length words.now ≡ 6 }
     ensures { HasBits words.now result }
@@ -24,7 +26,7 @@ fn set_of(words: &[u32]) -> PRegSet
     PRegSet::from_words([long(words, 0), long(words, 1), long(words, 2)])
 }
 
-/// Three sets.
+/// The three sets of `words`, six words each.
 pub fn class_sets(words: &[u32]) -> [PRegSet; 3]
     requires { length words.now ≡ 18 }
     ensures { HaveBits words.now 3 result }
@@ -36,7 +38,7 @@ pub fn class_sets(words: &[u32]) -> [PRegSet; 3]
     ]
 }
 
-/// Sets by their numbers: 0 is that of the empty one.
+/// The `count` sets of `words`, six words each, by their numbers from 1; number 0 is the empty set.
 pub fn numbered_sets<A: Allocator>(
     alloc: A,
     words: &[u32],
@@ -53,7 +55,7 @@ pub fn numbered_sets<A: Allocator>(
     Ok(sets)
 }
 
-/// A scratch register, if there is one.
+/// The scratch register of `word`, which is 0 for none, or 1 more than an index.
 fn scratch_of(word: u32) -> Option<PReg>
     requires { word ≤ 192 }
     ensures { result ≡ scratch_of_word word }
@@ -65,7 +67,7 @@ fn scratch_of(word: u32) -> Option<PReg>
     }
 }
 
-/// The scratch registers.
+/// The scratch registers of `words`, by class.
 pub fn scratches_of(words: &[u32]) -> [Option<PReg>; 3]
     requires three { length words.now ≡ 3 }
     requires words { All (λ r. r ≤ 192) words.now }
@@ -78,7 +80,7 @@ pub fn scratches_of(words: &[u32]) -> [Option<PReg>; 3]
     ]
 }
 
-/// The registers with these indexes.
+/// The registers with the indexes `words`.
 pub fn registers_of<A: Allocator>(alloc: A, words: &[u32]) -> Result<Vec<PReg, A>, AllocError>
     requires { All IsRegisterIndex words.now }
     ensures { IfOk result (λ registers. registers.items ≡ map register_of_bits words.now) }
@@ -90,7 +92,7 @@ pub fn registers_of<A: Allocator>(alloc: A, words: &[u32]) -> Result<Vec<PReg, A
     Ok(registers)
 }
 
-/// The operands of these words, two for each.
+/// The `count` operands of `words`, two words each.
 pub fn operands_of<A: Allocator>(
     alloc: A,
     words: &[u32],
@@ -107,7 +109,7 @@ pub fn operands_of<A: Allocator>(
     Ok(operands)
 }
 
-/// The labels of these words, four for each.
+/// The `count` labels of `words`, four words each.
 pub fn labels_of<A: Allocator>(
     alloc: A,
     words: &[u32],
@@ -127,7 +129,7 @@ pub fn labels_of<A: Allocator>(
     Ok(labels)
 }
 
-/// The bounds of parts that end there.
+/// The bounds of the parts that end at `ends`.
 pub fn bounds_of<A: Allocator>(alloc: A, ends: &[u32]) -> Result<Vec<u32, A>, AllocError>
     ensures { IfOk result (λ bounds. bounds.items ≡ 0 ∷ ends.now) }
 {
@@ -137,7 +139,7 @@ pub fn bounds_of<A: Allocator>(alloc: A, ends: &[u32]) -> Result<Vec<u32, A>, Al
     Ok(bounds)
 }
 
-/// A list in parts that end there.
+/// The list `items` in parts that end at `ends`.
 pub fn pieces_of<T: Drop, A: Allocator>(
     alloc: A,
     items: Vec<T, A>,
@@ -150,24 +152,24 @@ pub fn pieces_of<T: Drop, A: Allocator>(
     Ok(Pieces { items, bounds })
 }
 
-/// The size of a slot.
+/// The size of a slot with the logarithm `log`.
 fn units_of(log: u32) -> SlotUnits
-    requires { log ≤ 24 }
+    requires { log ≤ most_log }
     ensures { result.units ≡ 2 ^ log }
 {
     SlotUnits { units: 1 << log }
 }
 
-/// The sizes of slots by class.
-pub fn sizes_of(sizes: u32) -> (SlotUnits, SlotUnits, SlotUnits)
-    requires int { sizes % 256 ≤ 24 }
-    requires float { sizes / 256 % 256 ≤ 24 }
-    requires vector { sizes / 65536 ≤ 24 }
-    ensures { sizes_of_table result.0 result.1 result.2 ≡ column_sizes sizes }
+/// The sizes of slots for integers, floating-point numbers and vectors.
+pub fn sizes_of(header: Header) -> (SlotUnits, SlotUnits, SlotUnits)
+    requires int { int_log header.sizes ≤ most_log }
+    requires float { float_log header.sizes ≤ most_log }
+    requires vector { vector_log header.sizes ≤ most_log }
+    ensures { sizes_of_table result.0 result.1 result.2 ≡ column_sizes header.sizes }
 {
     (
-        units_of(sizes % 256),
-        units_of(sizes / 256 % 256),
-        units_of(sizes / 65536),
+        units_of(header.int_log()),
+        units_of(header.float_log()),
+        units_of(header.vector_log()),
     )
 }

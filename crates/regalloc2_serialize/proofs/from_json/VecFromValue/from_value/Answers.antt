@@ -29,9 +29,6 @@ returns-in_err-push g c =
       faults = rw (p.1, p.2) (inr refl);
     }
 
-pub returns-in_err-datum-clause-ok : goal.returns-in_err-datum-clause-ok
-returns-in_err-datum-clause-ok g c = IfOk-from_err c.from_residual.result _ c.from_residual.ensures.0
-
 pub returns-in_err-datum-clause-faults : goal.returns-in_err-datum-clause-faults
 returns-in_err-datum-clause-faults g c =
     let p = err_from_is_err_and c.from_residual.result c.from_residual.ensures.1 in

@@ -1,4 +1,4 @@
-use Rattle.std.proofs.lemmas.Result.{err_from_is_err_and, IfOk-from_err}
+use Rattle.std.proofs.lemmas.Result.{err_from_is_err_and}
 use Rattle.serde_json.specs.View.{view}
 use Rattle.regalloc2_serialize.proofs.EncodedLists.{inst-read, no-inst-clobbers, no-inst-op, no-inst-operands}
 use Rattle.regalloc2_serialize.proofs.json_outputs.StoredInstFromValue.from_value.Goals as goal
@@ -23,20 +23,11 @@ returns-in_err-clobbers-clause-shape g c =
     rw (p.1, p.2) (λ is. no-inst-clobbers (view c.args.value.now) c.in_ok-op.op c.in_ok-operands.operands.items c.in_ok-op.ensures.ok c.in_ok-operands.ensures.ok
     (c.in_err-clobbers.ensures.shape is))
 
-pub returns-in_err-op-clause-ok : goal.returns-in_err-op-clause-ok
-returns-in_err-op-clause-ok g c = IfOk-from_err c.from_residual.result _ c.from_residual.ensures.0
-
 pub returns-in_err-op-clause-faults : goal.returns-in_err-op-clause-faults
 returns-in_err-op-clause-faults g c = let p = err_from_is_err_and c.from_residual.result c.from_residual.ensures.1 in rw (p.1, p.2) c.in_err-op.ensures.faults
 
-pub returns-in_err-operands-clause-ok : goal.returns-in_err-operands-clause-ok
-returns-in_err-operands-clause-ok g c = IfOk-from_err c.from_residual-in_err-operands.result _ c.from_residual-in_err-operands.ensures.0
-
 pub returns-in_err-operands-clause-faults : goal.returns-in_err-operands-clause-faults
 returns-in_err-operands-clause-faults g c = let p = err_from_is_err_and c.from_residual-in_err-operands.result c.from_residual-in_err-operands.ensures.1 in rw (p.1, p.2) c.in_err-operands.ensures.faults
-
-pub returns-in_err-clobbers-clause-ok : goal.returns-in_err-clobbers-clause-ok
-returns-in_err-clobbers-clause-ok g c = IfOk-from_err c.from_residual-in_err-clobbers.result _ c.from_residual-in_err-clobbers.ensures.0
 
 pub returns-in_err-clobbers-clause-faults : goal.returns-in_err-clobbers-clause-faults
 returns-in_err-clobbers-clause-faults g c = let p = err_from_is_err_and c.from_residual-in_err-clobbers.result c.from_residual-in_err-clobbers.ensures.1 in rw (p.1, p.2) c.in_err-clobbers.ensures.faults

@@ -1,5 +1,5 @@
 use Rattle.std.proofs.Common.{refl}
-use Rattle.std.proofs.lemmas.Result.{IfOk-from_err, err_from_is_err_and}
+use Rattle.std.proofs.lemmas.Result.{err_from_is_err_and}
 use Rattle.serde_json.specs.View.{view}
 use Rattle.regalloc2_serialize.proofs.EncodedLists.{machine-read}
 use Rattle.regalloc2_serialize.proofs.json_outputs.StoredMachineFromValue.from_value.Goals as goal
@@ -12,26 +12,14 @@ returns-clause-ok g c =
     c.in_ok-preferred_regs_by_class.ensures.ok c.in_ok-non_preferred_regs_by_class.ensures.ok c.in_ok-scratch_by_class.ensures.ok
     c.in_ok-fixed_stack_slots.ensures.ok
 
-pub returns-in_err-preferred_regs_by_class-clause-ok : goal.returns-in_err-preferred_regs_by_class-clause-ok
-returns-in_err-preferred_regs_by_class-clause-ok g c = IfOk-from_err c.from_residual.result _ c.from_residual.ensures.0
-
 pub returns-in_err-preferred_regs_by_class-clause-faults : goal.returns-in_err-preferred_regs_by_class-clause-faults
 returns-in_err-preferred_regs_by_class-clause-faults g c = let p = err_from_is_err_and c.from_residual.result c.from_residual.ensures.1 in rw (p.1, p.2) c.in_err-preferred_regs_by_class.ensures.faults
-
-pub returns-in_err-non_preferred_regs_by_class-clause-ok : goal.returns-in_err-non_preferred_regs_by_class-clause-ok
-returns-in_err-non_preferred_regs_by_class-clause-ok g c = IfOk-from_err c.from_residual-in_err-non_preferred_regs_by_class.result _ c.from_residual-in_err-non_preferred_regs_by_class.ensures.0
 
 pub returns-in_err-non_preferred_regs_by_class-clause-faults : goal.returns-in_err-non_preferred_regs_by_class-clause-faults
 returns-in_err-non_preferred_regs_by_class-clause-faults g c = let p = err_from_is_err_and c.from_residual-in_err-non_preferred_regs_by_class.result c.from_residual-in_err-non_preferred_regs_by_class.ensures.1 in rw (p.1, p.2) c.in_err-non_preferred_regs_by_class.ensures.faults
 
-pub returns-in_err-scratch_by_class-clause-ok : goal.returns-in_err-scratch_by_class-clause-ok
-returns-in_err-scratch_by_class-clause-ok g c = IfOk-from_err c.from_residual-in_err-scratch_by_class.result _ c.from_residual-in_err-scratch_by_class.ensures.0
-
 pub returns-in_err-scratch_by_class-clause-faults : goal.returns-in_err-scratch_by_class-clause-faults
 returns-in_err-scratch_by_class-clause-faults g c = let p = err_from_is_err_and c.from_residual-in_err-scratch_by_class.result c.from_residual-in_err-scratch_by_class.ensures.1 in rw (p.1, p.2) c.in_err-scratch_by_class.ensures.faults
-
-pub returns-in_err-fixed_stack_slots-clause-ok : goal.returns-in_err-fixed_stack_slots-clause-ok
-returns-in_err-fixed_stack_slots-clause-ok g c = IfOk-from_err c.from_residual-in_err-fixed_stack_slots.result _ c.from_residual-in_err-fixed_stack_slots.ensures.0
 
 pub returns-in_err-fixed_stack_slots-clause-faults : goal.returns-in_err-fixed_stack_slots-clause-faults
 returns-in_err-fixed_stack_slots-clause-faults g c = let p = err_from_is_err_and c.from_residual-in_err-fixed_stack_slots.result c.from_residual-in_err-fixed_stack_slots.ensures.1 in rw (p.1, p.2) c.in_err-fixed_stack_slots.ensures.faults

@@ -1,5 +1,5 @@
 use Rattle.std.proofs.Common.{refl}
-use Rattle.std.proofs.lemmas.Result.{IfOk-from_err, err_from_is_err_and}
+use Rattle.std.proofs.lemmas.Result.{err_from_is_err_and}
 use Rattle.serde_json.specs.View.{view}
 use Rattle.regalloc2_serialize.proofs.EncodedLists.{output-read}
 use Rattle.regalloc2_serialize.proofs.json_outputs.StoredOutputFromValue.from_value.Goals as goal
@@ -10,32 +10,17 @@ returns-clause-ok g c =
     c.in_ok-inst_alloc_offsets.inst_alloc_offsets.items c.in_ok-debug_locations.debug_locations.items c.in_ok-num_spillslots.ensures.ok
     c.in_ok-edits.ensures.ok c.in_ok-allocs.ensures.ok c.in_ok-inst_alloc_offsets.ensures.ok c.in_ok-debug_locations.ensures.ok
 
-pub returns-in_err-num_spillslots-clause-ok : goal.returns-in_err-num_spillslots-clause-ok
-returns-in_err-num_spillslots-clause-ok g c = IfOk-from_err c.from_residual.result _ c.from_residual.ensures.0
-
 pub returns-in_err-num_spillslots-clause-faults : goal.returns-in_err-num_spillslots-clause-faults
 returns-in_err-num_spillslots-clause-faults g c = let p = err_from_is_err_and c.from_residual.result c.from_residual.ensures.1 in rw (p.1, p.2) c.in_err-num_spillslots.ensures.faults
-
-pub returns-in_err-edits-clause-ok : goal.returns-in_err-edits-clause-ok
-returns-in_err-edits-clause-ok g c = IfOk-from_err c.from_residual-in_err-edits.result _ c.from_residual-in_err-edits.ensures.0
 
 pub returns-in_err-edits-clause-faults : goal.returns-in_err-edits-clause-faults
 returns-in_err-edits-clause-faults g c = let p = err_from_is_err_and c.from_residual-in_err-edits.result c.from_residual-in_err-edits.ensures.1 in rw (p.1, p.2) c.in_err-edits.ensures.faults
 
-pub returns-in_err-allocs-clause-ok : goal.returns-in_err-allocs-clause-ok
-returns-in_err-allocs-clause-ok g c = IfOk-from_err c.from_residual-in_err-allocs.result _ c.from_residual-in_err-allocs.ensures.0
-
 pub returns-in_err-allocs-clause-faults : goal.returns-in_err-allocs-clause-faults
 returns-in_err-allocs-clause-faults g c = let p = err_from_is_err_and c.from_residual-in_err-allocs.result c.from_residual-in_err-allocs.ensures.1 in rw (p.1, p.2) c.in_err-allocs.ensures.faults
 
-pub returns-in_err-inst_alloc_offsets-clause-ok : goal.returns-in_err-inst_alloc_offsets-clause-ok
-returns-in_err-inst_alloc_offsets-clause-ok g c = IfOk-from_err c.from_residual-in_err-inst_alloc_offsets.result _ c.from_residual-in_err-inst_alloc_offsets.ensures.0
-
 pub returns-in_err-inst_alloc_offsets-clause-faults : goal.returns-in_err-inst_alloc_offsets-clause-faults
 returns-in_err-inst_alloc_offsets-clause-faults g c = let p = err_from_is_err_and c.from_residual-in_err-inst_alloc_offsets.result c.from_residual-in_err-inst_alloc_offsets.ensures.1 in rw (p.1, p.2) c.in_err-inst_alloc_offsets.ensures.faults
-
-pub returns-in_err-debug_locations-clause-ok : goal.returns-in_err-debug_locations-clause-ok
-returns-in_err-debug_locations-clause-ok g c = IfOk-from_err c.from_residual-in_err-debug_locations.result _ c.from_residual-in_err-debug_locations.ensures.0
 
 pub returns-in_err-debug_locations-clause-faults : goal.returns-in_err-debug_locations-clause-faults
 returns-in_err-debug_locations-clause-faults g c = let p = err_from_is_err_and c.from_residual-in_err-debug_locations.result c.from_residual-in_err-debug_locations.ensures.1 in rw (p.1, p.2) c.in_err-debug_locations.ensures.faults

@@ -6,7 +6,6 @@ use Rattle.regalloc2_function.specs.FunctionValue.{FunctionValue, block_at, inst
 use Rattle.regalloc2_serialize.specs.CopyOfFunction.{shown_inst}
 use Rattle.regalloc2_serialize.specs.TableFunction.Table.{inst_of_table}
 use Rattle.regalloc2_serialize.proofs.RewriteLemmas.SplitInsts.{ends-within, inst-shown}
-use Rattle.std.proofs.lemmas.Result.{err_from_is_err_and}
 use Rattle.std.specs.List.{range_with_len}
 use Rattle.regalloc2_serialize.proofs.rewrite.copied.copied_insts.Goals as goal
 
@@ -54,18 +53,6 @@ loop-k-preserved g c =
       c.loop-k.invariant,
       here,
     ) refl
-
-pub returns-in_err-insts : goal.returns-in_err-insts
-returns-in_err-insts g c =
-    let p = err_from_is_err_and c.from_residual.result c.from_residual.ensures.1 in rw p.1 tt
-
-pub returns-in_err-copy : goal.returns-in_err-copy
-returns-in_err-copy g c =
-    let p = err_from_is_err_and c.from_residual-in_err-copy.result c.from_residual-in_err-copy.ensures.1 in rw p.1 tt
-
-pub returns-in_err-push : goal.returns-in_err-push
-returns-in_err-push g c =
-    let p = err_from_is_err_and c.from_residual-in_err-push.result c.from_residual-in_err-push.ensures.1 in rw p.1 tt
 
 pub block_insns-range-requires : goal.block_insns-range-requires
 block_insns-range-requires g c = c.requires.block

@@ -1,4 +1,3 @@
-use Rattle.std.proofs.lemmas.Result.{IfOk-from_err}
 use Rattle.std.proofs.Common.{refl, map}
 use Rattle.regalloc2_function.specs.FunctionValue.{FunctionValue}
 use Rattle.regalloc2_serialize.specs.TableFunction.Table.{function_of_table}
@@ -19,6 +18,3 @@ returns-clause-ok g c =
       labels = refl;
       allows_multiple_defs = c.allow_multiple_vreg_defs.ensures;
     }
-
-pub returns-in_err-built-clause-ok : goal.returns-in_err-built-clause-ok
-returns-in_err-built-clause-ok g c = IfOk-from_err c.from_residual.result _ c.from_residual.ensures.0

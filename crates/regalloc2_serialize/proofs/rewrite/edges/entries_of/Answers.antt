@@ -1,4 +1,3 @@
-use Rattle.std.proofs.lemmas.Result.{IfOk-from_err}
 use Rattle.std.proofs.Common.{arith, ◌≡◌, ◌∙◌, ◌+◌, ◌∷◌, [], ℕ, List, length, ap, subst, get_or}
 use Rattle.std.specs.Prelude.{slice_index}
 use Rattle.regalloc2_function.specs.FunctionValue.{FunctionValue, block_at}
@@ -47,9 +46,6 @@ loop-block-init g c =
           ∙ get_or-replicate c.num_blocks.result t 0 0 (omega (arith, less, c.num_blocks.ensures.count)) in
           (λ low. none, λ low. none));
     }
-
-pub returns-in_err-counts : goal.returns-in_err-counts
-returns-in_err-counts g c = IfOk-from_err c.from_residual.result _ c.from_residual.ensures.0
 
 pub new-requires : goal.new-requires
 new-requires g c = omega (arith, c.loop-block-test.true, c.num_blocks-block-end.ensures.limit)

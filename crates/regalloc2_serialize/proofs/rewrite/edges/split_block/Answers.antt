@@ -7,41 +7,9 @@ split_edges-requires g c = c.requires
 pub copied_insts-requires : goal.copied_insts-requires
 copied_insts-requires g c = record { framed = c.requires.counted.framed; block = c.requires.counted.block }
 
-pub returns-in_err-succs-clause-ok : goal.returns-in_err-succs-clause-ok
-returns-in_err-succs-clause-ok g c =
-    let p = err_from_is_err_and c.from_residual.result c.from_residual.ensures.1 in rw p.1 tt
-
-pub returns-in_err-succs-clause-jumps : goal.returns-in_err-succs-clause-jumps
-returns-in_err-succs-clause-jumps g c =
-    let p = err_from_is_err_and c.from_residual.result c.from_residual.ensures.1 in rw p.1 tt
-
 pub returns-in_err-succs-clause-err : goal.returns-in_err-succs-clause-err
 returns-in_err-succs-clause-err g c =
     let p = err_from_is_err_and c.from_residual.result c.from_residual.ensures.1 in rw (p.1, p.2) c.in_err-succs.ensures.err
-
-pub returns-in_err-to_vec-clause-ok : goal.returns-in_err-to_vec-clause-ok
-returns-in_err-to_vec-clause-ok g c =
-    let p = err_from_is_err_and c.from_residual-in_err-to_vec.result c.from_residual-in_err-to_vec.ensures.1 in rw p.1 tt
-
-pub returns-in_err-to_vec-clause-jumps : goal.returns-in_err-to_vec-clause-jumps
-returns-in_err-to_vec-clause-jumps g c =
-    let p = err_from_is_err_and c.from_residual-in_err-to_vec.result c.from_residual-in_err-to_vec.ensures.1 in rw p.1 tt
-
-pub returns-in_err-to_vec-clause-err : goal.returns-in_err-to_vec-clause-err
-returns-in_err-to_vec-clause-err g c =
-    let p = err_from_is_err_and c.from_residual-in_err-to_vec.result c.from_residual-in_err-to_vec.ensures.1 in rw (p.1, p.2) tt
-
-pub returns-in_err-copied_insts-clause-ok : goal.returns-in_err-copied_insts-clause-ok
-returns-in_err-copied_insts-clause-ok g c =
-    let p = err_from_is_err_and c.from_residual-in_err-copied_insts.result c.from_residual-in_err-copied_insts.ensures.1 in rw p.1 tt
-
-pub returns-in_err-copied_insts-clause-jumps : goal.returns-in_err-copied_insts-clause-jumps
-returns-in_err-copied_insts-clause-jumps g c =
-    let p = err_from_is_err_and c.from_residual-in_err-copied_insts.result c.from_residual-in_err-copied_insts.ensures.1 in rw p.1 tt
-
-pub returns-in_err-copied_insts-clause-err : goal.returns-in_err-copied_insts-clause-err
-returns-in_err-copied_insts-clause-err g c =
-    let p = err_from_is_err_and c.from_residual-in_err-copied_insts.result c.from_residual-in_err-copied_insts.ensures.1 in rw (p.1, p.2) tt
 
 pub block_params-requires : goal.block_params-requires
 block_params-requires g c = c.requires.counted.block

@@ -47,37 +47,9 @@ returns-clause-ok g c =
     ∙ all-made c.args.none f c.loop-block.block (map draft_of c.loop-block.drafts.items) (map draft_of c.loop-block.jumps.items) all
     c.loop-block.invariant.drafts c.loop-block.invariant.jumps
 
-pub returns-in_err-entries-clause-ok : goal.returns-in_err-entries-clause-ok
-returns-in_err-entries-clause-ok g c =
-    let p = err_from_is_err_and c.from_residual.result c.from_residual.ensures.1 in rw p.1 tt
-
-pub returns-in_err-entries-clause-err : goal.returns-in_err-entries-clause-err
-returns-in_err-entries-clause-err g c =
-    let p = err_from_is_err_and c.from_residual.result c.from_residual.ensures.1 in rw (p.1, p.2) tt
-
-pub returns-in_err-draft-clause-ok : goal.returns-in_err-draft-clause-ok
-returns-in_err-draft-clause-ok g c =
-    let p = err_from_is_err_and c.from_residual-in_err-draft.result c.from_residual-in_err-draft.ensures.1 in rw p.1 tt
-
 pub returns-in_err-draft-clause-err : goal.returns-in_err-draft-clause-err
 returns-in_err-draft-clause-err g c =
     let p = err_from_is_err_and c.from_residual-in_err-draft.result c.from_residual-in_err-draft.ensures.1 in rw (p.1, p.2) c.in_err-draft.ensures.err
-
-pub returns-in_err-push-clause-ok : goal.returns-in_err-push-clause-ok
-returns-in_err-push-clause-ok g c =
-    let p = err_from_is_err_and c.from_residual-in_err-push.result c.from_residual-in_err-push.ensures.1 in rw p.1 tt
-
-pub returns-in_err-push-clause-err : goal.returns-in_err-push-clause-err
-returns-in_err-push-clause-err g c =
-    let p = err_from_is_err_and c.from_residual-in_err-push.result c.from_residual-in_err-push.ensures.1 in rw (p.1, p.2) tt
-
-pub returns-in_err-extend-clause-ok : goal.returns-in_err-extend-clause-ok
-returns-in_err-extend-clause-ok g c =
-    let p = err_from_is_err_and c.from_residual-in_err-extend.result c.from_residual-in_err-extend.ensures.1 in rw p.1 tt
-
-pub returns-in_err-extend-clause-err : goal.returns-in_err-extend-clause-err
-returns-in_err-extend-clause-err g c =
-    let p = err_from_is_err_and c.from_residual-in_err-extend.result c.from_residual-in_err-extend.ensures.1 in rw (p.1, p.2) tt
 
 pub entries_of-requires : goal.entries_of-requires
 entries_of-requires g c = c.requires.framed.successors

@@ -7,7 +7,6 @@ use Rattle.regalloc2_serialize.specs.TableFunction.Draft.{DraftValue, draft_of}
 use Rattle.regalloc2_serialize.specs.Rewrite.SplitEdges.{is_critical, jump_on}
 use Rattle.regalloc2_serialize.proofs.RewriteLemmas.EdgeLists.{edge}
 use Rattle.regalloc2_serialize.proofs.RewriteLemmas.SplitSteps.{critical-jumps, critical-more, critical-succ, jump-made, plain-jumps}
-use Rattle.std.proofs.lemmas.Result.{err_from_is_err_and}
 use Rattle.regalloc2_serialize.proofs.rewrite.edges.split_edge.Goals as goal
 
 last-of : (first end last : ℕ) → first < end → last ≡ end - 1 → (last + 1 ≡ end) × (first ≤ last)
@@ -92,15 +91,6 @@ branch_blockparams-requires-clause-nonempty g c =
 pub branch_blockparams-requires-clause-position : goal.branch_blockparams-requires-clause-position
 branch_blockparams-requires-clause-position g c = c.requires.position
 
-pub returns-in_err-arguments-clause-ends : goal.returns-in_err-arguments-clause-ends
-returns-in_err-arguments-clause-ends g c = let p = err_from_is_err_and c.from_residual.result c.from_residual.ensures.1 in rw p.1 tt
-
-pub returns-in_err-arguments-clause-jumps : goal.returns-in_err-arguments-clause-jumps
-returns-in_err-arguments-clause-jumps g c = let p = err_from_is_err_and c.from_residual.result c.from_residual.ensures.1 in rw p.1 tt
-
-pub returns-in_err-arguments-clause-err : goal.returns-in_err-arguments-clause-err
-returns-in_err-arguments-clause-err g c = let p = err_from_is_err_and c.from_residual.result c.from_residual.ensures.1 in rw (p.1, p.2) tt
-
 pub returns-then-not-has_critical_edge-clause-ends : goal.returns-then-not-has_critical_edge-clause-ends
 returns-then-not-has_critical_edge-clause-ends g c =
     let f : FunctionValue = g.F.Function.function c.args.f.now in
@@ -114,30 +104,6 @@ returns-then-not-has_critical_edge-clause-ends g c =
     let passed : c.in_ok-arguments.arguments.items ≡ arguments_at f b k =
     c.in_ok-arguments.ensures.items_if_clones_equal (λ x y h. h) ∙ c.branch_blockparams.ensures in
     rw plain (to, passed)
-
-pub returns-in_err-jump-clause-ends : goal.returns-in_err-jump-clause-ends
-returns-in_err-jump-clause-ends g c =
-    let p = err_from_is_err_and c.from_residual-in_err-jump.result c.from_residual-in_err-jump.ensures.1 in rw p.1 tt
-
-pub returns-in_err-jump-clause-jumps : goal.returns-in_err-jump-clause-jumps
-returns-in_err-jump-clause-jumps g c =
-    let p = err_from_is_err_and c.from_residual-in_err-jump.result c.from_residual-in_err-jump.ensures.1 in rw p.1 tt
-
-pub returns-in_err-jump-clause-err : goal.returns-in_err-jump-clause-err
-returns-in_err-jump-clause-err g c =
-    let p = err_from_is_err_and c.from_residual-in_err-jump.result c.from_residual-in_err-jump.ensures.1 in rw (p.1, p.2) tt
-
-pub returns-in_err-push-clause-ends : goal.returns-in_err-push-clause-ends
-returns-in_err-push-clause-ends g c =
-    let p = err_from_is_err_and c.from_residual-in_err-push.result c.from_residual-in_err-push.ensures.1 in rw p.1 tt
-
-pub returns-in_err-push-clause-jumps : goal.returns-in_err-push-clause-jumps
-returns-in_err-push-clause-jumps g c =
-    let p = err_from_is_err_and c.from_residual-in_err-push.result c.from_residual-in_err-push.ensures.1 in rw p.1 tt
-
-pub returns-in_err-push-clause-err : goal.returns-in_err-push-clause-err
-returns-in_err-push-clause-err g c =
-    let p = err_from_is_err_and c.from_residual-in_err-push.result c.from_residual-in_err-push.ensures.1 in rw (p.1, p.2) tt
 
 pub last-last-requires : goal.last-last-requires
 last-last-requires g c = rw c.block_insns.ensures (c.requires.to_split.counted.framed.follow c.args.block c.requires.to_split.counted.block).0

@@ -45,38 +45,6 @@ returns-clause-jumps g c =
     omega (arith, c.loop-k-test.false, c.loop-k.auto.k-end, ap length c.block_succs-k-end.ensures) in
     jumps-next c.args.none f c.args.block c.loop-k.k (map draft_of c.loop-k.jumps.items) all c.loop-k.invariant.jumps
 
-pub returns-in_err-succ-clause-ends : goal.returns-in_err-succ-clause-ends
-returns-in_err-succ-clause-ends g c =
-    let p = err_from_is_err_and c.from_residual.result c.from_residual.ensures.1 in rw p.1 tt
-
-pub returns-in_err-succ-clause-jumps : goal.returns-in_err-succ-clause-jumps
-returns-in_err-succ-clause-jumps g c =
-    let p = err_from_is_err_and c.from_residual.result c.from_residual.ensures.1 in rw p.1 tt
-
 pub returns-in_err-succ-clause-err : goal.returns-in_err-succ-clause-err
 returns-in_err-succ-clause-err g c =
     let p = err_from_is_err_and c.from_residual.result c.from_residual.ensures.1 in rw (p.1, p.2) c.in_err-succ.ensures.err
-
-pub returns-in_err-push-clause-ends : goal.returns-in_err-push-clause-ends
-returns-in_err-push-clause-ends g c =
-    let p = err_from_is_err_and c.from_residual-in_err-push.result c.from_residual-in_err-push.ensures.1 in rw p.1 tt
-
-pub returns-in_err-push-clause-jumps : goal.returns-in_err-push-clause-jumps
-returns-in_err-push-clause-jumps g c =
-    let p = err_from_is_err_and c.from_residual-in_err-push.result c.from_residual-in_err-push.ensures.1 in rw p.1 tt
-
-pub returns-in_err-push-clause-err : goal.returns-in_err-push-clause-err
-returns-in_err-push-clause-err g c =
-    let p = err_from_is_err_and c.from_residual-in_err-push.result c.from_residual-in_err-push.ensures.1 in rw (p.1, p.2) tt
-
-pub returns-in_err-push-2-clause-ends : goal.returns-in_err-push-2-clause-ends
-returns-in_err-push-2-clause-ends g c =
-    let p = err_from_is_err_and c.from_residual-in_err-push-2.result c.from_residual-in_err-push-2.ensures.1 in rw p.1 tt
-
-pub returns-in_err-push-2-clause-jumps : goal.returns-in_err-push-2-clause-jumps
-returns-in_err-push-2-clause-jumps g c =
-    let p = err_from_is_err_and c.from_residual-in_err-push-2.result c.from_residual-in_err-push-2.ensures.1 in rw p.1 tt
-
-pub returns-in_err-push-2-clause-err : goal.returns-in_err-push-2-clause-err
-returns-in_err-push-2-clause-err g c =
-    let p = err_from_is_err_and c.from_residual-in_err-push-2.result c.from_residual-in_err-push-2.ensures.1 in rw (p.1, p.2) tt

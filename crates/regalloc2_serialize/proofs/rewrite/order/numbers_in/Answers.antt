@@ -1,4 +1,3 @@
-use Rattle.std.proofs.lemmas.Result.{IfOk-from_err}
 use Rattle.std.proofs.Common.{arith, ◌≡◌, ◌∙◌, ℕ, ◌<◌, List, length, get_or, subst, take, sym, ap}
 use Rattle.std.specs.Prelude.{◌≢◌, All, slice_index}
 use Rattle.std.proofs.lemmas.Bool.{false≢true}
@@ -72,6 +71,3 @@ loop-n-init g c = record {
   marked = λ b less. ap (λ (ns : List ℕ). get_or ns b 0) (c.in_ok-numbers.ensures.items_if_clones_equal (λ y h. h))
       ∙ get_or-replicate c.args.count b c.invalid.result 0 less ∙ c.invalid.ensures ∙ sym (marked-none c.args.order.now b);
 }
-
-pub returns-in_err-numbers-clause-ok : goal.returns-in_err-numbers-clause-ok
-returns-in_err-numbers-clause-ok g c = IfOk-from_err c.from_residual.result _ c.from_residual.ensures.0

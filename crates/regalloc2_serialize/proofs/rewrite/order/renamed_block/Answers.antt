@@ -1,4 +1,3 @@
-use Rattle.std.proofs.lemmas.Result.{err_from_is_err_and}
 use Rattle.std.proofs.Common.{◌∙◌, refl}
 use Rattle.regalloc2_serialize.proofs.rewrite.order.renamed_block.Goals as goal
 
@@ -10,22 +9,6 @@ renamed_succs-requires g c = rw (c.block_succs.ensures, c.requires.numbers) (c.r
 
 pub copied_arguments-requires : goal.copied_arguments-requires
 copied_arguments-requires g c = record { block = c.requires.block; nonempty = (c.requires.framed.follow c.args.block c.requires.block).0 }
-
-pub returns-in_err-to_vec : goal.returns-in_err-to_vec
-returns-in_err-to_vec g c =
-    let p = err_from_is_err_and c.from_residual.result c.from_residual.ensures.1 in rw p.1 tt
-
-pub returns-in_err-copied_insts : goal.returns-in_err-copied_insts
-returns-in_err-copied_insts g c =
-    let p = err_from_is_err_and c.from_residual-in_err-copied_insts.result c.from_residual-in_err-copied_insts.ensures.1 in rw p.1 tt
-
-pub returns-in_err-renamed_succs : goal.returns-in_err-renamed_succs
-returns-in_err-renamed_succs g c =
-    let p = err_from_is_err_and c.from_residual-in_err-renamed_succs.result c.from_residual-in_err-renamed_succs.ensures.1 in rw p.1 tt
-
-pub returns-in_err-copied_arguments : goal.returns-in_err-copied_arguments
-returns-in_err-copied_arguments g c =
-    let p = err_from_is_err_and c.from_residual-in_err-copied_arguments.result c.from_residual-in_err-copied_arguments.ensures.1 in rw p.1 tt
 
 pub block_params-requires : goal.block_params-requires
 block_params-requires g c = c.requires.block

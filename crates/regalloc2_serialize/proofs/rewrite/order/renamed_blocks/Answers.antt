@@ -4,7 +4,6 @@ use Rattle.regalloc2_function.specs.FunctionValue.{FunctionValue}
 use Rattle.regalloc2_serialize.specs.TableFunction.Draft.{draft_of}
 use Rattle.regalloc2_serialize.specs.Rewrite.Renumbered.{renamed}
 use Rattle.regalloc2_serialize.proofs.RewriteLemmas.Lists.{map-taken}
-use Rattle.std.proofs.lemmas.Result.{err_from_is_err_and}
 use Rattle.std.proofs.lemmas.List.{take_all}
 use Rattle.regalloc2_serialize.proofs.rewrite.order.renamed_blocks.Goals as goal
 
@@ -27,18 +26,6 @@ loop-block-preserved g c =
     ap (map draft_of) e
     ∙ map-taken draft_of (renamed number f) c.loop-block.drafts.items c.in_ok-draft.draft c.args.order.now c.loop-block.block-index
     c.block-item.result c.loop-block-test.true is c.in_ok-draft.ensures c.loop-block.invariant
-
-pub returns-in_err-drafts : goal.returns-in_err-drafts
-returns-in_err-drafts g c =
-    let p = err_from_is_err_and c.from_residual.result c.from_residual.ensures.1 in rw p.1 tt
-
-pub returns-in_err-draft : goal.returns-in_err-draft
-returns-in_err-draft g c =
-    let p = err_from_is_err_and c.from_residual-in_err-draft.result c.from_residual-in_err-draft.ensures.1 in rw p.1 tt
-
-pub returns-in_err-push : goal.returns-in_err-push
-returns-in_err-push g c =
-    let p = err_from_is_err_and c.from_residual-in_err-push.result c.from_residual-in_err-push.ensures.1 in rw p.1 tt
 
 pub loop-block-init : goal.loop-block-init
 loop-block-init g c = ap (map draft_of) c.in_ok-drafts.ensures.items

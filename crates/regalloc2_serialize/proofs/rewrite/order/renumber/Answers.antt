@@ -54,25 +54,9 @@ returns-in_err-laid_like-clause-err g c =
     rw (p.1, p.2) (unbuilt-by-table f order numbers (map draft_of c.in_ok-drafts.drafts.items) framed is table same _ (g.met.F.Function.limited c.args.f.now)
     c.in_err-laid_like.ensures.err)
 
-pub returns-in_err-numbers-clause-ok : goal.returns-in_err-numbers-clause-ok
-returns-in_err-numbers-clause-ok g c =
-    let p = err_from_is_err_and c.from_residual.result c.from_residual.ensures.1 in rw p.1 tt
-
 pub returns-in_err-numbers-clause-err : goal.returns-in_err-numbers-clause-err
 returns-in_err-numbers-clause-err g c =
     let p = err_from_is_err_and c.from_residual.result c.from_residual.ensures.1 in rw (p.1, p.2) (as_refused (g.F.Function.function c.args.f.now) c.args.order.now c.num_blocks.result _ c.num_blocks.ensures.count c.in_err-numbers.ensures.err)
-
-pub returns-in_err-drafts-clause-ok : goal.returns-in_err-drafts-clause-ok
-returns-in_err-drafts-clause-ok g c =
-    let p = err_from_is_err_and c.from_residual-in_err-drafts.result c.from_residual-in_err-drafts.ensures.1 in rw p.1 tt
-
-pub returns-in_err-drafts-clause-err : goal.returns-in_err-drafts-clause-err
-returns-in_err-drafts-clause-err g c =
-    let p = err_from_is_err_and c.from_residual-in_err-drafts.result c.from_residual-in_err-drafts.ensures.1 in rw (p.1, p.2) tt
-
-pub returns-in_err-laid_like-clause-ok : goal.returns-in_err-laid_like-clause-ok
-returns-in_err-laid_like-clause-ok g c =
-    let p = err_from_is_err_and c.from_residual-in_err-laid_like.result c.from_residual-in_err-laid_like.ensures.1 in rw p.1 tt
 
 pub returns-then-not-is_framed-clause-err : goal.returns-then-not-is_framed-clause-err
 returns-then-not-is_framed-clause-err g c = λ framed. absurd (false≢true (sym c.if-not-is_framed.true ∙ c.is_framed.ensures.1 framed))

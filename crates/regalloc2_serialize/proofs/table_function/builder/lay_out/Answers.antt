@@ -1,6 +1,6 @@
 use Rattle.std.proofs.Common.{length, sym, ap, ◌∙◌, arith, append_assoc}
 use Rattle.std.proofs.lemmas.List.{length-map, map-id}
-use Rattle.std.proofs.lemmas.Result.{err_from_is_err_and, IfOk-from_err}
+use Rattle.std.proofs.lemmas.Result.{err_from_is_err_and}
 use Rattle.std.proofs.lemmas.Iterator.Adapters.{YieldsList-from_vec}
 use Rattle.std.proofs.lemmas.Iterator.Consumers.{YieldsList-end}
 use Rattle.std.specs.Vec.Iter.{into_iter_items}
@@ -32,15 +32,6 @@ returns-clause-insts g c =
     let all = YieldsList-end first c.loop-draft.yielded c.loop-draft.draft-iterator c.loop-draft.yielded_by c.next.result c.next.new.self c.in-None.is
     c.next.ensures.steps in
     rw (← all.0, map-id) c.loop-draft.invariant.insts
-
-pub returns-in_err-place-clause-blocks : goal.returns-in_err-place-clause-blocks
-returns-in_err-place-clause-blocks g c = IfOk-from_err c.from_residual.result _ c.from_residual.ensures.0
-
-pub returns-in_err-place-clause-insts : goal.returns-in_err-place-clause-insts
-returns-in_err-place-clause-insts g c = IfOk-from_err c.from_residual.result _ c.from_residual.ensures.0
-
-pub returns-in_err-place-clause-few : goal.returns-in_err-place-clause-few
-returns-in_err-place-clause-few g c = IfOk-from_err c.from_residual.result _ c.from_residual.ensures.0
 
 pub returns-clause-blocks : goal.returns-clause-blocks
 returns-clause-blocks g c =

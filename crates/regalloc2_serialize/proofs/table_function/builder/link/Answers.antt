@@ -50,12 +50,6 @@ loop-number-init g c = record { others = refl; preds = λ b less. refl; within =
 pub new-requires : goal.new-requires
 new-requires g c = omega (arith, c.loop-number-test.true, c.len-number-end.ensures, c.requires)
 
-pub returns-in_err-link_one-clause-ok : goal.returns-in_err-link_one-clause-ok
-returns-in_err-link_one-clause-ok g c = let p = err_from_is_err_and c.from_residual.result c.from_residual.ensures.1 in rw p.1 tt
-
-pub returns-in_err-link_one-clause-within : goal.returns-in_err-link_one-clause-within
-returns-in_err-link_one-clause-within g c = let p = err_from_is_err_and c.from_residual.result c.from_residual.ensures.1 in rw p.1 tt
-
 pub returns-clause-err : goal.returns-clause-err
 returns-clause-err g c = tt
 

@@ -1,6 +1,6 @@
 use Rattle.std.proofs.Common.{◌≡◌, List, ◌+◌, ◌++◌, length, map, refl, sym, ap, ◌∙◌, arith, ℕ, ◌^◌, ◌≤◌}
 use Rattle.std.proofs.lemmas.List.{map-append, map-id, length-append, length-map}
-use Rattle.std.proofs.lemmas.Result.{IfOk-at_ok, IfOk-from_err, err_from_is_err_and}
+use Rattle.std.proofs.lemmas.Result.{IfOk-at_ok}
 use Rattle.std.proofs.lemmas.Iterator.Adapters.{fact_from_extend, YieldsList-from_vec}
 use Rattle.regalloc2_serialize.specs.declared.table_function.table.TableInst.{TableInst}
 use Rattle.regalloc2_serialize.specs.TableFunction.Table.{inst_of_table}
@@ -37,30 +37,6 @@ returns-clause-insts g c =
     (fact_from_extend (λ x. x) c.extend.result c.extend.ensures.ran (λ it b. YieldsList-from_vec {s = it} _ b.0 (b.1 ∙ c.args.draft.insts.ok.0))
     (λ xs e h. h.0 ∙ ap (λ (l : List (TableInst g.row.A.Denot)). c.args.insts.now.items ++ l) (sym (map-id xs) ∙ e))) in
     rw (more, map-append) refl
-
-pub returns-in_err-extend-clause-blocks : goal.returns-in_err-extend-clause-blocks
-returns-in_err-extend-clause-blocks g c = IfOk-from_err c.from_residual.result _ c.from_residual.ensures.0
-
-pub returns-in_err-extend-clause-insts : goal.returns-in_err-extend-clause-insts
-returns-in_err-extend-clause-insts g c = IfOk-from_err c.from_residual.result _ c.from_residual.ensures.0
-
-pub returns-in_err-extend-clause-few : goal.returns-in_err-extend-clause-few
-returns-in_err-extend-clause-few g c = IfOk-from_err c.from_residual.result _ c.from_residual.ensures.0
-
-pub returns-in_err-extend-clause-err : goal.returns-in_err-extend-clause-err
-returns-in_err-extend-clause-err g c = let p = err_from_is_err_and c.from_residual.result c.from_residual.ensures.1 in rw (p.1, p.2) tt
-
-pub returns-in_err-push-clause-blocks : goal.returns-in_err-push-clause-blocks
-returns-in_err-push-clause-blocks g c = IfOk-from_err c.from_residual-in_err-push.result _ c.from_residual-in_err-push.ensures.0
-
-pub returns-in_err-push-clause-insts : goal.returns-in_err-push-clause-insts
-returns-in_err-push-clause-insts g c = IfOk-from_err c.from_residual-in_err-push.result _ c.from_residual-in_err-push.ensures.0
-
-pub returns-in_err-push-clause-few : goal.returns-in_err-push-clause-few
-returns-in_err-push-clause-few g c = IfOk-from_err c.from_residual-in_err-push.result _ c.from_residual-in_err-push.ensures.0
-
-pub returns-in_err-push-clause-err : goal.returns-in_err-push-clause-err
-returns-in_err-push-clause-err g c = let p = err_from_is_err_and c.from_residual-in_err-push.result c.from_residual-in_err-push.ensures.1 in rw (p.1, p.2) tt
 
 pub returns-clause-err : goal.returns-clause-err
 returns-clause-err g c = tt

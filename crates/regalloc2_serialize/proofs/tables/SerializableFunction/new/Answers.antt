@@ -1,4 +1,4 @@
-use Rattle.std.proofs.lemmas.Result.{IfOk-from_err, err_from_is_err_and}
+use Rattle.std.proofs.lemmas.Result.{IfOk-from_err}
 use Rattle.std.proofs.Common.{rules, arith, ◌≡◌, ◌∙◌, ◌<◌, get_or, subst, sym, map, refl}
 use Rattle.std.specs.Prelude.{All}
 use Rattle.std.proofs.lemmas.List.{length-map, map-id}
@@ -57,33 +57,6 @@ returns-clause-function g c =
 
 pub returns-clause-whole : goal.returns-clause-whole
 returns-clause-whole g c = λ h. returns-clause-function g c ∙ kept-whole (g.F.Function.function c.args.f.now) h
-
-pub returns-in_err-blocks-clause-function : goal.returns-in_err-blocks-clause-function
-returns-in_err-blocks-clause-function g c = IfOk-from_err c.from_residual.result _ c.from_residual.ensures.0
-
-pub returns-in_err-blocks-clause-machine : goal.returns-in_err-blocks-clause-machine
-returns-in_err-blocks-clause-machine g c = IfOk-from_err c.from_residual.result _ c.from_residual.ensures.0
-
-pub returns-in_err-blocks-clause-memory : goal.returns-in_err-blocks-clause-memory
-returns-in_err-blocks-clause-memory g c = let p = err_from_is_err_and c.from_residual.result c.from_residual.ensures.1 in rw (p.1, p.2) refl
-
-pub returns-in_err-insts-clause-function : goal.returns-in_err-insts-clause-function
-returns-in_err-insts-clause-function g c = IfOk-from_err c.from_residual-in_err-insts.result _ c.from_residual-in_err-insts.ensures.0
-
-pub returns-in_err-insts-clause-machine : goal.returns-in_err-insts-clause-machine
-returns-in_err-insts-clause-machine g c = IfOk-from_err c.from_residual-in_err-insts.result _ c.from_residual-in_err-insts.ensures.0
-
-pub returns-in_err-insts-clause-memory : goal.returns-in_err-insts-clause-memory
-returns-in_err-insts-clause-memory g c = let p = err_from_is_err_and c.from_residual-in_err-insts.result c.from_residual-in_err-insts.ensures.1 in rw (p.1, p.2) refl
-
-pub returns-in_err-labels-clause-function : goal.returns-in_err-labels-clause-function
-returns-in_err-labels-clause-function g c = IfOk-from_err c.from_residual-in_err-labels.result _ c.from_residual-in_err-labels.ensures.0
-
-pub returns-in_err-labels-clause-machine : goal.returns-in_err-labels-clause-machine
-returns-in_err-labels-clause-machine g c = IfOk-from_err c.from_residual-in_err-labels.result _ c.from_residual-in_err-labels.ensures.0
-
-pub returns-in_err-labels-clause-memory : goal.returns-in_err-labels-clause-memory
-returns-in_err-labels-clause-memory g c = let p = err_from_is_err_and c.from_residual-in_err-labels.result c.from_residual-in_err-labels.ensures.1 in rw (p.1, p.2) refl
 
 pub returns-clause-memory : goal.returns-clause-memory
 returns-clause-memory g c = tt

@@ -1,6 +1,5 @@
 use Rattle.std.proofs.Common.{◌∙◌, ◌∷◌, ap, length, map, sym, subst}
 use Rattle.std.specs.Prelude.{All}
-use Rattle.std.proofs.lemmas.Result.{IfOk-from_err}
 use Rattle.regalloc2_names.specs.Packing.{IsVRegBits, vreg_of_bits}
 use Rattle.regalloc2_serialize.specs.Flat.Columns.Layout.{header_of, pred_ends, succ_ends, param_ends, argument_ends}
 use Rattle.regalloc2_serialize.proofs.ColumnsLemmas.Made.{covers-same}
@@ -47,15 +46,3 @@ returns g c = record {
   arguments = c.in_ok-arguments.ensures.items ∙ ap (map vreg_of_bits) c.column-7.ensures.column;
   argument_bounds = c.in_ok-arguments.ensures.bounds ∙ ap (λ l. 0 ∷ l) c.column-8.ensures.column;
 }
-
-pub returns-in_err-preds : goal.returns-in_err-preds
-returns-in_err-preds g c = IfOk-from_err c.from_residual.result _ c.from_residual.ensures.0
-
-pub returns-in_err-succs : goal.returns-in_err-succs
-returns-in_err-succs g c = IfOk-from_err c.from_residual-in_err-succs.result _ c.from_residual-in_err-succs.ensures.0
-
-pub returns-in_err-params : goal.returns-in_err-params
-returns-in_err-params g c = IfOk-from_err c.from_residual-in_err-params.result _ c.from_residual-in_err-params.ensures.0
-
-pub returns-in_err-arguments : goal.returns-in_err-arguments
-returns-in_err-arguments g c = IfOk-from_err c.from_residual-in_err-arguments.result _ c.from_residual-in_err-arguments.ensures.0

@@ -1,5 +1,4 @@
 use Rattle.std.proofs.Common.{◌∙◌, ◌*◌, ap, sym, subst}
-use Rattle.std.proofs.lemmas.Result.{IfOk-from_err}
 use Rattle.regalloc2_serialize.specs.Flat.Columns.Layout.{header_of}
 use Rattle.regalloc2_serialize.specs.Flat.Columns.Value.{AreNumbered}
 use Rattle.regalloc2_serialize.proofs.flat.columns.read.insts_from.Goals as goal
@@ -18,12 +17,3 @@ returns g c = record {
   operands = c.in_ok-operands.ensures.items;
   operand_bounds = c.in_ok-operands.ensures.bounds;
 }
-
-pub returns-in_err-kinds : goal.returns-in_err-kinds
-returns-in_err-kinds g c = IfOk-from_err c.from_residual.result _ c.from_residual.ensures.0
-
-pub returns-in_err-sets : goal.returns-in_err-sets
-returns-in_err-sets g c = IfOk-from_err c.from_residual-in_err-sets.result _ c.from_residual-in_err-sets.ensures.0
-
-pub returns-in_err-operands : goal.returns-in_err-operands
-returns-in_err-operands g c = IfOk-from_err c.from_residual-in_err-operands.result _ c.from_residual-in_err-operands.ensures.0

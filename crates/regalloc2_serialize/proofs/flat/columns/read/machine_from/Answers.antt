@@ -1,4 +1,3 @@
-use Rattle.std.proofs.lemmas.Result.{IfOk-from_err}
 use Rattle.std.proofs.Common.{ap, map, sym, subst, ◌∙◌, ◌≤◌}
 use Rattle.std.specs.Prelude.{All}
 use Rattle.regalloc2_names.specs.Packing.{IsRegisterIndex, register_of_bits}
@@ -27,6 +26,3 @@ returns g c = record {
   scratch = c.scratches_of.ensures ∙ ap (map scratch_of_word) c.column-4.ensures.column;
   fixed_stack_slots = c.in_ok-fixed_stack_slots.ensures ∙ ap (map register_of_bits) c.column.ensures.column;
 }
-
-pub returns-in_err-fixed_stack_slots : goal.returns-in_err-fixed_stack_slots
-returns-in_err-fixed_stack_slots g c = IfOk-from_err c.from_residual.result _ c.from_residual.ensures.0

@@ -1,4 +1,3 @@
-use Rattle.std.proofs.lemmas.Result.{IfOk-from_err}
 use Rattle.std.proofs.Common.{◌≡◌, ◌∙◌, [], ◌∷◌, ◌++◌, ◌+◌, ◌*◌, ℕ, ap, map, refl, arith}
 use Rattle.std.specs.Prelude.{slice_index}
 use Rattle.regalloc2_names.specs.Register.{VirtualRegister}
@@ -15,12 +14,6 @@ loop-k-preserved g c =
     let e : c.push.new.self.items ≡ c.loop-k.labels.items ++ x ∷ [] = c.in_ok-push.ensures.items in
     let here : label_of x ≡ label_at words k = rw (c.from_bits-vreg.ensures.vreg, c.new-start.ensures, c.new-end.ensures) refl in
     ap (map label_of) e ∙ seen-more label_of (label_at words) c.loop-k.labels.items x k c.loop-k.invariant here
-
-pub returns-in_err-labels : goal.returns-in_err-labels
-returns-in_err-labels g c = IfOk-from_err c.from_residual.result _ c.from_residual.ensures.0
-
-pub returns-in_err-push : goal.returns-in_err-push
-returns-in_err-push g c = IfOk-from_err c.from_residual-in_err-push.result _ c.from_residual-in_err-push.ensures.0
 
 pub loop-k-init : goal.loop-k-init
 loop-k-init g c = rw c.in_ok-labels.ensures.items refl

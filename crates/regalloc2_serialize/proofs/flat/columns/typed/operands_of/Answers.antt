@@ -1,4 +1,3 @@
-use Rattle.std.proofs.lemmas.Result.{IfOk-from_err}
 use Rattle.std.proofs.Common.{◌≡◌, ◌∙◌, [], ◌∷◌, ◌++◌, ap, refl, arith}
 use Rattle.regalloc2_names.specs.Packing.{operand_of_bits}
 use Rattle.regalloc2_serialize.specs.Flat.Columns.Value.{long_at}
@@ -10,12 +9,6 @@ loop-k-preserved g c =
     let e : c.push.new.self.items ≡ c.loop-k.operands.items ++ c.from_bits.result ∷ [] = c.in_ok-push.ensures.items in
     e ∙ made-more operand_of_bits (long_at c.args.words.now) c.loop-k.operands.items c.from_bits.result c.loop-k.k c.loop-k.invariant
     (c.from_bits.ensures.operand ∙ ap operand_of_bits c.long.ensures)
-
-pub returns-in_err-operands : goal.returns-in_err-operands
-returns-in_err-operands g c = IfOk-from_err c.from_residual.result _ c.from_residual.ensures.0
-
-pub returns-in_err-push : goal.returns-in_err-push
-returns-in_err-push g c = IfOk-from_err c.from_residual-in_err-push.result _ c.from_residual-in_err-push.ensures.0
 
 pub from_bits-requires : goal.from_bits-requires
 from_bits-requires g c = rw c.long.ensures (c.requires.operands c.loop-k.k c.loop-k-test.true)

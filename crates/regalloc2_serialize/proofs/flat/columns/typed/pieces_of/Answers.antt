@@ -1,4 +1,3 @@
-use Rattle.std.proofs.lemmas.Result.{IfOk-from_err}
 use Rattle.std.proofs.Common.{arith, ◌≡◌, ◌≤◌, ◌+◌, ◌∷◌, ap, sym, subst, length}
 use Rattle.std.specs.Prelude.{slice_index}
 use Rattle.std.proofs.lemmas.List.{get_or_default}
@@ -16,6 +15,3 @@ invariant_of-result g c =
           (bounds-within c.args.ends.now c.args.items.len c.requires k (omega (arith, less, ap length e))) in
           omega (arith, inside, get_or_default bounds.items k d 0 less);
     }
-
-pub returns-in_err-bounds : goal.returns-in_err-bounds
-returns-in_err-bounds g c = IfOk-from_err c.from_residual.result _ c.from_residual.ensures.0

@@ -1,4 +1,4 @@
-use Rattle.std.proofs.lemmas.Result.{err_from_is_err_and, IfOk-from_err}
+use Rattle.std.proofs.lemmas.Result.{err_from_is_err_and}
 use Rattle.regalloc2_serialize.proofs.FlatLemmas.NoValue.{no_list}
 use Rattle.std.proofs.Common.{◌<◌, length, arith, inr, refl, inl, ◌≡◌, ℕ, List, [], ◌∷◌, ◌++◌, ◌+◌, ◌∙◌, ap, sym, append_assoc}
 use Rattle.std.specs.List.{flat_map}
@@ -13,22 +13,13 @@ returns-in_err-item-clause-shape g c =
     rw (p.1, p.2) (λ e x rest h. no_list g.T.Flat.words g.met.T.Flat.one_rest c.loop-index.items.items c.args.from.now.rest.now c.loop-index.from.rest.now
     c.in_ok-count.count c.loop-index.invariant.read less (c.in_err-item.ensures.shape e) x.items rest h)
 
-pub returns-in_err-count-clause-ok : goal.returns-in_err-count-clause-ok
-returns-in_err-count-clause-ok g c = IfOk-from_err c.from_residual.result _ c.from_residual.ensures.0
-
 pub returns-in_err-count-clause-faults : goal.returns-in_err-count-clause-faults
 returns-in_err-count-clause-faults g c = let p = err_from_is_err_and c.from_residual.result c.from_residual.ensures.1 in rw (p.1, p.2) (inl c.in_err-count.ensures.err.0)
-
-pub returns-in_err-item-clause-ok : goal.returns-in_err-item-clause-ok
-returns-in_err-item-clause-ok g c = IfOk-from_err c.from_residual-in_err-item.result _ c.from_residual-in_err-item.ensures.0
 
 pub returns-in_err-item-clause-faults : goal.returns-in_err-item-clause-faults
 returns-in_err-item-clause-faults g c =
     let p = err_from_is_err_and c.from_residual-in_err-item.result c.from_residual-in_err-item.ensures.1 in
     rw (p.1, p.2) c.in_err-item.ensures.faults
-
-pub returns-in_err-push-clause-ok : goal.returns-in_err-push-clause-ok
-returns-in_err-push-clause-ok g c = IfOk-from_err c.from_residual-in_err-push.result _ c.from_residual-in_err-push.ensures.0
 
 pub returns-in_err-push-clause-faults : goal.returns-in_err-push-clause-faults
 returns-in_err-push-clause-faults g c = let p = err_from_is_err_and c.from_residual-in_err-push.result c.from_residual-in_err-push.ensures.1 in rw (p.1, p.2) (inr refl)

@@ -1,4 +1,4 @@
-use Rattle.std.proofs.lemmas.Result.{err_from_is_err_and, IfErr-weaker, IfOk-from_err}
+use Rattle.std.proofs.lemmas.Result.{err_from_is_err_and, IfErr-weaker}
 use Rattle.regalloc2_serialize.specs.Flat.Flat.{words_of_long, words_of_list, one_word, words_of_triple, words_of_quadruple}
 use Rattle.regalloc2_serialize.proofs.FlatLemmas.LongWords.{long_in_first, long_in_second, long_in_third, long_in_fourth, long_in_fifth}
 use Rattle.regalloc2_serialize.proofs.flat.write.StoredOutputWritten.write.Goals as goal
@@ -52,26 +52,14 @@ returns-clause-limit c =
     let labels = words_of_list words_of_quadruple c.args.self.now.debug_locations.items in
     IfErr-weaker c.write-5.result _ _ (λ x h e. long_in_fifth number edits allocs offsets labels (h e)) c.write-5.ensures.limit
 
-pub returns-in_err-write-clause-ok : goal.returns-in_err-write-clause-ok
-returns-in_err-write-clause-ok c = IfOk-from_err c.from_residual.result _ c.from_residual.ensures.0
-
 pub returns-in_err-write-clause-faults : goal.returns-in_err-write-clause-faults
 returns-in_err-write-clause-faults c = let p = err_from_is_err_and c.from_residual.result c.from_residual.ensures.1 in rw (p.1, p.2) c.in_err-write.ensures.faults
-
-pub returns-in_err-write-2-clause-ok : goal.returns-in_err-write-2-clause-ok
-returns-in_err-write-2-clause-ok c = IfOk-from_err c.from_residual-in_err-write-2.result _ c.from_residual-in_err-write-2.ensures.0
 
 pub returns-in_err-write-2-clause-faults : goal.returns-in_err-write-2-clause-faults
 returns-in_err-write-2-clause-faults c = let p = err_from_is_err_and c.from_residual-in_err-write-2.result c.from_residual-in_err-write-2.ensures.1 in rw (p.1, p.2) c.in_err-write-2.ensures.faults
 
-pub returns-in_err-write-3-clause-ok : goal.returns-in_err-write-3-clause-ok
-returns-in_err-write-3-clause-ok c = IfOk-from_err c.from_residual-in_err-write-3.result _ c.from_residual-in_err-write-3.ensures.0
-
 pub returns-in_err-write-3-clause-faults : goal.returns-in_err-write-3-clause-faults
 returns-in_err-write-3-clause-faults c = let p = err_from_is_err_and c.from_residual-in_err-write-3.result c.from_residual-in_err-write-3.ensures.1 in rw (p.1, p.2) c.in_err-write-3.ensures.faults
-
-pub returns-in_err-write-4-clause-ok : goal.returns-in_err-write-4-clause-ok
-returns-in_err-write-4-clause-ok c = IfOk-from_err c.from_residual-in_err-write-4.result _ c.from_residual-in_err-write-4.ensures.0
 
 pub returns-in_err-write-4-clause-faults : goal.returns-in_err-write-4-clause-faults
 returns-in_err-write-4-clause-faults c = let p = err_from_is_err_and c.from_residual-in_err-write-4.result c.from_residual-in_err-write-4.ensures.1 in rw (p.1, p.2) c.in_err-write-4.ensures.faults

@@ -2,7 +2,7 @@ use Rattle.std.proofs.Common.{subst, ap, ◌∙◌, ◌≡◌, ◌+◌, ◌<◌,
 use Rattle.std.proofs.lemmas.List.{flat_map_more, take_all, take_more}
 use Rattle.std.specs.List.{flat_map}
 use Rattle.regalloc2_serialize.specs.Flat.Flat.{HasLongWord}
-use Rattle.std.proofs.lemmas.Result.{err_from_is_err_and, IfOk-from_err}
+use Rattle.std.proofs.lemmas.Result.{err_from_is_err_and}
 use Rattle.regalloc2_serialize.proofs.FlatLemmas.LongWords.{long_member, long_in_list}
 use Rattle.regalloc2_function.specs.declared.serialize.StoredFault.TheVariants.{Memory, Limit}
 use Rattle.regalloc2_serialize.proofs.flat.write.VecWritten.write.Goals as goal
@@ -37,14 +37,8 @@ loop-item-init g c =
     let count : c.in-Ok.count ≡ length c.args.self.now.items = omega (arith, c.in-Ok.ensures.1, c.len.ensures, c.args.self.now.ok.0) in
     rw count at c.in_ok-push.ensures.items
 
-pub returns-in_err-push-clause-ok : goal.returns-in_err-push-clause-ok
-returns-in_err-push-clause-ok g c = IfOk-from_err c.from_residual.result _ c.from_residual.ensures.0
-
 pub returns-in_err-push-clause-faults : goal.returns-in_err-push-clause-faults
 returns-in_err-push-clause-faults g c = let p = err_from_is_err_and c.from_residual.result c.from_residual.ensures.1 in rw (p.1, p.2) (inr refl)
-
-pub returns-in_err-write-clause-ok : goal.returns-in_err-write-clause-ok
-returns-in_err-write-clause-ok g c = IfOk-from_err c.from_residual-in_err-write.result _ c.from_residual-in_err-write.ensures.0
 
 pub returns-in_err-write-clause-faults : goal.returns-in_err-write-clause-faults
 returns-in_err-write-clause-faults g c = let p = err_from_is_err_and c.from_residual-in_err-write.result c.from_residual-in_err-write.ensures.1 in rw (p.1, p.2) c.in_err-write.ensures.faults

@@ -1,6 +1,6 @@
 use Rattle.std.proofs.Common.{◌≡◌, arith, refl, ◌∙◌, ℕ, ◌+◌, ◌-◌, ◌^◌, ◌<◌, ◌≤◌}
 use Rattle.std.proofs.lemmas.List.{length-map, map-append}
-use Rattle.std.proofs.lemmas.Result.{err_from_is_err_and, IfOk-from_err}
+use Rattle.std.proofs.lemmas.Result.{err_from_is_err_and}
 use Rattle.regalloc2_serialize.proofs.table_function.builder.TableBuilder.block.Goals as goal
 
 few-left : (n len m : ℕ) → n ≡ len → len ≡ m → 2 ^ 32 - 1 ≤ n + 1 → 2 ^ 32 - 2 ≤ m
@@ -8,13 +8,6 @@ few-left n len m is long many = omega arith
 
 below : (n : ℕ) → n + 1 < 2 ^ 32 - 1 → n < 2 ^ 32
 below n less = omega arith
-
-pub returns-in_err-params-clause-err : goal.returns-in_err-params-clause-err
-returns-in_err-params-clause-err g c = let p = err_from_is_err_and c.from_residual.result c.from_residual.ensures.1 in rw (p.1, p.2) tt
-
-pub returns-in_err-push-clause-err : goal.returns-in_err-push-clause-err
-returns-in_err-push-clause-err g c =
-    let p = err_from_is_err_and c.from_residual-in_err-push.result c.from_residual-in_err-push.ensures.1 in rw (p.1, p.2) tt
 
 pub returns-in_err-push-clause-unchanged : goal.returns-in_err-push-clause-unchanged
 returns-in_err-push-clause-unchanged g c =
@@ -29,18 +22,6 @@ returns-clause-ok g c =
     let params : c.in_ok-params.params.items ≡ c.args.params.now =
     c.in_ok-params.ensures.items_if_clones_equal (λ x y h. h) in
     rw (c.in_ok-push.ensures.items, map-append, params, c.new.ensures.items, c.new-2.ensures.items, c.new-3.ensures.items) refl
-
-pub returns-in_err-params-clause-number : goal.returns-in_err-params-clause-number
-returns-in_err-params-clause-number g c = IfOk-from_err c.from_residual.result _ c.from_residual.ensures.0
-
-pub returns-in_err-params-clause-ok : goal.returns-in_err-params-clause-ok
-returns-in_err-params-clause-ok g c = IfOk-from_err c.from_residual.result _ c.from_residual.ensures.0
-
-pub returns-in_err-push-clause-number : goal.returns-in_err-push-clause-number
-returns-in_err-push-clause-number g c = IfOk-from_err c.from_residual-in_err-push.result _ c.from_residual-in_err-push.ensures.0
-
-pub returns-in_err-push-clause-ok : goal.returns-in_err-push-clause-ok
-returns-in_err-push-clause-ok g c = IfOk-from_err c.from_residual-in_err-push.result _ c.from_residual-in_err-push.ensures.0
 
 pub returns-clause-err : goal.returns-clause-err
 returns-clause-err g c = tt
@@ -60,9 +41,6 @@ returns-then-number-ge-BLOCK_LIMIT-clause-unchanged g c = refl
 pub returns-then-number-ge-BLOCK_LIMIT-clause-err : goal.returns-then-number-ge-BLOCK_LIMIT-clause-err
 returns-then-number-ge-BLOCK_LIMIT-clause-err g c =
     rw length-map (few-left _ _ _ c.len-number.ensures c.args.self.now.blocks.ok.0 c.if-number-ge-BLOCK_LIMIT.true)
-
-pub returns-in_err-params-clause-unchanged : goal.returns-in_err-params-clause-unchanged
-returns-in_err-params-clause-unchanged g c = let p = err_from_is_err_and c.from_residual.result c.from_residual.ensures.1 in rw p.1 refl
 
 pub new-requires-4 : goal.new-requires-4
 new-requires-4 g c = below _ c.if-number-ge-BLOCK_LIMIT.false

@@ -1,6 +1,6 @@
 use Rattle.std.proofs.Common.{length, map, sym, refl, ◌∙◌, arith}
 use Rattle.std.proofs.lemmas.List.{length-map}
-use Rattle.std.proofs.lemmas.Result.{err_from_is_err_and, IfOk-from_err}
+use Rattle.std.proofs.lemmas.Result.{err_from_is_err_and}
 use Rattle.regalloc2_serialize.specs.TableFunction.Table.{block_of_table}
 use Rattle.regalloc2_serialize.specs.TableFunction.Draft.{drafts_of}
 use Rattle.regalloc2_serialize.proofs.TableFunctionLemmas.BuiltLaws.{count_from, unbuilt_from_unlinked, unbuilt_from_unplaced, built_blocks, built_preds, built_succs}
@@ -47,12 +47,6 @@ returns-clause-ok g c =
       labels = c.of_blocks.ensures.labels;
       allows_multiple_defs = c.of_blocks.ensures.multiple;
     }
-
-pub returns-in_err-blocks-clause-ok : goal.returns-in_err-blocks-clause-ok
-returns-in_err-blocks-clause-ok g c = IfOk-from_err c.from_residual.result _ c.from_residual.ensures.0
-
-pub returns-in_err-link-clause-ok : goal.returns-in_err-link-clause-ok
-returns-in_err-link-clause-ok g c = IfOk-from_err c.from_residual-in_err-link.result _ c.from_residual-in_err-link.ensures.0
 
 pub returns-clause-err : goal.returns-clause-err
 returns-clause-err g c = tt

@@ -1,5 +1,5 @@
 use Rattle.std.proofs.Common.{refl, arith}
-use Rattle.std.proofs.lemmas.Result.{err_from_is_err_and, IfOk-from_err}
+use Rattle.std.proofs.lemmas.Result.{err_from_is_err_and}
 use Rattle.regalloc2_serialize.specs.TableFunction.Draft.{draft_of}
 use Rattle.regalloc2_serialize.proofs.TableFunctionLemmas.DraftLaws.{changed_at, same_at, more_insts}
 use Rattle.regalloc2_serialize.proofs.table_function.builder.TableBuilder.inst.Goals as goal
@@ -15,12 +15,6 @@ returns-clause-ok g c =
     let x = c.index_mut.result.now in
     rw c.index-2.ensures (changed_at _ c.args.block x (record x { insts = c.push.new.self }) _ (omega arith) (rw c.index-2.ensures at c.index_mut.ensures.value)
     (more_insts (draft_of x) x.insts.items c.push.new.self.items c.args.inst refl c.in_ok-push.ensures.items))
-
-pub returns-in_err-push-clause-ok : goal.returns-in_err-push-clause-ok
-returns-in_err-push-clause-ok g c = IfOk-from_err c.from_residual.result _ c.from_residual.ensures.0
-
-pub returns-in_err-push-clause-err : goal.returns-in_err-push-clause-err
-returns-in_err-push-clause-err g c = let p = err_from_is_err_and c.from_residual.result c.from_residual.ensures.1 in rw (p.1, p.2) tt
 
 pub returns-clause-err : goal.returns-clause-err
 returns-clause-err g c = tt

@@ -1,6 +1,6 @@
 use Rattle.std.proofs.Common.{◌≡◌, ◌-◌, ◌∷◌, [], length, rules, refl, arith}
 use Rattle.std.proofs.lemmas.List.{take_at}
-use Rattle.std.proofs.lemmas.Result.{err_from_is_err_and, IfOk-from_err}
+use Rattle.std.proofs.lemmas.Result.{err_from_is_err_and}
 use Rattle.regalloc2_serialize.specs.TableFunction.Draft.{draft_of}
 use Rattle.regalloc2_serialize.proofs.TableFunctionLemmas.DraftLaws.{changed_at, same_at, more_succs}
 use Rattle.regalloc2_serialize.proofs.table_function.builder.TableBuilder.succ.Goals as goal
@@ -27,21 +27,6 @@ returns-clause-ok g c =
     (rw c.index-2.ensures at c.index_mut-draft.ensures.value)
     (rw same at (more_succs (draft_of x) x.succs.items c.push.new.self.items x.arguments.items c.push-2.new.self.items c.args.to c.in_ok-arguments.arguments
     refl refl c.in_ok-push.ensures.items c.in_default.ensures.items)))
-
-pub returns-in_err-arguments-clause-ok : goal.returns-in_err-arguments-clause-ok
-returns-in_err-arguments-clause-ok g c = IfOk-from_err c.from_residual.result _ c.from_residual.ensures.0
-
-pub returns-in_err-push-clause-ok : goal.returns-in_err-push-clause-ok
-returns-in_err-push-clause-ok g c = IfOk-from_err c.from_residual-in_err-push.result _ c.from_residual-in_err-push.ensures.0
-
-pub returns-in_err-arguments-clause-err : goal.returns-in_err-arguments-clause-err
-returns-in_err-arguments-clause-err g c = let p = err_from_is_err_and c.from_residual.result c.from_residual.ensures.1 in rw (p.1, p.2) tt
-
-pub returns-in_err-push-clause-err : goal.returns-in_err-push-clause-err
-returns-in_err-push-clause-err g c = let p = err_from_is_err_and c.from_residual-in_err-push.result c.from_residual-in_err-push.ensures.1 in rw (p.1, p.2) tt
-
-pub returns-in_err-arguments-clause-unchanged : goal.returns-in_err-arguments-clause-unchanged
-returns-in_err-arguments-clause-unchanged g c = let p = err_from_is_err_and c.from_residual.result c.from_residual.ensures.1 in rw p.1 refl
 
 pub returns-clause-err : goal.returns-clause-err
 returns-clause-err g c = tt

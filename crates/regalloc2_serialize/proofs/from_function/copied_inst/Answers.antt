@@ -1,5 +1,0 @@
-use Rattle.std.proofs.lemmas.Result.{IfOk-from_err}
-use Rattle.regalloc2_serialize.proofs.from_function.copied_inst.Goals as goal
-
-pub returns-in_err-to_vec : goal.returns-in_err-to_vec
-returns-in_err-to_vec g c = IfOk-from_err c.from_residual.result _ c.from_residual.ensures.0
