@@ -2,7 +2,7 @@
 
 use super::words_of;
 use crate::test_alloc::Refusing;
-use regalloc2_tool::ra2::answer;
+use regalloc2_tool::ra2::run_program;
 use std::alloc::Global;
 use std::io::{self, BufWriter, ErrorKind, Read, Write};
 
@@ -118,7 +118,7 @@ fn call(
     let out = BufWriter::with_capacity(alloc, capacity, out)?;
     let words = words_of(alloc, line)?;
     let ample = &Refusing::counting(alloc);
-    Ok(answer(alloc, ample, words.as_slice(), input, out, err))
+    Ok(run_program(alloc, ample, words.as_slice(), input, out, err))
 }
 
 /// Whether the program reports arguments and an input by just a line on the standard error, with

@@ -3,7 +3,7 @@
 use crate::words_of;
 use codegen::program::{self as compiler, Action, ROOM, RunOptions};
 use regalloc2_tool::calls::call::CallError;
-use regalloc2_tool::ra2_text::{Task, answer};
+use regalloc2_tool::ra2_text::{Task, perform_task};
 use std::alloc::{AllocError, Global};
 use std::fmt::Display;
 use std::io::Write;
@@ -50,7 +50,7 @@ fn write_done(
         Some(name) => Some((name, before.as_bytes())),
         None => None,
     };
-    let status = answer(alloc, task, bytes.as_slice(), other, to, &mut err);
+    let status = perform_task(alloc, task, bytes.as_slice(), other, to, &mut err);
     write_end(err.as_slice(), status, to)
 }
 
@@ -134,6 +134,6 @@ pub fn write_compiler(
     };
     let mut err = Vec::new(alloc);
     let task = compiler::Task::Read("text", action);
-    let status = compiler::answer(alloc, &task, bytes.as_slice(), to, &mut err);
+    let status = compiler::run_task(alloc, &task, bytes.as_slice(), to, &mut err);
     write_end(err.as_slice(), status, to)
 }

@@ -16,7 +16,7 @@ pub struct UnwrittenRead {
     pub vreg: VReg,
     /// The reader: an operand, or the instruction that passes the vreg as an argument.
     pub site: Site,
-    /// The blocks of a shortest such path, from the entry to the block that reads.
+    /// The blocks of a shortest path on which the vreg isn't written, from the entry to the block that reads.
     pub path: Vec<u32>,
 }
 
@@ -54,7 +54,7 @@ struct Search {
 }
 
 impl Search {
-    /// Adds a need, if the block has no need of that vreg yet.
+    /// Adds a need, if its block has no need of its vreg yet.
     fn add(&mut self, need: Need) -> Result<(), AllocError> {
         let pair = (need.block, need.vreg);
         if self.known.contains(&pair) {

@@ -28,7 +28,7 @@ impl fmt::Display for LastWrite {
                     InstPosition::Before => "before",
                     InstPosition::After => "after",
                 };
-                let inst = point.to_index() >> 1;
+                let inst = point.inst().index();
                 write!(f, "written last by a move from {from} {side} inst{inst}")
             }
         }
@@ -144,7 +144,7 @@ fn last_by_move(output: &StoredOutput, first: u64, end: u64, place: u32) -> Opti
 /// The last write of a place by the instructions from `first` until `end`, and by the moves from
 /// the point before the first one until the point `until`.
 ///
-/// The output's moves are sorted by program point. Linear in those instructions and moves.
+/// The output's moves are sorted by program point. Linear in the instructions and moves of the range.
 pub(crate) fn last_between(
     function: &StoredFunction,
     output: &StoredOutput,

@@ -45,7 +45,7 @@ impl<A: Allocator + Copy> Draft<A> {
         }
     }
 
-    /// Reads a line of those tokens.
+    /// Reads a line, given as `tokens`.
     pub(super) fn read_line<'t>(
         &mut self,
         alloc: A,

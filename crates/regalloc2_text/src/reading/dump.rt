@@ -81,7 +81,7 @@ pub(super) fn read_dumped_opcode(cursor: &mut Cursor<'_, '_>, next: u32) -> Inst
     }
 }
 
-/// One more than the number of the slot that a place is; 0 if it is none.
+/// One more than the number of the slot that `place` encodes; 0 if it encodes no slot.
 fn slots_up_to(place: u32) -> u64 {
     if !Allocation::is_bits(place) {
         return 0;
@@ -92,7 +92,7 @@ fn slots_up_to(place: u32) -> u64 {
     }
 }
 
-/// How many slots there are at least, where these places name some.
+/// One more than the greatest slot number in `places`; 0 if they name no slot.
 pub(super) fn slots_named(places: &[u32]) -> u64 {
     let mut slots = 0;
     for place in places {
@@ -101,7 +101,7 @@ pub(super) fn slots_named(places: &[u32]) -> u64 {
     slots
 }
 
-/// How many slots there are at least, where moves name some.
+/// One more than the greatest slot number in `moves`; 0 if they name no slot.
 pub(super) fn slots_moved(moves: &[(u32, u32, u32)]) -> u64 {
     let mut slots = 0;
     for (_, from, to) in moves {

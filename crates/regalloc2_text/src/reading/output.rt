@@ -6,13 +6,13 @@ use crate::cursor::{Cursor, Expected, Flaw, Found};
 use regalloc2_function::StoredOutput;
 use std::alloc::Allocator;
 
-/// What is said where numbers of 32 bits don't count that much.
+/// What the text needs if there are more instructions or places than 32 bits can number.
 pub(super) const TOO_MANY: &str = "fewer instructions and places";
 
 /// What the lines so far say of an output.
 #[derive(Drop)]
 pub(super) struct DraftOutput<A: Allocator> {
-    /// Whether a line says something of it.
+    /// Whether a line says something of the output.
     is_named: bool,
     /// Whether instructions are as in a dump.
     is_dump: bool,
@@ -23,7 +23,7 @@ pub(super) struct DraftOutput<A: Allocator> {
     debug_locations: Vec<(u32, u32, u32, u32), A>,
 }
 
-/// The number of the point before the instruction of that number.
+/// The number of the point before the instruction `inst`.
 fn before_inst(cursor: &mut Cursor<'_, '_>, inst: u32) -> u32 {
     match inst.checked_mul(2) {
         Some(point) => point,
@@ -69,7 +69,7 @@ impl<A: Allocator + Copy> DraftOutput<A> {
         cursor.extend(&mut self.allocs, places);
     }
 
-    /// Notes that an instruction is as in a dump, so that the slots are those of its places unless a line says how many.
+    /// Notes that an instruction is as in a dump. The number of slots then follows from the places, unless a line says it.
     pub(super) fn note_dump(&mut self) {
         self.is_dump = true;
     }
@@ -116,7 +116,7 @@ impl<A: Allocator + Copy> DraftOutput<A> {
         cursor.push(&mut self.debug_locations, (label, from, until, place));
     }
 
-    /// The output, where lines say something of it, with those lists in place of its own.
+    /// The output, if lines say something of it, with `stored_allocs` and `stored_offsets` in place of its own lists.
     pub(super) fn finish(
         self,
         cursor: &mut Cursor<'_, '_>,

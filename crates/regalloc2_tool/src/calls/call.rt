@@ -64,7 +64,7 @@ pub enum Call {
     /// To report counts of the given output or, if there is none, of the allocator's; the result is
     /// a table.
     Stats,
-    /// To report the same counts, as JSON.
+    /// To report the counts of `Stats`, as JSON.
     StatsJson,
     /// To write the given output or, if there is none, the allocator's, as upstream does.
     Dump,
@@ -150,7 +150,7 @@ impl From<io::Error> for CallError {
 pub struct Given<'g, 'o, 's> {
     /// The function and its machine.
     pub function: &'g StoredFunction,
-    /// The output that is given with it.
+    /// The output that is given with the function.
     pub output: Option<&'o StoredOutput>,
     /// The text in which errors and findings are shown. Without a text, each error and each finding
     /// is one line.
@@ -258,7 +258,7 @@ fn place_found(error: &CheckerError) -> Option<(Inst, Operand, Option<Allocation
     }
 }
 
-/// The index of the first operand of an instruction that equals this one.
+/// The index of the first operand of `inst` that equals `operand`.
 fn operand_index(function: &StoredFunction, inst: Inst, operand: Operand) -> Option<usize> {
     let data = function.insts.get(inst.index())?;
     let bits = operand.bits();
@@ -547,8 +547,8 @@ fn compare<F: Function, W: Write, E: Write>(
     Ok(Verdict::of(is_accepted && !differs))
 }
 
-/// Performs a call about the allocator's output, on its stored form.
-fn answer_stored<F: Function, W: Write, E: Write>(
+/// Performs a call about the allocator's output in its stored form.
+fn show_stored<F: Function, W: Write, E: Write>(
     alloc: Global,
     call: Call,
     f: &F,
@@ -622,7 +622,7 @@ fn show<F: Function, W: Write, E: Write>(
             let is_accepted = judge(alloc, f, env, output, given, to)?;
             return Ok(Verdict::of(is_accepted));
         }
-        _ => return answer_stored(alloc, call, f, env, output, given, to, err),
+        _ => return show_stored(alloc, call, f, env, output, given, to, err),
     }
     Ok(Verdict::Accepted)
 }
@@ -679,7 +679,7 @@ fn function_of<E: Write>(
 ///
 /// `Accepted` says that both outputs are well-ordered, faithful and in cells of their own. Spec:
 /// `AreAcceptedBoth` in `specs/Calls.antt`.
-pub fn answer_diff<W: Write, E: Write>(
+pub fn perform_diff<W: Write, E: Write>(
     alloc: Global,
     given: &Given<'_, '_, '_>,
     other: &Given<'_, '_, '_>,
@@ -731,7 +731,7 @@ fn perform<F: Function, W: Write, E: Write>(
 /// `Accepted` says that the numbers of `given` name a function and a machine for which what the
 /// call tests holds, and that an allocated output has all that `run` guarantees. The contract
 /// doesn't say what is written; tests check it. Spec: `IsAcceptedCall` in `specs/Calls.antt`.
-pub fn answer<W: Write, E: Write>(
+pub fn perform_call<W: Write, E: Write>(
     alloc: Global,
     call: Call,
     given: &Given<'_, '_, '_>,

@@ -1,7 +1,10 @@
-//! The texts of single stored numbers: that of the name where the number is one, else `bits(N)`.
+//! The texts of program points and of single stored numbers: the text of the name if the number is one's, else `bits(N)`.
+
+ghost use Rattle.std.specs.Prelude.{Some};
+ghost use Rattle.regalloc2_text.specs.Point.{point_text};
 
 use regalloc2_names::{
-    Allocation, InstPosition, Operand, OperandKind, OperandPos, PReg, ProgPoint, RegClass, VReg,
+    Allocation, InstPosition, Operand, OperandKind, OperandPos, PReg, ProgPoint, VReg, VRegText,
 };
 use std::fmt;
 
@@ -12,45 +15,34 @@ fn write_bits<W: fmt::Write>(bits: u64, f: &mut fmt::Formatter<W>) -> fmt::Resul
 
 /// A register's index, as `p3i`.
 #[derive(Clone, Copy)]
-pub(crate) struct RegisterText(pub u8);
+pub(crate) struct StoredRegister(pub u8);
 
-impl fmt::Display for RegisterText {
+impl fmt::Display for StoredRegister {
     fn fmt<W: fmt::Write>(&self, f: &mut fmt::Formatter<W>) -> fmt::Result {
         let index = usize::from(self.0);
         if !PReg::is_index(index) {
             return write_bits(u64::from(self.0), f);
         }
-        fmt::Display::fmt(&PReg::from_index(index), f)
-    }
-}
-
-/// The letter that stands for a class behind a number.
-fn class_letter(class: RegClass) -> &'static str {
-    match class {
-        RegClass::Int => "i",
-        RegClass::Float => "f",
-        RegClass::Vector => "v",
+        write!(f, "{}", PReg::from_index(index))
     }
 }
 
 /// A vreg's encoding, with the letter of the class: `v7i`.
 #[derive(Clone, Copy)]
-pub(crate) struct VRegText(pub u32);
+pub(crate) struct StoredVReg(pub u32);
 
-impl fmt::Display for VRegText {
+impl fmt::Display for StoredVReg {
     fn fmt<W: fmt::Write>(&self, f: &mut fmt::Formatter<W>) -> fmt::Result {
         let bits = self.0;
         if !VReg::is_bits(bits) {
             return write_bits(u64::from(bits), f);
         }
-        let vreg = VReg::from_bits(bits);
-        let class = class_letter(vreg.class());
-        write!(f, "{vreg}{class}")
+        write!(f, "{}", VRegText(VReg::from_bits(bits)))
     }
 }
 
-impl VRegText {
-    /// One more than the number that the text shows, or 0 where it shows none.
+impl StoredVReg {
+    /// One more than the number that the text shows, or 0 if it shows none.
     pub(crate) fn vregs(self) -> u64 {
         if !VReg::is_bits(self.0) {
             return 0;
@@ -62,17 +54,17 @@ impl VRegText {
 /// An operand's encoding, as `Use: v0i reg`.
 ///
 /// `Operand` writes `Fixed: p3i` for each operand of the greatest vreg number under a fixed
-/// register. Here it stands for the early use alone; the other three are written out, so that no
-/// two encodings have one text.
+/// register. Here only the early use has this text; the other three operands are written with their
+/// vreg, so that no two encodings have one text.
 #[derive(Clone, Copy)]
-pub(crate) struct OperandText(pub u64);
+pub(crate) struct StoredOperand(pub u64);
 
-/// Whether an operand is read at the beginning of its instruction.
+/// Returns whether an operand is read at the beginning of its instruction.
 fn is_early_use(operand: Operand) -> bool {
     operand.kind() == OperandKind::Use && operand.pos() == OperandPos::Early
 }
 
-/// An operand under a fixed register, with its vreg.
+/// Writes an operand under the fixed register `register` with its vreg.
 fn write_fixed<W: fmt::Write>(
     operand: Operand,
     register: PReg,
@@ -84,12 +76,11 @@ fn write_fixed<W: fmt::Write>(
         (OperandKind::Use, OperandPos::Early) => "Use",
         (OperandKind::Use, OperandPos::Late) => "Use@Late",
     };
-    let vreg = operand.vreg();
-    let class = class_letter(operand.class());
-    write!(f, "{kind}: {vreg}{class} fixed({register})")
+    let vreg = VRegText(operand.vreg());
+    write!(f, "{kind}: {vreg} fixed({register})")
 }
 
-impl fmt::Display for OperandText {
+impl fmt::Display for StoredOperand {
     fn fmt<W: fmt::Write>(&self, f: &mut fmt::Formatter<W>) -> fmt::Result {
         let bits = self.0;
         if !Operand::is_bits(bits) {
@@ -98,13 +89,13 @@ impl fmt::Display for OperandText {
         let operand = Operand::from_bits(bits);
         match operand.as_fixed_nonallocatable() {
             Some(register) if !is_early_use(operand) => write_fixed(operand, register, f),
-            _ => fmt::Display::fmt(&operand, f),
+            _ => write!(f, "{operand}"),
         }
     }
 }
 
-impl OperandText {
-    /// One more than the number of the vreg that the text shows, or 0 where it shows none.
+impl StoredOperand {
+    /// One more than the number of the vreg that the text shows, or 0 if it shows none.
     pub(crate) fn vregs(self) -> u64 {
         if !Operand::is_bits(self.0) {
             return 0;
@@ -119,35 +110,45 @@ impl OperandText {
 
 /// A place's encoding, as `none`, `p3i` or `stack5`.
 #[derive(Clone, Copy)]
-pub(crate) struct PlaceText(pub u32);
+pub(crate) struct StoredPlace(pub u32);
 
-impl fmt::Display for PlaceText {
+impl fmt::Display for StoredPlace {
     fn fmt<W: fmt::Write>(&self, f: &mut fmt::Formatter<W>) -> fmt::Result {
         let bits = self.0;
         if !Allocation::is_bits(bits) {
             return write_bits(u64::from(bits), f);
         }
-        fmt::Display::fmt(&Allocation::from_bits(bits), f)
+        write!(f, "{}", Allocation::from_bits(bits))
+    }
+}
+
+/// A program point, as `inst3-pre` or `inst3-post`.
+#[derive(Clone, Copy)]
+pub struct PointText(pub ProgPoint);
+
+impl fmt::Display for PointText {
+    ghost output = { λ p. Some (point_text p.0) };
+
+    fn fmt<W: fmt::Write>(&self, f: &mut fmt::Formatter<W>) -> fmt::Result {
+        let inst = self.0.inst().index();
+        match self.0.pos() {
+            InstPosition::Before => write!(f, "inst{inst}-pre"),
+            InstPosition::After => write!(f, "inst{inst}-post"),
+        }
     }
 }
 
 /// A point's number, as `inst3-pre` or `inst3-post`.
 #[derive(Clone, Copy)]
-pub(crate) struct PointText(pub u32);
+pub(crate) struct StoredPoint(pub u32);
 
-impl fmt::Display for PointText {
+impl fmt::Display for StoredPoint {
     fn fmt<W: fmt::Write>(&self, f: &mut fmt::Formatter<W>) -> fmt::Result {
         let number = self.0;
         if !ProgPoint::is_index(number) {
             return write_bits(u64::from(number), f);
         }
-        let point = ProgPoint::from_index(number);
-        let inst = point.inst().index();
-        let position = match point.pos() {
-            InstPosition::Before => "pre",
-            InstPosition::After => "post",
-        };
-        write!(f, "inst{inst}-{position}")
+        write!(f, "{}", PointText(ProgPoint::from_index(number)))
     }
 }
 
@@ -157,7 +158,6 @@ pub(crate) struct BlockText(pub u32);
 
 impl fmt::Display for BlockText {
     fn fmt<W: fmt::Write>(&self, f: &mut fmt::Formatter<W>) -> fmt::Result {
-        let number = self.0;
-        write!(f, "block{number}")
+        write!(f, "block{}", self.0)
     }
 }

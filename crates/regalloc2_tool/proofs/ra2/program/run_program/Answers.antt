@@ -1,6 +1,6 @@
 use Rattle.std.proofs.Common.{◌≡◌, Some}
 use Rattle.regalloc2_tool.specs.Ra2.Words.{command_of}
-use Rattle.regalloc2_tool.proofs.ra2.program.answer.Goals as goal
+use Rattle.regalloc2_tool.proofs.ra2.program.run_program.Goals as goal
 
 pub returns-clause-done : goal.returns-clause-done
 returns-clause-done g c = λ e.
