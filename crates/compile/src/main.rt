@@ -102,6 +102,9 @@ fn run(rt: &HostRuntime, words: &[String]) -> u8 {
 fn main(rt: HostRuntime) -> ExitCode {
     ExitCode::from(match words(&rt) {
         Ok(words) => run(&rt, words.as_slice()),
-        Err(_) => UNUSABLE,
+        Err(error) => {
+            let _ = eprintln!(rt; "compile: the arguments can't be read: {error}");
+            UNUSABLE
+        }
     })
 }

@@ -78,8 +78,12 @@ fn perform_all(rt: &HostRuntime, task: Task<'_>) -> u8 {
 }
 
 fn main(rt: HostRuntime) -> ExitCode {
-    let Ok(words) = words(&rt) else {
-        return ExitCode::from(UNUSABLE);
+    let words = match words(&rt) {
+        Ok(words) => words,
+        Err(error) => {
+            let _ = eprintln!(rt; "ra2_text: the arguments can't be read: {error}");
+            return ExitCode::from(UNUSABLE);
+        }
     };
     match Task::of(rt.alloc(), words.as_slice()) {
         Ok(task) => ExitCode::from(perform_all(&rt, task)),

@@ -54,9 +54,9 @@ fn write_done(
     write_end(err.as_slice(), status, to)
 }
 
-/// Writes what the program writes for a command line, in which the first file is `text` and the other one of `diff` is `before`: what it
-/// writes to standard output, behind that what it writes to standard error, and its status. Of words that name no task the error's first
-/// line alone.
+/// Writes what the program writes for the command line `line`, in which the first file is `text` and the second file of `diff` is
+/// `before`: its standard output, then its standard error, and its status. If the words name no task, it writes the error's first line
+/// alone.
 pub fn write_program(
     alloc: Global,
     line: &str,

@@ -50,7 +50,7 @@ pub struct Given<'a, F: Function> {
     pub env: &'a MachineEnv,
     /// What `run` gives.
     pub out: &'a Output,
-    /// The same without moves.
+    /// `out` without its moves.
     pub without_moves: &'a Output,
     pub wanted: String,
 }

@@ -63,10 +63,24 @@ pub enum Found<'t> {
     Nothing,
 }
 
+/// The most characters of a token that a message shows.
+const SHOWN: usize = 60;
+
+/// The part of a token that a message shows, and what follows it: `..` if the token is longer.
+fn shown(token: &str) -> (&str, &'static str) {
+    match token.get(..SHOWN) {
+        Some(front) if front.len() < token.len() => (front, ".."),
+        _ => (token, ""),
+    }
+}
+
 impl fmt::Display for Found<'_> {
     fn fmt<W: fmt::Write>(&self, f: &mut fmt::Formatter<W>) -> fmt::Result {
         match self {
-            Found::Token(text) => write!(f, "`{text}`"),
+            Found::Token(text) => {
+                let (front, rest) = shown(text);
+                write!(f, "`{front}{rest}`")
+            }
             Found::Character(c) => write!(f, "{c:?}"),
             Found::LineEnd => f.write_str("the end of the line"),
             Found::TextEnd => f.write_str("the end of the text"),

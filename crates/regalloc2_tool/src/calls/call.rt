@@ -286,14 +286,30 @@ fn explain_finding<W: Write>(
     let (Some(place), Some(output)) = (place, given.output) else {
         return Ok(());
     };
-    if let Some(writes) = last_writes(alloc, given.function, output, number, place)? {
+    let pos = operand.pos();
+    if let Some(writes) = last_writes(alloc, given.function, output, number, pos, place)? {
         writes.write(to)?;
     }
     Ok(())
 }
 
+/// Writes a path on which a vreg is read or passed before it is written.
+fn write_path<W: Write>(
+    alloc: Global,
+    function: &StoredFunction,
+    source: &Source<'_>,
+    to: &mut W,
+) -> Result<(), CallError> {
+    let Some(read) = find_unwritten_read(alloc, function)? else {
+        return Ok(());
+    };
+    writeln!(to, "  {read}")?;
+    write_site(read.site, source, to)
+}
+
 /// Writes a line for each error, unless it is a failed memory allocation, and explains the first
-/// errors if there is a text. The output isn't accepted.
+/// errors if there is a text. If the output is the allocator's own, a path follows on which a vreg is
+/// read or passed before it is written. The output isn't accepted.
 fn write_findings<W: Write>(
     alloc: Global,
     errors: &[CheckerError],
@@ -310,6 +326,9 @@ fn write_findings<W: Write>(
         if let (Some(source), true) = (&given.source, k < EXPLAINED) {
             explain_finding(alloc, error, given, source, to)?;
         }
+    }
+    if let (Some(source), None) = (&given.source, given.output) {
+        write_path(alloc, given.function, source, to)?;
     }
     Ok(false)
 }
@@ -427,20 +446,6 @@ fn replay<F: Function, W: Write, E: Write>(
         Some(output) => judge_framed(alloc, f, env, &output, given, to, err),
         None => Ok(Verdict::Unusable),
     }
-}
-
-/// Writes a path on which a vreg is read or passed before it is written.
-fn write_path<W: Write>(
-    alloc: Global,
-    function: &StoredFunction,
-    source: &Source<'_>,
-    to: &mut W,
-) -> Result<(), CallError> {
-    let Some(read) = find_unwritten_read(alloc, function)? else {
-        return Ok(());
-    };
-    writeln!(to, "  {read}")?;
-    write_site(read.site, source, to)
 }
 
 /// Writes whether a write precedes each read and each argument, on every path, and if not, a path

@@ -1,4 +1,4 @@
-//! What a step does to the set of vregs of one place.
+//! The set of vregs that one place holds: a vreg leaves it, or it is met with another set.
 
 ghost use Rattle.std.specs.Prelude.{◌≡◌, ◌≢◌, ◌⊎◌, ℕ, ◌<◌, true, false, ◌&&◌, nat_eq, if◌then◌else◌, length, IfOk, OnOk, OnErr};
 ghost use Rattle.regalloc2_checker_sets.specs.SavedNumbers.{number_now};
@@ -9,7 +9,7 @@ use regalloc2_checker_sets::entries::Entries;
 use regalloc2_checker_sets::sets::Sets;
 use std::alloc::{AllocError, Allocator};
 
-/// Takes a vreg out of one place.
+/// Takes the vreg of the encoding `bits` out of `place`. A place past the array holds nothing.
 #[inline(always)]
 pub fn drop_at<A: Allocator + Copy>(
     entries: &mut Entries<A>,
@@ -32,18 +32,7 @@ pub fn drop_at<A: Allocator + Copy>(
     Ok(())
 }
 
-/// Whether something changed before, or two numbers differ.
-fn is_changed(before: bool, had: u32, common: u32) -> bool
-    ensures yes { result ≡ true → (before ≡ true) ⊎ (common ≢ had) }
-    ensures no { result ≡ false → (before ≡ false) × (common ≡ had) }
-{
-    if before {
-        return true;
-    }
-    common != had
-}
-
-/// Keeps at a position only what a set has too; returns whether the set has more, or `before` is set.
+/// Keeps at `place` only the members of the set `had`. Returns whether `had` has more of them, or `before` is set.
 pub fn meet_at<A: Allocator + Copy>(
     entries: &mut Entries<A>,
     sets: &mut Sets<A>,
@@ -68,5 +57,5 @@ pub fn meet_at<A: Allocator + Copy>(
     }
     let common = sets.common(had, entries.get(place))?;
     entries.set(place, common);
-    Ok(is_changed(before, had, common))
+    Ok(before | (common != had))
 }

@@ -1,8 +1,8 @@
 use Rattle.std.proofs.Common.{arith}
 use Rattle.regalloc2_checker_sets.specs.SavedNumbers.{number_now}
 use Rattle.regalloc2_checker_sets.specs.EntrySets.{is_member}
-use Rattle.regalloc2_checker_steps.proofs.SetsLemmas.{dropped-at}
-use Rattle.regalloc2_checker_steps.proofs.sets.drop_at.Goals as goal
+use Rattle.regalloc2_checker.proofs.OnePlace.{dropped-at}
+use Rattle.regalloc2_checker.proofs.one_place.drop_at.Goals as goal
 
 pub returns-clause-ok : goal.returns-clause-ok
 returns-clause-ok g c =

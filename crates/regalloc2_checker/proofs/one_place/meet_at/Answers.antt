@@ -1,7 +1,7 @@
 use Rattle.std.proofs.Common.{arith}
 use Rattle.regalloc2_checker_sets.specs.EntrySets.{is_member}
-use Rattle.regalloc2_checker_steps.proofs.SetsLemmas.{both-at}
-use Rattle.regalloc2_checker_steps.proofs.sets.meet_at.Goals as goal
+use Rattle.regalloc2_checker.proofs.OnePlace.{both-at}
+use Rattle.regalloc2_checker.proofs.one_place.meet_at.Goals as goal
 
 pub returns-clause-met : goal.returns-clause-met
 returns-clause-met g c =
