@@ -18,10 +18,10 @@ use Rattle.regalloc2_fastalloc_state.specs.declared.inst_regs.InstRegs.{InstRegs
 use Rattle.regalloc2_parts.specs.declared.scratch_pool.ScratchPair.{ScratchPair}
 use Rattle.regalloc2_fastalloc_state.specs.StateParts.{SpillSlotsValue, alloc_of, SetsAlloc, GetsSpillSlot, SlotsHaveOneOwner, AddsTempSlots, later_end}
 use Rattle.regalloc2_fastalloc_state.specs.StateParts.{NoneIsFrom, later_slot}
-use Rattle.regalloc2_steps.specs.Units.{most_units}
+use Rattle.regalloc2_fastalloc_state.specs.StateParts.{most_units}
 use Rattle.regalloc2_fastalloc_state.specs.ScratchPool.{Moves, pushed, HasTooFewSlots}
 use Rattle.regalloc2_fastalloc_state.specs.InstRegs.{IsAvailableAt}
-use Rattle.regalloc2_steps.specs.Positions.{both_positions}
+use Rattle.regalloc2_fastalloc_state.specs.Positions.{both_positions}
 use Rattle.regalloc2_fastalloc_proofs.specs.InstSteps.{StateValue, Outcome, next, no_register, InTurn, SameMachine, EvictPReg, EvictsPReg, MayHold}
 
 -- the next two temporary slots of a class, where there is room for them

@@ -17,7 +17,7 @@ use Rattle.regalloc2_parts.specs.declared.moves.MoveFault.{MoveFault}
 use Rattle.regalloc2_parts.specs.declared.moves.MoveFault.TheVariants.{NoSlot, Memory as MemoryFault}
 use Rattle.regalloc2_parts.specs.ScratchPool.{error_of}
 use Rattle.regalloc2_fastalloc_state.specs.StateParts.{SpillSlotsValue, SlotsHaveOneOwner, GetsSpillSlot, AreUpTo, IsSlotOrNone, later_end, owners, slot_name}
-use Rattle.regalloc2_steps.specs.Units.{most_units}
+use Rattle.regalloc2_fastalloc_state.specs.StateParts.{most_units}
 use Rattle.regalloc2_fastalloc_state.specs.OutOfResources.{IsResourceError, LacksSlots, SlotsExhausted}
 use Rattle.regalloc2_semantics.proofs.Forms.{nothing_there}
 use Rattle.regalloc2_semantics.proofs.Plain.{end_near}

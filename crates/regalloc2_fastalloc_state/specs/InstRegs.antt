@@ -6,7 +6,7 @@ use Rattle.regalloc2_names.specs.Register.{Register, class_code, is_register}
 use Rattle.regalloc2_names.specs.RegisterSet.{has_register}
 use Rattle.regalloc2_function.specs.Fitting.{count_below, register_number}
 use Rattle.regalloc2_fastalloc_state.specs.declared.inst_regs.InstRegs.{InstRegs}
-use Rattle.regalloc2_steps.specs.declared.positions.Positions.{Positions}
+use Rattle.regalloc2_fastalloc_state.specs.declared.positions.Positions.{Positions}
 
 -- a register is free at the positions
 pub record IsAvailableAt (inst_regs : InstRegs) (p : Positions) (r : Register) : Type 0 where

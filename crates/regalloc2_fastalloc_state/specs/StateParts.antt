@@ -7,7 +7,6 @@ use Rattle.std.specs.List.{count_by}
 use Rattle.regalloc2_names.specs.declared.RegClass.{RegClass}
 use Rattle.regalloc2_names.specs.Register.{class_code}
 use Rattle.regalloc2_parts.specs.Ring.{AreDistinctOf}
-use Rattle.regalloc2_steps.specs.Units.{most_units}
 use Rattle.regalloc2_function.specs.Fitting.{count_below, register_number}
 use Rattle.regalloc2_function.specs.Machine.{empty_set}
 use Rattle.regalloc2_function.specs.OutputValue.{MoveValue}
@@ -89,6 +88,10 @@ pub record SetsVRegInPReg (old new : List (Option VirtualRegister)) (p : Place) 
   pub long : length new ≡ length old
   pub each : (r : Register) → r.number < 64 → slice_index_or new (bits_of_register r)
       None ≡ (if is_place p (InRegister r) then v else slice_index_or old (bits_of_register r) None)
+
+-- the greatest number of units that all slots may take
+abbrev pub most_units : ℕ
+most_units = 16777216
 
 -- the slots of the vregs, by number; how many units all slots take; how many temporary slots there are, which belong to no vreg; the units
 -- of a slot of each class; whether a slot is named by its last unit

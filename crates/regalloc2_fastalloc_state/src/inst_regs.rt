@@ -7,9 +7,8 @@ ghost use Rattle.regalloc2_names.specs.RegisterSet.{has_register};
 ghost use Rattle.regalloc2_fastalloc_state.specs.InstRegs.{RemovesAvailable, IsAvailableAt, SameAvailable, awaited_of};
 ghost use Rattle.regalloc2_fastalloc_state.specs.InstRegs.{is_available_at, is_free_throughout};
 
+use crate::positions::Positions;
 use regalloc2_names::{PReg, PRegSet, RegClass};
-use regalloc2_steps::clobbers::late_left;
-pub use regalloc2_steps::positions::Positions;
 
 /// The registers of one instruction, while its operands are allocated.
 #[derive(Clone, Copy)]
@@ -98,7 +97,7 @@ impl InstRegs {
         ensures scratch { self.new.scratch ≡ self.old.scratch }
         ensures awaited { self.new.awaited ≡ self.old.awaited }
     {
-        self.late = late_left(self.late, taken);
+        self.late = self.late.difference(taken);
     }
 
     /// Counts one more operand of the class, if it requires any register.

@@ -4,11 +4,9 @@ ghost use Rattle.std.specs.Prelude.{◌≡◌, ℕ, ◌+◌, ◌-◌, ◌<◌, �
 ghost use Rattle.regalloc2_names.specs.Place.{InSlot};
 ghost use Rattle.regalloc2_fastalloc_state.specs.OutOfResources.{IsResourceErrorIn};
 ghost use Rattle.regalloc2_fastalloc_state.specs.StateParts.{SlotsHaveOneOwner, GetsSpillSlot, AddsTempSlots, later_end, later_slot, no_slots, slot_end};
-ghost use Rattle.regalloc2_fastalloc_state.specs.StateParts.{slot_name};
-ghost use Rattle.regalloc2_steps.specs.Units.{most_units};
+ghost use Rattle.regalloc2_fastalloc_state.specs.StateParts.{most_units, slot_name};
 
 use regalloc2_names::{Allocation, RegAllocError, RegClass, SpillSlot, VReg};
-use regalloc2_steps::units::Units;
 use std::alloc::Allocator;
 use std::marker::Model;
 
@@ -101,13 +99,14 @@ impl<A: Allocator> SpillSlots<A> {
             return Ok(had);
         }
         let size = self.sizes[vreg.class().code()];
-        let units = Units::after(self.count, size);
-        if units.end > SpillSlot::MAX + 1 {
+        let start = self.count.next_multiple_of(size);
+        let end = start + size;
+        if end > SpillSlot::MAX + 1 {
             return Err(RegAllocError::TooManySpillSlots);
         }
-        let slot = Allocation::stack(SpillSlot::new(named_unit(units.start, size, self.by_last)));
+        let slot = Allocation::stack(SpillSlot::new(named_unit(start, size, self.by_last)));
         self.vreg_spillslots[number] = slot;
-        self.count = units.end;
+        self.count = end;
         Ok(slot)
     }
 

@@ -42,8 +42,8 @@ no_wish : (wants : Requirement) → wants ≡ InMemory → (wants ≡ AnyPlace) 
 no_wish wants e (inl a) = (let x : InMemory ≡ AnyPlace = sym e ∙ a in cc)
 no_wish wants e (inr a) = (let x : InMemory ≡ AnyReg = sym e ∙ a in cc)
 
-module _ (Known : VirtualRegister → Type 0) (ops : List OperandValue) (tame : IsTame Known ops) (i : ℕ) (is_ret : Bool)
-    (ret : (k : ℕ) → k < length ops → is_def (op_at ops k).kind ≡ true → is_ret ≡ true) (edits : List (ℕ × MoveValue)) where
+module _ (Known : VirtualRegister → Type 0) (ops : List OperandValue) (tame : IsTame Known ops) (i : ℕ) (ends_block : Bool)
+    (only_at_end : (k : ℕ) → k < length ops → is_def (op_at ops k).kind ≡ true → ends_block ≡ true) (edits : List (ℕ × MoveValue)) where
   -- the definitions that are done are in no register
   abbrev InNone : (ℕ → Type 0) → List Place → Type 0
   InNone D there = (k : ℕ) → k < length ops → D k → is_def (op_at ops k).kind ≡ true → IsAnyOrStack (op_at ops k).constraint → (r : Register) →
@@ -52,10 +52,10 @@ module _ (Known : VirtualRegister → Type 0) (ops : List OperandValue) (tame : 
   -- one of these definitions
   placed_none : (j : ℕ) (p : Place) (t u : InstRegs) (old new : StateValue) → j < length ops → is_def (op_at ops j).kind ≡ true →
       ((r : Register) → alloc_of old.places (op_at ops j).vreg.number ≡ InRegister r → ⊥) →
-      AllocsDefOp (after i) (def_request (op_at ops j)) is_ret p t u old new →
+      AllocsDefOp (after i) (def_request (op_at ops j)) ends_block p t u old new →
       (c : OperandConstraint) → (op_at ops j).constraint ≡ c → IsAnyOrStack c → (r : Register) → p ≡ InRegister r → ⊥
   placed_none j p t u old new less def away d c is (inl any) r at =
-      let q = d.gets.awaited_in refl (ap requirement_of (is ∙ any)) r at in
+      let q = d.gets.expected_in refl (ap requirement_of (is ∙ any)) r at in
       away q.0 q.1
   placed_none j p t u old new less def away d c is (inr stack) r at = by_place (ap requirement_of (is ∙ stack)) d.gets.picks
     where
@@ -66,7 +66,7 @@ module _ (Known : VirtualRegister → Type 0) (ops : List OperandValue) (tame : 
       by_place wish (free q wants away may is_free first same en) = no_wish (requirement_of (op_at ops j).constraint) wish wants
 
   processes_operand_none : (D E : ℕ → Type 0) (j : ℕ) (here there : List Place) (t u : InstRegs) (old new : StateValue) →
-      ProcessesOperand i is_ret ops j here there t u old new →
+      ProcessesOperand i ends_block ops j here there t u old new →
       j < length ops → ((k : ℕ) → E k → k ≢ j → D k) → length here ≡ length ops →
       ((r : Register) → is_def (op_at ops j).kind ≡ true → alloc_of old.places (op_at ops j).vreg.number ≡ InRegister r → ⊥) → InNone D here → InNone E there
   processes_operand_none D E j here there t u old new (a_register q silent is written eu en) less back long away h k lk done def kind r at = elim
@@ -96,8 +96,8 @@ module _ (Known : VirtualRegister → Type 0) (ops : List OperandValue) (tame : 
         ]
       ]
 
-  late_none : (blank : List Place) (t : InstRegs) (old : StateValue) → Calm Known ops tame i is_ret ret true edits (LateDone ops 0) blank t old →
-      (k : ℕ) (there : List Place) (u : InstRegs) (m : StateValue) → ProcessesOperandsAt i is_ret true ops blank t old k there u m → k ≤ length ops →
+  late_none : (blank : List Place) (t : InstRegs) (old : StateValue) → Calm Known ops tame i ends_block only_at_end true edits (LateDone ops 0) blank t old →
+      (k : ℕ) (there : List Place) (u : InstRegs) (m : StateValue) → ProcessesOperandsAt i ends_block true ops blank t old k there u m → k ≤ length ops →
       InNone (LateDone ops k) there
   late_none blank t old c k there u m none_placed le = λ x lx done. absurd (let a = done.0 in omega arith)
   late_none blank t old c k there u m (of_other j l w s prev other) le = λ x lx done.
@@ -106,14 +106,14 @@ module _ (Known : VirtualRegister → Type 0) (ops : List OperandValue) (tame : 
         | inr ne ↦ ((let a = done.0 in omega (arith, a, ne)), done.1)
       ])
   late_none blank t old c k there u m (one_placed j l next w x s n prev late one) le =
-      let calm = late_calm Known ops tame i is_ret ret edits c prev (omega (arith, le)) in
+      let calm = late_calm Known ops tame i ends_block only_at_end edits c prev (omega (arith, le)) in
       processes_operand_none (LateDone ops j) (LateDone ops (j + 1)) j l there w u s m one (omega (arith, le))
       (λ y done ne. ((let a = done.0 in omega (arith, a, ne)), done.1))
       calm.2 (λ q def. calm.0.away j q (omega (arith, le)) def) (late_none blank t old c j l w s prev (omega (arith, le)))
 
-  early_none : (half : List Place) (t : InstRegs) (old : StateValue) → Calm Known ops tame i is_ret ret false edits (EarlyDone ops 0) half t old →
+  early_none : (half : List Place) (t : InstRegs) (old : StateValue) → Calm Known ops tame i ends_block only_at_end false edits (EarlyDone ops 0) half t old →
       InNone (EarlyDone ops 0) half →
-      (k : ℕ) (there : List Place) (u : InstRegs) (m : StateValue) → ProcessesOperandsAt i is_ret false ops half t old k there u m → k ≤ length ops →
+      (k : ℕ) (there : List Place) (u : InstRegs) (m : StateValue) → ProcessesOperandsAt i ends_block false ops half t old k there u m → k ≤ length ops →
       InNone (EarlyDone ops k) there
   early_none half t old c h k there u m none_placed le = h
   early_none half t old c h k there u m (of_other j l w s prev other) le = λ x lx done.
@@ -128,7 +128,7 @@ module _ (Known : VirtualRegister → Type 0) (ops : List OperandValue) (tame : 
         ]
       ])
   early_none half t old c h k there u m (one_placed j l next w x s n prev early one) le =
-      let calm = early_calm Known ops tame i is_ret ret edits c prev (omega (arith, le)) in
+      let calm = early_calm Known ops tame i ends_block only_at_end edits c prev (omega (arith, le)) in
       processes_operand_none (EarlyDone ops j) (EarlyDone ops (j + 1)) j l there w u s m one (omega (arith, le))
       (λ y done ne. elim done [ inl late ↦ inl late | inr below ↦ inr (omega (arith, below, ne)) ])
       calm.2 (λ q def. calm.0.away j q (omega (arith, le)) def) (early_none half t old c h j l w s prev (omega (arith, le)))
@@ -139,12 +139,12 @@ pub defs_in_slots : {Known : VirtualRegister → Type 0} {i : ℕ} (inst : InstV
     is_def (op_at inst.operands k).kind ≡ true → IsAnyOrStack (op_at inst.operands k).constraint → (r : Register) → at_place places k ≡ InRegister r → ⊥
 defs_in_slots {Known} {i} inst {blank} {places} {old} {new} tame ends a bare k less =
     let ops : List OperandValue = inst.operands in
-    let ret : (j : ℕ) → j < length ops → is_def (op_at ops j).kind ≡ true → ends_block inst ≡ true = λ j lj def. ends in
-    let start = calm_start Known i inst blank places old new tame ret a bare in
-    let late = late_calm Known ops tame i (ends_block inst) ret old.edits start a.lates
+    let only_at_end : (j : ℕ) → j < length ops → is_def (op_at ops j).kind ≡ true → ends_block inst ≡ true = λ j lj def. ends in
+    let start = calm_start Known i inst blank places old new tame only_at_end a bare in
+    let late = late_calm Known ops tame i (ends_block inst) only_at_end old.edits start a.lates
     (omega arith) in
-    early_none Known ops tame i (ends_block inst) ret old.edits a.half a.late a.after_late
-    (other_pass Known ops tame i (ends_block inst) ret old.edits a.half a.late a.after_late late)
-    (λ x lx done. late_none Known ops tame i (ends_block inst) ret old.edits blank a.quiet a.after_clobbers start (length ops) a.half a.late a.after_late
+    early_none Known ops tame i (ends_block inst) only_at_end old.edits a.half a.late a.after_late
+    (other_pass Known ops tame i (ends_block inst) only_at_end old.edits a.half a.late a.after_late late)
+    (λ x lx done. late_none Known ops tame i (ends_block inst) only_at_end old.edits blank a.quiet a.after_clobbers start (length ops) a.half a.late a.after_late
     a.lates (omega arith) x lx (elim done [ inl yes_late ↦ (lx, yes_late) | inr below ↦ absurd (omega (arith, below)) ]))
     (length ops) places a.early a.after_early a.earlies (omega arith) k less (inr less)

@@ -11,12 +11,12 @@ use Rattle.regalloc2_names.specs.Place.{Place, NoPlace, InRegister, InSlot}
 use Rattle.regalloc2_function.specs.OutputValue.{MoveValue}
 use Rattle.regalloc2_semantics.proofs.Cells.{is_place-same, is_place-other}
 use Rattle.regalloc2_fastalloc_state.specs.declared.inst_regs.InstRegs.{InstRegs}
-use Rattle.regalloc2_steps.specs.declared.positions.Positions.{Positions}
+use Rattle.regalloc2_fastalloc_state.specs.declared.positions.Positions.{Positions}
 use Rattle.regalloc2_fastalloc_state.specs.declared.request.Requirement.TheVariants.{InPReg}
 use Rattle.regalloc2_fastalloc_state.specs.declared.request.OperandRequest.{OperandRequest}
 use Rattle.regalloc2_fastalloc_state.specs.StateParts.{VRegAllocsValue, IsSlotOrNone, alloc_of, vreg_of_preg}
 use Rattle.regalloc2_fastalloc_state.specs.InstRegs.{IsAvailableAt}
-use Rattle.regalloc2_steps.specs.Positions.{positions_of}
+use Rattle.regalloc2_fastalloc_state.specs.Positions.{positions_of}
 use Rattle.regalloc2_function.specs.FunctionValue.{op_at}
 use Rattle.regalloc2_fastalloc_proofs.specs.InstSteps.{StateValue, empty, cleared, EvictsOtherVRegs, own, others, SelectsPlace, ClaimsPlace, in_slot}
 use Rattle.regalloc2_fastalloc_proofs.specs.InstSteps.{in_register, AllocsOperand, AddsMoveIf, sent, unsent, FreesAlloc, NeedsFixedReg}
@@ -204,18 +204,18 @@ same_places old new p e = record {
   held_by = λ r small. ap (λ (x : VRegAllocsValue). vreg_of_preg x r) p;
 }
 
-unsent_nothing : (point : ℕ) (v : VirtualRegister) (ret b : Bool) (from to : Place) (t u : InstRegs) (old new : StateValue) → ret ≡ true →
-    AddsMoveIf point v.class (not ret && b) from to t u old new → (u ≡ t) × (new ≡ old)
-unsent_nothing point v ret b from to t u old new yes_ret (sent made crosses) =
-    absurd (let x : (not true && b) ≡ true = ap (λ r. not r && b) (sym yes_ret) ∙ made in cc)
-unsent_nothing point v ret b from to t u old new yes_ret (unsent made eu en) = (eu, en)
+unsent_nothing : (point : ℕ) (v : VirtualRegister) (ends_block b : Bool) (from to : Place) (t u : InstRegs) (old new : StateValue) → ends_block ≡ true →
+    AddsMoveIf point v.class (not ends_block && b) from to t u old new → (u ≡ t) × (new ≡ old)
+unsent_nothing point v ends_block b from to t u old new at_end (sent made crosses) =
+    absurd (let x : (not true && b) ≡ true = ap (λ r. not r && b) (sym at_end) ∙ made in cc)
+unsent_nothing point v ends_block b from to t u old new at_end (unsent made eu en) = (eu, en)
 
 -- a definition of a return, whose vreg is in no register, changes no register
-pub frees_alloc_calm : (point : ℕ) (v : VirtualRegister) (ret : Bool) (p : Place) (t u : InstRegs) (old new : StateValue) → ret ≡ true →
-    FreesAlloc point v ret p t u old new → ((r : Register) → alloc_of old.places v.number ≡ InRegister r → ⊥) → (u ≡ t) × SamePlaces old new
-frees_alloc_calm point v ret p t u old new yes_ret d nowhere =
-    let a = unsent_nothing point v ret _ p (alloc_of old.places v.number) t d.inst_regs d.left d.middle yes_ret d.awaited in
-    let b = unsent_nothing point v ret _ p _ d.inst_regs u d.middle new yes_ret d.stored in
+pub frees_alloc_calm : (point : ℕ) (v : VirtualRegister) (ends_block : Bool) (p : Place) (t u : InstRegs) (old new : StateValue) → ends_block ≡ true →
+    FreesAlloc point v ends_block p t u old new → ((r : Register) → alloc_of old.places v.number ≡ InRegister r → ⊥) → (u ≡ t) × SamePlaces old new
+frees_alloc_calm point v ends_block p t u old new at_end d nowhere =
+    let a = unsent_nothing point v ends_block _ p (alloc_of old.places v.number) t d.inst_regs d.left d.middle at_end d.expected in
+    let b = unsent_nothing point v ends_block _ p _ d.inst_regs u d.middle new at_end d.stored in
     let same : new ≡ d.left = b.1 ∙ a.1 in (
       b.0 ∙ a.0,
       record {

@@ -16,11 +16,11 @@ use Rattle.regalloc2_semantics.proofs.Cells.{is_place-same, is_place-other}
 use Rattle.regalloc2_semantics.proofs.Operands.{reads_use}
 use Rattle.regalloc2_semantics.proofs.Forms.{same_register}
 use Rattle.regalloc2_fastalloc_state.specs.declared.inst_regs.InstRegs.{InstRegs}
-use Rattle.regalloc2_steps.specs.declared.positions.Positions.{Positions}
+use Rattle.regalloc2_fastalloc_state.specs.declared.positions.Positions.{Positions}
 use Rattle.regalloc2_fastalloc_state.specs.declared.request.Requirement.TheVariants.{InPReg}
 use Rattle.regalloc2_fastalloc_state.specs.StateParts.{VRegAllocsValue, SetsAlloc, alloc_of, vreg_of_preg}
 use Rattle.regalloc2_fastalloc_state.specs.InstRegs.{IsAvailableAt}
-use Rattle.regalloc2_steps.specs.Positions.{positions_of}
+use Rattle.regalloc2_fastalloc_state.specs.Positions.{positions_of}
 use Rattle.regalloc2_function.specs.FunctionValue.{op_at}
 use Rattle.regalloc2_fastalloc_proofs.specs.InstSteps.{StateValue, use_request, def_request, reuse_request, LocatesUse, stays, located, AllocsUse}
 use Rattle.regalloc2_fastalloc_proofs.specs.InstSteps.{AllocsDefOp, ProcessesOperand, a_register, a_use, a_def, a_reuse, own, named}
@@ -231,8 +231,8 @@ use_positions o (InSlot n) = refl
 free_at : (t : InstRegs) (p q : Positions) (r : Register) → p ≡ q → IsAvailableAt t p r → IsAvailableAt t q r
 free_at t p q r e h = subst (λ (x : Positions). IsAvailableAt t x r) e h
 
-module _ (Known : VirtualRegister → Type 0) (ops : List OperandValue) (tame : IsTame Known ops) (i : ℕ) (is_ret : Bool)
-    (ret : (k : ℕ) → k < length ops → is_def (op_at ops k).kind ≡ true → is_ret ≡ true) (pass : Bool) (edits : List (ℕ × MoveValue)) where
+module _ (Known : VirtualRegister → Type 0) (ops : List OperandValue) (tame : IsTame Known ops) (i : ℕ) (ends_block : Bool)
+    (only_at_end : (k : ℕ) → k < length ops → is_def (op_at ops k).kind ≡ true → ends_block ≡ true) (pass : Bool) (edits : List (ℕ × MoveValue)) where
   -- an operand is allocated, and holds its register at least at one position of the pass
   abbrev pub Reaches : Positions → Type 0
   Reaches p = (p.early ≡ true) ⊎ ((pass ≡ true) × (p.late ≡ true))
@@ -260,13 +260,13 @@ module _ (Known : VirtualRegister → Type 0) (ops : List OperandValue) (tame : 
   -- a definition that is no reuse
   def_calm : (D E : ℕ → Type 0) (k : ℕ) (p : Place) (here : List Place) (t u : InstRegs) (old new : StateValue) → k < length ops → NextDone D E k →
       Reaches (positions_of (op_at ops k)) → is_def (op_at ops k).kind ≡ true
-      → AllocsDefOp (after i) (def_request (op_at ops k)) is_ret p t u old new → Calm D here t old → Calm E (set here k p) u new
+      → AllocsDefOp (after i) (def_request (op_at ops k)) ends_block p t u old new → Calm D here t old → Calm E (set here k p) u new
   def_calm D E k p here t u old new less next reach def d c =
       let o : OperandValue = op_at ops k in
       let g = allocs_operand_calm (after i) ops pass edits (def_request o) p t d.inst_regs old d.middle d.gets c.0
       (λ q wants. c.1.nobody k q (positions_of o) less next.before_it (claims (own (tame.allocated k less def) (asked_fixed o.constraint q wants) refl)))
       (not_free t old (positions_of o) reach c.0) in
-      let z = frees_alloc_calm (after i) o.vreg is_ret p d.inst_regs u d.middle new (ret k less def) d.defines
+      let z = frees_alloc_calm (after i) o.vreg ends_block p d.inst_regs u d.middle new (only_at_end k less def) d.defines
       (λ q at. c.0.away k q less def (ap (λ (x : VRegAllocsValue). alloc_of x o.vreg.number) (sym g.places) ∙ at)) in
       let later : Less t u = subst (Less t) (sym z.0) g.later in
       let both : SamePlaces old new = record {
@@ -280,7 +280,7 @@ module _ (Known : VirtualRegister → Type 0) (ops : List OperandValue) (tame : 
   -- a reuse
   reuse_calm : (D E : ℕ → Type 0) (k n : ℕ) (p : Place) (here : List Place) (t u : InstRegs) (old new : StateValue) → k < length ops → NextDone D E k →
       (D n → ⊥) → is_def (op_at ops k).kind ≡ true → (op_at ops k).constraint ≡ Reuse n
-      → AllocsDefOp (after i) (reuse_request (op_at ops k) (op_at ops n)) is_ret p t u old new → Calm D here t old → Calm E (set (set here k p) n p) u new
+      → AllocsDefOp (after i) (reuse_request (op_at ops k) (op_at ops n)) ends_block p t u old new → Calm D here t old → Calm E (set (set here k p) n p) u new
   reuse_calm D E k n p here t u old new less next not_n def reuses d c =
       let o : OperandValue = op_at ops k in
       let m : OperandValue = op_at ops n in
@@ -293,7 +293,7 @@ module _ (Known : VirtualRegister → Type 0) (ops : List OperandValue) (tame : 
       let taken : (q : Register) (v : VirtualRegister) → q.number < 64 → vreg_of_preg old.places q ≡ Some v → IsAvailableAt t (reuse_request o m).positions q →
       ⊥ = λ q v small held f. both_ways (has_register t.early q) (c.0.early q v small held) (f.early refl) in
       let g = allocs_operand_calm (after i) ops pass edits (reuse_request o m) p t d.inst_regs old d.middle d.gets c.0 none taken in
-      let z = frees_alloc_calm (after i) o.vreg is_ret p d.inst_regs u d.middle new (ret k less def) d.defines
+      let z = frees_alloc_calm (after i) o.vreg ends_block p d.inst_regs u d.middle new (only_at_end k less def) d.defines
       (λ q at. c.0.away k q less def (ap (λ (x : VRegAllocsValue). alloc_of x o.vreg.number) (sym g.places) ∙ at)) in
       let later : Less t u = subst (Less t) (sym z.0) g.later in
       let both : SamePlaces old new = record {
@@ -442,7 +442,7 @@ module _ (Known : VirtualRegister → Type 0) (ops : List OperandValue) (tame : 
 
   -- an operand is allocated
   pub processes_operand_calm : {D E : ℕ → Type 0} {k : ℕ} {here there : List Place} {t u : InstRegs} {old new : StateValue} →
-      ProcessesOperand i is_ret ops k here there t u old new → k < length ops → NextDone D E k → Reaches (positions_of (op_at ops k))
+      ProcessesOperand i ends_block ops k here there t u old new → k < length ops → NextDone D E k → Reaches (positions_of (op_at ops k))
       → ((n : ℕ) → (op_at ops k).constraint ≡ Reuse n → D n → ⊥)
       → (is_reading (op_at ops k) ≡ true → pass ≡ true → (positions_of (op_at ops k)).late ≡ true)
       → (is_reading (op_at ops k) ≡ true → (j : ℕ) (r : Register) (w : Positions) → j < length ops → (D j → ⊥) → Asks ops here j r w →

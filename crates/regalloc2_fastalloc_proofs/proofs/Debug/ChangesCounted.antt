@@ -138,12 +138,12 @@ counts_between a b c d f g h = up_then a.places.changes c.places.changes d.place
     (then_up a.places.changes b.places.changes c.places.changes f.rises g) h.rises
 
 -- a definition
-def_counts : {point : ℕ} {v : VirtualRegister} {ret : Bool} {p : Place} {t u : InstRegs} {old new : StateValue} → FreesAlloc point v ret p t u old new →
+def_counts : {point : ℕ} {v : VirtualRegister} {ends_block : Bool} {p : Place} {t u : InstRegs} {old new : StateValue} → FreesAlloc point v ends_block p t u old new →
     Watches old v.number → CountsUp old new
 def_counts {v} {old} {new} d watches = counts_between old old d.left new (same_counted old old refl)
     (rw d.settles.changes (count_up old.places.watched old.places.changes v.number (alloc_of old.places v.number) NoPlace
     (none_right (is_no_place (alloc_of old.places v.number))) watches))
-    (changes_counted (in_order d.middle (adds_move_if_changes (λ q r. tt) (λ q. tt) d.awaited) (adds_move_if_changes (λ q r. tt) (λ q. tt) d.stored)))
+    (changes_counted (in_order d.middle (adds_move_if_changes (λ q r. tt) (λ q. tt) d.expected) (adds_move_if_changes (λ q r. tt) (λ q. tt) d.stored)))
   where
     none_right : (b : Bool) → (b || is_no_place NoPlace) ≡ true
     none_right true = refl
@@ -156,19 +156,19 @@ use_counts (use_stays there e) none watches = absurd (there none)
 use_counts {v} {p} {old} (located nowhere settles slots edits machine order) none watches =
     rw settles.changes (count_up old.places.watched old.places.changes v.number (alloc_of old.places v.number) p (rw nowhere refl) watches)
 
-module _ (i : ℕ) (ret : Bool) (ops : List OperandValue) where
-  operand_counted : {k : ℕ} {here there : List Place} {t u : InstRegs} {old new : StateValue} → ProcessesOperand i ret ops k here there t u old new →
+module _ (i : ℕ) (ends_block : Bool) (ops : List OperandValue) where
+  operand_counted : {k : ℕ} {here there : List Place} {t u : InstRegs} {old new : StateValue} → ProcessesOperand i ends_block ops k here there t u old new →
       Counted old new
   operand_counted {k} one = changes_counted (processes_operand_changes (λ p q. tt) (free_operand (op_at ops k)) one)
 
-  by_parts : {o : OperandRequest} {p : Place} {t u : InstRegs} {old new : StateValue} → AllocsDefOp (after i) o ret p t u old new →
+  by_parts : {o : OperandRequest} {p : Place} {t u : InstRegs} {old new : StateValue} → AllocsDefOp (after i) o ends_block p t u old new →
       Watches old o.vreg.number → CountsUp old new
   by_parts {o} {old} {new} d watches =
       let got : Counted old d.middle = changes_counted (allocs_operand_changes (λ q r. tt) tt d.gets) in
       then_up old.places.changes d.middle.places.changes new.places.changes got.rises (def_counts d.defines (still_watched old d.middle o.vreg.number got watches))
 
   -- an operand that defines a watched vreg
-  one_def : (k : ℕ) (here there : List Place) (t u : InstRegs) (old new : StateValue) → ProcessesOperand i ret ops k here there t u old new →
+  one_def : (k : ℕ) (here there : List Place) (t u : InstRegs) (old new : StateValue) → ProcessesOperand i ends_block ops k here there t u old new →
       is_def (op_at ops k).kind ≡ true → is_fixed_nonallocatable (op_at ops k) ≡ false → Watches old (op_at ops k).vreg.number → CountsUp old new
   one_def k here there t u old new (a_register r f c e eu en) def allocated watches = absurd (let z : true ≡ false = sym f ∙ allocated in cc)
   one_def k here there t u old new (a_use p reads d e) def allocated watches = absurd (let z = reads_use (op_at ops k) reads in cc)
@@ -176,7 +176,7 @@ module _ (i : ℕ) (ret : Bool) (ops : List OperandValue) where
   one_def k here there t u old new (a_reuse n p is reuses d e) def allocated watches = by_parts d watches
 
   -- an operand that reads a watched vreg without a location
-  one_use : (k : ℕ) (here there : List Place) (t u : InstRegs) (old new : StateValue) → ProcessesOperand i ret ops k here there t u old new →
+  one_use : (k : ℕ) (here there : List Place) (t u : InstRegs) (old new : StateValue) → ProcessesOperand i ends_block ops k here there t u old new →
       is_reading (op_at ops k) ≡ true → Watches old (op_at ops k).vreg.number → Absent (op_at ops k).vreg.number old → CountsUp old new
   one_use k here there t u old new (a_register r f c e eu en) reading watches absent = absurd (reads_no_fixed (op_at ops k) reading f)
   one_use k here there t u old new (a_def p is plain d e) reading watches absent = absurd (let z = reads_use (op_at ops k) reading in cc)
@@ -193,7 +193,7 @@ module _ (i : ℕ) (ret : Bool) (ops : List OperandValue) where
   -- the operands of a pass
   module _ (late : Bool) (before_it : List Place) (began : InstRegs) (first : StateValue) where
     abbrev Pass : ℕ → List Place → InstRegs → StateValue → Type 0
-    Pass = ProcessesOperandsAt i ret late ops before_it began first
+    Pass = ProcessesOperandsAt i ends_block late ops before_it began first
 
     pass_counted : (n : ℕ) (list : List Place) (u : InstRegs) (m : StateValue) → Pass n list u m → Counted first m
     pass_counted n list u m pass = changes_counted (processes_operands_at_changes (λ p q. tt) (λ j lt at. free_operand (op_at ops j)) pass)
@@ -207,7 +207,7 @@ module _ (i : ℕ) (ret : Bool) (ops : List OperandValue) where
         pass_def k def allocated at watches j list u m prev (omega (arith, lt, ne))
     pass_def k def allocated at watches n list u m (one_placed j l next w y s z prev of_pass one) lt = elim (cases_eq j k) [
       | inl e ↦ then_up first.places.changes s.places.changes m.places.changes (pass_counted j l w s prev).rises
-          (one_def k l list w u s m (subst (λ (q : ℕ). ProcessesOperand i ret ops q l list w u s m) e one) def allocated
+          (one_def k l list w u s m (subst (λ (q : ℕ). ProcessesOperand i ends_block ops q l list w u s m) e one) def allocated
           (still_watched first s (op_at ops k).vreg.number (pass_counted j l w s prev) watches))
       | inr ne ↦ up_then first.places.changes s.places.changes m.places.changes
           (pass_def k def allocated at watches j l w s prev (omega (arith, lt, ne))) (operand_counted one).rises
@@ -245,7 +245,7 @@ module _ (i : ℕ) (ret : Bool) (ops : List OperandValue) where
       | inl e ↦ elim (pass_absent (op_at ops k).vreg.number watches absent j l w s prev) [
         | inr up ↦ up_then first.places.changes s.places.changes m.places.changes up (operand_counted one).rises
         | inl still ↦ then_up first.places.changes s.places.changes m.places.changes (pass_counted j l w s prev).rises
-            (one_use k l list w u s m (subst (λ (q : ℕ). ProcessesOperand i ret ops q l list w u s m) e one) reading
+            (one_use k l list w u s m (subst (λ (q : ℕ). ProcessesOperand i ends_block ops q l list w u s m) e one) reading
             (still_watched first s (op_at ops k).vreg.number (pass_counted j l w s prev) watches) still)
       ]
     ]

@@ -65,7 +65,7 @@ module _ (code : ProperCode) where
       ops = ops;
       lived = lives_in old;
       clob = clob;
-      ret = ends_block (inst_at f i);
+      ends_block = ends_block (inst_at f i);
       orderly = orderly i lt;
       plain = plain;
       d = d;

@@ -18,8 +18,8 @@ use Rattle.regalloc2_semantics.specs.BlockByPoints.{AllFrom, at_point, walked, l
 use Rattle.regalloc2_semantics.specs.OperandsPlaced.{What, what_of, Progress, Need}
 use Rattle.regalloc2_semantics.proofs.MoveInFront.{after_part-clean}
 use Rattle.regalloc2_fastalloc_state.specs.declared.inst_regs.InstRegs.{InstRegs}
-use Rattle.regalloc2_steps.specs.declared.positions.Positions.{Positions}
-use Rattle.regalloc2_steps.specs.Positions.{positions_of}
+use Rattle.regalloc2_fastalloc_state.specs.declared.positions.Positions.{Positions}
+use Rattle.regalloc2_fastalloc_state.specs.Positions.{positions_of}
 use Rattle.regalloc2_fastalloc_proofs.specs.InstSteps.{StateValue, NeedsFixedReg, own, named, ReservesRegs, RemovesClobbers, EvictsEach, none_left, one_more}
 use Rattle.regalloc2_fastalloc_proofs.specs.InstSteps.{AllocsInst, ends_block}
 use Rattle.regalloc2_fastalloc_proofs.specs.Safety.{IsWhole}
@@ -108,17 +108,17 @@ module _ (Known : VirtualRegister → Type 0) (insts : ℕ → InstValue) (place
 
   -- What is listed after a return carries each known vreg from nowhere.
   abbrev pub EndsHere : ℕ → ℕ → Bool → StateValue → Type 0
-  EndsHere i n ret t = ret ≡ true → Claims Known (walked insts (at_point (listed t.edits)) placesf i n) (λ x p. ⊥) E
+  EndsHere i n ends_block t = ends_block ≡ true → Claims Known (walked insts (at_point (listed t.edits)) placesf i n) (λ x p. ⊥) E
 
 module _ (tail : BlockTail) where
   open tail use {Known, insts, placesf, i, n, E}
 
   -- after an instruction, with nothing reserved or claimed, the record of its operands holds
-  pub start : (ops : List OperandValue) (ret : Bool) (b : InstRegs) (t : StateValue) → Carried Known insts placesf E (i + 1) n t → EndsHere Known insts
-      placesf E (i + 1) n ret t →
+  pub start : (ops : List OperandValue) (ends_block : Bool) (b : InstRegs) (t : StateValue) → Carried Known insts placesf E (i + 1) n t → EndsHere Known insts
+      placesf E (i + 1) n ends_block t →
       b.scratch ≡ None ∷ None ∷ None ∷ [] →
-      FixedUpTo tail ops (lives_in t) ret b t 0 b t
-  start ops ret b t c ends none =
+      FixedUpTo tail ops (lives_in t) ends_block b t 0 b t
+  start ops ends_block b t c ends none =
       let owes : Owes tail (lives_in t) (λ x. false) (λ p x. false) (stands_at t) (slots_at t) t.edits = begin_owes tail t c.later c.claims in
       record {
         here = λ j. NoPlace;
@@ -151,23 +151,23 @@ module _ (tail : BlockTail) where
       }
 
   -- registers are emptied one after another
-  pub record Quieted (ops : List OperandValue) (here : ℕ → Place) (claimed lived : ℕ → Bool) (ret : Bool) (rs : List Register) (t u : InstRegs)
+  pub record Quieted (ops : List OperandValue) (here : ℕ → Place) (claimed lived : ℕ → Bool) (ends_block : Bool) (rs : List Register) (t u : InstRegs)
       (old new : StateValue) : Type 0 where
-    pub ready : Start tail ops here claimed lived ret u new
+    pub ready : Start tail ops here claimed lived ends_block u new
     pub kept : Kept old new
     pub less : Less t u
     pub emptied : (r : Register) → Contains rs r → (x : ℕ) → place_in new x ≡ InRegister r → ⊥
 
   -- evicting a list of registers, such as the clobbers, keeps the record, and leaves no vreg in any of them
-  pub all_cleared : (ops : List OperandValue) (here : ℕ → Place) (claimed lived : ℕ → Bool) (ret : Bool) (rs : List Register) (t u : InstRegs)
+  pub all_cleared : (ops : List OperandValue) (here : ℕ → Place) (claimed lived : ℕ → Bool) (ends_block : Bool) (rs : List Register) (t u : InstRegs)
       (old new : StateValue) → EvictsEach (after i) rs t old u new →
-      Start tail ops here claimed lived ret t old → Quieted ops here claimed lived ret rs t u old new
-  all_cleared ops here claimed lived ret rs t u old new (none_left w m) =
+      Start tail ops here claimed lived ends_block t old → Quieted ops here claimed lived ends_block rs t u old new
+  all_cleared ops here claimed lived ends_block rs t u old new (none_left w m) =
       λ s. record { ready = s; kept = kept_all old; less = less_same t t refl; emptied = λ r c x e. let lt : c.0 < 0 = c.1 in absurd (omega arith) }
-  all_cleared ops here claimed lived ret rs t u old new (one_more q qs t1 w u1 old1 m new1 clears rest) = λ s.
-      let c = ready_evicts_preg tail ops (begun here claimed lived) ret q t w old m clears
+  all_cleared ops here claimed lived ends_block rs t u old new (one_more q qs t1 w u1 old1 m new1 clears rest) = λ s.
+      let c = ready_evicts_preg tail ops (begun here claimed lived) ends_block q t w old m clears
       (λ v at. (all_lived (what_of ops) here claimed lived old s.located v (InRegister q) at, λ z. refl)) s in
-      let y : Quieted ops here claimed lived ret qs w u m new = all_cleared ops here claimed lived ret qs w u m new rest c.0.ready in
+      let y : Quieted ops here claimed lived ends_block qs w u m new = all_cleared ops here claimed lived ends_block qs w u m new rest c.0.ready in
       record {
         ready = y.ready;
         kept = kept_then old m new c.0.kept y.kept;

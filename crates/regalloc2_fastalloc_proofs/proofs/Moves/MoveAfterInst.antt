@@ -48,10 +48,10 @@ module _ (tail : BlockTail) where
   open tail use {Known, insts, placesf, i, n, E}
 
   -- the record without what the listing carries
-  pub record Steady (ops : List OperandValue) (far : Progress) (ret : Bool)
+  pub record Steady (ops : List OperandValue) (far : Progress) (ends_block : Bool)
       (u : InstRegs) (t : StateValue) : Type 0 where
     pub located : Located (what_of ops) far t
-    pub nothing : ret ≡ true → Nothing tail t.edits
+    pub nothing : ends_block ≡ true → Nothing tail t.edits
     pub held : Held (what_of ops) far.here far.claimed (held_early u) (held_late u)
     pub scratch_reserve : Spare far.here far.claimed far.made_at u t
     pub fit : Fit t
@@ -60,11 +60,11 @@ module _ (tail : BlockTail) where
     pub small : (j : ℕ) (r : Register) → far.claimed j ≡ true → far.here j ≡ InRegister r → r.number < 64
 
   -- the record without what the listing carries, together with that, is the record
-  pub ready_of : (ops : List OperandValue) (far : Progress) (ret : Bool)
+  pub ready_of : (ops : List OperandValue) (far : Progress) (ends_block : Bool)
       (u : InstRegs) (t : StateValue) →
-      Steady ops far ret u t → Owes tail far.lived far.out far.made_at (stands_at t) (slots_at t) t.edits →
-      Ready tail ops far ret u t
-  ready_of ops far ret u t s o =
+      Steady ops far ends_block u t → Owes tail far.lived far.out far.made_at (stands_at t) (slots_at t) t.edits →
+      Ready tail ops far ends_block u t
+  ready_of ops far ends_block u t s o =
       record {
         located = s.located;
         owes = o;
@@ -79,8 +79,8 @@ module _ (tail : BlockTail) where
 
   -- after a move, or none
   pub record Sent (ops : List OperandValue) (far : Progress) (need : ℕ → Bool)
-      (ret : Bool) (u : InstRegs) (old new : StateValue) : Type 0 where
-    pub steady : Steady ops far ret u new
+      (ends_block : Bool) (u : InstRegs) (old new : StateValue) : Type 0 where
+    pub steady : Steady ops far ends_block u new
     pub owes : Owes tail far.lived need far.made_at (stands_at new) (slots_at new) new.edits
     pub kept : Kept old new
 
@@ -90,14 +90,14 @@ module _ (tail : BlockTail) where
     pub others : (x : ℕ) (q : Place) → (q ≡ to → ⊥) → Need lived need X (put (stands_at m) v c) (slots_at m) x q →
         Need lived need2 X (stands_at m) (slots_at m) x q
 
-  steady_push : (ops : List OperandValue) (far : Progress) (ret : Bool)
+  steady_push : (ops : List OperandValue) (far : Progress) (ends_block : Bool)
       (u : InstRegs) (t : StateValue) (es : List (ℕ × MoveValue)) →
       Located (what_of ops) far t → Held (what_of ops) far.here far.claimed (held_early u) (held_late u) → Spare far.here far.claimed far.made_at u t →
       Fit t →
       ((r : Register) → far.clobbered (InRegister r) ≡ true → has_register u.late r ≡ false) → ((j : ℕ) → far.claimed j ≡ true → Counts ops j) →
       ((j : ℕ) (r : Register) → far.claimed j ≡ true → far.here j ≡ InRegister r → r.number < 64) →
-      (ret ≡ true → Nothing tail es) → Steady ops far ret u (record t { edits = es })
-  steady_push ops far ret u t es st h sp f cl within small rest = record {
+      (ends_block ≡ true → Nothing tail es) → Steady ops far ends_block u (record t { edits = es })
+  steady_push ops far ends_block u t es st h sp f cl within small rest = record {
     located = stands_edits (what_of ops) far t es st;
     nothing = rest;
     held = h;
@@ -110,20 +110,20 @@ module _ (tail : BlockTail) where
 
   -- a move added after the instruction for a vreg that is being moved keeps the record: its value is needed at the source from then on
   pub adds_move_step : {ops : List OperandValue} {far : Progress} {need need2 : ℕ → Bool}
-      {ret : Bool} (v : ℕ) (c : Option Place) {class : RegClass} {from to : Place} {t u : InstRegs} {old new : StateValue} →
+      {ends_block : Bool} (v : ℕ) (c : Option Place) {class : RegClass} {from to : Place} {t u : InstRegs} {old new : StateValue} →
       AddsMove (after i) class from to t u old new → to ≢ NoPlace → place_in old v ≡ NoPlace → (c ≡ Some to) ⊎ (c ≡ None) →
       ((m : StateValue) → Located (what_of ops) far m → Kept old m → Moves far.lived need need2 far.made_at v c from to m) →
-      Steady ops far ret t old → Owes tail far.lived need far.made_at (put (stands_at old) v c) (slots_at old) old.edits →
-      Sent ops far need2 ret u old new
-  adds_move_step {ops} {far} {need} {need2} {ret} v c {class} {from} {to} {t} {old} {new} (direct flat eu en) there nowhere away moves s o =
+      Steady ops far ends_block t old → Owes tail far.lived need far.made_at (put (stands_at old) v c) (slots_at old) old.edits →
+      Sent ops far need2 ends_block u old new
+  adds_move_step {ops} {far} {need} {need2} {ends_block} v c {class} {from} {to} {t} {old} {new} (direct flat eu en) there nowhere away moves s o =
       let es : List (ℕ × MoveValue) = old.edits ++ a_move (after i) from to ∷ [] in
       let mv : Moves far.lived need need2 far.made_at v c from to old = moves old s.located (kept_all old) in
       let L : List Item = after_part insts (listed old.edits) placesf i n in
       let M : ℕ → Place → Type 0 = Need far.lived need2 far.made_at (stands_at old) (slots_at old) in
       let claims : Claims Known (Move (record { from = from; to = to }) ∷ L) M E =
       claims_move Known E L (Need far.lived need far.made_at (put (stands_at old) v c) (slots_at old)) M from to there mv.moved mv.others o.claims in
-      let sent : Sent ops far need2 ret t old (record old { edits = es }) = record {
-        steady = steady_push ops far ret t old es s.located s.held s.scratch_reserve s.fit s.clobbers s.within s.small
+      let sent : Sent ops far need2 ends_block t old (record old { edits = es }) = record {
+        steady = steady_push ops far ends_block t old es s.located s.held s.scratch_reserve s.fit s.clobbers s.within s.small
             (λ e. none_adds_move tail class from to t t old (record old { edits = es }) there (direct flat refl refl) (s.nothing e));
         owes = record {
           later = later_push tail (after i) (record { from = from; to = to }) old.edits o.later;
@@ -131,9 +131,9 @@ module _ (tail : BlockTail) where
         };
         kept = kept_edits old old es (kept_all old);
       } in
-      subst (λ (y : InstRegs). Sent ops far need2 ret y old new) (sym eu)
-      (subst (Sent ops far need2 ret t old) (sym en) sent)
-  adds_move_step {ops} {far} {need} {need2} {ret} v c {class} {from} {to} {t} {u} {old} (through by m stack scratches en) there nowhere away moves s
+      subst (λ (y : InstRegs). Sent ops far need2 ends_block y old new) (sym eu)
+      (subst (Sent ops far need2 ends_block t old) (sym en) sent)
+  adds_move_step {ops} {far} {need} {need2} {ends_block} v c {class} {from} {to} {t} {u} {old} (through by m stack scratches en) there nowhere away moves s
       o =
       let es : List (ℕ × MoveValue) = m.edits ++ a_move (after i) (InRegister by) to ∷ a_move (after i) from (InRegister by) ∷ [] in
       let off : has_register old.fixed_stack by ≡ false = scratch_off far.here far.claimed far.made_at (after i) class t u by old m scratches s.fit
@@ -168,8 +168,8 @@ module _ (tail : BlockTail) where
       let claims : Claims Known (Move (record { from = from; to = InRegister by }) ∷ (Move (record { from = InRegister by; to = to }) ∷ L)) M E =
       claims_through Known E L N M from (InRegister by) to (λ z. cc) there nobody mv.moved mv.others sb.owes.claims in
       let less : Less t u = allocs_scratch_reg_less (after i) class t u by old m scratches in
-      let sent : Sent ops far need2 ret u old (record m { edits = es }) = record {
-        steady = steady_push ops far ret u m es sb.located sb.held
+      let sent : Sent ops far need2 ends_block u old (record m { edits = es }) = record {
+        steady = steady_push ops far ends_block u m es sb.located sb.held
             (spare_more far.here far.claimed far.made_at (after i) class t u by old m scratches sb.idle sb.kept s.scratch_reserve)
             (fit_same old m sb.kept.machine s.fit) (λ r e. less.late r (s.clobbers r e)) s.within s.small
             (λ e. none_adds_move tail class from to t u old (record m { edits = es }) there (through by m stack scratches refl)
@@ -180,4 +180,4 @@ module _ (tail : BlockTail) where
         };
         kept = kept_edits old m es sb.kept;
       } in
-      subst (Sent ops far need2 ret u old) (sym en) sent
+      subst (Sent ops far need2 ends_block u old) (sym en) sent

@@ -50,11 +50,11 @@ another_not p q e = elim (cases_place p NoPlace) [
   ]
 ]
 
-made_parts : (ret b : Bool) → (not ret && b) ≡ true → (ret ≡ false) × (b ≡ true)
+made_parts : (ends_block b : Bool) → (not ends_block && b) ≡ true → (ends_block ≡ false) × (b ≡ true)
 made_parts true b e = absurd cc
 made_parts false b e = (refl, e)
 
-unmade_parts : (ret b : Bool) → (not ret && b) ≡ false → (ret ≡ true) ⊎ (b ≡ false)
+unmade_parts : (ends_block b : Bool) → (not ends_block && b) ≡ false → (ends_block ≡ true) ⊎ (b ≡ false)
 unmade_parts true b e = inl refl
 unmade_parts false b e = inr e
 
@@ -72,7 +72,7 @@ real_slot count NoPlace b ne = absurd (ne refl)
 real_slot count (InRegister r) b ne = absurd b
 real_slot count (InSlot q) b ne = (q, refl)
 
-module _ (tail : BlockTail) (ops : List OperandValue) (far : Progress) (done2 out2 : ℕ → Bool) (Y : Place → ℕ → Bool) (ret : Bool) (k : ℕ)
+module _ (tail : BlockTail) (ops : List OperandValue) (far : Progress) (done2 out2 : ℕ → Bool) (Y : Place → ℕ → Bool) (ends_block : Bool) (k : ℕ)
     (pd : PlacesDef (Counts ops) (what_of ops) far done2 out2 Y k) where
   open tail use {Known, insts, placesf, i, n, E}
 
@@ -90,7 +90,7 @@ module _ (tail : BlockTail) (ops : List OperandValue) (far : Progress) (done2 ou
   -- the vreg has left the tables
   module _ (t : InstRegs) (old left : StateValue) (z : SetsAlloc old.places left.places v NoPlace) (slots : left.slots ≡ old.slots)
       (edits : left.edits ≡ old.edits) (machine : SameMachine old left)
-      (r : Ready tail ops far ret t old) where
+      (r : Ready tail ops far ends_block t old) where
     abbrev c : Place
     c = place_in old v.number
 
@@ -111,7 +111,7 @@ module _ (tail : BlockTail) (ops : List OperandValue) (far : Progress) (done2 ou
       unclaimed = f.unclaimed;
     }
 
-    left_steady : Steady tail ops next ret t left
+    left_steady : Steady tail ops next ends_block t left
     left_steady = record {
       located = leave_stands (Counts ops) (what_of ops) far done2 out2 Y old left k v pd r.within refl z slots
           r.located;
@@ -203,7 +203,7 @@ module _ (tail : BlockTail) (ops : List OperandValue) (far : Progress) (done2 ou
           ]) r.owes.claims;
     })
 
-    nothing_owed : (need : ℕ → Bool) → ret ≡ true → Owes tail far.lived need Y (stands_at left) (slots_at left) left.edits
+    nothing_owed : (need : ℕ → Bool) → ends_block ≡ true → Owes tail far.lived need Y (stands_at left) (slots_at left) left.edits
     nothing_owed need e = record {
       later = subst (λ es. AllFrom (after i) (listed es)) (sym edits) r.owes.later;
       claims = claims_weaken Known E (after_part insts (listed left.edits) placesf i n) (λ x p. ⊥) (Need far.lived need Y (stands_at left) (slots_at left))
@@ -242,23 +242,23 @@ module _ (tail : BlockTail) (ops : List OperandValue) (far : Progress) (done2 ou
     -- nothing is moved
     stayed : (need : ℕ → Bool) (inst_regs : InstRegs) (middle : StateValue) → inst_regs ≡ t → middle ≡ left →
         Owes tail far.lived need Y (stands_at left) (slots_at left) left.edits →
-        Sent tail ops next need ret inst_regs left middle
+        Sent tail ops next need ends_block inst_regs left middle
     stayed need inst_regs middle eu en o =
-        let rest : Sent tail ops next need ret t left
+        let rest : Sent tail ops next need ends_block t left
         left = record { steady = left_steady; owes = o; kept = kept_all left } in
-        subst (λ (y : InstRegs). Sent tail ops next need ret y left middle) (sym eu)
-        (subst (Sent tail ops next need ret t left) (sym en) rest)
+        subst (λ (y : InstRegs). Sent tail ops next need ends_block y left middle) (sym eu)
+        (subst (Sent tail ops next need ends_block t left) (sym en) rest)
 
-    awaited_step : (need : ℕ → Bool) → Which need → (inst_regs : InstRegs) (middle : StateValue) →
-        AddsMoveIf (after i) v.class (not ret && is_another c (far.here k)) (far.here k) c t inst_regs left middle →
-        Sent tail ops next need ret inst_regs left middle
-    awaited_step need which inst_regs middle (sent yes_made crosses) =
-        let x = another_is c (far.here k) (made_parts ret (is_another c (far.here k)) yes_made).1 in
+    expected_step : (need : ℕ → Bool) → Which need → (inst_regs : InstRegs) (middle : StateValue) →
+        AddsMoveIf (after i) v.class (not ends_block && is_another c (far.here k)) (far.here k) c t inst_regs left middle →
+        Sent tail ops next need ends_block inst_regs left middle
+    expected_step need which inst_regs middle (sent yes_made crosses) =
+        let x = another_is c (far.here k) (made_parts ends_block (is_another c (far.here k)) yes_made).1 in
         adds_move_step tail v.number (Some c)
         crosses x.0 z.here (inl refl)
         (λ m st k2. first_moves need which x.0 x.1 m st k2) left_steady (on_its_way x.0)
-    awaited_step need which inst_regs middle (unsent not_made eu en) =
-        stayed need inst_regs middle eu en (elim (unmade_parts ret (is_another c (far.here k)) not_made) [
+    expected_step need which inst_regs middle (unsent not_made eu en) =
+        stayed need inst_regs middle eu en (elim (unmade_parts ends_block (is_another c (far.here k)) not_made) [
           | inl a ↦ nothing_owed need a
           | inr a ↦ stays_owed need which (another_not c (far.here k) a)
         ])
@@ -303,7 +303,7 @@ module _ (tail : BlockTail) (ops : List OperandValue) (far : Progress) (done2 ou
         }
 
     module _ (inst_regs u : InstRegs) (middle new : StateValue) where
-      moved_none : (need : ℕ → Bool) → Sent tail ops next need ret inst_regs left middle →
+      moved_none : (need : ℕ → Bool) → Sent tail ops next need ends_block inst_regs left middle →
           Owes tail far.lived need Y (put (stands_at middle) v.number None) (slots_at middle) middle.edits
       moved_none need f = owes_same tail far.lived need Y (stands_at middle) (put (stands_at middle) v.number None) (slots_at middle)
           middle.edits
@@ -312,36 +312,36 @@ module _ (tail : BlockTail) (ops : List OperandValue) (far : Progress) (done2 ou
             | inr a ↦ put_other (stands_at middle) v.number None x a
           ]) f.owes
 
-      ready_then : Sent tail ops next out2 ret inst_regs left middle → u ≡ inst_regs → new ≡ middle →
-          Ready tail ops next ret u new
+      ready_then : Sent tail ops next out2 ends_block inst_regs left middle → u ≡ inst_regs → new ≡ middle →
+          Ready tail ops next ends_block u new
       ready_then f eu en =
-          subst (λ (y : InstRegs). Ready tail ops next ret y new) (sym eu)
-          (subst (Ready tail ops next ret inst_regs) (sym en)
-          (ready_of tail ops next ret inst_regs middle f.steady f.owes))
+          subst (λ (y : InstRegs). Ready tail ops next ends_block y new) (sym eu)
+          (subst (Ready tail ops next ends_block inst_regs) (sym en)
+          (ready_of tail ops next ends_block inst_regs middle f.steady f.owes))
 
       -- the vreg is expected in its slot
-      stored_there : s ≡ c → AddsMoveIf (after i) v.class (not ret && (is_another s (far.here k) && not (is_place s c))) (far.here k) s inst_regs u middle new →
-          Sent tail ops next out2 ret inst_regs left middle →
-          Ready tail ops next ret u new
+      stored_there : s ≡ c → AddsMoveIf (after i) v.class (not ends_block && (is_another s (far.here k) && not (is_place s c))) (far.here k) s inst_regs u middle new →
+          Sent tail ops next out2 ends_block inst_regs left middle →
+          Ready tail ops next ends_block u new
       stored_there same (sent yes_made crosses) f =
-          let a = both_parts (is_another s (far.here k)) (is_place s c) (made_parts ret (is_another s (far.here k) && not (is_place s c)) yes_made).1 in
+          let a = both_parts (is_another s (far.here k)) (is_place s c) (made_parts ends_block (is_another s (far.here k) && not (is_place s c)) yes_made).1 in
           let b : is_place s c ≡ true = ap (λ q. is_place q c) same ∙ is_place-same c in absurd cc
       stored_there same (unsent not_made eu en) f = ready_then f eu en
 
-      stored_step : s ≢ c → AddsMoveIf (after i) v.class (not ret && (is_another s (far.here k) && not (is_place s c))) (far.here k) s inst_regs u middle new →
-          Sent tail ops next far.out ret inst_regs left middle →
-          Ready tail ops next ret u new
+      stored_step : s ≢ c → AddsMoveIf (after i) v.class (not ends_block && (is_another s (far.here k) && not (is_place s c))) (far.here k) s inst_regs u middle new →
+          Sent tail ops next far.out ends_block inst_regs left middle →
+          Ready tail ops next ends_block u new
       stored_step ne (sent yes_made crosses) f =
-          let a = both_parts (is_another s (far.here k)) (is_place s c) (made_parts ret (is_another s (far.here k) && not (is_place s c)) yes_made).1 in
+          let a = both_parts (is_another s (far.here k)) (is_place s c) (made_parts ends_block (is_another s (far.here k) && not (is_place s c)) yes_made).1 in
           let x = another_is s (far.here k) a.0 in
-          let g : Sent tail ops next out2 ret u middle new =
+          let g : Sent tail ops next out2 ends_block u middle new =
           adds_move_step tail v.number None
           crosses x.0 (f.kept.nowhere v.number z.here) (inr refl)
           (λ m st k3. second_moves x.0 x.1 middle f.kept m st k3) f.steady (moved_none far.out f) in
-          ready_of tail ops next ret u new g.steady g.owes
+          ready_of tail ops next ends_block u new g.steady g.owes
       stored_step ne (unsent not_made eu en) f =
           let rest : Owes tail far.lived out2 Y (stands_at middle) (slots_at middle)
-          middle.edits = elim (unmade_parts ret (is_another s (far.here k) && not (is_place s c)) not_made) [
+          middle.edits = elim (unmade_parts ends_block (is_another s (far.here k) && not (is_place s c)) not_made) [
             | inl a ↦ record {
               later = f.owes.later;
               claims = claims_weaken Known E (after_part insts (listed middle.edits) placesf i n) (λ x p. ⊥)
@@ -370,12 +370,12 @@ module _ (tail : BlockTail) (ops : List OperandValue) (far : Progress) (done2 ou
           ready_then (record { steady = f.steady; owes = rest; kept = f.kept }) eu en
 
   -- the definition k is placed, where it claimed its place
-  pub frees_alloc_step : (t u : InstRegs) (old new : StateValue) → FreesAlloc (after i) v ret (far.here k) t u old new →
-      Ready tail ops far ret t old →
-      Ready tail ops next ret u new
+  pub frees_alloc_step : (t u : InstRegs) (old new : StateValue) → FreesAlloc (after i) v ends_block (far.here k) t u old new →
+      Ready tail ops far ends_block t old →
+      Ready tail ops next ends_block u new
   frees_alloc_step t u old new d r = elim (cases_place (slot_in old v.number) (place_in old v.number)) [
     | inl a ↦ stored_there t old d.left d.settles d.slots d.edits d.machine r d.inst_regs u d.middle new a d.stored
-        (awaited_step t old d.left d.settles d.slots d.edits d.machine r out2 (inr (refl, a)) d.inst_regs d.middle d.awaited)
+        (expected_step t old d.left d.settles d.slots d.edits d.machine r out2 (inr (refl, a)) d.inst_regs d.middle d.expected)
     | inr a ↦ stored_step t old d.left d.settles d.slots d.edits d.machine r d.inst_regs u d.middle new a d.stored
-        (awaited_step t old d.left d.settles d.slots d.edits d.machine r far.out (inl refl) d.inst_regs d.middle d.awaited)
+        (expected_step t old d.left d.settles d.slots d.edits d.machine r far.out (inl refl) d.inst_regs d.middle d.expected)
   ]

@@ -62,10 +62,10 @@ makes_one ops here out X k = record {
       ∙ ap (λ b. cond b true (X (here k) (op_at ops k).vreg.number)) (eq-eqb (op_at ops k).vreg.number (op_at ops k).vreg.number refl);
 }
 
-module _ (tail : BlockTail) (ops : List OperandValue) (far : Progress) (ret : Bool) (k : ℕ) (once : Once (Counts ops) (what_of ops)) where
+module _ (tail : BlockTail) (ops : List OperandValue) (far : Progress) (ends_block : Bool) (k : ℕ) (once : Once (Counts ops) (what_of ops)) where
   open tail use {Known, insts, placesf, i, n, E}
 
-  module _ (p : Place) (u : InstRegs) (old : StateValue) (g : Got tail ops far ret k p u old) where
+  module _ (p : Place) (u : InstRegs) (old : StateValue) (g : Got tail ops far ends_block k p u old) where
     abbrev num : ℕ
     num = (op_at ops k).vreg.number
 
@@ -93,7 +93,7 @@ module _ (tail : BlockTail) (ops : List OperandValue) (far : Progress) (ret : Bo
 
       use_new : (new : StateValue) → place_in old v.number ≡ NoPlace → SetsAlloc old.places new.places v p → new.slots ≡ old.slots → new.edits ≡ old.edits →
           SameMachine old new →
-          Ready tail ops (record far { here = g.there; claimed = g.claimed2; done = and_one far.done k }) ret u new
+          Ready tail ops (record far { here = g.there; claimed = g.claimed2; done = and_one far.done k }) ends_block u new
       use_new new nowhere z slots edits machine =
           let z2 : SetsAlloc old.places new.places v (g.there k) = subst (SetsAlloc old.places new.places v) (sym g.at_k) z in
           let w : IsWhole new = arrive_whole new p refl (λ e. real (g.at_k ∙ e)) nowhere z slots in
@@ -141,8 +141,8 @@ module _ (tail : BlockTail) (ops : List OperandValue) (far : Progress) (ret : Bo
 
       -- once a use's vreg has its location, the record holds with its operand among those that are placed
       pub use_step : (new : StateValue) → LocatesUse v p old new
-          → Ready tail ops (record far { here = g.there; claimed = g.claimed2; done = and_one far.done k }) ret u new
-      use_step new (stays there en) = subst (Ready tail ops (record far { here = g.there; claimed = g.claimed2; done = and_one far.done k }) ret u) (sym en)
+          → Ready tail ops (record far { here = g.there; claimed = g.claimed2; done = and_one far.done k }) ends_block u new
+      use_step new (stays there en) = subst (Ready tail ops (record far { here = g.there; claimed = g.claimed2; done = and_one far.done k }) ends_block u) (sym en)
           (record {
             located = use_stays (what_of ops) (record far { here = g.there; claimed = g.claimed2 }) (and_one far.done k) old k placed_use
                 (λ e. there (ap (place_in old) nv ∙ e)) g.ready.located;
@@ -158,17 +158,17 @@ module _ (tail : BlockTail) (ops : List OperandValue) (far : Progress) (ret : Bo
       use_step new (located nowhere z slots edits machine order) = use_new new nowhere z slots edits machine
 
     -- a definition
-    pub def_step : (w : InstRegs) (new : StateValue) → is_def (op_at ops k).kind ≡ true → FreesAlloc (after i) (op_at ops k).vreg ret p u w old new →
+    pub def_step : (w : InstRegs) (new : StateValue) → is_def (op_at ops k).kind ≡ true → FreesAlloc (after i) (op_at ops k).vreg ends_block p u w old new →
         Ready tail ops (record far {
           here = g.there;
           claimed = g.claimed2;
           done = and_one far.done k;
           out = and_one far.out (op_at ops k).vreg.number;
           made_at = made_one far.made_at (g.there k) (op_at ops k).vreg.number;
-        }) ret w new
+        }) ends_block w new
     def_step w new def d =
         frees_alloc_step tail ops (record far { here = g.there; claimed = g.claimed2 }) (and_one far.done k)
-        (and_one far.out (op_at ops k).vreg.number) (made_one far.made_at (g.there k) (op_at ops k).vreg.number) ret k
+        (and_one far.out (op_at ops k).vreg.number) (made_one far.made_at (g.there k) (op_at ops k).vreg.number) ends_block k
         (record {
           makes = makes_one ops g.there far.out far.made_at k;
           places = places_one far.done k;
@@ -176,4 +176,4 @@ module _ (tail : BlockTail) (ops : List OperandValue) (far : Progress) (ret : Bo
           claims = g.claims;
           is_def = def;
         }) u w old new
-        (subst (λ q. FreesAlloc (after i) (op_at ops k).vreg ret q u w old new) (sym g.at_k) d) g.ready
+        (subst (λ q. FreesAlloc (after i) (op_at ops k).vreg ends_block q u w old new) (sym g.at_k) d) g.ready

@@ -51,10 +51,10 @@ module _ (tail : BlockTail) where
 
   -- What each step on the tables and on the instruction's registers keeps. far: the progress of its operands;
   -- ret: the instruction is a return, after which nothing is needed.
-  pub record Ready (ops : List OperandValue) (far : Progress) (ret : Bool) (u : InstRegs) (t : StateValue) : Type 0 where
+  pub record Ready (ops : List OperandValue) (far : Progress) (ends_block : Bool) (u : InstRegs) (t : StateValue) : Type 0 where
     pub located : Located (what_of ops) far t
     pub owes : Owes tail far.lived far.out far.made_at (stands_at t) (slots_at t) t.edits
-    pub nothing : ret ≡ true → Claims Known (after_part insts (listed t.edits) placesf i n) (λ x p. ⊥) E
+    pub nothing : ends_block ≡ true → Claims Known (after_part insts (listed t.edits) placesf i n) (λ x p. ⊥) E
     pub held : Held (what_of ops) far.here far.claimed (held_early u) (held_late u)
     pub scratch_reserve : Spare far.here far.claimed far.made_at u t
     pub fit : Fit t
@@ -63,9 +63,9 @@ module _ (tail : BlockTail) where
     pub small : (j : ℕ) (r : Register) → far.claimed j ≡ true → far.here j ≡ InRegister r → r.number < 64
 
   -- the order in which registers were used doesn't matter
-  pub ready_used : (ops : List OperandValue) (far : Progress) (ret : Bool) (u : InstRegs) (t : StateValue) (order : List (List Register)) →
-      Ready ops far ret u t → Ready ops far ret u (record t { lrus = order })
-  ready_used ops far ret u t order h = record {
+  pub ready_used : (ops : List OperandValue) (far : Progress) (ends_block : Bool) (u : InstRegs) (t : StateValue) (order : List (List Register)) →
+      Ready ops far ends_block u t → Ready ops far ends_block u (record t { lrus = order })
+  ready_used ops far ends_block u t order h = record {
     located = located_used (what_of ops) far t order h.located;
     owes = h.owes;
     nothing = h.nothing;
@@ -78,14 +78,14 @@ module _ (tail : BlockTail) where
   }
 
   -- The record before the operand k is allocated in the pass over late or early operands; list has the places of the instruction so far.
-  pub record Laid (ops : List OperandValue) (lived : ℕ → Bool) (clob : Place → Bool) (ret late : Bool) (k : ℕ) (list : List Place) (u : InstRegs)
+  pub record Laid (ops : List OperandValue) (lived : ℕ → Bool) (clob : Place → Bool) (ends_block late : Bool) (k : ℕ) (list : List Place) (u : InstRegs)
       (t : StateValue) : Type 0 where
     pub here : ℕ → Place
     pub claimed : ℕ → Bool
     pub done : ℕ → Bool
     pub out : ℕ → Bool
     pub X : Place → ℕ → Bool
-    pub ready : Ready ops (progress lived clob here claimed done out X) ret u t
+    pub ready : Ready ops (progress lived clob here claimed done out X) ends_block u t
     pub turned : (j : ℕ) → done j ≡ true → Turned ops late k j
     pub all : (j : ℕ) → Counts ops j → Turned ops late k j → done j ≡ true
     -- fixed operands, and reuses of fixed ones, claimed their registers before
@@ -107,9 +107,9 @@ pub record LayingContext : Type 1 where
   pub ops : List OperandValue
   pub lived : ℕ → Bool
   pub clob : Place → Bool
-  pub ret : Bool
+  pub ends_block : Bool
   pub orderly : Orderly ops
 
 -- the record, built from its parts
 abbrev pub laying_of : BlockTail → (ops : List OperandValue) → (ℕ → Bool) → (Place → Bool) → Bool → Orderly ops → LayingContext
-laying_of tail ops lived clob ret orderly = record { tail = tail; ops = ops; lived = lived; clob = clob; ret = ret; orderly = orderly }
+laying_of tail ops lived clob ends_block orderly = record { tail = tail; ops = ops; lived = lived; clob = clob; ends_block = ends_block; orderly = orderly }

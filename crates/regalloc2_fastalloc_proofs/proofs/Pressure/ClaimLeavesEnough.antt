@@ -21,7 +21,7 @@ use Rattle.regalloc2_fastalloc_proofs.specs.InstSteps.{direct, through, EvictsPR
 use Rattle.regalloc2_fastalloc_proofs.specs.InstSteps.{cleared, EvictsOtherVRegs, own, others, SelectsPlace, ClaimsPlace, in_slot, in_register}
 use Rattle.regalloc2_fastalloc_proofs.specs.InstSteps.SelectsPlace.{stays, fixed, slot, free}
 use Rattle.regalloc2_fastalloc_proofs.specs.Safety.{MayBeLocatedAt, IsEndOfMove, AreSafeRegs}
-use Rattle.regalloc2_fastalloc_proofs.specs.InstSteps.{no_register, AllocOperand, in_pick, in_clear, FreeAlloc, to_awaited, to_slot}
+use Rattle.regalloc2_fastalloc_proofs.specs.InstSteps.{no_register, AllocOperand, in_pick, in_clear, FreeAlloc, to_expected, to_slot}
 use Rattle.regalloc2_fastalloc_proofs.proofs.Safety.StepsKeepSafe.{IsApart, slot_end, stand_end, there_stands, adds_move_if_kept, rules_of}
 use Rattle.regalloc2_fastalloc_proofs.proofs.Slots.SlotsGrow.{SlotsStay, same_stay, end_grows, changes_stay}
 use Rattle.regalloc2_fastalloc_proofs.proofs.Moves.ScratchRegTaken.{Fit}
@@ -185,7 +185,7 @@ module _ (naming : Naming) (same : (v w : VirtualRegister) → naming.Known v �
   open naming use {Named, env, apart, Known, named, point}
 
   -- the moves of a definition
-  module _ (needed : RegClass → ℕ) (v : VirtualRegister) (is_ret : Bool) (p : Place) (t : InstRegs) (old : StateValue) (known : Known v)
+  module _ (needed : RegClass → ℕ) (v : VirtualRegister) (ends_block : Bool) (p : Place) (t : InstRegs) (old : StateValue) (known : Known v)
       (place : MayBeLocatedAt env old.slots v p) (h : AreSafe env Known old) (m : HasAll env old)
       (ht : AreSafeRegs env t) (a : HasEnoughRegs Named needed t old) where
     -- a vreg that is defined leaves the tables
@@ -202,11 +202,11 @@ module _ (naming : Naming) (same : (v w : VirtualRegister) → naming.Known v �
       from : IsEndOfMove env left.slots v p
       from = end_grows env old.slots left.slots v p stay (stand_end env old.slots v p place)
 
-      first_ends : (not is_ret && is_another (alloc_of old.places v.number) p) ≡ true → IsEndOfMove env left.slots v p
+      first_ends : (not ends_block && is_another (alloc_of old.places v.number) p) ≡ true → IsEndOfMove env left.slots v p
           × IsEndOfMove env left.slots v (alloc_of old.places v.number) × (p ≡ alloc_of old.places v.number → ⊥)
       first_ends made =
           let w : Place = alloc_of old.places v.number in
-          let other : is_another w p ≡ true = (and_parts (not is_ret) (is_another w p) made).1 in (
+          let other : is_another w p ≡ true = (and_parts (not ends_block) (is_another w p) made).1 in (
             from,
             end_grows env old.slots left.slots v w stay (stand_end env old.slots v w
                 (there_stands env old.slots v w (another_there w p other) (h.places v known))),
@@ -214,11 +214,11 @@ module _ (naming : Naming) (same : (v w : VirtualRegister) → naming.Known v �
           )
 
       second_ends : (middle : StateValue) → SlotsStay left.slots middle.slots →
-          (not is_ret && (is_another (slot_name old.slots v.number) p && not (is_place (slot_name old.slots v.number) (alloc_of old.places v.number)))) ≡ true
+          (not ends_block && (is_another (slot_name old.slots v.number) p && not (is_place (slot_name old.slots v.number) (alloc_of old.places v.number)))) ≡ true
           → IsEndOfMove env middle.slots v p × IsEndOfMove env middle.slots v (slot_name old.slots v.number) × (p ≡ slot_name old.slots v.number → ⊥)
       second_ends middle more made =
           let s : Place = slot_name old.slots v.number in
-          let other : is_another s p ≡ true = (and_parts (is_another s p) _ ((and_parts (not is_ret) _ made).1)).0 in (
+          let other : is_another s p ≡ true = (and_parts (is_another s p) _ ((and_parts (not ends_block) _ made).1)).0 in (
             end_grows env left.slots middle.slots v p more from,
             end_grows env old.slots middle.slots v s (λ n k is. more n k (stay n k is))
                 (slot_end env old.slots v s refl (another_there s p other) (h.slots v.number)),
@@ -231,7 +231,7 @@ module _ (naming : Naming) (same : (v w : VirtualRegister) → naming.Known v �
         all : HasAll env middle
         ample : HasEnoughRegs Named needed inst_regs middle
 
-      first_sent : (inst_regs : InstRegs) (middle : StateValue) → AddsMoveIf point v.class (not is_ret && is_another (alloc_of old.places v.number) p) p
+      first_sent : (inst_regs : InstRegs) (middle : StateValue) → AddsMoveIf point v.class (not ends_block && is_another (alloc_of old.places v.number) p) p
           (alloc_of old.places v.number) t inst_regs left middle → Sent inst_regs middle
       first_sent inst_regs middle sends = (let w : Place = alloc_of old.places v.number in
           record {
@@ -242,15 +242,15 @@ module _ (naming : Naming) (same : (v w : VirtualRegister) → naming.Known v �
 
     first_safe : (left : StateValue) → SetsAlloc old.places left.places v NoPlace → (slots : left.slots ≡ old.slots) → left.edits ≡ old.edits →
         (machine : SameMachine old left) → (inst_regs : InstRegs) (middle : StateValue) → AddsMoveIf point v.class
-        (not is_ret && is_another (alloc_of old.places v.number) p) p (alloc_of old.places v.number) t inst_regs left middle → AreSafeRegs env inst_regs
+        (not ends_block && is_another (alloc_of old.places v.number) p) p (alloc_of old.places v.number) t inst_regs left middle → AreSafeRegs env inst_regs
     first_safe left settles slots edits machine inst_regs middle sends =
         (adds_move_if_kept (rules_of env apart Known AllWrite AllMay point tt) v _ p (alloc_of old.places v.number) t inst_regs left middle sends known
         (λ made. let e = first_ends left slots machine made in (e.0, e.1, λ n x. tt))
         (leaves_safe (rules_of env apart Known AllWrite AllMay point tt) same v old left settles slots edits machine h) ht).inst_regs
 
     -- if registers are enough, the moves of a definition lack none
-    pub never_free_alloc : FreeAlloc point v is_ret p t old no_register → ⊥
-    never_free_alloc (to_awaited left settles slots edits machine stops) =
+    pub never_free_alloc : FreeAlloc point v ends_block p t old no_register → ⊥
+    never_free_alloc (to_expected left settles slots edits machine stops) =
         ample_add_move_if (demand_of Named needed point env apart Known named) v stops known (first_ends left slots machine) (left_all left slots machine) ht
         (left_ample left slots machine)
     never_free_alloc (to_slot left middle inst_regs settles slots edits machine sends stops) =
@@ -259,8 +259,8 @@ module _ (naming : Naming) (same : (v w : VirtualRegister) → naming.Known v �
         (first_safe left settles slots edits machine inst_regs middle sends) s.ample
 
     -- freeing a definition and adding its moves leaves enough registers
-    pub ample_frees_alloc : {u : InstRegs} {new : StateValue} → FreesAlloc point v is_ret p t u old new → HasEnoughRegs Named needed u new
+    pub ample_frees_alloc : {u : InstRegs} {new : StateValue} → FreesAlloc point v ends_block p t u old new → HasEnoughRegs Named needed u new
     ample_frees_alloc {u} {new} d =
-        let s = first_sent d.left d.slots d.machine d.inst_regs d.middle d.awaited in
+        let s = first_sent d.left d.slots d.machine d.inst_regs d.middle d.expected in
         ample_add_move_if (demand_of Named needed point env apart Known named) v d.stored known (second_ends d.left d.slots d.machine d.middle s.stay_too) s.all
-        (first_safe d.left d.settles d.slots d.edits d.machine d.inst_regs d.middle d.awaited) s.ample
+        (first_safe d.left d.settles d.slots d.edits d.machine d.inst_regs d.middle d.expected) s.ample

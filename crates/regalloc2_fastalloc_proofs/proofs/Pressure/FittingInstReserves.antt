@@ -10,8 +10,8 @@ use Rattle.regalloc2_function.specs.FunctionValue.{FunctionValue, InstValue, no_
 use Rattle.regalloc2_function.specs.Machine.{MachineValue, is_allocatable, IsFixedStackSlot}
 use Rattle.regalloc2_function.specs.Fitting.{Fits, HoldsEarly, HoldsLate, is_reuse}
 use Rattle.regalloc2_semantics.proofs.Operands.{reads_use}
-use Rattle.regalloc2_steps.specs.declared.positions.Positions.{Positions}
-use Rattle.regalloc2_steps.specs.Positions.{positions_of}
+use Rattle.regalloc2_fastalloc_state.specs.declared.positions.Positions.{Positions}
+use Rattle.regalloc2_fastalloc_state.specs.Positions.{positions_of}
 use Rattle.regalloc2_fastalloc_proofs.specs.InstSteps.{StateValue, NeedsFixedReg, own, named, RegsAreNotReserved, unknown, shared}
 use Rattle.regalloc2_fastalloc_proofs.proofs.Operands.AllocsSoFar.{IsTame, reads_allocated}
 use Rattle.regalloc2_fastalloc_proofs.proofs.BlockEnd.NoMoveInPasses.{overlap_cases}

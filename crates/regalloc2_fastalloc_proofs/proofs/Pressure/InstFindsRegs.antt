@@ -15,7 +15,7 @@ use Rattle.regalloc2_function.specs.Machine.{MachineValue}
 use Rattle.regalloc2_function.specs.Fitting.{Fits, NamesClass}
 use Rattle.regalloc2_fastalloc_state.specs.declared.inst_regs.InstRegs.{InstRegs}
 use Rattle.regalloc2_fastalloc_state.specs.InstRegs.{is_free}
-use Rattle.regalloc2_steps.specs.Positions.{positions_of}
+use Rattle.regalloc2_fastalloc_state.specs.Positions.{positions_of}
 use Rattle.regalloc2_fastalloc_proofs.specs.InstSteps.{StateValue, ReservesRegs, RemovesClobbers, own as claims_own, EvictsFixed, ends_block}
 use Rattle.regalloc2_fastalloc_proofs.specs.InstSteps.{ProcessesOperandsAt, MovesUses, PreparesRegs}
 use Rattle.regalloc2_fastalloc_proofs.specs.InstSteps.{no_register, EvictFixed, EvictEach, ProcessOperandsAt, MoveUses, PrepareRegs, in_reserve, in_fixed}

@@ -9,7 +9,7 @@ use Rattle.regalloc2_names.specs.RegisterSet.{has_register}
 use Rattle.regalloc2_semantics.proofs.Cells.{is_register-true}
 use Rattle.regalloc2_function.specs.Fitting.{count_below, register_number}
 use Rattle.regalloc2_fastalloc_state.specs.declared.inst_regs.InstRegs.{InstRegs}
-use Rattle.regalloc2_steps.specs.declared.positions.Positions.{Positions}
+use Rattle.regalloc2_fastalloc_state.specs.declared.positions.Positions.{Positions}
 use Rattle.regalloc2_fastalloc_state.specs.StateParts.{needs_scratch_reserve}
 use Rattle.regalloc2_fastalloc_state.specs.InstRegs.{RemovesAvailable, is_free, free_count}
 use Rattle.regalloc2_fastalloc_state.proofs.CountingLaws.{count_le, count_but_one, count_some, some_count}

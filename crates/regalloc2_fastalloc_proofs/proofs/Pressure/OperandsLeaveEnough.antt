@@ -77,13 +77,13 @@ pub record NamedOperands : Type 1 where
   pub tame : IsTame Known ops
   pub fixed : FixedAreKnown env ops
   pub i : ℕ
-  pub is_ret : Bool
+  pub ends_block : Bool
 
 -- the record, built from its parts
 abbrev pub named_operands : (Named : RegClass → Type 0) (env : MachineValue) → IsApart env → (Known : VirtualRegister → Type 0) →
     ((v : VirtualRegister) → Known v → Named v.class) → (ops : List OperandValue) → IsTame Known ops → FixedAreKnown env ops → ℕ → Bool →
     NamedOperands
-named_operands Named env apart Known named ops tame fixed i is_ret = record {
+named_operands Named env apart Known named ops tame fixed i ends_block = record {
   Named = Named;
   env = env;
   apart = apart;
@@ -93,11 +93,11 @@ named_operands Named env apart Known named ops tame fixed i is_ret = record {
   tame = tame;
   fixed = fixed;
   i = i;
-  is_ret = is_ret;
+  ends_block = ends_block;
 }
 
 module _ (operands : NamedOperands) where
-  open operands use {Named, env, apart, Known, named, ops, tame, fixed, i, is_ret}
+  open operands use {Named, env, apart, Known, named, ops, tame, fixed, i, ends_block}
 
   module _ (D : ℕ → Type 0) (k : ℕ) (here : List Place) (t : InstRegs) (old : StateValue) (lt : k < length ops) (undone : D k → ⊥)
       (not_n : (n : ℕ) → (op_at ops k).constraint ≡ Reuse n → D n → ⊥)
@@ -149,16 +149,16 @@ module _ (operands : NamedOperands) where
         (safe_held env Known old h.safe) h.inst_regs p.ample
 
     never_alloc_def_op : (o : OperandRequest) (there : Place → List Place) → Ready env Known ops tame o.vreg o.requirement here there t old
-        → AllocDefOp (after i) o is_ret t old no_register → ⊥
+        → AllocDefOp (after i) o ends_block t old no_register → ⊥
     never_alloc_def_op o there r (in_get s) = never_place o there r s
     never_alloc_def_op o there r (in_define q u m g s) =
         let x = got o there r q u m g in
-        never_free_alloc (naming_of Named env apart Known named (after i)) tame.same (waiting ops (there q)) o.vreg is_ret q u m r.known x.kept.place
+        never_free_alloc (naming_of Named env apart Known named (after i)) tame.same (waiting ops (there q)) o.vreg ends_block q u m r.known x.kept.place
         x.kept.kept.safe
         (all_kept env old m x.keeps all) x.kept.kept.inst_regs x.ample s
 
     -- an operand finds its place
-    pub never_process_operand : ProcessOperand i is_ret ops k here t old no_register → ⊥
+    pub never_process_operand : ProcessOperand i ends_block ops k here t old no_register → ⊥
     never_process_operand (at_use reads s) = never_place (use_request (op_at ops k) (at_place here k)) (λ q. set here k q)
         (use_ready env Known ops tame turn reads) s
     never_process_operand (at_def def no_reuse s) = never_alloc_def_op (def_request (op_at ops k)) (λ q. set here k q)
@@ -220,7 +220,7 @@ module _ (operands : NamedOperands) where
       -- a definition has its place, and its moves are made
       module _ (o : OperandRequest) (there : Place → List Place) (r : Ready env Known ops tame o.vreg o.requirement here there t old)
           (some : (o.positions.early ≡ true) ⊎ (o.positions.late ≡ true)) (q : Place) (u : InstRegs) (new : StateValue)
-          (d : AllocsDefOp (after i) o is_ret q t u old new) where
+          (d : AllocsDefOp (after i) o ends_block q t u old new) where
         gotten : Got o.vreg o.requirement (there q) q d.inst_regs d.middle
         gotten = got o there r q d.inst_regs d.middle d.gets
 
@@ -228,10 +228,10 @@ module _ (operands : NamedOperands) where
         moved_keeps = machine_stays (frees_alloc_changes (λ p s. tt) (λ p. tt) (λ p. tt) tt d.defines)
 
         moved_less : Less d.inst_regs u
-        moved_less = frees_alloc_less (after i) o.vreg is_ret q d.inst_regs u d.middle new d.defines
+        moved_less = frees_alloc_less (after i) o.vreg ends_block q d.inst_regs u d.middle new d.defines
 
         def_ample : HasEnoughRegs Named (waiting ops (there q)) u new
-        def_ample = ample_frees_alloc (naming_of Named env apart Known named (after i)) tame.same (waiting ops (there q)) o.vreg is_ret q d.inst_regs d.middle
+        def_ample = ample_frees_alloc (naming_of Named env apart Known named (after i)) tame.same (waiting ops (there q)) o.vreg ends_block q d.inst_regs d.middle
             r.known
             gotten.kept.place gotten.kept.kept.safe (all_kept env old d.middle gotten.keeps all) gotten.kept.kept.inst_regs gotten.ample d.defines
 
@@ -250,7 +250,7 @@ module _ (operands : NamedOperands) where
 
       allocs_def_op_pays : (q : Place) (u : InstRegs) (new : StateValue) → is_def (op_at ops k).kind ≡ true →
           ((n : ℕ) → (op_at ops k).constraint ≡ Reuse n → ⊥) →
-          AllocsDefOp (after i) (def_request (op_at ops k)) is_ret q t u old new → Paying Named ops E (set here k q) u new
+          AllocsDefOp (after i) (def_request (op_at ops k)) ends_block q t u old new → Paying Named ops E (set here k q) u new
       allocs_def_op_pays q u new def no_reuse d =
           let o : OperandRequest = def_request (op_at ops k) in
           let r = def_ready env Known ops tame turn def no_reuse in
@@ -260,7 +260,7 @@ module _ (operands : NamedOperands) where
           (def_unfree o (λ z. set here k z) r some q u new d)
 
       allocs_reuse_pays : (n : ℕ) (q : Place) (u : InstRegs) (new : StateValue) → is_def (op_at ops k).kind ≡ true → (op_at ops k).constraint ≡ Reuse n →
-          AllocsDefOp (after i) (reuse_request (op_at ops k) (op_at ops n)) is_ret q t u old new
+          AllocsDefOp (after i) (reuse_request (op_at ops k) (op_at ops n)) ends_block q t u old new
           → Paying Named ops E (set (set here k q) n q) u new
       allocs_reuse_pays n q u new def reuses d =
           let o : OperandRequest = reuse_request (op_at ops k) (op_at ops n) in
@@ -302,7 +302,7 @@ module _ (operands : NamedOperands) where
           }
 
       -- an operand is allocated
-      pub processes_operand_pays : (there : List Place) (u : InstRegs) (new : StateValue) → ProcessesOperand i is_ret ops k here there t u old new
+      pub processes_operand_pays : (there : List Place) (u : InstRegs) (new : StateValue) → ProcessesOperand i ends_block ops k here there t u old new
           → Paying Named ops E there u new
       processes_operand_pays there u new (a_register r silent is written eu en) =
           subst (λ l. Paying Named ops E l u new) (sym written) (subst (λ z. Paying Named ops E (set here k (InRegister r)) z new) (sym eu)

@@ -48,18 +48,18 @@ pub record PassesContext : Type 1 where
   pub apart : IsApart filling.env
   pub fixed : FixedAreKnown filling.env filling.ops
   pub i : ℕ
-  pub is_ret : Bool
+  pub ends_block : Bool
   pub can : filling.May (after i)
   pub writes : DefsAreWritten filling.Writes i filling.ops
 
 -- the record, built from its parts
 abbrev pub passes_of : (filling : FillingContext) → IsApart filling.env → FixedAreKnown filling.env filling.ops → (i : ℕ) → Bool → filling.May (after i) →
     DefsAreWritten filling.Writes i filling.ops → PassesContext
-passes_of filling apart fixed i is_ret can writes =
-    record { filling = filling; apart = apart; fixed = fixed; i = i; is_ret = is_ret; can = can; writes = writes }
+passes_of filling apart fixed i ends_block can writes =
+    record { filling = filling; apart = apart; fixed = fixed; i = i; ends_block = ends_block; can = can; writes = writes }
 
 module _ (passes : PassesContext) where
-  open passes use {filling, apart, fixed, i, is_ret, can, writes}
+  open passes use {filling, apart, fixed, i, ends_block, can, writes}
   open passes.filling use {env, Known, Writes, May, ops, tame}
 
   -- an operand that names a register and no vreg
@@ -127,12 +127,12 @@ module _ (passes : PassesContext) where
   def_kept : (D E : ℕ → Type 0) (k : ℕ) (p : Place) (here : List Place) (t u : InstRegs) (old new : StateValue) → k < length ops →
       OneMore filling D E k
       → is_def (op_at ops k).kind ≡ true → ((n : ℕ) → (op_at ops k).constraint ≡ Reuse n → ⊥) →
-      AllocsDefOp (after i) (def_request (op_at ops k)) is_ret p t u old new
+      AllocsDefOp (after i) (def_request (op_at ops k)) ends_block p t u old new
       → Filled env Known Writes May ops D here t old → Filled env Known Writes May ops E (set here k p) u new
   def_kept D E k p here t u old new less more def no_reuse places h =
       let o : OperandValue = op_at ops k in
       let allocated : is_fixed_nonallocatable o ≡ false = tame.allocated k less def in
-      let w = allocs_def_op_kept (rules_of env apart Known Writes May (after i) can) tame.same (def_request o) is_ret p t u old new places
+      let w = allocs_def_op_kept (rules_of env apart Known Writes May (after i) can) tame.same (def_request o) ends_block p t u old new places
       (tame.known k less allocated)
       (λ n. writes k n less def)
       (λ r asks. (let e : o.constraint ≡ FixedReg r = asked_fixed o.constraint r asks in
@@ -149,13 +149,13 @@ module _ (passes : PassesContext) where
   reuse_kept : (D E : ℕ → Type 0) (k n : ℕ) (p : Place) (here : List Place) (t u : InstRegs) (old new : StateValue) → k < length ops →
       OneMore filling D E k → (D n → ⊥)
       → is_def (op_at ops k).kind ≡ true → (op_at ops k).constraint ≡ Reuse n →
-      AllocsDefOp (after i) (reuse_request (op_at ops k) (op_at ops n)) is_ret p t u old new
+      AllocsDefOp (after i) (reuse_request (op_at ops k) (op_at ops n)) ends_block p t u old new
       → Filled env Known Writes May ops D here t old → Filled env Known Writes May ops E (set (set here k p) n p) u new
   reuse_kept D E k n p here t u old new less more not_n def reuses places h =
       let o : OperandValue = op_at ops k in
       let m : OperandValue = op_at ops n in
       let named = tame.named k n less reuses in
-      let w = allocs_def_op_kept (rules_of env apart Known Writes May (after i) can) tame.same (reuse_request o m) is_ret p t u old new places
+      let w = allocs_def_op_kept (rules_of env apart Known Writes May (after i) can) tame.same (reuse_request o m) ends_block p t u old new places
       (tame.known k less (tame.allocated k less def)) (λ x. writes k x less def)
       (λ r asks. (let e : m.constraint ≡ FixedReg r = asked_as_fixed m.constraint r asks in
       (fixed n r named.0 (reads_allocated m named.2) e, fixed_class m.vreg.class m.constraint r (tame.constraint n named.0) e ∙ named.3))) h.safe
@@ -170,7 +170,7 @@ module _ (passes : PassesContext) where
 
   -- an operand is allocated
   pub processes_operand_kept : (D E : ℕ → Type 0) (k : ℕ) (here there : List Place) (t u : InstRegs) (old new : StateValue) →
-      ProcessesOperand i is_ret ops k here there t u old new → k < length ops → OneMore filling D E k
+      ProcessesOperand i ends_block ops k here there t u old new → k < length ops → OneMore filling D E k
       → ((n : ℕ) → (op_at ops k).constraint ≡ Reuse n → D n → ⊥) → Filled env Known Writes May ops D here t old →
       Filled env Known Writes May ops E there u new
   processes_operand_kept D E k here there t u old new (a_register r silent is written_it eu en) less more not_n h =
@@ -235,7 +235,7 @@ module _ (passes : PassesContext) where
 
   -- the pass over late operands
   pub late_operands_kept : (blank : List Place) (t : InstRegs) (old : StateValue) → Filled env Known Writes May ops (InLate 0) blank t old
-      → (k : ℕ) (there : List Place) (u : InstRegs) (m : StateValue) → ProcessesOperandsAt i is_ret true ops blank t old k there u m → k ≤ length ops →
+      → (k : ℕ) (there : List Place) (u : InstRegs) (m : StateValue) → ProcessesOperandsAt i ends_block true ops blank t old k there u m → k ≤ length ops →
       Filled env Known Writes May ops (InLate k) there u m
   late_operands_kept blank t old h k there u m none_placed le = h
   late_operands_kept blank t old h k there u m (of_other j l w s prev other) le =
@@ -255,7 +255,7 @@ module _ (passes : PassesContext) where
 
   -- the pass over early operands
   pub early_operands_kept : (half : List Place) (t : InstRegs) (old : StateValue) → Filled env Known Writes May ops (InEarly 0) half t old
-      → (k : ℕ) (there : List Place) (u : InstRegs) (m : StateValue) → ProcessesOperandsAt i is_ret false ops half t old k there u m → k ≤ length ops →
+      → (k : ℕ) (there : List Place) (u : InstRegs) (m : StateValue) → ProcessesOperandsAt i ends_block false ops half t old k there u m → k ≤ length ops →
       Filled env Known Writes May ops (InEarly k) there u m
   early_operands_kept half t old h k there u m none_placed le = h
   early_operands_kept half t old h k there u m (of_other j l w s prev other) le =

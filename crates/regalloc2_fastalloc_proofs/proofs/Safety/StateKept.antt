@@ -18,7 +18,7 @@ use Rattle.regalloc2_semantics.proofs.SingleDef.{Made, no_vreg}
 use Rattle.regalloc2_semantics.proofs.SingleDef.Made.{by_operand}
 use Rattle.regalloc2_fastalloc_state.specs.declared.inst_regs.InstRegs.{InstRegs}
 use Rattle.regalloc2_fastalloc_state.specs.StateParts.{SpillSlotsValue, AreUpTo}
-use Rattle.regalloc2_steps.specs.Units.{most_units}
+use Rattle.regalloc2_fastalloc_state.specs.StateParts.{most_units}
 use Rattle.regalloc2_fastalloc_state.specs.OutOfResources.{IsResourceError, SlotsExhaustedWith, IsResourceErrorIn}
 use Rattle.regalloc2_fastalloc_proofs.specs.BranchSteps.{RegsAvoidStack, AddsTempSlotsAtMost}
 use Rattle.regalloc2_fastalloc_proofs.specs.InstSteps.{StateValue, SameMachine, ends_block}

@@ -225,17 +225,17 @@ gone_from n gone m e = by (nat_eq n m) refl e
     by true e h = inr (eqb-true n m e)
     by false e h = inl h
 
-def_placed : (names : List VirtualRegister) (gone : ℕ → Bool) (point : ℕ) (o : OperandRequest) (is_ret : Bool) (p : Place) (t u : InstRegs)
+def_placed : (names : List VirtualRegister) (gone : ℕ → Bool) (point : ℕ) (o : OperandRequest) (ends_block : Bool) (p : Place) (t u : InstRegs)
     (old new : StateValue) → o.requirement ≡ AnyReg → IsSpillFree names gone old t → FitInRegs names old.allocatable → Contains names o.vreg →
-    gone o.vreg.number ≡ false → AllocsDefOp point o is_ret p t u old new → Placed names (and_gone o.vreg.number gone) o.vreg.number p true u old new
-def_placed names gone point o is_ret p t u old new any h few named there places =
-    let first = unsent_same point o.vreg.class (not is_ret && is_another (alloc_of taken.places o.vreg.number) p) p (alloc_of taken.places o.vreg.number)
-    places.inst_regs d.inst_regs d.left d.middle (no_other (not is_ret) (alloc_of taken.places o.vreg.number) p stood_there) d.awaited in
+    gone o.vreg.number ≡ false → AllocsDefOp point o ends_block p t u old new → Placed names (and_gone o.vreg.number gone) o.vreg.number p true u old new
+def_placed names gone point o ends_block p t u old new any h few named there places =
+    let first = unsent_same point o.vreg.class (not ends_block && is_another (alloc_of taken.places o.vreg.number) p) p (alloc_of taken.places o.vreg.number)
+    places.inst_regs d.inst_regs d.left d.middle (no_other (not ends_block) (alloc_of taken.places o.vreg.number) p stood_there) d.expected in
     let second = unsent_same point o.vreg.class
-    (not is_ret && (is_another (slot_name taken.slots o.vreg.number) p
+    (not ends_block && (is_another (slot_name taken.slots o.vreg.number) p
     && not (is_place (slot_name taken.slots o.vreg.number) (alloc_of taken.places o.vreg.number)))) p (slot_name taken.slots o.vreg.number) d.inst_regs u
     d.middle new
-    (nor_stored (not is_ret) (not (is_place (slot_name taken.slots o.vreg.number) (alloc_of taken.places o.vreg.number)))
+    (nor_stored (not ends_block) (not (is_place (slot_name taken.slots o.vreg.number) (alloc_of taken.places o.vreg.number)))
     (slot_name taken.slots o.vreg.number) p (ap (λ (x : StateValue). slot_name x.slots o.vreg.number) got.same ∙ h.no_slots o.vreg.number)) d.stored in
     let inst_regs : u ≡ places.inst_regs = second.0 ∙ first.0 in
     let same : new ≡ d.left = second.1 ∙ first.1 in
@@ -256,7 +256,7 @@ def_placed names gone point o is_ret p t u old new any h few named there places 
     taken : StateValue
     taken = places.middle
 
-    d : FreesAlloc point o.vreg is_ret p places.inst_regs u taken new
+    d : FreesAlloc point o.vreg ends_block p places.inst_regs u taken new
     d = places.defines
 
     got : Got names gone o p places.inst_regs old taken
@@ -346,14 +346,14 @@ more_placed names gone operands k late d here there next p old m n u w plain lt 
     ]
 
 -- processing an operand, whose place is a register that was taken
-pub processes_operand_placed_more : {names : List VirtualRegister} {gone : ℕ → Bool} {i : ℕ} {is_ret : Bool} {operands : List OperandValue} {k : ℕ}
+pub processes_operand_placed_more : {names : List VirtualRegister} {gone : ℕ → Bool} {i : ℕ} {ends_block : Bool} {operands : List OperandValue} {k : ℕ}
     {late : Bool}
     {here there next : List Place} {old m n : StateValue} {u w : InstRegs} → FitInRegs names old.allocatable → ArePlain names gone operands late →
     k < length operands → length here ≡ length operands →
     ((j : ℕ) → is_late (op_at operands j).position ≡ late → slice_index_or here j NoPlace ≡ NoPlace) → is_late (op_at operands k).position ≡ late →
-    ArePlaced names gone operands late k here there old m u → ProcessesOperand i is_ret operands k there next u w m n →
+    ArePlaced names gone operands late k here there old m u → ProcessesOperand i ends_block operands k there next u w m n →
     ArePlaced names gone operands late (k + 1) here next old n w
-processes_operand_placed_more {names} {gone} {i} {is_ret} {operands} {k} {late} {here} {there} {next} {old} {m} {n} {u} {w} few plain lt here_long blank at h
+processes_operand_placed_more {names} {gone} {i} {ends_block} {operands} {k} {late} {here} {there} {next} {old} {m} {n} {u} {w} few plain lt here_long blank at h
     one = by one
   where
     reg : (op_at operands k).constraint ≡ Reg
@@ -374,7 +374,7 @@ processes_operand_placed_more {names} {gone} {i} {is_ret} {operands} {k} {late} 
       | inr e ↦ e
     ]
 
-    by : ProcessesOperand i is_ret operands k there next u w m n → ArePlaced names gone operands late (k + 1) here next old n w
+    by : ProcessesOperand i ends_block operands k there next u w m n → ArePlaced names gone operands late (k + 1) here next old n w
     by (a_register r fixed is set_to inst_regs same) = absurd (let wrong : FixedReg r ≡ Reg = sym is ∙ reg in cc)
     by (a_use p reading places set_to) =
         let o : OperandRequest = use_request (op_at operands k) NoPlace in
@@ -388,7 +388,7 @@ processes_operand_placed_more {names} {gone} {i} {is_ret} {operands} {k} {late} 
         (and_gone (op_at operands k).vreg.number h.gone_now)
         (λ a g. elim (gone_from (op_at operands k).vreg.number h.gone_now a g) [ inl x ↦ inl x | inr x ↦ inr (refl, x) ])
         (gone_grows (op_at operands k).vreg.number h.gone_now) (λ e. gone_here (op_at operands k).vreg.number h.gone_now)
-        (def_placed names h.gone_now (after_point i) (def_request (op_at operands k)) is_ret p u w m n (ap requirement_of reg) h.spill_free few_now
+        (def_placed names h.gone_now (after_point i) (def_request (op_at operands k)) ends_block p u w m n (ap requirement_of reg) h.spill_free few_now
         (plain.named k lt) there_now places)
     by (a_reuse a p defines is places set_to) = absurd (let wrong : Reuse a ≡ Reg = sym is ∙ reg in cc)
 
@@ -432,11 +432,11 @@ none_placed_yet names gone operands late here old u h = record {
 }
 
 -- the first operands of a position are placed
-pub operands_placed : {names : List VirtualRegister} {gone : ℕ → Bool} {i : ℕ} {is_ret late : Bool} {operands : List OperandValue} {here : List Place}
+pub operands_placed : {names : List VirtualRegister} {gone : ℕ → Bool} {i : ℕ} {ends_block late : Bool} {operands : List OperandValue} {here : List Place}
     {t : InstRegs} {old : StateValue} {k : ℕ} {there : List Place} {u : InstRegs} {m : StateValue} → FitInRegs names old.allocatable →
     ArePlain names gone operands late → length here ≡ length operands →
     ((j : ℕ) → is_late (op_at operands j).position ≡ late → slice_index_or here j NoPlace ≡ NoPlace) → IsSpillFree names gone old t → k ≤ length operands →
-    ProcessesOperandsAt i is_ret late operands here t old k there u m → ArePlaced names gone operands late k here there old m u
+    ProcessesOperandsAt i ends_block late operands here t old k there u m → ArePlaced names gone operands late k here there old m u
 operands_placed {names} {gone} {late} {operands} {here} {t} {old} few plain long blank h le none_placed =
     none_placed_yet names gone operands late here old t h
 operands_placed {names} {gone} {late} {operands} {here} {old} few plain long blank h le (of_other k there u m before other) =

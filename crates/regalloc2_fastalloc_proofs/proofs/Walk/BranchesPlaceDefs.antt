@@ -15,7 +15,7 @@ use Rattle.regalloc2_semantics.proofs.Order.{ends_within}
 use Rattle.regalloc2_semantics.proofs.SingleDef.{Made}
 use Rattle.regalloc2_fastalloc_state.specs.Validate.Constraints.{BranchDefinesInPlace, IsInPlace}
 use Rattle.regalloc2_fastalloc_state.specs.Validate.NoLimits.{AreTaken}
-use Rattle.regalloc2_steps.specs.Positions.{positions_of}
+use Rattle.regalloc2_fastalloc_state.specs.Positions.{positions_of}
 use Rattle.regalloc2_fastalloc_proofs.specs.InstSteps.{StateValue, AllocsInst, NeedsFixedReg, ends_block}
 use Rattle.regalloc2_fastalloc_proofs.specs.StoreSteps.{branch_operands}
 use Rattle.regalloc2_fastalloc_proofs.specs.BlockSteps.{AllocsBlockInsts, at_end, one_in, AllocsBlocks, all_left, one_block}

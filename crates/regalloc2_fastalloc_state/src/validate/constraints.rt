@@ -17,7 +17,6 @@ use regalloc2_index::Inst;
 use regalloc2_names::{
     Operand, OperandConstraint, OperandKind, OperandPos, PRegSet, RegAllocError, RegClass,
 };
-use regalloc2_steps::refusal::refuse_unless;
 use std::alloc::Allocator;
 
 /// Which operand a reuse names. The index fits five bits.
@@ -261,7 +260,9 @@ fn validate_reuses<F: Function, B: Allocator>(
 {
     for i in 0..f.num_insts() {
         let inst = Inst::new(i);
-        refuse_unless(passes_reuse_test(f, env, inst), inst)?;
+        if !passes_reuse_test(f, env, inst) {
+            return Err(RegAllocError::Unsupported(inst));
+        }
     }
     Ok(())
 }
@@ -274,7 +275,9 @@ fn validate_clobbers<F: Function>(f: &F) -> Result<(), RegAllocError>
 {
     for i in 0..f.num_insts() {
         let inst = Inst::new(i);
-        refuse_unless(passes_clobber_test(f, inst), inst)?;
+        if !passes_clobber_test(f, inst) {
+            return Err(RegAllocError::Unsupported(inst));
+        }
     }
     Ok(())
 }
