@@ -12,7 +12,7 @@ pub enum Requirement {
     AnyReg,
     /// A stack place.
     InMemory,
-    /// That register, or fixed stack slot.
+    /// The register or fixed stack slot itself.
     InPReg(PReg),
 }
 
